@@ -1,1 +1,4 @@
+pub mod LevelTests
 pub mod Layers
+pub mod Values
+pub mod OfOutlines

@@ -3,21 +3,15 @@ use Rattle.std.specs.Prelude.{ℕ, Bool, true, false, ◌&&◌, List, [], ◌∷
 use Rattle.std.specs.List.{list_all}
 use Rattle.std.specs.Map.{keys_of}
 use Rattle.std.specs.Str.{is_utf8}
-use Rattle.std.specs.declared.cmp.Ordering.{Ordering}
-use Rattle.std.specs.declared.cmp.Ordering.TheVariants.{Less, Equal, Greater}
+use Rattle.std.specs.Ordering.{is_lt}
 use Rattle.mk_base.specs.declared.json.Json.{Json, Json-F}
 use Rattle.mk_base.specs.Folds.{folded}
 use Rattle.mk_base.specs.Lists.{text_order}
 
-abbrev is_less : Ordering → Bool
-is_less Less = true
-is_less Equal = false
-is_less Greater = false
-
 -- the names stand in byte order, each once
 abbrev pub names_rise : List (List ℕ) → Bool
 names_rise [] = true
-names_rise (k ∷ ks) = list_all (λ l. is_less (text_order k l)) ks && names_rise ks
+names_rise (k ∷ ks) = list_all (λ l. is_lt (text_order k l)) ks && names_rise ks
 
 abbrev proper_step : Json-F Bool → Bool
 proper_step Json-F.Null = true

@@ -57,7 +57,7 @@ fn write(out: &mut Writer, tree: &Json) -> Result<(), AllocError>
     match tree {
         Json::Null => out.null(),
         Json::Bool(b) => out.boolean(*b),
-        Json::Whole(n) => whole(out, *n),
+        Json::Whole(n) => whole(out, n),
         Json::Odd => out.number("0.5"),
         Json::Text(text) => out.string(str_of(text)),
         Json::List(items) => {
@@ -71,15 +71,16 @@ fn write(out: &mut Writer, tree: &Json) -> Result<(), AllocError>
     }
 }
 
-fn whole(out: &mut Writer, n: i128) -> Result<(), AllocError>
-    requires { in_range n ≡ true }
-    ensures ok { OnOk result (out.new.tokens ≡ out.old.tokens ++ number (signed_decimal n) ∷ []) }
+fn whole(out: &mut Writer, n: &i128) -> Result<(), AllocError>
+    requires { in_range n.now ≡ true }
+    ensures ok { OnOk result
+        (out.new.tokens ≡ out.old.tokens ++ number (signed_decimal n.now) ∷ []) }
     ensures before { out.new.before ≡ out.old.before }
 {
-    if n < 0 {
-        out.i64(n as i64)
+    if *n < 0 {
+        out.i64(*n as i64)
     } else {
-        out.u64(n as u64)
+        out.u64(*n as u64)
     }
 }
 
