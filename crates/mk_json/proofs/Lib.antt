@@ -2,3 +2,4 @@ pub mod LevelTests
 pub mod Layers
 pub mod Values
 pub mod OfOutlines
+pub mod Compact

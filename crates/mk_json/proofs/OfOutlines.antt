@@ -105,7 +105,7 @@ left_is xs i x h e = rw add-one (drop-cons xs i x h ∙ ap (λ z. z ∷ drop (su
 pub none_left : {X : Type 0} (f : List X → Bool) (xs : List X) (i : ℕ) → length xs ≤ i → f [] ≡ true → f (drop i xs) ≡ true
 none_left f xs i h e = ap f (drop_all i xs h) ∙ e
 
-abbrev outlined : List (List ℕ × Json) → List (List ℕ × json.Json)
+abbrev pub outlined : List (List ℕ × Json) → List (List ℕ × json.Json)
 outlined ms = map (λ (m : List ℕ × Json). (m.0, outline m.1)) ms
 
 pub member_tokens : (before named written all : List Token) (left more : List (List ℕ × Json)) (m : List ℕ × Json) → left ≡ m ∷ more → named ≡ before ++ Token.key m.0 ∷ [] → written ≡ named ++ json_tokens (outline m.1)

@@ -28,6 +28,12 @@ pub fn datum(alloc: Global, tree: &Json) -> Result<Datum, DatumFault>
     ensures too_deep { (result ≡ Err DatumFault.TooDeep)
         ↔ ((is_whole tree.now ≡ true) × (100 < nesting tree.now)) }
 {
+    if !tree.is_whole() {
+        return Err(DatumFault::NotWhole);
+    }
+    if !tree.nests_within(100) {
+        return Err(DatumFault::TooDeep);
+    }
     let mut text = Vec::new(alloc);
     match put_json(alloc, &mut text, tree) {
         Ok(()) => Ok(Datum::of(text)),

@@ -20,7 +20,7 @@ pub fn put_text(alloc: Global, out: &mut Vec<u8>, text: &Text) -> Result<(), Mem
     ensures ok { OnOk result (out.new.items ≡ out.old.items ++ quoted text.now) }
     ensures err { OnErr result (out.new.items ≡ out.old.items) }
 {
-    let quoted = Value::try_from_str(alloc, str_of(text))?.to_vec(alloc)?;
+    let quoted = Value::try_from_str(alloc, text.as_str())?.to_vec(alloc)?;
     out.extend_from_slice(quoted.as_slice())?;
     Ok(())
 }
@@ -41,12 +41,6 @@ pub fn put_json(alloc: Global, out: &mut Vec<u8>, tree: &Json) -> Result<(), Mem
     Ok(())
 }
 
-fn str_of(text: &Text) -> &str
-    ensures { result.now ≡ text.now }
-{
-    std::str::from_utf8(text.bytes()).unwrap()
-}
-
 #[cycle(write)]
 fn write(out: &mut Writer, tree: &Json) -> Result<(), AllocError>
     requires { is_in_range tree.now ≡ true }
@@ -59,7 +53,7 @@ fn write(out: &mut Writer, tree: &Json) -> Result<(), AllocError>
         Json::Bool(b) => out.boolean(*b),
         Json::Whole(n) => whole(out, n),
         Json::Odd => out.number("0.5"),
-        Json::Text(text) => out.string(str_of(text)),
+        Json::Text(text) => out.string(text.as_str()),
         Json::List(items) => {
             out.begin_array()?;
             write_items(out, items)
@@ -108,7 +102,7 @@ fn write_members(out: &mut Writer, members: &Members<Json>) -> Result<(), AllocE
 {
     let entries = members.entries();
     for (name, member) in entries {
-        out.key(str_of(name))?;
+        out.key(name.as_str())?;
         write(out, member)?;
     }
     out.end_object()

@@ -54,10 +54,10 @@ pub write-returns-in-Odd-clause-proper : goal.write-returns-in-Odd-clause-proper
 write-returns-in-Odd-clause-proper t c = on_ok_always c.number.result (ap is_proper c.in-Odd.is ∙ proper-Odd)
 
 pub write-returns-in-Text-clause-ok : goal.write-returns-in-Text-clause-ok
-write-returns-in-Text-clause-ok t c = on_ok_tokens c.string.result c.string.new.self.tokens c.args.out.now.tokens (Token.string c.str_of.result.now ∷ []) c.args.tree.now (ap json_tokens (ap outline c.in-Text.is ∙ outline-Text c.in-Text.text ∙ ap json.string (sym c.str_of.ensures))) c.string.ensures.ok
+write-returns-in-Text-clause-ok t c = on_ok_tokens c.string.result c.string.new.self.tokens c.args.out.now.tokens (Token.string c.as_str.result.now ∷ []) c.args.tree.now (ap json_tokens (ap outline c.in-Text.is ∙ outline-Text c.in-Text.text ∙ ap json.string (sym c.as_str.ensures))) c.string.ensures.ok
 
 pub write-returns-in-Text-clause-proper : goal.write-returns-in-Text-clause-proper
-write-returns-in-Text-clause-proper t c = on_ok_always c.string.result (ap is_proper c.in-Text.is ∙ proper-Text c.in-Text.text ∙ is_utf8-from_IsUtf8 c.in-Text.text (subst IsUtf8 c.str_of.ensures c.str_of.utf8))
+write-returns-in-Text-clause-proper t c = on_ok_always c.string.result (ap is_proper c.in-Text.is ∙ proper-Text c.in-Text.text ∙ is_utf8-from_IsUtf8 c.in-Text.text (subst IsUtf8 c.as_str.ensures c.as_str.utf8))
 
 pub write-returns-in_ok-begin_array-in-List-clause-ok : goal.write-returns-in_ok-begin_array-in-List-clause-ok
 write-returns-in_ok-begin_array-in-List-clause-ok t c =
@@ -85,11 +85,11 @@ write_members-loop-name-preserved t c =
     let more = drop (l.name-index + 1) c.entries-entries.result.now in
     let next : left ≡ m ∷ more = left_is c.entries-entries.result.now l.name-index m c.loop-name-test.true c.loop-name-item.is in
     let ranges = next_passes (λ (m : List ℕ × Json). is_in_range m.1) left more m next l.invariant.in_range in
-    let text : is_utf8 m.0 ≡ true = is_utf8-from_IsUtf8 m.0 (subst IsUtf8 c.str_of.ensures c.str_of.utf8) in
+    let text : is_utf8 m.0 ≡ true = is_utf8-from_IsUtf8 m.0 (subst IsUtf8 c.as_str.ensures c.as_str.utf8) in
     record {
       before = c.write.ensures.before ∙ c.key.ensures.room.0 ∙ l.invariant.before;
       same = l.invariant.same;
-      tokens = member_tokens l.out.tokens c.key.new.self.tokens c.write.new.out.tokens _ left more m next (c.in_ok-key.ensures.ok ∙ ap (λ k. l.out.tokens ++ Token.key k ∷ []) c.str_of.ensures) c.in_ok-write.ensures.ok l.invariant.tokens;
+      tokens = member_tokens l.out.tokens c.key.new.self.tokens c.write.new.out.tokens _ left more m next (c.in_ok-key.ensures.ok ∙ ap (λ k. l.out.tokens ++ Token.key k ∷ []) c.as_str.ensures) c.in_ok-write.ensures.ok l.invariant.tokens;
       in_range = ranges.1;
       texts = same_test is_utf8 _ (keys_of left) (keys_of more) m.0 (ap keys_of next) text l.invariant.texts;
       proper = same_test (λ (m : List ℕ × Json). is_proper m.1) _ left more m next c.in_ok-write.ensures.proper l.invariant.proper;
