@@ -1,0 +1,49 @@
+ghost use Rattle.std.specs.Prelude.{◌≡◌, is_some};
+ghost use Rattle.mk_valid.specs.Tests.{initial_stands, persistence_fits, triggering_fits, kinds_fit, has_initial_values};
+
+use crate::parts::{kind_of, owner};
+use mk_base::{SimKind, Via};
+use mk_plan::{Conn, Plan};
+
+fn initial_stands(conn: &Conn) -> bool
+    ensures { result ≡ initial_stands conn.now.via conn.now.persistent (is_some conn.now.initial) }
+{
+    match conn.via {
+        Via::Plain => conn.initial.is_none(),
+        Via::Shift => !conn.persistent || conn.initial.is_some(),
+        Via::Weak => true,
+    }
+}
+
+pub(crate) fn has_initial_values(plan: &Plan) -> bool
+    ensures { result ≡ has_initial_values plan.now }
+{
+    plan.conns.as_slice().iter().all(initial_stands)
+}
+
+fn persistence_fits(kind: SimKind, persistent: bool) -> bool
+    ensures { result ≡ persistence_fits kind persistent }
+{
+    match kind {
+        SimKind::TimeBased => persistent,
+        SimKind::EventBased => !persistent,
+        SimKind::Hybrid => true,
+    }
+}
+
+fn triggering_fits(kind: SimKind, triggering: bool) -> bool
+    ensures { result ≡ triggering_fits kind triggering }
+{
+    match kind {
+        SimKind::TimeBased => !triggering,
+        SimKind::EventBased => triggering,
+        SimKind::Hybrid => true,
+    }
+}
+
+pub(crate) fn kinds_fit(plan: &Plan, conn: &Conn) -> bool
+    ensures { result ≡ kinds_fit plan.now conn.now }
+{
+    persistence_fits(kind_of(plan, owner(plan, conn.from)), conn.persistent)
+        && triggering_fits(kind_of(plan, owner(plan, conn.to)), conn.triggering)
+}

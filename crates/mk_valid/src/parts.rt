@@ -1,0 +1,36 @@
+ghost use Rattle.std.specs.Prelude.{◌≡◌};
+ghost use Rattle.mk_plan.specs.Plans.{owner, kind_of, rank_of};
+
+use mk_base::SimKind;
+use mk_plan::Plan;
+
+// The simulator of an entity, or the count of simulators where the plan doesn't have it.
+pub(crate) fn owner(plan: &Plan, entity: u32) -> usize
+    ensures { result ≡ owner plan.now entity }
+{
+    match plan.entities.as_slice().get(entity as usize) {
+        None => plan.sims.len(),
+        Some(entity) => match plan.models.as_slice().get(entity.model as usize) {
+            None => plan.sims.len(),
+            Some(model) => model.sim.0 as usize,
+        },
+    }
+}
+
+pub(crate) fn kind_of(plan: &Plan, sim: usize) -> SimKind
+    ensures { result ≡ kind_of plan.now sim }
+{
+    match plan.sims.as_slice().get(sim) {
+        None => SimKind::TimeBased,
+        Some(sim) => sim.kind,
+    }
+}
+
+pub(crate) fn rank_of(plan: &Plan, sim: usize) -> u32
+    ensures { result ≡ rank_of plan.now sim }
+{
+    match plan.sims.as_slice().get(sim) {
+        None => 0,
+        Some(sim) => sim.rank,
+    }
+}
