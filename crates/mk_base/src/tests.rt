@@ -1,0 +1,72 @@
+//! Each call once with ample memory, on values from the definitions of tiered time and of JSON.
+
+use crate::{Json, List, Members, Text, Tier, Via};
+use std::test::Fail;
+
+#[test]
+fn tiered_times_are_delayed_and_ordered(rt: HostRuntime) -> Result<(), Fail> {
+    let at = Tier { time: 3, tier: 2 };
+    assert_eq!(rt; at.after(Via::Plain), at);
+    assert_eq!(rt; at.after(Via::Weak), Tier { time: 3, tier: 3 });
+    assert_eq!(rt; at.after(Via::Shift), Tier { time: 4, tier: 0 });
+    assert!(rt; at.is_up_to(at) && at.is_up_to(Tier { time: 4, tier: 0 }));
+    assert!(rt; !at.is_up_to(Tier { time: 3, tier: 1 }));
+    Ok(())
+}
+
+#[test]
+fn lists_are_changed_in_place(rt: HostRuntime) -> Result<(), Fail> {
+    let mut list = List::new(rt.alloc());
+    assert!(rt; list.is_empty());
+    list.push(1u32)?;
+    list.push(3)?;
+    list.insert(1, 2)?;
+    list.set(0, 7);
+    assert_eq!(rt; list.len(), 3);
+    assert_eq!(rt; list.get(0).copied(), Some(7));
+    assert_eq!(rt; list.get(3).copied(), None);
+    assert_eq!(rt; *list.at(1), 2);
+    assert_eq!(rt; list.pop(), Some(3));
+    let kept = List::from_vec(list.into_vec());
+    assert_eq!(rt; kept.as_slice(), [7, 2].as_slice());
+    Ok(())
+}
+
+#[test]
+fn members_stand_in_byte_order_of_their_names(rt: HostRuntime) -> Result<(), Fail> {
+    let mut members = Members::new(rt.alloc());
+    assert!(rt; members.is_empty());
+    for (name, value) in [("b", 1u32), ("a", 2), ("c", 3), ("b", 4)] {
+        members.put(Text::of(rt.alloc(), name)?, value)?;
+    }
+    assert_eq!(rt; members.len(), 3);
+    assert_eq!(rt; members.get("b").copied(), Some(4));
+    assert_eq!(rt; members.get("d").copied(), None);
+    assert_eq!(rt; members.name_at(0).as_str(), "a");
+    assert_eq!(rt; *members.value_at(0), 2);
+    assert_eq!(rt; members.entries().len(), 3);
+    Ok(())
+}
+
+#[test]
+fn trees_are_looked_into_and_copied(rt: HostRuntime) -> Result<(), Fail> {
+    let mut items = List::new(rt.alloc());
+    items.push(Json::Whole(5))?;
+    items.push(Json::Odd)?;
+    let mut members = Members::new(rt.alloc());
+    members.put(Text::of(rt.alloc(), "x")?, Json::List(items))?;
+    members.put(Text::of(rt.alloc(), "y")?, Json::Bool(true))?;
+    let tree = Json::Object(members).copy(rt.alloc())?;
+    assert!(rt; matches!(tree.member("y"), Some(Json::Bool(true))));
+    assert!(rt; tree.member("z").is_none());
+    assert!(rt; !tree.is_whole() && tree.nests_within(2) && !tree.nests_within(1));
+    Ok(())
+}
+
+#[test]
+fn texts_are_copied(rt: HostRuntime) -> Result<(), Fail> {
+    let text = Text::of(rt.alloc(), "ä")?.copy()?;
+    assert_eq!(rt; text.as_str(), "ä");
+    assert_eq!(rt; text.bytes().len(), 2);
+    Ok(())
+}

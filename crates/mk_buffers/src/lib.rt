@@ -1,0 +1,11 @@
+//! The values that connections hold, and the inputs of a step that are taken from them.
+#![tactic(auto)]
+
+mod buffers;
+mod candidate;
+mod made;
+mod names;
+mod sorted;
+
+pub use buffers::Buffers;
+pub use names::{full_id, owner};

@@ -1,0 +1,2 @@
+pub mod LowerBound
+pub mod Rising

@@ -1,0 +1,5 @@
+pub mod LevelTests
+pub mod Layers
+pub mod Values
+pub mod OfOutlines
+pub mod Compact

@@ -1,0 +1,42 @@
+// The data among the trees.
+ghost use Rattle.std.specs.Prelude.{◌≡◌, ◌≤◌, ◌<◌, ◌↔◌, true, false, Err, IfOk};
+ghost use Rattle.mk_base.specs.Texts.{text_of};
+ghost use Rattle.mk_base.specs.Trees.{nesting, is_whole, is_in_range, is_datum};
+
+use crate::put_json;
+use mk_base::{Datum, Json};
+use std::alloc::Global;
+use thiserror::Error;
+
+// Why a tree is no datum.
+#[derive(Debug, Drop, Error)]
+pub enum DatumFault {
+    #[error("a number that isn't whole")]
+    NotWhole,
+    #[error("nested deeper than 100")]
+    TooDeep,
+    #[error("out of memory")]
+    Mem,
+}
+
+/// The datum whose bytes are the compact text of a tree. `NotWhole` comes where a number in the
+/// tree isn't whole, and else `TooDeep` where it nests deeper than 100.
+pub fn datum(alloc: Global, tree: &Json) -> Result<Datum, DatumFault>
+    requires { is_in_range tree.now ≡ true }
+    ensures ok { IfOk result (λ d. (d ≡ text_of tree.now) × (is_datum tree.now ≡ true)) }
+    ensures not_whole { (result ≡ Err DatumFault.NotWhole) ↔ (is_whole tree.now ≡ false) }
+    ensures too_deep { (result ≡ Err DatumFault.TooDeep)
+        ↔ ((is_whole tree.now ≡ true) × (100 < nesting tree.now)) }
+{
+    if !tree.is_whole() {
+        return Err(DatumFault::NotWhole);
+    }
+    if !tree.nests_within(100) {
+        return Err(DatumFault::TooDeep);
+    }
+    let mut text = Vec::new(alloc);
+    match put_json(alloc, &mut text, tree) {
+        Ok(()) => Ok(Datum::of(text)),
+        Err(_) => Err(DatumFault::Mem),
+    }
+}

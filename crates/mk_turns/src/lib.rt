@@ -1,0 +1,16 @@
+//! How the messages of a turn are judged: what a simulator may be asked for, which messages are wrong and why, and what
+//! is open after a right one.
+#![tactic(auto)]
+
+mod causes;
+mod data;
+mod numbers;
+mod places;
+mod sorted;
+mod wants;
+
+pub use causes::wrong;
+pub use data::value_for;
+pub use numbers::{next_time, output_time};
+pub use places::next_place;
+pub use wants::{has_outputs, owner, wanted};
