@@ -61,9 +61,9 @@ turn_outputs P s a c = if owner P c.from == s then option_to_list (option_map (�
 pub grown_outputs : (P : Plan) (A : Family) (s : ℕ) (a : Act) (c : Conn) → (supply P (grown A s a)).outputs c.from c.from_attr ≡ (supply P A).outputs c.from c.from_attr ++ turn_outputs P s a c
 grown_outputs P A s a c = elim (owner P c.from == s) as (λ b. outputs_of P c.from c.from_attr (cond b (A (owner P c.from) ++ a ∷ []) (A (owner P c.from)))
     ≡ outputs_of P c.from c.from_attr (A (owner P c.from)) ++ cond b (option_to_list (given_to (output P a c.from c.from_attr))) []) [
-  | true ↦ filter_map_append (λ b. given_at b (output P b c.from c.from_attr)) (A (owner P c.from)) (a ∷ []) ∙ ap (λ l. outputs_of P c.from c.from_attr (A (owner P c.from)) ++ l) (one (output P a c.from c.from_attr))
-  | false ↦ sym (append_nil (outputs_of P c.from c.from_attr (A (owner P c.from))))
-]
+      | true ↦ filter_map_append (λ b. given_at b (output P b c.from c.from_attr)) (A (owner P c.from)) (a ∷ []) ∙ ap (λ l. outputs_of P c.from c.from_attr (A (owner P c.from)) ++ l) (one (output P a c.from c.from_attr))
+      | false ↦ sym (append_nil (outputs_of P c.from c.from_attr (A (owner P c.from))))
+    ]
   where
     given_at : Act → Option (List ℕ) → Option Timed
     given_at b = option_map (λ v. record { at = made b; value = v })
