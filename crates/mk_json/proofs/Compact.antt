@@ -1,17 +1,16 @@
 -- The compact text of a tree is what a writer prints of its tokens.
-use Rattle.std.proofs.Common.{◌≡◌, ℕ, zero, suc, ◌+◌, ◌<◌, ◌≤◌, ◌/◌, ◌%◌, ℤ, Bool, true, false, cond, ◌&&◌, ◌==◌, nat_lt, List, [], ◌∷◌, ◌++◌, map, flat_map, codes, inl, inr, ◌⊎◌, refl, sym, ap, ap₂, ◌∙◌, subst, arith, append_assoc, append-nil, true≢false, if◌then◌else◌}
+use Rattle.std.proofs.Common.{◌≡◌, ℕ, ◌+◌, ◌/◌, ◌%◌, Bool, true, false, cond, ◌&&◌, ◌==◌, nat_lt, List, [], ◌∷◌, ◌++◌, map, flat_map, codes, inl, inr, refl, sym, ap, ap₂, ◌∙◌, append_assoc, append-nil, true≢false, if◌then◌else◌}
 use Rattle.std.proofs.lemmas.Bool.{cases_eq, ne_eqb}
 use Rattle.std.specs.List.{join_with_byte}
 use Rattle.std.specs.Fmt.{signed_decimal}
 use Rattle.json.specs.Token.{Token}
-use Rattle.json.specs.Json as json
 use Rattle.json.specs.Print as print
 use Rattle.json.specs.Print.{escape_byte, print_from, separator, token_text, ends}
 use Rattle.json.specs.Tree.{json_tokens, items_tokens, members_tokens}
 use Rattle.serde_json.proofs.OnLiterals.{serde_json_on_literals}
 use Rattle.mk_base.specs.declared.json.Json as tree
 use Rattle.mk_base.specs.declared.json.Json.{Json}
-use Rattle.mk_base.specs.Texts.{quoted, text_of, list_text, object_text}
+use Rattle.mk_base.specs.Texts.{quoted, text_of}
 use Rattle.mk_json.specs.Outline.{outline, items_in, members_in}
 use Rattle.mk_json.proofs.OfOutlines.{outlined, outline-Null, outline-Bool, outline-Whole, outline-Odd, outline-Text, outline-List, outline-Object}
 use Rattle.mk_json.proofs.Layers.{Held, trees, members, Steps, by_layers, folded-Null, folded-Bool, folded-Whole, folded-Odd, folded-Text, folded-List, folded-Object}
@@ -120,10 +119,10 @@ prints_list hs c us =
     ∙ ap₂ (λ l m. l ++ (91 ∷ m)) (begun c true refl) (prints_items hs false us ∙ ap (λ l. l ++ (93 ∷ after)) (led-false texts) ∙ sym (append_assoc (join_with_byte 44 texts) (93 ∷ []) after))
     ∙ ap (λ l. comma c ++ (l ++ after)) (sym (folded-List _ _ (trees hs)))
 
-abbrev texted : List (List ℕ × Json) → List (List ℕ × List ℕ)
+abbrev pub texted : List (List ℕ × Json) → List (List ℕ × List ℕ)
 texted ms = map (λ (m : List ℕ × Json). (m.0, text_of m.1)) ms
 
-abbrev member_texts : List (List ℕ × Json) → List (List ℕ)
+abbrev pub member_texts : List (List ℕ × Json) → List (List ℕ)
 member_texts ms = map (λ (m : List ℕ × List ℕ). quoted m.0 ++ codes ":" ++ m.1) (texted ms)
 
 prints_key : (c : Bool) (k : List ℕ) (us : List Token) → print_from c (Token.key k ∷ us) ≡ comma c ++ ((quoted k ++ codes ":") ++ print_from false us)
@@ -165,3 +164,8 @@ prints_each = record {
 pub text_of-is : (t : Json) → print.print (json_tokens (outline t)) ≡ text_of t
 unfolding print_from
 text_of-is t = ap (print_from false) (sym (append-nil (json_tokens (outline t)))) ∙ by_layers Prints prints_each t false [] ∙ append-nil (text_of t)
+
+-- what a writer gave for a tree, appended
+pub appended : (old new piece whole before : List ℕ) (first all : List Token) (t : Json) → first ≡ [] → before ≡ [] → all ≡ first ++ json_tokens (outline t) → whole ≡ before ++ print.print all → piece ≡ whole → new ≡ old ++ piece → new ≡ old ++ text_of t
+appended old new piece whole before first all t none empty tokens printed same grown =
+    grown ∙ ap (λ l. old ++ l) (same ∙ printed ∙ ap₂ (λ l ts. l ++ print.print ts) empty (tokens ∙ ap (λ ts. ts ++ json_tokens (outline t)) none) ∙ text_of-is t)

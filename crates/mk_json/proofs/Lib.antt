@@ -3,3 +3,4 @@ pub mod Layers
 pub mod Values
 pub mod OfOutlines
 pub mod Compact
+pub mod Back

@@ -1,5 +1,5 @@
 -- What is read: the trees of values, their numbers and their nesting.
-use Rattle.std.proofs.Common.{◌≡◌, ℕ, zero, suc, pred, ◌+◌, ◌<◌, ◌≤◌, ◌^◌, ℤ, pos, negsuc, ◌&&◌, ◌==◌, List, [], ◌∷◌, ◌++◌, map, drop, length, max, Bool, true, false, nat_lt, nat_le, if◌then◌else◌, String, Global, string_bytes, Option, Some, None, option_map, option_and_then, Ordering, Less, Equal, Greater, refl, sym, ap, ap₂, ◌∙◌, subst, arith}
+use Rattle.std.proofs.Common.{◌≡◌, ℕ, zero, suc, pred, ◌<◌, ◌≤◌, ◌^◌, pos, ◌&&◌, List, [], ◌∷◌, map, drop, max, Bool, true, false, nat_lt, nat_le, if◌then◌else◌, String, Global, string_bytes, Option, Some, None, option_map, option_and_then, Ordering, Less, Equal, Greater, refl, sym, ap, ap₂, ◌∙◌, subst, arith}
 use Rattle.std.proofs.lemmas.Bool.{and_parts, and_from, ltb-true, leb-true}
 use Rattle.std.proofs.lemmas.Int.{ints}
 use Rattle.std.proofs.lemmas.Str.{IsUtf8-from_is_utf8, is_utf8-from_IsUtf8}
@@ -12,7 +12,7 @@ use Rattle.std.specs.String.{string_cmp}
 use Rattle.std.specs.Ordering.{nat_cmp, match_ordering}
 use Rattle.std.specs.Cmp.Lexicographic.{slice_cmp}
 use Rattle.std.specs.Float.{binary64, float_is_finite}
-use Rattle.fast_float.specs.Text.{Parts, scan, digits_of, nearest, with_sign, minus}
+use Rattle.fast_float.specs.Text.{Parts, scan, digits_of, nearest, with_sign}
 use Rattle.json.specs.Json as json
 use Rattle.json.specs.Token.{Token}
 use Rattle.json.specs.Lex.{tokens}
@@ -53,10 +53,10 @@ sorted-member_of (e ∷ es) h = (later_names e.0 es h.0, sorted-member_of es h.1
 
 -- ---- nesting
 
-nesting-more : (t : tree.Json) (ts : List tree.Json) → nesting (tree.List (t ∷ ts)) ≡ suc (max (nesting t) (pred (nesting (tree.List ts))))
+pub nesting-more : (t : tree.Json) (ts : List tree.Json) → nesting (tree.List (t ∷ ts)) ≡ suc (max (nesting t) (pred (nesting (tree.List ts))))
 nesting-more t ts = folded-List _ _ (t ∷ ts) ∙ ap (λ n. suc (max (nesting t) (pred n))) (sym (folded-List _ _ ts))
 
-nesting-more_members : (m : List ℕ × tree.Json) (ms : List (List ℕ × tree.Json)) → nesting (tree.Object (m ∷ ms)) ≡ suc (max (nesting m.1) (pred (nesting (tree.Object ms))))
+pub nesting-more_members : (m : List ℕ × tree.Json) (ms : List (List ℕ × tree.Json)) → nesting (tree.Object (m ∷ ms)) ≡ suc (max (nesting m.1) (pred (nesting (tree.Object ms))))
 nesting-more_members m ms = folded-Object _ _ (m ∷ ms) ∙ ap (λ n. suc (max (nesting m.1) (pred n))) (sym (folded-Object _ _ ms))
 
 mutual

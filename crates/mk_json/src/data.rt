@@ -8,7 +8,7 @@ use mk_base::{Datum, Json};
 use std::alloc::Global;
 use thiserror::Error;
 
-// Why a tree is no datum.
+/// Why a tree is no datum.
 #[derive(Debug, Drop, Error)]
 pub enum DatumFault {
     #[error("a number that isn't whole")]

@@ -10,7 +10,7 @@ use serde_json::{Map, Number, Value};
 use std::alloc::Global;
 use thiserror::Error;
 
-// Why bytes have no tree.
+/// Why bytes have no tree.
 #[derive(Debug, Drop, Error)]
 pub enum JsonFault {
     #[error("no JSON")]

@@ -1,4 +1,4 @@
-use Rattle.std.proofs.Common.{◌≡◌, ℕ, ◌++◌, ◌&&◌, true, List, [], ◌∷◌, map, take, drop}
+use Rattle.std.proofs.Common.{◌≡◌, ℕ, ◌++◌, true, List, map, drop}
 use Rattle.std.specs.List.{list_all}
 use Rattle.std.specs.Map.{keys_of}
 use Rattle.std.specs.Str.{is_utf8}
