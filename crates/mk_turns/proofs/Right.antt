@@ -69,11 +69,13 @@ right_next_fits kind x content fits right n is = number_fits n x.time fits later
   where
     failed : (not (is_null content || is_up_to (pos 1000000000000000000) content) ≡ false) × ((is_null content && is_time_based kind) ≡ false) × (is_up_to x.time content ≡ false)
     failed = three_fail (not (is_null content || is_up_to (pos 1000000000000000000) content)) (is_null content && is_time_based kind) (is_up_to x.time content) 2 4 3 right
+
     latest : int_le n (pos 1000000000000000000) ≡ true
     latest = elim (either_true (is_null content) (is_up_to (pos 1000000000000000000) content) (not_false _ failed.0)) [
       | inl null ↦ absurd (true≢false (sym null ∙ whole_not_null content n is))
       | inr number ↦ sym (number_is (λ m. int_le m (pos 1000000000000000000)) content n is) ∙ number
     ]
+
     later : int_le n x.time ≡ false
     later = sym (number_is (λ m. int_le m x.time) content n is) ∙ failed.2
 
@@ -100,6 +102,7 @@ right_value_is_datum wants x content w v right m is = both (is_whole v) (nat_le 
   where
     both : (a b : Bool) → a ≡ true → b ≡ true → (a && b) ≡ true
     both a b p q = rw (p, q) refl
+
     passed : (test : Json → Bool) → some_such test wants (value_for content) ≡ false → test v ≡ true
     passed test none = elim (test v) as (λ b. test v ≡ b → b ≡ true) [
       | true ↦ λ e. refl
