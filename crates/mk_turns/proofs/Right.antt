@@ -1,20 +1,19 @@
 -- What stands of right messages.
-use Rattle.std.proofs.Common.{◌≡◌, ℕ, ◌<◌, ℤ, pos, negsuc, Bool, true, false, cond, not, ◌||◌, ◌&&◌, nat_le, nat_lt, ◌==◌, int_le, int_lt, List, [], ◌∷◌, Option, Some, None, option_map, option_and_then, unwrap_or, refl, sym, ap, ◌∙◌, subst, ◌⊎◌, inl, inr, arith, true≢false, eqb-true, FitsSigned}
+use Rattle.std.proofs.Common.{◌≡◌, ℕ, ℤ, pos, Bool, true, false, cond, not, ◌||◌, ◌&&◌, nat_le, ◌==◌, int_le, int_lt, List, [], ◌∷◌, Option, Some, None, option_map, option_and_then, unwrap_or, refl, sym, ap, ◌∙◌, ◌⊎◌, inl, inr, arith, true≢false, eqb-true, FitsSigned}
 use Rattle.std.proofs.lemmas.Int.{ints}
 use Rattle.std.specs.Int.{w64}
 use Rattle.std.specs.Option.{ForSome}
 use Rattle.std.specs.List.{list_any}
 use Rattle.mk_base.specs.declared.SimKind.{SimKind}
 use Rattle.mk_base.specs.declared.tier.Tier.{Tier}
-use Rattle.mk_base.specs.declared.json.Json.{Json, Json-F, out-Json}
+use Rattle.mk_base.specs.declared.json.Json.{Json}
 use Rattle.mk_base.specs.Lists.{IsIn}
 use Rattle.mk_base.specs.Trees.{is_null, whole_in, is_object, is_whole, is_datum, nesting, value_depth}
-use Rattle.mk_base.proofs.Lists.{passes_some, none_some, some_same}
+use Rattle.mk_base.proofs.Lists.{passes_some, none_some}
 use Rattle.mk_plan.specs.declared.Plan.{Plan}
 use Rattle.mk_plan.specs.declared.Want.{Want}
-use Rattle.mk_plan.specs.declared.Cause.{Cause}
 use Rattle.mk_plan.specs.declared.Cause.TheVariants.{Wrong}
-use Rattle.mk_plan.specs.declared.Message.TheVariants.{Ask, Success, Failure}
+use Rattle.mk_plan.specs.declared.Message.TheVariants.{Success}
 use Rattle.mk_plan.specs.declared.Place.TheVariants.{Stepping, Fetching}
 use Rattle.mk_plan.specs.Plans.{kind_of, is_time_based}
 use Rattle.mk_plan.specs.Turns.{first_cause, wrong, wrong_next, wrong_data, wanted, is_number, holds_of, time_in, part_for, value_for}

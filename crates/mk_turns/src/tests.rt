@@ -68,9 +68,9 @@ fn plan(alloc: Global) -> Result<Plan, Mem> {
 
 // An object with one member.
 fn object(alloc: Global, name: &str, value: Json) -> Result<Json, Mem> {
-    let mut members = List::new(alloc);
-    members.push((Text::of(alloc, name)?, value))?;
-    Ok(Json::Object(Members::from_sorted(members)))
+    let mut members = Members::new(alloc);
+    members.put(Text::of(alloc, name)?, value)?;
+    Ok(Json::Object(members))
 }
 
 // The data of entity `0` with one attribute.
