@@ -71,9 +71,13 @@ sims_apart P = all_apart (λ s t. not (same_text s.id t.id)) P.sims
 abbrev pub has_no_dot : List ℕ → Bool
 has_no_dot id = list_all (λ b. not (b == dot)) id
 
+-- the entities aren't of one simulator, or their names differ
+abbrev pub eids_differ : Plan → ℕ → ℕ → Bool
+eids_differ P d e = not ((owner P d == owner P e) && same_text (eid_of P d) (eid_of P e))
+
 -- the entities' names differ within each simulator
 abbrev pub eids_apart : Plan → Bool
-eids_apart P = all_apart (λ d e. not ((owner P d == owner P e) && same_text (eid_of P d) (eid_of P e))) (range_with_len 0 (length P.entities))
+eids_apart P = all_apart (eids_differ P) (range_with_len 0 (length P.entities))
 
 abbrev pub is_eid : List ℕ → Bool
 is_eid eid = not (same_text eid []) && not (same_text eid (codes "time"))

@@ -1,6 +1,8 @@
 ghost use Rattle.std.specs.Prelude.{◌≡◌, is_some};
-ghost use Rattle.mk_valid.specs.Tests.{initial_stands, persistence_fits, triggering_fits, kinds_fit, has_initial_values};
+ghost use Rattle.std.specs.List.{list_all};
+ghost use Rattle.mk_valid.specs.Tests.{initial_stands, persistence_fits, triggering_fits, kinds_fit, has_initial_values, has_kinds_of_connections};
 
+use crate::agreement::{sources_agree, targets_agree};
 use crate::parts::{kind_of, owner};
 use mk_base::{SimKind, Via};
 use mk_plan::{Conn, Plan};
@@ -41,9 +43,29 @@ fn triggering_fits(kind: SimKind, triggering: bool) -> bool
     }
 }
 
-pub(crate) fn kinds_fit(plan: &Plan, conn: &Conn) -> bool
+fn kinds_fit(plan: &Plan, conn: &Conn) -> bool
     ensures { result ≡ kinds_fit plan.now conn.now }
 {
-    persistence_fits(kind_of(plan, owner(plan, conn.from)), conn.persistent)
-        && triggering_fits(kind_of(plan, owner(plan, conn.to)), conn.triggering)
+    persistence_fits(
+        kind_of(plan, owner(plan, conn.from as usize)),
+        conn.persistent,
+    ) && triggering_fits(
+        kind_of(plan, owner(plan, conn.to as usize)),
+        conn.triggering,
+    )
+}
+
+fn all_kinds_fit(plan: &Plan) -> bool
+    ensures { result ≡ list_all (kinds_fit plan.now) plan.now.conns }
+{
+    plan.conns
+        .as_slice()
+        .iter()
+        .all(|conn| kinds_fit(plan, conn))
+}
+
+pub(crate) fn has_kinds_of_connections(plan: &Plan) -> bool
+    ensures { result ≡ has_kinds_of_connections plan.now }
+{
+    all_kinds_fit(plan) && sources_agree(plan) && targets_agree(plan)
 }

@@ -5,10 +5,10 @@ use mk_base::SimKind;
 use mk_plan::Plan;
 
 // The simulator of an entity, or the count of simulators where the plan doesn't have it.
-pub(crate) fn owner(plan: &Plan, entity: u32) -> usize
+pub(crate) fn owner(plan: &Plan, entity: usize) -> usize
     ensures { result ≡ owner plan.now entity }
 {
-    match plan.entities.as_slice().get(entity as usize) {
+    match plan.entities.as_slice().get(entity) {
         None => plan.sims.len(),
         Some(entity) => match plan.models.as_slice().get(entity.model as usize) {
             None => plan.sims.len(),
