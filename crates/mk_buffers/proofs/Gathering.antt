@@ -54,9 +54,9 @@ module _ (P : Plan) (s : ℕ) (p : Option Tier) (x : Tier) (S : Supply) where
   by_target [] = refl
   by_target (c ∷ cs) = elim (owner P c.to == s) as (λ b. option_to_list (cond b (option_map (connection_input P c) (pick P S c p x)) None) ++ flat_map of_supply cs
       ≡ flat_map (λ c. option_to_list (option_map (connection_input P c) (pick P S c p x))) (cond b (c ∷ filter (λ c. owner P c.to == s) cs) (filter (λ c. owner P c.to == s) cs))) [
-    | true ↦ ap (λ l. option_to_list (option_map (connection_input P c) (pick P S c p x)) ++ l) (by_target cs)
-    | false ↦ by_target cs
-  ]
+        | true ↦ ap (λ l. option_to_list (option_map (connection_input P c) (pick P S c p x)) ++ l) (by_target cs)
+        | false ↦ by_target cs
+      ]
 
   no_gifts : ((e : ℕ) → S.gifts e ≡ []) → gifts_to P S s p x ≡ []
   no_gifts none = flat_map_same _ (λ (e : ℕ). let nothing : List SetValue = [] in nothing) (range_with_len 0 (length P.entities))

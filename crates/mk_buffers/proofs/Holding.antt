@@ -4,7 +4,7 @@ use Rattle.std.specs.Prelude.{option_to_list, if◌then◌else◌}
 use Rattle.std.specs.List.{cons_option}
 use Rattle.std.proofs.lemmas.Option.{slice_get_within}
 use Rattle.std.proofs.lemmas.Bool.Decides.{nat_tests}
-use Rattle.mk_base.proofs.Lists.{some_same, append_nil, filter_map_append}
+use Rattle.mk_base.proofs.Lists.{some_same, append_nil, filter_map_append, length_set, set_here, set_else}
 use Rattle.mk_plan.specs.declared.Plan.{Plan}
 use Rattle.mk_plan.specs.declared.Conn.{Conn}
 use Rattle.mk_plan.specs.Plans.{owner}
@@ -25,24 +25,6 @@ new_holds P held S is no_outputs no_gifts = record {
     empty_at (d ∷ cs) zero c there = refl
     empty_at (d ∷ cs) (suc place) c there = empty_at cs place c there
 
-module _ {X : Type 0} where
-  length_set : (xs : List X) (i : ℕ) (x : X) → length (slice_set xs i x) ≡ length xs
-  length_set [] i x = refl
-  length_set (y ∷ ys) zero x = refl
-  length_set (y ∷ ys) (suc i) x = ap suc (length_set ys i x)
-
-  set_here : (xs : List X) (i : ℕ) (x y : X) → slice_get xs i ≡ Some y → slice_get (slice_set xs i x) i ≡ Some x
-  set_here [] i x y is = cc
-  set_here (z ∷ xs) zero x y is = refl
-  set_here (z ∷ xs) (suc i) x y is = set_here xs i x y is
-
-  set_else : (xs : List X) (i other : ℕ) (x : X) → other ≢ i → slice_get (slice_set xs i x) other ≡ slice_get xs other
-  set_else [] i other x apart = refl
-  set_else (z ∷ xs) zero zero x apart = absurd (apart refl)
-  set_else (z ∷ xs) zero (suc other) x apart = refl
-  set_else (z ∷ xs) (suc i) zero x apart = refl
-  set_else (z ∷ xs) (suc i) (suc other) x apart = set_else xs i other x (λ e. apart (ap suc e))
-
 -- one more output leaves the number of lists, and the other lists, and puts itself at the end of one
 pub length-with_output : (held : Held) (place : ℕ) (o : Timed) → length (with_output held place o) ≡ length held
 length-with_output held place o = length_set held place (held_for held place ++ o ∷ [])
@@ -61,9 +43,9 @@ turn_outputs P s a c = if owner P c.from == s then option_to_list (option_map (�
 pub grown_outputs : (P : Plan) (A : Family) (s : ℕ) (a : Act) (c : Conn) → (supply P (grown A s a)).outputs c.from c.from_attr ≡ (supply P A).outputs c.from c.from_attr ++ turn_outputs P s a c
 grown_outputs P A s a c = elim (owner P c.from == s) as (λ b. outputs_of P c.from c.from_attr (cond b (A (owner P c.from) ++ a ∷ []) (A (owner P c.from)))
     ≡ outputs_of P c.from c.from_attr (A (owner P c.from)) ++ cond b (option_to_list (given_to (output P a c.from c.from_attr))) []) [
-  | true ↦ filter_map_append (λ b. given_at b (output P b c.from c.from_attr)) (A (owner P c.from)) (a ∷ []) ∙ ap (λ l. outputs_of P c.from c.from_attr (A (owner P c.from)) ++ l) (one (output P a c.from c.from_attr))
-  | false ↦ sym (append_nil (outputs_of P c.from c.from_attr (A (owner P c.from))))
-]
+      | true ↦ filter_map_append (λ b. given_at b (output P b c.from c.from_attr)) (A (owner P c.from)) (a ∷ []) ∙ ap (λ l. outputs_of P c.from c.from_attr (A (owner P c.from)) ++ l) (one (output P a c.from c.from_attr))
+      | false ↦ sym (append_nil (outputs_of P c.from c.from_attr (A (owner P c.from))))
+    ]
   where
     given_at : Act → Option (List ℕ) → Option Timed
     given_at b = option_map (λ v. record { at = made b; value = v })

@@ -93,7 +93,7 @@ module _ {X : Type 0} (order : X → X → Ordering) (total : IsTotalOrder order
   pub put_unfound : (x : X) (xs items new : List X) (i : ℕ) → IsStrictlySortedBy order xs → items ≡ xs → i ≤ length items
       → (IsNonDecreasingBy (λ y. ordering_index (order y x)) items → IsPartitionPoint (λ y. order y x ≡ Less) (λ y. order y x ≡ Greater) items i) → new ≡ insert xs i x → (new ≡ put order x xs) × IsStrictlySortedBy order new
   put_unfound x xs items new i sorted is there parts set = let made : new ≡ put order x xs = set ∙ put_between x xs i (subst (λ (l : List X). i ≤ length l) is there)
-        (subst (λ (l : List X). IsNonDecreasingBy (λ y. ordering_index (order y x)) l → IsPartitionPoint (λ y. order y x ≡ Less) (λ y. order y x ≡ Greater) l i) is parts (rising x xs sorted))
+      (subst (λ (l : List X). IsNonDecreasingBy (λ y. ordering_index (order y x)) l → IsPartitionPoint (λ y. order y x ≡ Less) (λ y. order y x ≡ Greater) l i) is parts (rising x xs sorted))
       in (made, subst (IsStrictlySortedBy order) (sym made) (put_sorted x xs sorted))
 
 pub inputs_total : IsTotalOrder input_order

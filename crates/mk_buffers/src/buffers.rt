@@ -56,14 +56,29 @@ impl Buffers {
     /// The inputs of a step of `sim` at `at`, where its step before was at `previous`: one for each connection to it that
     /// has something to give, sorted by eid, then attribute, then source, each in byte order. A persistent connection
     /// gives what it delivered last up to `at`, or its initial value; any other only what came after the previous step.
-    pub fn inputs_at(&self, alloc: Global, plan: &Plan, sim: SimNo, previous: Option<Tier>, at: Tier) -> Result<List<Input>, Mem>
+    pub fn inputs_at(
+        &self,
+        alloc: Global,
+        plan: &Plan,
+        sim: SimNo,
+        previous: Option<Tier>,
+        at: Tier,
+    ) -> Result<List<Input>, Mem>
         requires of_plan { length self.now ≡ length plan.now.conns }
         requires references { RefersInside plan.now }
         ensures { (S : Supply) → Holds plan.now self.now S → IfOk result (λ ins. ins ≡ inputs plan.now S sim.0 previous at) }
     {
         let mut inputs = List::new(alloc);
         for (place, connection) in plan.conns.as_slice().iter().enumerate() {
-            let given = given_by(alloc, plan, connection, &self.kept[place], sim, previous, at)?;
+            let given = given_by(
+                alloc,
+                plan,
+                connection,
+                &self.kept[place],
+                sim,
+                previous,
+                at,
+            )?;
             put_given(&mut inputs, given)?;
         }
         Ok(inputs)
@@ -71,7 +86,15 @@ impl Buffers {
 }
 
 // What a connection gives a step of `sim`: nothing, where it leads to another simulator.
-fn given_by(alloc: Global, plan: &Plan, connection: &Conn, made: &List<Made>, sim: SimNo, previous: Option<Tier>, at: Tier) -> Result<Option<Input>, Mem>
+fn given_by(
+    alloc: Global,
+    plan: &Plan,
+    connection: &Conn,
+    made: &List<Made>,
+    sim: SimNo,
+    previous: Option<Tier>,
+    at: Tier,
+) -> Result<Option<Input>, Mem>
     requires references { RefersInside plan.now }
     requires from { connection.now.from < length plan.now.entities }
     requires to { connection.now.to < length plan.now.entities }
@@ -87,7 +110,12 @@ fn given_by(alloc: Global, plan: &Plan, connection: &Conn, made: &List<Made>, si
 }
 
 // The input that a connection makes of a value.
-fn input_of(alloc: Global, plan: &Plan, connection: &Conn, candidate: Candidate) -> Result<Input, Mem>
+fn input_of(
+    alloc: Global,
+    plan: &Plan,
+    connection: &Conn,
+    candidate: Candidate,
+) -> Result<Input, Mem>
     requires references { RefersInside plan.now }
     requires from { connection.now.from < length plan.now.entities }
     requires to { connection.now.to < length plan.now.entities }

@@ -16,7 +16,13 @@ pub struct Candidate<'a> {
 
 // What a connection gives a step at `at` after a step at `previous`, of its initial value and of what was made for it:
 // that of the greatest time, and of equal times the last.
-pub fn pick<'a>(plan: &Plan, connection: &'a Conn, made: &'a List<Made>, previous: Option<Tier>, at: Tier) -> Option<Candidate<'a>>
+pub fn pick<'a>(
+    plan: &Plan,
+    connection: &'a Conn,
+    made: &'a List<Made>,
+    previous: Option<Tier>,
+    at: Tier,
+) -> Option<Candidate<'a>>
     ensures { option_map timed result ≡ pick plan.now (supply_of made.now) connection.now previous at }
 {
     let mut best = initial(connection, previous, at);
@@ -32,18 +38,34 @@ fn initial<'a>(connection: &'a Conn, previous: Option<Tier>, at: Tier) -> Option
 {
     let start = Tier { time: 0, tier: 0 };
     match &connection.initial {
-        Some(value) if does_count(connection, previous, at, start) => Some(Candidate { at: start, value }),
+        Some(value) if does_count(connection, previous, at, start) => Some(Candidate {
+            at: start,
+            value,
+        }),
         _ => None,
     }
 }
 
 // The better one of the best so far and one more output.
-fn weigh<'a>(plan: &Plan, connection: &Conn, previous: Option<Tier>, at: Tier, best: Option<Candidate<'a>>, output: &'a Made) -> Option<Candidate<'a>>
+fn weigh<'a>(
+    plan: &Plan,
+    connection: &Conn,
+    previous: Option<Tier>,
+    at: Tier,
+    best: Option<Candidate<'a>>,
+    output: &'a Made,
+) -> Option<Candidate<'a>>
     ensures { option_map timed result ≡ weighed plan.now connection.now previous at (option_map timed best.entry) output.now }
 {
     let arrival = output.at().after(connection.via);
     if arrival.time < plan.until && does_count(connection, previous, at, arrival) {
-        later(best, Candidate { at: arrival, value: output.value() })
+        later(
+            best,
+            Candidate {
+                at: arrival,
+                value: output.value(),
+            },
+        )
     } else {
         best
     }

@@ -6,6 +6,8 @@ mod candidate;
 mod made;
 mod names;
 mod sorted;
+#[cfg(test)]
+mod tests;
 
 pub use buffers::Buffers;
 pub use names::{full_id, owner};

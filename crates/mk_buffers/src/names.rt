@@ -11,7 +11,9 @@ pub fn owner(plan: &Plan, entity: u32) -> SimNo
     requires there { entity < length plan.now.entities }
     ensures { result.0 ≡ owner plan.now entity }
 {
-    plan.models.at(plan.entities.at(entity as usize).model as usize).sim
+    plan.models
+        .at(plan.entities.at(entity as usize).model as usize)
+        .sim
 }
 
 /// An entity's name in the whole plan: the name of its simulator, a dot, and its own.

@@ -1,20 +1,19 @@
 -- What stands of right messages.
-use Rattle.std.proofs.Common.{◌≡◌, ℕ, ◌<◌, ℤ, pos, negsuc, Bool, true, false, cond, not, ◌||◌, ◌&&◌, nat_le, nat_lt, ◌==◌, int_le, int_lt, List, [], ◌∷◌, Option, Some, None, option_map, option_and_then, unwrap_or, refl, sym, ap, ◌∙◌, subst, ◌⊎◌, inl, inr, arith, true≢false, eqb-true, FitsSigned}
+use Rattle.std.proofs.Common.{◌≡◌, ℕ, ℤ, pos, Bool, true, false, cond, not, ◌||◌, ◌&&◌, nat_le, ◌==◌, int_le, int_lt, List, [], ◌∷◌, Option, Some, None, option_map, option_and_then, unwrap_or, refl, sym, ap, ◌∙◌, ◌⊎◌, inl, inr, arith, true≢false, eqb-true, FitsSigned}
 use Rattle.std.proofs.lemmas.Int.{ints}
 use Rattle.std.specs.Int.{w64}
 use Rattle.std.specs.Option.{ForSome}
 use Rattle.std.specs.List.{list_any}
 use Rattle.mk_base.specs.declared.SimKind.{SimKind}
 use Rattle.mk_base.specs.declared.tier.Tier.{Tier}
-use Rattle.mk_base.specs.declared.json.Json.{Json, Json-F, out-Json}
+use Rattle.mk_base.specs.declared.json.Json.{Json}
 use Rattle.mk_base.specs.Lists.{IsIn}
 use Rattle.mk_base.specs.Trees.{is_null, whole_in, is_object, is_whole, is_datum, nesting, value_depth}
-use Rattle.mk_base.proofs.Lists.{passes_some, none_some, some_same}
+use Rattle.mk_base.proofs.Lists.{passes_some, none_some}
 use Rattle.mk_plan.specs.declared.Plan.{Plan}
 use Rattle.mk_plan.specs.declared.Want.{Want}
-use Rattle.mk_plan.specs.declared.Cause.{Cause}
 use Rattle.mk_plan.specs.declared.Cause.TheVariants.{Wrong}
-use Rattle.mk_plan.specs.declared.Message.TheVariants.{Ask, Success, Failure}
+use Rattle.mk_plan.specs.declared.Message.TheVariants.{Success}
 use Rattle.mk_plan.specs.declared.Place.TheVariants.{Stepping, Fetching}
 use Rattle.mk_plan.specs.Plans.{kind_of, is_time_based}
 use Rattle.mk_plan.specs.Turns.{first_cause, wrong, wrong_next, wrong_data, wanted, is_number, holds_of, time_in, part_for, value_for}
@@ -69,11 +68,13 @@ right_next_fits kind x content fits right n is = number_fits n x.time fits later
   where
     failed : (not (is_null content || is_up_to (pos 1000000000000000000) content) ≡ false) × ((is_null content && is_time_based kind) ≡ false) × (is_up_to x.time content ≡ false)
     failed = three_fail (not (is_null content || is_up_to (pos 1000000000000000000) content)) (is_null content && is_time_based kind) (is_up_to x.time content) 2 4 3 right
+
     latest : int_le n (pos 1000000000000000000) ≡ true
     latest = elim (either_true (is_null content) (is_up_to (pos 1000000000000000000) content) (not_false _ failed.0)) [
       | inl null ↦ absurd (true≢false (sym null ∙ whole_not_null content n is))
       | inr number ↦ sym (number_is (λ m. int_le m (pos 1000000000000000000)) content n is) ∙ number
     ]
+
     later : int_le n x.time ≡ false
     later = sym (number_is (λ m. int_le m x.time) content n is) ∙ failed.2
 
@@ -100,6 +101,7 @@ right_value_is_datum wants x content w v right m is = both (is_whole v) (nat_le 
   where
     both : (a b : Bool) → a ≡ true → b ≡ true → (a && b) ≡ true
     both a b p q = rw (p, q) refl
+
     passed : (test : Json → Bool) → some_such test wants (value_for content) ≡ false → test v ≡ true
     passed test none = elim (test v) as (λ b. test v ≡ b → b ≡ true) [
       | true ↦ λ e. refl

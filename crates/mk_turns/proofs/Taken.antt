@@ -1,5 +1,5 @@
 -- What each connection takes is wanted of its source.
-use Rattle.std.proofs.Common.{◌≡◌, ℕ, true, List, [], ◌∷◌, filter, fold, ◌==◌, eq-eqb, sym, ap, ◌∙◌, subst, ◌⊎◌, inl, inr, refl}
+use Rattle.std.proofs.Common.{◌≡◌, ℕ, List, [], ◌∷◌, filter, fold, ◌==◌, eq-eqb, sym, ap, ◌∙◌, subst, ◌⊎◌, inl, inr, refl}
 use Rattle.std.proofs.lemmas.Map.Lookups.{exact_bytes}
 use Rattle.std.specs.Ordering.{ordering_then}
 use Rattle.std.specs.declared.cmp.Ordering.{Ordering}

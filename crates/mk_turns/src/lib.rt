@@ -7,6 +7,8 @@ mod data;
 mod numbers;
 mod places;
 mod sorted;
+#[cfg(test)]
+mod tests;
 mod wants;
 
 pub use causes::wrong;

@@ -98,9 +98,9 @@ pairs_over_from : (r : ℕ → ℕ → Bool) (a n d e : ℕ) → all_apart r (ra
 pairs_over_from r a zero d e h low up high = absurd (omega arith)
 pairs_over_from r a (suc n) d e h low up high = let t = and_parts (list_all (r a) (range_with_len (a + 1) n)) (all_apart r (range_with_len (a + 1) n)) h in
     elim (first a d low) [
-    | inl q ↦ subst (λ k. r k e ≡ true) q (over_from (r a) (a + 1) n e t.0 (omega arith) (omega arith))
-    | inr q ↦ pairs_over_from r (a + 1) n d e t.1 q up (omega arith)
-  ]
+      | inl q ↦ subst (λ k. r k e ≡ true) q (over_from (r a) (a + 1) n e t.0 (omega arith) (omega arith))
+      | inr q ↦ pairs_over_from r (a + 1) n d e t.1 q up (omega arith)
+    ]
   where
     first : (a d : ℕ) → a ≤ d → (a ≡ d) ⊎ (a + 1 ≤ d)
     first a d h = grind arith
@@ -116,6 +116,7 @@ value_from t h d = record { tree = d.tree; whole = d.whole; in_range = d.in_rang
   where
     e : nesting_of t ≡ nesting d.tree
     e = sym (ap nesting_of d.is) ∙ nesting_is d.tree
+
     low : nesting d.tree ≤ value_depth
     low = subst (λ n. n ≤ value_depth) e (leb-true (nesting_of t) value_depth h)
 
@@ -162,14 +163,19 @@ limits_hold P data_of h k = record {
   where
     t : (numbers_fit P ≡ true) × (sizes_fit P ≡ true) × (list_all sim_fits P.sims ≡ true) × (models_fit P ≡ true) × (list_all (λ c. initial_fits c.initial) P.conns ≡ true)
     t = parts5 (numbers_fit P) (sizes_fit P) (list_all sim_fits P.sims) (models_fit P) (list_all (λ c. initial_fits c.initial) P.conns) h
+
     n : ((pos 1 ≤ℤ P.until) × (P.until ≤ℤ pos 1000000000)) × ((1 ≤ P.loops) × (P.loops ≤ 1000)) × ((1 ≤ P.entries) × (P.entries ≤ 20000000))
     n = limits_from P t.0
+
     z : ((1 ≤ length P.sims) × (length P.sims ≤ 200)) × (length P.entities ≤ 10000) × (length P.conns ≤ 100000)
     z = sizes_from P t.1
+
     sim_parts : (s : PlanSim) → sim_fits s ≡ true → (nat_le s.rank 199 ≡ true) × (nat_le s.first_id 1000000 ≡ true) × (list_all event_fits s.initial ≡ true)
     sim_parts s e = parts3 (nat_le s.rank 199) (nat_le s.first_id 1000000) (list_all event_fits s.initial) e
+
     known : All (λ m. m.sim.0 < length P.sims) P.models
     known = all_from (λ m. nat_lt m.sim.0 (length P.sims)) (λ m. m.sim.0 < length P.sims) (λ m e. ltb-true m.sim.0 (length P.sims) e) P.models (parts4 (list_all (λ m. nat_lt m.sim.0 (length P.sims)) P.models) (list_all (entity_refers P) P.entities) (list_all (conn_refers P) P.conns) (list_all (pair_refers P) P.asyncs) k).0
+
     models : (i : ℕ) → count_by (λ m. m.sim.0 == i) P.models ≤ 10000
     models i = elim (cases_lt i (length P.sims)) [
       | inl low ↦ leb-true (models_of P i) 10000 (over_from (λ i. nat_le (models_of P i) 10000) 0 (length P.sims) i t.3 (omega arith) (omega arith))
@@ -181,8 +187,8 @@ from_limits_hold P w = from5 (numbers_fit P) (sizes_fit P) (list_all sim_fits P.
     (from_limits P w.until.0 w.until.1 w.loops.0 w.loops.1 w.entries.0 w.entries.1)
     (from4 (nat_le 1 (length P.sims)) (nat_le (length P.sims) 200) (nat_le (length P.entities) 10000) (nat_le (length P.conns) 100000) (le-leb 1 (length P.sims) w.sims.0) (le-leb (length P.sims) 200 w.sims.1) (le-leb (length P.entities) 10000 w.entities) (le-leb (length P.conns) 100000 w.conns))
     (from_all sim_fits (λ s. (s.rank ≤ 199) × (s.first_id ≤ 1000000) × All (λ (e : ℤ). (pos 0 ≤ℤ e) × (e ≤ℤ pos 1000000000)) s.initial)
-        (λ s q. from3 (nat_le s.rank 199) (nat_le s.first_id 1000000) (list_all event_fits s.initial) (le-leb s.rank 199 q.0) (le-leb s.first_id 1000000 q.1) (from_all event_fits (λ (e : ℤ). (pos 0 ≤ℤ e) × (e ≤ℤ pos 1000000000)) from_event s.initial q.2))
-        P.sims (λ i d m. (w.ranks i d m, w.first_ids i d m, w.events i d m)))
+    (λ s q. from3 (nat_le s.rank 199) (nat_le s.first_id 1000000) (list_all event_fits s.initial) (le-leb s.rank 199 q.0) (le-leb s.first_id 1000000 q.1) (from_all event_fits (λ (e : ℤ). (pos 0 ≤ℤ e) × (e ≤ℤ pos 1000000000)) from_event s.initial q.2))
+    P.sims (λ i d m. (w.ranks i d m, w.first_ids i d m, w.events i d m)))
     (from_over (λ i. nat_le (models_of P i) 10000) 0 (length P.sims) (λ i low high. le-leb (models_of P i) 10000 (w.models i)))
     (from_all (λ c. initial_fits c.initial) (λ c. IfSome c.initial IsValueText) (λ c. from_initial c.initial) P.conns w.initials)
 
@@ -191,7 +197,7 @@ references_hold P h = record {
   models = all_from (λ m. nat_lt m.sim.0 (length P.sims)) (λ m. m.sim.0 < length P.sims) (λ m e. ltb-true m.sim.0 (length P.sims) e) P.models t.0;
   entities = all_from (entity_refers P) (λ n. (n.model < length P.models) × All (λ (r : ℕ). r < length P.entities) n.related)
       (λ n e. let u = and_parts (nat_lt n.model (length P.models)) (list_all (λ (r : ℕ). nat_lt r (length P.entities)) n.related) e in
-          (ltb-true n.model (length P.models) u.0, all_from (λ (r : ℕ). nat_lt r (length P.entities)) (λ (r : ℕ). r < length P.entities) (λ r e. ltb-true r (length P.entities) e) n.related u.1))
+      (ltb-true n.model (length P.models) u.0, all_from (λ (r : ℕ). nat_lt r (length P.entities)) (λ (r : ℕ). r < length P.entities) (λ r e. ltb-true r (length P.entities) e) n.related u.1))
       P.entities t.1;
   conns = all_from (conn_refers P) (λ c. (c.from < length P.entities) × (c.to < length P.entities))
       (λ c e. let u = and_parts (nat_lt c.from (length P.entities)) (nat_lt c.to (length P.entities)) e in (ltb-true c.from (length P.entities) u.0, ltb-true c.to (length P.entities) u.1)) P.conns t.2;
@@ -206,7 +212,7 @@ from_references : (P : Plan) → RefersInside P → refers_inside P ≡ true
 from_references P r = from4 (list_all (λ m. nat_lt m.sim.0 (length P.sims)) P.models) (list_all (entity_refers P) P.entities) (list_all (conn_refers P) P.conns) (list_all (pair_refers P) P.asyncs)
     (from_all (λ m. nat_lt m.sim.0 (length P.sims)) (λ m. m.sim.0 < length P.sims) (λ m q. lt-ltb m.sim.0 (length P.sims) q) P.models r.models)
     (from_all (entity_refers P) (λ n. (n.model < length P.models) × All (λ (r : ℕ). r < length P.entities) n.related)
-        (λ n q. and_from (nat_lt n.model (length P.models)) (list_all (λ (r : ℕ). nat_lt r (length P.entities)) n.related) (lt-ltb n.model (length P.models) q.0) (from_all (λ (r : ℕ). nat_lt r (length P.entities)) (λ (r : ℕ). r < length P.entities) (λ r e. lt-ltb r (length P.entities) e) n.related q.1)) P.entities r.entities)
+    (λ n q. and_from (nat_lt n.model (length P.models)) (list_all (λ (r : ℕ). nat_lt r (length P.entities)) n.related) (lt-ltb n.model (length P.models) q.0) (from_all (λ (r : ℕ). nat_lt r (length P.entities)) (λ (r : ℕ). r < length P.entities) (λ r e. lt-ltb r (length P.entities) e) n.related q.1)) P.entities r.entities)
     (from_all (conn_refers P) (λ c. (c.from < length P.entities) × (c.to < length P.entities)) (λ c q. and_from (nat_lt c.from (length P.entities)) (nat_lt c.to (length P.entities)) (lt-ltb c.from (length P.entities) q.0) (lt-ltb c.to (length P.entities) q.1)) P.conns r.conns)
     (from_all (pair_refers P) (λ p. (p.from.0 < length P.sims) × (p.to.0 < length P.sims)) (λ p q. and_from (nat_lt p.from.0 (length P.sims)) (nat_lt p.to.0 (length P.sims)) (lt-ltb p.from.0 (length P.sims) q.0) (lt-ltb p.to.0 (length P.sims) q.1)) P.asyncs r.asyncs)
 
@@ -383,6 +389,7 @@ kinds_from P h = record {
   where
     t : (list_all (kinds_fit P) P.conns ≡ true) × (sources_agree P ≡ true) × (targets_agree P ≡ true)
     t = parts3 (list_all (kinds_fit P) P.conns) (sources_agree P) (targets_agree P) h
+
     fits_parts : (c : Conn) → kinds_fit P c ≡ true → (persistence_fits (kind_of P (owner P c.from)) c.persistent ≡ true) × (triggering_fits (kind_of P (owner P c.to)) c.triggering ≡ true)
     fits_parts c e = and_parts (persistence_fits (kind_of P (owner P c.from)) c.persistent) (triggering_fits (kind_of P (owner P c.to)) c.triggering) e
 

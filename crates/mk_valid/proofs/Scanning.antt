@@ -92,6 +92,7 @@ climbs_bracketed n b c x q o q' o' k f d m h =
   where
     first : scanned (at Outside d m) b ≡ at Outside (d + 1) (max m (d + 1))
     first = rw (q, o) refl
+
     last : scanned (at Outside (d + 1) (max (max m (d + 1)) (d + 1 + n))) c ≡ at Outside d (max m (d + suc n))
     last = rw (q', o', k) (λ i. let e : d + 1 - 1 ≡ d = omega arith in let e' : max (max (max m (d + 1)) (d + 1 + n)) (d + 1 - 1) ≡ max m (d + suc n) = omega arith in at Outside (e i) (e' i))
 
@@ -121,6 +122,7 @@ rests_escaped b = either Rests (b == 34) _ _ (λ _. rests_escape 34) (λ quote. 
   where
     digit : (n : ℕ) → Rests (hex_digit n ∷ [])
     digit n = rests_one (hex_digit n) (hex_is_plain n).0 (hex_is_plain n).1
+
     coded : Rests (codes "\\u00" ++ hex_digit (b / 16) ∷ hex_digit (b % 16) ∷ [])
     coded = rests_append (92 ∷ 117 ∷ []) (48 ∷ 48 ∷ hex_digit (b / 16) ∷ hex_digit (b % 16) ∷ []) (rests_escape 117)
         (rests_append (48 ∷ []) (48 ∷ hex_digit (b / 16) ∷ hex_digit (b % 16) ∷ []) (rests_one 48 refl refl)
@@ -140,6 +142,7 @@ climbs_quoted s d m h =
   where
     e : max m d ≡ m
     e = omega arith
+
     e' : max m d ≡ max m (d + 0)
     e' = omega arith
 
@@ -202,7 +205,7 @@ climbs_list ys =
     subst (λ ns. Climbs (suc (deepest ns)) (list_text (map text_of (map tree_of ys)))) (sym (map_twice tree_of nesting ys))
     (subst (λ xs. Climbs (suc (deepest (map (λ e. nesting e.0) ys))) (list_text xs)) (sym (map_twice tree_of text_of ys))
     (climbs_bracketed (deepest (map (λ e. nesting e.0) ys)) 91 93 (join_with_byte 44 (map (λ e. text_of e.0) ys)) refl refl refl refl refl
-        (climbs_joined (λ (e : Climbed). text_of e.0) (λ e. nesting e.0) (λ e. e.1) ys)))
+    (climbs_joined (λ (e : Climbed). text_of e.0) (λ e. nesting e.0) (λ e. e.1) ys)))
 
 -- what an object's members are mapped by
 abbrev with_tree : List ℕ × Climbed → List ℕ × Json

@@ -46,8 +46,13 @@ fn triggering_fits(kind: SimKind, triggering: bool) -> bool
 fn kinds_fit(plan: &Plan, conn: &Conn) -> bool
     ensures { result ≡ kinds_fit plan.now conn.now }
 {
-    persistence_fits(kind_of(plan, owner(plan, conn.from as usize)), conn.persistent)
-        && triggering_fits(kind_of(plan, owner(plan, conn.to as usize)), conn.triggering)
+    persistence_fits(
+        kind_of(plan, owner(plan, conn.from as usize)),
+        conn.persistent,
+    ) && triggering_fits(
+        kind_of(plan, owner(plan, conn.to as usize)),
+        conn.triggering,
+    )
 }
 
 fn all_kinds_fit(plan: &Plan) -> bool

@@ -15,6 +15,8 @@ mod nesting;
 mod parts;
 mod ranks;
 mod references;
+#[cfg(test)]
+mod tests;
 
 use agreement::has_one_connection_each;
 use connections::{has_initial_values, has_kinds_of_connections};
@@ -22,12 +24,11 @@ use limits::is_within_limits;
 use mk_base::Mem;
 use mk_plan::Plan;
 use names::has_distinct_names;
+pub use nesting::text_nesting;
 use ranks::has_ranks;
 use references::refers_inside;
 use std::alloc::Global;
 use thiserror::Error;
-
-pub use nesting::text_nesting;
 
 /// Why a plan wasn't found valid.
 #[derive(Debug, Drop, Error)]

@@ -95,9 +95,5 @@ pub(crate) fn is_within_limits(plan: &Plan) -> bool
     ensures value { result ≡ is_within_limits plan.now }
     ensures datums { OnTrue result (HasDatums plan.now) }
 {
-    numbers_fit(plan)
-        && sizes_fit(plan)
-        && sims_fit(plan)
-        && models_fit(plan)
-        && initials_fit(plan)
+    numbers_fit(plan) && sizes_fit(plan) && sims_fit(plan) && models_fit(plan) && initials_fit(plan)
 }

@@ -35,7 +35,10 @@ fn has_no_dot(id: &[u8]) -> bool
 fn have_no_dots(plan: &Plan) -> bool
     ensures { result ≡ list_all (λ s. has_no_dot s.id) plan.now.sims }
 {
-    plan.sims.as_slice().iter().all(|sim| has_no_dot(sim.id.bytes()))
+    plan.sims
+        .as_slice()
+        .iter()
+        .all(|sim| has_no_dot(sim.id.bytes()))
 }
 
 fn is_eid(eid: &[u8]) -> bool
@@ -47,7 +50,10 @@ fn is_eid(eid: &[u8]) -> bool
 fn are_named(plan: &Plan) -> bool
     ensures { result ≡ list_all (λ n. is_eid n.eid) plan.now.entities }
 {
-    plan.entities.as_slice().iter().all(|entity| is_eid(entity.eid.bytes()))
+    plan.entities
+        .as_slice()
+        .iter()
+        .all(|entity| is_eid(entity.eid.bytes()))
 }
 
 fn eid_of(plan: &Plan, entity: usize) -> &[u8]

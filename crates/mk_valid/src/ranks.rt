@@ -20,7 +20,8 @@ fn conn_rises(plan: &Plan, conn: &Conn) -> bool
     ensures { result ≡ conn_rises plan.now conn.now }
 {
     match conn.via {
-        Via::Plain => rank_of(plan, owner(plan, conn.from as usize)) < rank_of(plan, owner(plan, conn.to as usize)),
+        Via::Plain => rank_of(plan, owner(plan, conn.from as usize))
+            < rank_of(plan, owner(plan, conn.to as usize)),
         Via::Shift | Via::Weak => true,
     }
 }

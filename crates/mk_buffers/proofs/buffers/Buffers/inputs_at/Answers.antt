@@ -9,10 +9,10 @@ loop-place-init c = (rw c.new-inputs.ensures tt, λ S holds. c.new-inputs.ensure
 
 pub loop-place-preserved : goal.loop-place-preserved
 loop-place-preserved c = (
-    c.in_ok-put_given.ensures.sorted,
-    λ S holds. gathered_more c.args.plan.now c.args.sim.0 c.args.previous c.args.at S c.self.inside.kept.items c.as_slice-connection-items.result.now c.loop-place.place c.connection-item.result c.index.result.now
-        c.in_ok-given.given c.loop-place.inputs c.put_given.new.inputs holds (ap length c.self.view_is ∙ c.requires.of_plan) c.as_slice-connection-items.ensures c.loop-place-test.true c.connection-item.is c.index.ensures
-        (c.loop-place.invariant.1 S holds) c.in_ok-given.ensures c.in_ok-put_given.ensures.put,
+  c.in_ok-put_given.ensures.sorted,
+  λ S holds. gathered_more c.args.plan.now c.args.sim.0 c.args.previous c.args.at S c.self.inside.kept.items c.as_slice-connection-items.result.now c.loop-place.place c.connection-item.result c.index.result.now
+      c.in_ok-given.given c.loop-place.inputs c.put_given.new.inputs holds (ap length c.self.view_is ∙ c.requires.of_plan) c.as_slice-connection-items.ensures c.loop-place-test.true c.connection-item.is c.index.ensures
+      (c.loop-place.invariant.1 S holds) c.in_ok-given.ensures c.in_ok-put_given.ensures.put,
 )
 
 pub returns : goal.returns

@@ -1,0 +1,29 @@
+use crate::Message;
+use mk_base::{Json, List, Text};
+use std::test::Fail;
+
+#[test]
+fn messages_are_copied(rt: HostRuntime) -> Result<(), Fail> {
+    let mut args = List::new(rt.alloc());
+    args.push(Json::Whole(1))?;
+    let request = Message::Ask {
+        id: 9,
+        name: Text::of(rt.alloc(), "get_data")?,
+        args,
+        named: Json::Null,
+    };
+    match request.copy(rt.alloc())? {
+        Message::Ask {
+            id,
+            name,
+            args,
+            named: _,
+        } => {
+            assert_eq!(rt; id, 9);
+            assert_eq!(rt; name.as_str(), "get_data");
+            assert_eq!(rt; args.len(), 1);
+        }
+        _ => assert!(rt; false),
+    }
+    Ok(())
+}
