@@ -1,6 +1,6 @@
 -- A message that was read is known.
-use Rattle.std.proofs.Common.{◌≡◌, ℕ, ℤ, pos, nat_abs, Bool, true, false, List, [], ◌∷◌, ◌++◌, Option, Some, None, ◌∙◌, ap, refl, sym, ◌<◌, ◌≤◌, length, ◌&&◌, map, arith, rules, subst, negsuc}
-use Rattle.std.specs.Prelude.{Result, Ok, Err, All, option_and_then, option_map, if◌then◌else◌}
+use Rattle.std.proofs.Common.{◌≡◌, ℕ, ℤ, pos, nat_abs, Bool, true, false, List, [], ◌∷◌, Option, Some, None, ◌∙◌, ap, refl, sym, ◌<◌, length, ◌&&◌, arith, subst, negsuc}
+use Rattle.std.specs.Prelude.{Result, Ok, Err, option_and_then, option_map, if◌then◌else◌}
 use Rattle.std.proofs.lemmas.Int.{ints}
 use Rattle.std.specs.Result.{result_ok}
 use Rattle.std.specs.List.{list_all}
@@ -8,10 +8,9 @@ use Rattle.mk_base.specs.declared.json.Json.{Json}
 use Rattle.mk_base.specs.Trees.{is_in_range, items_in, whole_in, text_in, is_object}
 use Rattle.mk_plan.specs.declared.Plan.{Plan}
 use Rattle.mk_plan.specs.declared.Message.{Message}
-use Rattle.mk_plan.specs.declared.Message.TheVariants.{Ask, Success, Failure}
+use Rattle.mk_plan.specs.declared.Message.TheVariants.{Success, Failure}
 use Rattle.mk_plan.specs.Acts.{content_of}
 use Rattle.mk_plan.specs.Journals.{Arrival}
-use Rattle.mk_plan.specs.Plans.{sim_count}
 use Rattle.mk_message.specs.Messages.{message_in, three_in, three_of, tested, kind_in, id_in, content_in}
 use Rattle.mk_message.specs.declared.reading.Kind.{Kind}
 use Rattle.mk_message.specs.declared.reading.Kind.TheVariants as kind

@@ -1,17 +1,12 @@
 -- The parts of a tree whose whole numbers are in range.
-use Rattle.std.proofs.Common.{◌≡◌, ℕ, ℤ, Bool, true, false, List, [], ◌∷◌, map, Option, Some, None, ◌∙◌, ap, refl, sym, get_or, ◌<◌, length, ◌&&◌, arith}
-use Rattle.std.specs.Prelude.{Result, Ok, Err}
+use Rattle.std.proofs.Common.{◌≡◌, ℕ, Bool, true, false, List, map, Some, None, ◌∙◌, ap, refl, sym, get_or, ◌<◌, length, arith}
 use Rattle.std.specs.List.{list_all}
 use Rattle.std.proofs.lemmas.Bool.{true≢false}
 use Rattle.std.proofs.lemmas.List.Folds.{list_all_at}
 use Rattle.mk_base.specs.declared.json.Json.{Json, Json-F, out-Json, map-Json}
 use Rattle.mk_base.specs.Trees.{is_in_range, range_step, items_in}
 use Rattle.mk_base.proofs.FoldsAgree.{folded_out}
-use Rattle.mk_plan.specs.declared.Message.{Message}
-use Rattle.mk_plan.specs.declared.Message.TheVariants.{Ask, Success, Failure}
-use Rattle.mk_plan.specs.Acts.{content_of}
 use Rattle.mk_json.proofs.LevelTests.{all_of_list}
-use Rattle.mk_message.specs.Messages.{message_in}
 
 -- an item of a list of which each passes
 pub all_at : {X : Type 0} (p : X → Bool) (xs : List X) (i : ℕ) (x : X) → list_all p xs ≡ true → i < length xs → x ≡ get_or xs i x → p x ≡ true

@@ -1,6 +1,6 @@
 -- Records whose reading computes.
 use Rattle.std.proofs.Common.{◌≡◌, refl}
-use Rattle.std.specs.Prelude.{ℕ, ◌-◌, List, [], ◌∷◌, ◌++◌, codes, Ok, pos, false, take, length}
+use Rattle.std.specs.Prelude.{ℕ, ◌-◌, List, [], ◌∷◌, ◌++◌, codes, pos, false, take, length}
 use Rattle.std.specs.Str.{is_utf8, chars}
 use Rattle.mk_base.specs.declared.SimKind.TheVariants.{TimeBased}
 use Rattle.mk_base.specs.declared.json.Json as json
@@ -9,7 +9,7 @@ use Rattle.mk_plan.specs.declared.Plan.{Plan}
 use Rattle.mk_plan.specs.declared.Message.TheVariants.{Success}
 use Rattle.mk_plan.specs.Journals.{Arrival}
 use Rattle.serde_json.proofs.OnLiterals.{serde_json_on_literals}
-use Rattle.mk_record.specs.Reading.{Reading, Said, Faulty, reading}
+use Rattle.mk_record.specs.Reading.{Said, Faulty, reading}
 
 -- the settings, the simulator, the model and the entity of a plan, as lines
 abbrev run_line : List ℕ

@@ -1,5 +1,5 @@
 -- What holds of the lines so far goes on to hold.
-use Rattle.std.proofs.Common.{◌≡◌, ℕ, ◌+◌, ◌<◌, ◌≤◌, Bool, true, false, List, [], ◌∷◌, ◌++◌, map, length, refl, sym, ap, ◌∙◌, arith, rules, subst}
+use Rattle.std.proofs.Common.{◌≡◌, ℕ, ◌+◌, ◌≤◌, true, false, List, [], ◌∷◌, ◌++◌, map, length, sym, ap, ◌∙◌, arith, subst}
 use Rattle.std.specs.Prelude.{Result, Ok, Err, IfOk, IfErr, All}
 use Rattle.std.specs.List.{list_all, slice_split}
 use Rattle.std.proofs.lemmas.List.{map-append}
@@ -7,7 +7,6 @@ use Rattle.std.proofs.lemmas.List.Elements.{All-push}
 use Rattle.mk_base.specs.declared.json.Json.{Json}
 use Rattle.mk_base.specs.Trees.{is_in_range}
 use Rattle.mk_plan.specs.declared.Plan.{Plan}
-use Rattle.mk_plan.specs.Journals as journals
 use Rattle.mk_plan.specs.Plans.{IsValidPlan}
 use Rattle.mk_record.specs.declared.faults.LineFault.{LineFault}
 use Rattle.mk_record.specs.declared.faults.LineFault.TheVariants.{Bad, Mem}
@@ -18,7 +17,7 @@ use Rattle.mk_record.specs.declared.saved.Saved.{Saved}
 use Rattle.mk_record.specs.declared.saved.Arrival.{Arrival}
 use Rattle.mk_record.specs.declared.saved.Progress.{Progress}
 use Rattle.mk_record.specs.Lines.{arrival_in}
-use Rattle.mk_record.specs.Reading.{Going, Ended, Said, Faulty, start, is_feed, line_step, reading, reading_from, unended, overlong}
+use Rattle.mk_record.specs.Reading.{Going, Ended, Said, Faulty, start, is_feed, line_step, reading, reading_from, overlong}
 use Rattle.mk_record.specs.Seen.{came, state_of}
 use Rattle.mk_record.specs.Steps.{IsKnown, IsSound, IsSoundAfter, IsStep, IsBadStep, IsFaultAt, IsOverlong}
 use Rattle.mk_record.proofs.Known.{arrival-known}

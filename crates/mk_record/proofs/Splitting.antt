@@ -1,11 +1,11 @@
 -- The reading of a record, a line at a time.
-use Rattle.std.proofs.Common.{◌≡◌, ℕ, ◌+◌, ◌<◌, ◌≤◌, suc, zero, Bool, true, false, List, [], ◌∷◌, length, refl, sym, ap, ◌∙◌, arith, cond, subst, rules, ◌-◌, take, drop, length-drop}
+use Rattle.std.proofs.Common.{◌≡◌, ℕ, ◌+◌, ◌<◌, ◌≤◌, Bool, true, false, List, [], ◌∷◌, length, refl, sym, ap, ◌∙◌, arith, cond, ◌-◌, take, drop, length-drop}
 use Rattle.std.specs.Prelude.{not}
 use Rattle.std.proofs.lemmas.List.{take_all}
 use Rattle.std.proofs.lemmas.List.Splits.{slice_split_first}
 use Rattle.std.specs.List.{slice_split, onto_first, position_or_len}
 use Rattle.std.specs.Prelude.{position, nat_lt, Option, Some, None}
-use Rattle.mk_record.specs.Reading.{State, Step, Going, Ended, Bad, Reading, Said, Faulty, line_step, reading_from, closed, is_feed, unended, overlong}
+use Rattle.mk_record.specs.Reading.{State, Step, Going, Ended, Bad, Reading, Said, Faulty, line_step, reading_from, closed, is_feed, overlong}
 
 -- there is a first piece
 onto : (b : ℕ) (pieces : List (List ℕ)) → (x : List ℕ) × (xs : List (List ℕ)) × (onto_first b pieces ≡ x ∷ xs)

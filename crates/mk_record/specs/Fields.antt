@@ -1,5 +1,5 @@
 -- The fields of a record's line, and the faults of a line.
-use Rattle.std.specs.Prelude.{ℕ, ℤ, Bool, true, false, ◌&&◌, int_le, int_lt, pos, List, [], ◌∷◌, map, Option, Some, None, option_map, option_and_then, Result, Ok, Err, codes, if◌then◌else◌}
+use Rattle.std.specs.Prelude.{ℕ, ℤ, Bool, true, false, ◌&&◌, int_le, int_lt, pos, List, [], ◌∷◌, map, Option, Some, None, option_and_then, Result, Ok, Err, codes, if◌then◌else◌}
 use Rattle.mk_base.specs.declared.SimKind.{SimKind}
 use Rattle.mk_base.specs.declared.SimKind.TheVariants.{TimeBased, EventBased, Hybrid}
 use Rattle.mk_base.specs.declared.json.Json.{Json, Json-F, out-Json}

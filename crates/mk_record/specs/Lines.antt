@@ -1,11 +1,10 @@
 -- What each kind of line adds to the plan, or to the messages that came.
-use Rattle.std.specs.Prelude.{ℕ, ◌+◌, ◌-◌, ℤ, pos, nat_abs, int_lt, int_le, Bool, ◌&&◌, List, [], ◌∷◌, ◌++◌, length, map, Option, Result, Ok, Err}
+use Rattle.std.specs.Prelude.{ℕ, ℤ, pos, nat_abs, Bool, ◌&&◌, List, [], ◌∷◌, ◌++◌, length, map, Result, Err}
 use Rattle.std.specs.Result.{result_ok}
 use Rattle.std.specs.List.{list_all}
 use Rattle.mk_base.specs.declared.json.Json.{Json}
-use Rattle.mk_base.specs.Trees.{whole_in, text_in, items_in}
+use Rattle.mk_base.specs.Trees.{whole_in, text_in}
 use Rattle.mk_plan.specs.declared.Plan.{Plan}
-use Rattle.mk_plan.specs.declared.Message.{Message}
 use Rattle.mk_plan.specs.Journals.{Arrival}
 use Rattle.mk_message.specs.Messages.{message_in}
 use Rattle.mk_record.specs.Fields.{misformed, out_of_limits, found, limited, is_between, is_below, bool_in, wholes_in, texts_in, initial_in, kind_named, via_named}

@@ -1,5 +1,5 @@
 -- What a record's bytes say: a plan and the messages that came, or the first fault with its line.
-use Rattle.std.specs.Prelude.{ℕ, ◌+◌, Bool, true, false, not, ◌&&◌, nat_le, nat_lt, pos, List, [], ◌∷◌, ◌++◌, length, option_and_then, Option, Some, None, is_none, Result, Ok, Err, codes, ◌==◌, if◌then◌else◌}
+use Rattle.std.specs.Prelude.{ℕ, ◌+◌, Bool, false, not, ◌&&◌, nat_le, nat_lt, pos, List, [], ◌∷◌, ◌++◌, length, option_and_then, Option, Some, None, is_none, Result, Ok, Err, codes, ◌==◌, if◌then◌else◌}
 use Rattle.std.specs.Fmt.{decimal}
 use Rattle.std.specs.List.{slice_split, before_first, after_first, list_all}
 use Rattle.mk_base.specs.declared.json.Json.{Json}

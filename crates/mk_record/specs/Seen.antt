@@ -1,5 +1,5 @@
 -- What the program keeps of a record, as the definitions name it.
-use Rattle.std.specs.Prelude.{List, map}
+use Rattle.std.specs.Prelude.{map}
 use Rattle.mk_plan.specs.Journals as journals
 use Rattle.mk_record.specs.declared.saved.Arrival.{Arrival}
 use Rattle.mk_record.specs.declared.saved.Saved.{Saved}

@@ -1,5 +1,4 @@
-use Rattle.std.proofs.Common.{◌≡◌, Some, None, refl, sym, rules, arith}
-use Rattle.std.proofs.lemmas.Grind.{common_steps}
+use Rattle.std.proofs.Common.{arith}
 use Rattle.mk_base.specs.Trees.{text_in}
 use Rattle.mk_record.proofs.Gathering.{gathered-more, gathered-missed}
 use Rattle.mk_record.proofs.fields.texts_among.Goals as goal

@@ -1,4 +1,4 @@
-use Rattle.std.proofs.Common.{◌≡◌, ap, sym, ◌∙◌, arith, rules, refl}
+use Rattle.std.proofs.Common.{arith}
 use Rattle.mk_record.proofs.Sound.{reads-next, reads-fault, reads-overlong}
 use Rattle.mk_record.proofs.read.read_record.Goals as goal
 

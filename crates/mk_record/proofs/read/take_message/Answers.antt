@@ -1,6 +1,4 @@
-use Rattle.std.proofs.Common.{◌≡◌, rules, arith, sym, subst}
 use Rattle.mk_record.proofs.Sound.{arrived-sound}
-use Rattle.mk_record.specs.Steps.{IsSoundAfter}
 use Rattle.mk_record.proofs.read.take_message.Goals as goal
 
 pub returns-clause-sound : goal.returns-clause-sound
