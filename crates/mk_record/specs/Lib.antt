@@ -1,0 +1,7 @@
+pub mod Built
+pub mod Faults
+pub mod Fields
+pub mod Lines
+pub mod Reading
+pub mod Seen
+pub mod Steps
