@@ -1,5 +1,5 @@
 -- What is kept beside the journal is what the journal's view has.
-use Rattle.std.specs.Prelude.{◌≡◌, ℕ, ◌<◌, ◌≤◌, ◌+◌, ℤ, pos, ◌≤ℤ◌, List, [], ◌∷◌, length, filter, filter_map, Option, Some, None, IfSome, slice_get, map, false}
+use Rattle.std.specs.Prelude.{◌≡◌, ℕ, ◌<◌, ◌≤◌, ◌+◌, ℤ, pos, ◌≤ℤ◌, List, [], ◌∷◌, ◌++◌, length, filter, filter_map, Option, Some, None, IfSome, slice_get, map, false}
 use Rattle.std.specs.List.{range_with_len}
 use Rattle.mk_base.specs.Tiers.{moment}
 use Rattle.mk_base.specs.declared.tier.Tier.{Tier}
@@ -15,9 +15,9 @@ use Rattle.mk_plan.specs.Acts.{content_of, Act}
 use Rattle.mk_plan.specs.Deliveries.{supply}
 use Rattle.mk_plan.specs.Due.{is_within, due_times}
 use Rattle.mk_plan.specs.Inputs.{is_since}
-use Rattle.mk_plan.specs.Sequential.{ids_used, last_time}
-use Rattle.mk_plan.specs.Journals.{View, OpenTurn, heard, view}
-use Rattle.mk_plan.specs.Ready.{last_step}
+use Rattle.mk_plan.specs.Sequential.{ids_used, last_time, messages_in}
+use Rattle.mk_plan.specs.Journals.{View, OpenTurn, messages_of, view}
+use Rattle.mk_plan.specs.Ready.{step_at}
 use Rattle.mk_plan.specs.Orderly.{IsOrderly}
 use Rattle.mk_buffers.specs.Held.{Holds}
 use Rattle.mk_sched.specs.declared.sims.Sim.{Sim}
@@ -77,20 +77,20 @@ IsTurn free n s (Some T) = IsOpened free n s T
 abbrev pub free_id : Plan → ℕ → List Act → ℕ
 free_id P i acts = first_id P i + ids_used acts
 
--- what is kept of simulator i is what the view of a journal of n entries has of it
-pub record IsSimOf (P : Plan) (V : View) (n i : ℕ) (s : Sim) (times : List Tier) : Type 0 where
-  pub turn : IsTurn (free_id P i (V.acts i)) n s (V.open_at i)
-  pub last : s.last ≡ last_time (V.acts i)
+-- what is kept of simulator i, in a journal of n entries, is what follows from its acts, from what is open at it and from the times at which it is due
+pub record IsSimOf (P : Plan) (acts : List Act) (o : Option OpenTurn) (dues : List Tier) (n i : ℕ) (s : Sim) (times : List Tier) : Type 0 where
+  pub turn : IsTurn (free_id P i acts) n s o
+  pub last : s.last ≡ last_time acts
   pub next : IfSome s.next (λ m. m ≤ℤ pos 1000000000000000000)
-  pub due : times ≡ filter (is_since (last_step V i)) (due_times P V.acts i)
-  pub heard : s.heard ≡ length (heard V i)
+  pub due : times ≡ filter (is_since (step_at o (last_time acts))) dues
+  pub heard : s.heard ≡ length (messages_in acts ++ messages_of o)
   pub few : s.heard ≤ n
 
 -- the same of each simulator, and of the outputs; nothing is owed, and there is no fault
 pub record Mirrors (P : Plan) (V : View) (n : ℕ) (K : Kept) : Type 0 where
   pub sims : length K.sims ≡ sim_count P
   pub dues : length K.dues ≡ sim_count P
-  pub each : (i : ℕ) (s : Sim) → slice_get K.sims i ≡ Some s → IsSimOf P V n i s (dues_in K.dues i)
+  pub each : (i : ℕ) (s : Sim) → slice_get K.sims i ≡ Some s → IsSimOf P (V.acts i) (V.open_at i) (due_times P V.acts i) n i s (dues_in K.dues i)
   pub wants : (i : ℕ) → i < sim_count P → slice_get K.wants i ≡ Some (wanted P i)
   pub buffers : length K.buffers ≡ length P.conns
   pub holds : Holds P K.buffers (supply P V.acts)

@@ -1,5 +1,5 @@
 -- What the journal and what is kept beside it become by one call.
-use Rattle.std.specs.Prelude.{◌≡◌, ℕ, ◌<◌, ◌⊎◌, ℤ, ◌+◌, Bool, true, false, List, [], ◌∷◌, ◌++◌, length, filter, Option, Some, None, option_map, option_and_then, option_to_list, slice_get, slice_set, ◌==◌, int_lt, if◌then◌else◌, unwrap_or, ⊤, pos, ◌≤ℤ◌, ◌≤◌, ◌^◌, IfSome}
+use Rattle.std.specs.Prelude.{◌≡◌, ◌≢◌, not, Result, Ok, Err, ℕ, ◌<◌, ◌⊎◌, ℤ, ◌+◌, Bool, true, false, List, [], ◌∷◌, ◌++◌, length, filter, Option, Some, None, option_map, option_and_then, option_to_list, slice_get, slice_set, ◌==◌, int_lt, if◌then◌else◌, unwrap_or, ⊤, pos, ◌≤ℤ◌, ◌≤◌, ◌^◌, IfSome}
 use Rattle.mk_base.specs.declared.SimNo.{SimNo}
 use Rattle.mk_base.specs.declared.tier.Tier.{Tier}
 use Rattle.mk_base.specs.declared.json.Json.{Json}
@@ -28,8 +28,15 @@ use Rattle.mk_sched.specs.declared.sims.Kept.{Kept}
 use Rattle.mk_sched.specs.declared.faults.CoreFault.{CoreFault}
 use Rattle.mk_sched.specs.declared.faults.CoreFault.TheVariants.{Wrong, Failed, TooLong}
 use Rattle.mk_sched.specs.declared.faults.Taken.{Taken}
+use Rattle.mk_sched.specs.declared.faults.Next.{Next}
+use Rattle.mk_sched.specs.declared.faults.Next.TheVariants as next
+use Rattle.mk_sched.specs.declared.faults.Ended.{Ended}
+use Rattle.mk_sched.specs.declared.faults.Ended.TheVariants.{Faulty, OutOfMemory}
+use Rattle.mk_sched.specs.declared.ready.ReadySim.{ReadySim}
+use Rattle.mk_base.specs.declared.Mem.{Mem}
+use Rattle.std.specs.List.{list_any}
 use Rattle.mk_sched.specs.declared.faults.Taken.TheVariants.{Quiet, Send, Fault}
-use Rattle.mk_sched.specs.Steps.{begun, further_sim, ended_sim, next_dues, dues_in}
+use Rattle.mk_sched.specs.Steps.{begun, further_sim, ended_sim, next_dues, dues_in, is_idle, IsFirst}
 
 -- a step of a simulator at a time begins, with the inputs that any supply gives it which the buffers hold
 pub record AskedBy (P : Plan) (K : Kept) (J : List Entry) (sim : SimNo) (at : Tier) (L : Kept) (M : List Entry) : Type 0 where
@@ -124,7 +131,7 @@ pub record FurtherBy (P : Plan) (K : Kept) (J : List Entry) (sim : SimNo) (m : M
   pub right : wrong P sim.0 state.place m ≡ None
   pub place : Place
   pub next : next_place P sim.0 state.place m ≡ Some place
-  pub room : length J + 1 < P.entries
+  pub room : length J + 1 ≢ P.entries
   pub kept : L ≡ further K sim.0 state place (next_in m)
   pub entries : M ≡ J ++ Got sim m ∷ [] ++ Sent sim (GetData (wanted P sim.0)) ∷ []
 
@@ -148,11 +155,17 @@ pub record LeftBy (P : Plan) (K : Kept) (J : List Entry) (sim : SimNo) (m : Mess
   pub named : fault ≡ TooLong P.entries
   pub entries : M ≡ J ++ Got sim m ∷ []
 
+-- there is no room for the message
+pub record UntakenBy (P : Plan) (J : List Entry) (fault : CoreFault) (M : List Entry) : Type 0 where
+  pub full : length J ≡ P.entries
+  pub named : fault ≡ TooLong P.entries
+  pub entries : M ≡ J
+
 -- what taking a message does
 abbrev pub TakenBy : Plan → Kept → List Entry → SimNo → Message → Taken → Kept → List Entry → Type 0
-TakenBy P K J sim m Quiet L M = EndedBy P K J sim m L M
-TakenBy P K J sim m Send L M = FurtherBy P K J sim m L M
-TakenBy P K J sim m (Fault fault) L M = WrongBy P K J sim m fault L M ⊎ LeftBy P K J sim m fault L M
+TakenBy P K J sim m Quiet L M = (length J ≢ P.entries) × EndedBy P K J sim m L M
+TakenBy P K J sim m Send L M = (length J ≢ P.entries) × FurtherBy P K J sim m L M
+TakenBy P K J sim m (Fault fault) L M = UntakenBy P J fault M ⊎ ((length J ≢ P.entries) × (WrongBy P K J sim m fault L M ⊎ LeftBy P K J sim m fault L M))
 
 -- the message is right where simulator i is, and this place follows, if the turn goes on
 pub record IsRightAt (P : Plan) (K : Kept) (i : ℕ) (m : Message) (next : Option Place) : Type 0 where
@@ -164,3 +177,28 @@ pub record IsRightAt (P : Plan) (K : Kept) (i : ℕ) (m : Message) (next : Optio
 -- what is kept with this of simulator i
 abbrev pub closed : Kept → ℕ → Sim → List Tier → Kept
 closed K i s times = record K { sims = slice_set K.sims i s; dues = slice_set K.dues i times }
+
+-- a simulator is open
+abbrev pub is_busy : Sim → Bool
+is_busy s = not (is_idle s.place)
+
+-- what asking the first simulator that is ready does, if there is room
+abbrev pub AdvancedBy : Plan → Kept → List Entry → Next → Kept → List Entry → Type 0
+AdvancedBy P K J (next.Ask sim) L M = (length J ≢ P.entries) × ((r : ReadySim) × (IsFirst P K.sims K.dues (Some r) × ((r.sim ≡ sim) × AskedBy P K J sim r.at L M)))
+AdvancedBy P K J next.Wait L M = IsFirst P K.sims K.dues None × ((list_any is_busy K.sims ≡ true) × ((L ≡ K) × (M ≡ J)))
+AdvancedBy P K J next.Done L M = IsFirst P K.sims K.dues None × ((list_any is_busy K.sims ≡ false) × ((L ≡ K) × (M ≡ J)))
+AdvancedBy P K J (next.Fault fault) L M = (length J ≡ P.entries) × ((fault ≡ TooLong P.entries) × ((M ≡ J) × ((r : ReadySim) × IsFirst P K.sims K.dues (Some r))))
+
+-- what a core answers after these answers, if it has ended
+abbrev pub end_after_next : Result Next Mem → Option Ended
+end_after_next (Ok (next.Ask sim)) = None
+end_after_next (Ok next.Wait) = None
+end_after_next (Ok next.Done) = None
+end_after_next (Ok (next.Fault fault)) = Some (Faulty fault)
+end_after_next (Err e) = Some OutOfMemory
+
+abbrev pub end_after_arrive : Result Taken Mem → Option Ended
+end_after_arrive (Ok Quiet) = None
+end_after_arrive (Ok Send) = None
+end_after_arrive (Ok (Fault fault)) = Some (Faulty fault)
+end_after_arrive (Err e) = Some OutOfMemory

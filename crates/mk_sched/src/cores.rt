@@ -7,15 +7,16 @@ ghost use Rattle.mk_sched.specs.Built.{IsBuiltPlan, is_built_message};
 ghost use Rattle.mk_sched.specs.Cores.{CoreState, Stands};
 ghost use Rattle.mk_sched.specs.Answers.{NextOf, ArriveOf, IsOutOfMemory, open_id, id_at};
 ghost use Rattle.mk_sched.specs.Mirrors.{IsNewKept, new_sim};
+ghost use Rattle.mk_sched.specs.Moves.{end_after_next, end_after_arrive};
 
-use crate::asking::ask;
-use crate::faults::{CoreFault, Ended, Next, Taken};
-use crate::ready::{any_open, first_ready, place_in};
+use crate::asking::advance;
+use crate::faults::{Ended, Next, Taken};
+use crate::ready::place_in;
 use crate::sims::{Kept, Sim, is_within};
-use crate::taking::{is_full, take, too_long};
+use crate::taking::take;
 use mk_base::{List, Mem, SimNo, Tier};
 use mk_buffers::Buffers;
-use mk_plan::{Entry, Journal, Message, Place, Plan};
+use mk_plan::{Journal, Message, Place, Plan};
 use mk_turns::wanted;
 use std::alloc::Global;
 use std::marker::Model;
@@ -81,29 +82,9 @@ impl Core {
             Some(Ended::OutOfMemory) => return Err(Mem),
             None => {}
         }
-        match first_ready(&self.plan, &self.kept.sims, &self.kept.dues) {
-            Some(ready) => {
-                if is_full(&self.plan, &self.journal) {
-                    let fault = too_long(&self.plan);
-                    self.ended = Some(Ended::Faulty(fault));
-                    return Ok(Next::Fault(fault));
-                }
-                match ask(self.alloc, &self.plan, &mut self.kept, &mut self.journal, ready.sim, ready.at) {
-                    Ok(()) => Ok(Next::Ask(ready.sim)),
-                    Err(Mem) => {
-                        self.ended = Some(Ended::OutOfMemory);
-                        Err(Mem)
-                    }
-                }
-            }
-            None => {
-                if any_open(&self.kept.sims) {
-                    Ok(Next::Wait)
-                } else {
-                    Ok(Next::Done)
-                }
-            }
-        }
+        let answer = advance(self.alloc, &self.plan, &mut self.kept, &mut self.journal);
+        self.ended = end_after_next(&answer);
+        answer
     }
 
     /// Takes a message of a simulator: the journal gets it, and what is owed after it, which is then to be sent to that simulator. After a
@@ -120,22 +101,9 @@ impl Core {
             Some(Ended::OutOfMemory) => return Err(Mem),
             None => {}
         }
-        if is_full(&self.plan, &self.journal) {
-            let fault = too_long(&self.plan);
-            self.ended = Some(Ended::Faulty(fault));
-            return Ok(Taken::Fault(fault));
-        }
-        match take(self.alloc, &self.plan, &mut self.kept, &mut self.journal, sim, message) {
-            Ok(Taken::Fault(fault)) => {
-                self.ended = Some(Ended::Faulty(fault));
-                Ok(Taken::Fault(fault))
-            }
-            Ok(taken) => Ok(taken),
-            Err(Mem) => {
-                self.ended = Some(Ended::OutOfMemory);
-                Err(Mem)
-            }
-        }
+        let answer = take(self.alloc, &self.plan, &mut self.kept, &mut self.journal, sim, message);
+        self.ended = end_after_arrive(&answer);
+        answer
     }
 
     /// The id of the request that is open at the simulator, while the core has not ended; `None` exactly where nothing is open.
@@ -143,11 +111,7 @@ impl Core {
         requires there { sim.0 < sim_count self.now.plan }
         ensures { self.now.ended ≡ None → result ≡ open_id self.now sim.0 }
     {
-        match place_in(&self.kept.sims, sim) {
-            Place::Idle => None,
-            Place::Stepping { at: _, id, asks: _ } => Some(id),
-            Place::Fetching { at: _, id } => Some(id),
-        }
+        id_at(&place_in(&self.kept.sims, sim))
     }
 
     pub fn plan(&self) -> &Plan
@@ -170,6 +134,39 @@ impl Core {
         ensures stands { Stands self.plan self.entries }
     {
         (self.plan, self.journal)
+    }
+}
+
+// What the core answers after this answer, if it has ended.
+fn end_after_next(answer: &Result<Next, Mem>) -> Option<Ended>
+    ensures { result ≡ end_after_next answer.now }
+{
+    match answer {
+        Ok(Next::Fault(fault)) => Some(Ended::Faulty(*fault)),
+        Ok(_) => None,
+        Err(_) => Some(Ended::OutOfMemory),
+    }
+}
+
+// What the core answers after this answer, if it has ended.
+fn end_after_arrive(answer: &Result<Taken, Mem>) -> Option<Ended>
+    ensures { result ≡ end_after_arrive answer.now }
+{
+    match answer {
+        Ok(Taken::Fault(fault)) => Some(Ended::Faulty(*fault)),
+        Ok(_) => None,
+        Err(_) => Some(Ended::OutOfMemory),
+    }
+}
+
+// The id of what is open.
+fn id_at(place: &Place) -> Option<u64>
+    ensures { result ≡ id_at place.now }
+{
+    match place {
+        Place::Idle => None,
+        Place::Stepping { at: _, id, asks: _ } => Some(*id),
+        Place::Fetching { at: _, id } => Some(*id),
     }
 }
 

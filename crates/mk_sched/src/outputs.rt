@@ -1,5 +1,6 @@
-ghost use Rattle.std.specs.Prelude.{◌≡◌, ◌≤◌, ◌<◌, ◌≤ℤ◌, pos, true, false, length, IfOk, option_map, option_and_then, slice_get, Some, FitsSigned, w64};
+ghost use Rattle.std.specs.Prelude.{◌≡◌, ◌≤◌, ◌<◌, ◌≤ℤ◌, pos, true, false, length, IfOk, option_map, option_and_then, slice_get, Some, FitsSigned};
 ghost use Rattle.std.specs.Option.{ForSome};
+ghost use Rattle.std.specs.Int.{w64};
 ghost use Rattle.mk_base.specs.Texts.{text_of};
 ghost use Rattle.mk_base.specs.Trees.{member, is_in_range, whole_in};
 ghost use Rattle.mk_plan.specs.Plans.{RefersInside, owner, eid_of};

@@ -3,6 +3,7 @@ ghost use Rattle.std.specs.List.{list_any};
 ghost use Rattle.mk_plan.specs.Plans.{RefersInside, owner};
 ghost use Rattle.mk_plan.specs.Ready.{least};
 ghost use Rattle.mk_base.specs.Tiers.{before, delayed};
+ghost use Rattle.mk_sched.specs.Moves.{is_busy};
 ghost use Rattle.mk_sched.specs.Steps.{place_in, dues_in, is_idle, time_at, start_in, comes_after, is_late, is_clear, clear_time, ready_time, IsFirst};
 
 use crate::sims::{Sim, least, time_at};
@@ -126,7 +127,7 @@ fn comes_after(at: Tier, start: Tier, via: Via) -> bool
 
 // Whether some request is open.
 pub fn any_open(sims: &List<Sim>) -> bool
-    ensures { result ≡ list_any (λ s. not (is_idle s.place)) sims.now }
+    ensures { result ≡ list_any is_busy sims.now }
 {
     sims.as_slice().iter().any(|sim| !is_idle(&sim.place))
 }

@@ -1,6 +1,9 @@
-ghost use Rattle.std.specs.Prelude.{◌≡◌, ◌+◌, ◌<◌, ◌^◌, ◌∷◌, ◌++◌, ◌==◌, [], true, false, length, IfOk, IfErr, Some, None, slice_get, filter, pos, ◌≤ℤ◌, IfSome, FitsSigned, w64, option_and_then};
+ghost use Rattle.std.specs.Prelude.{◌≡◌, ◌≢◌, ◌+◌, ◌<◌, ◌^◌, ◌∷◌, ◌++◌, ◌==◌, [], true, false, length, IfOk, IfErr, Some, None, slice_get, filter, pos, ◌≤ℤ◌, IfSome, FitsSigned, option_and_then};
 ghost use Rattle.std.specs.Option.{ForSome};
+ghost use Rattle.std.specs.Int.{w64};
 ghost use Rattle.mk_base.specs.Trees.{whole_in, is_in_range};
+ghost use Rattle.mk_plan.specs.declared.Entry.TheVariants.{Got, Sent};
+ghost use Rattle.mk_plan.specs.declared.Item.TheVariants.{GetData};
 ghost use Rattle.mk_plan.specs.Acts.{content_of};
 ghost use Rattle.mk_plan.specs.Inputs.{is_since};
 ghost use Rattle.mk_plan.specs.Turns.{wrong, next_place};
@@ -12,18 +15,20 @@ use crate::faults::{CoreFault, Taken};
 use crate::outputs::{made_at, take_outputs};
 use crate::sims::{Kept, Sim, is_within, since};
 use mk_base::{Json, List, Mem, SimNo, Tier};
-use mk_plan::{Cause, Entry, Item, Journal, Message, Place, Plan};
+use mk_plan::{Cause, Entry, Item, Journal, Message, Place, Plan, Want};
 use mk_turns::{next_place, next_time, wanted, wrong};
 use std::alloc::Global;
 
-// Ends the journal with a message of the simulator, and with what is owed after it.
+// Ends the journal with a message of the simulator, and with what is owed after it, as far as there is room.
 pub fn take(alloc: Global, plan: &Plan, kept: &mut Kept, journal: &mut Journal, sim: SimNo, message: &Message) -> Result<Taken, Mem>
     requires can { CanTake plan.now kept.old sim.0 }
-    requires room { length journal.old.entries < plan.now.entries }
     requires form { is_built_message message.now ≡ true }
     ensures ok { IfOk result (λ taken. TakenBy plan.now kept.old journal.old.entries sim message.now taken kept.new journal.new.entries) }
     ensures err { IfErr result (λ _. journal.new.entries ≡ journal.old.entries) }
 {
+    if is_full(plan, journal) {
+        return Ok(Taken::Fault(too_long(plan)));
+    }
     let state = *kept.sims.at(sim.0 as usize);
     match wrong(plan, kept.wants.at(sim.0 as usize), sim, &state.place, message) {
         Some(cause) => {
@@ -63,30 +68,46 @@ fn fault_by(sim: SimNo, heard: u64, cause: Cause) -> CoreFault
 // The turn goes on after the message: the GetData is sent, if there is room for it.
 fn go_on(alloc: Global, plan: &Plan, kept: &mut Kept, journal: &mut Journal, sim: SimNo, message: &Message, place: Place) -> Result<Taken, Mem>
     requires can { CanTake plan.now kept.old sim.0 }
-    requires room { length journal.old.entries < plan.now.entries }
+    requires room { length journal.old.entries ≢ plan.now.entries }
     requires form { is_built_message message.now ≡ true }
     requires right { IsRightAt plan.now kept.old sim.0 message.now (Some place) }
+    requires fits { ForSome (next_in message.now) (λ n. FitsSigned w64 n) }
     ensures ok { IfOk result (λ taken. TakenBy plan.now kept.old journal.old.entries sim message.now taken kept.new journal.new.entries) }
     ensures err { IfErr result (λ _. journal.new.entries ≡ journal.old.entries) }
 {
-    let state = *kept.sims.at(sim.0 as usize);
-    let item = Item::GetData {
-        wanted: wanted(alloc, plan, sim)?,
-    };
-    push_message(alloc, journal, sim, message)?;
-    if is_full(plan, journal) {
+    if has_last_room(plan, journal) {
+        push_message(alloc, journal, sim, message)?;
         return Ok(Taken::Fault(too_long(plan)));
     }
-    match journal.entries.push(Entry::Sent(sim, item)) {
-        Ok(()) => {
-            kept.sims.set(sim.0 as usize, further_sim(&state, place, next_in(message)));
-            Ok(Taken::Send)
-        }
+    let state = *kept.sims.at(sim.0 as usize);
+    let wants = wanted(alloc, plan, sim)?;
+    push_answered(alloc, journal, sim, message, wants)?;
+    kept.sims.set(sim.0 as usize, further_sim(&state, place, next_in(message)));
+    Ok(Taken::Send)
+}
+
+// Ends the journal with a message of the simulator, and with the GetData that is sent after it.
+fn push_answered(alloc: Global, journal: &mut Journal, sim: SimNo, message: &Message, wants: List<Want>) -> Result<(), Mem>
+    ensures ok { IfOk result (λ _. journal.new.entries ≡ journal.old.entries ++ Got sim message.now ∷ [] ++ Sent sim (GetData wants) ∷ []) }
+    ensures err { IfErr result (λ _. journal.new.entries ≡ journal.old.entries) }
+{
+    push_message(alloc, journal, sim, message)?;
+    let answer = Entry::Sent(sim, Item::GetData { wanted: wants });
+    match journal.entries.push(answer) {
+        Ok(()) => Ok(()),
         Err(Mem) => {
             journal.entries.pop();
             Err(Mem)
         }
     }
+}
+
+// Whether the journal has room for one more entry alone.
+fn has_last_room(plan: &Plan, journal: &Journal) -> bool
+    ensures { result ≡ (length journal.now.entries + 1 == plan.now.entries) }
+{
+    let limit = plan.entries as usize;
+    limit > 0 && journal.entries.len() == limit - 1
 }
 
 // Whether the journal holds as many entries as the plan allows.
@@ -134,6 +155,7 @@ fn further_sim(sim: &Sim, place: Place, next: Option<i64>) -> Sim
 // The turn ends by the message.
 fn end_turn(alloc: Global, plan: &Plan, kept: &mut Kept, journal: &mut Journal, sim: SimNo, message: &Message) -> Result<Taken, Mem>
     requires can { CanTake plan.now kept.old sim.0 }
+    requires room { length journal.old.entries ≢ plan.now.entries }
     requires form { is_built_message message.now ≡ true }
     requires right { IsRightAt plan.now kept.old sim.0 message.now None }
     ensures ok { IfOk result (λ taken. TakenBy plan.now kept.old journal.old.entries sim message.now taken kept.new journal.new.entries) }

@@ -1,0 +1,8 @@
+use Rattle.mk_sched.proofs.cores.Core.arrive.Goals as goal
+use Rattle.mk_sched.proofs.Standing.{stands_of}
+
+pub returns-in-Some-Faulty-clause-stands : goal.returns-in-Some-Faulty-clause-stands
+returns-in-Some-Faulty-clause-stands c = rw (← c.self.view_is) (stands_of _ _ _ _ c.self.invariant)
+
+pub returns-in-Some-OutOfMemory-clause-stands : goal.returns-in-Some-OutOfMemory-clause-stands
+returns-in-Some-OutOfMemory-clause-stands c = rw (← c.self.view_is) (stands_of _ _ _ _ c.self.invariant)
