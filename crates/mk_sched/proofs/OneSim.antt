@@ -94,7 +94,7 @@ turn_more free n m s (Some T) le t = record { place = t.place; open_at = at s.pl
     at (Fetching x id) h = record { time = h.time; run = h.run; content = h.content; contents = h.contents; asked = h.asked; ids = h.ids; number = h.number; few = let few : id + 1 ≤ 1000000 + n = h.few in omega arith }
 
 pub sim_more : (P : Plan) (acts : List Act) (o : Option OpenTurn) (dues : List Tier) (n m i : ℕ) (s : Sim) (times : List Tier) → n ≤ m → IsSimOf P acts o dues n i s times → IsSimOf P acts o dues m i s times
-sim_more P acts o dues n m i s times le h = record { turn = turn_more (free_id P i acts) n m s o le h.turn; last = h.last; next = h.next; due = h.due; heard = h.heard; few = let few : s.heard ≤ n = h.few in omega arith }
+sim_more P acts o dues n m i s times le h = record { turn = turn_more (free_id P i acts) n m s o le h.turn; last = h.last; due = h.due; heard = h.heard; few = let few : s.heard ≤ n = h.few in omega arith }
 
 -- ---- a step begins
 
@@ -106,7 +106,6 @@ sim_begun P acts dues n i s times x ins advance h run since = record {
     open_at = record { time = refl; run = run; contents = refl; ids = refl; number = h.turn.id; few = let few : s.next_id ≤ 1000000 + n = h.turn.few in omega arith };
   };
   last = h.last;
-  next = h.next;
   due = ap (filter (is_since (Some x))) h.due ∙ later_times (last_time acts) x dues since;
   heard = h.heard;
   few = let few : s.heard ≤ n = h.few in omega arith;
@@ -124,9 +123,9 @@ abbrev pub gone_on : OpenTurn → Message → Place → Item → OpenTurn
 gone_on T m q item = record { at = T.at; messages = T.messages ++ m ∷ []; place = q; talk = (T.talk ++ Heard m ∷ []) ++ Told item ∷ [] }
 
 pub sim_further : (P : Plan) (acts : List Act) (dues : List Tier) (n i : ℕ) (s : Sim) (times : List Tier) (T : OpenTurn) (x : Tier) (id asks : ℕ) (m : Message) (content : Json) (wants : List Want)
-    → IsSimOf P acts (Some T) dues n i s times → s.place ≡ Stepping x id asks → content_of m ≡ Some content → IfSome (next_in m) (λ k. k ≤ℤ pos 1000000000000000000)
+    → IsSimOf P acts (Some T) dues n i s times → s.place ≡ Stepping x id asks → content_of m ≡ Some content
     → IsSimOf P acts (Some (gone_on T m (Fetching x (id + 1)) (GetData wants))) dues (n + 2) i (further_sim s (Fetching x (id + 1)) (next_in m)) times
-sim_further P acts dues n i s times T x id asks m content wants h at has fits =
+sim_further P acts dues n i s times T x id asks m content wants h at has =
     let was : IsStepping (free_id P i acts) n x id T = subst (λ (p : Place). IsOpenAt (free_id P i acts) n s.next p T) at h.turn.open_at in
     record {
       turn = record {
@@ -143,7 +142,6 @@ sim_further P acts dues n i s times T x id asks m content wants h at has fits =
         };
       };
       last = h.last;
-      next = fits;
       due = h.due;
       heard = ap (λ (k : ℕ). k + 1) h.heard ∙ one_more (messages_in acts) T.messages m;
       few = let few : s.heard ≤ n = h.few in omega arith;
@@ -172,7 +170,6 @@ sim_ended P acts dues n i s times T x id m next h at free few later = record {
     few = omega (arith, few);
   };
   last = ap (λ (t : Tier). Some t) (sym at) ∙ sym (last_push acts (ended_turn T m));
-  next = h.next;
   due = λ j. due_is j;
   heard = ap (λ (k : ℕ). k + 1) h.heard ∙ one_more (messages_in acts) T.messages ∙ ap length (sym (append_nil _ ∙ flat_map_append (λ (a : Act). a.messages) acts (ended_turn T m ∷ []) ∙ ap (λ (l : List Message). messages_in acts ++ l) (append_nil (T.messages ++ m ∷ []))));
   few = let few : s.heard ≤ n = h.few in omega arith;

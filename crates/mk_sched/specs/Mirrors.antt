@@ -81,7 +81,6 @@ free_id P i acts = first_id P i + ids_used acts
 pub record IsSimOf (P : Plan) (acts : List Act) (o : Option OpenTurn) (dues : List Tier) (n i : ℕ) (s : Sim) (times : List Tier) : Type 0 where
   pub turn : IsTurn (free_id P i acts) n s o
   pub last : s.last ≡ last_time acts
-  pub next : IfSome s.next (λ m. m ≤ℤ pos 1000000000000000000)
   pub due : times ≡ filter (is_since (step_at o (last_time acts))) dues
   pub heard : s.heard ≡ length (messages_in acts ++ messages_of o)
   pub few : s.heard ≤ n

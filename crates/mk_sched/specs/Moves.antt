@@ -1,5 +1,5 @@
 -- What the journal and what is kept beside it become by one call.
-use Rattle.std.specs.Prelude.{◌≡◌, ◌≢◌, not, Result, Ok, Err, ℕ, ◌<◌, ◌⊎◌, ℤ, ◌+◌, Bool, true, false, List, [], ◌∷◌, ◌++◌, length, filter, Option, Some, None, option_map, option_and_then, option_to_list, slice_get, slice_set, ◌==◌, int_lt, if◌then◌else◌, unwrap_or, ⊤, pos, ◌≤ℤ◌, ◌≤◌, ◌^◌, IfSome}
+use Rattle.std.specs.Prelude.{◌≡◌, ◌≢◌, not, Result, Ok, Err, ℕ, ◌<◌, ◌⊎◌, ℤ, ◌+◌, Bool, true, false, List, [], ◌∷◌, ◌++◌, length, filter, Option, Some, None, option_map, option_and_then, option_to_list, slice_get, slice_set, ◌==◌, int_lt, nat_lt, if◌then◌else◌, unwrap_or, ⊤, pos, ◌≤ℤ◌, ◌≤◌, ◌^◌, IfSome}
 use Rattle.mk_base.specs.declared.SimNo.{SimNo}
 use Rattle.mk_base.specs.declared.tier.Tier.{Tier}
 use Rattle.mk_base.specs.declared.json.Json.{Json}
@@ -13,16 +13,17 @@ use Rattle.mk_plan.specs.declared.Entry.TheVariants.{Sent, Got}
 use Rattle.mk_plan.specs.declared.Item.TheVariants.{Step, GetData}
 use Rattle.mk_plan.specs.declared.Input.{Input}
 use Rattle.mk_plan.specs.declared.Message.{Message}
+use Rattle.mk_plan.specs.declared.Message.TheVariants.{Success}
 use Rattle.mk_plan.specs.declared.Place.{Place}
 use Rattle.mk_plan.specs.declared.Place.TheVariants.{Idle, Stepping, Fetching}
 use Rattle.mk_plan.specs.declared.Cause.{Cause}
 use Rattle.mk_plan.specs.declared.Cause.TheVariants as cause
 use Rattle.mk_plan.specs.Plans.{RefersInside, owner, eid_of}
 use Rattle.mk_plan.specs.Turns.{wanted, wrong, next_place, time_in}
-use Rattle.mk_plan.specs.Acts.{content_of}
+use Rattle.mk_plan.specs.Acts.{Act, content_of, made, output}
 use Rattle.mk_plan.specs.Deliveries.{Supply, Timed}
 use Rattle.mk_plan.specs.Inputs.{inputs, is_since}
-use Rattle.mk_buffers.specs.Held.{Held, Holds, held_for}
+use Rattle.mk_buffers.specs.Held.{Held, Holds}
 use Rattle.mk_sched.specs.declared.sims.Sim.{Sim}
 use Rattle.mk_sched.specs.declared.sims.Kept.{Kept}
 use Rattle.mk_sched.specs.declared.faults.CoreFault.{CoreFault}
@@ -56,27 +57,29 @@ fault_by sim heard cause.Failed = Failed sim heard
 abbrev pub made_at : Tier → Json → Tier
 made_at x content = unwrap_or (option_map (λ (o : ℤ). if int_lt x.time o then moment o else x) (option_and_then whole_in (time_in content))) x
 
--- what the data of simulator i give a connection: a value made at x, if i is its source and there is one
-abbrev pub gained : Plan → ℕ → Json → Tier → Conn → List Timed
-gained P i content x c = if owner P c.from == i then option_to_list (option_map (λ v. record { at = x; value = text_of v }) (option_and_then (member c.from_attr) (member (eid_of P c.from) content))) else []
+-- a turn at x whose data have this content
+abbrev pub data_act : Tier → Json → Act
+data_act x content = record { at = x; messages = Success 0 content ∷ Success 0 content ∷ []; ended = true; talk = [] }
 
--- each connection up to the place n has what the data give it
-pub record HasGained (P : Plan) (i : ℕ) (content : Json) (x : Tier) (n : ℕ) (old new : Held) : Type 0 where
-  pub count : length new ≡ length old
-  pub done : (place : ℕ) (c : Conn) → slice_get P.conns place ≡ Some c → place < n → held_for new place ≡ held_for old place ++ gained P i content x c
-  pub left : (place : ℕ) → n < place + 1 → held_for new place ≡ held_for old place
+-- what a turn of s gives a connection
+abbrev pub gained : Plan → ℕ → Act → Conn → List Timed
+gained P s a c = if owner P c.from == s then option_to_list (option_map (λ v. let t : Timed = record { at = made a; value = v } in t) (output P a c.from c.from_attr)) else []
 
--- one connection has what the data give it
-pub record HasGainedAt (P : Plan) (i : ℕ) (content : Json) (x : Tier) (place : ℕ) (old new : Held) : Type 0 where
-  pub count : length new ≡ length old
-  pub here : (c : Conn) → slice_get P.conns place ≡ Some c → held_for new place ≡ held_for old place ++ gained P i content x c
-  pub left : (other : ℕ) → (other ≡ place → ⊥) → held_for new other ≡ held_for old other
+-- the connections before the place n have what the turn gave them, and the others are as they were
+abbrev pub HasGained : Plan → ℕ → Act → ℕ → Held → Held → Type 0
+HasGained P s a n old new = (place : ℕ) (c : Conn) (l : List Timed) → slice_get P.conns place ≡ Some c → slice_get old place ≡ Some l → slice_get new place ≡ Some (l ++ (if nat_lt place n then gained P s a c else []))
 
 -- a tiered time within a run
 pub record IsInRun (x : Tier) : Type 0 where
   pub early : pos 0 ≤ℤ x.time
   pub late : x.time ≤ℤ pos 1000000000
   pub low : x.tier ≤ 1000
+
+-- a tiered time at which outputs may be made
+pub record CanBeMade (x : Tier) : Type 0 where
+  pub early : pos 0 ≤ℤ x.time
+  pub late : x.time ≤ℤ pos 1000000000000000000
+  pub low : x.tier ≤ 1000000
 
 -- the time and the id of what is open are within their limits
 abbrev pub IsPlaceInRun : Place → Type 0
@@ -94,7 +97,6 @@ pub record CanTake (P : Plan) (K : Kept) (i : ℕ) : Type 0 where
   pub wants : slice_get K.wants i ≡ Some (wanted P i)
   pub buffers : length K.buffers ≡ length P.conns
   pub place : IsPlaceInRun state.place
-  pub next : IfSome state.next (λ n. n ≤ℤ pos 1000000000000000000)
   pub heard : state.heard < 2 ^ 32
 
 -- the next time that a message returns
@@ -113,7 +115,7 @@ further K i s place next = record K { sims = slice_set K.sims i (further_sim s p
 abbrev pub EndsAt : Plan → Kept → ℕ → Sim → Message → Place → Kept → Type 0
 EndsAt P K i s m Idle L = ⊥
 EndsAt P K i s m (Stepping at id asks) L = L ≡ ended P K i s at id (next_in m) K.buffers
-EndsAt P K i s m (Fetching at id) L = (content : Json) × ((content_of m ≡ Some content) × ((L ≡ ended P K i s at id s.next L.buffers) × HasGained P i content (made_at at content) (length P.conns) K.buffers L.buffers))
+EndsAt P K i s m (Fetching at id) L = (content : Json) × ((content_of m ≡ Some content) × ((L ≡ ended P K i s at id s.next L.buffers) × ((length L.buffers ≡ length K.buffers) × HasGained P i (data_act at content) (length P.conns) K.buffers L.buffers)))
 
 -- the message ends its turn
 pub record EndedBy (P : Plan) (K : Kept) (J : List Entry) (sim : SimNo) (m : Message) (L : Kept) (M : List Entry) : Type 0 where

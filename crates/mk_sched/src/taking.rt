@@ -12,7 +12,7 @@ ghost use Rattle.mk_sched.specs.Steps.{further_sim, ended_sim, next_dues};
 ghost use Rattle.mk_sched.specs.Moves.{CanTake, IsRightAt, TakenBy, closed, fault_by, next_in, made_at};
 
 use crate::faults::{CoreFault, Taken};
-use crate::outputs::{made_at, take_outputs};
+use crate::outputs::take_outputs;
 use crate::sims::{Kept, Sim, is_within, since};
 use mk_base::{Json, List, Mem, SimNo, Tier};
 use mk_plan::{Cause, Entry, Item, Journal, Message, Place, Plan, Want};
@@ -169,7 +169,7 @@ fn end_turn(alloc: Global, plan: &Plan, kept: &mut Kept, journal: &mut Journal, 
             close(kept, sim, &state, at, id, times);
         }
         (Place::Fetching { at, id }, Message::Success { id: _, content }) => {
-            take_outputs(alloc, plan, &mut kept.buffers, sim, content, made_at(at, content))?;
+            take_outputs(alloc, plan, &mut kept.buffers, sim, content, at)?;
             let times = times_after(alloc, plan, kept.dues.at(sim.0 as usize), at, state.next)?;
             push_message(alloc, journal, sim, message)?;
             close(kept, sim, &state, at, id, times);
