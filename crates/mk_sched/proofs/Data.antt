@@ -7,7 +7,7 @@ use Rattle.mk_base.specs.declared.json.Json.{Json, Json-F, out-Json, map-Json}
 use Rattle.mk_base.specs.Folds.{folded}
 use Rattle.mk_base.specs.Lists.{IsIn, same_text, value_under}
 use Rattle.mk_base.specs.Tiers.{moment}
-use Rattle.mk_base.specs.Trees.{whole_in, member, members_in, members_at, is_in_range, range_step, is_object}
+use Rattle.mk_base.specs.Trees.{whole_in, member, members_in, is_in_range, range_step, is_object}
 use Rattle.mk_base.proofs.FoldsAgree.{folded_out}
 use Rattle.mk_base.proofs.Lists.{none_some, some_same}
 use Rattle.mk_plan.specs.declared.Plan.{Plan}
@@ -40,10 +40,14 @@ members_pass (m ∷ ms) name v all is = at (same_text m.0 name) (is_in_range m.1
     at true true e f all is more = ap is_in_range (sym (some_same is)) ∙ f
     at false true e f all is more = more all is
 
+abbrev layer_members : Json-F Json → Option (List (List ℕ × Json))
+layer_members (Json-F.Object ms) = Some ms
+layer_members _ = None
+
 pub member_in_range : (tree v : Json) (name : List ℕ) → is_in_range tree ≡ true → member name tree ≡ Some v → is_in_range v ≡ true
 member_in_range tree v name all is = at (out-Json tree) (sym (folded_out Bool range_step tree) ∙ all) is
   where
-    at : (l : Json-F Json) → range_step (map-Json Json Bool is_in_range l) ≡ true → option_and_then (value_under name) (members_at l) ≡ Some v → is_in_range v ≡ true
+    at : (l : Json-F Json) → range_step (map-Json Json Bool is_in_range l) ≡ true → option_and_then (value_under name) (layer_members l) ≡ Some v → is_in_range v ≡ true
     at Json-F.Null all is = absurd (none_some is)
     at (Json-F.Bool b) all is = absurd (none_some is)
     at (Json-F.Whole n) all is = absurd (none_some is)
@@ -82,7 +86,7 @@ latest_output wants x content n right is = at (time_in content) (second_false _ 
 
     late : (t : Json) → not (unwrap_or (option_map (λ (m : ℤ). int_le (negsuc 9223372036854775807) m && int_le m (pos 1000000000000000000)) (whole_in t)) false) ≡ false → whole_in t ≡ Some n → n ≤ℤ pos 1000000000000000000
     late t h e =
-        let w : int_le n (pos 1000000000000000000) ≡ true = second _ _ (sym (ap (λ (o : Option ℤ). not (unwrap_or (option_map (λ (m : ℤ). int_le (negsuc 9223372036854775807) m && int_le m (pos 1000000000000000000)) o) false)) e) ∙ h) in
+        let w : int_le n (pos 1000000000000000000) ≡ true = second (int_le (negsuc 9223372036854775807) n) (int_le n (pos 1000000000000000000)) (sym (ap (λ (o : Option ℤ). not (unwrap_or (option_map (λ (m : ℤ). int_le (negsuc 9223372036854775807) m && int_le m (pos 1000000000000000000)) o) false)) e) ∙ h) in
         grind (arith, ints)
 
     at : (t : Option Json) → holds_of (λ t. not (is_number (λ (m : ℤ). int_le (negsuc 9223372036854775807) m && int_le m (pos 1000000000000000000)) t)) t ≡ false → option_and_then whole_in t ≡ Some n → n ≤ℤ pos 1000000000000000000
@@ -127,12 +131,25 @@ step_reply P i (Stepping at id asks) (Success n content) q e form = go (has_outp
 step_reply P i (Stepping at id asks) (Failure n text) q e form = absurd (none_some e)
 step_reply P i (Fetching at id) m q e form = absurd (none_some e)
 
--- a right reply at a GetData has right data
-pub data_right : (P : Plan) (i : ℕ) (at : Tier) (id : ℕ) (m : Message) → wrong P i (Fetching at id) m ≡ None → (n : ℕ) × (content : Json) × (m ≡ Success n content)
-data_right P i at id (Ask n name args named) e = absurd (none_some (sym e))
-data_right P i at id (Success n content) e = (n, content, refl)
-data_right P i at id (Failure n text) e = go (n == id) e
+-- a right reply is no failure, and something is open
+pub record IsReply (p : Place) (m : Message) : Type 0 where
+  pub answered : ℕ
+  pub content : Json
+  pub message : m ≡ Success answered content
+
+pub right_reply : (P : Plan) (i : ℕ) (p : Place) (m : Message) → wrong P i p m ≡ None → is_built_message m ≡ true → ((p ≡ Idle) → ⊥) × IsReply p m
+right_reply P i Idle m right form = absurd (none_some (sym right))
+right_reply P i (Stepping at id asks) (Ask n name args named) right form = absurd (true≢false (sym form))
+right_reply P i (Stepping at id asks) (Success n content) right form = (λ e. cc, record { answered = n; content = content; message = refl })
+right_reply P i (Stepping at id asks) (Failure n text) right form = absurd (failed (n == id) right)
   where
-    go : (b : Bool) → (if b then Some Failed else Some (Wrong unasked)) ≡ None → (n : ℕ) × (content : Json) × (Failure n text ≡ Success n content)
-    go true e = absurd (none_some (sym e))
-    go false e = absurd (none_some (sym e))
+    failed : (b : Bool) → (if b then Some Failed else Some (Wrong unasked)) ≡ None → ⊥
+    failed true e = none_some (sym e)
+    failed false e = none_some (sym e)
+right_reply P i (Fetching at id) (Ask n name args named) right form = absurd (true≢false (sym form))
+right_reply P i (Fetching at id) (Success n content) right form = (λ e. cc, record { answered = n; content = content; message = refl })
+right_reply P i (Fetching at id) (Failure n text) right form = absurd (failed (n == id) right)
+  where
+    failed : (b : Bool) → (if b then Some Failed else Some (Wrong unasked)) ≡ None → ⊥
+    failed true e = none_some (sym e)
+    failed false e = none_some (sym e)

@@ -5,3 +5,7 @@ pub mod Places
 pub mod Mirroring
 pub mod Standing
 pub mod Asked
+pub mod Data
+pub mod Grown
+pub mod Arrived
+pub mod Beginning

@@ -28,14 +28,16 @@ use Rattle.mk_sched.specs.declared.ready.ReadySim.{ReadySim}
 use Rattle.mk_sched.specs.Built.{IsBuiltPlan}
 use Rattle.mk_sched.specs.Steps.{place_in, dues_in, start_in, time_at, is_idle, next_dues, ready_time, IsFirst}
 use Rattle.mk_sched.specs.Moves.{is_busy}
-use Rattle.mk_sched.specs.Mirrors.{Mirrors, IsSimOf, IsTurn, free_id}
+use Rattle.mk_sched.specs.Mirrors.{Mirrors, IsSimOf, IsTurn, IsKept, free_id}
+use Rattle.mk_sched.specs.Answers.{id_at}
+use Rattle.mk_sched.specs.declared.faults.Ended.{Ended}
 use Rattle.mk_sched.proofs.Forms.{no_triggers}
 use Rattle.mk_sched.proofs.Readiness.{start_is, ready_sound, ready_back, idle_closed, closed_idle, all_pass}
 
 -- ---- one more act makes one more due time
 
 module _ (P : Plan) (valid : IsValidPlan P) (built : IsBuiltPlan P) where
-  due_list : (B : Family) (i : ℕ) (sim : PlanSim) → slice_get P.sims i ≡ Some sim → due_times P B i ≡ filter (is_within P) (first_times sim ++ own_times (B i))
+  pub due_list : (B : Family) (i : ℕ) (sim : PlanSim) → slice_get P.sims i ≡ Some sim → due_times P B i ≡ filter (is_within P) (first_times sim ++ own_times (B i))
   due_list B i sim there =
       ap (λ (o : Option PlanSim). unwrap_or (option_map (λ sim. filter (is_within P) (first_times sim ++ own_times (B i) ++ triggers P (supply P B) i)) o) []) there
       ∙ ap (λ (ts : List Tier). filter (is_within P) (first_times sim ++ own_times (B i) ++ ts)) (no_triggers P valid built (supply P B) i)
@@ -117,3 +119,7 @@ module _ (P : Plan) (valid : IsValidPlan P) (built : IsBuiltPlan P) (V : View) (
       idle : (s : Sim) (b : Bool) → is_idle s.place ≡ b → IsIn s K.sims → b ≡ true
       idle s true e m = refl
       idle s false e m = absurd (true≢false (sym (passes_some is_busy s K.sims m (ap not e)) ∙ h))
+
+-- the id of what is open
+pub id_is : (P : Plan) (J : List Entry) (K : Kept) (end : Option Ended) → IsKept P J K end → end ≡ None → (i : ℕ) → i < sim_count P → id_at (place_in K.sims i) ≡ id_at (place_at ((view P J).open_at i))
+id_is P J K end kept going i low = ap id_at (place_is P kept.valid kept.built (view P J) (length J) K (kept.mirrors going) i low)

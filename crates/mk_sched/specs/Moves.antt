@@ -176,10 +176,6 @@ pub record IsRightAt (P : Plan) (K : Kept) (i : ℕ) (m : Message) (next : Optio
   pub right : wrong P i state.place m ≡ None
   pub goes : next_place P i state.place m ≡ next
 
--- what is kept with this of simulator i
-abbrev pub closed : Kept → ℕ → Sim → List Tier → Kept
-closed K i s times = record K { sims = slice_set K.sims i s; dues = slice_set K.dues i times }
-
 -- a simulator is open
 abbrev pub is_busy : Sim → Bool
 is_busy s = not (is_idle s.place)

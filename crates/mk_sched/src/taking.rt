@@ -7,9 +7,10 @@ ghost use Rattle.mk_plan.specs.declared.Item.TheVariants.{GetData};
 ghost use Rattle.mk_plan.specs.Acts.{content_of};
 ghost use Rattle.mk_plan.specs.Inputs.{is_since};
 ghost use Rattle.mk_plan.specs.Turns.{wrong, next_place};
+ghost use Rattle.mk_sched.specs.declared.sims.Sim.{Sim};
 ghost use Rattle.mk_sched.specs.Built.{is_built_message};
 ghost use Rattle.mk_sched.specs.Steps.{further_sim, ended_sim, next_dues};
-ghost use Rattle.mk_sched.specs.Moves.{CanTake, IsRightAt, TakenBy, closed, fault_by, next_in, made_at};
+ghost use Rattle.mk_sched.specs.Moves.{CanTake, IsRightAt, TakenBy, ended, fault_by, next_in, made_at};
 
 use crate::faults::{CoreFault, Taken};
 use crate::outputs::take_outputs;
@@ -164,19 +165,16 @@ fn end_turn(alloc: Global, plan: &Plan, kept: &mut Kept, journal: &mut Journal, 
     let state = *kept.sims.at(sim.0 as usize);
     match (state.place, message) {
         (Place::Stepping { at, id, asks: _ }, Message::Success { id: _, content }) => {
-            let times = times_after(alloc, plan, kept.dues.at(sim.0 as usize), at, next_time(content))?;
-            push_message(alloc, journal, sim, message)?;
-            close(kept, sim, &state, at, id, times);
+            close(alloc, plan, kept, journal, sim, message, at, id, next_time(content))?;
+            Ok(Taken::Quiet)
         }
         (Place::Fetching { at, id }, Message::Success { id: _, content }) => {
             take_outputs(alloc, plan, &mut kept.buffers, sim, content, at)?;
-            let times = times_after(alloc, plan, kept.dues.at(sim.0 as usize), at, state.next)?;
-            push_message(alloc, journal, sim, message)?;
-            close(kept, sim, &state, at, id, times);
+            close(alloc, plan, kept, journal, sim, message, at, id, state.next)?;
+            Ok(Taken::Quiet)
         }
-        _ => {}
+        _ => Ok(Taken::Quiet),
     }
-    Ok(Taken::Quiet)
 }
 
 // The times at which a simulator is due after its step at `at`, with the next time that this one returned.
@@ -193,16 +191,23 @@ fn times_after(alloc: Global, plan: &Plan, times: &List<Tier>, at: Tier, next: O
     Ok(kept)
 }
 
-// Keeps that the turn of the simulator at `at`, whose request had this id, has ended, and these times.
-fn close(kept: &mut Kept, sim: SimNo, state: &Sim, at: Tier, id: u64, times: List<Tier>)
+// Ends the journal with the message, and keeps that the turn of the simulator at `at` has ended, whose request had this
+// id, with the next time that it returned.
+fn close(alloc: Global, plan: &Plan, kept: &mut Kept, journal: &mut Journal, sim: SimNo, message: &Message, at: Tier, id: u64, next: Option<i64>) -> Result<(), Mem>
     requires sims { sim.0 < length kept.old.sims }
     requires dues { sim.0 < length kept.old.dues }
     requires id { id < 2 ^ 32 }
-    requires heard { state.now.heard < 2 ^ 32 }
-    ensures { kept.new ≡ closed kept.old sim.0 (ended_sim state.now at id) times }
+    requires heard { (s : Sim) → slice_get kept.old.sims sim.0 ≡ Some s → s.heard < 2 ^ 32 }
+    ensures kept { (s : Sim) → slice_get kept.old.sims sim.0 ≡ Some s → IfOk result (λ _. kept.new ≡ ended plan.now kept.old sim.0 s at id next kept.old.buffers) }
+    ensures entries { IfOk result (λ _. journal.new.entries ≡ journal.old.entries ++ Got sim message.now ∷ []) }
+    ensures err { IfErr result (λ _. journal.new.entries ≡ journal.old.entries) }
 {
+    let state = *kept.sims.at(sim.0 as usize);
+    let times = times_after(alloc, plan, kept.dues.at(sim.0 as usize), at, next)?;
+    push_message(alloc, journal, sim, message)?;
     kept.dues.set(sim.0 as usize, times);
-    kept.sims.set(sim.0 as usize, ended_sim(state, at, id));
+    kept.sims.set(sim.0 as usize, ended_sim(&state, at, id));
+    Ok(())
 }
 
 // The simulator after its turn.
