@@ -52,10 +52,10 @@ use Rattle.mk_sched.specs.Moves.{TakenBy, EndedBy, FurtherBy, WrongBy, LeftBy, U
 use Rattle.mk_sched.specs.Mirrors.{Mirrors, IsSimOf, IsTurn, IsOpened, IsOpenAt, IsStepping, IsFetching, IsKept, ids_in, free_id}
 use Rattle.mk_sched.proofs.Asked.{core_of, ended_kept}
 use Rattle.mk_sched.proofs.Data.{IsStepReply, step_reply}
-use Rattle.mk_sched.proofs.Forms.{no_loop_fault}
+use Rattle.mk_sched.proofs.LeftOut.{no_loop_fault}
 use Rattle.mk_sched.proofs.Grown.{holds_grown, holds_still}
 use Rattle.mk_sched.proofs.Mirroring.{due_grown, sim_at}
-use Rattle.mk_sched.proofs.OneSim.{sim_further, sim_ended, gone_on, more_contents}
+use Rattle.mk_sched.proofs.OneSim.{sim_further, sim_ended, gone_on}
 use Rattle.mk_sched.proofs.Places.{set_same, set_other}
 use Rattle.mk_sched.proofs.Standing.{kept_push, each_set, dues_at, one_longer}
 
@@ -355,7 +355,7 @@ module _ (P : Plan) (J : List Entry) (K : Kept) (kept : IsKept P J K None) (sim 
             (kept_push P J K L (Some (Faulty fault)) (Got sim m) kept room got_allowed (inl (ap (λ (V : View). V.owed) (noted_wrong e.state e.there e.cause e.is_wrong) ∙ its.none_owed)) (no_end (Faulty fault))),
         record {
           room = the_room room;
-          named = subst (λ (o : Option Fault). IsSome o) (sym named) tt;
+          named = subst (λ (o : Option Fault). IsSome o) (sym named) refl;
           made = ap (λ (V : View). V.fault) (view_push P J (Got sim m) ∙ noted_wrong e.state e.there e.cause e.is_wrong) ∙ sym named;
           ended = ap (λ (N : List Entry). core_of P N (Some (Faulty fault))) e.entries;
         },
@@ -368,7 +368,7 @@ module _ (P : Plan) (J : List Entry) (K : Kept) (kept : IsKept P J K None) (sim 
         record {
           room = the_room room;
           no_fault = ap (λ (V : View). V.fault) (view_push P J (Got sim m)) ∙ fault_is e.state e.there t.0 t.1 t.2 e.place e.right e.next;
-          owed = subst (λ (o : Option Owed). IsSome o) (sym (ap (λ (V : View). V.owed) (view_push P J (Got sim m)) ∙ owed_is e.state e.there t.0 t.1 t.2 e.place e.right e.next)) tt;
+          owed = subst (λ (o : Option Owed). IsSome o) (sym (ap (λ (V : View). V.owed) (view_push P J (Got sim m)) ∙ owed_is e.state e.there t.0 t.1 t.2 e.place e.right e.next)) refl;
           named = e.named;
           full = one_longer J (Got sim m) ∙ e.full;
           ended = ap (λ (N : List Entry). core_of P N (Some (Faulty fault))) e.entries;

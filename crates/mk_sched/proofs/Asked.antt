@@ -38,7 +38,7 @@ use Rattle.mk_sched.specs.Steps.{IsFirst, dues_in}
 use Rattle.mk_sched.specs.Steps as steps
 use Rattle.mk_sched.specs.Moves.{AskedBy, AdvancedBy, IsInRun, end_after_next}
 use Rattle.mk_sched.specs.Mirrors.{Mirrors, IsSimOf, IsKept}
-use Rattle.mk_sched.proofs.Forms.{advance_is}
+use Rattle.mk_sched.proofs.LeftOut.{advance_is}
 use Rattle.mk_sched.proofs.OneSim.{sim_begun}
 use Rattle.mk_sched.proofs.Places.{set_same, set_other}
 use Rattle.mk_sched.proofs.Mirroring.{first_is, ready_is, nobody_is, some_open, all_shut}

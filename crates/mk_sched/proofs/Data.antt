@@ -1,13 +1,13 @@
 -- What right messages and their data are like.
-use Rattle.std.proofs.Common.{◌≡◌, ℕ, ◌<◌, ◌≤◌, ℤ, pos, negsuc, ◌≤ℤ◌, ◌<ℤ◌, Bool, true, false, not, ◌&&◌, ◌||◌, List, [], ◌∷◌, ◌++◌, length, map, Option, Some, None, option_map, option_and_then, unwrap_or, slice_get, refl, sym, ap, ◌∙◌, subst, arith, true≢false, int_lt, int_le, if◌then◌else◌, ◌==◌, ◌+◌}
-use Rattle.std.specs.List.{list_all, find}
+use Rattle.std.proofs.Common.{◌≡◌, ℕ, ◌<◌, ◌≤◌, ℤ, pos, negsuc, ◌≤ℤ◌, ◌<ℤ◌, Bool, true, false, not, ◌&&◌, ◌||◌, List, [], ◌∷◌, ◌++◌, length, map, Option, Some, None, option_map, option_and_then, unwrap_or, slice_get, refl, sym, ap, ◌∙◌, subst, arith, true≢false, int_lt, int_le, nat_le, if◌then◌else◌, ◌==◌, ◌+◌}
+use Rattle.std.specs.List.{list_all, list_any, find}
 use Rattle.std.proofs.lemmas.Int.{ints}
 use Rattle.mk_base.specs.declared.tier.Tier.{Tier}
 use Rattle.mk_base.specs.declared.json.Json.{Json, Json-F, out-Json, map-Json}
 use Rattle.mk_base.specs.Folds.{folded}
 use Rattle.mk_base.specs.Lists.{IsIn, same_text, value_under}
 use Rattle.mk_base.specs.Tiers.{moment}
-use Rattle.mk_base.specs.Trees.{whole_in, member, members_in, is_in_range, range_step, is_object}
+use Rattle.mk_base.specs.Trees.{whole_in, member, members_in, is_in_range, range_step, is_object, is_whole, nesting, value_depth}
 use Rattle.mk_base.proofs.FoldsAgree.{folded_out}
 use Rattle.mk_base.proofs.Lists.{none_some, some_same}
 use Rattle.mk_plan.specs.declared.Plan.{Plan}
@@ -19,7 +19,7 @@ use Rattle.mk_plan.specs.declared.Place.TheVariants.{Idle, Stepping, Fetching}
 use Rattle.mk_plan.specs.declared.Cause.{Cause}
 use Rattle.mk_plan.specs.declared.Cause.TheVariants.{Wrong, Failed}
 use Rattle.mk_plan.specs.Plans.{has_outputs}
-use Rattle.mk_plan.specs.Turns.{unasked, first_cause, is_number, time_in, holds_of, wrong, wrong_data, next_place}
+use Rattle.mk_plan.specs.Turns.{unasked, first_cause, is_number, time_in, holds_of, part_for, value_for, wrong, wrong_data, next_place}
 use Rattle.mk_plan.specs.Acts.{content_of}
 use Rattle.mk_sched.specs.Built.{is_built_message}
 use Rattle.mk_sched.specs.Moves.{IsInRun, CanBeMade, made_at}
@@ -65,20 +65,19 @@ value_in_range content v eid attr all is = at (member eid content) refl is
 
 -- ---- output times
 
-first_fails : (b : Bool) (n : ℕ) (ts : List (Bool × ℕ)) → first_cause ((b, n) ∷ ts) ≡ None → b ≡ false
-first_fails true n ts e = absurd (none_some (sym e))
-first_fails false n ts e = refl
+first_of_five : (a b c d e : Bool) (i j k l m : ℕ) → first_cause ((a, i) ∷ (b, j) ∷ (c, k) ∷ (d, l) ∷ (e, m) ∷ []) ≡ None → a ≡ false
+first_of_five true b c d e i j k l m h = absurd (none_some (sym h))
+first_of_five false b c d e i j k l m h = refl
 
 second_false : (a b : Bool) → (a || b) ≡ false → b ≡ false
 second_false true b e = absurd (true≢false e)
 second_false false b e = e
 
 latest_output : (wants : List Want) (x : Tier) (content : Json) (n : ℤ) → wrong_data wants x content ≡ None → option_and_then whole_in (time_in content) ≡ Some n → n ≤ℤ pos 1000000000000000000
-latest_output wants x content n right is = at (time_in content) (second_false _ _ (first_fails _ _ _ right)) is
+latest_output wants x content n right is = at (time_in content) (second_false (not (is_object content)) (holds_of (λ t. not (is_number (λ (m : ℤ). int_le (negsuc 9223372036854775807) m && int_le m (pos 1000000000000000000)) t)) (time_in content))
+    (first_of_five (not (is_object content) || holds_of (λ t. not (is_number (λ (m : ℤ). int_le (negsuc 9223372036854775807) m && int_le m (pos 1000000000000000000)) t)) (time_in content)) (holds_of (is_number (λ n. int_lt n x.time)) (time_in content))
+        (list_any (λ w. holds_of (λ t. not (is_object t)) (part_for content w)) wants) (list_any (λ w. holds_of (λ t. not (is_whole t)) (value_for content w)) wants) (list_any (λ w. holds_of (λ t. not (nat_le (nesting t) value_depth)) (value_for content w)) wants) 5 6 5 7 5 right)) is
   where
-    fits : ℤ → Bool
-    fits m = int_le (negsuc 9223372036854775807) m && int_le m (pos 1000000000000000000)
-
     second : (a b : Bool) → not (a && b) ≡ false → b ≡ true
     second true true e = refl
     second true false e = absurd (true≢false e)

@@ -1,4 +1,4 @@
-pub mod Forms
+pub mod LeftOut
 pub mod Readiness
 pub mod OneSim
 pub mod Places
@@ -9,3 +9,4 @@ pub mod Data
 pub mod Grown
 pub mod Arrived
 pub mod Beginning
+pub mod Shapes

@@ -31,7 +31,7 @@ use Rattle.mk_sched.specs.Moves.{is_busy}
 use Rattle.mk_sched.specs.Mirrors.{Mirrors, IsSimOf, IsTurn, IsKept, free_id}
 use Rattle.mk_sched.specs.Answers.{id_at}
 use Rattle.mk_sched.specs.declared.faults.Ended.{Ended}
-use Rattle.mk_sched.proofs.Forms.{no_triggers}
+use Rattle.mk_sched.proofs.LeftOut.{no_triggers}
 use Rattle.mk_sched.proofs.Readiness.{start_is, ready_sound, ready_back, idle_closed, closed_idle, all_pass}
 
 -- ---- one more act makes one more due time

@@ -22,7 +22,7 @@ use Rattle.mk_sched.specs.declared.sims.Sim.{Sim}
 use Rattle.mk_sched.specs.Built.{IsBuiltPlan}
 use Rattle.mk_sched.specs.Steps.{place_in, dues_in, is_idle, time_at, start_in, comes_after, is_late, is_clear, clear_time, ready_time}
 use Rattle.mk_sched.specs.Mirrors.{IsTurn, IsOpenAt, IsClosed, IsOpened}
-use Rattle.mk_sched.proofs.Forms.{walk_is, conn_of, link_by, owner_below}
+use Rattle.mk_sched.proofs.LeftOut.{walk_is, conn_of, link_by, owner_below}
 
 pub all_pass : {X : Type 0} (p : X → Bool) (x : X) (xs : List X) → list_all p xs ≡ true → IsIn x xs → p x ≡ true
 all_pass p x [] h m = absurd m

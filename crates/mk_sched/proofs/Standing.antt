@@ -21,7 +21,7 @@ use Rattle.mk_sched.specs.Built.{IsBuiltPlan}
 use Rattle.mk_sched.specs.Cores.{Stands}
 use Rattle.mk_sched.specs.Steps.{dues_in}
 use Rattle.mk_sched.specs.Mirrors.{Mirrors, IsSimOf, IsKept}
-use Rattle.mk_sched.proofs.Forms.{due_same}
+use Rattle.mk_sched.proofs.LeftOut.{due_same}
 use Rattle.mk_sched.proofs.OneSim.{sim_more}
 use Rattle.mk_sched.proofs.Places.{set_same, set_other}
 

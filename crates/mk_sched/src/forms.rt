@@ -1,7 +1,7 @@
 ghost use Rattle.std.specs.Prelude.{◌≡◌, ◌&&◌, ◌==◌, ◌↔◌, true, length, IsTrue};
 ghost use Rattle.std.specs.List.{list_all};
 ghost use Rattle.mk_plan.specs.Plans.{is_time_based};
-ghost use Rattle.mk_sched.specs.Built.{IsBuiltPlan, is_plain, is_built_sim};
+ghost use Rattle.mk_sched.specs.Built.{IsBuiltPlan, has_built_form, is_plain, is_built_sim};
 
 use mk_base::{SimKind, Via};
 use mk_plan::{Conn, Plan, PlanSim};
@@ -10,6 +10,13 @@ use mk_plan::{Conn, Plan, PlanSim};
 /// connection is plain, and there are no asynchronous pairs.
 pub fn is_built(plan: &Plan) -> bool
     ensures { (result ≡ true) ↔ IsBuiltPlan plan.now }
+{
+    has_built_form(plan)
+}
+
+// Whether each simulator is of a built form, each connection is plain, and there are no asynchronous pairs.
+fn has_built_form(plan: &Plan) -> bool
+    ensures { result ≡ has_built_form plan.now }
 {
     has_built_sims(plan) && has_plain_conns(plan) && plan.asyncs.is_empty()
 }

@@ -4,10 +4,14 @@
 mod asking;
 mod cores;
 mod faults;
+mod forms;
 mod outputs;
 mod ready;
 mod sims;
 mod taking;
+#[cfg(test)]
+mod tests;
 
 pub use cores::Core;
 pub use faults::{CoreFault, Ended, Next, Taken};
+pub use forms::is_built;
