@@ -1,14 +1,13 @@
 -- What is gathered by a key, as it is written item by item.
-use Rattle.std.proofs.Common.{◌≡◌, ℕ, ◌<◌, ◌-◌, length, get_or, take, drop, length-drop, arith, Bool, true, false, cond, List, [], ◌∷◌, ◌++◌, map, flat_map, codes, refl, sym, ap, ap₂, ◌∙◌, append_assoc, append-nil, nat_eq, true≢false, if◌then◌else◌}
+use Rattle.std.proofs.Common.{◌≡◌, ℕ, ◌<◌, ◌-◌, length, get_or, take, drop, length-drop, arith, Bool, true, false, List, [], ◌∷◌, ◌++◌, map, flat_map, codes, refl, sym, ap, ap₂, ◌∙◌, append_assoc, append-nil, nat_eq, true≢false, if◌then◌else◌}
 use Rattle.std.proofs.lemmas.Bool.{and_parts, eqb-true}
 use Rattle.std.proofs.lemmas.List.{take_all}
 use Rattle.std.specs.List.{join_with_byte}
 use Rattle.mk_base.specs.Lists.{same_text}
-use Rattle.mk_base.specs.Texts.{quoted, list_text, object_text}
+use Rattle.mk_base.specs.Texts.{quoted, object_text}
 use Rattle.mk_json.proofs.OfOutlines.{left_is}
 use Rattle.mk_plan.specs.Report.{inputs_text}
 use Rattle.mk_plan.specs.declared.Input.{Input}
-use Rattle.mk_plan.specs.declared.Want.{Want}
 use Rattle.mk_message.specs.Streams.{Stream, rest_of, keyed, source_member, by_source, by_attribute, by_entity, attributes, wanted_by_entity}
 use Rattle.mk_message.specs.Written.{joined, gathered, wanted_text}
 

@@ -1,14 +1,10 @@
 -- Where the time resolution stands among parameters.
-use Rattle.std.proofs.Common.{◌≡◌, ℕ, true, List, [], ◌∷◌, ◌++◌, ◌&&◌, map, flat_map, codes, Ordering, Less, Equal, Greater, refl, sym, ap, ◌∙◌, subst, append_assoc, Result, OnOk}
-use Rattle.std.specs.List.{list_all, join_with_byte}
-use Rattle.mk_base.specs.declared.json.Json as tree
+use Rattle.std.proofs.Common.{◌≡◌, ℕ, List, [], ◌∷◌, ◌++◌, map, flat_map, codes, Ordering, Less, Equal, Greater, refl, sym, ap, ◌∙◌, subst, append_assoc, Result, OnOk}
+use Rattle.std.specs.List.{join_with_byte}
 use Rattle.mk_base.specs.declared.json.Json.{Json}
-use Rattle.mk_base.specs.declared.json.Json.TheVariants as v
-use Rattle.mk_base.specs.Lists.{text_order, put, placed}
+use Rattle.mk_base.specs.Lists.{text_order, placed}
 use Rattle.mk_base.specs.Texts.{text_of}
-use Rattle.mk_base.specs.Trees.{is_in_range}
-use Rattle.mk_json.proofs.LevelTests.{range-Object}
-use Rattle.mk_message.specs.Written.{member_text, texts_of, time_resolution, with_resolution, init_params}
+use Rattle.mk_message.specs.Written.{member_text, texts_of, time_resolution, with_resolution}
 use Rattle.mk_message.proofs.Gathering.{join_more}
 
 -- the members with the time resolution, by their text

@@ -1,5 +1,5 @@
 -- The payload of a message has that message.
-use Rattle.std.proofs.Common.{◌≡◌, ℕ, ◌<◌, ◌≤◌, ◌^◌, ◌++◌, ◌&&◌, ℤ, pos, true, List, [], ◌∷◌, Option, Some, None, Result, Ok, option_and_then, refl, sym, ap, ap₂, ◌∙◌, subst, arith, nat_lt, int_le, int_lt}
+use Rattle.std.proofs.Common.{◌≡◌, ℕ, ◌<◌, ◌≤◌, ◌^◌, ◌++◌, ◌&&◌, ℤ, pos, true, List, [], ◌∷◌, Some, Ok, option_and_then, refl, sym, ap, ◌∙◌, subst, arith, nat_lt, int_le, int_lt}
 use Rattle.std.proofs.lemmas.Bool.{and_parts, and_from, ltb-true}
 use Rattle.std.proofs.lemmas.Int.{ints}
 use Rattle.std.specs.List.{list_all}
@@ -18,11 +18,11 @@ use Rattle.mk_json.proofs.Layers.{folded-Text}
 use Rattle.mk_message.specs.declared.reading.Kind.{Kind}
 use Rattle.mk_message.specs.declared.reading.Kind.TheVariants as kind
 use Rattle.mk_message.specs.Messages.{three_of, three_in, kind_numbered, kind_in, id_numbered, id_in, request_in, content_in, tested, message_in, message_of}
-use Rattle.mk_message.specs.Written.{message_tree, is_in_range, is_readable}
+use Rattle.mk_message.specs.Written.{message_tree, is_readable}
 
 -- ---- trees that are made, looked into
 
-items_in-List : (ts : List Json) → items_in (tree.List ts) ≡ Some ts
+pub items_in-List : (ts : List Json) → items_in (tree.List ts) ≡ Some ts
 items_in-List ts = rw (v.outs-List ts) refl
 
 whole_in-Whole : (n : ℤ) → whole_in (tree.Whole n) ≡ Some n

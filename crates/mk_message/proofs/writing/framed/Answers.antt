@@ -1,4 +1,4 @@
-use Rattle.std.proofs.Common.{◌≡◌, ◌<◌, ◌^◌, pos, List, [], ◌∷◌, ap, arith, rules}
+use Rattle.std.proofs.Common.{◌≡◌, pos, [], ◌∷◌, ap, arith, rules}
 use Rattle.mk_base.specs.declared.json.Json as tree
 use Rattle.mk_message.proofs.ReadBack.{range-framed}
 use Rattle.mk_message.proofs.writing.framed.Goals as goal

@@ -1,4 +1,3 @@
-use Rattle.std.proofs.Common.{◌≡◌, true}
 use Rattle.mk_message.proofs.ReadBack.{message_of-written}
 use Rattle.mk_message.proofs.writing.write.Goals as goal
 
