@@ -231,7 +231,7 @@ module _ (P : Plan) (J : List Entry) (K : Kept) (kept : IsKept P J K None) (sim 
       right_act = in_each IsRight (ended_turn T m) ((view P (J ++ Got sim m ∷ [])).acts sim.0)
           (view_right IsReady IsAdvance P (λ V s x r. r) kept.valid (J ++ Got sim m ∷ []) (orderly_push IsReady IsAdvance P J (Got sim m) kept.orderly.0 got_allowed) sim.0)
           (subst (λ (V : View). IsIn (ended_turn T m) (V.acts sim.0)) (sym (view_push P J (Got sim m) ∙ noted_end))
-              (subst (λ (l : List Act). IsIn (ended_turn T m) l) (sym grown_here) (in_back (ended_turn T m) ((view P J).acts sim.0) (ended_turn T m ∷ []) (inl refl))))
+          (subst (λ (l : List Act). IsIn (ended_turn T m) l) (sym grown_here) (in_back (ended_turn T m) ((view P J).acts sim.0) (ended_turn T m ∷ []) (inl refl))))
 
       pub no_fault_at_end : (note P (view P J) (Got sim m)).fault ≡ None
       no_fault_at_end = ap (λ (V : View). V.fault) noted_end ∙ no_loop_fault P kept.valid kept.built sim.0 (ended_turn T m)
@@ -253,10 +253,10 @@ module _ (P : Plan) (J : List Entry) (K : Kept) (kept : IsKept P J K None) (sim 
         ended_sim_is : IsSimOf P (grown (view P J).acts sim.0 (ended_turn T m) sim.0) (with_open (view P J) sim.0 None sim.0) (due_times P (grown (view P J).acts sim.0 (ended_turn T m)) sim.0) (length J + 1) sim.0 (steps.ended_sim state x id) (filter (is_since (Some x)) (dues_in K.dues sim.0) ++ next_dues P next)
         ended_sim_is =
             subst (λ (l : List Tier). IsSimOf P (grown (view P J).acts sim.0 (ended_turn T m) sim.0) (with_open (view P J) sim.0 None sim.0) l (length J + 1) sim.0 (steps.ended_sim state x id) (filter (is_since (Some x)) (dues_in K.dues sim.0) ++ next_dues P next))
-                (sym (due_grown P kept.valid kept.built (view P J).acts (grown (view P J).acts sim.0 (ended_turn T m)) sim.0 (ended_turn T m) low grown_here ∙ ap (λ (o : Option ℤ). due_times P (view P J).acts sim.0 ++ next_dues P o) next_is))
-                (subst (λ (o : Option OpenTurn). IsSimOf P (grown (view P J).acts sim.0 (ended_turn T m) sim.0) o (due_times P (view P J).acts sim.0 ++ next_dues P next) (length J + 1) sim.0 (steps.ended_sim state x id) (filter (is_since (Some x)) (dues_in K.dues sim.0) ++ next_dues P next)) (sym (at_self P (view P J) sim.0 None))
-                    (subst (λ (l : List Act). IsSimOf P l None (due_times P (view P J).acts sim.0 ++ next_dues P next) (length J + 1) sim.0 (steps.ended_sim state x id) (filter (is_since (Some x)) (dues_in K.dues sim.0) ++ next_dues P next)) (sym grown_here)
-                        (sim_ended P ((view P J).acts sim.0) (due_times P (view P J).acts sim.0) (length J) sim.0 state (dues_in K.dues sim.0) T x id m next (was_open T is) at free few later)))
+            (sym (due_grown P kept.valid kept.built (view P J).acts (grown (view P J).acts sim.0 (ended_turn T m)) sim.0 (ended_turn T m) low grown_here ∙ ap (λ (o : Option ℤ). due_times P (view P J).acts sim.0 ++ next_dues P o) next_is))
+            (subst (λ (o : Option OpenTurn). IsSimOf P (grown (view P J).acts sim.0 (ended_turn T m) sim.0) o (due_times P (view P J).acts sim.0 ++ next_dues P next) (length J + 1) sim.0 (steps.ended_sim state x id) (filter (is_since (Some x)) (dues_in K.dues sim.0) ++ next_dues P next)) (sym (at_self P (view P J) sim.0 None))
+            (subst (λ (l : List Act). IsSimOf P l None (due_times P (view P J).acts sim.0 ++ next_dues P next) (length J + 1) sim.0 (steps.ended_sim state x id) (filter (is_since (Some x)) (dues_in K.dues sim.0) ++ next_dues P next)) (sym grown_here)
+            (sim_ended P ((view P J).acts sim.0) (due_times P (view P J).acts sim.0) (length J) sim.0 state (dues_in K.dues sim.0) T x id m next (was_open T is) at free few later)))
 
         pub ended_mirrors : Mirrors P (note_right P (view P J) sim.0 m T None) (length J + 1) (ended P K sim.0 state x id next held)
         ended_mirrors = record {
@@ -282,9 +282,9 @@ module _ (P : Plan) (J : List Entry) (K : Kept) (kept : IsKept P J K None) (sim 
       mirrors_at L (Stepping x id asks) h e =
           let had : filter_map content_of (T.messages ++ m ∷ []) ≡ cons_option (content_of m) [] = contents_are [] h.contents in
           subst (λ (X : Kept). Mirrors P (note_right P (view P J) sim.0 m T None) (length J + 1) X) (sym e)
-              (ended_mirrors x id (next_in m) K.buffers h.time (ids_one (free_id P sim.0 ((view P J).acts sim.0)) (ids_in T) id h.ids h.number) h.few
-                  (ap (λ (l : List Json). option_and_then whole_in (slice_get l 0)) had ∙ ap (option_and_then whole_in) (first_of_one (content_of m)))
-                  its.buffers (holds_still P kept.built (view P J).acts sim.0 (ended_turn T m) K.buffers K.buffers its.holds (ap (λ (l : List Json). slice_get l 1) had ∙ second_of_one (content_of m)) refl))
+          (ended_mirrors x id (next_in m) K.buffers h.time (ids_one (free_id P sim.0 ((view P J).acts sim.0)) (ids_in T) id h.ids h.number) h.few
+          (ap (λ (l : List Json). option_and_then whole_in (slice_get l 0)) had ∙ ap (option_and_then whole_in) (first_of_one (content_of m)))
+          its.buffers (holds_still P kept.built (view P J).acts sim.0 (ended_turn T m) K.buffers K.buffers its.holds (ap (λ (l : List Json). slice_get l 1) had ∙ second_of_one (content_of m)) refl))
         where
           first_of_one : (o : Option Json) → slice_get (cons_option o []) 0 ≡ o
           first_of_one None = refl
@@ -299,9 +299,9 @@ module _ (P : Plan) (J : List Entry) (K : Kept) (kept : IsKept P J K None) (sim 
       mirrors_at L (Fetching x id) h e =
           let had : filter_map content_of (T.messages ++ m ∷ []) ≡ h.content ∷ e.0 ∷ [] = contents_are (h.content ∷ []) h.contents ∙ ap (λ (o : Option Json). h.content ∷ cons_option o []) e.1.0 in
           subst (λ (X : Kept). Mirrors P (note_right P (view P J) sim.0 m T None) (length J + 1) X) (sym e.1.1.0)
-              (ended_mirrors x id state.next L.buffers h.time (ids_two (free_id P sim.0 ((view P J).acts sim.0)) (ids_in T) id h.ids h.number) h.few
-                  (ap (λ (l : List Json). option_and_then whole_in (slice_get l 0)) had ∙ h.asked)
-                  (e.1.1.1.0 ∙ its.buffers) (holds_grown P kept.built (view P J).acts sim.0 (ended_turn T m) K.buffers L.buffers its.holds x e.0 (ap (λ (l : List Json). slice_get l 1) had) h.time e.1.1.1.1))
+          (ended_mirrors x id state.next L.buffers h.time (ids_two (free_id P sim.0 ((view P J).acts sim.0)) (ids_in T) id h.ids h.number) h.few
+          (ap (λ (l : List Json). option_and_then whole_in (slice_get l 0)) had ∙ h.asked)
+          (e.1.1.1.0 ∙ its.buffers) (holds_grown P kept.built (view P J).acts sim.0 (ended_turn T m) K.buffers L.buffers its.holds x e.0 (ap (λ (l : List Json). slice_get l 1) had) h.time e.1.1.1.1))
         where
           ids_two : (a b k : ℕ) → b ≡ 2 → k ≡ a + 1 → a + b ≡ k + 1
           ids_two a b k p q = omega arith
@@ -335,7 +335,7 @@ module _ (P : Plan) (J : List Entry) (K : Kept) (kept : IsKept P J K None) (sim 
       let t = turned e.state e.there e.right in (
         subst (λ (N : List Entry). IsKept P N L None) (sym e.entries)
             (subst (λ (X : Kept). IsKept P (J ++ Got sim m ∷ [] ++ Sent sim (GetData (wanted P sim.0)) ∷ []) X None) (sym e.kept)
-                (further_kept e.state e.there t.0 t.1 t.2 e.place e.right e.next (let w : length J < P.entries = below_limit room in omega (arith, e.room)))),
+            (further_kept e.state e.there t.0 t.1 t.2 e.place e.right e.next (let w : length J < P.entries = below_limit room in omega (arith, e.room)))),
         record {
           room = the_room room;
           no_fault = ap (λ (V : View). V.fault) (view_push P J (Got sim m)) ∙ fault_is e.state e.there t.0 t.1 t.2 e.place e.right e.next;

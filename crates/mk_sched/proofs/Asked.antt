@@ -65,8 +65,11 @@ module _ (P : Plan) (J : List Entry) (K : Kept) (kept : IsKept P J K None) where
     was = its.each r.sim.0 a.state a.there
 
     asked_allowed : IsAllowed IsReady IsAdvance P (view P J) (Sent r.sim (Step r.at a.ins P.until))
-    asked_allowed = (its.no_fault, subst (λ (o : Option Owed). IsNext IsReady IsAdvance P (view P J) o (Sent r.sim (Step r.at a.ins P.until))) (sym its.none_owed)
-        (ready, a.inputs (supply P (view P J).acts) its.holds ∙ ap (λ (p : Option Tier). inputs P (supply P (view P J).acts) r.sim.0 p r.at) was.last, advance_is P kept.valid kept.built (view P J) r.sim.0 r.at))
+    asked_allowed = (
+      its.no_fault,
+      subst (λ (o : Option Owed). IsNext IsReady IsAdvance P (view P J) o (Sent r.sim (Step r.at a.ins P.until))) (sym its.none_owed)
+          (ready, a.inputs (supply P (view P J).acts) its.holds ∙ ap (λ (p : Option Tier). inputs P (supply P (view P J).acts) r.sim.0 p r.at) was.last, advance_is P kept.valid kept.built (view P J) r.sim.0 r.at),
+    )
 
     in_run : IsInRun r.at
     in_run =
@@ -87,9 +90,9 @@ module _ (P : Plan) (J : List Entry) (K : Kept) (kept : IsKept P J K None) where
           (dues_at (slice_set K.dues r.sim.0 (filter (is_since (Some r.at)) (dues_in K.dues r.sim.0))) r.sim.0 (filter (is_since (Some r.at)) (dues_in K.dues r.sim.0)) (set_same K.dues r.sim.0 (filter (is_since (Some r.at)) (dues_in K.dues r.sim.0)) (subst (λ (n : ℕ). r.sim.0 < n) (sym its.dues) low)))
           (λ j other. ap (λ (o : Option (List Tier)). unwrap_or o []) (set_other K.dues r.sim.0 (filter (is_since (Some r.at)) (dues_in K.dues r.sim.0)) j other))
           (subst (λ (o : Option OpenTurn). IsSimOf P ((view P J).acts r.sim.0) o (due_times P (view P J).acts r.sim.0) (length J + 1) r.sim.0 (steps.begun_sim a.state r.at) (filter (is_since (Some r.at)) (dues_in K.dues r.sim.0)))
-              (sym (at_self P (view P J) r.sim.0 (Some (begun P (view P J) r.sim.0 r.at (Step r.at a.ins P.until)))))
-              (sim_begun P ((view P J).acts r.sim.0) (due_times P (view P J).acts r.sim.0) (length J) r.sim.0 a.state (dues_in K.dues r.sim.0) r.at a.ins P.until
-                  (subst (λ (o : Option OpenTurn). IsSimOf P ((view P J).acts r.sim.0) o (due_times P (view P J).acts r.sim.0) (length J) r.sim.0 a.state (dues_in K.dues r.sim.0)) ready.0.closed was) in_run (pending_since P (view P J).acts r.sim.0 r.at ready.0.at_pending)))
+          (sym (at_self P (view P J) r.sim.0 (Some (begun P (view P J) r.sim.0 r.at (Step r.at a.ins P.until)))))
+          (sim_begun P ((view P J).acts r.sim.0) (due_times P (view P J).acts r.sim.0) (length J) r.sim.0 a.state (dues_in K.dues r.sim.0) r.at a.ins P.until
+          (subst (λ (o : Option OpenTurn). IsSimOf P ((view P J).acts r.sim.0) o (due_times P (view P J).acts r.sim.0) (length J) r.sim.0 a.state (dues_in K.dues r.sim.0)) ready.0.closed was) in_run (pending_since P (view P J).acts r.sim.0 r.at ready.0.at_pending)))
           (λ j other. refl)
           (λ j other. ap (λ (b : Bool). if b then Some (begun P (view P J) r.sim.0 r.at (Step r.at a.ins P.until)) else (view P J).open_at j) (not_same j r.sim.0 other));
       wants = its.wants;
@@ -102,7 +105,7 @@ module _ (P : Plan) (J : List Entry) (K : Kept) (kept : IsKept P J K None) where
     pub asked_kept : length J ≢ P.entries → IsKept P M L None
     asked_kept room = subst (λ (N : List Entry). IsKept P N L None) (sym a.entries)
         (kept_push P J K L None (Sent r.sim (Step r.at a.ins P.until)) kept room asked_allowed (inl refl)
-            (λ going. subst (λ (X : Kept). Mirrors P (note P (view P J) (Sent r.sim (Step r.at a.ins P.until))) (length J + 1) X) (sym a.kept) asked_mirrors))
+        (λ going. subst (λ (X : Kept). Mirrors P (note P (view P J) (Sent r.sim (Step r.at a.ins P.until))) (length J + 1) X) (sym a.kept) asked_mirrors))
 
     pub asked_answer : NextOf (core_of P J None) (next.Ask r.sim) (core_of P M None)
     asked_answer = record { going = refl; at = r.at; inputs = a.ins; advance = P.until; allowed = asked_allowed; moved = ap (λ (N : List Entry). core_of P N None) a.entries }

@@ -46,7 +46,7 @@ module _ (P : Plan) (valid : IsValidPlan P) (built : IsBuiltPlan P) (K : Kept) (
   first_dues i sim there =
       let form = all_at (λ (s : PlanSim). (s.kind ≡ TimeBased) × (s.initial ≡ [])) P.sims i sim built.sims there in
       due_list P valid built no_acts i sim there ∙ ap (λ (l : List Tier). filter (is_within P) (l ++ []))
-          ((λ k. map moment (form.1 k) ++ (if is_event_based (form.0 k) then [] else moment (pos 0) ∷ [])))
+      ((λ k. map moment (form.1 k) ++ (if is_event_based (form.0 k) then [] else moment (pos 0) ∷ [])))
 
   its_sim : (i : ℕ) (s : Sim) → slice_get K.sims i ≡ Some s → (sim : PlanSim) × (slice_get P.sims i ≡ Some sim) × (new_sim sim.first_id ≡ s)
   its_sim i s there =

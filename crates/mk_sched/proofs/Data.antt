@@ -76,7 +76,7 @@ second_false false b e = e
 latest_output : (wants : List Want) (x : Tier) (content : Json) (n : ℤ) → wrong_data wants x content ≡ None → option_and_then whole_in (time_in content) ≡ Some n → n ≤ℤ pos 1000000000000000000
 latest_output wants x content n right is = at (time_in content) (second_false (not (is_object content)) (holds_of (λ t. not (is_number (λ (m : ℤ). int_le (negsuc 9223372036854775807) m && int_le m (pos 1000000000000000000)) t)) (time_in content))
     (first_of_five (not (is_object content) || holds_of (λ t. not (is_number (λ (m : ℤ). int_le (negsuc 9223372036854775807) m && int_le m (pos 1000000000000000000)) t)) (time_in content)) (holds_of (is_number (λ n. int_lt n x.time)) (time_in content))
-        (list_any (λ w. holds_of (λ t. not (is_object t)) (part_for content w)) wants) (list_any (λ w. holds_of (λ t. not (is_whole t)) (value_for content w)) wants) (list_any (λ w. holds_of (λ t. not (nat_le (nesting t) value_depth)) (value_for content w)) wants) 5 6 5 7 5 right)) is
+    (list_any (λ w. holds_of (λ t. not (is_object t)) (part_for content w)) wants) (list_any (λ w. holds_of (λ t. not (is_whole t)) (value_for content w)) wants) (list_any (λ w. holds_of (λ t. not (nat_le (nesting t) value_depth)) (value_for content w)) wants) 5 6 5 7 5 right)) is
   where
     second : (a b : Bool) → not (a && b) ≡ false → b ≡ true
     second true true e = refl

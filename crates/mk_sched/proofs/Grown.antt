@@ -94,7 +94,7 @@ module _ (P : Plan) (s : ℕ) (content : Json) (at made_when : Tier) (made_is : 
   unfolding given_by
   gained_one v new mine is same = subst (λ (h : Held). HasGained P s (data_act at content) (place + 1) first h) (sym same)
       (given_one P s (data_act at content) place first old c (record { at = made_when; value = text_of v }) here
-          (ap (λ (b : Bool). given_by b (option_and_then (member c.from_attr) (member (eid_of P c.from) content))) (eq-eqb (owner P c.from) s mine) ∙ ap (given_by true) is ∙ ap (λ (t : Tier). let o : Timed = record { at = t; value = text_of v } in o ∷ []) (sym made_is)) so)
+      (ap (λ (b : Bool). given_by b (option_and_then (member c.from_attr) (member (eid_of P c.from) content))) (eq-eqb (owner P c.from) s mine) ∙ ap (given_by true) is ∙ ap (λ (t : Tier). let o : Timed = record { at = t; value = text_of v } in o ∷ []) (sym made_is)) so)
 
   pub gained_other : (owner P c.from ≡ s → ⊥) → HasGained P s (data_act at content) (place + 1) first old
   unfolding given_by

@@ -48,6 +48,6 @@ built_is P h =
 pub is_built : (P : Plan) → IsBuiltPlan P → has_built_form P ≡ true
 is_built P built = both_and (list_all is_built_sim P.sims && list_all is_plain P.conns) (length P.asyncs == 0)
     (both_and (list_all is_built_sim P.sims) (list_all is_plain P.conns)
-        (pass_all is_built_sim P.sims (λ s m. let t = all_in (λ (s : PlanSim). (s.kind ≡ TimeBased) × (s.initial ≡ [])) P.sims s built.sims m in both_and (is_time_based s.kind) (length s.initial == 0) (ap is_time_based t.0) (ap (λ (l : List ℤ). length l == 0) t.1)))
-        (pass_all is_plain P.conns (λ c m. ap plain_via (all_in (λ (c : Conn). c.via ≡ Plain) P.conns c built.conns m))))
+    (pass_all is_built_sim P.sims (λ s m. let t = all_in (λ (s : PlanSim). (s.kind ≡ TimeBased) × (s.initial ≡ [])) P.sims s built.sims m in both_and (is_time_based s.kind) (length s.initial == 0) (ap is_time_based t.0) (ap (λ (l : List ℤ). length l == 0) t.1)))
+    (pass_all is_plain P.conns (λ c m. ap plain_via (all_in (λ (c : Conn). c.via ≡ Plain) P.conns c built.conns m))))
     (ap (λ (l : List AsyncPair). length l == 0) built.asyncs)

@@ -61,11 +61,11 @@ module _ (P : Plan) (valid : IsValidPlan P) (built : IsBuiltPlan P) (V W : View)
     | inl e ↦
         let same : s' ≡ s = some_same (sym (set_same K.sims i s' low) ∙ subst (λ (k : ℕ). slice_get (slice_set K.sims i s') k ≡ Some s) e there) in
         subst (λ (k : ℕ). IsSimOf P (W.acts k) (W.open_at k) (due_times P W.acts k) m k s (dues_in dues k)) (sym e)
-            (subst (λ (z : Sim). IsSimOf P (W.acts i) (W.open_at i) (due_times P W.acts i) m i z (dues_in dues i)) same (subst (λ (l : List Tier). IsSimOf P (W.acts i) (W.open_at i) (due_times P W.acts i) m i s' l) (sym here) is))
+        (subst (λ (z : Sim). IsSimOf P (W.acts i) (W.open_at i) (due_times P W.acts i) m i z (dues_in dues i)) same (subst (λ (l : List Tier). IsSimOf P (W.acts i) (W.open_at i) (due_times P W.acts i) m i s' l) (sym here) is))
     | inr other ↦
         let was : IsSimOf P (V.acts j) (V.open_at j) (due_times P V.acts j) m j s (dues_in K.dues j) = sim_more P (V.acts j) (V.open_at j) (due_times P V.acts j) n m j s (dues_in K.dues j) le (mirrors.each j s (sym (set_other K.sims i s' j other) ∙ there)) in
         subst (λ (l : List Tier). IsSimOf P (W.acts j) (W.open_at j) (due_times P W.acts j) m j s l) (sym (away j other))
-            (subst (λ (l : List Tier). IsSimOf P (W.acts j) (W.open_at j) l m j s (dues_in K.dues j)) (sym (due_same P valid built W.acts V.acts j (acts j other)))
-                (subst (λ (o : Option OpenTurn). IsSimOf P (W.acts j) o (due_times P V.acts j) m j s (dues_in K.dues j)) (sym (opens j other))
-                    (subst (λ (l : List Act). IsSimOf P l (V.open_at j) (due_times P V.acts j) m j s (dues_in K.dues j)) (sym (acts j other)) was)))
+        (subst (λ (l : List Tier). IsSimOf P (W.acts j) (W.open_at j) l m j s (dues_in K.dues j)) (sym (due_same P valid built W.acts V.acts j (acts j other)))
+        (subst (λ (o : Option OpenTurn). IsSimOf P (W.acts j) o (due_times P V.acts j) m j s (dues_in K.dues j)) (sym (opens j other))
+        (subst (λ (l : List Act). IsSimOf P l (V.open_at j) (due_times P V.acts j) m j s (dues_in K.dues j)) (sym (acts j other)) was)))
   ]

@@ -93,4 +93,3 @@ next_dues P (Some n) = if is_within P (moment n) then moment n ∷ [] else []
 -- what is kept after a step of simulator i begins
 abbrev pub begun : Kept → ℕ → Sim → Tier → Kept
 begun K i s at = record K { sims = slice_set K.sims i (begun_sim s at); dues = slice_set K.dues i (filter (is_since (Some at)) (dues_in K.dues i)) }
-

@@ -10,14 +10,19 @@ ghost use Rattle.mk_sched.specs.Moves.{AskedBy, AdvancedBy};
 
 use crate::faults::Next;
 use crate::ready::{any_open, first_ready};
-use crate::taking::{is_full, too_long};
 use crate::sims::{Kept, Sim, since};
+use crate::taking::{is_full, too_long};
 use mk_base::{Mem, SimNo, Tier};
 use mk_plan::{Entry, Item, Journal, Place, Plan};
 use std::alloc::Global;
 
 // Asks the first simulator that is ready, if the journal has room.
-pub fn advance(alloc: Global, plan: &Plan, kept: &mut Kept, journal: &mut Journal) -> Result<Next, Mem>
+pub fn advance(
+    alloc: Global,
+    plan: &Plan,
+    kept: &mut Kept,
+    journal: &mut Journal,
+) -> Result<Next, Mem>
     requires few { length kept.old.sims < 2 ^ 32 }
     requires dues { length kept.old.dues ≡ length kept.old.sims }
     requires of_plan { length kept.old.buffers ≡ length plan.now.conns }
@@ -45,7 +50,14 @@ pub fn advance(alloc: Global, plan: &Plan, kept: &mut Kept, journal: &mut Journa
 }
 
 // Begins the simulator's step at `at`, and ends the journal with the Step.
-fn ask(alloc: Global, plan: &Plan, kept: &mut Kept, journal: &mut Journal, sim: SimNo, at: Tier) -> Result<(), Mem>
+fn ask(
+    alloc: Global,
+    plan: &Plan,
+    kept: &mut Kept,
+    journal: &mut Journal,
+    sim: SimNo,
+    at: Tier,
+) -> Result<(), Mem>
     requires sims { sim.0 < length kept.old.sims }
     requires dues { length kept.old.dues ≡ length kept.old.sims }
     requires of_plan { length kept.old.buffers ≡ length plan.now.conns }

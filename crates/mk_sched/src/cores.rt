@@ -101,7 +101,14 @@ impl Core {
             Some(Ended::OutOfMemory) => return Err(Mem),
             None => {}
         }
-        let answer = take(self.alloc, &self.plan, &mut self.kept, &mut self.journal, sim, message);
+        let answer = take(
+            self.alloc,
+            &self.plan,
+            &mut self.kept,
+            &mut self.journal,
+            sim,
+            message,
+        );
         self.ended = end_after_arrive(&answer);
         answer
     }

@@ -17,7 +17,14 @@ use mk_turns::{output_time, owner};
 use std::alloc::Global;
 
 // Gives each connection that leaves the simulator its value in the data of its step at `at`.
-pub fn take_outputs(alloc: Global, plan: &Plan, buffers: &mut Buffers, sim: SimNo, content: &Json, at: Tier) -> Result<(), Mem>
+pub fn take_outputs(
+    alloc: Global,
+    plan: &Plan,
+    buffers: &mut Buffers,
+    sim: SimNo,
+    content: &Json,
+    at: Tier,
+) -> Result<(), Mem>
     requires references { RefersInside plan.now }
     requires of_plan { length buffers.old ≡ length plan.now.conns }
     requires in_range { is_in_range content.now ≡ true }
@@ -34,7 +41,15 @@ pub fn take_outputs(alloc: Global, plan: &Plan, buffers: &mut Buffers, sim: SimN
 }
 
 // Gives the connection at the place its value in the data, made at `made`, if it leaves the simulator and there is one.
-fn take_output(alloc: Global, plan: &Plan, buffers: &mut Buffers, sim: SimNo, content: &Json, made: Tier, place: usize) -> Result<(), Mem>
+fn take_output(
+    alloc: Global,
+    plan: &Plan,
+    buffers: &mut Buffers,
+    sim: SimNo,
+    content: &Json,
+    made: Tier,
+    place: usize,
+) -> Result<(), Mem>
     requires references { RefersInside plan.now }
     requires there { place < length plan.now.conns }
     requires of_plan { length buffers.old ≡ length plan.now.conns }

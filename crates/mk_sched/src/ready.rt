@@ -34,7 +34,12 @@ pub fn first_ready(plan: &Plan, sims: &List<Sim>, dues: &List<List<Tier>>) -> Op
 }
 
 // The time at which the simulator is ready, if it is.
-pub fn ready_time(plan: &Plan, sims: &List<Sim>, dues: &List<List<Tier>>, sim: SimNo) -> Option<Tier>
+pub fn ready_time(
+    plan: &Plan,
+    sims: &List<Sim>,
+    dues: &List<List<Tier>>,
+    sim: SimNo,
+) -> Option<Tier>
     requires references { RefersInside plan.now }
     ensures { result ≡ ready_time plan.now sims.now dues.now sim.0 }
 {
@@ -80,7 +85,11 @@ fn is_idle(place: &Place) -> bool
 {
     match place {
         Place::Idle => true,
-        Place::Stepping { at: _, id: _, asks: _ } => false,
+        Place::Stepping {
+            at: _,
+            id: _,
+            asks: _,
+        } => false,
         Place::Fetching { at: _, id: _ } => false,
     }
 }
@@ -99,7 +108,14 @@ fn is_clear(plan: &Plan, sims: &List<Sim>, dues: &List<List<Tier>>, sim: SimNo, 
 }
 
 // Whether what the connection brings to the simulator, if it leads there, comes after its step at `at`.
-fn is_late(plan: &Plan, sims: &List<Sim>, dues: &List<List<Tier>>, sim: SimNo, at: Tier, conn: &Conn) -> bool
+fn is_late(
+    plan: &Plan,
+    sims: &List<Sim>,
+    dues: &List<List<Tier>>,
+    sim: SimNo,
+    at: Tier,
+    conn: &Conn,
+) -> bool
     requires references { RefersInside plan.now }
     requires from { conn.now.from < length plan.now.entities }
     requires to { conn.now.to < length plan.now.entities }

@@ -21,7 +21,14 @@ use mk_turns::{next_place, next_time, wanted, wrong};
 use std::alloc::Global;
 
 // Ends the journal with a message of the simulator, and with what is owed after it, as far as there is room.
-pub fn take(alloc: Global, plan: &Plan, kept: &mut Kept, journal: &mut Journal, sim: SimNo, message: &Message) -> Result<Taken, Mem>
+pub fn take(
+    alloc: Global,
+    plan: &Plan,
+    kept: &mut Kept,
+    journal: &mut Journal,
+    sim: SimNo,
+    message: &Message,
+) -> Result<Taken, Mem>
     requires can { CanTake plan.now kept.old sim.0 }
     requires form { is_built_message message.now ≡ true }
     ensures ok { IfOk result (λ taken. TakenBy plan.now kept.old journal.old.entries sim message.now taken kept.new journal.new.entries) }
@@ -31,7 +38,13 @@ pub fn take(alloc: Global, plan: &Plan, kept: &mut Kept, journal: &mut Journal, 
         return Ok(Taken::Fault(too_long(plan)));
     }
     let state = *kept.sims.at(sim.0 as usize);
-    match wrong(plan, kept.wants.at(sim.0 as usize), sim, &state.place, message) {
+    match wrong(
+        plan,
+        kept.wants.at(sim.0 as usize),
+        sim,
+        &state.place,
+        message,
+    ) {
         Some(cause) => {
             push_message(alloc, journal, sim, message)?;
             Ok(Taken::Fault(fault_by(sim, state.heard, cause)))
@@ -44,7 +57,12 @@ pub fn take(alloc: Global, plan: &Plan, kept: &mut Kept, journal: &mut Journal, 
 }
 
 // Ends the journal with a message of the simulator.
-fn push_message(alloc: Global, journal: &mut Journal, sim: SimNo, message: &Message) -> Result<(), Mem>
+fn push_message(
+    alloc: Global,
+    journal: &mut Journal,
+    sim: SimNo,
+    message: &Message,
+) -> Result<(), Mem>
     ensures ok { IfOk result (λ _. journal.new.entries ≡ journal.old.entries ++ Got sim message.now ∷ []) }
     ensures err { IfErr result (λ _. journal.new.entries ≡ journal.old.entries) }
 {
@@ -67,7 +85,15 @@ fn fault_by(sim: SimNo, heard: u64, cause: Cause) -> CoreFault
 }
 
 // The turn goes on after the message: the GetData is sent, if there is room for it.
-fn go_on(alloc: Global, plan: &Plan, kept: &mut Kept, journal: &mut Journal, sim: SimNo, message: &Message, place: Place) -> Result<Taken, Mem>
+fn go_on(
+    alloc: Global,
+    plan: &Plan,
+    kept: &mut Kept,
+    journal: &mut Journal,
+    sim: SimNo,
+    message: &Message,
+    place: Place,
+) -> Result<Taken, Mem>
     requires can { CanTake plan.now kept.old sim.0 }
     requires room { length journal.old.entries ≢ plan.now.entries }
     requires form { is_built_message message.now ≡ true }
@@ -88,7 +114,13 @@ fn go_on(alloc: Global, plan: &Plan, kept: &mut Kept, journal: &mut Journal, sim
 }
 
 // Ends the journal with a message of the simulator, and with the GetData that is sent after it.
-fn push_answered(alloc: Global, journal: &mut Journal, sim: SimNo, message: &Message, wants: List<Want>) -> Result<(), Mem>
+fn push_answered(
+    alloc: Global,
+    journal: &mut Journal,
+    sim: SimNo,
+    message: &Message,
+    wants: List<Want>,
+) -> Result<(), Mem>
     ensures ok { IfOk result (λ _. journal.new.entries ≡ journal.old.entries ++ Got sim message.now ∷ [] ++ Sent sim (GetData wants) ∷ []) }
     ensures err { IfErr result (λ _. journal.new.entries ≡ journal.old.entries) }
 {
@@ -133,7 +165,12 @@ fn next_in(message: &Message) -> Option<i64>
     ensures { result ≡ next_in message.now }
 {
     match message {
-        Message::Ask { id: _, name: _, args: _, named: _ } => None,
+        Message::Ask {
+            id: _,
+            name: _,
+            args: _,
+            named: _,
+        } => None,
         Message::Success { id: _, content } => next_time(content),
         Message::Failure { id: _, text: _ } => None,
     }
@@ -154,7 +191,14 @@ fn further_sim(sim: &Sim, place: Place, next: Option<i64>) -> Sim
 }
 
 // The turn ends by the message.
-fn end_turn(alloc: Global, plan: &Plan, kept: &mut Kept, journal: &mut Journal, sim: SimNo, message: &Message) -> Result<Taken, Mem>
+fn end_turn(
+    alloc: Global,
+    plan: &Plan,
+    kept: &mut Kept,
+    journal: &mut Journal,
+    sim: SimNo,
+    message: &Message,
+) -> Result<Taken, Mem>
     requires can { CanTake plan.now kept.old sim.0 }
     requires room { length journal.old.entries ≢ plan.now.entries }
     requires form { is_built_message message.now ≡ true }
@@ -165,7 +209,17 @@ fn end_turn(alloc: Global, plan: &Plan, kept: &mut Kept, journal: &mut Journal, 
     let state = *kept.sims.at(sim.0 as usize);
     match (state.place, message) {
         (Place::Stepping { at, id, asks: _ }, Message::Success { id: _, content }) => {
-            close(alloc, plan, kept, journal, sim, message, at, id, next_time(content))?;
+            close(
+                alloc,
+                plan,
+                kept,
+                journal,
+                sim,
+                message,
+                at,
+                id,
+                next_time(content),
+            )?;
             Ok(Taken::Quiet)
         }
         (Place::Fetching { at, id }, Message::Success { id: _, content }) => {
@@ -178,7 +232,13 @@ fn end_turn(alloc: Global, plan: &Plan, kept: &mut Kept, journal: &mut Journal, 
 }
 
 // The times at which a simulator is due after its step at `at`, with the next time that this one returned.
-fn times_after(alloc: Global, plan: &Plan, times: &List<Tier>, at: Tier, next: Option<i64>) -> Result<List<Tier>, Mem>
+fn times_after(
+    alloc: Global,
+    plan: &Plan,
+    times: &List<Tier>,
+    at: Tier,
+    next: Option<i64>,
+) -> Result<List<Tier>, Mem>
     ensures { IfOk result (λ kept. kept ≡ filter (is_since (Some at)) times.now ++ next_dues plan.now next) }
 {
     let mut kept = since(alloc, times, at)?;
@@ -193,7 +253,17 @@ fn times_after(alloc: Global, plan: &Plan, times: &List<Tier>, at: Tier, next: O
 
 // Ends the journal with the message, and keeps that the turn of the simulator at `at` has ended, whose request had this
 // id, with the next time that it returned.
-fn close(alloc: Global, plan: &Plan, kept: &mut Kept, journal: &mut Journal, sim: SimNo, message: &Message, at: Tier, id: u64, next: Option<i64>) -> Result<(), Mem>
+fn close(
+    alloc: Global,
+    plan: &Plan,
+    kept: &mut Kept,
+    journal: &mut Journal,
+    sim: SimNo,
+    message: &Message,
+    at: Tier,
+    id: u64,
+    next: Option<i64>,
+) -> Result<(), Mem>
     requires sims { sim.0 < length kept.old.sims }
     requires dues { sim.0 < length kept.old.dues }
     requires id { id < 2 ^ 32 }

@@ -135,7 +135,15 @@ fn step_through(rt: &impl Abort, alloc: Global) -> Result<(), Mem> {
         asked(rt, &mut core, 0, time as u64 + 3)?;
         waits(rt, &mut core)?;
         let contents = ["1", "2", "3"];
-        give(rt, alloc, &mut core, 0, time as u64 + 3, contents[time as usize], Taken::Quiet)?;
+        give(
+            rt,
+            alloc,
+            &mut core,
+            0,
+            time as u64 + 3,
+            contents[time as usize],
+            Taken::Quiet,
+        )?;
     }
     assert_eq!(rt; core.next()?, Next::Done);
     assert_eq!(rt; core.id_of(SimNo(0)), None);
@@ -161,7 +169,15 @@ fn a_counter_and_a_sum_are_asked_side_by_side(rt: HostRuntime) -> Result<(), Fai
     waits(&rt, &mut core)?;
     give(&rt, alloc, &mut core, 0, 3, "1", Taken::Send)?;
     waits(&rt, &mut core)?;
-    give(&rt, alloc, &mut core, 0, 4, "{\"0\":{\"out\":0}}", Taken::Quiet)?;
+    give(
+        &rt,
+        alloc,
+        &mut core,
+        0,
+        4,
+        "{\"0\":{\"out\":0}}",
+        Taken::Quiet,
+    )?;
     asked(&rt, &mut core, 0, 5)?;
     asked(&rt, &mut core, 1, 3)?;
     waits(&rt, &mut core)?;
@@ -197,7 +213,10 @@ fn the_limit_of_entries_ends_the_run(rt: HostRuntime) -> Result<(), Fail> {
     give(&rt, alloc, &mut core, 0, 3, "1", Taken::Quiet)?;
     asked(&rt, &mut core, 0, 4)?;
     give(&rt, alloc, &mut core, 0, 4, "2", Taken::Quiet)?;
-    assert_eq!(rt; core.next()?, Next::Fault(CoreFault::TooLong { entries: 4 }));
+    assert_eq!(rt;
+        core.next()?,
+        Next::Fault(CoreFault::TooLong { entries: 4 })
+    );
     assert_eq!(rt; core.journal().entries.len(), 4);
     Ok(())
 }

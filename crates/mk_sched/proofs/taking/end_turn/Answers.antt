@@ -19,11 +19,19 @@ returns-in_ok-close-in-Fetching-Success-clause-ok c =
         there = c.at-state.ensures;
         right = subst (λ (s : Sim). wrong c.args.plan.now c.args.sim.0 s.place c.args.message.now ≡ None) same c.requires.right.right;
         last = subst (λ (s : Sim). next_place c.args.plan.now c.args.sim.0 s.place c.args.message.now ≡ None) same c.requires.right.goes;
-        kept = subst (λ (p : Place). EndsAt c.args.plan.now c.args.kept.now c.args.sim.0 c.at-state.result.now c.args.message.now p c.close-in-Fetching-Success.new.kept) (sym c.in-Fetching-Success.is-0)
-            (c.in-Fetching-Success.content, (ap content_of c.in-Fetching-Success.is-1, (
+        kept = subst (λ (p : Place). EndsAt c.args.plan.now c.args.kept.now c.args.sim.0 c.at-state.result.now c.args.message.now p c.close-in-Fetching-Success.new.kept) (sym c.in-Fetching-Success.is-0) (
+          c.in-Fetching-Success.content,
+          (
+            ap content_of c.in-Fetching-Success.is-1,
+            (
               is ∙ ap (ended c.args.plan.now c.args.kept.now c.args.sim.0 c.at-state.result.now c.in-Fetching-Success.at c.in-Fetching-Success.id c.at-state.result.now.next) (sym (ap (λ (k : Kept). k.buffers) is)),
-              (ap (λ (k : Kept). length k.buffers) is ∙ c.in_ok-take_outputs-in-Fetching-Success.ensures.same,
-              subst (λ (h : Held). HasGained c.args.plan.now c.args.sim.0 (data_act c.in-Fetching-Success.at c.in-Fetching-Success.content) (length c.args.plan.now.conns) c.args.kept.now.buffers h) (sym (ap (λ (k : Kept). k.buffers) is)) c.in_ok-take_outputs-in-Fetching-Success.ensures.gained))));
+              (
+                ap (λ (k : Kept). length k.buffers) is ∙ c.in_ok-take_outputs-in-Fetching-Success.ensures.same,
+                subst (λ (h : Held). HasGained c.args.plan.now c.args.sim.0 (data_act c.in-Fetching-Success.at c.in-Fetching-Success.content) (length c.args.plan.now.conns) c.args.kept.now.buffers h) (sym (ap (λ (k : Kept). k.buffers) is)) c.in_ok-take_outputs-in-Fetching-Success.ensures.gained,
+              ),
+            ),
+          ),
+        );
         entries = c.in_ok-close-in-Fetching-Success.ensures.entries;
       },
     )

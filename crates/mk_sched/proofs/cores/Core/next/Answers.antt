@@ -14,7 +14,7 @@ returns-in-Some-OutOfMemory-clause-stands c = rw (← c.self.view_is) (stands_of
 pub invariant_of-self : goal.invariant_of-self
 invariant_of-self c = subst (λ (e : Option Ended). IsKept c.self.inside.plan c.advance-answer.new.journal.entries c.advance-answer.new.kept e) (sym c.end_after_next-self-inside.ensures)
     (next_kept c.self.inside.plan c.self.inside.journal.entries c.self.inside.kept (subst (λ (e : Option Ended). IsKept c.self.inside.plan c.self.inside.journal.entries c.self.inside.kept e) c.in-None.is c.self.invariant)
-        c.advance-answer.result c.advance-answer.new.kept c.advance-answer.new.journal.entries c.advance-answer.ensures.ok c.advance-answer.ensures.err)
+    c.advance-answer.result c.advance-answer.new.kept c.advance-answer.new.journal.entries c.advance-answer.ensures.ok c.advance-answer.ensures.err)
 
 pub returns-clause-stands : goal.returns-clause-stands
 returns-clause-stands c = stands_of _ _ _ _ (invariant_of-self c)
@@ -22,4 +22,4 @@ returns-clause-stands c = stands_of _ _ _ _ (invariant_of-self c)
 pub returns-clause-ok : goal.returns-clause-ok
 returns-clause-ok c = rw (← c.self.view_is, c.in-None.is, c.end_after_next-self-inside.ensures)
     (next_ok c.self.inside.plan c.self.inside.journal.entries c.self.inside.kept (subst (λ (e : Option Ended). IsKept c.self.inside.plan c.self.inside.journal.entries c.self.inside.kept e) c.in-None.is c.self.invariant)
-        c.advance-answer.result c.advance-answer.new.kept c.advance-answer.new.journal.entries c.advance-answer.ensures.ok)
+    c.advance-answer.result c.advance-answer.new.kept c.advance-answer.new.journal.entries c.advance-answer.ensures.ok)
