@@ -7,10 +7,11 @@ ghost use Rattle.mk_buffers.specs.Held.{Holds, with_output};
 
 use crate::candidate::{Candidate, pick};
 use crate::made::Made;
-use crate::names::{full_id, owner};
+use crate::names::full_id;
 use crate::sorted::put_given;
 use mk_base::{Datum, List, Mem, SimNo, Tier};
 use mk_plan::{Conn, Input, Plan};
+use mk_turns::owner;
 use std::alloc::Global;
 use std::marker::Model;
 

@@ -10,4 +10,4 @@ mod sorted;
 mod tests;
 
 pub use buffers::Buffers;
-pub use names::{full_id, owner};
+pub use names::full_id;

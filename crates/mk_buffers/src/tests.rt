@@ -2,7 +2,7 @@ ghost use Rattle.std.specs.Prelude.{◌≡◌, ◌<◌, ◌≤◌, pos, ◌≤�
 ghost use Rattle.std.specs.Bool.{OnTrue};
 ghost use Rattle.mk_plan.specs.Plans.{RefersInside};
 
-use crate::{Buffers, full_id, owner};
+use crate::{Buffers, full_id};
 use mk_base::{Datum, List, Mem, SimKind, SimNo, Text, Tier, Via};
 use mk_plan::{AsyncPair, Conn, Input, Plan, PlanEntity, PlanModel, PlanSim};
 use std::alloc::Global;
@@ -316,12 +316,11 @@ fn inputs_come_by_eid_then_attribute_then_source(rt: HostRuntime) -> Result<(), 
 }
 
 #[test]
-fn an_entity_has_its_owner_and_its_full_id(rt: HostRuntime) -> Result<(), Fail> {
+fn an_entity_has_its_full_id(rt: HostRuntime) -> Result<(), Fail> {
     let alloc = rt.alloc();
     let plan = plan(alloc, Vec::new(alloc))?;
     assert!(rt; is_inside(&plan));
     assert_eq!(rt; plan.entities.len(), 4);
-    assert_eq!(rt; owner(&plan, 3), SimNo(1));
     assert_eq!(rt; full_id(alloc, &plan, 3)?.as_str(), "B-0.1");
     Ok(())
 }

@@ -1,9 +1,17 @@
-// Messages, as they stand on a link.
+// Messages, items and calls, as they stand on a link.
 #![tactic(auto)]
 
+mod calls;
+mod groups;
+mod items;
 mod reading;
+mod writing;
 
+pub use calls::write_call;
+pub use groups::{inputs_bytes, wanted_bytes};
+pub use items::write_item;
 pub use reading::{ReadFault, read, read_tree};
+pub use writing::write;
 
 #[cfg(test)]
 mod tests;

@@ -1,6 +1,8 @@
 // From a payload to its message.
 ghost use Rattle.std.specs.Prelude.{◌≡◌, ℕ, true, Ok, Err, None, Some, IfOk, option_map};
-ghost use Rattle.mk_base.specs.Trees.{is_object, is_in_range};
+ghost use Rattle.mk_base.specs.Trees as trees;
+ghost use Rattle.mk_base.specs.Trees.{is_object};
+ghost use Rattle.mk_message.specs.Written.{is_in_range};
 ghost use Rattle.mk_message.specs.Messages.{kind_in, id_in, request_in, content_in, message_in, message_of};
 
 use mk_base::{Json, Mem};
@@ -46,6 +48,7 @@ pub fn read(alloc: Global, payload: &[u8]) -> Result<Message, ReadFault>
     ensures ok { IfOk result (λ m. message_of payload.now ≡ Ok m) }
     ensures refused { (n : ℕ) → result ≡ Err (ReadFault.NotAMessage n)
         → message_of payload.now ≡ Err n }
+    ensures in_range { IfOk result (λ m. is_in_range m ≡ true) }
 {
     match read_json(alloc, payload) {
         Ok(tree) => read_tree(alloc, &tree),
@@ -56,6 +59,16 @@ pub fn read(alloc: Global, payload: &[u8]) -> Result<Message, ReadFault>
 
 /// The message that a tree has, or the first of the tests 2 to 5 that it fails.
 pub fn read_tree(alloc: Global, tree: &Json) -> Result<Message, ReadFault>
+    ensures ok { IfOk result (λ m. message_in tree.now ≡ Ok m) }
+    ensures refused { (n : ℕ) → result ≡ Err (ReadFault.NotAMessage n)
+        → message_in tree.now ≡ Err n }
+    ensures in_range { IfOk result
+        (λ m. trees.is_in_range tree.now ≡ true → is_in_range m ≡ true) }
+{
+    message_of_tree(alloc, tree)
+}
+
+fn message_of_tree(alloc: Global, tree: &Json) -> Result<Message, ReadFault>
     ensures ok { IfOk result (λ m. message_in tree.now ≡ Ok m) }
     ensures refused { (n : ℕ) → result ≡ Err (ReadFault.NotAMessage n)
         → message_in tree.now ≡ Err n }

@@ -1,5 +1,6 @@
 use Rattle.mk_plan.specs.Inputs.{input_order}
-use Rattle.mk_buffers.proofs.Putting.{put_found, put_unfound, inputs_total, on_ok}
+use Rattle.mk_turns.proofs.Putting.{put_found, put_unfound, on_ok}
+use Rattle.mk_buffers.proofs.Putting.{inputs_total}
 use Rattle.mk_buffers.proofs.sorted.put_input.Goals as goal
 
 pub returns-in-Ok-clause-put : goal.returns-in-Ok-clause-put

@@ -1,0 +1,6 @@
+use Rattle.std.proofs.Common.{◌≡◌, take}
+use Rattle.mk_cycles.specs.Outcomes.{numbers}
+use Rattle.mk_cycles.proofs.back.as_sims.Given as goal
+
+abbrev pub invariant-loop-number : goal.invariant-loop-number
+invariant-loop-number l = numbers l.sims ≡ take l.number-index l.numbered

@@ -1,0 +1,7 @@
+use Rattle.std.proofs.Common.{◌≡◌, ℕ, ◌<◌, true}
+use Rattle.mk_base.specs.Lists.{IsIn}
+use Rattle.mk_cycles.specs.Tables.{leads}
+use Rattle.mk_cycles.proofs.places.may_follow.Given as goal
+
+abbrev pub invariant-loop-from : goal.invariant-loop-from
+invariant-loop-from l = (p : ℕ) → p < l.from → leads l.table p l.sim ≡ true → IsIn p l.placed.order

@@ -1,0 +1,12 @@
+// Ranks of simulators along edges, or a cycle.
+#![tactic(auto)]
+
+mod back;
+mod listed;
+mod places;
+mod ranking;
+mod table;
+#[cfg(test)]
+mod tests;
+
+pub use ranking::{CycleFault, Edge, ranks};

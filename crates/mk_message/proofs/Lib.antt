@@ -1,0 +1,4 @@
+pub mod Gathering
+pub mod Parameters
+pub mod Ranges
+pub mod ReadBack

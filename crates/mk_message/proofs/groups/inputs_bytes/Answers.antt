@@ -1,0 +1,12 @@
+use Rattle.std.proofs.Common.{◌≡◌, ◌∷◌, ◌++◌, ◌-◌, length, take, drop, arith, sym, ap, ◌∙◌}
+use Rattle.mk_plan.specs.Report.{inputs_text}
+use Rattle.mk_message.specs.Streams.{rest_of, by_entity}
+use Rattle.mk_message.proofs.Gathering.{split_first, inputs_text-streamed}
+use Rattle.mk_message.proofs.groups.inputs_bytes.Goals as goal
+
+pub returns-in_ok-put_inputs-in-len1-up : goal.returns-in_ok-put_inputs-in-len1-up
+returns-in_ok-put_inputs-in-len1-up c =
+    let xs = c.as_slice.result.now in
+    let x = c.first-item.result in
+    let whole : xs ≡ x ∷ take (length xs - 1) (drop 1 xs) = split_first xs x (omega arith) c.first-item.is in
+    c.in_ok-put_inputs-in-len1-up.ensures ∙ ap (λ l. l ++ (by_entity.first x ++ rest_of by_entity x (take (length xs - 1) (drop 1 xs)))) c.new-out.ensures.items ∙ sym (inputs_text-streamed x (take (length xs - 1) (drop 1 xs))) ∙ ap inputs_text (sym whole ∙ c.as_slice.ensures)

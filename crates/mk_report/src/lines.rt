@@ -1,0 +1,77 @@
+ghost use Rattle.std.specs.Prelude.{◌≡◌, ◌++◌, codes, OnOk};
+ghost use Rattle.std.specs.Fmt.{decimal, signed_decimal};
+ghost use Rattle.mk_plan.specs.Report.{line_of, inputs_text};
+
+use mk_base::{List, Mem, Tier};
+use mk_plan::{Input, Item};
+use mk_message::inputs_bytes;
+use std::alloc::Global;
+
+// Appends an item's line; nothing for a GetData.
+pub fn put_line(alloc: Global, out: &mut Vec<u8>, item: &Item) -> Result<(), Mem>
+    ensures { OnOk result (out.new.items ≡ out.old.items ++ line_of item.now) }
+{
+    match item {
+        Item::Step {
+            at,
+            inputs,
+            max_advance: _,
+        } => put_step(alloc, out, at, inputs),
+        Item::GetData { wanted: _ } => Ok(()),
+        Item::Answer { id, content } => {
+            put(out, "answer ")?;
+            put_number(alloc, out, *id)?;
+            put(out, " ")?;
+            put_bytes(out, content.bytes())?;
+            put(out, "\n")
+        }
+        Item::Refuse { id, reason } => {
+            put(out, "refuse ")?;
+            put_number(alloc, out, *id)?;
+            put(out, " ")?;
+            put_number(alloc, out, *reason as u64)?;
+            put(out, "\n")
+        }
+    }
+}
+
+// Appends a Step's line: its time and tier, and its inputs.
+fn put_step(alloc: Global, out: &mut Vec<u8>, at: &Tier, inputs: &List<Input>) -> Result<(), Mem>
+    ensures { OnOk result (out.new.items ≡ out.old.items ++ (codes "step " ++ signed_decimal at.now.time ++ codes ":" ++ decimal at.now.tier ++ codes " " ++ inputs_text inputs.now ++ codes "\n")) }
+{
+    put(out, "step ")?;
+    put_bytes(out, at.time.to_string(alloc)?.as_bytes())?;
+    put(out, ":")?;
+    put_number(alloc, out, at.tier as u64)?;
+    put(out, " ")?;
+    put_bytes(out, inputs_bytes(alloc, inputs)?.as_slice())?;
+    put(out, "\n")
+}
+
+pub fn put(out: &mut Vec<u8>, text: &str) -> Result<(), Mem>
+    ensures { OnOk result (out.new.items ≡ out.old.items ++ text.now) }
+{
+    put_bytes(out, text.as_bytes())
+}
+
+pub fn put_bytes(out: &mut Vec<u8>, bytes: &[u8]) -> Result<(), Mem>
+    ensures { OnOk result (out.new.items ≡ out.old.items ++ bytes.now) }
+{
+    out.extend_from_slice(bytes)?;
+    Ok(())
+}
+
+fn put_number(alloc: Global, out: &mut Vec<u8>, n: u64) -> Result<(), Mem>
+    ensures { OnOk result (out.new.items ≡ out.old.items ++ decimal n) }
+{
+    put_bytes(out, n.to_string(alloc)?.as_bytes())
+}
+
+// Appends the last line, with the number of all Steps.
+pub fn put_total(alloc: Global, out: &mut Vec<u8>, total: u128) -> Result<(), Mem>
+    ensures { OnOk result (out.new.items ≡ out.old.items ++ (codes "end " ++ decimal total ++ codes "\n")) }
+{
+    put(out, "end ")?;
+    put_bytes(out, total.to_string(alloc)?.as_bytes())?;
+    put(out, "\n")
+}

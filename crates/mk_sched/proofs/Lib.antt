@@ -1,0 +1,12 @@
+pub mod LeftOut
+pub mod Readiness
+pub mod OneSim
+pub mod Places
+pub mod Mirroring
+pub mod Standing
+pub mod Asked
+pub mod Data
+pub mod Grown
+pub mod Arrived
+pub mod Beginning
+pub mod Shapes

@@ -1,0 +1,23 @@
+-- What a core is seen as, and what stands of every core.
+use Rattle.std.specs.Prelude.{◌≡◌, ℕ, ◌≤◌, List, length, Option}
+use Rattle.mk_plan.specs.declared.Plan.{Plan}
+use Rattle.mk_plan.specs.declared.Entry.{Entry}
+use Rattle.mk_plan.specs.Plans.{IsValidPlan}
+use Rattle.mk_plan.specs.Orderly.{IsOrderly}
+use Rattle.mk_plan.specs.Agreement.{Agrees}
+use Rattle.mk_sched.specs.declared.faults.Ended.{Ended}
+use Rattle.mk_sched.specs.Built.{IsBuiltPlan}
+
+-- its plan, the entries of its journal, and what it answers from now on, if it has ended
+pub record CoreState : Type 0 where
+  pub plan : Plan
+  pub entries : List Entry
+  pub ended : Option Ended
+
+-- the plan is valid and of a built form; the journal is orderly, agrees with sequential execution, and keeps to the limit of entries
+pub record Stands (P : Plan) (J : List Entry) : Type 0 where
+  pub valid : IsValidPlan P
+  pub built : IsBuiltPlan P
+  pub orderly : IsOrderly P J
+  pub agrees : Agrees P J
+  pub within : length J ≤ P.entries

@@ -1,0 +1,224 @@
+ghost use Rattle.std.specs.Prelude.{◌≡◌, ◌<◌, ◌^◌, ◌≤◌, ◌∷◌, [], length, true, IfOk, IfErr, OnErr, Some, None, slice_get, filter, pos};
+ghost use Rattle.mk_plan.specs.Due.{is_within};
+ghost use Rattle.mk_plan.specs.Plans.{IsValidPlan, sim_count};
+ghost use Rattle.mk_plan.specs.Turns.{wanted};
+ghost use Rattle.mk_base.specs.Tiers.{moment};
+ghost use Rattle.mk_sched.specs.Built.{IsBuiltPlan, is_built_message};
+ghost use Rattle.mk_sched.specs.Cores.{CoreState, Stands};
+ghost use Rattle.mk_sched.specs.Answers.{NextOf, ArriveOf, IsOutOfMemory, open_id, id_at};
+ghost use Rattle.mk_sched.specs.Mirrors.{IsNewKept, new_sim};
+ghost use Rattle.mk_sched.specs.Moves.{end_after_next, end_after_arrive};
+
+use crate::asking::advance;
+use crate::faults::{Ended, Next, Taken};
+use crate::ready::place_in;
+use crate::sims::{Kept, Sim, is_within};
+use crate::taking::take;
+use mk_base::{List, Mem, SimNo, Tier};
+use mk_buffers::Buffers;
+use mk_plan::{Journal, Message, Place, Plan};
+use mk_turns::wanted;
+use std::alloc::Global;
+use std::marker::Model;
+
+/// A run of a plan: the journal so far, and what happens next.
+///
+/// Contracts see it as its plan, the entries of its journal, and what it answers from now on, if it has met a fault or want
+/// of memory. Its journal is orderly and agrees with sequential execution over all messages that may still come, which
+/// `journal` says.
+#[derive(Drop)]
+pub struct Core {
+    alloc: Global,
+    plan: Plan,
+    journal: Journal,
+    kept: Kept,
+    ended: Option<Ended>,
+}
+
+impl Model for Core {
+    ghost use Rattle.mk_sched.specs.Cores.{CoreState};
+    ghost use Rattle.mk_sched.specs.Mirrors.{IsKept};
+    ghost use Rattle.mk_base.specs.contracts.json.Json as json;
+    ghost use Rattle.std.specs.Coded.{codes};
+
+    ghost Value = { CoreState };
+
+    ghost coded = { Prim.hlevel (codes, json.the_row.coded) };
+
+    ghost view = { λ a. record { plan = a.plan; entries = a.journal.entries; ended = a.ended } };
+
+    ghost invariant = { λ a. IsKept a.plan a.journal.entries a.kept a.ended };
+}
+
+impl Core {
+    /// The core of a run that has not begun.
+    pub fn new(alloc: Global, plan: Plan) -> Result<Core, Mem>
+        requires valid { IsValidPlan plan }
+        requires built { IsBuiltPlan plan }
+        ensures { IfOk result (λ core. core ≡ record { plan = plan; entries = []; ended = None }) }
+    {
+        let kept = new_kept(alloc, &plan)?;
+        let journal = Journal {
+            entries: List::new(alloc),
+        };
+        Ok(Core {
+            alloc,
+            plan,
+            journal,
+            kept,
+            ended: None,
+        })
+    }
+
+    /// What is to be done next. Where a simulator is ready, and the journal has room, the first such one is asked: the
+    /// journal then ends with its Step. After a fault it is that fault, and nothing changes; after want of memory it is want of memory.
+    pub fn next(&mut self) -> Result<Next, Mem>
+        ensures ok { IfOk result (λ next. NextOf self.old next self.new) }
+        ensures err { IfErr result (λ _. IsOutOfMemory self.old self.new) }
+        ensures stands { Stands self.new.plan self.new.entries }
+    {
+        match self.ended {
+            Some(Ended::Faulty(fault)) => return Ok(Next::Fault(fault)),
+            Some(Ended::OutOfMemory) => return Err(Mem),
+            None => {}
+        }
+        let answer = advance(self.alloc, &self.plan, &mut self.kept, &mut self.journal);
+        self.ended = end_after_next(&answer);
+        answer
+    }
+
+    /// Takes a message of a simulator: the journal gets it, and what is owed after it, which is then to be sent to that simulator. After a
+    /// fault it is that fault, and nothing changes; after want of memory it is want of memory.
+    pub fn arrive(&mut self, sim: SimNo, message: &Message) -> Result<Taken, Mem>
+        requires there { sim.0 < sim_count self.old.plan }
+        requires form { is_built_message message.now ≡ true }
+        ensures ok { IfOk result (λ taken. ArriveOf self.old sim message.now taken self.new) }
+        ensures err { IfErr result (λ _. IsOutOfMemory self.old self.new) }
+        ensures stands { Stands self.new.plan self.new.entries }
+    {
+        match self.ended {
+            Some(Ended::Faulty(fault)) => return Ok(Taken::Fault(fault)),
+            Some(Ended::OutOfMemory) => return Err(Mem),
+            None => {}
+        }
+        let answer = take(
+            self.alloc,
+            &self.plan,
+            &mut self.kept,
+            &mut self.journal,
+            sim,
+            message,
+        );
+        self.ended = end_after_arrive(&answer);
+        answer
+    }
+
+    /// The id of the request that is open at the simulator, while the core has not ended; `None` exactly where nothing is open.
+    pub fn id_of(&self, sim: SimNo) -> Option<u64>
+        requires there { sim.0 < sim_count self.now.plan }
+        ensures { self.now.ended ≡ None → result ≡ open_id self.now sim.0 }
+    {
+        id_at(&place_in(&self.kept.sims, sim))
+    }
+
+    pub fn plan(&self) -> &Plan
+        ensures { result.now ≡ self.now.plan }
+    {
+        &self.plan
+    }
+
+    /// The journal: orderly, in agreement with sequential execution, and no longer than the plan allows.
+    pub fn journal(&self) -> &Journal
+        ensures same { result.now.entries ≡ self.now.entries }
+        ensures stands { Stands self.now.plan self.now.entries }
+    {
+        &self.journal
+    }
+
+    pub fn into_parts(self) -> (Plan, Journal)
+        ensures plan { result.0 ≡ self.plan }
+        ensures journal { result.1.entries ≡ self.entries }
+        ensures stands { Stands self.plan self.entries }
+    {
+        (self.plan, self.journal)
+    }
+}
+
+// What the core answers after this answer, if it has ended.
+fn end_after_next(answer: &Result<Next, Mem>) -> Option<Ended>
+    ensures { result ≡ end_after_next answer.now }
+{
+    match answer {
+        Ok(Next::Fault(fault)) => Some(Ended::Faulty(*fault)),
+        Ok(_) => None,
+        Err(_) => Some(Ended::OutOfMemory),
+    }
+}
+
+// What the core answers after this answer, if it has ended.
+fn end_after_arrive(answer: &Result<Taken, Mem>) -> Option<Ended>
+    ensures { result ≡ end_after_arrive answer.now }
+{
+    match answer {
+        Ok(Taken::Fault(fault)) => Some(Ended::Faulty(*fault)),
+        Ok(_) => None,
+        Err(_) => Some(Ended::OutOfMemory),
+    }
+}
+
+// The id of what is open.
+fn id_at(place: &Place) -> Option<u64>
+    ensures { result ≡ id_at place.now }
+{
+    match place {
+        Place::Idle => None,
+        Place::Stepping { at: _, id, asks: _ } => Some(*id),
+        Place::Fetching { at: _, id } => Some(*id),
+    }
+}
+
+// What is kept before any entry.
+fn new_kept(alloc: Global, plan: &Plan) -> Result<Kept, Mem>
+    requires few { length plan.now.sims < 2 ^ 32 }
+    ensures { IfOk result (λ kept. IsNewKept plan.now kept) }
+{
+    let mut sims = List::new(alloc);
+    let mut dues = List::new(alloc);
+    let mut wants = List::new(alloc);
+    for (number, sim) in plan.sims.as_slice().iter().enumerate() {
+        sims.push(new_sim(sim.first_id))?;
+        dues.push(new_dues(alloc, plan)?)?;
+        wants.push(wanted(alloc, plan, SimNo(number as u32))?)?;
+    }
+    Ok(Kept {
+        sims,
+        dues,
+        wants,
+        buffers: Buffers::new(alloc, plan)?,
+    })
+}
+
+// A simulator before its first step.
+fn new_sim(first_id: u64) -> Sim
+    ensures { result ≡ new_sim first_id }
+{
+    Sim {
+        place: Place::Idle,
+        last: None,
+        next: None,
+        next_id: first_id,
+        heard: 0,
+    }
+}
+
+// The times at which a time-based simulator is due before its first step.
+fn new_dues(alloc: Global, plan: &Plan) -> Result<List<Tier>, Mem>
+    ensures { IfOk result (λ times. times ≡ filter (is_within plan.now) (moment (pos 0) ∷ [])) }
+{
+    let mut times = List::new(alloc);
+    let start = Tier { time: 0, tier: 0 };
+    if is_within(plan, start) {
+        times.push(start)?;
+    }
+    Ok(times)
+}
