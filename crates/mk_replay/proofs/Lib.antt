@@ -1,0 +1,4 @@
+pub mod Counting
+pub mod Giving
+pub mod Known
+pub mod Pushing

@@ -1,0 +1,143 @@
+ghost use Rattle.std.specs.Prelude.{◌≡◌, ◌<◌, ◌^◌, List, [], None, true, map, All, IfOk, is_some, if◌then◌else◌};
+ghost use Rattle.mk_plan.specs.Plans.{IsValidPlan, sim_count};
+ghost use Rattle.mk_plan.specs.Journals as journals;
+ghost use Rattle.mk_plan.specs.Journals.{view, open_count};
+ghost use Rattle.mk_record.specs.Built.{is_built_record};
+ghost use Rattle.mk_record.specs.Seen.{came};
+ghost use Rattle.mk_record.specs.Steps.{IsKnown};
+ghost use Rattle.mk_sched.specs.Answers.{open_id};
+ghost use Rattle.mk_replay.specs.Replays.{IsReplay, EndsBy};
+ghost use Rattle.mk_replay.specs.Loops.{CanArrive, GivenBy, IsOnWay, IsRun, IsSettled, IsUnready};
+
+use mk_base::{List, Mem, SimNo};
+use mk_plan::{Journal, Plan};
+use mk_record::{Arrival, Saved};
+use mk_sched::{Core, CoreFault, Next, Taken};
+use std::alloc::Global;
+
+/// How a replay ends: nothing is left to do; the core met a fault; or all messages were given, and this many simulators
+/// still owe a reply.
+#[derive(Clone, Copy, Debug, PartialEq, Eq)]
+pub enum ReplayEnd {
+    Done,
+    Core(CoreFault),
+    Short(u32),
+}
+
+/// What a replay comes to: its end, the plan, and the journal as far as it came.
+#[derive(Drop)]
+pub struct Replayed {
+    pub end: ReplayEnd,
+    pub plan: Plan,
+    pub journal: Journal,
+}
+
+/// Runs the plan of a record over the messages that came. Whoever is ready is asked first; then one message is given, and so
+/// on, up to the first fault, or until all were given and nobody is ready.
+pub fn replay(alloc: Global, saved: Saved) -> Result<Replayed, Mem>
+    requires valid { IsValidPlan saved.plan }
+    requires built { is_built_record saved.plan (map came saved.arrivals) ≡ true }
+    requires known { All (IsKnown saved.plan) (map came saved.arrivals) }
+    ensures plan { IfOk result (λ r. r.plan ≡ saved.plan) }
+    ensures replay { IfOk result (λ r. IsReplay saved.plan (map came saved.arrivals) r.journal.entries) }
+    ensures end { IfOk result (λ r. EndsBy saved.plan (map came saved.arrivals) r.journal.entries r.end) }
+{
+    let arrivals = saved.arrivals;
+    let mut core = Core::new(alloc, saved.plan)?;
+    let end = run(&mut core, &arrivals)?;
+    let (plan, journal) = core.into_parts();
+    Ok(Replayed { end, plan, journal })
+}
+
+// Gives these messages to a new core.
+fn run(core: &mut Core, arrivals: &List<Arrival>) -> Result<ReplayEnd, Mem>
+    requires new { core.old ≡ record { plan = core.old.plan; entries = []; ended = None } }
+    requires known { All (CanArrive core.old.plan) arrivals.now }
+    ensures { IfOk result (λ end. IsRun core.old.plan (map came arrivals.now) end core.new) }
+{
+    for arrival in arrivals.as_slice() {
+        if let Some(fault) = give(core, arrival)? {
+            return Ok(ReplayEnd::Core(fault));
+        }
+    }
+    finish(core)
+}
+
+// Asks whoever is ready, and then gives one message; the fault that ends the replay, if there is one.
+fn give(core: &mut Core, arrival: &Arrival) -> Result<Option<CoreFault>, Mem>
+    requires going { core.old.ended ≡ None }
+    requires known { CanArrive core.old.plan arrival.now }
+    ensures { IfOk result (λ fault. GivenBy core.old (came arrival.now) fault core.new) }
+{
+    match settle(core)? {
+        Next::Fault(fault) => Ok(Some(fault)),
+        Next::Ask(_) => Ok(None),
+        Next::Wait => take(core, arrival),
+        Next::Done => take(core, arrival),
+    }
+}
+
+// Gives one message; the fault that it makes.
+fn take(core: &mut Core, arrival: &Arrival) -> Result<Option<CoreFault>, Mem>
+    requires going { core.old.ended ≡ None }
+    requires known { CanArrive core.old.plan arrival.now }
+    requires nobody { IsUnready core.old }
+    ensures { IfOk result (λ fault. GivenBy core.old (came arrival.now) fault core.new) }
+{
+    match core.arrive(arrival.sim, &arrival.message)? {
+        Taken::Quiet => Ok(None),
+        Taken::Send => Ok(None),
+        Taken::Fault(fault) => Ok(Some(fault)),
+    }
+}
+
+// Asks whoever is ready after the last message; how the replay of all messages ends.
+fn finish(core: &mut Core) -> Result<ReplayEnd, Mem>
+    requires going { core.old.ended ≡ None }
+    ensures { (A : List journals.Arrival) → IsOnWay core.old.plan A core.old.entries → IfOk result (λ end. IsRun core.old.plan A end core.new) }
+{
+    match settle(core)? {
+        Next::Fault(fault) => Ok(ReplayEnd::Core(fault)),
+        Next::Done => Ok(ReplayEnd::Done),
+        Next::Ask(_) => Ok(ReplayEnd::Done),
+        Next::Wait => Ok(ReplayEnd::Short(open_count(core))),
+    }
+}
+
+// Asks whoever is ready, until nobody is.
+fn settle(core: &mut Core) -> Result<Next, Mem>
+    requires going { core.old.ended ≡ None }
+    ensures { IfOk result (λ next. IsSettled core.old next core.new) }
+{
+    'asking: loop {
+        match core.next()? {
+            Next::Ask(_) => {}
+            Next::Wait => return Ok(Next::Wait),
+            Next::Done => return Ok(Next::Done),
+            Next::Fault(fault) => return Ok(Next::Fault(fault)),
+        }
+    }
+}
+
+// At how many simulators a request is open.
+fn open_count(core: &Core) -> u32
+    requires going { core.now.ended ≡ None }
+    requires few { sim_count core.now.plan < 2 ^ 32 }
+    ensures { result ≡ open_count core.now.plan (view core.now.plan core.now.entries) }
+{
+    let mut count = 0;
+    let sims = core.plan().sims.len() as u32;
+    for number in 0..sims {
+        count += open_at(core, SimNo(number));
+    }
+    count
+}
+
+// How many requests are open at the simulator: one or none.
+fn open_at(core: &Core, sim: SimNo) -> u32
+    requires going { core.now.ended ≡ None }
+    requires there { sim.0 < sim_count core.now.plan }
+    ensures { result ≡ (if is_some (open_id core.now sim.0) then 1 else 0) }
+{
+    if core.id_of(sim).is_some() { 1 } else { 0 }
+}
