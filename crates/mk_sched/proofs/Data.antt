@@ -19,10 +19,12 @@ use Rattle.mk_plan.specs.declared.Place.TheVariants.{Idle, Stepping, Fetching}
 use Rattle.mk_plan.specs.declared.Cause.{Cause}
 use Rattle.mk_plan.specs.declared.Cause.TheVariants.{Wrong, Failed}
 use Rattle.mk_plan.specs.Plans.{has_outputs}
-use Rattle.mk_plan.specs.Turns.{unasked, first_cause, is_number, time_in, holds_of, part_for, value_for, wrong, wrong_data, next_place}
+use Rattle.mk_plan.specs.Turns.{unasked, first_cause, is_number, time_in, holds_of, part_for, value_for, wrong, wrong_data, next_place, wanted}
 use Rattle.mk_plan.specs.Acts.{content_of}
+use Rattle.mk_turns.proofs.Right.{right_value_is_datum, right_data_reply}
+use Rattle.mk_turns.proofs.Taken.{taken, taken_is_wanted}
 use Rattle.mk_sched.specs.Built.{is_built_message}
-use Rattle.mk_sched.specs.Moves.{IsInRun, CanBeMade, made_at}
+use Rattle.mk_sched.specs.Moves.{IsInRun, CanBeMade, HasValues, made_at}
 
 -- ---- numbers in range
 
@@ -152,3 +154,7 @@ right_reply P i (Fetching at id) (Failure n text) right form = absurd (failed (n
     failed : (b : Bool) → (if b then Some Failed else Some (Wrong unasked)) ≡ None → ⊥
     failed true e = none_some (sym e)
     failed false e = none_some (sym e)
+
+-- the data of a right message have values that a simulator may give
+pub has_values : (P : Plan) (i : ℕ) (x : Tier) (id n : ℕ) (content : Json) → wrong P i (Fetching x id) (Success n content) ≡ None → HasValues P i content
+has_values P i x id n content right c m mine v is = right_value_is_datum (wanted P i) x content (taken P c) v (right_data_reply P i x id n content right).1 (taken_is_wanted P c i m mine) is

@@ -3,8 +3,9 @@ use Rattle.std.specs.Prelude.{◌≡◌, ◌≢◌, not, Result, Ok, Err, ℕ, �
 use Rattle.mk_base.specs.declared.SimNo.{SimNo}
 use Rattle.mk_base.specs.declared.tier.Tier.{Tier}
 use Rattle.mk_base.specs.declared.json.Json.{Json}
+use Rattle.mk_base.specs.Lists.{IsIn}
 use Rattle.mk_base.specs.Tiers.{moment}
-use Rattle.mk_base.specs.Trees.{whole_in, member}
+use Rattle.mk_base.specs.Trees.{whole_in, member, is_datum}
 use Rattle.mk_base.specs.Texts.{text_of}
 use Rattle.mk_plan.specs.declared.Plan.{Plan}
 use Rattle.mk_plan.specs.declared.Conn.{Conn}
@@ -64,6 +65,10 @@ data_act x content = record { at = x; messages = Success 0 content ∷ Success 0
 -- what a turn of s gives a connection
 abbrev pub gained : Plan → ℕ → Act → Conn → List Timed
 gained P s a c = if owner P c.from == s then option_to_list (option_map (λ v. let t : Timed = record { at = made a; value = v } in t) (output P a c.from c.from_attr)) else []
+
+-- each value that the data of simulator i give a connection is one that a simulator may give
+abbrev pub HasValues : Plan → ℕ → Json → Type 0
+HasValues P i content = (c : Conn) → IsIn c P.conns → owner P c.from ≡ i → (v : Json) → option_and_then (member c.from_attr) (member (eid_of P c.from) content) ≡ Some v → is_datum v ≡ true
 
 -- the connections before the place n have what the turn gave them, and the others are as they were
 abbrev pub HasGained : Plan → ℕ → Act → ℕ → Held → Held → Type 0

@@ -2,12 +2,12 @@ ghost use Rattle.std.specs.Prelude.{◌≡◌, ◌+◌, ◌≤◌, ◌<◌, ◌�
 ghost use Rattle.std.specs.Option.{ForSome};
 ghost use Rattle.std.specs.Int.{w64};
 ghost use Rattle.mk_base.specs.Texts.{text_of};
-ghost use Rattle.mk_base.specs.Trees.{member, is_in_range, whole_in};
+ghost use Rattle.mk_base.specs.Trees.{member, is_in_range, is_datum, whole_in};
 ghost use Rattle.mk_plan.specs.Plans.{RefersInside, owner, eid_of};
 ghost use Rattle.mk_plan.specs.Turns.{wanted, wrong_data, time_in};
 ghost use Rattle.mk_base.specs.declared.tier.Tier.{Tier};
 ghost use Rattle.mk_buffers.specs.Held.{Held};
-ghost use Rattle.mk_sched.specs.Moves.{HasGained, CanBeMade, data_act, made_at};
+ghost use Rattle.mk_sched.specs.Moves.{HasGained, CanBeMade, HasValues, data_act, made_at};
 
 use mk_base::{Datum, Json, Mem, SimNo, Tier};
 use mk_buffers::Buffers;
@@ -28,6 +28,7 @@ pub fn take_outputs(
     requires references { RefersInside plan.now }
     requires of_plan { length buffers.old ≡ length plan.now.conns }
     requires in_range { is_in_range content.now ≡ true }
+    requires values { HasValues plan.now sim.0 content.now }
     requires fits { ForSome (option_and_then whole_in (time_in content.now)) (λ n. FitsSigned w64 n) }
     requires makeable { CanBeMade (made_at at content.now) }
     ensures same { IfOk result (λ _. length buffers.new ≡ length buffers.old) }
@@ -54,6 +55,7 @@ fn take_output(
     requires there { place < length plan.now.conns }
     requires of_plan { length buffers.old ≡ length plan.now.conns }
     requires in_range { is_in_range content.now ≡ true }
+    requires values { HasValues plan.now sim.0 content.now }
     requires early { pos 0 ≤ℤ made.time }
     requires late { made.time ≤ℤ pos 1000000000000000000 }
     requires low { made.tier ≤ 1000000 }
@@ -83,9 +85,10 @@ fn value_for<'a>(plan: &Plan, conn: &Conn, content: &'a Json) -> Option<&'a Json
     }
 }
 
-// The text of a value.
+// The text of a value that a simulator may give.
 fn datum_of(alloc: Global, value: &Json) -> Result<Datum, Mem>
-    requires { is_in_range value.now ≡ true }
+    requires in_range { is_in_range value.now ≡ true }
+    requires value { is_datum value.now ≡ true }
     ensures { IfOk result (λ text. text ≡ text_of value.now) }
 {
     match datum(alloc, value) {

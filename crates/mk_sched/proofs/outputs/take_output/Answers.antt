@@ -4,11 +4,15 @@ use Rattle.mk_plan.specs.Deliveries.{Timed}
 use Rattle.mk_buffers.specs.Held.{Held, with_output}
 use Rattle.mk_sched.specs.Moves.{HasGained, data_act, made_at}
 use Rattle.mk_sched.proofs.outputs.take_output.Goals as goal
+use Rattle.mk_base.proofs.Lists.{at_in}
 use Rattle.mk_sched.proofs.Data.{value_in_range}
 use Rattle.mk_sched.proofs.Grown.{gained_one, ok_by}
 
 pub datum_of-requires : goal.datum_of-requires
-datum_of-requires c = value_in_range c.args.content.now c.in-Some.value.now _ _ c.requires.in_range (sym c.in-Some.ensures)
+datum_of-requires c = record {
+  in_range = value_in_range c.args.content.now c.in-Some.value.now _ _ c.requires.in_range (sym c.in-Some.ensures);
+  value = c.requires.values c.at-conn.result.now (at_in c.at-conn.result.now c.args.plan.now.conns c.args.place c.at-conn.ensures) (sym c.owner.ensures ∙ c.if-owner-sim.false) c.in-Some.value.now (sym c.in-Some.ensures);
+}
 
 pub returns-in_ok-datum_of-in-Some-clause-gained : goal.returns-in_ok-datum_of-in-Some-clause-gained
 returns-in_ok-datum_of-in-Some-clause-gained c = λ at first made_is so. ok_by c.deliver.result

@@ -1,12 +1,15 @@
 use Rattle.std.proofs.Common.{◌≡◌, length, None, sym, ap, ◌∙◌, subst}
 use Rattle.mk_base.proofs.Lists.{some_same}
+use Rattle.mk_plan.specs.declared.Message.{Message}
 use Rattle.mk_plan.specs.declared.Place.{Place}
+use Rattle.mk_plan.specs.declared.Place.TheVariants.{Fetching}
 use Rattle.mk_plan.specs.Turns.{wrong, next_place}
 use Rattle.mk_plan.specs.Acts.{content_of}
 use Rattle.mk_buffers.specs.Held.{Held}
 use Rattle.mk_sched.specs.declared.sims.Sim.{Sim}
 use Rattle.mk_sched.specs.declared.sims.Kept.{Kept}
 use Rattle.mk_sched.specs.Moves.{EndsAt, HasGained, data_act, ended}
+use Rattle.mk_sched.proofs.Data.{has_values}
 use Rattle.mk_sched.proofs.taking.end_turn.Goals as goal
 
 pub returns-in_ok-close-in-Fetching-Success-clause-ok : goal.returns-in_ok-close-in-Fetching-Success-clause-ok
@@ -35,3 +38,11 @@ returns-in_ok-close-in-Fetching-Success-clause-ok c =
         entries = c.in_ok-close-in-Fetching-Success.ensures.entries;
       },
     )
+
+pub take_outputs-requires-clause-values : goal.take_outputs-requires-clause-values
+take_outputs-requires-clause-values c =
+    let same : c.requires.right.state ≡ c.at-state.result.now = some_same (sym c.requires.right.there ∙ c.at-state.ensures) in
+    has_values c.args.plan.now c.args.sim.0 c.in-Fetching-Success.at c.in-Fetching-Success.id c.in-Fetching-Success.id-1 c.in-Fetching-Success.content
+        (ap (λ (m : Message). wrong c.args.plan.now c.args.sim.0 (Fetching c.in-Fetching-Success.at c.in-Fetching-Success.id) m) (sym c.in-Fetching-Success.is-1)
+        ∙ ap (λ (p : Place). wrong c.args.plan.now c.args.sim.0 p c.args.message.now) (sym c.in-Fetching-Success.is-0)
+        ∙ subst (λ (s : Sim). wrong c.args.plan.now c.args.sim.0 s.place c.args.message.now ≡ None) same c.requires.right.right)
