@@ -1,26 +1,30 @@
 -- Records whose reading computes.
 use Rattle.std.proofs.Common.{◌≡◌, refl}
-use Rattle.std.specs.Prelude.{ℕ, ◌-◌, List, [], ◌∷◌, ◌++◌, codes, pos, false, take, length}
+use Rattle.std.specs.Prelude.{ℕ, List, [], ◌∷◌, ◌++◌, Some, None, codes, pos, true, false}
 use Rattle.std.specs.Str.{is_utf8, chars}
-use Rattle.mk_base.specs.declared.SimKind.TheVariants.{TimeBased}
+use Rattle.mk_base.specs.declared.SimKind.TheVariants.{TimeBased, EventBased, Hybrid}
+use Rattle.mk_base.specs.declared.tier.Via.TheVariants.{Plain, Shift}
 use Rattle.mk_base.specs.declared.json.Json as json
 use Rattle.mk_base.proofs.OnTrees.{trees_compute}
 use Rattle.mk_plan.specs.declared.Plan.{Plan}
-use Rattle.mk_plan.specs.declared.Message.TheVariants.{Success}
+use Rattle.mk_plan.specs.declared.Message.TheVariants.{Ask, Success, Failure}
 use Rattle.mk_plan.specs.Journals.{Arrival}
 use Rattle.serde_json.proofs.OnLiterals.{serde_json_on_literals}
 use Rattle.mk_record.specs.Reading.{Said, Faulty, reading}
+use Rattle.mk_record.specs.Texts.{record_text}
 
--- the settings, the simulator, the model and the entity of a plan, as lines
-abbrev run_line : List ℕ
-run_line = codes "run [3,100,2000000]\n"
+-- a record of nine lines, of which two may differ, with something after them
+abbrev lines_with : List ℕ → List ℕ → List ℕ → List ℕ → List ℕ
+lines_with sim got end after = codes "mosaikrun 1\nrun [3,100,2000000]\n" ++ sim ++ codes "\nmodel [0,\"Count\",[\"out\"],false]\nentity [0,\"0\",[]]\n" ++ got ++ codes "\ngot [0,[1,4,2]]\ngot [0,[1,5,3]]\n" ++ end ++ after
 
-abbrev plan_lines : List ℕ
-plan_lines = codes "mosaikrun 1\n" ++ run_line ++ codes "sim [\"A-0\",\"time-based\",3,0,[]]\nmodel [0,\"Count\",[\"out\"],false]\nentity [0,\"0\",[]]\n"
+abbrev sim_line : List ℕ
+sim_line = codes "sim [\"A-0\",\"time-based\",3,0,[]]"
 
--- a record of nine lines
+abbrev got_line : List ℕ
+got_line = codes "got [0,[1,3,1]]"
+
 abbrev nine_lines : List ℕ
-nine_lines = plan_lines ++ codes "got [0,[1,3,1]]\ngot [0,[1,4,2]]\ngot [0,[1,5,3]]\nend 3\n"
+nine_lines = lines_with sim_line got_line (codes "end 3") (codes "\n")
 
 -- its plan: one simulator with one entity
 abbrev counter : Plan
@@ -39,16 +43,61 @@ counter = record {
 abbrev reply : ℕ → ℕ → Arrival
 reply id next = record { sim = 0; message = Success id (json.Whole (pos next)) }
 
-pub reads_nine_lines : reading nine_lines ≡ Said counter (reply 3 1 ∷ reply 4 2 ∷ reply 5 3 ∷ [])
+abbrev replies : List Arrival
+replies = reply 3 1 ∷ reply 4 2 ∷ reply 5 3 ∷ []
+
+pub reads_nine_lines : reading nine_lines ≡ Said counter replies
 unfolding serde_json_on_literals trees_compute is_utf8 chars
 reads_nine_lines = refl
 
-pub reads_without_its_last_feed : reading (take (length nine_lines - 1) nine_lines) ≡ Faulty 9 5
+pub writes_nine_lines : record_text counter replies ≡ nine_lines
+unfolding trees_compute
+writes_nine_lines = refl
+
+pub without_the_last_feed : reading (lines_with sim_line got_line (codes "end 3") []) ≡ Faulty 9 5
 unfolding serde_json_on_literals trees_compute is_utf8 chars
-reads_without_its_last_feed = refl
+without_the_last_feed = refl
+
+pub message_of_nobody : reading (lines_with sim_line (codes "got [7,[1,3,1]]") (codes "end 3") (codes "\n")) ≡ Faulty 6 2
+unfolding serde_json_on_literals trees_compute is_utf8 chars
+message_of_nobody = refl
+
+pub rank_left_out : reading (lines_with (codes "sim [\"A-0\",\"time-based\",3,1,[]]") got_line (codes "end 3") (codes "\n")) ≡ Faulty 6 3
+unfolding serde_json_on_literals trees_compute is_utf8 chars
+rank_left_out = refl
+
+pub another_count : reading (lines_with sim_line got_line (codes "end 2") (codes "\n")) ≡ Faulty 9 4
+unfolding serde_json_on_literals trees_compute is_utf8 chars
+another_count = refl
+
+pub line_after_the_end : reading (lines_with sim_line got_line (codes "end 3") (codes "\n\n")) ≡ Faulty 10 6
+unfolding serde_json_on_literals trees_compute is_utf8 chars
+line_after_the_end = refl
 
 pub empty_text : reading [] ≡ Faulty 1 5
 empty_text = refl
 
 pub other_version : reading (codes "mosaikrun 9\n") ≡ Faulty 1 1
 other_version = refl
+
+-- a plan with parts of each kind
+abbrev pair : Plan
+pair = record {
+  until = pos 10;
+  loops = 1;
+  entries = 50;
+  sims = record { id = codes "A-0"; kind = Hybrid; first_id = 0; rank = 0; initial = pos 0 ∷ pos 5 ∷ [] } ∷ record { id = codes "B-0"; kind = EventBased; first_id = 7; rank = 1; initial = [] } ∷ [];
+  models = record { sim = record { 0 = 0 }; name = codes "M"; attrs = codes "a" ∷ codes "b" ∷ []; any_inputs = false } ∷ record { sim = record { 0 = 1 }; name = codes "N"; attrs = []; any_inputs = true } ∷ [];
+  entities = record { model = 0; eid = codes "x\"y"; related = 1 ∷ [] } ∷ record { model = 1; eid = codes "0"; related = [] } ∷ [];
+  conns = record { from = 0; from_attr = codes "a"; to = 1; to_attr = codes "c"; via = Plain; persistent = false; triggering = true; initial = None } ∷ record { from = 1; from_attr = codes "c"; to = 0; to_attr = codes "b"; via = Shift; persistent = false; triggering = false; initial = Some (codes "{\"k\":[1,null]}") } ∷ [];
+  asyncs = record { from = record { 0 = 0 }; to = record { 0 = 1 } } ∷ [];
+}
+
+-- a request, a reply with a number that isn't whole, and a failure
+abbrev talk : List Arrival
+talk = record { sim = 1; message = Ask 9 (codes "get_data") (json.Object ((codes "A-0.0", json.List (json.Text (codes "a") ∷ [])) ∷ []) ∷ []) (json.Object []) }
+    ∷ record { sim = 0; message = Success 0 (json.List (json.Odd ∷ json.Null ∷ [])) } ∷ record { sim = 1; message = Failure 7 (codes "no") } ∷ []
+
+pub reads_what_is_written : reading (record_text pair talk) ≡ Said pair talk
+unfolding serde_json_on_literals trees_compute is_utf8 chars
+reads_what_is_written = refl

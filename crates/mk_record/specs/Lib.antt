@@ -5,3 +5,4 @@ pub mod Lines
 pub mod Reading
 pub mod Seen
 pub mod Steps
+pub mod Texts
