@@ -3,5 +3,7 @@
 #![tactic(auto)]
 
 mod replaying;
+#[cfg(test)]
+mod tests;
 
 pub use replaying::{ReplayEnd, Replayed, replay};
