@@ -1,0 +1,142 @@
+-- The metadata that a reply to `init` has, or the first test that it fails.
+use Rattle.std.specs.Prelude.{ℕ, Bool, true, false, ◌&&◌, ◌==◌, not, codes, nat_le, ◌≤◌, List, [], ◌∷◌, map, length, Option, Some, None, option_map, option_and_then, unwrap_or, Result, Ok, Err, if◌then◌else◌}
+use Rattle.std.specs.List.{find, list_any, before_first}
+use Rattle.std.specs.List.Sorted.{IsStrictlySortedBy}
+use Rattle.mk_base.specs.declared.SimKind.{SimKind}
+use Rattle.mk_base.specs.declared.SimKind.TheVariants.{TimeBased, EventBased, Hybrid}
+use Rattle.mk_base.specs.declared.json.Json.{Json, Json-F, out-Json}
+use Rattle.mk_base.specs.Lists.{same_text, text_order, all_there}
+use Rattle.mk_base.specs.Trees.{text_in, items_in, members_in, is_object, member}
+use Rattle.mk_meta.specs.declared.meta.ModelMeta.{ModelMeta}
+use Rattle.mk_meta.specs.declared.meta.Meta.{Meta}
+use Rattle.mk_meta.specs.declared.fault.MetaFault.{MetaFault}
+use Rattle.mk_meta.specs.declared.fault.MetaFault.TheVariants.{NoVersion, Version, BadType, NoModels, Model, TriggerUnknown}
+
+-- what follows a test that finds something, and the fault where it finds nothing
+abbrev pub found : {A B : Type 0} → MetaFault → Option A → (A → Result B MetaFault) → Result B MetaFault
+found fault None next = Err fault
+found fault (Some x) next = next x
+
+-- what follows a test that holds, and the fault where it doesn't
+abbrev pub held : {B : Type 0} → MetaFault → Bool → Result B MetaFault → Result B MetaFault
+held fault holds next = if holds then next else Err fault
+
+-- what follows a test that no text fails, and the fault of the one that does
+abbrev pub no_text : {B : Type 0} → (List ℕ → MetaFault) → Option (List ℕ) → Result B MetaFault → Result B MetaFault
+no_text fault None next = next
+no_text fault (Some text) next = Err (fault text)
+
+-- one item before the others, unless there is a fault among these
+abbrev pub before : {B : Type 0} → B → Result (List B) MetaFault → Result (List B) MetaFault
+before x (Ok xs) = Ok (x ∷ xs)
+before x (Err fault) = Err fault
+
+-- what the items give, or the first fault among them
+abbrev pub all_well : {B : Type 0} → List (Result B MetaFault) → Result (List B) MetaFault
+all_well [] = Ok []
+all_well (Err fault ∷ more) = Err fault
+all_well (Ok x ∷ more) = before x (all_well more)
+
+abbrev bool_at : Json-F Json → Option Bool
+bool_at (Json-F.Bool b) = Some b
+bool_at _ = None
+
+-- the truth value that the tree is
+abbrev pub bool_in : Json → Option Bool
+bool_in tree = bool_at (out-Json tree)
+
+-- the list of texts that the tree is
+abbrev pub texts_in : Json → Option (List (List ℕ))
+texts_in tree = option_and_then (λ (items : List Json). all_there (map text_in items)) (items_in tree)
+
+-- what is read of a member, or what stands for it where it is missing
+abbrev pub unless_missing : {A : Type 0} → A → (Json → Option A) → Option Json → Option A
+unless_missing instead read None = Some instead
+unless_missing instead read (Some tree) = read tree
+
+-- the version's text
+abbrev pub version_in : Json → Option (List ℕ)
+version_in reply = option_and_then text_in (member (codes "api_version") reply)
+
+-- what stands before the version's first dot, or all of it, is 3
+abbrev pub is_version_three : List ℕ → Bool
+is_version_three version = same_text (before_first (λ b. b == 46) version) (codes "3")
+
+-- the type of simulator that a word names
+abbrev pub kind_named : List ℕ → Option SimKind
+kind_named word = if same_text word (codes "time-based") then Some TimeBased else if same_text word (codes "event-based") then Some EventBased else if same_text word (codes "hybrid") then Some Hybrid else None
+
+-- the type of the simulator, time-based where it is missing
+abbrev pub kind_in : Json → Option SimKind
+kind_in reply = unless_missing TimeBased (λ tree. option_and_then kind_named (text_in tree)) (member (codes "type") reply)
+
+-- the type as it is written, or nothing where it is no text
+abbrev pub type_text : Json → List ℕ
+type_text reply = unwrap_or (option_and_then text_in (member (codes "type") reply)) []
+
+-- how many models a simulator may have
+abbrev pub most_models : ℕ
+most_models = 10000
+
+-- members that are few enough to be models
+abbrev pub few_enough : List (List ℕ × Json) → Option (List (List ℕ × Json))
+few_enough members = if nat_le (length members) most_models then Some members else None
+
+-- the simulator's models, each a name and a description
+abbrev pub models_in : Json → Option (List (List ℕ × Json))
+models_in reply = option_and_then (λ tree. option_and_then few_enough (members_in tree)) (member (codes "models") reply)
+
+-- only hybrid simulators say which attributes trigger and which aren't persistent
+abbrev pub is_hybrid : SimKind → Bool
+is_hybrid TimeBased = false
+is_hybrid EventBased = false
+is_hybrid Hybrid = true
+
+-- a list of texts under this name, none where it is missing or the simulator isn't hybrid
+abbrev pub hybrid_texts : SimKind → List ℕ → Json → Option (List (List ℕ))
+hybrid_texts kind name tree = if is_hybrid kind then unless_missing [] texts_in (member name tree) else Some []
+
+-- the text is one of these
+abbrev pub is_among : List (List ℕ) → List ℕ → Bool
+is_among texts text = list_any (λ t. same_text t text) texts
+
+-- the first of the texts that isn't an attribute
+abbrev pub first_unknown : List (List ℕ) → List (List ℕ) → Option (List ℕ)
+first_unknown attrs texts = find (λ t. not (is_among attrs t)) texts
+
+-- the last tests of a model: what triggers is an attribute, unless any input is taken, and what isn't persistent is one
+abbrev pub with_known : ModelMeta → Result ModelMeta MetaFault
+with_known model =
+    no_text (TriggerUnknown model.name) (if model.any_inputs then None else first_unknown model.attrs model.trigger) (
+    no_text (TriggerUnknown model.name) (first_unknown model.attrs model.events) (
+    Ok model))
+
+-- the tests of a model's description: it is an object; `public`, `params`, `attrs`, `any_inputs`, `trigger` and `non-persistent` are what they must be; each attribute named is one
+abbrev pub model_in : SimKind → List ℕ × Json → Result ModelMeta MetaFault
+model_in kind m =
+    held (Model m.0 []) (is_object m.1) (
+    found (Model m.0 (codes "public")) (option_and_then bool_in (member (codes "public") m.1)) (λ public.
+    found (Model m.0 (codes "params")) (option_and_then texts_in (member (codes "params") m.1)) (λ params.
+    found (Model m.0 (codes "attrs")) (option_and_then texts_in (member (codes "attrs") m.1)) (λ attrs.
+    found (Model m.0 (codes "any_inputs")) (unless_missing false bool_in (member (codes "any_inputs") m.1)) (λ any.
+    found (Model m.0 (codes "trigger")) (hybrid_texts kind (codes "trigger") m.1) (λ trigger.
+    found (Model m.0 (codes "non-persistent")) (hybrid_texts kind (codes "non-persistent") m.1) (λ events.
+    with_known (record { name = m.0; public = public; params = params; attrs = attrs; any_inputs = any; trigger = trigger; events = events }))))))))
+
+-- the metadata of these models
+abbrev pub with_models : SimKind → Result (List ModelMeta) MetaFault → Result Meta MetaFault
+with_models kind (Ok models) = Ok (record { kind = kind; models = models })
+with_models kind (Err fault) = Err fault
+
+-- the models are few enough, distinct and in byte order
+abbrev pub IsListed : List ModelMeta → Type 0
+IsListed models = (length models ≤ most_models) × IsStrictlySortedBy text_order (map (λ (m : ModelMeta). m.name) models)
+
+-- the tests of a reply: a version that is 3, a type, models, and each model in byte order
+abbrev pub meta_in : Json → Result Meta MetaFault
+meta_in reply =
+    found NoVersion (version_in reply) (λ version.
+    held (Version version) (is_version_three version) (
+    found (BadType (type_text reply)) (kind_in reply) (λ kind.
+    found NoModels (models_in reply) (λ models.
+    with_models kind (all_well (map (model_in kind) models))))))

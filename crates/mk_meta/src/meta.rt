@@ -1,0 +1,175 @@
+// The tests of a reply to `init`.
+ghost use Rattle.std.specs.Prelude.{◌≡◌, map, IfOk, IfErr, IfSome, ◌≤◌, length, Ok, Err, ◌⊎◌, option_map, option_and_then};
+ghost use Rattle.mk_base.specs.Lists.{same_text};
+ghost use Rattle.mk_base.specs.Trees.{members_in};
+ghost use Rattle.mk_meta.specs.Metadata.{IsListed, most_models, all_well, is_version_three, kind_in, few_enough, kind_named, meta_in, model_in, models_in, type_text, version_in};
+ghost use Rattle.mk_meta.specs.declared.fault.MetaFault.TheVariants as fault;
+
+use crate::fault::MetaFault;
+use crate::model::model_of;
+use crate::trees::{text_at, text_of};
+use mk_base::{Json, List, Mem, Members, SimKind, Text};
+use std::alloc::Global;
+
+// How many models a simulator may have.
+const MOST_MODELS: usize = 10000;
+
+/// A model, as the metadata describes it (mosaik 3, low-level API). For time-based and event-based simulators `trigger` and
+/// `events`, the attributes that aren't persistent, are empty.
+#[derive(Drop)]
+pub struct ModelMeta {
+    pub name: Text,
+    pub public: bool,
+    pub params: List<Text>,
+    pub attrs: List<Text>,
+    pub any_inputs: bool,
+    pub trigger: List<Text>,
+    pub events: List<Text>,
+}
+
+/// The metadata of a simulator: its type, and its models in byte order of their distinct names.
+#[derive(Drop)]
+pub struct Meta {
+    pub kind: SimKind,
+    pub models: List<ModelMeta>,
+}
+
+/// The metadata in a reply to `init`, or the first test that the reply fails.
+pub fn read_meta(alloc: Global, reply: &Json) -> Result<Meta, MetaFault>
+    ensures ok { IfOk result (λ meta. meta_in reply.now ≡ Ok meta) }
+    ensures listed { IfOk result (λ meta. IsListed meta.models) }
+    ensures refused { IfErr result (λ e. (e ≡ MetaFault.Mem) ⊎ (meta_in reply.now ≡ Err e)) }
+{
+    meta_of(alloc, reply)?
+}
+
+fn meta_of(alloc: Global, reply: &Json) -> Result<Result<Meta, MetaFault>, Mem>
+    ensures told { IfOk result (λ meta. meta ≡ meta_in reply.now) }
+    ensures listed { IfOk result (λ found. IfOk found (λ meta. IsListed meta.models)) }
+{
+    let Some(version) = text_at(reply, "api_version") else {
+        return Ok(Err(MetaFault::NoVersion));
+    };
+    if !is_version_three(version) {
+        return Ok(Err(MetaFault::Version(version.copy()?)));
+    }
+    let Some(kind) = kind_of(reply) else {
+        return Ok(Err(MetaFault::BadType(type_text(alloc, reply)?)));
+    };
+    let Some(models) = models_of(reply) else {
+        return Ok(Err(MetaFault::NoModels));
+    };
+    match models_from(alloc, kind, models)? {
+        Ok(models) => Ok(Ok(Meta { kind, models })),
+        Err(fault) => Ok(Err(fault)),
+    }
+}
+
+fn is_version_three(version: &Text) -> bool
+    ensures { result ≡ is_version_three version.now }
+{
+    match version.bytes() {
+        [b'3'] => true,
+        [b'3', b'.', ..] => true,
+        _ => false,
+    }
+}
+
+fn kind_of(reply: &Json) -> Option<SimKind>
+    ensures { result ≡ kind_in reply.now }
+{
+    match reply.member("type") {
+        Some(tree) => match text_of(tree) {
+            Some(word) => kind_named(word),
+            None => None,
+        },
+        None => Some(SimKind::TimeBased),
+    }
+}
+
+fn kind_named(word: &Text) -> Option<SimKind>
+    ensures { result ≡ kind_named word.now }
+{
+    if is_word(word, b"time-based") {
+        Some(SimKind::TimeBased)
+    } else if is_word(word, b"event-based") {
+        Some(SimKind::EventBased)
+    } else if is_word(word, b"hybrid") {
+        Some(SimKind::Hybrid)
+    } else {
+        None
+    }
+}
+
+fn is_word(text: &Text, word: &[u8]) -> bool
+    ensures { result ≡ same_text text.now word.now }
+{
+    text.bytes() == word
+}
+
+fn type_text(alloc: Global, reply: &Json) -> Result<Text, Mem>
+    ensures { IfOk result (λ text. text ≡ type_text reply.now) }
+{
+    match text_at(reply, "type") {
+        Some(text) => text.copy(),
+        None => Text::of(alloc, ""),
+    }
+}
+
+// The models, where they are an object of at most so many members.
+fn models_of(reply: &Json) -> Option<&Members<Json>>
+    ensures same { option_map (λ ms. ms.now) result ≡ models_in reply.now }
+    ensures few { IfSome result (λ ms. length ms.now ≤ most_models) }
+{
+    match reply.member("models") {
+        Some(tree) => few_members_of(tree),
+        None => None,
+    }
+}
+
+fn few_members_of(tree: &Json) -> Option<&Members<Json>>
+    ensures same { option_map (λ ms. ms.now) result ≡ option_and_then few_enough (members_in tree.now) }
+    ensures few { IfSome result (λ ms. length ms.now ≤ most_models) }
+{
+    match tree {
+        Json::Null => None,
+        Json::Bool(_) => None,
+        Json::Whole(_) => None,
+        Json::Odd => None,
+        Json::Text(_) => None,
+        Json::List(_) => None,
+        Json::Object(members) => few_enough(members),
+    }
+}
+
+fn few_enough(members: &Members<Json>) -> Option<&Members<Json>>
+    ensures same { option_map (λ ms. ms.now) result ≡ few_enough members.now }
+    ensures few { IfSome result (λ ms. length ms.now ≤ most_models) }
+{
+    if members.len() <= MOST_MODELS {
+        Some(members)
+    } else {
+        None
+    }
+}
+
+// The models, or the first fault among them in byte order.
+fn models_from(
+    alloc: Global,
+    kind: SimKind,
+    described: &Members<Json>,
+) -> Result<Result<List<ModelMeta>, MetaFault>, Mem>
+    requires { length described.now ≤ most_models }
+    ensures told { IfOk result (λ models. models ≡ all_well (map (model_in kind) described.now)) }
+    ensures listed { IfOk result (λ found. IfOk found (λ models. IsListed models)) }
+{
+    let mut models = List::new(alloc);
+    let entries = described.entries();
+    for (name, tree) in entries {
+        match model_of(alloc, kind, name, tree)? {
+            Ok(model) => models.push(model)?,
+            Err(fault) => return Ok(Err(fault)),
+        }
+    }
+    Ok(Ok(models))
+}

@@ -1,0 +1,106 @@
+// The tests of a model's description.
+ghost use Rattle.std.specs.Prelude.{◌≡◌, None, IfOk, Ok, Err, option_map, if◌then◌else◌};
+ghost use Rattle.mk_meta.specs.Metadata.{is_among, first_unknown, model_in, with_known};
+ghost use Rattle.mk_meta.specs.declared.fault.MetaFault.TheVariants as fault;
+
+use crate::fault::MetaFault;
+use crate::meta::ModelMeta;
+use crate::trees::{bool_at, bool_or_false, hybrid_texts, is_object, texts_at};
+use mk_base::{Json, List, Mem, SimKind, Text};
+use std::alloc::Global;
+
+// The model of this name and description, or the first test that it fails.
+pub fn model_of(
+    alloc: Global,
+    kind: SimKind,
+    name: &Text,
+    tree: &Json,
+) -> Result<Result<ModelMeta, MetaFault>, Mem>
+    ensures told { IfOk result (λ model. model ≡ model_in kind (name.now, tree.now)) }
+    ensures named { IfOk result (λ found. IfOk found (λ model. model.name ≡ name.now)) }
+{
+    if !is_object(tree) {
+        return misdescribed(alloc, name, "");
+    }
+    let Some(public) = bool_at(tree, "public") else {
+        return misdescribed(alloc, name, "public");
+    };
+    let Some(params) = texts_at(alloc, tree, "params")? else {
+        return misdescribed(alloc, name, "params");
+    };
+    let Some(attrs) = texts_at(alloc, tree, "attrs")? else {
+        return misdescribed(alloc, name, "attrs");
+    };
+    let Some(any_inputs) = bool_or_false(tree, "any_inputs") else {
+        return misdescribed(alloc, name, "any_inputs");
+    };
+    let Some(trigger) = hybrid_texts(alloc, kind, tree, "trigger")? else {
+        return misdescribed(alloc, name, "trigger");
+    };
+    let Some(events) = hybrid_texts(alloc, kind, tree, "non-persistent")? else {
+        return misdescribed(alloc, name, "non-persistent");
+    };
+    let name = name.copy()?;
+    with_known(ModelMeta {
+        name,
+        public,
+        params,
+        attrs,
+        any_inputs,
+        trigger,
+        events,
+    })
+}
+
+// A model's member isn't what it must be.
+fn misdescribed(
+    alloc: Global,
+    name: &Text,
+    member: &str,
+) -> Result<Result<ModelMeta, MetaFault>, Mem>
+    ensures { IfOk result (λ model. model ≡ Err (fault.Model name.now member.now)) }
+{
+    Ok(Err(MetaFault::Model(name.copy()?, Text::of(alloc, member)?)))
+}
+
+// The model, unless it names an attribute that it doesn't have.
+fn with_known(model: ModelMeta) -> Result<Result<ModelMeta, MetaFault>, Mem>
+    ensures told { IfOk result (λ known. known ≡ with_known model) }
+    ensures same { IfOk result (λ found. IfOk found (λ known. known ≡ model)) }
+{
+    if let Some(text) = unknown_trigger(&model) {
+        return Ok(Err(MetaFault::TriggerUnknown(model.name.copy()?, text.copy()?)));
+    }
+    if let Some(text) = first_unknown(&model.attrs, &model.events) {
+        return Ok(Err(MetaFault::TriggerUnknown(model.name.copy()?, text.copy()?)));
+    }
+    Ok(Ok(model))
+}
+
+fn unknown_trigger(model: &ModelMeta) -> Option<&Text>
+    ensures { option_map (λ t. t.now) result ≡ (if model.now.any_inputs then None else first_unknown model.now.attrs model.now.trigger) }
+{
+    if model.any_inputs {
+        None
+    } else {
+        first_unknown(&model.attrs, &model.trigger)
+    }
+}
+
+// The first of the texts that isn't an attribute.
+fn first_unknown<'a>(attrs: &List<Text>, texts: &'a List<Text>) -> Option<&'a Text>
+    ensures { option_map (λ t. t.now) result ≡ first_unknown attrs.now texts.now }
+{
+    for text in texts.as_slice() {
+        if !is_among(attrs, text) {
+            return Some(text);
+        }
+    }
+    None
+}
+
+fn is_among(texts: &List<Text>, text: &Text) -> bool
+    ensures { result ≡ is_among texts.now text.now }
+{
+    texts.as_slice().iter().any(|t| t.bytes() == text.bytes())
+}
