@@ -1,8 +1,8 @@
 #!/usr/bin/env python3
 """Runs a built program on the cases beside this file.
 
-`run_cases.py PROGRAM` runs each line of `cases/cases.jsonl`: the words of a command, and the exit status, standard output
-and standard error that it must have. It prints what differs, and ends with 'N passed, M failed'.
+`run_cases.py PROGRAM` runs each line of `cases.jsonl` in the folder `cases`: the words of a command, and the exit status,
+standard output and standard error that it must have. It prints what differs, and ends with 'N passed, M failed'.
 """
 
 import json
@@ -13,8 +13,9 @@ import sys
 
 def main() -> int:
     program = str(pathlib.Path(sys.argv[1]).resolve())
-    folder = pathlib.Path(__file__).resolve().parent / "cases"
-    cases = [json.loads(line) for line in (folder / "cases.jsonl").read_text(encoding="utf-8").splitlines()]
+    checks = pathlib.Path(__file__).resolve().parent
+    folder = checks / "cases"
+    cases = [json.loads(line) for line in (checks / "cases.jsonl").read_text(encoding="utf-8").splitlines()]
     failed = 0
     for case in cases:
         ran = subprocess.run([program, *case["words"]], cwd=folder, capture_output=True, timeout=60, check=False)

@@ -12,18 +12,26 @@ fn messages_are_copied(rt: HostRuntime) -> Result<(), Fail> {
         args,
         named: Json::Null,
     };
-    match request.copy(rt.alloc())? {
+    let copied = request.copy(rt.alloc())?;
+    match &copied {
         Message::Ask {
             id,
             name,
             args,
-            named: _,
+            named: _named,
         } => {
-            assert_eq!(rt; id, 9);
+            assert_eq!(rt; *id, 9);
             assert_eq!(rt; name.as_str(), "get_data");
             assert_eq!(rt; args.len(), 1);
         }
-        _ => assert!(rt; false),
+        Message::Success {
+            id: _id,
+            content: _content,
+        } => assert!(rt; false),
+        Message::Failure {
+            id: _id,
+            text: _text,
+        } => assert!(rt; false),
     }
     Ok(())
 }
