@@ -12,12 +12,12 @@ returns-in-Err-clause-told c = sym (first_fault c.entries-entries.result.now c.l
 
 pub loop-name-preserved : goal.loop-name-preserved
 loop-name-preserved c =
-  let more = more_well c.entries-entries.result.now c.loop-name.name-index c.loop-name-item.result c.loop-name-test.true c.loop-name-item.is (model_in c.args.kind) c.in-Ok.model c.loop-name.models in
-  let same = subst (λ r. IfOk r (λ (m : ModelMeta). m.name ≡ c.loop-name-item.result.0)) c.in-Ok.is c.in_ok-model.ensures.named in
-  record {
-    told = grind (arith, more);
-    named = ap (map name_of) c.in_ok-push-in-Ok.ensures.ok ∙ more_named c.entries-entries.result.now c.loop-name.name-index c.loop-name-item.result c.loop-name-test.true c.loop-name-item.is described_as name_of c.in-Ok.model c.loop-name.models same c.loop-name.invariant.named;
-  }
+    let more = more_well c.entries-entries.result.now c.loop-name.name-index c.loop-name-item.result c.loop-name-test.true c.loop-name-item.is (model_in c.args.kind) c.in-Ok.model c.loop-name.models in
+    let same = subst (λ r. IfOk r (λ (m : ModelMeta). m.name ≡ c.loop-name-item.result.0)) c.in-Ok.is c.in_ok-model.ensures.named in
+    record {
+      told = grind (arith, more);
+      named = ap (map name_of) c.in_ok-push-in-Ok.ensures.ok ∙ more_named c.entries-entries.result.now c.loop-name.name-index c.loop-name-item.result c.loop-name-test.true c.loop-name-item.is described_as name_of c.in-Ok.model c.loop-name.models same c.loop-name.invariant.named;
+    }
 
 pub returns-clause-listed : goal.returns-clause-listed
 returns-clause-listed c = models_listed c.args.described.now c.loop-name.models c.requires c.entries-entries.ensures.sorted
