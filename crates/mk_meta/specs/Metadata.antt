@@ -1,5 +1,5 @@
 -- The metadata that a reply to `init` has, or the first test that it fails.
-use Rattle.std.specs.Prelude.{ℕ, Bool, true, false, ◌&&◌, ◌==◌, not, codes, nat_le, ◌≤◌, List, [], ◌∷◌, map, length, Option, Some, None, option_map, option_and_then, unwrap_or, Result, Ok, Err, if◌then◌else◌}
+use Rattle.std.specs.Prelude.{ℕ, Bool, true, false, ◌==◌, not, codes, nat_le, ◌≤◌, List, [], ◌∷◌, map, length, Option, Some, None, option_and_then, unwrap_or, Result, Ok, Err, if◌then◌else◌}
 use Rattle.std.specs.List.{find, list_any, before_first}
 use Rattle.std.specs.List.Sorted.{IsStrictlySortedBy}
 use Rattle.mk_base.specs.declared.SimKind.{SimKind}

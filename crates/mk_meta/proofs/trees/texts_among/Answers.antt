@@ -1,4 +1,4 @@
-use Rattle.std.proofs.Common.{arith, sym}
+use Rattle.std.proofs.Common.{arith}
 use Rattle.mk_base.specs.Trees.{text_in}
 use Rattle.mk_meta.proofs.Gathering.{is_missing, more_there}
 use Rattle.mk_meta.proofs.trees.texts_among.Goals as goal
