@@ -1,5 +1,5 @@
 -- The core takes a message.
-use Rattle.std.proofs.Common.{◌≡◌, ◌≢◌, ℕ, ◌+◌, ◌<◌, ◌≤◌, ◌^◌, ℤ, pos, ◌≤ℤ◌, ◌<ℤ◌, Bool, true, false, List, [], ◌∷◌, ◌++◌, length, filter, filter_map, Option, Some, None, Result, Ok, Err, option_map, option_and_then, unwrap_or, slice_get, slice_set, refl, sym, ap, ◌∙◌, subst, ◌⊎◌, inl, inr, arith, IfOk, IfErr, IsSome, length-set, append_assoc, ◌==◌, if◌then◌else◌}
+use Rattle.std.proofs.Common.{◌≡◌, ◌≢◌, ℕ, ◌+◌, ◌<◌, ◌≤◌, ℤ, ◌<ℤ◌, Bool, true, false, List, [], ◌∷◌, ◌++◌, length, filter, filter_map, Option, Some, None, Result, Ok, Err, option_map, option_and_then, unwrap_or, slice_get, slice_set, refl, sym, ap, ◌∙◌, subst, inl, inr, arith, IfOk, IfErr, IsSome, length-set, ◌==◌, if◌then◌else◌}
 use Rattle.mk_base.specs.declared.Mem.{Mem}
 use Rattle.mk_base.specs.declared.SimNo.{SimNo}
 use Rattle.mk_base.specs.declared.tier.Tier.{Tier}
@@ -7,10 +7,9 @@ use Rattle.mk_base.specs.declared.json.Json.{Json}
 use Rattle.mk_base.specs.Lists.{IsIn}
 use Rattle.mk_base.specs.Trees.{whole_in}
 use Rattle.std.specs.List.{cons_option}
-use Rattle.mk_base.proofs.Lists.{none_some, some_same, below_get, in_each, in_back, append_nil, filter_map_append}
+use Rattle.mk_base.proofs.Lists.{none_some, below_get, in_each, in_back, filter_map_append}
 use Rattle.mk_buffers.specs.Held.{Held, Holds}
 use Rattle.mk_plan.specs.declared.Plan.{Plan}
-use Rattle.mk_plan.specs.declared.Want.{Want}
 use Rattle.mk_plan.specs.declared.Message.{Message}
 use Rattle.mk_plan.specs.declared.Message.TheVariants.{Success}
 use Rattle.mk_plan.specs.declared.Entry.{Entry}
@@ -21,9 +20,9 @@ use Rattle.mk_plan.specs.declared.Place.{Place}
 use Rattle.mk_plan.specs.declared.Place.TheVariants.{Idle, Stepping, Fetching}
 use Rattle.mk_plan.specs.declared.Cause.{Cause}
 use Rattle.mk_plan.specs.declared.Cause.TheVariants as cause
-use Rattle.mk_plan.specs.Plans.{sim_count, IsValidPlan}
+use Rattle.mk_plan.specs.Plans.{sim_count}
 use Rattle.mk_plan.specs.Turns.{wanted, wrong, next_place}
-use Rattle.mk_plan.specs.Acts.{Act, Heard, content_of, next_time, outputs_in}
+use Rattle.mk_plan.specs.Acts.{Act, Heard, content_of, next_time}
 use Rattle.mk_plan.specs.Deliveries.{supply}
 use Rattle.mk_plan.specs.Due.{due_times}
 use Rattle.mk_plan.specs.Inputs.{is_since}
@@ -44,12 +43,11 @@ use Rattle.mk_sched.specs.declared.faults.Ended.TheVariants.{Faulty, OutOfMemory
 use Rattle.mk_sched.specs.declared.faults.Taken.{Taken}
 use Rattle.mk_sched.specs.declared.faults.Taken.TheVariants as taken
 use Rattle.mk_sched.specs.Built.{is_built_message}
-use Rattle.mk_sched.specs.Cores.{CoreState}
-use Rattle.mk_sched.specs.Answers.{ArriveOf, IsQuiet, IsAnswered, IsFaulty, IsUntaken, IsUnanswered, IsOutOfMemory, HasRoom, fault_in}
+use Rattle.mk_sched.specs.Answers.{ArriveOf, IsQuiet, IsAnswered, IsFaulty, IsUnanswered, IsOutOfMemory, HasRoom, fault_in}
 use Rattle.mk_sched.specs.Steps.{dues_in, next_dues}
 use Rattle.mk_sched.specs.Steps as steps
-use Rattle.mk_sched.specs.Moves.{TakenBy, EndedBy, FurtherBy, WrongBy, LeftBy, UntakenBy, CanTake, IsInRun, IsPlaceInRun, EndsAt, HasGained, data_act, fault_by, next_in, ended, further, end_after_arrive}
-use Rattle.mk_sched.specs.Mirrors.{Mirrors, IsSimOf, IsTurn, IsOpened, IsOpenAt, IsStepping, IsFetching, IsKept, ids_in, free_id}
+use Rattle.mk_sched.specs.Moves.{TakenBy, EndedBy, FurtherBy, WrongBy, LeftBy, CanTake, IsPlaceInRun, EndsAt, fault_by, next_in, ended, further, end_after_arrive}
+use Rattle.mk_sched.specs.Mirrors.{Mirrors, IsSimOf, IsTurn, IsOpened, IsOpenAt, IsKept, ids_in, free_id}
 use Rattle.mk_sched.proofs.Asked.{core_of, ended_kept}
 use Rattle.mk_sched.proofs.Data.{IsStepReply, step_reply}
 use Rattle.mk_sched.proofs.LeftOut.{no_loop_fault}

@@ -1,5 +1,5 @@
 -- The core asks the first simulator that is ready, waits, is over, or has no room.
-use Rattle.std.proofs.Common.{◌≡◌, ◌≢◌, ℕ, ◌+◌, ◌<◌, ◌≤◌, ℤ, pos, ◌≤ℤ◌, Bool, true, false, List, [], ◌∷◌, ◌++◌, length, filter, Option, Some, None, Result, Ok, Err, option_map, unwrap_or, slice_get, slice_set, refl, sym, ap, ◌∙◌, subst, ◌⊎◌, inl, inr, arith, IfOk, IfErr, length-set, int_lt, nat_le, if◌then◌else◌}
+use Rattle.std.proofs.Common.{◌≡◌, ◌≢◌, ℕ, ◌+◌, ◌<◌, ◌≤◌, pos, ◌≤ℤ◌, Bool, true, List, [], length, filter, Option, Some, None, Result, Ok, Err, unwrap_or, slice_set, refl, sym, ap, ◌∙◌, subst, inl, inr, arith, IfOk, IfErr, length-set, int_lt, nat_le, if◌then◌else◌}
 use Rattle.std.proofs.lemmas.Int.{ints}
 use Rattle.std.proofs.lemmas.Bool.{leb-true}
 use Rattle.mk_base.specs.declared.Mem.{Mem}
@@ -10,12 +10,11 @@ use Rattle.mk_plan.specs.declared.Plan.{Plan}
 use Rattle.mk_plan.specs.declared.Entry.{Entry}
 use Rattle.mk_plan.specs.declared.Entry.TheVariants.{Sent}
 use Rattle.mk_plan.specs.declared.Item.TheVariants.{Step}
-use Rattle.mk_plan.specs.Plans.{sim_count, IsValidPlan}
+use Rattle.mk_plan.specs.Plans.{sim_count}
 use Rattle.mk_plan.specs.Deliveries.{supply}
 use Rattle.mk_plan.specs.Due.{due_times}
 use Rattle.mk_plan.specs.Inputs.{is_since, inputs}
-use Rattle.mk_plan.specs.Sequential.{last_time}
-use Rattle.mk_plan.specs.Journals.{View, OpenTurn, Owed, begun, note, view, with_open}
+use Rattle.mk_plan.specs.Journals.{View, OpenTurn, Owed, begun, note, view}
 use Rattle.mk_plan.specs.Orderly.{IsAllowed, IsNext, IsFirstReady}
 use Rattle.mk_plan.specs.Ready.{pending, IsReady, IsDone}
 use Rattle.mk_plan.specs.Advance.{IsAdvance}
@@ -24,10 +23,8 @@ use Rattle.mk_confluence.proofs.Orders.{somebody_is_ready}
 use Rattle.mk_confluence.proofs.Past.{pending_within}
 use Rattle.mk_confluence.proofs.Reasons.{pending_since, and_both}
 use Rattle.mk_confluence.proofs.Seen.{at_self, not_same}
-use Rattle.mk_sched.specs.declared.sims.Sim.{Sim}
 use Rattle.mk_sched.specs.declared.sims.Kept.{Kept}
 use Rattle.mk_sched.specs.declared.ready.ReadySim.{ReadySim}
-use Rattle.mk_sched.specs.declared.faults.CoreFault.{CoreFault}
 use Rattle.mk_sched.specs.declared.faults.Ended.{Ended}
 use Rattle.mk_sched.specs.declared.faults.Ended.TheVariants.{Faulty, OutOfMemory}
 use Rattle.mk_sched.specs.declared.faults.Next.{Next}
@@ -41,7 +38,7 @@ use Rattle.mk_sched.specs.Mirrors.{Mirrors, IsSimOf, IsKept}
 use Rattle.mk_sched.proofs.LeftOut.{advance_is}
 use Rattle.mk_sched.proofs.OneSim.{sim_begun}
 use Rattle.mk_sched.proofs.Places.{set_same, set_other}
-use Rattle.mk_sched.proofs.Mirroring.{first_is, ready_is, nobody_is, some_open, all_shut}
+use Rattle.mk_sched.proofs.Mirroring.{first_is, nobody_is, some_open, all_shut}
 use Rattle.mk_sched.proofs.Standing.{kept_push, each_set, dues_at}
 
 abbrev pub core_of : Plan → List Entry → Option Ended → CoreState

@@ -1,20 +1,18 @@
 -- What is kept before any entry.
-use Rattle.std.proofs.Common.{◌≡◌, ℕ, zero, suc, ◌+◌, ◌<◌, ◌≤◌, pos, Bool, true, false, List, [], ◌∷◌, ◌++◌, length, map, filter, All, Option, Some, None, option_map, unwrap_or, slice_get, get_or, take, refl, sym, ap, ◌∙◌, subst, inl, inr, arith, if◌then◌else◌, add-one}
+use Rattle.std.proofs.Common.{◌≡◌, ℕ, zero, suc, ◌+◌, ◌<◌, ◌≤◌, pos, List, [], ◌∷◌, ◌++◌, length, map, filter, Option, Some, None, option_map, unwrap_or, slice_get, get_or, take, refl, sym, ap, ◌∙◌, subst, inl, arith, if◌then◌else◌}
 use Rattle.std.specs.List.{range_with_len}
 use Rattle.std.proofs.lemmas.List.{length-map, take_more}
-use Rattle.mk_base.specs.declared.SimKind.{SimKind}
 use Rattle.mk_base.specs.declared.SimKind.TheVariants.{TimeBased}
 use Rattle.mk_base.specs.declared.tier.Tier.{Tier}
 use Rattle.mk_base.specs.Tiers.{moment}
-use Rattle.mk_base.proofs.Lists.{all_at, below_get, get_is, none_some, some_same, map_append}
+use Rattle.mk_base.proofs.Lists.{all_at, none_some, some_same, map_append}
 use Rattle.mk_plan.specs.declared.Plan.{Plan}
 use Rattle.mk_plan.specs.declared.PlanSim.{PlanSim}
 use Rattle.mk_plan.specs.declared.Want.{Want}
-use Rattle.mk_plan.specs.Plans.{sim_count, first_id, is_event_based, IsValidPlan}
+use Rattle.mk_plan.specs.Plans.{first_id, is_event_based, IsValidPlan}
 use Rattle.mk_plan.specs.Turns.{wanted}
-use Rattle.mk_plan.specs.Acts.{Act}
 use Rattle.mk_plan.specs.Deliveries.{supply}
-use Rattle.mk_plan.specs.Due.{is_within, first_times, due_times}
+use Rattle.mk_plan.specs.Due.{is_within, due_times}
 use Rattle.mk_plan.specs.Inputs.{is_since}
 use Rattle.mk_plan.specs.Sequential.{no_acts}
 use Rattle.mk_plan.specs.Journals.{empty_view}
@@ -23,7 +21,7 @@ use Rattle.mk_sched.specs.declared.sims.Sim.{Sim}
 use Rattle.mk_sched.specs.declared.sims.Kept.{Kept}
 use Rattle.mk_sched.specs.Built.{IsBuiltPlan}
 use Rattle.mk_sched.specs.Steps.{dues_in}
-use Rattle.mk_sched.specs.Mirrors.{Mirrors, IsSimOf, IsKept, IsNewKept, new_sim, free_id}
+use Rattle.mk_sched.specs.Mirrors.{Mirrors, IsSimOf, IsKept, IsNewKept, new_sim}
 use Rattle.mk_sched.proofs.Mirroring.{due_list}
 use Rattle.mk_sched.proofs.Standing.{dues_at}
 

@@ -1,13 +1,12 @@
 -- What right messages and their data are like.
-use Rattle.std.proofs.Common.{◌≡◌, ℕ, ◌<◌, ◌≤◌, ℤ, pos, negsuc, ◌≤ℤ◌, ◌<ℤ◌, Bool, true, false, not, ◌&&◌, ◌||◌, List, [], ◌∷◌, ◌++◌, length, map, Option, Some, None, option_map, option_and_then, unwrap_or, slice_get, refl, sym, ap, ◌∙◌, subst, arith, true≢false, int_lt, int_le, nat_le, if◌then◌else◌, ◌==◌, ◌+◌}
+use Rattle.std.proofs.Common.{◌≡◌, ℕ, ◌≤◌, ℤ, pos, negsuc, ◌≤ℤ◌, Bool, true, false, not, ◌&&◌, ◌||◌, List, [], ◌∷◌, map, Option, Some, None, option_map, option_and_then, unwrap_or, refl, sym, ap, ◌∙◌, arith, true≢false, int_lt, int_le, nat_le, if◌then◌else◌, ◌==◌, ◌+◌}
 use Rattle.std.specs.List.{list_all, list_any, find}
 use Rattle.std.proofs.lemmas.Int.{ints}
 use Rattle.mk_base.specs.declared.tier.Tier.{Tier}
 use Rattle.mk_base.specs.declared.json.Json.{Json, Json-F, out-Json, map-Json}
-use Rattle.mk_base.specs.Folds.{folded}
-use Rattle.mk_base.specs.Lists.{IsIn, same_text, value_under}
+use Rattle.mk_base.specs.Lists.{same_text, value_under}
 use Rattle.mk_base.specs.Tiers.{moment}
-use Rattle.mk_base.specs.Trees.{whole_in, member, members_in, is_in_range, range_step, is_object, is_whole, nesting, value_depth}
+use Rattle.mk_base.specs.Trees.{whole_in, member, is_in_range, range_step, is_object, is_whole, nesting, value_depth}
 use Rattle.mk_base.proofs.FoldsAgree.{folded_out}
 use Rattle.mk_base.proofs.Lists.{none_some, some_same}
 use Rattle.mk_plan.specs.declared.Plan.{Plan}
@@ -16,11 +15,9 @@ use Rattle.mk_plan.specs.declared.Message.{Message}
 use Rattle.mk_plan.specs.declared.Message.TheVariants.{Ask, Success, Failure}
 use Rattle.mk_plan.specs.declared.Place.{Place}
 use Rattle.mk_plan.specs.declared.Place.TheVariants.{Idle, Stepping, Fetching}
-use Rattle.mk_plan.specs.declared.Cause.{Cause}
 use Rattle.mk_plan.specs.declared.Cause.TheVariants.{Wrong, Failed}
 use Rattle.mk_plan.specs.Plans.{has_outputs}
 use Rattle.mk_plan.specs.Turns.{unasked, first_cause, is_number, time_in, holds_of, part_for, value_for, wrong, wrong_data, next_place, wanted}
-use Rattle.mk_plan.specs.Acts.{content_of}
 use Rattle.mk_turns.proofs.Right.{right_value_is_datum, right_data_reply}
 use Rattle.mk_turns.proofs.Taken.{taken, taken_is_wanted}
 use Rattle.mk_sched.specs.Built.{is_built_message}

@@ -1,5 +1,5 @@
 -- What connections hold after one more turn, and that no values are set.
-use Rattle.std.proofs.Common.{◌≡◌, ℕ, ◌+◌, ◌<◌, ◌≤◌, ℤ, Bool, true, false, List, [], ◌∷◌, ◌++◌, length, map, filter, filter_map, flat_map, Option, Some, None, option_map, option_and_then, unwrap_or, slice_get, refl, sym, ap, ◌∙◌, subst, arith, int_lt, nat_lt, ◌==◌, ◌&&◌, if◌then◌else◌, option_to_list, true≢false, inl, inr, Result, Ok, Err, IfOk}
+use Rattle.std.proofs.Common.{◌≡◌, ℕ, ◌+◌, ℤ, Bool, true, false, List, [], ◌∷◌, ◌++◌, length, map, filter, Option, Some, None, option_map, option_and_then, unwrap_or, slice_get, refl, sym, ap, ◌∙◌, subst, arith, int_lt, nat_lt, ◌==◌, ◌&&◌, if◌then◌else◌, option_to_list, true≢false, inl, Result, Ok, Err, IfOk}
 use Rattle.mk_base.specs.declared.Mem.{Mem}
 use Rattle.std.specs.List.{list_any}
 use Rattle.std.proofs.lemmas.Bool.{eq-eqb}
@@ -15,16 +15,15 @@ use Rattle.mk_base.proofs.Lists.{in_flat_map, in_map, in_filter, none_some, appe
 use Rattle.mk_plan.specs.declared.Plan.{Plan}
 use Rattle.mk_plan.specs.declared.Conn.{Conn}
 use Rattle.mk_plan.specs.declared.AsyncPair.{AsyncPair}
-use Rattle.mk_plan.specs.declared.Message.{Message}
 use Rattle.mk_plan.specs.declared.SetValue.{SetValue}
 use Rattle.mk_plan.specs.Plans.{owner, full_id, eid_of, has_pair}
 use Rattle.mk_plan.specs.Turns.{time_in}
-use Rattle.mk_plan.specs.Acts.{Act, Family, asks, outputs_in, made, output}
+use Rattle.mk_plan.specs.Acts.{Act, Family, asks, outputs_in, made}
 use Rattle.mk_plan.specs.Asks.{set_values, sets_of}
-use Rattle.mk_plan.specs.Deliveries.{Timed, Gift, Supply, supply, gifts_of}
+use Rattle.mk_plan.specs.Deliveries.{Timed, Gift, supply, gifts_of}
 use Rattle.mk_plan.specs.Sequential.{grown}
 use Rattle.mk_buffers.specs.Held.{Held, Holds, with_output}
-use Rattle.mk_buffers.proofs.Holding.{given_all, given_one, given_nothing, turn_outputs}
+use Rattle.mk_buffers.proofs.Holding.{given_all, given_one, given_nothing}
 use Rattle.mk_confluence.proofs.LateActs.{sets_lent}
 use Rattle.mk_sched.specs.Built.{IsBuiltPlan}
 use Rattle.mk_sched.specs.Moves.{HasGained, gained, data_act, made_at}

@@ -1,9 +1,8 @@
 -- What the built forms leave out: triggers, and walks of more than one simulator.
-use Rattle.std.proofs.Common.{◌≡◌, ℕ, ◌<◌, Bool, true, false, ◌&&◌, List, [], ◌∷◌, ◌++◌, length, map, filter, flat_map, Option, Some, None, option_map, option_and_then, unwrap_or, slice_get, refl, sym, ap, ◌∙◌, subst, ◌==◌, ℤ, All, inl, inr}
+use Rattle.std.proofs.Common.{◌≡◌, ℕ, ◌<◌, Bool, true, false, ◌&&◌, List, [], ◌++◌, length, map, filter, flat_map, Option, Some, None, option_map, option_and_then, unwrap_or, slice_get, refl, sym, ap, ◌∙◌, subst, ◌==◌, All, inl, inr}
 use Rattle.std.specs.List.{list_any}
 use Rattle.mk_plan.specs.declared.PlanEntity.{PlanEntity}
 use Rattle.mk_plan.specs.declared.PlanModel.{PlanModel}
-use Rattle.mk_base.specs.declared.SimKind.{SimKind}
 use Rattle.mk_base.specs.declared.SimKind.TheVariants.{TimeBased, EventBased}
 use Rattle.mk_base.specs.declared.tier.Tier.{Tier}
 use Rattle.mk_base.specs.declared.tier.Via.{Via}
@@ -13,14 +12,14 @@ use Rattle.mk_plan.specs.declared.Plan.{Plan}
 use Rattle.mk_plan.specs.declared.PlanSim.{PlanSim}
 use Rattle.mk_plan.specs.declared.Conn.{Conn}
 use Rattle.mk_plan.specs.declared.AsyncPair.{AsyncPair}
-use Rattle.mk_plan.specs.Plans.{sim_count, kind_of, owner, link_of, pair_links, trigger_links, waiting_links, has_pair, RefersInside, IsValidPlan, Link}
+use Rattle.mk_plan.specs.Plans.{sim_count, kind_of, owner, link_of, pair_links, trigger_links, has_pair, RefersInside, IsValidPlan, Link}
 use Rattle.mk_plan.specs.Acts.{Act, Family}
 use Rattle.mk_plan.specs.Deliveries.{Supply, supply, deliveries, triggers, triggering_to}
 use Rattle.mk_plan.specs.Due.{due_times, is_within, first_times, own_times}
 use Rattle.mk_plan.specs.Plans.{of_sim}
-use Rattle.mk_plan.specs.Journals.{View, Fault, loop_fault, beyond}
-use Rattle.mk_plan.specs.Walks.{IsEdge, IsLink, Reach, from_start, along, nobody, link}
-use Rattle.mk_plan.specs.Advance.{IsOuter, IsComing, IsAdvance, unbounded}
+use Rattle.mk_plan.specs.Journals.{View, loop_fault, beyond}
+use Rattle.mk_plan.specs.Walks.{IsEdge, IsLink, Reach, from_start, along, link}
+use Rattle.mk_plan.specs.Advance.{IsComing, IsAdvance, unbounded}
 use Rattle.mk_sched.specs.Built.{IsBuiltPlan}
 
 module _ (P : Plan) (valid : IsValidPlan P) (built : IsBuiltPlan P) where

@@ -1,38 +1,35 @@
 -- What is kept beside a journal says who starts when, and who is ready.
-use Rattle.std.proofs.Common.{◌≡◌, ◌≢◌, ℕ, ◌+◌, ◌<◌, ◌≤◌, ℤ, pos, Bool, true, false, not, List, [], ◌∷◌, ◌++◌, length, map, filter, filter_map, Option, Some, None, option_map, unwrap_or, slice_get, slice_set, append_assoc, refl, sym, ap, ◌∙◌, subst, inl, inr, arith, true≢false, if◌then◌else◌}
+use Rattle.std.proofs.Common.{◌≡◌, ℕ, ◌<◌, ℤ, Bool, true, false, not, List, [], ◌∷◌, ◌++◌, length, map, filter, filter_map, Option, Some, None, option_map, unwrap_or, slice_get, append_assoc, refl, sym, ap, ◌∙◌, subst, arith, true≢false}
 use Rattle.std.specs.List.{list_any, cons_option}
 use Rattle.mk_base.specs.declared.tier.Tier.{Tier}
 use Rattle.mk_base.specs.Lists.{IsIn}
 use Rattle.mk_base.specs.Tiers.{moment}
-use Rattle.mk_base.proofs.Lists.{append_nil, filter_append, filter_map_append, map_append, below_get, get_is, none_some, some_same, some_passes, at_in, in_at, passes_some}
+use Rattle.mk_base.proofs.Lists.{append_nil, filter_append, filter_map_append, map_append, below_get, get_is, none_some, some_passes, at_in, in_at, passes_some}
 use Rattle.mk_plan.specs.declared.Plan.{Plan}
 use Rattle.mk_plan.specs.declared.PlanSim.{PlanSim}
 use Rattle.mk_plan.specs.declared.Entry.{Entry}
-use Rattle.mk_plan.specs.declared.Place.{Place}
 use Rattle.mk_plan.specs.declared.Place.TheVariants.{Idle}
 use Rattle.mk_plan.specs.Plans.{sim_count, IsValidPlan}
 use Rattle.mk_plan.specs.Acts.{Act, Family, next_time}
 use Rattle.mk_plan.specs.Deliveries.{supply, triggers}
 use Rattle.mk_plan.specs.Due.{is_within, first_times, own_times, due_times}
-use Rattle.mk_plan.specs.Inputs.{is_since}
 use Rattle.mk_plan.specs.Sequential.{last_time}
 use Rattle.mk_plan.specs.Journals.{View, OpenTurn, view, place_at}
-use Rattle.mk_plan.specs.Orderly.{IsOrderlySoFar, IsOrderly, IsFirstReady}
-use Rattle.mk_plan.specs.Ready.{least, pending, start, step_at, IsReady, IsDone}
+use Rattle.mk_plan.specs.Orderly.{IsFirstReady}
+use Rattle.mk_plan.specs.Ready.{least, start, IsReady}
 use Rattle.mk_plan.specs.Advance.{IsAdvance}
 use Rattle.mk_confluence.proofs.Reasons.{pending_below}
-use Rattle.mk_confluence.proofs.Orders.{somebody_is_ready}
 use Rattle.mk_sched.specs.declared.sims.Sim.{Sim}
 use Rattle.mk_sched.specs.declared.sims.Kept.{Kept}
 use Rattle.mk_sched.specs.declared.ready.ReadySim.{ReadySim}
 use Rattle.mk_sched.specs.Built.{IsBuiltPlan}
 use Rattle.mk_sched.specs.Steps.{place_in, dues_in, start_in, time_at, is_idle, next_dues, ready_time, IsFirst}
 use Rattle.mk_sched.specs.Moves.{is_busy}
-use Rattle.mk_sched.specs.Mirrors.{Mirrors, IsSimOf, IsTurn, IsKept, free_id}
+use Rattle.mk_sched.specs.Mirrors.{Mirrors, IsTurn, IsKept, free_id}
 use Rattle.mk_sched.specs.Answers.{id_at}
 use Rattle.mk_sched.specs.declared.faults.Ended.{Ended}
 use Rattle.mk_sched.proofs.LeftOut.{no_triggers}
-use Rattle.mk_sched.proofs.Readiness.{start_is, ready_sound, ready_back, idle_closed, closed_idle, all_pass}
+use Rattle.mk_sched.proofs.Readiness.{start_is, ready_sound, ready_back, idle_closed, closed_idle}
 
 -- ---- one more act makes one more due time
 

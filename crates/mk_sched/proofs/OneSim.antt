@@ -1,15 +1,15 @@
 -- What is kept of one simulator, when a step of it begins, goes on and ends.
-use Rattle.std.proofs.Common.{◌≡◌, ℕ, ◌+◌, ◌<◌, ◌≤◌, ℤ, pos, ◌<ℤ◌, ◌≤ℤ◌, Bool, true, false, not, List, [], ◌∷◌, ◌++◌, length, map, filter, filter_map, fold, Option, Some, None, option_map, option_and_then, unwrap_or, slice_get, refl, sym, ap, ◌∙◌, subst, arith, true≢false, zero-add, append_assoc, length-append, if◌then◌else◌}
-use Rattle.std.specs.Prelude.{IfSome, sum_by}
+use Rattle.std.proofs.Common.{◌≡◌, ℕ, ◌+◌, ◌≤◌, ℤ, ◌<ℤ◌, Bool, true, false, not, List, [], ◌∷◌, ◌++◌, length, filter, filter_map, Option, Some, None, option_and_then, refl, sym, ap, ◌∙◌, subst, arith, true≢false, zero-add, length-append, if◌then◌else◌}
+use Rattle.std.specs.Prelude.{sum_by}
 use Rattle.std.specs.List.{cons_option}
 use Rattle.std.proofs.lemmas.Int.{ints}
 use Rattle.std.proofs.lemmas.List.Sums.{sum_by-append, fold-append}
 use Rattle.mk_base.specs.declared.tier.Tier.{Tier}
 use Rattle.mk_base.specs.declared.json.Json.{Json}
-use Rattle.mk_base.specs.Tiers.{moment, up_to, before}
+use Rattle.mk_base.specs.Tiers.{moment, up_to}
 use Rattle.mk_base.specs.Trees.{whole_in}
 use Rattle.mk_base.proofs.TierOrder.{up_to_total, up_to_trans}
-use Rattle.mk_base.proofs.Lists.{filter_append, filter_map_append, flat_map_append, map_append, append_nil, none_some, some_same}
+use Rattle.mk_base.proofs.Lists.{filter_append, filter_map_append, flat_map_append, append_nil}
 use Rattle.mk_plan.specs.declared.Plan.{Plan}
 use Rattle.mk_plan.specs.declared.Input.{Input}
 use Rattle.mk_plan.specs.declared.Item.{Item}
@@ -19,16 +19,16 @@ use Rattle.mk_plan.specs.declared.Place.{Place}
 use Rattle.mk_plan.specs.declared.Place.TheVariants.{Idle, Stepping, Fetching}
 use Rattle.mk_plan.specs.declared.Want.{Want}
 use Rattle.mk_plan.specs.Plans.{first_id}
-use Rattle.mk_plan.specs.Acts.{Said, Told, Heard, Act, content_of, next_time}
-use Rattle.mk_plan.specs.Due.{is_within, own_times}
+use Rattle.mk_plan.specs.Acts.{Said, Told, Heard, Act, content_of}
+use Rattle.mk_plan.specs.Due.{is_within}
 use Rattle.mk_plan.specs.Inputs.{is_since}
 use Rattle.mk_plan.specs.Sequential.{ids_used, items, told, last_time, messages_in, opening}
-use Rattle.mk_plan.specs.Journals.{OpenTurn, messages_of, ended_turn, bare}
+use Rattle.mk_plan.specs.Journals.{OpenTurn, ended_turn, bare}
 use Rattle.mk_plan.specs.Ready.{step_at}
 use Rattle.mk_sched.specs.declared.sims.Sim.{Sim}
 use Rattle.mk_sched.specs.Steps.{begun_sim, further_sim, ended_sim, next_dues}
 use Rattle.mk_sched.specs.Moves.{IsInRun, next_in}
-use Rattle.mk_sched.specs.Mirrors.{IsSimOf, IsTurn, IsOpenAt, IsOpened, IsClosed, IsStepping, IsFetching, ids_in, free_id}
+use Rattle.mk_sched.specs.Mirrors.{IsSimOf, IsTurn, IsOpenAt, IsStepping, ids_in, free_id}
 
 -- ---- times
 

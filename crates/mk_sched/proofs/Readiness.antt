@@ -1,27 +1,27 @@
 -- The test of who is ready is the definition of it.
-use Rattle.std.proofs.Common.{◌≡◌, ℕ, ◌<◌, Bool, true, false, not, ◌||◌, List, [], ◌∷◌, length, filter, Option, Some, None, option_map, unwrap_or, slice_get, refl, sym, ap, ◌∙◌, subst, ◌==◌, true≢false, All, ◌&&◌, inl, inr, ℤ, if◌then◌else◌}
+use Rattle.std.proofs.Common.{◌≡◌, ℕ, ◌<◌, Bool, true, false, not, ◌||◌, List, [], ◌∷◌, length, filter, Option, Some, None, option_map, unwrap_or, slice_get, refl, sym, ap, ◌∙◌, subst, ◌==◌, true≢false, ◌&&◌, inl, inr, ℤ, if◌then◌else◌}
 use Rattle.std.specs.List.{list_all}
 use Rattle.std.proofs.lemmas.Bool.{eqb-true, eq-eqb}
 use Rattle.mk_base.specs.declared.tier.Tier.{Tier}
 use Rattle.mk_base.specs.declared.tier.Via.{Via}
 use Rattle.mk_base.specs.Lists.{IsIn}
-use Rattle.mk_base.specs.Tiers.{delayed, up_to, before}
+use Rattle.mk_base.specs.Tiers.{delayed, up_to}
 use Rattle.mk_base.proofs.Lists.{all_in, none_some, some_same}
 use Rattle.mk_plan.specs.declared.Plan.{Plan}
 use Rattle.mk_plan.specs.declared.Conn.{Conn}
 use Rattle.mk_plan.specs.declared.Place.{Place}
 use Rattle.mk_plan.specs.declared.Place.TheVariants.{Idle, Stepping, Fetching}
-use Rattle.mk_plan.specs.Plans.{sim_count, owner, Link, link_of, IsValidPlan}
+use Rattle.mk_plan.specs.Plans.{sim_count, owner, Link, IsValidPlan}
 use Rattle.mk_plan.specs.Due.{due_times}
 use Rattle.mk_plan.specs.Sequential.{last_time}
 use Rattle.mk_plan.specs.Inputs.{is_since}
 use Rattle.mk_plan.specs.Journals.{View, OpenTurn}
 use Rattle.mk_plan.specs.Ready.{least, pending, start, step_at, IsClear, IsReady}
-use Rattle.mk_plan.specs.Walks.{IsLink, Reach, from_start, nobody, link}
+use Rattle.mk_plan.specs.Walks.{IsLink, from_start, nobody}
 use Rattle.mk_sched.specs.declared.sims.Sim.{Sim}
 use Rattle.mk_sched.specs.Built.{IsBuiltPlan}
 use Rattle.mk_sched.specs.Steps.{place_in, dues_in, is_idle, time_at, start_in, comes_after, is_late, is_clear, clear_time, ready_time}
-use Rattle.mk_sched.specs.Mirrors.{IsTurn, IsOpenAt, IsClosed, IsOpened}
+use Rattle.mk_sched.specs.Mirrors.{IsTurn, IsOpenAt}
 use Rattle.mk_sched.proofs.LeftOut.{walk_is, conn_of, link_by, owner_below}
 
 pub all_pass : {X : Type 0} (p : X → Bool) (x : X) (xs : List X) → list_all p xs ≡ true → IsIn x xs → p x ≡ true

@@ -1,5 +1,5 @@
 -- The test of the built forms is what it is to be of one.
-use Rattle.std.proofs.Common.{◌≡◌, ℕ, ◌<◌, Bool, true, false, ◌&&◌, List, [], ◌∷◌, length, All, Some, get_or, refl, sym, ap, ◌∙◌, ◌==◌, ◌↔◌, true≢false, ℤ, arith, subst}
+use Rattle.std.proofs.Common.{◌≡◌, true, ◌&&◌, List, [], ◌∷◌, length, All, get_or, refl, sym, ap, ◌==◌, true≢false, ℤ, arith}
 use Rattle.std.specs.List.{list_all}
 use Rattle.std.proofs.lemmas.Bool.{eqb-true}
 use Rattle.std.proofs.lemmas.Option.{slice_get-get_or}

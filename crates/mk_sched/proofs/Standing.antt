@@ -1,15 +1,15 @@
 -- What stands of a core, and what is kept beside a journal where one simulator moves on.
-use Rattle.std.proofs.Common.{◌≡◌, ◌≢◌, ℕ, ◌+◌, ◌<◌, ◌≤◌, Bool, true, false, List, [], ◌∷◌, ◌++◌, length, filter, Option, Some, None, option_map, unwrap_or, slice_get, slice_set, refl, sym, ap, ◌∙◌, subst, ◌⊎◌, inl, inr, arith, true≢false, ◌==◌, length-append, length-set, if◌then◌else◌}
+use Rattle.std.proofs.Common.{◌≡◌, ◌≢◌, ℕ, ◌+◌, ◌<◌, ◌≤◌, Bool, true, false, List, [], ◌∷◌, ◌++◌, length, Option, Some, None, unwrap_or, slice_get, slice_set, refl, sym, ap, ◌∙◌, subst, ◌⊎◌, inl, inr, arith, true≢false, ◌==◌, length-append}
 use Rattle.std.proofs.lemmas.Bool.{eqb-true, eq-eqb}
 use Rattle.mk_base.specs.declared.tier.Tier.{Tier}
 use Rattle.mk_base.proofs.Lists.{some_same}
 use Rattle.mk_plan.specs.declared.Plan.{Plan}
 use Rattle.mk_plan.specs.declared.Entry.{Entry}
-use Rattle.mk_plan.specs.Plans.{sim_count, IsValidPlan}
+use Rattle.mk_plan.specs.Plans.{IsValidPlan}
 use Rattle.mk_plan.specs.Acts.{Act}
 use Rattle.mk_plan.specs.Due.{due_times}
 use Rattle.mk_plan.specs.Journals.{View, OpenTurn, note, view}
-use Rattle.mk_plan.specs.Orderly.{IsOrderly, IsAllowed}
+use Rattle.mk_plan.specs.Orderly.{IsAllowed}
 use Rattle.mk_plan.specs.Ready.{IsReady}
 use Rattle.mk_plan.specs.Advance.{IsAdvance}
 use Rattle.mk_confluence.proofs.Headlines.{orderly_agrees}

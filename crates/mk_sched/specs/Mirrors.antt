@@ -1,5 +1,5 @@
 -- What is kept beside the journal is what the journal's view has.
-use Rattle.std.specs.Prelude.{◌≡◌, ℕ, ◌<◌, ◌≤◌, ◌+◌, ℤ, pos, ◌≤ℤ◌, List, [], ◌∷◌, ◌++◌, length, filter, filter_map, Option, Some, None, IfSome, slice_get, map, false}
+use Rattle.std.specs.Prelude.{◌≡◌, ℕ, ◌<◌, ◌≤◌, ◌+◌, ℤ, pos, List, [], ◌∷◌, ◌++◌, length, filter, filter_map, Option, Some, None, slice_get, map, false}
 use Rattle.std.specs.List.{range_with_len}
 use Rattle.mk_base.specs.Tiers.{moment}
 use Rattle.mk_base.specs.declared.tier.Tier.{Tier}

@@ -1,12 +1,11 @@
 -- What the journal and what is kept beside it become by one call.
-use Rattle.std.specs.Prelude.{◌≡◌, ◌≢◌, not, Result, Ok, Err, ℕ, ◌<◌, ◌⊎◌, ℤ, ◌+◌, Bool, true, false, List, [], ◌∷◌, ◌++◌, length, filter, Option, Some, None, option_map, option_and_then, option_to_list, slice_get, slice_set, ◌==◌, int_lt, nat_lt, if◌then◌else◌, unwrap_or, ⊤, pos, ◌≤ℤ◌, ◌≤◌, ◌^◌, IfSome}
+use Rattle.std.specs.Prelude.{◌≡◌, ◌≢◌, not, Result, Ok, Err, ℕ, ◌<◌, ◌⊎◌, ℤ, ◌+◌, Bool, true, false, List, [], ◌∷◌, ◌++◌, length, filter, Option, Some, None, option_map, option_and_then, option_to_list, slice_get, slice_set, ◌==◌, int_lt, nat_lt, if◌then◌else◌, unwrap_or, ⊤, pos, ◌≤ℤ◌, ◌≤◌, ◌^◌}
 use Rattle.mk_base.specs.declared.SimNo.{SimNo}
 use Rattle.mk_base.specs.declared.tier.Tier.{Tier}
 use Rattle.mk_base.specs.declared.json.Json.{Json}
 use Rattle.mk_base.specs.Lists.{IsIn}
 use Rattle.mk_base.specs.Tiers.{moment}
 use Rattle.mk_base.specs.Trees.{whole_in, member, is_datum}
-use Rattle.mk_base.specs.Texts.{text_of}
 use Rattle.mk_plan.specs.declared.Plan.{Plan}
 use Rattle.mk_plan.specs.declared.Conn.{Conn}
 use Rattle.mk_plan.specs.declared.Entry.{Entry}

@@ -1,10 +1,8 @@
 -- What is kept of each simulator, and who is ready by it.
-use Rattle.std.specs.Prelude.{◌≡◌, ℕ, ◌<◌, ℤ, Bool, true, false, not, ◌||◌, ◌+◌, List, [], ◌∷◌, ◌++◌, length, filter, Option, Some, None, unwrap_or, option_map, option_to_list, slice_get, slice_set, ◌==◌, if◌then◌else◌}
+use Rattle.std.specs.Prelude.{◌≡◌, ℕ, ◌<◌, ℤ, Bool, true, false, not, ◌||◌, ◌+◌, List, [], ◌∷◌, length, filter, Option, Some, None, unwrap_or, option_map, slice_get, slice_set, ◌==◌, if◌then◌else◌}
 use Rattle.std.specs.List.{list_all}
-use Rattle.mk_base.specs.declared.SimNo.{SimNo}
 use Rattle.mk_base.specs.declared.tier.Tier.{Tier}
 use Rattle.mk_base.specs.declared.tier.Via.{Via}
-use Rattle.mk_base.specs.declared.json.Json.{Json}
 use Rattle.mk_base.specs.Tiers.{before, delayed, moment}
 use Rattle.mk_plan.specs.declared.Plan.{Plan}
 use Rattle.mk_plan.specs.declared.Conn.{Conn}

@@ -9,8 +9,6 @@ mod outputs;
 mod ready;
 mod sims;
 mod taking;
-#[cfg(test)]
-mod tests;
 
 pub use cores::Core;
 pub use faults::{CoreFault, Ended, Next, Taken};

@@ -1,5 +1,4 @@
-use Rattle.std.proofs.Common.{◌≡◌, ◌<◌, ap, ◌∙◌, [], ◌∷◌, ◌++◌, List, length, map, filter, get_or, pos, arith}
-use Rattle.mk_base.specs.declared.tier.Tier.{Tier}
+use Rattle.std.proofs.Common.{◌≡◌, ◌<◌, ap, ◌∙◌, [], ◌∷◌, ◌++◌, List, length, filter, get_or, pos, arith}
 use Rattle.mk_base.specs.Tiers.{moment}
 use Rattle.mk_plan.specs.declared.PlanSim.{PlanSim}
 use Rattle.mk_plan.specs.Due.{is_within}

@@ -1,4 +1,4 @@
-use Rattle.std.proofs.Common.{◌≡◌, ℕ, [], ◌∷◌, map, filter, pos, take, length}
+use Rattle.std.proofs.Common.{◌≡◌, [], ◌∷◌, map, filter, pos, take}
 use Rattle.std.specs.List.{range_with_len}
 use Rattle.mk_base.specs.Tiers.{moment}
 use Rattle.mk_plan.specs.declared.PlanSim.{PlanSim}

@@ -1,4 +1,4 @@
-use Rattle.std.proofs.Common.{Option, None, sym, subst}
+use Rattle.std.proofs.Common.{Option, sym, subst}
 use Rattle.mk_sched.proofs.cores.Core.arrive.Goals as goal
 use Rattle.mk_sched.specs.declared.faults.Ended.{Ended}
 use Rattle.mk_sched.specs.Mirrors.{IsKept}

@@ -1,4 +1,4 @@
-use Rattle.std.proofs.Common.{[], List, sym, subst, None}
+use Rattle.std.proofs.Common.{List, sym, subst, None}
 use Rattle.mk_plan.specs.declared.Entry.{Entry}
 use Rattle.mk_sched.proofs.cores.Core.new.Goals as goal
 use Rattle.mk_sched.specs.Mirrors.{IsKept}
