@@ -54,6 +54,10 @@ pub writes_nine_lines : record_text counter replies ≡ nine_lines
 unfolding trees_compute
 writes_nine_lines = refl
 
+pub one_message : reading (codes "mosaikrun 1\nrun [1,100,2000000]\nsim [\"A-0\",\"time-based\",3,0,[]]\nmodel [0,\"Count\",[\"out\"],false]\nentity [0,\"0\",[]]\ngot [0,[1,3,1]]\nend 1\n") ≡ Said (record counter { until = pos 1 }) (reply 3 1 ∷ [])
+unfolding serde_json_on_literals trees_compute is_utf8 chars
+one_message = refl
+
 pub without_the_last_feed : reading (lines_with sim_line got_line (codes "end 3") []) ≡ Faulty 9 5
 unfolding serde_json_on_literals trees_compute is_utf8 chars
 without_the_last_feed = refl
