@@ -3,8 +3,8 @@ ghost use Rattle.std.specs.Fmt.{decimal, signed_decimal};
 ghost use Rattle.mk_plan.specs.Report.{line_of, inputs_text};
 
 use mk_base::{List, Mem, Tier};
-use mk_plan::{Input, Item};
 use mk_message::inputs_bytes;
+use mk_plan::{Input, Item};
 use std::alloc::Global;
 
 // Appends an item's line; nothing for a GetData.

@@ -31,7 +31,13 @@ fn plan(alloc: Global) -> Result<Plan, Mem> {
     })
 }
 
-fn input(alloc: Global, eid: &str, attr: &str, source: &str, value: i128) -> Result<Input, DatumFault> {
+fn input(
+    alloc: Global,
+    eid: &str,
+    attr: &str,
+    source: &str,
+    value: i128,
+) -> Result<Input, DatumFault> {
     Ok(Input {
         eid: Text::of(alloc, eid)?,
         attr: Text::of(alloc, attr)?,

@@ -8,7 +8,7 @@ use Rattle.mk_report.proofs.parts.note.Goals as goal
 pub returns-then-place-as_slice : goal.returns-then-place-as_slice
 returns-then-place-as_slice c count J are = subst (λ (e : Entry). OnOk c.add_item.result (AreParts count (J ++ e ∷ []) (slice_set c.args.parts.now.items c.in-Sent.sim.0 c.add_item.new.part))) (sym c.in-Sent.is)
     (put_if_ok c.add_item.result count J c.in-Sent.sim c.in-Sent.item c.args.parts.now.items c.index_mut.result.now c.add_item.new.part
-        (there c.args.parts.now.items c.in-Sent.sim.0 c.index_mut.result.now (subst (λ n. c.in-Sent.sim.0 < n) (ap length c.as_slice.ensures.value) c.if-place-as_slice.true) c.index_mut.ensures.value) c.add_item.ensures.lines c.add_item.ensures.steps are)
+    (there c.args.parts.now.items c.in-Sent.sim.0 c.index_mut.result.now (subst (λ n. c.in-Sent.sim.0 < n) (ap length c.as_slice.ensures.value) c.if-place-as_slice.true) c.index_mut.ensures.value) c.add_item.ensures.lines c.add_item.ensures.steps are)
 
 pub returns-else-place-as_slice : goal.returns-else-place-as_slice
 returns-else-place-as_slice c count J are = subst (λ (e : Entry). AreParts count (J ++ e ∷ []) c.args.parts.now.items) (sym c.in-Sent.is)

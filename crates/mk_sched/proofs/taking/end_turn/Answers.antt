@@ -43,6 +43,6 @@ pub take_outputs-requires-clause-values : goal.take_outputs-requires-clause-valu
 take_outputs-requires-clause-values c =
     let same : c.requires.right.state ≡ c.at-state.result.now = some_same (sym c.requires.right.there ∙ c.at-state.ensures) in
     has_values c.args.plan.now c.args.sim.0 c.in-Fetching-Success.at c.in-Fetching-Success.id c.in-Fetching-Success.id-1 c.in-Fetching-Success.content
-        (ap (λ (m : Message). wrong c.args.plan.now c.args.sim.0 (Fetching c.in-Fetching-Success.at c.in-Fetching-Success.id) m) (sym c.in-Fetching-Success.is-1)
-        ∙ ap (λ (p : Place). wrong c.args.plan.now c.args.sim.0 p c.args.message.now) (sym c.in-Fetching-Success.is-0)
-        ∙ subst (λ (s : Sim). wrong c.args.plan.now c.args.sim.0 s.place c.args.message.now ≡ None) same c.requires.right.right)
+    (ap (λ (m : Message). wrong c.args.plan.now c.args.sim.0 (Fetching c.in-Fetching-Success.at c.in-Fetching-Success.id) m) (sym c.in-Fetching-Success.is-1)
+    ∙ ap (λ (p : Place). wrong c.args.plan.now c.args.sim.0 p c.args.message.now) (sym c.in-Fetching-Success.is-0)
+    ∙ subst (λ (s : Sim). wrong c.args.plan.now c.args.sim.0 s.place c.args.message.now ≡ None) same c.requires.right.right)
