@@ -1,6 +1,6 @@
 use crate::write_report;
 use mk_base::{Json, List, Mem, SimKind, SimNo, Text, Tier};
-use mk_json::{DatumFault, datum};
+use mk_json::datum;
 use mk_plan::{Entry, Input, Item, Journal, Plan, PlanSim};
 use std::alloc::Global;
 use std::test::Fail;
@@ -31,13 +31,7 @@ fn plan(alloc: Global) -> Result<Plan, Mem> {
     })
 }
 
-fn input(
-    alloc: Global,
-    eid: &str,
-    attr: &str,
-    source: &str,
-    value: i128,
-) -> Result<Input, DatumFault> {
+fn input(alloc: Global, eid: &str, attr: &str, source: &str, value: i128) -> Result<Input, Fail> {
     Ok(Input {
         eid: Text::of(alloc, eid)?,
         attr: Text::of(alloc, attr)?,
