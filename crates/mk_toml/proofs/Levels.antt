@@ -1,5 +1,5 @@
 -- The range of a tree's whole numbers, one level at a time.
-use Rattle.std.proofs.Common.{◌≡◌, ℕ, ◌&&◌, ℤ, Bool, true, List, [], ◌∷◌, map, refl, ap, rules, ◌∙◌}
+use Rattle.std.proofs.Common.{◌≡◌, ℕ, ℤ, Bool, true, List, map, refl, ap, rules, ◌∙◌}
 use Rattle.std.specs.List.{list_all}
 use Rattle.std.proofs.lemmas.List.Folds.{list_all-map}
 use Rattle.mk_base.specs.declared.json.Json.{Json, Json-F, the_lemmas}
