@@ -10,11 +10,12 @@ use mk_base::{Json, List, Mem, Members, Text};
 use std::alloc::Global;
 use toml::{Table, Value};
 
-/// The object whose members are the keys and values of a text of TOML (version 1.1) in UTF-8, as
-/// `toml` reads it. A number with a point or an exponent, infinity, `nan`, and a date or a time are
-/// `Odd`; whole numbers lie within 64 bits with a sign. `NotToml` comes for any other bytes: among
-/// them are texts that give a key twice, that have a greater whole number, or that nest more than
-/// 80 arrays and inline tables or have more than 80 parts in a key.
+/// The object whose members are the keys and values of a text of TOML 1.1 in UTF-8, as `toml` reads
+/// it. A table is an object, and an array a list in its order. Integers are whole; what is neither
+/// an integer, a truth value, a text, an array nor a table is `Odd`: floats, infinity and `nan`
+/// among them, dates and times. `NotToml` comes for any other bytes, as for a text that gives a key
+/// twice, that has an integer outside of 64 bits with a sign, that has more than 80 arrays and
+/// inline tables in one another, or a key of more than 80 parts.
 pub fn read_toml(alloc: Global, bytes: &[u8]) -> Result<Json, TomlFault>
     ensures ok { IfOk result (λ tree. IsUtf8 bytes.now × (toml_of bytes.now ≡ Some tree)) }
     ensures sound { IfOk result (λ tree. (is_in_range tree ≡ true) × (is_object tree ≡ true)) }
