@@ -1,0 +1,86 @@
+-- A `connect` table: a block of connections.
+use Rattle.std.specs.Prelude.{ℕ, Bool, false, not, ◌&&◌, ◌||◌, ◌==◌, List, [], ◌∷◌, map, length, codes, Option, Some, None, Result, Ok, if◌then◌else◌}
+use Rattle.mk_base.specs.declared.json.Json.{Json, Json-F, out-Json}
+use Rattle.mk_base.specs.declared.json.Json as tree
+use Rattle.mk_base.specs.declared.tier.Via.{Via}
+use Rattle.mk_base.specs.declared.tier.Via.TheVariants.{Plain, Shift, Weak}
+use Rattle.mk_base.specs.Trees.{text_in, member}
+use Rattle.mk_scenario.specs.Tests.{passed, held, no_text, found, each_at, key_in, item_in}
+use Rattle.mk_scenario.specs.Keys.{required, optional, members_of, first_unknown, truth, text, items, values}
+use Rattle.mk_scenario.specs.References.{place_of, size_of}
+use Rattle.mk_scenario.specs.declared.parts.AttrPair.{AttrPair}
+use Rattle.mk_scenario.specs.declared.parts.Group.{Group}
+use Rattle.mk_scenario.specs.declared.parts.Block.{Block}
+use Rattle.mk_scenario.specs.declared.fault.ScenarioFault.{ScenarioFault}
+use Rattle.mk_scenario.specs.declared.fault.ScenarioFault.TheVariants.{WrongKind, UnknownKey, TwoKinds, Uneven}
+
+abbrev pub block_keys : List (List ℕ)
+block_keys = codes "from" ∷ codes "to" ∷ codes "attrs" ∷ codes "time_shifted" ∷ codes "weak" ∷ codes "async_requests" ∷ codes "initial_data" ∷ []
+
+-- two texts are the names on either side
+abbrev two_names : Option (List ℕ) → Option (List ℕ) → Option AttrPair
+two_names (Some from) (Some to) = Some (record { from = from; to = to })
+two_names from to = None
+
+abbrev two_of : List Json → Option AttrPair
+two_of (a ∷ b ∷ []) = two_names (text_in a) (text_in b)
+two_of other = None
+
+abbrev pair_at : Json-F Json → Option AttrPair
+pair_at (Json-F.Text name) = Some (record { from = name; to = name })
+pair_at (Json-F.List pair) = two_of pair
+pair_at _ = None
+
+-- a pair of attributes: one name for both sides, or a list of two
+abbrev pub pair_in : Json → Option AttrPair
+pair_in value = pair_at (out-Json value)
+
+-- the pairs of attributes
+abbrev pub pairs : List ℕ → Json → Result (List AttrPair) ScenarioFault
+pairs path value =
+    passed (items path value) (λ members.
+    each_at (λ i member. found (WrongKind (item_in path i)) (pair_in member)) members)
+
+-- when the connection delivers
+abbrev pub via_of : Bool → Bool → Via
+via_of shifted weak = if shifted then Shift else if weak then Weak else Plain
+
+-- at most one of the three holds
+abbrev pub at_most_one : Bool → Bool → Bool → Bool
+at_most_one a b c = not ((a && b) || (a && c) || (b && c))
+
+-- the first name, in byte order, that no pair has as its source
+abbrev pub first_unfed : List AttrPair → Json → Option (List ℕ)
+first_unfed attrs initial = first_unknown (map (λ (p : AttrPair). p.from) attrs) initial
+
+-- initial values stand only where the delivery is delayed, and only under source attributes
+abbrev pub initial_fits : {B : Type 0} → List ℕ → Bool → List AttrPair → Json → Result B ScenarioFault → Result B ScenarioFault
+initial_fits path delayed attrs initial next =
+    held (UnknownKey path) (delayed || length (members_of initial) == 0) (
+    no_text (λ key. UnknownKey (key_in path key)) (first_unfed attrs initial) next)
+
+-- one side has one entity, or both have equally many
+abbrev pub sides_pair : ℕ → ℕ → Bool
+sides_pair m n = (n == 1) || (m == 1) || (m == n)
+
+-- the block of the table of this path
+abbrev pub block_at : List (List ℕ) → List Group → List ℕ → Json → Result Block ScenarioFault
+block_at sims groups path table =
+    no_text (λ key. UnknownKey (key_in path key)) (first_unknown block_keys table) (
+    passed (required (key_in path (codes "from")) text (member (codes "from") table)) (λ from_text.
+    passed (required (key_in path (codes "to")) text (member (codes "to") table)) (λ to_text.
+    passed (optional [] (key_in path (codes "attrs")) pairs (member (codes "attrs") table)) (λ attrs.
+    passed (optional false (key_in path (codes "time_shifted")) truth (member (codes "time_shifted") table)) (λ shifted.
+    passed (optional false (key_in path (codes "weak")) truth (member (codes "weak") table)) (λ weak.
+    passed (optional false (key_in path (codes "async_requests")) truth (member (codes "async_requests") table)) (λ asks.
+    passed (optional (tree.Object []) (key_in path (codes "initial_data")) values (member (codes "initial_data") table)) (λ initial.
+    passed (place_of sims groups (key_in path (codes "from")) from_text) (λ from.
+    passed (place_of sims groups (key_in path (codes "to")) to_text) (λ to.
+    held (TwoKinds path) (at_most_one shifted weak asks) (
+    initial_fits (key_in path (codes "initial_data")) (shifted || weak) attrs initial (
+    held (Uneven path (size_of groups from) (size_of groups to)) (sides_pair (size_of groups from) (size_of groups to)) (
+    Ok (record { from = from; to = to; attrs = attrs; via = via_of shifted weak; async_requests = asks; initial = initial }))))))))))))))
+
+-- the block of the table at place i
+abbrev pub block_in : List (List ℕ) → List Group → ℕ → Json → Result Block ScenarioFault
+block_in sims groups i table = block_at sims groups (item_in (codes "connect") i) table

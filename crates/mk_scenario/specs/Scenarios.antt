@@ -1,0 +1,35 @@
+-- The scenario that a TOML document is, or the first test that it fails.
+use Rattle.std.specs.Prelude.{ℕ, pos, List, [], ◌∷◌, map, codes, Result, Ok}
+use Rattle.mk_base.specs.declared.json.Json.{Json}
+use Rattle.mk_base.specs.Trees.{member}
+use Rattle.mk_scenario.specs.Tests.{passed, no_text, each_at, each_after}
+use Rattle.mk_scenario.specs.Keys.{required, optional, first_unknown, whole_within, count_within, tables_within}
+use Rattle.mk_scenario.specs.Sims.{sim_in}
+use Rattle.mk_scenario.specs.Groups.{group_in}
+use Rattle.mk_scenario.specs.Blocks.{block_in}
+use Rattle.mk_scenario.specs.declared.parts.SimPart.{SimPart}
+use Rattle.mk_scenario.specs.declared.parts.Scenario.{Scenario}
+use Rattle.mk_scenario.specs.declared.fault.ScenarioFault.{ScenarioFault}
+use Rattle.mk_scenario.specs.declared.fault.ScenarioFault.TheVariants.{UnknownKey}
+
+abbrev pub top_keys : List (List ℕ)
+top_keys = codes "until" ∷ codes "max_loop_iterations" ∷ codes "max_entries" ∷ codes "sim" ∷ codes "entities" ∷ codes "connect" ∷ []
+
+-- the ids of the simulators
+abbrev pub ids_of : List SimPart → List (List ℕ)
+ids_of sims = map (λ (s : SimPart). s.id) sims
+
+-- the tests of a document: the top table's, then each simulator's, each group's and each block's in order
+abbrev pub scenario_in : Json → Result Scenario ScenarioFault
+scenario_in document =
+    no_text UnknownKey (first_unknown top_keys document) (
+    passed (required (codes "until") (whole_within (pos 1) (pos 1000000000)) (member (codes "until") document)) (λ until.
+    passed (optional 100 (codes "max_loop_iterations") (count_within 1 1000) (member (codes "max_loop_iterations") document)) (λ loops.
+    passed (optional 2000000 (codes "max_entries") (count_within 1 20000000) (member (codes "max_entries") document)) (λ entries.
+    passed (required (codes "sim") (tables_within 1 200) (member (codes "sim") document)) (λ sim_tables.
+    passed (optional [] (codes "entities") (tables_within 0 10000) (member (codes "entities") document)) (λ group_tables.
+    passed (optional [] (codes "connect") (tables_within 0 100000) (member (codes "connect") document)) (λ block_tables.
+    passed (each_after sim_in sim_tables) (λ sims.
+    passed (each_after (group_in (ids_of sims)) group_tables) (λ groups.
+    passed (each_at (block_in (ids_of sims) groups) block_tables) (λ blocks.
+    Ok (record { until = until; loops = loops; entries = entries; sims = sims; groups = groups; blocks = blocks })))))))))))

@@ -1,0 +1,147 @@
+// What stands under a table's keys.
+ghost use Rattle.std.specs.Prelude.{◌≡◌, ℕ, List, [], None, Some, IfOk, IfErr, Ok, false, not, map, option_map, pos};
+ghost use Rattle.std.specs.List.{find};
+ghost use Rattle.mk_base.specs.declared.json.Json.{Json};
+ghost use Rattle.mk_base.specs.declared.json.Json as tree;
+ghost use Rattle.mk_base.specs.Trees.{member};
+ghost use Rattle.mk_scenario.specs.Keys as keys;
+ghost use Rattle.mk_scenario.specs.Tests.{IsFaultOf, key_in};
+
+use crate::fault::ScenarioFault;
+use crate::paths::key_in;
+use crate::values;
+use mk_base::{Json, List, Members, Text};
+use std::alloc::Global;
+
+// The text under a key that must stand there.
+pub fn required_text<'a>(
+    alloc: Global,
+    path: &Text,
+    key: &str,
+    table: &'a Json,
+) -> Result<&'a Text, ScenarioFault>
+    ensures ok { IfOk result (λ t. keys.required (key_in path.now key.now) keys.text (member key.now table.now) ≡ Ok t.now) }
+    ensures refused { IfErr result (λ e. IsFaultOf (keys.required (key_in path.now key.now) keys.text (member key.now table.now)) e) }
+{
+    let path = key_in(alloc, path, key)?;
+    match table.member(key) {
+        Some(value) => values::text(&path, value),
+        None => Err(ScenarioFault::Missing(path)),
+    }
+}
+
+// The text spelled as a name under a key that must stand there.
+pub fn required_name<'a>(
+    alloc: Global,
+    path: &Text,
+    key: &str,
+    table: &'a Json,
+) -> Result<&'a Text, ScenarioFault>
+    ensures ok { IfOk result (λ t. keys.required (key_in path.now key.now) keys.name (member key.now table.now) ≡ Ok t.now) }
+    ensures refused { IfErr result (λ e. IsFaultOf (keys.required (key_in path.now key.now) keys.name (member key.now table.now)) e) }
+{
+    let path = key_in(alloc, path, key)?;
+    match table.member(key) {
+        Some(value) => values::name(&path, value),
+        None => Err(ScenarioFault::Missing(path)),
+    }
+}
+
+// The text under a key that may be left out.
+pub fn optional_text<'a>(
+    alloc: Global,
+    path: &Text,
+    key: &str,
+    table: &'a Json,
+) -> Result<Option<&'a Text>, ScenarioFault>
+    ensures ok { IfOk result (λ t. keys.optional None (key_in path.now key.now) keys.some_text (member key.now table.now) ≡ Ok (option_map (λ x. x.now) t)) }
+    ensures refused { IfErr result (λ e. IsFaultOf (keys.optional None (key_in path.now key.now) keys.some_text (member key.now table.now)) e) }
+{
+    match table.member(key) {
+        Some(value) => Ok(Some(values::text(&key_in(alloc, path, key)?, value)?)),
+        None => Ok(None),
+    }
+}
+
+// The port of an address under a key that may be left out.
+pub fn optional_port(
+    alloc: Global,
+    path: &Text,
+    key: &str,
+    table: &Json,
+) -> Result<Option<u16>, ScenarioFault>
+    ensures ok { IfOk result (λ port. keys.optional None (key_in path.now key.now) keys.some_port (member key.now table.now) ≡ Ok port) }
+    ensures refused { IfErr result (λ e. IsFaultOf (keys.optional None (key_in path.now key.now) keys.some_port (member key.now table.now)) e) }
+{
+    match table.member(key) {
+        Some(value) => Ok(Some(values::port(&key_in(alloc, path, key)?, value)?)),
+        None => Ok(None),
+    }
+}
+
+// The truth value under a key that may be left out, false then.
+pub fn truth_or_false(
+    alloc: Global,
+    path: &Text,
+    key: &str,
+    table: &Json,
+) -> Result<bool, ScenarioFault>
+    ensures ok { IfOk result (λ b. keys.optional false (key_in path.now key.now) keys.truth (member key.now table.now) ≡ Ok b) }
+    ensures refused { IfErr result (λ e. IsFaultOf (keys.optional false (key_in path.now key.now) keys.truth (member key.now table.now)) e) }
+{
+    match table.member(key) {
+        Some(value) => values::truth(&key_in(alloc, path, key)?, value),
+        None => Ok(false),
+    }
+}
+
+// A copy of the table of values under a key that may be left out, an empty one then.
+pub fn values_or_none(
+    alloc: Global,
+    path: &Text,
+    key: &str,
+    table: &Json,
+) -> Result<Json, ScenarioFault>
+    ensures ok { IfOk result (λ t. keys.optional (tree.Object []) (key_in path.now key.now) keys.values (member key.now table.now) ≡ Ok t) }
+    ensures refused { IfErr result (λ e. IsFaultOf (keys.optional (tree.Object []) (key_in path.now key.now) keys.values (member key.now table.now)) e) }
+{
+    match table.member(key) {
+        Some(value) => Ok(values::values(alloc, &key_in(alloc, path, key)?, value)?.copy(alloc)?),
+        None => Ok(Json::Object(Members::new(alloc))),
+    }
+}
+
+// The count in this range under a key, of this path, that may be left out, and what stands for it then.
+pub fn count_or(
+    alloc: Global,
+    instead: u32,
+    most: u32,
+    path: &Text,
+    key: &str,
+    table: &Json,
+) -> Result<u32, ScenarioFault>
+    ensures ok { IfOk result (λ n. keys.optional instead path.now (keys.count_within 1 most) (member key.now table.now) ≡ Ok n) }
+    ensures refused { IfErr result (λ e. IsFaultOf (keys.optional instead path.now (keys.count_within 1 most) (member key.now table.now)) e) }
+{
+    match table.member(key) {
+        Some(value) => values::count_within(alloc, most, path, value),
+        None => Ok(instead),
+    }
+}
+
+// The whole numbers in this range under a key that may be left out, none then.
+pub fn wholes_or_none(
+    alloc: Global,
+    most: i64,
+    path: &Text,
+    key: &str,
+    table: &Json,
+) -> Result<List<i64>, ScenarioFault>
+    ensures ok { IfOk result (λ ns. keys.optional [] (key_in path.now key.now) (keys.wholes_within (pos 0) most) (member key.now table.now) ≡ Ok ns) }
+    ensures refused { IfErr result (λ e. IsFaultOf (keys.optional [] (key_in path.now key.now) (keys.wholes_within (pos 0) most) (member key.now table.now)) e) }
+{
+    match table.member(key) {
+        Some(value) => { values::wholes_within(alloc, 0, most, &key_in(alloc, path, key)?, value) }
+        None => Ok(List::new(alloc)),
+    }
+}

@@ -1,0 +1,12 @@
+//! A scenario file: a TOML text that says which simulators there are, which entities they create, and how these are connected.
+#![tactic(auto)]
+
+mod fault;
+mod keys;
+mod parts;
+mod paths;
+mod spelling;
+mod values;
+
+pub use fault::ScenarioFault;
+pub use parts::{AttrPair, Begin, Block, Group, Place, Scenario, SimPart};

@@ -1,0 +1,321 @@
+// What a value is, by its kind and range.
+ghost use Rattle.std.specs.Prelude.{◌≡◌, ℕ, List, IfOk, IfErr, Ok, Some, option_map, not};
+ghost use Rattle.std.specs.List.{find};
+ghost use Rattle.mk_base.specs.declared.json.Json.{Json};
+ghost use Rattle.mk_base.specs.Trees.{whole_in, text_in, items_in, members_in, is_datum};
+ghost use Rattle.mk_scenario.specs.Keys as keys;
+ghost use Rattle.mk_scenario.specs.Tests.{IsFaultOf, each_at, item_in};
+
+use crate::fault::ScenarioFault;
+use crate::paths::{count, digits, item_in, key_in};
+use crate::spelling::{is_name, port_of};
+use mk_base::{Json, List, Members, Text};
+use std::alloc::Global;
+
+pub fn whole_of(value: &Json) -> Option<i128>
+    ensures { result ≡ whole_in value.now }
+{
+    match value {
+        Json::Null => None,
+        Json::Bool(_) => None,
+        Json::Whole(n) => Some(*n),
+        Json::Odd => None,
+        Json::Text(_) => None,
+        Json::List(_) => None,
+        Json::Object(_) => None,
+    }
+}
+
+pub fn truth_of(value: &Json) -> Option<bool>
+    ensures { result ≡ keys.bool_in value.now }
+{
+    match value {
+        Json::Null => None,
+        Json::Bool(b) => Some(*b),
+        Json::Whole(_) => None,
+        Json::Odd => None,
+        Json::Text(_) => None,
+        Json::List(_) => None,
+        Json::Object(_) => None,
+    }
+}
+
+pub fn text_of(value: &Json) -> Option<&Text>
+    ensures { option_map (λ t. t.now) result ≡ text_in value.now }
+{
+    match value {
+        Json::Null => None,
+        Json::Bool(_) => None,
+        Json::Whole(_) => None,
+        Json::Odd => None,
+        Json::Text(text) => Some(text),
+        Json::List(_) => None,
+        Json::Object(_) => None,
+    }
+}
+
+pub fn items_of(value: &Json) -> Option<&List<Json>>
+    ensures { option_map (λ l. l.now) result ≡ items_in value.now }
+{
+    match value {
+        Json::Null => None,
+        Json::Bool(_) => None,
+        Json::Whole(_) => None,
+        Json::Odd => None,
+        Json::Text(_) => None,
+        Json::List(items) => Some(items),
+        Json::Object(_) => None,
+    }
+}
+
+pub fn members_of(value: &Json) -> Option<&Members<Json>>
+    ensures { option_map (λ ms. ms.now) result ≡ members_in value.now }
+{
+    match value {
+        Json::Null => None,
+        Json::Bool(_) => None,
+        Json::Whole(_) => None,
+        Json::Odd => None,
+        Json::Text(_) => None,
+        Json::List(_) => None,
+        Json::Object(members) => Some(members),
+    }
+}
+
+// The number, where it is in this range.
+pub fn within(
+    alloc: Global,
+    least: i64,
+    most: i64,
+    path: &Text,
+    n: i128,
+) -> Result<i64, ScenarioFault>
+    ensures ok { IfOk result (λ x. keys.within least most path.now n ≡ Ok x) }
+    ensures refused { IfErr result (λ e. IsFaultOf (keys.within least most path.now n) e) }
+{
+    if i128::from(least) <= n && n <= i128::from(most) {
+        Ok(n as i64)
+    } else {
+        Err(ScenarioFault::OutOfRange(path.copy()?, digits(alloc, n)?))
+    }
+}
+
+// The whole number that the value is, in this range.
+pub fn whole_within(
+    alloc: Global,
+    least: i64,
+    most: i64,
+    path: &Text,
+    value: &Json,
+) -> Result<i64, ScenarioFault>
+    ensures ok { IfOk result (λ x. keys.whole_within least most path.now value.now ≡ Ok x) }
+    ensures refused { IfErr result (λ e. IsFaultOf (keys.whole_within least most path.now value.now) e) }
+{
+    match whole_of(value) {
+        Some(n) => within(alloc, least, most, path, n),
+        None => Err(ScenarioFault::WrongKind(path.copy()?)),
+    }
+}
+
+// The count that the value is, from 1 to this.
+pub fn count_within(
+    alloc: Global,
+    most: u32,
+    path: &Text,
+    value: &Json,
+) -> Result<u32, ScenarioFault>
+    ensures ok { IfOk result (λ n. keys.count_within 1 most path.now value.now ≡ Ok n) }
+    ensures refused { IfErr result (λ e. IsFaultOf (keys.count_within 1 most path.now value.now) e) }
+{
+    let n = whole_within(alloc, 1, i64::from(most), path, value)?;
+    Ok(n as u32)
+}
+
+// The text that the value is.
+pub fn text<'a>(path: &Text, value: &'a Json) -> Result<&'a Text, ScenarioFault>
+    ensures ok { IfOk result (λ t. keys.text path.now value.now ≡ Ok t.now) }
+    ensures refused { IfErr result (λ e. IsFaultOf (keys.text path.now value.now) e) }
+{
+    match text_of(value) {
+        Some(text) => Ok(text),
+        None => Err(ScenarioFault::WrongKind(path.copy()?)),
+    }
+}
+
+// The truth value that the value is.
+pub fn truth(path: &Text, value: &Json) -> Result<bool, ScenarioFault>
+    ensures ok { IfOk result (λ b. keys.truth path.now value.now ≡ Ok b) }
+    ensures refused { IfErr result (λ e. IsFaultOf (keys.truth path.now value.now) e) }
+{
+    match truth_of(value) {
+        Some(truth) => Ok(truth),
+        None => Err(ScenarioFault::WrongKind(path.copy()?)),
+    }
+}
+
+// The text that the value is, spelled as a name.
+pub fn name<'a>(path: &Text, value: &'a Json) -> Result<&'a Text, ScenarioFault>
+    ensures ok { IfOk result (λ t. keys.name path.now value.now ≡ Ok t.now) }
+    ensures refused { IfErr result (λ e. IsFaultOf (keys.name path.now value.now) e) }
+{
+    let text = text(path, value)?;
+    if is_name(text) {
+        Ok(text)
+    } else {
+        Err(ScenarioFault::OutOfRange(path.copy()?, text.copy()?))
+    }
+}
+
+// The port of the address on this machine that the value is.
+pub fn port(path: &Text, value: &Json) -> Result<u16, ScenarioFault>
+    ensures ok { IfOk result (λ port. keys.some_port path.now value.now ≡ Ok (Some port)) }
+    ensures refused { IfErr result (λ e. IsFaultOf (keys.some_port path.now value.now) e) }
+{
+    let text = text(path, value)?;
+    match port_of(text) {
+        Some(port) => Ok(port),
+        None => Err(ScenarioFault::OutOfRange(path.copy()?, text.copy()?)),
+    }
+}
+
+// The list that the value is.
+pub fn items<'a>(path: &Text, value: &'a Json) -> Result<&'a List<Json>, ScenarioFault>
+    ensures ok { IfOk result (λ l. keys.items path.now value.now ≡ Ok l.now) }
+    ensures refused { IfErr result (λ e. IsFaultOf (keys.items path.now value.now) e) }
+{
+    match items_of(value) {
+        Some(items) => Ok(items),
+        None => Err(ScenarioFault::WrongKind(path.copy()?)),
+    }
+}
+
+// The value, which is a table.
+pub fn table<'a>(path: &Text, value: &'a Json) -> Result<&'a Json, ScenarioFault>
+    ensures ok { IfOk result (λ t. keys.table path.now value.now ≡ Ok t.now) }
+    ensures refused { IfErr result (λ e. IsFaultOf (keys.table path.now value.now) e) }
+{
+    match members_of(value) {
+        Some(_) => Ok(value),
+        None => Err(ScenarioFault::WrongKind(path.copy()?)),
+    }
+}
+
+// The value, which is a table of whole values that don't nest too deep.
+pub fn values<'a>(alloc: Global, path: &Text, value: &'a Json) -> Result<&'a Json, ScenarioFault>
+    ensures ok { IfOk result (λ t. keys.values path.now value.now ≡ Ok t.now) }
+    ensures refused { IfErr result (λ e. IsFaultOf (keys.values path.now value.now) e) }
+{
+    let params = table(path, value)?;
+    match first_unfit(params) {
+        Some(key) => Err(ScenarioFault::WrongKind(key_in(alloc, path, key.as_str())?)),
+        None => Ok(params),
+    }
+}
+
+// The first key of the table whose value is no datum.
+fn first_unfit(table: &Json) -> Option<&Text>
+    ensures { option_map (λ t. t.now) result ≡ keys.first_unfit table.now }
+{
+    match members_of(table) {
+        Some(members) => first_unfit_of(members),
+        None => None,
+    }
+}
+
+fn first_unfit_of(members: &Members<Json>) -> Option<&Text>
+    ensures { option_map (λ t. t.now) result ≡ option_map (λ (m : List ℕ × Json). m.0) (find (λ (m : List ℕ × Json). not (is_datum m.1)) members.now) }
+{
+    for (key, value) in members.entries() {
+        if !is_datum(value) {
+            return Some(key);
+        }
+    }
+    None
+}
+
+fn is_datum(value: &Json) -> bool
+    ensures { result ≡ is_datum value.now }
+{
+    value.is_whole() && value.nests_within(100)
+}
+
+// The whole numbers in the list that the value is, each in this range.
+pub fn wholes_within(
+    alloc: Global,
+    least: i64,
+    most: i64,
+    path: &Text,
+    value: &Json,
+) -> Result<List<i64>, ScenarioFault>
+    ensures ok { IfOk result (λ ns. keys.wholes_within least most path.now value.now ≡ Ok ns) }
+    ensures refused { IfErr result (λ e. IsFaultOf (keys.wholes_within least most path.now value.now) e) }
+{
+    let items = items(path, value)?;
+    let numbers = wholes(alloc, path, items.as_slice())?;
+    all_within(alloc, least, most, path, numbers.as_slice())
+}
+
+fn wholes(alloc: Global, path: &Text, items: &[Json]) -> Result<List<i128>, ScenarioFault>
+    ensures ok { IfOk result (λ ns. each_at (λ i item. keys.whole (item_in path.now i) item) items.now ≡ Ok ns) }
+    ensures refused { IfErr result (λ e. IsFaultOf (each_at (λ i item. keys.whole (item_in path.now i) item) items.now) e) }
+{
+    let mut numbers = List::new(alloc);
+    for (i, item) in items.iter().enumerate() {
+        match whole_of(item) {
+            Some(n) => numbers.push(n)?,
+            None => return Err(ScenarioFault::WrongKind(item_in(alloc, path, i)?)),
+        }
+    }
+    Ok(numbers)
+}
+
+fn all_within(
+    alloc: Global,
+    least: i64,
+    most: i64,
+    path: &Text,
+    numbers: &[i128],
+) -> Result<List<i64>, ScenarioFault>
+    ensures ok { IfOk result (λ ns. each_at (λ i n. keys.within least most (item_in path.now i) n) numbers.now ≡ Ok ns) }
+    ensures refused { IfErr result (λ e. IsFaultOf (each_at (λ i n. keys.within least most (item_in path.now i) n) numbers.now) e) }
+{
+    let mut found = List::new(alloc);
+    for (i, n) in numbers.iter().enumerate() {
+        let path = item_in(alloc, path, i)?;
+        found.push(within(alloc, least, most, &path, *n)?)?;
+    }
+    Ok(found)
+}
+
+// The list of tables that the value is, of so many.
+pub fn tables_within<'a>(
+    alloc: Global,
+    least: usize,
+    most: usize,
+    path: &Text,
+    value: &'a Json,
+) -> Result<&'a List<Json>, ScenarioFault>
+    ensures ok { IfOk result (λ ts. keys.tables_within least most path.now value.now ≡ Ok ts.now) }
+    ensures refused { IfErr result (λ e. IsFaultOf (keys.tables_within least most path.now value.now) e) }
+{
+    let items = items(path, value)?;
+    all_tables(alloc, path, items.as_slice())?;
+    if least <= items.len() && items.len() <= most {
+        Ok(items)
+    } else {
+        Err(ScenarioFault::OutOfRange(path.copy()?, count(alloc, items.len())?))
+    }
+}
+
+// Each item is a table.
+fn all_tables(alloc: Global, path: &Text, items: &[Json]) -> Result<(), ScenarioFault>
+    ensures ok { IfOk result (λ _. each_at (λ i item. keys.table (item_in path.now i) item) items.now ≡ Ok items.now) }
+    ensures refused { IfErr result (λ e. IsFaultOf (each_at (λ i item. keys.table (item_in path.now i) item) items.now) e) }
+{
+    for (i, item) in items.iter().enumerate() {
+        if members_of(item).is_none() {
+            return Err(ScenarioFault::WrongKind(item_in(alloc, path, i)?));
+        }
+    }
+    Ok(())
+}
