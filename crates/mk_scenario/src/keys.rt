@@ -129,19 +129,18 @@ pub fn count_or(
     }
 }
 
-// The whole numbers in this range under a key that may be left out, none then.
-pub fn wholes_or_none(
+// The times under a key that may be left out, none then.
+pub fn times_or_none(
     alloc: Global,
-    most: i64,
     path: &Text,
     key: &str,
     table: &Json,
 ) -> Result<List<i64>, ScenarioFault>
-    ensures ok { IfOk result (λ ns. keys.optional [] (key_in path.now key.now) (keys.wholes_within (pos 0) most) (member key.now table.now) ≡ Ok ns) }
-    ensures refused { IfErr result (λ e. IsFaultOf (keys.optional [] (key_in path.now key.now) (keys.wholes_within (pos 0) most) (member key.now table.now)) e) }
+    ensures ok { IfOk result (λ ns. keys.optional [] (key_in path.now key.now) (keys.wholes_within (pos 0) (pos 1000000000)) (member key.now table.now) ≡ Ok ns) }
+    ensures refused { IfErr result (λ e. IsFaultOf (keys.optional [] (key_in path.now key.now) (keys.wholes_within (pos 0) (pos 1000000000)) (member key.now table.now)) e) }
 {
     match table.member(key) {
-        Some(value) => { values::wholes_within(alloc, 0, most, &key_in(alloc, path, key)?, value) }
+        Some(value) => values::times(alloc, &key_in(alloc, path, key)?, value),
         None => Ok(List::new(alloc)),
     }
 }

@@ -1,5 +1,5 @@
 // How names, numbers and ports are spelled.
-ghost use Rattle.std.specs.Prelude.{◌≡◌, ◌≤◌, ℕ, nat_le, ◌&&◌, if◌then◌else◌, length, true, Some, None};
+ghost use Rattle.std.specs.Prelude.{◌≡◌, ◌≤◌, ℕ, nat_le, ◌&&◌, ◌||◌, if◌then◌else◌, length, Some, None};
 ghost use Rattle.std.specs.Fmt.{decimal};
 ghost use Rattle.std.specs.List.{list_all};
 ghost use Rattle.mk_base.specs.Lists.{same_text};
@@ -15,9 +15,13 @@ pub fn is_name(text: &Text) -> bool
     ensures { result ≡ spelling.is_name text.now }
 {
     let bytes = text.bytes();
-    starts_well(bytes)
-        && bytes.iter().all(|b| begins_name(*b) || is_digit(*b))
-        && bytes.len() <= LONGEST_NAME
+    starts_well(bytes) && goes_on_well(bytes) && bytes.len() <= LONGEST_NAME
+}
+
+fn goes_on_well(bytes: &[u8]) -> bool
+    ensures { result ≡ list_all (λ b. spelling.begins_name b || spelling.is_digit b) bytes.now }
+{
+    bytes.iter().all(|b| begins_name(*b) || is_digit(*b))
 }
 
 fn starts_well(bytes: &[u8]) -> bool
@@ -42,26 +46,31 @@ fn is_digit(b: u8) -> bool
 }
 
 // The number that the bytes spell by at least one and at most so many decimal digits.
-pub fn spelled(most: usize, bytes: &[u8]) -> Option<u32>
+pub fn spelled(most: usize, bytes: &[u8]) -> Option<u64>
     requires { most ≤ 9 }
     ensures { result ≡ spelling.spelled most bytes.now }
 {
-    if 1 <= bytes.len() && bytes.len() <= most && bytes.iter().all(|b| is_digit(*b)) {
+    if 1 <= bytes.len() && bytes.len() <= most && are_digits(bytes) {
         Some(number_of(bytes))
     } else {
         None
     }
 }
 
+fn are_digits(bytes: &[u8]) -> bool
+    ensures { result ≡ list_all (λ b. spelling.is_digit b) bytes.now }
+{
+    bytes.iter().all(|b| is_digit(*b))
+}
+
 // The number of these decimal digits.
-fn number_of(digits: &[u8]) -> u32
-    requires few { length digits.now ≤ 9 }
-    requires all { list_all (λ b. spelling.is_digit b) digits.now ≡ true }
+fn number_of(digits: &[u8]) -> u64
+    requires { length digits.now ≤ 9 }
     ensures { result ≡ spelling.number_of digits.now }
 {
-    let mut number: u32 = 0;
+    let mut number: u64 = 0;
     for digit in digits {
-        number = number * 10 + u32::from(*digit - b'0');
+        number = number * 10 + u64::from(digit.saturating_sub(b'0'));
     }
     number
 }
@@ -102,7 +111,7 @@ fn port_number(text: &str) -> Option<u16>
     }
 }
 
-fn port_in_range(n: u32, text: &str) -> Option<u16>
+fn port_in_range(n: u64, text: &str) -> Option<u16>
     ensures { result ≡ (if nat_le 1 n && nat_le n 65535 && same_text (decimal n) text.now then Some n else None) }
 {
     if 1 <= n && n <= 65535 && is_decimal(n, text) {
@@ -112,7 +121,7 @@ fn port_in_range(n: u32, text: &str) -> Option<u16>
     }
 }
 
-fn is_decimal(n: u32, text: &str) -> bool
+fn is_decimal(n: u64, text: &str) -> bool
     ensures { result ≡ same_text (decimal n) text.now }
 {
     let mut buffer = Buffer::new();

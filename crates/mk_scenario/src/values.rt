@@ -1,5 +1,5 @@
 // What a value is, by its kind and range.
-ghost use Rattle.std.specs.Prelude.{◌≡◌, ℕ, List, IfOk, IfErr, Ok, Some, option_map, not};
+ghost use Rattle.std.specs.Prelude.{◌≡◌, ℕ, List, IfOk, IfErr, Ok, Some, option_map, not, pos};
 ghost use Rattle.std.specs.List.{find};
 ghost use Rattle.mk_base.specs.declared.json.Json.{Json};
 ghost use Rattle.mk_base.specs.Trees.{whole_in, text_in, items_in, members_in, is_datum};
@@ -11,6 +11,9 @@ use crate::paths::{count, digits, item_in, key_in};
 use crate::spelling::{is_name, port_of};
 use mk_base::{Json, List, Members, Text};
 use std::alloc::Global;
+
+// The latest time of an initial event.
+const LATEST: i64 = 1_000_000_000;
 
 pub fn whole_of(value: &Json) -> Option<i128>
     ensures { result ≡ whole_in value.now }
@@ -239,28 +242,22 @@ fn is_datum(value: &Json) -> bool
     value.is_whole() && value.nests_within(100)
 }
 
-// The whole numbers in the list that the value is, each in this range.
-pub fn wholes_within(
-    alloc: Global,
-    least: i64,
-    most: i64,
-    path: &Text,
-    value: &Json,
-) -> Result<List<i64>, ScenarioFault>
-    ensures ok { IfOk result (λ ns. keys.wholes_within least most path.now value.now ≡ Ok ns) }
-    ensures refused { IfErr result (λ e. IsFaultOf (keys.wholes_within least most path.now value.now) e) }
+// The times in the list that the value is, each from 0 to the latest.
+pub fn times(alloc: Global, path: &Text, value: &Json) -> Result<List<i64>, ScenarioFault>
+    ensures ok { IfOk result (λ ns. keys.wholes_within (pos 0) (pos 1000000000) path.now value.now ≡ Ok ns) }
+    ensures refused { IfErr result (λ e. IsFaultOf (keys.wholes_within (pos 0) (pos 1000000000) path.now value.now) e) }
 {
     let items = items(path, value)?;
-    let numbers = wholes(alloc, path, items.as_slice())?;
-    all_within(alloc, least, most, path, numbers.as_slice())
+    let numbers = wholes(alloc, path, items)?;
+    all_times(alloc, path, &numbers)
 }
 
-fn wholes(alloc: Global, path: &Text, items: &[Json]) -> Result<List<i128>, ScenarioFault>
+fn wholes(alloc: Global, path: &Text, items: &List<Json>) -> Result<List<i128>, ScenarioFault>
     ensures ok { IfOk result (λ ns. each_at (λ i item. keys.whole (item_in path.now i) item) items.now ≡ Ok ns) }
     ensures refused { IfErr result (λ e. IsFaultOf (each_at (λ i item. keys.whole (item_in path.now i) item) items.now) e) }
 {
     let mut numbers = List::new(alloc);
-    for (i, item) in items.iter().enumerate() {
+    for (i, item) in items.as_slice().iter().enumerate() {
         match whole_of(item) {
             Some(n) => numbers.push(n)?,
             None => return Err(ScenarioFault::WrongKind(item_in(alloc, path, i)?)),
@@ -269,20 +266,14 @@ fn wholes(alloc: Global, path: &Text, items: &[Json]) -> Result<List<i128>, Scen
     Ok(numbers)
 }
 
-fn all_within(
-    alloc: Global,
-    least: i64,
-    most: i64,
-    path: &Text,
-    numbers: &[i128],
-) -> Result<List<i64>, ScenarioFault>
-    ensures ok { IfOk result (λ ns. each_at (λ i n. keys.within least most (item_in path.now i) n) numbers.now ≡ Ok ns) }
-    ensures refused { IfErr result (λ e. IsFaultOf (each_at (λ i n. keys.within least most (item_in path.now i) n) numbers.now) e) }
+fn all_times(alloc: Global, path: &Text, numbers: &List<i128>) -> Result<List<i64>, ScenarioFault>
+    ensures ok { IfOk result (λ ns. each_at (λ i n. keys.within (pos 0) (pos 1000000000) (item_in path.now i) n) numbers.now ≡ Ok ns) }
+    ensures refused { IfErr result (λ e. IsFaultOf (each_at (λ i n. keys.within (pos 0) (pos 1000000000) (item_in path.now i) n) numbers.now) e) }
 {
     let mut found = List::new(alloc);
-    for (i, n) in numbers.iter().enumerate() {
+    for (i, n) in numbers.as_slice().iter().enumerate() {
         let path = item_in(alloc, path, i)?;
-        found.push(within(alloc, least, most, &path, *n)?)?;
+        found.push(within(alloc, 0, LATEST, &path, *n)?)?;
     }
     Ok(found)
 }
