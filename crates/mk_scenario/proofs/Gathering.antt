@@ -31,8 +31,8 @@ module _ {X A : Type 0} (test : ℕ → X → Result A ScenarioFault) (items : L
   module _ (x : X) (below : i < length items) (is : x ≡ get_or items i x) (so_far : Gathers test items i found) where
     next : each_at test items ≡ gathered found (all_well (test i x ∷ map (λ (p : ℕ × X). test p.0 p.1) (enumerate_from (i + 1) (drop (i + 1) items))))
     next =
-      let after : suc i ≡ i + 1 = omega arith in
-      so_far ∙ ap (λ rest. gathered found (each_from test i rest)) (drop-cons items i x below ∙ ap (λ z. z ∷ drop (suc i) items) (sym is) ∙ ap (λ n. x ∷ drop n items) after)
+        let after : suc i ≡ i + 1 = omega arith in
+        so_far ∙ ap (λ rest. gathered found (each_from test i rest)) (drop-cons items i x below ∙ ap (λ z. z ∷ drop (suc i) items) (sym is) ∙ ap (λ n. x ∷ drop n items) after)
 
     -- one more item without a fault
     pub gathers_more : (y : A) → test i x ≡ Ok y → Gathers test items (i + 1) (found ++ y ∷ [])

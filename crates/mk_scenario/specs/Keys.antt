@@ -34,7 +34,7 @@ members_of table = unwrap_or (members_in table) []
 
 -- the text is one of these
 abbrev pub is_among : List (List ℕ) → List ℕ → Bool
-is_among texts text = list_any (λ t. same_text t text) texts
+is_among texts text = list_any (λ t. same_text text t) texts
 
 -- the first key of the table that is none of these
 abbrev pub first_unknown : List (List ℕ) → Json → Option (List ℕ)

@@ -6,3 +6,4 @@ pub mod Groups
 pub mod References
 pub mod Blocks
 pub mod Scenarios
+pub mod Known

@@ -23,7 +23,7 @@ texts_under key tables = filter_map (λ t. option_and_then text_in (member key t
 
 -- the id of a simulator of this name after those of these names: the name, `-`, and how many of them have the same name
 abbrev pub sim_id : List (List ℕ) → List ℕ → List ℕ
-sim_id names name = name ++ codes "-" ++ decimal (length (filter (λ n. same_text n name) names))
+sim_id names name = name ++ (codes "-" ++ decimal (length (filter (λ n. same_text n name) names)))
 
 -- how a simulator is begun: in exactly one way
 abbrev pub begin_of : List ℕ → Option (List ℕ) → Option ℕ → Option (List ℕ) → Result Begin ScenarioFault

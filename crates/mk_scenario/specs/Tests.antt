@@ -43,9 +43,13 @@ all_well (Ok x ∷ more) = before x (all_well more)
 abbrev pub each_at : {X A : Type 0} → (ℕ → X → Result A ScenarioFault) → List X → Result (List A) ScenarioFault
 each_at {X} test items = all_well (map (λ (p : ℕ × X). test p.0 p.1) (enumerate_from 0 items))
 
+-- the test of an item at a place of these, by those before it
+abbrev pub by_earlier : {X A : Type 0} → (List X → ℕ → X → Result A ScenarioFault) → List X → ℕ → X → Result A ScenarioFault
+by_earlier test items i item = test (take i items) i item
+
 -- what the items give, each by those before it
 abbrev pub each_after : {X A : Type 0} → (List X → ℕ → X → Result A ScenarioFault) → List X → Result (List A) ScenarioFault
-each_after {X} test items = each_at (λ i item. test (take i items) i item) items
+each_after test items = each_at (by_earlier test items) items
 
 -- the path of a key in the table of that path
 abbrev pub key_in : List ℕ → List ℕ → List ℕ

@@ -3,8 +3,10 @@
 
 mod fault;
 mod keys;
+mod known;
 mod parts;
 mod paths;
+mod sims;
 mod spelling;
 mod values;
 

@@ -1,0 +1,7 @@
+use Rattle.mk_scenario.proofs.Gathering.{Gathers}
+use Rattle.mk_scenario.specs.Sims.{sim_in}
+use Rattle.mk_scenario.specs.Tests.{by_earlier}
+use Rattle.mk_scenario.proofs.sims.sims_of.Given as goal
+
+abbrev pub invariant-loop-i : goal.invariant-loop-i
+invariant-loop-i l = Gathers (by_earlier sim_in l.tables) l.tables l.i l.parts

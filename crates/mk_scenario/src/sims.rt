@@ -1,0 +1,136 @@
+// The `sim` tables.
+ghost use Rattle.std.specs.Prelude.{◌≡◌, length, codes, false, option_map, option_and_then, unwrap_or, IfOk, IfErr, Ok};
+ghost use Rattle.std.specs.List.{filter};
+ghost use Rattle.mk_base.specs.Lists.{same_text};
+ghost use Rattle.mk_base.specs.Trees.{member, text_in};
+ghost use Rattle.mk_scenario.specs.Sims as sims;
+ghost use Rattle.mk_scenario.specs.Tests.{IsFaultOf, each_after, key_in};
+
+use crate::fault::ScenarioFault;
+use crate::keys::{optional_port, optional_text, required_name, times_or_none, values_or_none};
+use crate::known::{Table, first_unknown};
+use crate::parts::{Begin, SimPart};
+use crate::paths::{item_in, key_in};
+use crate::values::text_of;
+use mk_base::{Json, List, Mem, Text};
+use std::alloc::Global;
+
+// The simulators of these tables.
+pub fn sims_of(alloc: Global, tables: &[Json]) -> Result<List<SimPart>, ScenarioFault>
+    ensures ok { IfOk result (λ parts. each_after sims.sim_in tables.now ≡ Ok parts) }
+    ensures refused { IfErr result (λ e. IsFaultOf (each_after sims.sim_in tables.now) e) }
+{
+    let mut parts = List::new(alloc);
+    for (i, table) in tables.iter().enumerate() {
+        parts.push(sim_in(alloc, &tables[..i], i, table)?)?;
+    }
+    Ok(parts)
+}
+
+// The simulator of the table at place i, after these tables.
+fn sim_in(
+    alloc: Global,
+    earlier: &[Json],
+    i: usize,
+    table: &Json,
+) -> Result<SimPart, ScenarioFault>
+    ensures ok { IfOk result (λ part. sims.sim_in earlier.now i table.now ≡ Ok part) }
+    ensures refused { IfErr result (λ e. IsFaultOf (sims.sim_in earlier.now i table.now) e) }
+{
+    let path = item_in(alloc, &Text::of(alloc, "sim")?, i)?;
+    sim_at(alloc, &path, earlier, table)
+}
+
+// The simulator of the table of this path, after these tables.
+fn sim_at(
+    alloc: Global,
+    path: &Text,
+    earlier: &[Json],
+    table: &Json,
+) -> Result<SimPart, ScenarioFault>
+    ensures ok { IfOk result (λ part. sims.sim_at path.now earlier.now table.now ≡ Ok part) }
+    ensures refused { IfErr result (λ e. IsFaultOf (sims.sim_at path.now earlier.now table.now) e) }
+{
+    if let Some(key) = first_unknown(Table::Sim, table) {
+        return Err(ScenarioFault::UnknownKey(key_in(alloc, path, key.as_str())?));
+    }
+    let name = required_name(alloc, path, "name", table)?;
+    let command = optional_text(alloc, path, "command", table)?;
+    let port = optional_port(alloc, path, "connect", table)?;
+    let local = optional_text(alloc, path, "local", table)?;
+    let params = values_or_none(alloc, path, "params", table)?;
+    let initial = times_or_none(alloc, path, "initial_events", table)?;
+    let begin = begin_of(alloc, path, command, port, local)?;
+    if params.member("time_resolution").is_some() {
+        return Err(ScenarioFault::UnknownKey(resolution_in(alloc, path)?));
+    }
+    let id = sim_id(alloc, earlier, name)?;
+    Ok(SimPart {
+        id,
+        begin,
+        params,
+        initial,
+    })
+}
+
+// The path of the time resolution among the parameters of the table of this path: it is always 1.
+fn resolution_in(alloc: Global, path: &Text) -> Result<Text, Mem>
+    ensures { IfOk result (λ t. t ≡ key_in (key_in path.now (codes "params")) (codes "time_resolution")) }
+{
+    key_in(alloc, &key_in(alloc, path, "params")?, "time_resolution")
+}
+
+// How a simulator is begun: in exactly one way.
+fn begin_of(
+    alloc: Global,
+    path: &Text,
+    command: Option<&Text>,
+    port: Option<u16>,
+    local: Option<&Text>,
+) -> Result<Begin, ScenarioFault>
+    ensures ok { IfOk result (λ begin. sims.begin_of path.now (option_map (λ t. t.now) command.entry) port (option_map (λ t. t.now) local.entry) ≡ Ok begin) }
+    ensures refused { IfErr result (λ e. IsFaultOf (sims.begin_of path.now (option_map (λ t. t.now) command.entry) port (option_map (λ t. t.now) local.entry)) e) }
+{
+    match (command, port, local) {
+        (Some(command), None, None) => Ok(Begin::Command(command.copy()?)),
+        (None, Some(port), None) => Ok(Begin::Connect(port)),
+        (None, None, Some(kind)) => Ok(Begin::Local(kind.copy()?)),
+        (None, None, None) => Err(ScenarioFault::Missing(key_in(alloc, path, "command")?)),
+        _ => Err(ScenarioFault::TwoKinds(path.copy()?)),
+    }
+}
+
+// The id of a simulator of this name after those of these tables: the name, `-`, and how many of them have the same name.
+fn sim_id(alloc: Global, earlier: &[Json], name: &Text) -> Result<Text, Mem>
+    ensures { IfOk result (λ t. t ≡ sims.sim_id (sims.texts_under (codes "name") earlier.now) name.now) }
+{
+    let number = named_so(earlier, name);
+    let name = name.as_str();
+    let text = format!(in alloc; "{name}-{number}")?;
+    Text::of(alloc, text.as_str())
+}
+
+// How many of these tables have this name.
+fn named_so(tables: &[Json], name: &Text) -> usize
+    ensures { result ≡ length (filter (λ n. same_text n name.now) (sims.texts_under (codes "name") tables.now)) }
+{
+    let mut number = 0;
+    for table in tables {
+        if is_named(table, name) {
+            number += 1;
+        }
+    }
+    number
+}
+
+fn is_named(table: &Json, name: &Text) -> bool
+    ensures { result ≡ unwrap_or (option_map (λ n. same_text n name.now) (option_and_then text_in (member (codes "name") table.now))) false }
+{
+    match table.member("name") {
+        Some(value) => match text_of(value) {
+            Some(text) => text.bytes() == name.bytes(),
+            None => false,
+        },
+        None => false,
+    }
+}
