@@ -32,7 +32,7 @@ pub more_named : {X Y : Type 0} (h : X → Option Y) (p : Y → Bool) (xs : List
     → length (filter p (filter_map h (take (i + 1) xs))) ≡ length (filter p (filter_map h (take i xs))) + counted (is_there p (h x))
 more_named h p xs i x below is =
     ap (λ l. length (filter p (filter_map h l))) (take_more xs i x below ∙ ap (λ z. take i xs ++ z ∷ []) (sym is))
-  ∙ ap (λ l. length (filter p l)) (filter_map-append h (take i xs) (x ∷ []))
-  ∙ ap length (filter-append p (filter_map h (take i xs)) (filter_map h (x ∷ [])))
-  ∙ length-append (filter p (filter_map h (take i xs))) (filter p (filter_map h (x ∷ [])))
-  ∙ ap (λ n. length (filter p (filter_map h (take i xs))) + n) (one_text h p x)
+    ∙ ap (λ l. length (filter p l)) (filter_map-append h (take i xs) (x ∷ []))
+    ∙ ap length (filter-append p (filter_map h (take i xs)) (filter_map h (x ∷ [])))
+    ∙ length-append (filter p (filter_map h (take i xs))) (filter p (filter_map h (x ∷ [])))
+    ∙ ap (λ n. length (filter p (filter_map h (take i xs))) + n) (one_text h p x)

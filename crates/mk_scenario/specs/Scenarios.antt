@@ -1,5 +1,5 @@
 -- The scenario that a TOML document is, or the first test that it fails.
-use Rattle.std.specs.Prelude.{ℕ, pos, List, [], ◌∷◌, map, codes, Result, Ok}
+use Rattle.std.specs.Prelude.{ℕ, ℤ, pos, List, [], ◌∷◌, map, codes, Result, Ok}
 use Rattle.mk_base.specs.declared.json.Json.{Json}
 use Rattle.mk_base.specs.Trees.{member}
 use Rattle.mk_scenario.specs.Tests.{passed, no_text, each_at, each_after}
@@ -19,7 +19,15 @@ top_keys = codes "until" ∷ codes "max_loop_iterations" ∷ codes "max_entries"
 abbrev pub ids_of : List SimPart → List (List ℕ)
 ids_of sims = map (λ (s : SimPart). s.id) sims
 
--- the tests of a document: the top table's, then each simulator's, each group's and each block's in order
+-- the scenario of these limits and tables: each simulator, each group and each block in order
+abbrev pub with_parts : ℤ → ℕ → ℕ → List Json → List Json → List Json → Result Scenario ScenarioFault
+with_parts until loops entries sim_tables group_tables block_tables =
+    passed (each_after sim_in sim_tables) (λ sims.
+    passed (each_after (group_in (ids_of sims)) group_tables) (λ groups.
+    passed (each_at (block_in (ids_of sims) groups) block_tables) (λ blocks.
+    Ok (record { until = until; loops = loops; entries = entries; sims = sims; groups = groups; blocks = blocks }))))
+
+-- the tests of a document: the top table's, and then those of its parts
 abbrev pub scenario_in : Json → Result Scenario ScenarioFault
 scenario_in document =
     no_text UnknownKey (first_unknown top_keys document) (
@@ -29,7 +37,4 @@ scenario_in document =
     passed (required (codes "sim") (tables_within 1 200) (member (codes "sim") document)) (λ sim_tables.
     passed (optional [] (codes "entities") (tables_within 0 10000) (member (codes "entities") document)) (λ group_tables.
     passed (optional [] (codes "connect") (tables_within 0 100000) (member (codes "connect") document)) (λ block_tables.
-    passed (each_after sim_in sim_tables) (λ sims.
-    passed (each_after (group_in (ids_of sims)) group_tables) (λ groups.
-    passed (each_at (block_in (ids_of sims) groups) block_tables) (λ blocks.
-    Ok (record { until = until; loops = loops; entries = entries; sims = sims; groups = groups; blocks = blocks })))))))))))
+    with_parts until loops entries sim_tables group_tables block_tables)))))))

@@ -10,6 +10,7 @@ ghost use Rattle.mk_scenario.specs.Tests.{IsFaultOf, key_in};
 use crate::fault::ScenarioFault;
 use crate::paths::key_in;
 use crate::values;
+use crate::values::LATEST;
 use mk_base::{Json, List, Members, Text};
 use std::alloc::Global;
 
@@ -142,5 +143,50 @@ pub fn times_or_none(
     match table.member(key) {
         Some(value) => values::times(alloc, &key_in(alloc, path, key)?, value),
         None => Ok(List::new(alloc)),
+    }
+}
+
+// The time under a key of the top table that must stand there.
+pub fn required_time(alloc: Global, key: &str, document: &Json) -> Result<i64, ScenarioFault>
+    ensures ok { IfOk result (λ n. keys.required key.now (keys.whole_within (pos 1) (pos 1000000000)) (member key.now document.now) ≡ Ok n) }
+    ensures refused { IfErr result (λ e. IsFaultOf (keys.required key.now (keys.whole_within (pos 1) (pos 1000000000)) (member key.now document.now)) e) }
+{
+    let path = Text::of(alloc, key)?;
+    match document.member(key) {
+        Some(value) => values::whole_within(alloc, 1, LATEST, &path, value),
+        None => Err(ScenarioFault::Missing(path)),
+    }
+}
+
+// So many tables under a key of the top table that must stand there.
+pub fn required_tables<'a>(
+    alloc: Global,
+    most: usize,
+    key: &str,
+    document: &'a Json,
+) -> Result<&'a [Json], ScenarioFault>
+    ensures ok { IfOk result (λ ts. keys.required key.now (keys.tables_within 1 most) (member key.now document.now) ≡ Ok ts.now) }
+    ensures refused { IfErr result (λ e. IsFaultOf (keys.required key.now (keys.tables_within 1 most) (member key.now document.now)) e) }
+{
+    let path = Text::of(alloc, key)?;
+    match document.member(key) {
+        Some(value) => values::tables_within(alloc, 1, most, &path, value),
+        None => Err(ScenarioFault::Missing(path)),
+    }
+}
+
+// At most so many tables under a key of the top table that may be left out, none then.
+pub fn tables_or_none<'a>(
+    alloc: Global,
+    most: usize,
+    key: &str,
+    document: &'a Json,
+) -> Result<&'a [Json], ScenarioFault>
+    ensures ok { IfOk result (λ ts. keys.optional [] key.now (keys.tables_within 0 most) (member key.now document.now) ≡ Ok ts.now) }
+    ensures refused { IfErr result (λ e. IsFaultOf (keys.optional [] key.now (keys.tables_within 0 most) (member key.now document.now)) e) }
+{
+    match document.member(key) {
+        Some(value) => values::tables_within(alloc, 0, most, &Text::of(alloc, key)?, value),
+        None => Ok(&[]),
     }
 }

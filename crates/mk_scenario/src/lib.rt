@@ -1,13 +1,16 @@
 //! A scenario file: a TOML text that says which simulators there are, which entities they create, and how these are connected.
 #![tactic(auto)]
 
+mod blocks;
 mod fault;
+mod groups;
 mod keys;
 mod known;
 mod parts;
 mod paths;
 mod sims;
 mod spelling;
+mod top;
 mod values;
 
 pub use fault::ScenarioFault;

@@ -28,12 +28,7 @@ pub fn sims_of(alloc: Global, tables: &[Json]) -> Result<List<SimPart>, Scenario
 }
 
 // The simulator of the table at place i, after these tables.
-fn sim_in(
-    alloc: Global,
-    earlier: &[Json],
-    i: usize,
-    table: &Json,
-) -> Result<SimPart, ScenarioFault>
+fn sim_in(alloc: Global, earlier: &[Json], i: usize, table: &Json) -> Result<SimPart, ScenarioFault>
     ensures ok { IfOk result (λ part. sims.sim_in earlier.now i table.now ≡ Ok part) }
     ensures refused { IfErr result (λ e. IsFaultOf (sims.sim_in earlier.now i table.now) e) }
 {

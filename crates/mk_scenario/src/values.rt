@@ -12,8 +12,8 @@ use crate::spelling::{is_name, port_of};
 use mk_base::{Json, List, Members, Text};
 use std::alloc::Global;
 
-// The latest time of an initial event.
-const LATEST: i64 = 1_000_000_000;
+// The latest time that a scenario may name.
+pub const LATEST: i64 = 1_000_000_000;
 
 pub fn whole_of(value: &Json) -> Option<i128>
     ensures { result ≡ whole_in value.now }
@@ -285,12 +285,12 @@ pub fn tables_within<'a>(
     most: usize,
     path: &Text,
     value: &'a Json,
-) -> Result<&'a List<Json>, ScenarioFault>
+) -> Result<&'a [Json], ScenarioFault>
     ensures ok { IfOk result (λ ts. keys.tables_within least most path.now value.now ≡ Ok ts.now) }
     ensures refused { IfErr result (λ e. IsFaultOf (keys.tables_within least most path.now value.now) e) }
 {
-    let items = items(path, value)?;
-    all_tables(alloc, path, items.as_slice())?;
+    let items = items(path, value)?.as_slice();
+    all_tables(alloc, path, items)?;
     if least <= items.len() && items.len() <= most {
         Ok(items)
     } else {

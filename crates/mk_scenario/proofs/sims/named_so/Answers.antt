@@ -8,8 +8,8 @@ use Rattle.mk_scenario.proofs.sims.named_so.Goals.{then-is_named, else-is_named}
 
 pub loop-table-preserved : goal.loop-table-preserved
 loop-table-preserved c =
-  let more = more_named (λ t. option_and_then text_in (member (codes "name") t)) (λ n. same_text n c.args.name.now) c.args.tables.now c.loop-table.table-index c.table-item.result c.loop-table-test.true c.table-item.is in
-  record {
-    told = grind (arith, more);
-    few = grind (arith);
-  }
+    let more = more_named (λ t. option_and_then text_in (member (codes "name") t)) (λ n. same_text n c.args.name.now) c.args.tables.now c.loop-table.table-index c.table-item.result c.loop-table-test.true c.table-item.is in
+    record {
+      told = grind (arith, more);
+      few = grind (arith);
+    }
