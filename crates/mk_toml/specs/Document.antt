@@ -1,5 +1,6 @@
 -- The tree that a text of TOML has.
-use Rattle.std.specs.Prelude.{ℕ, List, [], ◌∷◌, Option, option_map}
+use Rattle.std.specs.Prelude.{ℕ, List, [], ◌∷◌, Option, None, option_map, if◌then◌else◌}
+use Rattle.std.specs.Str.{is_utf8}
 use Rattle.toml.specs.Data as value
 use Rattle.toml.specs.Parse.{parse_document}
 use Rattle.mk_base.specs.declared.json.Json as tree
@@ -23,6 +24,10 @@ abbrev mutual
   members_of value.no_members = []
   members_of (value.member k d ms) = (k, tree_of d) ∷ members_of ms
 
--- the tree of the table that a text is, its keys in byte order, if the text is TOML
+-- the tree of the table that a text in UTF-8 is, its keys in byte order, if the text is TOML
+abbrev pub table_of : List ℕ → Option tree.Json
+table_of text = option_map (λ ms. tree.Object (members_of ms)) (parse_document text)
+
+-- the tree of the table that bytes are, if they are a text of TOML in UTF-8
 abbrev pub toml_of : List ℕ → Option tree.Json
-toml_of text = option_map (λ ms. tree.Object (members_of ms)) (parse_document text)
+toml_of bytes = if is_utf8 bytes then table_of bytes else None

@@ -1,5 +1,5 @@
 // From bytes to a tree.
-ghost use Rattle.std.specs.Prelude.{◌≡◌, true, Err, IfOk, IsUtf8, None, Some};
+ghost use Rattle.std.specs.Prelude.{◌≡◌, true, Err, IfOk, None, Some};
 ghost use Rattle.std.specs.List.{list_all};
 ghost use Rattle.mk_base.specs.Trees.{is_in_range, is_object};
 ghost use Rattle.mk_toml.specs.Document.{tree_of, items_of, members_of, toml_of};
@@ -17,9 +17,9 @@ use toml::{Table, Value};
 /// twice, that has an integer outside of 64 bits with a sign, that has more than 80 arrays and
 /// inline tables in one another, or a key of more than 80 parts.
 pub fn read_toml(alloc: Global, bytes: &[u8]) -> Result<Json, TomlFault>
-    ensures ok { IfOk result (λ tree. IsUtf8 bytes.now × (toml_of bytes.now ≡ Some tree)) }
+    ensures ok { IfOk result (λ tree. toml_of bytes.now ≡ Some tree) }
     ensures sound { IfOk result (λ tree. (is_in_range tree ≡ true) × (is_object tree ≡ true)) }
-    ensures refused { result ≡ Err TomlFault.NotToml → IsUtf8 bytes.now → toml_of bytes.now ≡ None }
+    ensures refused { result ≡ Err TomlFault.NotToml → toml_of bytes.now ≡ None }
 {
     match toml::table_from_slice(alloc, bytes) {
         Ok(table) => Ok(Json::Object(convert_members(alloc, &table)?)),
