@@ -2,7 +2,8 @@
 use Rattle.std.specs.Prelude.{ℕ, ℤ, pos, List, [], ◌∷◌, map, codes, Result, Ok}
 use Rattle.mk_base.specs.declared.json.Json.{Json}
 use Rattle.mk_base.specs.Trees.{member}
-use Rattle.mk_scenario.specs.Tests.{passed, no_text, each_at, each_after}
+use Rattle.mk_toml.specs.Document.{toml_of}
+use Rattle.mk_scenario.specs.Tests.{passed, found, no_text, each_at, each_after}
 use Rattle.mk_scenario.specs.Keys.{required, optional, first_unknown, whole_within, count_within, tables_within}
 use Rattle.mk_scenario.specs.Sims.{sim_in}
 use Rattle.mk_scenario.specs.Groups.{group_in}
@@ -10,7 +11,7 @@ use Rattle.mk_scenario.specs.Blocks.{block_in}
 use Rattle.mk_scenario.specs.declared.parts.SimPart.{SimPart}
 use Rattle.mk_scenario.specs.declared.parts.Scenario.{Scenario}
 use Rattle.mk_scenario.specs.declared.fault.ScenarioFault.{ScenarioFault}
-use Rattle.mk_scenario.specs.declared.fault.ScenarioFault.TheVariants.{UnknownKey}
+use Rattle.mk_scenario.specs.declared.fault.ScenarioFault.TheVariants.{NotToml, UnknownKey}
 
 abbrev pub top_keys : List (List ℕ)
 top_keys = codes "until" ∷ codes "max_loop_iterations" ∷ codes "max_entries" ∷ codes "sim" ∷ codes "entities" ∷ codes "connect" ∷ []
@@ -38,3 +39,7 @@ scenario_in document =
     passed (optional [] (codes "entities") (tables_within 0 10000) (member (codes "entities") document)) (λ group_tables.
     passed (optional [] (codes "connect") (tables_within 0 100000) (member (codes "connect") document)) (λ block_tables.
     with_parts until loops entries sim_tables group_tables block_tables)))))))
+
+-- the scenario that the bytes of a file are: they are TOML, and the document passes its tests
+abbrev pub scenario_of : List ℕ → Result Scenario ScenarioFault
+scenario_of bytes = passed (found NotToml (toml_of bytes)) scenario_in

@@ -8,6 +8,7 @@ mod keys;
 mod known;
 mod parts;
 mod paths;
+mod read;
 mod sims;
 mod spelling;
 mod top;
@@ -15,3 +16,4 @@ mod values;
 
 pub use fault::ScenarioFault;
 pub use parts::{AttrPair, Begin, Block, Group, Place, Scenario, SimPart};
+pub use read::read_scenario;
