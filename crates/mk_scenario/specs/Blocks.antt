@@ -10,7 +10,10 @@ use Rattle.mk_scenario.specs.Keys.{required, optional, members_of, first_unknown
 use Rattle.mk_scenario.specs.References.{place_of, size_of}
 use Rattle.mk_scenario.specs.declared.parts.AttrPair.{AttrPair}
 use Rattle.mk_scenario.specs.declared.parts.Group.{Group}
+use Rattle.mk_scenario.specs.declared.parts.Place.{Place}
 use Rattle.mk_scenario.specs.declared.parts.Block.{Block}
+use Rattle.mk_scenario.specs.declared.blocks.BlockSaid.{BlockSaid}
+use Rattle.mk_scenario.specs.declared.blocks.Manner.{Manner}
 use Rattle.mk_scenario.specs.declared.fault.ScenarioFault.{ScenarioFault}
 use Rattle.mk_scenario.specs.declared.fault.ScenarioFault.TheVariants.{WrongKind, UnknownKey, TwoKinds, Uneven}
 
@@ -18,11 +21,11 @@ abbrev pub block_keys : List (List ℕ)
 block_keys = codes "from" ∷ codes "to" ∷ codes "attrs" ∷ codes "time_shifted" ∷ codes "weak" ∷ codes "async_requests" ∷ codes "initial_data" ∷ []
 
 -- two texts are the names on either side
-abbrev two_names : Option (List ℕ) → Option (List ℕ) → Option AttrPair
+abbrev pub two_names : Option (List ℕ) → Option (List ℕ) → Option AttrPair
 two_names (Some from) (Some to) = Some (record { from = from; to = to })
 two_names from to = None
 
-abbrev two_of : List Json → Option AttrPair
+abbrev pub two_of : List Json → Option AttrPair
 two_of (a ∷ b ∷ []) = two_names (text_in a) (text_in b)
 two_of other = None
 
@@ -49,37 +52,62 @@ via_of shifted weak = if shifted then Shift else if weak then Weak else Plain
 abbrev pub at_most_one : Bool → Bool → Bool → Bool
 at_most_one a b c = not ((a && b) || (a && c) || (b && c))
 
+-- the source names of the pairs
+abbrev pub source_names : List AttrPair → List (List ℕ)
+source_names attrs = map (λ (p : AttrPair). p.from) attrs
+
 -- the first name, in byte order, that no pair has as its source
 abbrev pub first_unfed : List AttrPair → Json → Option (List ℕ)
-first_unfed attrs initial = first_unknown (map (λ (p : AttrPair). p.from) attrs) initial
+first_unfed attrs initial = first_unknown (source_names attrs) initial
 
 -- initial values stand only where the delivery is delayed, and only under source attributes
-abbrev pub initial_fits : {B : Type 0} → List ℕ → Bool → List AttrPair → Json → Result B ScenarioFault → Result B ScenarioFault
-initial_fits path delayed attrs initial next =
+abbrev pub initial_fits : List ℕ → Bool → List AttrPair → Json → Result Json ScenarioFault
+initial_fits path delayed attrs initial =
     held (UnknownKey path) (delayed || length (members_of initial) == 0) (
-    no_text (λ key. UnknownKey (key_in path key)) (first_unfed attrs initial) next)
+    no_text (λ key. UnknownKey (key_in path key)) (first_unfed attrs initial) (
+    Ok initial))
 
 -- one side has one entity, or both have equally many
 abbrev pub sides_pair : ℕ → ℕ → Bool
 sides_pair m n = (n == 1) || (m == 1) || (m == n)
 
--- the block of the table of this path
-abbrev pub block_at : List (List ℕ) → List Group → List ℕ → Json → Result Block ScenarioFault
-block_at sims groups path table =
-    no_text (λ key. UnknownKey (key_in path key)) (first_unknown block_keys table) (
-    passed (required (key_in path (codes "from")) text (member (codes "from") table)) (λ from_text.
-    passed (required (key_in path (codes "to")) text (member (codes "to") table)) (λ to_text.
-    passed (optional [] (key_in path (codes "attrs")) pairs (member (codes "attrs") table)) (λ attrs.
+-- the manner in which a table of this path says that the connection delivers
+abbrev pub manner_said : List ℕ → Json → Result Manner ScenarioFault
+manner_said path table =
     passed (optional false (key_in path (codes "time_shifted")) truth (member (codes "time_shifted") table)) (λ shifted.
     passed (optional false (key_in path (codes "weak")) truth (member (codes "weak") table)) (λ weak.
     passed (optional false (key_in path (codes "async_requests")) truth (member (codes "async_requests") table)) (λ asks.
+    Ok (record { shifted = shifted; weak = weak; asks = asks }))))
+
+-- what the table of this path says
+abbrev pub block_said : List ℕ → Json → Result BlockSaid ScenarioFault
+block_said path table =
+    no_text (λ key. UnknownKey (key_in path key)) (first_unknown block_keys table) (
+    passed (required (key_in path (codes "from")) text (member (codes "from") table)) (λ from.
+    passed (required (key_in path (codes "to")) text (member (codes "to") table)) (λ to.
+    passed (optional [] (key_in path (codes "attrs")) pairs (member (codes "attrs") table)) (λ attrs.
+    passed (manner_said path table) (λ manner.
     passed (optional (tree.Object []) (key_in path (codes "initial_data")) values (member (codes "initial_data") table)) (λ initial.
-    passed (place_of sims groups (key_in path (codes "from")) from_text) (λ from.
-    passed (place_of sims groups (key_in path (codes "to")) to_text) (λ to.
-    held (TwoKinds path) (at_most_one shifted weak asks) (
-    initial_fits (key_in path (codes "initial_data")) (shifted || weak) attrs initial (
+    Ok (record { from = from; to = to; attrs = attrs; manner = manner; initial = initial })))))))
+
+-- the block that a table of this path says, between these places
+abbrev pub block_between : List Group → List ℕ → BlockSaid → Place → Place → Result Block ScenarioFault
+block_between groups path said from to =
+    held (TwoKinds path) (at_most_one said.manner.shifted said.manner.weak said.manner.asks) (
+    passed (initial_fits (key_in path (codes "initial_data")) (said.manner.shifted || said.manner.weak) said.attrs said.initial) (λ initial.
     held (Uneven path (size_of groups from) (size_of groups to)) (sides_pair (size_of groups from) (size_of groups to)) (
-    Ok (record { from = from; to = to; attrs = attrs; via = via_of shifted weak; async_requests = asks; initial = initial }))))))))))))))
+    Ok (record { from = from; to = to; attrs = said.attrs; via = via_of said.manner.shifted said.manner.weak; async_requests = said.manner.asks; initial = initial }))))
+
+-- the block that a table of this path says
+abbrev pub block_made : List (List ℕ) → List Group → List ℕ → BlockSaid → Result Block ScenarioFault
+block_made sims groups path said =
+    passed (place_of sims groups (key_in path (codes "from")) said.from) (λ from.
+    passed (place_of sims groups (key_in path (codes "to")) said.to) (λ to.
+    block_between groups path said from to))
+
+-- the block of the table of this path
+unfoldable pub block_at : List (List ℕ) → List Group → List ℕ → Json → Result Block ScenarioFault
+block_at sims groups path table = passed (block_said path table) (block_made sims groups path)
 
 -- the block of the table at place i
 abbrev pub block_in : List (List ℕ) → List Group → ℕ → Json → Result Block ScenarioFault

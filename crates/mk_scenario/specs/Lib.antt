@@ -2,6 +2,7 @@ pub mod Spelling
 pub mod Tests
 pub mod Keys
 pub mod Sims
+pub mod Places
 pub mod Groups
 pub mod References
 pub mod Blocks

@@ -1,13 +1,47 @@
-ghost use Rattle.std.specs.Prelude.{◌≡◌, IfOk, IfErr, Ok};
+// The `connect` tables.
+ghost use Rattle.std.specs.Prelude.{◌≡◌, ◌||◌, ◌==◌, [], ℕ, List, map, not, length, option_map, codes, IfOk, IfErr, Ok};
+ghost use Rattle.std.specs.List.{find};
+ghost use Rattle.mk_base.specs.declared.json.Json.{Json};
+ghost use Rattle.mk_base.specs.Trees.{member};
 ghost use Rattle.mk_scenario.specs.Blocks as blocks;
+ghost use Rattle.mk_scenario.specs.Blocks.{source_names};
+ghost use Rattle.mk_scenario.specs.Keys as keys;
+ghost use Rattle.mk_scenario.specs.References.{group_ids};
 ghost use Rattle.mk_scenario.specs.Scenarios.{ids_of};
-ghost use Rattle.mk_scenario.specs.Tests.{IsFaultOf, each_at};
+ghost use Rattle.mk_scenario.specs.Tests.{IsFaultOf, each_at, found, key_in, item_in};
+ghost use Rattle.mk_scenario.specs.declared.fault.ScenarioFault.TheVariants as faults;
 
 use crate::fault::ScenarioFault;
-use crate::parts::{Block, Group, SimPart};
-use mk_base::{Json, List};
+use crate::groups::ids_of;
+use crate::keys::{required_text, truth_or_false, values_or_none};
+use crate::known::{Table, first_unknown};
+use crate::names::Names;
+use crate::parts::{AttrPair, Block, Group, Place, SimPart};
+use crate::paths::{item_in, key_in};
+use crate::references::{place_of, size_of};
+use crate::values::{items, members_of, text_of};
+use mk_base::{Json, List, Mem, Members, Text, Via};
 use std::alloc::Global;
 
+// The manner in which a `connect` table says that the connection delivers.
+#[derive(Clone, Copy)]
+pub struct Manner {
+    shifted: bool,
+    weak: bool,
+    asks: bool,
+}
+
+// What a `connect` table says.
+#[derive(Drop)]
+pub struct BlockSaid {
+    from: Text,
+    to: Text,
+    attrs: List<AttrPair>,
+    manner: Manner,
+    initial: Json,
+}
+
+// The blocks of these tables.
 pub fn blocks_of(
     alloc: Global,
     sims: &List<SimPart>,
@@ -17,5 +51,339 @@ pub fn blocks_of(
     ensures ok { IfOk result (λ found. each_at (blocks.block_in (ids_of sims.now) groups.now) tables.now ≡ Ok found) }
     ensures refused { IfErr result (λ e. IsFaultOf (each_at (blocks.block_in (ids_of sims.now) groups.now) tables.now) e) }
 {
-    Err(ScenarioFault::Mem)
+    let sims = ids_of(alloc, sims.as_slice())?;
+    let groups = groups.as_slice();
+    let ids = group_ids(alloc, groups)?;
+    blocks_among(alloc, &sims, &ids, groups, tables)
+}
+
+// The ids of the groups.
+fn group_ids(alloc: Global, groups: &[Group]) -> Result<Names, Mem>
+    ensures { IfOk result (λ ids. ids ≡ group_ids groups.now) }
+{
+    let mut ids = Names::new(alloc);
+    for group in groups {
+        ids = ids.with(alloc, &group.id)?;
+    }
+    Ok(ids)
+}
+
+// The blocks of these tables, among simulators of these ids and groups, of those ids.
+fn blocks_among(
+    alloc: Global,
+    sims: &Names,
+    ids: &Names,
+    groups: &[Group],
+    tables: &[Json],
+) -> Result<List<Block>, ScenarioFault>
+    requires { ids.now ≡ group_ids groups.now }
+    ensures ok { IfOk result (λ found. each_at (blocks.block_in sims.now groups.now) tables.now ≡ Ok found) }
+    ensures refused { IfErr result (λ e. IsFaultOf (each_at (blocks.block_in sims.now groups.now) tables.now) e) }
+{
+    let mut found = List::new(alloc);
+    for (i, table) in tables.iter().enumerate() {
+        found.push(block_in(alloc, sims, ids, groups, i, table)?)?;
+    }
+    Ok(found)
+}
+
+// The block of the table at place i.
+fn block_in(
+    alloc: Global,
+    sims: &Names,
+    ids: &Names,
+    groups: &[Group],
+    i: usize,
+    table: &Json,
+) -> Result<Block, ScenarioFault>
+    requires { ids.now ≡ group_ids groups.now }
+    ensures ok { IfOk result (λ block. blocks.block_in sims.now groups.now i table.now ≡ Ok block) }
+    ensures refused { IfErr result (λ e. IsFaultOf (blocks.block_in sims.now groups.now i table.now) e) }
+{
+    let path = item_in(alloc, &Text::of(alloc, "connect")?, i)?;
+    block_at(alloc, sims, ids, groups, &path, table)
+}
+
+// The block of the table of this path.
+#[tactic(auto, unfolding(crate::specs::Blocks::block_at))]
+fn block_at(
+    alloc: Global,
+    sims: &Names,
+    ids: &Names,
+    groups: &[Group],
+    path: &Text,
+    table: &Json,
+) -> Result<Block, ScenarioFault>
+    requires { ids.now ≡ group_ids groups.now }
+    ensures ok { IfOk result (λ block. blocks.block_at sims.now groups.now path.now table.now ≡ Ok block) }
+    ensures refused { IfErr result (λ e. IsFaultOf (blocks.block_at sims.now groups.now path.now table.now) e) }
+{
+    let said = block_said(alloc, path, table)?;
+    block_made(alloc, sims, ids, groups, path, said)
+}
+
+// What the table of this path says.
+fn block_said(alloc: Global, path: &Text, table: &Json) -> Result<BlockSaid, ScenarioFault>
+    ensures ok { IfOk result (λ said. blocks.block_said path.now table.now ≡ Ok said) }
+    ensures refused { IfErr result (λ e. IsFaultOf (blocks.block_said path.now table.now) e) }
+{
+    if let Some(key) = first_unknown(Table::Block, table) {
+        return Err(ScenarioFault::UnknownKey(key_in(alloc, path, key.as_str())?));
+    }
+    let from = required_text(alloc, path, "from", table)?;
+    let to = required_text(alloc, path, "to", table)?;
+    let attrs = pairs_or_none(alloc, path, table)?;
+    let manner = manner_said(alloc, path, table)?;
+    let initial = values_or_none(alloc, path, "initial_data", table)?;
+    Ok(BlockSaid {
+        from: from.copy()?,
+        to: to.copy()?,
+        attrs,
+        manner,
+        initial,
+    })
+}
+
+// The manner in which the table of this path says that the connection delivers.
+fn manner_said(alloc: Global, path: &Text, table: &Json) -> Result<Manner, ScenarioFault>
+    ensures ok { IfOk result (λ manner. blocks.manner_said path.now table.now ≡ Ok manner) }
+    ensures refused { IfErr result (λ e. IsFaultOf (blocks.manner_said path.now table.now) e) }
+{
+    let shifted = truth_or_false(alloc, path, "time_shifted", table)?;
+    let weak = truth_or_false(alloc, path, "weak", table)?;
+    let asks = truth_or_false(alloc, path, "async_requests", table)?;
+    Ok(Manner {
+        shifted,
+        weak,
+        asks,
+    })
+}
+
+// The pairs of attributes of the table of this path, none where it says none.
+fn pairs_or_none(alloc: Global, path: &Text, table: &Json) -> Result<List<AttrPair>, ScenarioFault>
+    ensures ok { IfOk result (λ found. keys.optional [] (key_in path.now (codes "attrs")) blocks.pairs (member (codes "attrs") table.now) ≡ Ok found) }
+    ensures refused { IfErr result (λ e. IsFaultOf (keys.optional [] (key_in path.now (codes "attrs")) blocks.pairs (member (codes "attrs") table.now)) e) }
+{
+    match table.member("attrs") {
+        Some(value) => pairs(alloc, &key_in(alloc, path, "attrs")?, value),
+        None => Ok(List::new(alloc)),
+    }
+}
+
+fn pairs(alloc: Global, path: &Text, value: &Json) -> Result<List<AttrPair>, ScenarioFault>
+    ensures ok { IfOk result (λ found. blocks.pairs path.now value.now ≡ Ok found) }
+    ensures refused { IfErr result (λ e. IsFaultOf (blocks.pairs path.now value.now) e) }
+{
+    let items = items(path, value)?;
+    pairs_among(alloc, path, items.as_slice())
+}
+
+fn pairs_among(alloc: Global, path: &Text, items: &[Json]) -> Result<List<AttrPair>, ScenarioFault>
+    ensures ok { IfOk result (λ pairs. each_at (λ i item. found (faults.WrongKind (item_in path.now i)) (blocks.pair_in item)) items.now ≡ Ok pairs) }
+    ensures refused { IfErr result (λ e. IsFaultOf (each_at (λ i item. found (faults.WrongKind (item_in path.now i)) (blocks.pair_in item)) items.now) e) }
+{
+    let mut pairs = List::new(alloc);
+    for (i, item) in items.iter().enumerate() {
+        match pair_of(item)? {
+            Some(pair) => pairs.push(pair)?,
+            None => return Err(ScenarioFault::WrongKind(item_in(alloc, path, i)?)),
+        }
+    }
+    Ok(pairs)
+}
+
+// The pair of attributes that the value is: one name for both sides, or a list of two.
+fn pair_of(value: &Json) -> Result<Option<AttrPair>, Mem>
+    ensures { IfOk result (λ pair. pair ≡ blocks.pair_in value.now) }
+{
+    match value {
+        Json::Null => Ok(None),
+        Json::Bool(_) => Ok(None),
+        Json::Whole(_) => Ok(None),
+        Json::Odd => Ok(None),
+        Json::Text(name) => Ok(Some(AttrPair {
+            from: name.copy()?,
+            to: name.copy()?,
+        })),
+        Json::List(items) => two_of(items.as_slice()),
+        Json::Object(_) => Ok(None),
+    }
+}
+
+fn two_of(items: &[Json]) -> Result<Option<AttrPair>, Mem>
+    ensures { IfOk result (λ pair. pair ≡ blocks.two_of items.now) }
+{
+    match items {
+        [from, to] => two_names(text_of(from), text_of(to)),
+        _ => Ok(None),
+    }
+}
+
+fn two_names(from: Option<&Text>, to: Option<&Text>) -> Result<Option<AttrPair>, Mem>
+    ensures { IfOk result (λ pair. pair ≡ blocks.two_names (option_map (λ t. t.now) from.entry) (option_map (λ t. t.now) to.entry)) }
+{
+    match (from, to) {
+        (Some(from), Some(to)) => Ok(Some(AttrPair {
+            from: from.copy()?,
+            to: to.copy()?,
+        })),
+        _ => Ok(None),
+    }
+}
+
+// The block that a table of this path says.
+fn block_made(
+    alloc: Global,
+    sims: &Names,
+    ids: &Names,
+    groups: &[Group],
+    path: &Text,
+    said: BlockSaid,
+) -> Result<Block, ScenarioFault>
+    requires { ids.now ≡ group_ids groups.now }
+    ensures ok { IfOk result (λ block. blocks.block_made sims.now groups.now path.now said ≡ Ok block) }
+    ensures refused { IfErr result (λ e. IsFaultOf (blocks.block_made sims.now groups.now path.now said) e) }
+{
+    let from = place_of(
+        alloc,
+        sims,
+        ids,
+        groups,
+        &key_in(alloc, path, "from")?,
+        &said.from,
+    )?;
+    let to = place_of(
+        alloc,
+        sims,
+        ids,
+        groups,
+        &key_in(alloc, path, "to")?,
+        &said.to,
+    )?;
+    block_between(alloc, groups, path, said, from, to)
+}
+
+// The block that a table of this path says, between these places.
+fn block_between(
+    alloc: Global,
+    groups: &[Group],
+    path: &Text,
+    said: BlockSaid,
+    from: Place,
+    to: Place,
+) -> Result<Block, ScenarioFault>
+    ensures ok { IfOk result (λ block. blocks.block_between groups.now path.now said from to ≡ Ok block) }
+    ensures refused { IfErr result (λ e. IsFaultOf (blocks.block_between groups.now path.now said from to) e) }
+{
+    let manner = said.manner;
+    if !at_most_one(manner.shifted, manner.weak, manner.asks) {
+        return Err(ScenarioFault::TwoKinds(path.copy()?));
+    }
+    let place = key_in(alloc, path, "initial_data")?;
+    initial_fits(
+        alloc,
+        &place,
+        manner.shifted || manner.weak,
+        said.attrs.as_slice(),
+        &said.initial,
+    )?;
+    let (m, n) = (size_of(groups, &from), size_of(groups, &to));
+    if !sides_pair(m, n) {
+        return Err(ScenarioFault::Uneven(path.copy()?, m, n));
+    }
+    Ok(Block {
+        from,
+        to,
+        attrs: said.attrs,
+        via: via_of(manner.shifted, manner.weak),
+        async_requests: manner.asks,
+        initial: said.initial,
+    })
+}
+
+fn at_most_one(a: bool, b: bool, c: bool) -> bool
+    ensures { result ≡ blocks.at_most_one a b c }
+{
+    !((a && b) || (a && c) || (b && c))
+}
+
+fn via_of(shifted: bool, weak: bool) -> Via
+    ensures { result ≡ blocks.via_of shifted weak }
+{
+    if shifted {
+        Via::Shift
+    } else if weak {
+        Via::Weak
+    } else {
+        Via::Plain
+    }
+}
+
+// One side has one entity, or both have equally many.
+fn sides_pair(m: u32, n: u32) -> bool
+    ensures { result ≡ blocks.sides_pair m n }
+{
+    n == 1 || m == 1 || m == n
+}
+
+// Initial values, under the key of this path, stand only where the delivery is delayed, and only under source attributes.
+fn initial_fits(
+    alloc: Global,
+    path: &Text,
+    delayed: bool,
+    attrs: &[AttrPair],
+    initial: &Json,
+) -> Result<(), ScenarioFault>
+    ensures ok { IfOk result (λ _. blocks.initial_fits path.now delayed attrs.now initial.now ≡ Ok initial.now) }
+    ensures refused { IfErr result (λ e. IsFaultOf (blocks.initial_fits path.now delayed attrs.now initial.now) e) }
+{
+    if !(delayed || is_empty(initial)) {
+        return Err(ScenarioFault::UnknownKey(path.copy()?));
+    }
+    match first_unfed(attrs, initial) {
+        Some(name) => Err(ScenarioFault::UnknownKey(key_in(alloc, path, name.as_str())?)),
+        None => Ok(()),
+    }
+}
+
+fn is_empty(table: &Json) -> bool
+    ensures { result ≡ (length (keys.members_of table.now) == 0) }
+{
+    match members_of(table) {
+        Some(members) => members.is_empty(),
+        None => true,
+    }
+}
+
+// The first name, in byte order, that no pair has as its source.
+fn first_unfed<'a>(attrs: &[AttrPair], initial: &'a Json) -> Option<&'a Text>
+    ensures { option_map (λ t. t.now) result ≡ blocks.first_unfed attrs.now initial.now }
+{
+    match members_of(initial) {
+        Some(members) => first_unfed_of(attrs, members),
+        None => None,
+    }
+}
+
+fn first_unfed_of<'a>(attrs: &[AttrPair], members: &'a Members<Json>) -> Option<&'a Text>
+    ensures { option_map (λ t. t.now) result ≡ find (λ key. not (keys.is_among (source_names attrs.now) key)) (map (λ (m : List ℕ × Json). m.0) members.now) }
+{
+    for (name, _) in members.entries() {
+        if !is_source(attrs, name) {
+            return Some(name);
+        }
+    }
+    None
+}
+
+// Whether a pair has this name as its source.
+fn is_source(attrs: &[AttrPair], name: &Text) -> bool
+    ensures { result ≡ keys.is_among (source_names attrs.now) name.now }
+{
+    for pair in attrs {
+        if name.bytes() == pair.from.bytes() {
+            return true;
+        }
+    }
+    false
 }

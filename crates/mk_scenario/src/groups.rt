@@ -1,13 +1,35 @@
-ghost use Rattle.std.specs.Prelude.{◌≡◌, IfOk, IfErr, Ok};
+// The `entities` tables.
+ghost use Rattle.std.specs.Prelude.{◌≡◌, codes, IfOk, IfErr, Ok, Some};
+ghost use Rattle.mk_base.specs.Trees.{member};
 ghost use Rattle.mk_scenario.specs.Groups as groups;
+ghost use Rattle.mk_scenario.specs.Groups.{id_in};
+ghost use Rattle.mk_scenario.specs.Keys as keys;
 ghost use Rattle.mk_scenario.specs.Scenarios.{ids_of};
-ghost use Rattle.mk_scenario.specs.Tests.{IsFaultOf, each_after};
+ghost use Rattle.mk_scenario.specs.Tests.{IsFaultOf, each_after, key_in};
 
 use crate::fault::ScenarioFault;
+use crate::keys::{count_or, required_name, required_text, values_or_none};
+use crate::known::{Table, first_unknown};
+use crate::names::Names;
 use crate::parts::{Group, SimPart};
-use mk_base::{Json, List};
+use crate::paths::{item_in, key_in};
+use mk_base::{Json, List, Mem, SimNo, Text};
 use std::alloc::Global;
 
+// The most entities of a group.
+const MOST_ENTITIES: u32 = 10_000;
+
+// What an `entities` table says.
+#[derive(Drop)]
+pub struct GroupSaid {
+    id: Text,
+    sim: Text,
+    model: Text,
+    num: u32,
+    params: Json,
+}
+
+// The groups of these tables.
 pub fn groups_of(
     alloc: Global,
     sims: &List<SimPart>,
@@ -16,5 +38,124 @@ pub fn groups_of(
     ensures ok { IfOk result (λ found. each_after (groups.group_in (ids_of sims.now)) tables.now ≡ Ok found) }
     ensures refused { IfErr result (λ e. IsFaultOf (each_after (groups.group_in (ids_of sims.now)) tables.now) e) }
 {
-    Err(ScenarioFault::Mem)
+    let ids = ids_of(alloc, sims.as_slice())?;
+    groups_among(alloc, &ids, tables)
+}
+
+// The ids of the simulators.
+pub fn ids_of(alloc: Global, sims: &[SimPart]) -> Result<Names, Mem>
+    ensures { IfOk result (λ ids. ids ≡ ids_of sims.now) }
+{
+    let mut ids = Names::new(alloc);
+    for sim in sims {
+        ids = ids.with(alloc, &sim.id)?;
+    }
+    Ok(ids)
+}
+
+// The groups of these tables, among simulators of these ids.
+fn groups_among(alloc: Global, sims: &Names, tables: &[Json]) -> Result<List<Group>, ScenarioFault>
+    ensures ok { IfOk result (λ found. each_after (groups.group_in sims.now) tables.now ≡ Ok found) }
+    ensures refused { IfErr result (λ e. IsFaultOf (each_after (groups.group_in sims.now) tables.now) e) }
+{
+    let top = Text::of(alloc, "entities")?;
+    let mut taken = Names::new(alloc);
+    let mut found = List::new(alloc);
+    for (i, table) in tables.iter().enumerate() {
+        let path = item_in(alloc, &top, i)?;
+        let group = group_after(alloc, sims, &taken, &path, table)?;
+        taken = taken.with(alloc, &group.id)?;
+        found.push(group)?;
+    }
+    Ok(found)
+}
+
+// The group of the table of this path, where these ids are taken.
+fn group_after(
+    alloc: Global,
+    sims: &Names,
+    taken: &Names,
+    path: &Text,
+    table: &Json,
+) -> Result<Group, ScenarioFault>
+    ensures ok { IfOk result (λ group. groups.group_after sims.now taken.now path.now table.now ≡ Ok group) }
+    ensures refused { IfErr result (λ e. IsFaultOf (groups.group_after sims.now taken.now path.now table.now) e) }
+    ensures named { IfOk result (λ group. id_in table.now ≡ Some group.id) }
+{
+    let said = group_said(alloc, path, table)?;
+    group_made(alloc, sims, taken, path, said)
+}
+
+// What the table of this path says.
+fn group_said(alloc: Global, path: &Text, table: &Json) -> Result<GroupSaid, ScenarioFault>
+    ensures ok { IfOk result (λ said. groups.group_said path.now table.now ≡ Ok said) }
+    ensures refused { IfErr result (λ e. IsFaultOf (groups.group_said path.now table.now) e) }
+    ensures named { IfOk result (λ said. id_in table.now ≡ Some said.id) }
+{
+    if let Some(key) = first_unknown(Table::Group, table) {
+        return Err(ScenarioFault::UnknownKey(key_in(alloc, path, key.as_str())?));
+    }
+    let id = required_name(alloc, path, "id", table)?;
+    let sim = required_text(alloc, path, "sim", table)?;
+    let model = required_text(alloc, path, "model", table)?;
+    let num = num_of(alloc, path, table)?;
+    let params = values_or_none(alloc, path, "params", table)?;
+    Ok(GroupSaid {
+        id: id.copy()?,
+        sim: sim.copy()?,
+        model: model.copy()?,
+        num,
+        params,
+    })
+}
+
+// How many entities the table of this path asks for.
+fn num_of(alloc: Global, path: &Text, table: &Json) -> Result<u32, ScenarioFault>
+    ensures ok { IfOk result (λ n. keys.optional 1 (key_in path.now (codes "num")) (keys.count_within 1 10000) (member (codes "num") table.now) ≡ Ok n) }
+    ensures refused { IfErr result (λ e. IsFaultOf (keys.optional 1 (key_in path.now (codes "num")) (keys.count_within 1 10000) (member (codes "num") table.now)) e) }
+{
+    count_or(
+        alloc,
+        1,
+        MOST_ENTITIES,
+        &key_in(alloc, path, "num")?,
+        "num",
+        table,
+    )
+}
+
+// The simulator of this id.
+pub fn sim_of_id(alloc: Global, sims: &Names, path: &Text, id: &str) -> Result<SimNo, ScenarioFault>
+    ensures ok { IfOk result (λ no. groups.sim_of_id sims.now path.now id.now ≡ Ok no) }
+    ensures refused { IfErr result (λ e. IsFaultOf (groups.sim_of_id sims.now path.now id.now) e) }
+{
+    match sims.place_of(id) {
+        Some(place) => Ok(SimNo(place)),
+        None => Err(ScenarioFault::UnknownSim(path.copy()?, Text::of(alloc, id)?)),
+    }
+}
+
+// The group that a table of this path says, where these ids are taken.
+fn group_made(
+    alloc: Global,
+    sims: &Names,
+    taken: &Names,
+    path: &Text,
+    said: GroupSaid,
+) -> Result<Group, ScenarioFault>
+    ensures ok { IfOk result (λ group. groups.group_made sims.now taken.now path.now said ≡ Ok group) }
+    ensures refused { IfErr result (λ e. IsFaultOf (groups.group_made sims.now taken.now path.now said) e) }
+    ensures named { IfOk result (λ group. group.id ≡ said.id) }
+{
+    if taken.has(said.id.as_str()) {
+        return Err(ScenarioFault::Taken(said.id));
+    }
+    let sim = sim_of_id(alloc, sims, &key_in(alloc, path, "sim")?, said.sim.as_str())?;
+    Ok(Group {
+        id: said.id,
+        sim,
+        model: said.model,
+        num: said.num,
+        params: said.params,
+    })
 }

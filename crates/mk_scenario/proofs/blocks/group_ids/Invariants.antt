@@ -1,0 +1,6 @@
+use Rattle.std.proofs.Common.{◌≡◌, take}
+use Rattle.mk_scenario.specs.References.{group_ids}
+use Rattle.mk_scenario.proofs.blocks.group_ids.Given as goal
+
+abbrev pub invariant-loop-group : goal.invariant-loop-group
+invariant-loop-group l = l.ids ≡ group_ids (take l.group-index l.groups)
