@@ -4,3 +4,6 @@ pub mod Placing
 pub mod Gathering
 pub mod Numbers
 pub mod Naming
+pub mod Passing
+pub mod ListFacts
+pub mod KeyFacts

@@ -8,3 +8,4 @@ pub mod References
 pub mod Blocks
 pub mod Scenarios
 pub mod Known
+pub mod Wellformed
