@@ -7,3 +7,7 @@ pub mod Naming
 pub mod Passing
 pub mod ListFacts
 pub mod KeyFacts
+pub mod SimFacts
+pub mod GroupFacts
+pub mod BlockFacts
+pub mod Wellformedness
