@@ -11,3 +11,4 @@ pub mod SimFacts
 pub mod GroupFacts
 pub mod BlockFacts
 pub mod Wellformedness
+pub mod IdFacts
