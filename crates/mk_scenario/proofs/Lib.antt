@@ -12,3 +12,4 @@ pub mod GroupFacts
 pub mod BlockFacts
 pub mod Wellformedness
 pub mod IdFacts
+pub mod Rows
