@@ -1,19 +1,20 @@
 -- A scenario that is read is well-formed.
-use Rattle.std.proofs.Common.{◌≡◌, ◌≤◌, pos, arith, [], length, take, Result, Ok, Err, IfOk, sym, subst, codes}
+use Rattle.std.proofs.Common.{◌≡◌, ℕ, ◌≤◌, pos, arith, List, [], length, take, Result, Ok, Err, IfOk, sym, subst, codes}
 use Rattle.std.proofs.lemmas.List.{length-map}
 use Rattle.mk_base.specs.declared.json.Json.{Json}
 use Rattle.mk_base.specs.Lists.{Each}
 use Rattle.mk_base.specs.Trees.{member}
-use Rattle.mk_scenario.specs.Tests.{item_in, each_at, each_after}
+use Rattle.mk_toml.specs.Document.{toml_of}
+use Rattle.mk_scenario.specs.Tests.{found, item_in, each_at, each_after}
 use Rattle.mk_scenario.specs.Keys.{required, optional, first_unknown, whole_within, count_within, tables_within}
 use Rattle.mk_scenario.specs.Sims.{texts_under, sim_in}
 use Rattle.mk_scenario.specs.Groups.{group_in}
 use Rattle.mk_scenario.specs.Blocks.{block_in}
-use Rattle.mk_scenario.specs.Scenarios.{top_keys, ids_of, scenario_in}
+use Rattle.mk_scenario.specs.Scenarios.{top_keys, ids_of, scenario_in, scenario_of}
 use Rattle.mk_scenario.specs.Wellformed.{IsWellformedGroup, IsWellformedBlock, IsWellformed}
 use Rattle.mk_scenario.specs.declared.parts.SimPart.{SimPart}
 use Rattle.mk_scenario.specs.declared.parts.Scenario.{Scenario}
-use Rattle.mk_scenario.specs.declared.fault.ScenarioFault.TheVariants.{UnknownKey}
+use Rattle.mk_scenario.specs.declared.fault.ScenarioFault.TheVariants.{NotToml, UnknownKey}
 use Rattle.mk_scenario.proofs.Passing.{ok_same, passed_ok, no_text_ok, required_ok, each_gives, each_at_ok}
 use Rattle.mk_scenario.proofs.KeyFacts.{left_out_count, left_out_tables, whole_within_ok, tables_within_ok}
 use Rattle.mk_scenario.proofs.SimFacts.{sims_ok, ids_ok}
@@ -50,7 +51,10 @@ scenario_is_wellformed document S e =
       blocks = subst (λ n. Each (IsWellformedBlock n groups.0) blocks.0) ids_count (each_gives (block_in (ids_of sims.0) groups.0) (IsWellformedBlock (length (ids_of sims.0)) groups.0) block_tables.0 blocks.0 blocks.1 (λ i table b w. block_ok (ids_of sims.0) groups.0 (item_in (codes "connect") i) table b w));
     })
 
--- the same of what a reader answers
-pub wellformed_where_ok : {E : Type 0} (document : Json) (r : Result Scenario E) → IfOk r (λ S. scenario_in document ≡ Ok S) → IfOk r (λ S. IsWellformed S)
-wellformed_where_ok document (Ok S) e = scenario_is_wellformed document S e
-wellformed_where_ok document (Err fault) e = tt
+-- the same of the bytes of a file, and of what their reader answers
+pub scenario_of_is_wellformed : (bytes : List ℕ) (S : Scenario) → scenario_of bytes ≡ Ok S → IsWellformed S
+scenario_of_is_wellformed bytes S e = let t = passed_ok (found NotToml (toml_of bytes)) _ _ e in scenario_is_wellformed t.0 S t.2
+
+pub wellformed_where_ok : {E : Type 0} (bytes : List ℕ) (r : Result Scenario E) → IfOk r (λ S. scenario_of bytes ≡ Ok S) → IfOk r (λ S. IsWellformed S)
+wellformed_where_ok bytes (Ok S) e = scenario_of_is_wellformed bytes S e
+wellformed_where_ok bytes (Err fault) e = tt
