@@ -51,10 +51,15 @@ scenario_is_wellformed document S e =
       blocks = subst (λ n. Each (IsWellformedBlock n groups.0) blocks.0) ids_count (each_gives (block_in (ids_of sims.0) groups.0) (IsWellformedBlock (length (ids_of sims.0)) groups.0) block_tables.0 blocks.0 blocks.1 (λ i table b w. block_ok (ids_of sims.0) groups.0 (item_in (codes "connect") i) table b w));
     })
 
--- the same of the bytes of a file, and of what their reader answers
+-- the same of what answers by a document
+pub wellformed_where_ok : {E : Type 0} (document : Json) (r : Result Scenario E) → IfOk r (λ S. scenario_in document ≡ Ok S) → IfOk r (λ S. IsWellformed S)
+wellformed_where_ok document (Ok S) e = scenario_is_wellformed document S e
+wellformed_where_ok document (Err fault) e = tt
+
+-- the same of what answers by the bytes of a file
 pub scenario_of_is_wellformed : (bytes : List ℕ) (S : Scenario) → scenario_of bytes ≡ Ok S → IsWellformed S
 scenario_of_is_wellformed bytes S e = let t = passed_ok (found NotToml (toml_of bytes)) _ _ e in scenario_is_wellformed t.0 S t.2
 
-pub wellformed_where_ok : {E : Type 0} (bytes : List ℕ) (r : Result Scenario E) → IfOk r (λ S. scenario_of bytes ≡ Ok S) → IfOk r (λ S. IsWellformed S)
-wellformed_where_ok bytes (Ok S) e = scenario_of_is_wellformed bytes S e
-wellformed_where_ok bytes (Err fault) e = tt
+pub wellformed_where_read : {E : Type 0} (bytes : List ℕ) (r : Result Scenario E) → IfOk r (λ S. scenario_of bytes ≡ Ok S) → IfOk r (λ S. IsWellformed S)
+wellformed_where_read bytes (Ok S) e = scenario_of_is_wellformed bytes S e
+wellformed_where_read bytes (Err fault) e = tt
