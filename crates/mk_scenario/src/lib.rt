@@ -13,6 +13,8 @@ mod read;
 mod references;
 mod sims;
 mod spelling;
+#[cfg(test)]
+mod tests;
 mod top;
 mod values;
 

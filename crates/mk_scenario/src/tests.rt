@@ -1,0 +1,139 @@
+use crate::{Begin, Place, Scenario, ScenarioFault, read_scenario};
+use mk_base::{Json, SimNo, Via};
+use std::alloc::Global;
+use std::test::Fail;
+
+// The number and the texts of the fault of a text, or `well`.
+fn verdict(alloc: Global, text: &str) -> Result<String, Fail> {
+    match read_scenario(alloc, text.as_bytes()) {
+        Ok(_) => Ok(format!(in alloc; "well")?),
+        Err(fault) => said(alloc, &fault),
+    }
+}
+
+fn said(alloc: Global, fault: &ScenarioFault) -> Result<String, Fail> {
+    let line = match fault {
+        ScenarioFault::NotToml => format!(in alloc; "1")?,
+        ScenarioFault::Missing(key) => format!(in alloc; "2 {}", key.as_str())?,
+        ScenarioFault::WrongKind(key) => format!(in alloc; "3 {}", key.as_str())?,
+        ScenarioFault::UnknownKey(key) => format!(in alloc; "4 {}", key.as_str())?,
+        ScenarioFault::OutOfRange(key, value) => {
+            format!(in alloc; "5 {} {}", key.as_str(), value.as_str())?
+        }
+        ScenarioFault::UnknownSim(key, name) => {
+            format!(in alloc; "6 {} {}", key.as_str(), name.as_str())?
+        }
+        ScenarioFault::UnknownGroup(key, name) => {
+            format!(in alloc; "7 {} {}", key.as_str(), name.as_str())?
+        }
+        ScenarioFault::TwoKinds(key) => format!(in alloc; "8 {}", key.as_str())?,
+        ScenarioFault::Uneven(key, m, n) => format!(in alloc; "9 {} {m} {n}", key.as_str())?,
+        ScenarioFault::Taken(name) => format!(in alloc; "10 {}", name.as_str())?,
+        ScenarioFault::Mem => format!(in alloc; "memory")?,
+    };
+    Ok(line)
+}
+
+// The verdict of a text that goes on from this beginning.
+fn after(alloc: Global, beginning: &str, rest: &str) -> Result<String, Fail> {
+    let text = format!(in alloc; "{beginning}{rest}")?;
+    verdict(alloc, text.as_str())
+}
+
+#[test]
+fn the_top_table_is_tested_first(rt: HostRuntime) -> Result<(), Fail> {
+    let rows = [
+        ("x =", "1"),
+        ("", "2 until"),
+        ("until = \"3\"", "3 until"),
+        ("until = 0", "5 until 0"),
+        ("until = 1000000001", "5 until 1000000001"),
+        ("until = 3\nspeed = 1", "4 speed"),
+        ("until = 1000000000", "2 sim"),
+        ("until = 3\nmax_loop_iterations = 0", "5 max_loop_iterations 0"),
+        ("until = 3\nmax_loop_iterations = 1001", "5 max_loop_iterations 1001"),
+        (
+            "until = 3\nmax_loop_iterations = 1000\nmax_entries = 20000001",
+            "5 max_entries 20000001",
+        ),
+        ("until = 1\nmax_loop_iterations = 1\nmax_entries = 1\nsim = []", "5 sim 0"),
+        ("until = 3\nsim = [{}, 1]\nconnect = 1", "3 sim[1]"),
+        ("until = 3\nsim = [{}]\nentities = {}", "3 entities"),
+    ];
+    for (text, want) in rows {
+        assert_eq!(rt; verdict(rt.alloc(), text)?.as_str(), want);
+    }
+    Ok(())
+}
+
+#[test]
+fn a_simulator_is_tested_key_by_key(rt: HostRuntime) -> Result<(), Fail> {
+    let rows = [
+        ("", "2 sim[0].name"),
+        ("name = 'A'\nport = 1\nhost = 2", "4 sim[0].host"),
+        ("name = '1'", "5 sim[0].name 1"),
+        ("name = 'A'", "2 sim[0].command"),
+        ("name = 'A'\nlocal = 'sum'\ncommand = 'x'", "8 sim[0]"),
+        ("name = 'A'\nconnect = '127.0.0.1:0'", "5 sim[0].connect 127.0.0.1:0"),
+        ("name = 'A'\nconnect = '127.0.0.1:70000'", "5 sim[0].connect 127.0.0.1:70000"),
+        ("name = 'A'\nconnect = 'localhost:08'", "5 sim[0].connect localhost:08"),
+        ("name = 'A'\nconnect = 'localhost'", "5 sim[0].connect localhost"),
+        ("name = 'A'\nconnect = 'example:80'", "5 sim[0].connect example:80"),
+        ("name = 'A'\nconnect = 'localhost:65535'", "well"),
+        ("name = 'A'\nlocal = 's'\nparams = {time_resolution = 4}", "4 sim[0].params.time_resolution"),
+        ("name = 'A'\nlocal = 's'\nparams = {x = 1.0}", "3 sim[0].params.x"),
+        ("name = 'A'\nlocal = 's'\nparams = {b = nan, a = [2020-01-02]}", "3 sim[0].params.a"),
+        ("name = 'A'\nlocal = 's'\ninitial_events = [0, 1000000001]", "5 sim[0].initial_events[1] 1000000001"),
+        ("name = 'A'\nlocal = 's'\ninitial_events = [-1, 'x']", "3 sim[0].initial_events[1]"),
+    ];
+    for (rest, want) in rows {
+        assert_eq!(rt; after(rt.alloc(), "until = 3\n[[sim]]\n", rest)?.as_str(), want);
+    }
+    Ok(())
+}
+
+// Two simulators of one name, and groups of three, two and one entities.
+const GROUPS: &str = "until = 3
+sim = [{name = 'A', local = 's'}, {name = 'A', local = 's'}]
+entities = [{id = 'h', sim = 'A-0', model = 'M', num = 3}, {id = 'p', sim = 'A-1', model = 'M', num = 2}, {id = 'g', sim = 'A-1', model = 'M'}]
+";
+
+#[test]
+fn a_group_is_tested_key_by_key(rt: HostRuntime) -> Result<(), Fail> {
+    let rows = [
+        ("id = 'g'\nsim = 'B-0'\nmodel = 'M'", "6 entities[0].sim B-0"),
+        ("id = 'g'\nsim = 'A-0'", "2 entities[0].model"),
+        ("id = 'g'\nsim = 'A-0'\nmodel = 'M'\nnum = 0", "5 entities[0].num 0"),
+        ("id = 'g'\nsim = 'A-0'\nmodel = 'M'\nnum = 10001", "5 entities[0].num 10001"),
+        ("id = 'g'\nsim = 'A-0'\nmodel = 'M'\n[[entities]]\nid = 'g'\nsim = 'B-0'\nmodel = 'M'", "10 g"),
+    ];
+    for (rest, want) in rows {
+        assert_eq!(rt; after(rt.alloc(), "until = 3\n[[sim]]\nname = 'A'\nlocal = 's'\n[[entities]]\n", rest)?.as_str(), want);
+    }
+    Ok(())
+}
+
+#[test]
+fn a_connection_is_tested_key_by_key(rt: HostRuntime) -> Result<(), Fail> {
+    let rows = [
+        ("from = 'x'\nto = 'y'", "7 connect[0].from x"),
+        ("from = 'h[0'\nto = 'g'", "7 connect[0].from h[0"),
+        ("from = 'h[3]'\nto = 'g'", "5 connect[0].from h[3]"),
+        ("from = 'h[02]'\nto = 'A-1.a.b'", "well"),
+        ("from = 'h[]'\nto = 'g'", "5 connect[0].from h[]"),
+        ("from = 'h[x]'\nto = 'g'", "5 connect[0].from h[x]"),
+        ("from = 'A-2.0'\nto = 'g'", "6 connect[0].from A-2"),
+        ("from = 'p'\nto = 'h'", "9 connect[0] 2 3"),
+        ("from = 'p'\nto = 'g'\ntime_shifted = true\nweak = true", "8 connect[0]"),
+        ("from = 'p'\nto = 'g'\nattrs = ['x', ['a', 1]]", "3 connect[0].attrs[1]"),
+        ("from = 'p'\nto = 'g'\nattrs = ['x']\ninitial_data = {x = 1}", "4 connect[0].initial_data"),
+        ("from = 'p'\nto = 'g'\nweak = true\nattrs = [['x', 'y']]\ninitial_data = {x = 1, y = 2}", "4 connect[0].initial_data.y"),
+        ("from = 'p'\nto = 'g'\nweak = true\nattrs = ['x']\ninitial_data = {x = 1.5}", "3 connect[0].initial_data.x"),
+        ("from = 'p'\nto = 'g'\nasync_requests = true\nattrs = ['x', ['y', 'z']]", "well"),
+    ];
+    for (rest, want) in rows {
+        let text = format!(in rt.alloc(); "[[connect]]\n{rest}")?;
+        assert_eq!(rt; after(rt.alloc(), GROUPS, text.as_str())?.as_str(), want);
+    }
+    Ok(())
+}
