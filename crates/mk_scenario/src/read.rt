@@ -2,6 +2,7 @@
 ghost use Rattle.std.specs.Prelude.{◌≡◌, IfOk, IfErr, Ok};
 ghost use Rattle.mk_scenario.specs.Scenarios.{scenario_of};
 ghost use Rattle.mk_scenario.specs.Tests.{IsFaultOf};
+ghost use Rattle.mk_scenario.specs.Wellformed.{IsWellformed};
 
 use crate::fault::ScenarioFault;
 use crate::parts::Scenario;
@@ -15,6 +16,7 @@ use std::alloc::Global;
 pub fn read_scenario(alloc: Global, bytes: &[u8]) -> Result<Scenario, ScenarioFault>
     ensures ok { IfOk result (λ s. scenario_of bytes.now ≡ Ok s) }
     ensures refused { IfErr result (λ e. IsFaultOf (scenario_of bytes.now) e) }
+    ensures wellformed { IfOk result (λ s. IsWellformed s) }
 {
     match read_toml(alloc, bytes) {
         Ok(document) => scenario_in(alloc, &document),
