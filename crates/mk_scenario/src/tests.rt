@@ -1,5 +1,5 @@
 use crate::{Begin, Place, Scenario, ScenarioFault, read_scenario};
-use mk_base::{Json, SimNo, Via};
+use mk_base::Via;
 use std::alloc::Global;
 use std::test::Fail;
 
@@ -50,13 +50,22 @@ fn the_top_table_is_tested_first(rt: HostRuntime) -> Result<(), Fail> {
         ("until = 1000000001", "5 until 1000000001"),
         ("until = 3\nspeed = 1", "4 speed"),
         ("until = 1000000000", "2 sim"),
-        ("until = 3\nmax_loop_iterations = 0", "5 max_loop_iterations 0"),
-        ("until = 3\nmax_loop_iterations = 1001", "5 max_loop_iterations 1001"),
+        (
+            "until = 3\nmax_loop_iterations = 0",
+            "5 max_loop_iterations 0",
+        ),
+        (
+            "until = 3\nmax_loop_iterations = 1001",
+            "5 max_loop_iterations 1001",
+        ),
         (
             "until = 3\nmax_loop_iterations = 1000\nmax_entries = 20000001",
             "5 max_entries 20000001",
         ),
-        ("until = 1\nmax_loop_iterations = 1\nmax_entries = 1\nsim = []", "5 sim 0"),
+        (
+            "until = 1\nmax_loop_iterations = 1\nmax_entries = 1\nsim = []",
+            "5 sim 0",
+        ),
         ("until = 3\nsim = [{}, 1]\nconnect = 1", "3 sim[1]"),
         ("until = 3\nsim = [{}]\nentities = {}", "3 entities"),
     ];
@@ -74,20 +83,53 @@ fn a_simulator_is_tested_key_by_key(rt: HostRuntime) -> Result<(), Fail> {
         ("name = '1'", "5 sim[0].name 1"),
         ("name = 'A'", "2 sim[0].command"),
         ("name = 'A'\nlocal = 'sum'\ncommand = 'x'", "8 sim[0]"),
-        ("name = 'A'\nconnect = '127.0.0.1:0'", "5 sim[0].connect 127.0.0.1:0"),
-        ("name = 'A'\nconnect = '127.0.0.1:70000'", "5 sim[0].connect 127.0.0.1:70000"),
-        ("name = 'A'\nconnect = 'localhost:08'", "5 sim[0].connect localhost:08"),
-        ("name = 'A'\nconnect = 'localhost'", "5 sim[0].connect localhost"),
-        ("name = 'A'\nconnect = 'example:80'", "5 sim[0].connect example:80"),
+        (
+            "name = 'A'\nconnect = '127.0.0.1:0'",
+            "5 sim[0].connect 127.0.0.1:0",
+        ),
+        (
+            "name = 'A'\nconnect = '127.0.0.1:70000'",
+            "5 sim[0].connect 127.0.0.1:70000",
+        ),
+        (
+            "name = 'A'\nconnect = 'localhost:08'",
+            "5 sim[0].connect localhost:08",
+        ),
+        (
+            "name = 'A'\nconnect = 'localhost'",
+            "5 sim[0].connect localhost",
+        ),
+        (
+            "name = 'A'\nconnect = 'example:80'",
+            "5 sim[0].connect example:80",
+        ),
         ("name = 'A'\nconnect = 'localhost:65535'", "well"),
-        ("name = 'A'\nlocal = 's'\nparams = {time_resolution = 4}", "4 sim[0].params.time_resolution"),
-        ("name = 'A'\nlocal = 's'\nparams = {x = 1.0}", "3 sim[0].params.x"),
-        ("name = 'A'\nlocal = 's'\nparams = {b = nan, a = [2020-01-02]}", "3 sim[0].params.a"),
-        ("name = 'A'\nlocal = 's'\ninitial_events = [0, 1000000001]", "5 sim[0].initial_events[1] 1000000001"),
-        ("name = 'A'\nlocal = 's'\ninitial_events = [-1, 'x']", "3 sim[0].initial_events[1]"),
+        (
+            "name = 'A'\nlocal = 's'\nparams = {time_resolution = 4}",
+            "4 sim[0].params.time_resolution",
+        ),
+        (
+            "name = 'A'\nlocal = 's'\nparams = {x = 1.0}",
+            "3 sim[0].params.x",
+        ),
+        (
+            "name = 'A'\nlocal = 's'\nparams = {b = nan, a = [2020-01-02]}",
+            "3 sim[0].params.a",
+        ),
+        (
+            "name = 'A'\nlocal = 's'\ninitial_events = [0, 1000000001]",
+            "5 sim[0].initial_events[1] 1000000001",
+        ),
+        (
+            "name = 'A'\nlocal = 's'\ninitial_events = [-1, 'x']",
+            "3 sim[0].initial_events[1]",
+        ),
     ];
     for (rest, want) in rows {
-        assert_eq!(rt; after(rt.alloc(), "until = 3\n[[sim]]\n", rest)?.as_str(), want);
+        assert_eq!(rt;
+            after(rt.alloc(), "until = 3\n[[sim]]\n", rest)?.as_str(),
+            want
+        );
     }
     Ok(())
 }
@@ -101,14 +143,34 @@ entities = [{id = 'h', sim = 'A-0', model = 'M', num = 3}, {id = 'p', sim = 'A-1
 #[test]
 fn a_group_is_tested_key_by_key(rt: HostRuntime) -> Result<(), Fail> {
     let rows = [
-        ("id = 'g'\nsim = 'B-0'\nmodel = 'M'", "6 entities[0].sim B-0"),
+        (
+            "id = 'g'\nsim = 'B-0'\nmodel = 'M'",
+            "6 entities[0].sim B-0",
+        ),
         ("id = 'g'\nsim = 'A-0'", "2 entities[0].model"),
-        ("id = 'g'\nsim = 'A-0'\nmodel = 'M'\nnum = 0", "5 entities[0].num 0"),
-        ("id = 'g'\nsim = 'A-0'\nmodel = 'M'\nnum = 10001", "5 entities[0].num 10001"),
-        ("id = 'g'\nsim = 'A-0'\nmodel = 'M'\n[[entities]]\nid = 'g'\nsim = 'B-0'\nmodel = 'M'", "10 g"),
+        (
+            "id = 'g'\nsim = 'A-0'\nmodel = 'M'\nnum = 0",
+            "5 entities[0].num 0",
+        ),
+        (
+            "id = 'g'\nsim = 'A-0'\nmodel = 'M'\nnum = 10001",
+            "5 entities[0].num 10001",
+        ),
+        (
+            "id = 'g'\nsim = 'A-0'\nmodel = 'M'\n[[entities]]\nid = 'g'\nsim = 'B-0'\nmodel = 'M'",
+            "10 g",
+        ),
     ];
     for (rest, want) in rows {
-        assert_eq!(rt; after(rt.alloc(), "until = 3\n[[sim]]\nname = 'A'\nlocal = 's'\n[[entities]]\n", rest)?.as_str(), want);
+        assert_eq!(rt;
+            after(
+                rt.alloc(),
+                "until = 3\n[[sim]]\nname = 'A'\nlocal = 's'\n[[entities]]\n",
+                rest
+            )?
+            .as_str(),
+            want
+        );
     }
     Ok(())
 }
@@ -124,16 +186,185 @@ fn a_connection_is_tested_key_by_key(rt: HostRuntime) -> Result<(), Fail> {
         ("from = 'h[x]'\nto = 'g'", "5 connect[0].from h[x]"),
         ("from = 'A-2.0'\nto = 'g'", "6 connect[0].from A-2"),
         ("from = 'p'\nto = 'h'", "9 connect[0] 2 3"),
-        ("from = 'p'\nto = 'g'\ntime_shifted = true\nweak = true", "8 connect[0]"),
-        ("from = 'p'\nto = 'g'\nattrs = ['x', ['a', 1]]", "3 connect[0].attrs[1]"),
-        ("from = 'p'\nto = 'g'\nattrs = ['x']\ninitial_data = {x = 1}", "4 connect[0].initial_data"),
-        ("from = 'p'\nto = 'g'\nweak = true\nattrs = [['x', 'y']]\ninitial_data = {x = 1, y = 2}", "4 connect[0].initial_data.y"),
-        ("from = 'p'\nto = 'g'\nweak = true\nattrs = ['x']\ninitial_data = {x = 1.5}", "3 connect[0].initial_data.x"),
-        ("from = 'p'\nto = 'g'\nasync_requests = true\nattrs = ['x', ['y', 'z']]", "well"),
+        (
+            "from = 'p'\nto = 'g'\ntime_shifted = true\nweak = true",
+            "8 connect[0]",
+        ),
+        (
+            "from = 'p'\nto = 'g'\nattrs = ['x', ['a', 1]]",
+            "3 connect[0].attrs[1]",
+        ),
+        (
+            "from = 'p'\nto = 'g'\nattrs = ['x']\ninitial_data = {x = 1}",
+            "4 connect[0].initial_data",
+        ),
+        (
+            "from = 'p'\nto = 'g'\nweak = true\nattrs = [['x', 'y']]\ninitial_data = {x = 1, y = 2}",
+            "4 connect[0].initial_data.y",
+        ),
+        (
+            "from = 'p'\nto = 'g'\nweak = true\nattrs = ['x']\ninitial_data = {x = 1.5}",
+            "3 connect[0].initial_data.x",
+        ),
+        (
+            "from = 'p'\nto = 'g'\nasync_requests = true\nattrs = ['x', ['y', 'z']]",
+            "well",
+        ),
     ];
     for (rest, want) in rows {
         let text = format!(in rt.alloc(); "[[connect]]\n{rest}")?;
         assert_eq!(rt; after(rt.alloc(), GROUPS, text.as_str())?.as_str(), want);
+    }
+    Ok(())
+}
+
+// A list of so many empty tables under this key.
+fn tables(alloc: Global, beginning: &str, key: &str, count: usize) -> Result<String, Fail> {
+    let mut text = format!(in alloc; "{beginning}{key} = [")?;
+    for _ in 0..count {
+        text.push_str("{},")?;
+    }
+    text.push_str("]")?;
+    verdict(alloc, text.as_str())
+}
+
+#[test]
+fn lists_are_tested_for_their_length(rt: HostRuntime) -> Result<(), Fail> {
+    let sim = "until = 3\nsim = [{name = 'A', local = 's'}]\n";
+    for (beginning, key, count, want) in [
+        ("until = 3\n", "sim", 200, "2 sim[0].name"),
+        ("until = 3\n", "sim", 201, "5 sim 201"),
+        (sim, "entities", 10000, "2 entities[0].id"),
+        (sim, "entities", 10001, "5 entities 10001"),
+        (sim, "connect", 100000, "2 connect[0].from"),
+        (sim, "connect", 100001, "5 connect 100001"),
+    ] {
+        assert_eq!(rt; tables(rt.alloc(), beginning, key, count)?.as_str(), want);
+    }
+    Ok(())
+}
+
+const DEMO: &str = "until = 96
+[[sim]]
+name = \"House\"
+local = \"counter\"
+[[sim]]
+name = \"Pv\"
+local = \"constant\"
+params = { step = 4 }
+[[sim]]
+name = \"Grid\"
+local = \"sum\"
+[[sim]]
+name = \"Bat\"
+local = \"battery\"
+[[sim]]
+name = \"Ctl\"
+local = \"controller\"
+[[sim]]
+name = \"Log\"
+local = \"sum\"
+[[entities]]
+id = \"houses\"
+sim = \"House-0\"
+model = \"Count\"
+num = 40
+params = { start = 1 }
+[[entities]]
+id = \"pv\"
+sim = \"Pv-0\"
+model = \"Source\"
+params = { value = 7 }
+[[entities]]
+id = \"grid\"
+sim = \"Grid-0\"
+model = \"Sum\"
+[[entities]]
+id = \"bat\"
+sim = \"Bat-0\"
+model = \"Battery\"
+[[entities]]
+id = \"ctl\"
+sim = \"Ctl-0\"
+model = \"Control\"
+params = { goal = 3 }
+[[entities]]
+id = \"log\"
+sim = \"Log-0\"
+model = \"Sum\"
+[[connect]]
+from = \"houses\"
+to = \"grid\"
+attrs = [[\"out\", \"in\"]]
+[[connect]]
+from = \"pv\"
+to = \"grid\"
+attrs = [[\"out\", \"in\"]]
+[[connect]]
+from = \"grid\"
+to = \"log\"
+attrs = [[\"out\", \"in\"]]
+[[connect]]
+from = \"bat\"
+to = \"ctl\"
+attrs = [\"soc\"]
+[[connect]]
+from = \"ctl\"
+to = \"bat\"
+attrs = [\"set\"]
+weak = true
+[[connect]]
+from = \"bat\"
+to = \"log\"
+attrs = [[\"soc\", \"in\"]]
+";
+
+// The model of the group that a side is, and how many entities it has.
+fn group_of<'a>(scenario: &'a Scenario, side: &'a Place) -> (&'a str, u32) {
+    match side {
+        Place::Whole(n) => match scenario.groups.get(*n as usize) {
+            Some(group) => (group.model.as_str(), group.num),
+            None => ("no group", 0),
+        },
+        Place::One(_, _) => ("one entity", 1),
+        Place::Full(_, eid) => (eid.as_str(), 1),
+    }
+}
+
+#[test]
+fn the_demo_is_read_whole(rt: HostRuntime) -> Result<(), Fail> {
+    let scenario = read_scenario(rt.alloc(), DEMO.as_bytes())?;
+    assert_eq!(rt;
+        (scenario.until, scenario.loops, scenario.entries),
+        (96, 100, 2_000_000)
+    );
+    let ids = ["House-0", "Pv-0", "Grid-0", "Bat-0", "Ctl-0", "Log-0"];
+    let kinds = ["counter", "constant", "sum", "battery", "controller", "sum"];
+    assert_eq!(rt; scenario.sims.len(), ids.len());
+    for (i, sim) in scenario.sims.as_slice().iter().enumerate() {
+        assert_eq!(rt; Some(sim.id.as_str()), ids.get(i).copied());
+        let Begin::Local(kind) = &sim.begin else {
+            return Err(Fail::new("not within the program"));
+        };
+        assert_eq!(rt; Some(kind.as_str()), kinds.get(i).copied());
+    }
+    let sides = [
+        (("Count", 40), ("Sum", 1), Via::Plain),
+        (("Source", 1), ("Sum", 1), Via::Plain),
+        (("Sum", 1), ("Sum", 1), Via::Plain),
+        (("Battery", 1), ("Control", 1), Via::Plain),
+        (("Control", 1), ("Battery", 1), Via::Weak),
+        (("Battery", 1), ("Sum", 1), Via::Plain),
+    ];
+    assert_eq!(rt; scenario.blocks.len(), sides.len());
+    for (i, block) in scenario.blocks.as_slice().iter().enumerate() {
+        let got = (
+            group_of(&scenario, &block.from),
+            group_of(&scenario, &block.to),
+            block.via,
+        );
+        assert_eq!(rt; Some(got), sides.get(i).copied());
+        assert_eq!(rt; block.attrs.len(), 1);
     }
     Ok(())
 }
