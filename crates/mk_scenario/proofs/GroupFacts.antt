@@ -1,5 +1,5 @@
 -- What is known of groups that are read.
-use Rattle.std.proofs.Common.{◌≡◌, ◌≢◌, ℕ, ◌<◌, arith, true, false, not, List, [], length, take, get_or, Option, Some, None, option_map, slice_get, nat_lt, AllPairs, Result, Ok, refl, ap, ◌∙◌, subst, codes, if◌then◌else◌}
+use Rattle.std.proofs.Common.{◌≡◌, ◌≢◌, ℕ, ◌<◌, arith, true, false, not, List, [], length, take, get_or, Option, Some, None, option_map, slice_get, nat_lt, AllPairs, Result, Ok, refl, ap, ◌∙◌, subst, sym, codes, if◌then◌else◌}
 use Rattle.std.specs.List.{position_or_len}
 use Rattle.std.proofs.lemmas.Bool.{not-true, both_ways, ltb-true}
 use Rattle.mk_base.specs.declared.json.Json.{Json}
@@ -11,7 +11,9 @@ use Rattle.mk_base.proofs.Lists.{some_same, at_in, filter_map_in, passes_some}
 use Rattle.mk_scenario.specs.Tests.{key_in, item_in, each_after}
 use Rattle.mk_scenario.specs.Keys.{required, optional, first_unknown, is_among, count_within, text, name, values}
 use Rattle.mk_scenario.specs.Sims.{texts_under}
-use Rattle.mk_scenario.specs.Groups.{group_keys, place_in, sim_of_id, group_at, group_in}
+use Rattle.mk_scenario.specs.Groups.{group_keys, sim_of_id, group_said, group_made, group_at, group_in}
+use Rattle.mk_scenario.specs.Places.{place_in}
+use Rattle.mk_scenario.specs.declared.groups.GroupSaid.{GroupSaid}
 use Rattle.mk_scenario.specs.Wellformed.{IsWellformedGroup}
 use Rattle.mk_scenario.specs.declared.parts.Group.{Group}
 use Rattle.mk_scenario.specs.declared.fault.ScenarioFault.{ScenarioFault}
@@ -26,7 +28,7 @@ below_chosen n most i e = let t = chosen_some (nat_lt n most) n i e in subst (λ
 
 -- a place among the ids
 pub place_ok : (ids : List (List ℕ)) (id : List ℕ) (n : ℕ) → place_in ids id ≡ Some n → n < length ids
-place_ok ids id n e = below_chosen (position_or_len (λ x. same_text x id) ids) (length ids) n e
+place_ok ids id n e = below_chosen (position_or_len (λ x. same_text id x) ids) (length ids) n e
 
 pub sim_of_ok : (ids : List (List ℕ)) (path id : List ℕ) (s : SimNo) → sim_of_id ids path id ≡ Ok s → s.0 < length ids
 sim_of_ok ids path id s e = at (place_in ids id) refl (found_ok (UnknownSim path id) (option_map (λ n. record { 0 = n }) (place_in ids id)) s e)
@@ -42,13 +44,17 @@ IsGroupOf sims earlier table g = IsWellformedGroup sims g × (text_under (codes 
 group_ok : (ids : List (List ℕ)) (path : List ℕ) (earlier : List Json) (table : Json) (g : Group) → group_at ids path earlier table ≡ Ok g → IsGroupOf (length ids) earlier table g
 unfolding IsGroupOf
 group_ok ids path earlier table g e =
-    let known = no_text_ok (λ key. UnknownKey (key_in path key)) (first_unknown group_keys table) _ _ e in
+    let taken = texts_under (codes "id") earlier in
+    let said = passed_ok (group_said path table) _ _ e in
+    let known = no_text_ok (λ key. UnknownKey (key_in path key)) (first_unknown group_keys table) _ _ said.1 in
     let id = passed_ok (required (key_in path (codes "id")) name (member (codes "id") table)) _ _ known.1 in
     let sim = passed_ok (required (key_in path (codes "sim")) text (member (codes "sim") table)) _ _ id.2 in
     let model = passed_ok (required (key_in path (codes "model")) text (member (codes "model") table)) _ _ sim.2 in
     let num = passed_ok (optional 1 (key_in path (codes "num")) (count_within 1 10000) (member (codes "num") table)) _ _ model.2 in
     let params = passed_ok (optional (tree.Object []) (key_in path (codes "params")) values (member (codes "params") table)) _ _ num.2 in
-    let free = held_ok (Taken id.0) (not (is_among (texts_under (codes "id") earlier) id.0)) _ _ params.2 in
+    let said_is = ok_same (record { id = id.0; sim = sim.0; model = model.0; num = num.0; params = params.0 }) said.0 params.2 in
+    let made = subst (λ (s : GroupSaid). group_made ids taken path s ≡ Ok g) (sym said_is) said.2 in
+    let free = held_ok (Taken id.0) (not (is_among taken id.0)) _ _ made in
     let found = passed_ok (sim_of_id ids (key_in path (codes "sim")) sim.0) _ _ free.1 in
     let id_is = name_under (codes "id") (key_in path (codes "id")) table id.0 id.1 in
     subst (IsGroupOf (length ids) earlier table) (ok_same _ g found.2) (

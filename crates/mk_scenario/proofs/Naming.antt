@@ -1,12 +1,9 @@
 -- How many tables have a name.
 use Rattle.std.proofs.Common.{◌≡◌, ℕ, ◌+◌, ◌<◌, List, [], ◌∷◌, ◌++◌, take, length, get_or, Bool, true, false, Option, Some, None, refl, ap, ◌∙◌, sym}
-use Rattle.std.specs.Prelude.{option_map, option_and_then, unwrap_or, if◌then◌else◌}
+use Rattle.std.specs.Prelude.{option_map, unwrap_or, if◌then◌else◌}
 use Rattle.std.specs.List.{filter, filter_map}
 use Rattle.std.proofs.lemmas.List.{take_more, length-append}
 use Rattle.std.proofs.lemmas.List.Elements.{filter-append, filter_map-append}
-use Rattle.mk_base.specs.declared.json.Json.{Json}
-use Rattle.mk_base.specs.Trees.{member, text_in}
-use Rattle.mk_scenario.specs.Sims.{texts_under}
 
 -- whether a text is there and passes
 abbrev pub is_there : {Y : Type 0} → (Y → Bool) → Option Y → Bool

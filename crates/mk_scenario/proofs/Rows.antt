@@ -4,6 +4,8 @@ use Rattle.mk_base.specs.declared.tier.Via.TheVariants.{Weak}
 use Rattle.mk_base.specs.declared.json.Json.{Json}
 use Rattle.mk_base.specs.declared.json.Json as tree
 use Rattle.mk_base.proofs.OnTrees.{trees_compute}
+use Rattle.mk_scenario.specs.References.{place_of}
+use Rattle.mk_scenario.specs.Blocks.{block_at}
 use Rattle.mk_scenario.specs.Scenarios.{scenario_in}
 use Rattle.mk_scenario.specs.declared.parts.Begin.TheVariants.{Command, Connect}
 use Rattle.mk_scenario.specs.declared.parts.Place.TheVariants.{Whole, Full}
@@ -23,23 +25,23 @@ tables key items = (key, tree.List items)
 -- ---- the top table
 
 pub empty_document : scenario_in (tree.Object []) ≡ Err (Missing (codes "until"))
-unfolding trees_compute
+unfolding trees_compute place_of block_at
 empty_document = refl
 
 pub until_as_text : scenario_in (tree.Object (word (codes "until") (codes "3") ∷ [])) ≡ Err (WrongKind (codes "until"))
-unfolding trees_compute
+unfolding trees_compute place_of block_at
 until_as_text = refl
 
 pub until_nothing : scenario_in (tree.Object (number (codes "until") 0 ∷ [])) ≡ Err (OutOfRange (codes "until") (codes "0"))
-unfolding trees_compute
+unfolding trees_compute place_of block_at
 until_nothing = refl
 
 pub speed : scenario_in (tree.Object (number (codes "speed") 1 ∷ number (codes "until") 3 ∷ [])) ≡ Err (UnknownKey (codes "speed"))
-unfolding trees_compute
+unfolding trees_compute place_of block_at
 speed = refl
 
 pub no_simulators : scenario_in (tree.Object (number (codes "until") 3 ∷ [])) ≡ Err (Missing (codes "sim"))
-unfolding trees_compute
+unfolding trees_compute place_of block_at
 no_simulators = refl
 
 -- ---- simulators
@@ -54,23 +56,23 @@ abbrev named : List (List ℕ × Json) → Json
 named more = tree.Object (more ++ word (codes "name") (codes "A") ∷ [])
 
 pub not_begun : scenario_in (of_sims (named [] ∷ [])) ≡ Err (Missing (codes "sim[0].command"))
-unfolding trees_compute
+unfolding trees_compute place_of block_at
 not_begun = refl
 
 pub begun_twice : scenario_in (of_sims (named (run ∷ word (codes "local") (codes "clock") ∷ []) ∷ [])) ≡ Err (TwoKinds (codes "sim[0]"))
-unfolding trees_compute
+unfolding trees_compute place_of block_at
 begun_twice = refl
 
 pub leading_zero : scenario_in (of_sims (named (word (codes "connect") (codes "localhost:08") ∷ []) ∷ [])) ≡ Err (OutOfRange (codes "sim[0].connect") (codes "localhost:08"))
-unfolding trees_compute
+unfolding trees_compute place_of block_at
 leading_zero = refl
 
 pub odd_name : scenario_in (of_sims (tree.Object (run ∷ word (codes "name") (codes "1A") ∷ []) ∷ [])) ≡ Err (OutOfRange (codes "sim[0].name") (codes "1A"))
-unfolding trees_compute
+unfolding trees_compute place_of block_at
 odd_name = refl
 
 pub own_resolution : scenario_in (of_sims (named (run ∷ []) ∷ tree.Object (run ∷ word (codes "name") (codes "A") ∷ (codes "params", tree.Object (number (codes "time_resolution") 1 ∷ [])) ∷ []) ∷ [])) ≡ Err (UnknownKey (codes "sim[1].params.time_resolution"))
-unfolding trees_compute
+unfolding trees_compute place_of block_at
 own_resolution = refl
 
 -- ---- groups
@@ -83,11 +85,11 @@ abbrev group : List ℕ → List ℕ → ℕ → Json
 group id sim num = tree.Object (word (codes "id") id ∷ word (codes "model") (codes "M") ∷ number (codes "num") num ∷ word (codes "sim") sim ∷ [])
 
 pub of_nobody : scenario_in (of_groups (group (codes "g") (codes "B-0") 3 ∷ [])) ≡ Err (UnknownSim (codes "entities[0].sim") (codes "B-0"))
-unfolding trees_compute
+unfolding trees_compute place_of block_at
 of_nobody = refl
 
 pub twice_g : scenario_in (of_groups (group (codes "g") (codes "A-0") 3 ∷ group (codes "g") (codes "A-0") 1 ∷ [])) ≡ Err (Taken (codes "g"))
-unfolding trees_compute
+unfolding trees_compute place_of block_at
 twice_g = refl
 
 -- ---- blocks, between the groups g of three entities and h of two
@@ -105,35 +107,35 @@ abbrev to : List ℕ → List ℕ × Json
 to = word (codes "to")
 
 pub from_no_group : scenario_in (of_block (from (codes "k") ∷ to (codes "g") ∷ [])) ≡ Err (UnknownGroup (codes "connect[0].from") (codes "k"))
-unfolding trees_compute
+unfolding trees_compute place_of block_at
 from_no_group = refl
 
 pub to_nobody : scenario_in (of_block (from (codes "g") ∷ to (codes "B-0.x") ∷ [])) ≡ Err (UnknownSim (codes "connect[0].to") (codes "B-0"))
-unfolding trees_compute
+unfolding trees_compute place_of block_at
 to_nobody = refl
 
 pub beyond_the_group : scenario_in (of_block (from (codes "h") ∷ to (codes "g[3]") ∷ [])) ≡ Err (OutOfRange (codes "connect[0].to") (codes "g[3]"))
-unfolding trees_compute
+unfolding trees_compute place_of block_at
 beyond_the_group = refl
 
 pub shifted_and_weak : scenario_in (of_block (from (codes "g") ∷ flag (codes "time_shifted") ∷ to (codes "h") ∷ flag (codes "weak") ∷ [])) ≡ Err (TwoKinds (codes "connect[0]"))
-unfolding trees_compute
+unfolding trees_compute place_of block_at
 shifted_and_weak = refl
 
 pub initial_without_delay : scenario_in (of_block ((codes "attrs", tree.List (tree.Text (codes "a") ∷ [])) ∷ from (codes "g") ∷ (codes "initial_data", tree.Object (number (codes "a") 1 ∷ [])) ∷ to (codes "g") ∷ [])) ≡ Err (UnknownKey (codes "connect[0].initial_data"))
-unfolding trees_compute
+unfolding trees_compute place_of block_at
 initial_without_delay = refl
 
 pub initial_of_no_source : scenario_in (of_block (from (codes "g") ∷ (codes "initial_data", tree.Object (number (codes "a") 1 ∷ [])) ∷ to (codes "g") ∷ flag (codes "weak") ∷ [])) ≡ Err (UnknownKey (codes "connect[0].initial_data.a"))
-unfolding trees_compute
+unfolding trees_compute place_of block_at
 initial_of_no_source = refl
 
 pub pair_of_three : scenario_in (of_block ((codes "attrs", tree.List (tree.Text (codes "a") ∷ tree.List (tree.Text (codes "a") ∷ tree.Text (codes "b") ∷ tree.Text (codes "c") ∷ []) ∷ [])) ∷ from (codes "g") ∷ to (codes "g") ∷ [])) ≡ Err (WrongKind (codes "connect[0].attrs[1]"))
-unfolding trees_compute
+unfolding trees_compute place_of block_at
 pair_of_three = refl
 
 pub two_to_three : scenario_in (of_block (from (codes "h") ∷ to (codes "g") ∷ [])) ≡ Err (Uneven (codes "connect[0]") 2 3)
-unfolding trees_compute
+unfolding trees_compute place_of block_at
 two_to_three = refl
 
 -- ---- a scenario: two simulators of one name, a group, and a weak block with a value at first
@@ -179,5 +181,5 @@ small_scenario = record {
 }
 
 pub good_document : scenario_in small_document ≡ Ok small_scenario
-unfolding trees_compute
+unfolding trees_compute place_of block_at
 good_document = refl

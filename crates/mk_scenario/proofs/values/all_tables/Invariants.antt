@@ -1,4 +1,4 @@
-use Rattle.std.proofs.Common.{◌≡◌, take}
+use Rattle.std.proofs.Common.{take}
 use Rattle.mk_scenario.proofs.Gathering.{Gathers}
 use Rattle.mk_scenario.specs.Keys as keys
 use Rattle.mk_scenario.specs.Tests.{item_in}

@@ -1,4 +1,3 @@
-use Rattle.std.proofs.Common.{◌≡◌}
 use Rattle.mk_scenario.proofs.Gathering.{Gathers}
 use Rattle.mk_scenario.specs.Keys as keys
 use Rattle.mk_scenario.specs.Tests.{item_in}
