@@ -1,0 +1,123 @@
+ghost use Rattle.std.specs.Prelude.{◌≡◌, ◌<◌, [], Some, Ok, Err, length, slice_get, option_map, OnOk, IfErr, ◌⊎◌};
+ghost use Rattle.mk_entities.specs.Creation.{entities_added, number_of};
+
+use crate::described::families;
+use crate::fault::CreateFault;
+use crate::making::extend;
+use crate::names::{Names, grow};
+use crate::trees::items_of;
+use mk_base::{Json, List, Mem, SimNo, Text};
+use mk_meta::Meta;
+use std::alloc::Global;
+use std::marker::Model;
+
+/// An entity: its simulator; its group, unless it is a child; its eid; its model; and the numbers of the entities that it is
+/// related to, those that its description names and its children, in rising order.
+#[derive(Drop)]
+pub struct EntityInfo {
+    pub sim: SimNo,
+    pub group: Option<u32>,
+    pub eid: Text,
+    pub model: Text,
+    pub related: List<u32>,
+}
+
+/// The entities of all simulators, numbered from 0 in order of creation, each followed by its children, depth first.
+/// There are at most 10,000. Contracts see them as the list of them.
+#[derive(Drop)]
+pub struct Entities {
+    alloc: Global,
+    kept: Vec<EntityInfo>,
+    names: Vec<Names>,
+}
+
+impl Model for Entities {
+    ghost use Rattle.std.specs.Prelude.{List};
+    ghost use Rattle.mk_entities.specs.declared.entities.EntityInfo.{EntityInfo};
+    ghost use Rattle.mk_entities.specs.Tied.{IsTied};
+
+    ghost Value = { List EntityInfo };
+
+    ghost view = { λ a. a.kept.items };
+
+    ghost invariant = { λ a. IsTied a.kept.items a.names.items };
+}
+
+impl Entities {
+    /// No entities; takes no memory.
+    pub fn new(alloc: Global) -> Entities
+        ensures { result ≡ [] }
+    {
+        Entities {
+            alloc,
+            kept: Vec::new(alloc),
+            names: Vec::new(alloc),
+        }
+    }
+
+    /// Adds the entities of a reply to `create` (mosaik 3, low-level API) by which a simulator was asked for `num` of a model.
+    /// After a fault, want of memory too, there are those that there were.
+    pub fn add(
+        &mut self,
+        sim: SimNo,
+        group: u32,
+        num: u32,
+        model: &Text,
+        meta: &Meta,
+        reply: &Json,
+    ) -> Result<(), CreateFault>
+        ensures ok { OnOk result (entities_added self.old sim group num model.now meta.now reply.now ≡ Ok self.new) }
+        ensures unchanged { IfErr result (λ e. self.new ≡ self.old) }
+        ensures refused { IfErr result (λ e. (e ≡ CreateFault.Mem) ⊎ (entities_added self.old sim group num model.now meta.now reply.now ≡ Err e)) }
+    {
+        let outer = items_of(reply);
+        if outer.len() != num as usize {
+            return Err(CreateFault::Count(num, outer.len() as u64));
+        }
+        let entities = families(self.alloc, outer)?;
+        let place = sim.0 as usize;
+        grow(self.alloc, &mut self.names, place)?;
+        extend(
+            self.alloc,
+            &mut self.kept,
+            &mut self.names[place],
+            sim,
+            group,
+            model,
+            meta,
+            entities.as_slice(),
+        )
+    }
+
+    pub fn len(&self) -> usize
+        ensures { result ≡ length self.now }
+    {
+        self.kept.len()
+    }
+
+    /// The entity with this number.
+    pub fn at(&self, i: usize) -> &EntityInfo
+        requires { i < length self.now }
+        ensures { slice_get self.now i ≡ Some result.now }
+    {
+        &self.kept[i]
+    }
+
+    /// The number of the first entity of the simulator with this eid.
+    pub fn find(&self, sim: SimNo, eid: &str) -> Option<u32>
+        ensures { result ≡ number_of self.now sim eid.now }
+    {
+        match self.names.get(sim.0 as usize) {
+            Some(names) => names.get(eid),
+            None => None,
+        }
+    }
+
+    /// The numbers of the entities that this one is related to, in rising order.
+    pub fn related(&self, i: u32) -> &List<u32>
+        requires { i < length self.now }
+        ensures { option_map (λ e. e.related) (slice_get self.now i) ≡ Some result.now }
+    {
+        &self.kept[i as usize].related
+    }
+}

@@ -1,0 +1,118 @@
+// What the members of a description are.
+ghost use Rattle.std.specs.Prelude.{◌≡◌, [], codes, unwrap_or, IfOk, option_map, option_and_then};
+ghost use Rattle.mk_base.specs.Trees.{items_in, member, text_in};
+ghost use Rattle.mk_entities.specs.Descriptions.{children_in, eid_in, if_eid, is_eid, list_in, list_under};
+
+use mk_base::{Json, Mem, Text};
+
+pub fn text_of(tree: &Json) -> Option<&Text>
+    ensures { option_map (λ t. t.now) result ≡ text_in tree.now }
+{
+    match tree {
+        Json::Null => None,
+        Json::Bool(_) => None,
+        Json::Whole(_) => None,
+        Json::Odd => None,
+        Json::Text(text) => Some(text),
+        Json::List(_) => None,
+        Json::Object(_) => None,
+    }
+}
+
+// The text under this name.
+pub fn text_at<'a>(tree: &'a Json, name: &str) -> Option<&'a Text>
+    ensures { option_map (λ t. t.now) result ≡ option_and_then text_in (member name.now tree.now) }
+{
+    match tree.member(name) {
+        Some(value) => text_of(value),
+        None => None,
+    }
+}
+
+// The items of a list, none where the tree is no list.
+pub fn items_of(tree: &Json) -> &[Json]
+    ensures { result.now ≡ unwrap_or (items_in tree.now) [] }
+{
+    match tree {
+        Json::Null => &[],
+        Json::Bool(_) => &[],
+        Json::Whole(_) => &[],
+        Json::Odd => &[],
+        Json::Text(_) => &[],
+        Json::List(items) => items.as_slice(),
+        Json::Object(_) => &[],
+    }
+}
+
+// The items of a list, none of null.
+fn list_of(tree: &Json) -> Option<&[Json]>
+    ensures { option_map (λ l. l.now) result ≡ list_in tree.now }
+{
+    match tree {
+        Json::Null => Some(&[]),
+        Json::Bool(_) => None,
+        Json::Whole(_) => None,
+        Json::Odd => None,
+        Json::Text(_) => None,
+        Json::List(items) => Some(items.as_slice()),
+        Json::Object(_) => None,
+    }
+}
+
+// The items of the list under this name, none where the member is missing or null.
+pub fn list_under<'a>(tree: &'a Json, name: &str) -> Option<&'a [Json]>
+    ensures { option_map (λ l. l.now) result ≡ list_under name.now tree.now }
+{
+    match tree.member(name) {
+        Some(value) => list_of(value),
+        None => Some(&[]),
+    }
+}
+
+// What is described under `children`, nothing where it is no list.
+pub fn children_of(tree: &Json) -> &[Json]
+    ensures { result.now ≡ children_in tree.now }
+{
+    match list_under(tree, "children") {
+        Some(children) => children,
+        None => &[],
+    }
+}
+
+fn is_eid(text: &Text) -> bool
+    ensures { result ≡ is_eid text.now }
+{
+    match text.bytes() {
+        [] => false,
+        b"time" => false,
+        _ => true,
+    }
+}
+
+fn if_eid(text: &Text) -> Option<&Text>
+    ensures { option_map (λ t. t.now) result ≡ if_eid text.now }
+{
+    if is_eid(text) { Some(text) } else { None }
+}
+
+// The eid of what the tree describes.
+pub fn eid_of(tree: &Json) -> Option<&Text>
+    ensures { option_map (λ t. t.now) result ≡ eid_in tree.now }
+{
+    let Some(_) = list_under(tree, "children") else {
+        return None;
+    };
+    match text_at(tree, "eid") {
+        Some(text) => if_eid(text),
+        None => None,
+    }
+}
+
+pub fn copied(text: Option<&Text>) -> Result<Option<Text>, Mem>
+    ensures { IfOk result (λ t. t ≡ option_map (λ s. s.now) text.entry) }
+{
+    match text {
+        Some(text) => Ok(Some(text.copy()?)),
+        None => Ok(None),
+    }
+}
