@@ -1,1 +1,5 @@
+pub mod Adding
 pub mod Families
+pub mod Faults
+pub mod Lookups
+pub mod Numbers
