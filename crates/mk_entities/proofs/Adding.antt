@@ -1,18 +1,17 @@
 -- Entities that are added, and the names of their simulator.
-use Rattle.std.proofs.Common.{◌≡◌, ℕ, zero, suc, ◌+◌, ◌<◌, ◌==◌, Bool, true, false, List, [], ◌∷◌, ◌++◌, map, length, take, Option, Some, None, Result, Ok, Err, refl, sym, ap, ◌∙◌, arith, if◌then◌else◌, slice_get, subst, unwrap_or, filter, filter_map, length-append, slice_set, ◌≤◌, ◌⊎◌, inl, inr}
+use Rattle.std.proofs.Common.{◌≡◌, ℕ, zero, suc, ◌+◌, ◌<◌, ◌==◌, Bool, true, false, List, [], ◌∷◌, ◌++◌, map, length, take, Option, Some, None, Result, Ok, Err, refl, sym, ap, ◌∙◌, arith, if◌then◌else◌, slice_get, unwrap_or, length-append, slice_set, ◌≤◌, ◌⊎◌, inl, inr}
 use Rattle.std.specs.Prelude.{option_and_then, OnOk, IfErr}
 use Rattle.std.specs.List.{range_with_len}
 use Rattle.std.proofs.lemmas.List.{length-map, take-map}
 use Rattle.std.proofs.Math.Seq.{take-append-add}
 use Rattle.mk_base.specs.declared.SimNo.{SimNo}
-use Rattle.mk_base.specs.Lists.{IsIn, BeginsWith}
 use Rattle.mk_base.proofs.Lists.{append_nil, map_same, set_else}
 use Rattle.mk_meta.specs.declared.meta.Meta.{Meta}
 use Rattle.mk_entities.specs.declared.described.Described.{Described}
 use Rattle.mk_entities.specs.declared.entities.EntityInfo.{EntityInfo}
 use Rattle.mk_entities.specs.declared.fault.CreateFault.{CreateFault}
 use Rattle.mk_entities.specs.Creation.{added, draft, drafts, entity_fault, first_entity_fault, first_there, is_named, most_entities, number_of, rel_fault, unless, with_entities}
-use Rattle.mk_entities.specs.Making.{fault_at, first_fault, made_by, named_from, number_in, related_by}
+use Rattle.mk_entities.specs.Making.{fault_at, first_fault, made_by, named_from, number_in}
 use Rattle.mk_entities.specs.Tied.{IsTied, names_at, numbered}
 use Rattle.mk_entities.proofs.Lookups.{number_is, place_below}
 use Rattle.mk_entities.proofs.Numbers.{put_is_filter}

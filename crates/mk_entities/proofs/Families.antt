@@ -2,15 +2,15 @@
 use Rattle.std.proofs.Common.{◌≡◌, ℕ, zero, suc, ◌+◌, ◌<◌, ◌≤◌, Bool, true, false, max, List, [], ◌∷◌, ◌++◌, map, flat_map, Option, Some, None, unwrap_or, codes, refl, sym, ap, subst, ◌∙◌, inl, inr, arith, length, take, get_or, if◌then◌else◌, append_assoc}
 use Rattle.std.specs.Prelude.{option_and_then, option_map}
 use Rattle.std.specs.List.{find, filter_map, cons_option}
-use Rattle.std.proofs.lemmas.List.{take_more, map-append}
+use Rattle.std.proofs.lemmas.List.{take_more}
 use Rattle.mk_base.specs.declared.json.Json.{Json, Json-F, out-Json, map-Json}
 use Rattle.mk_base.specs.Lists.{IsIn, same_text, value_under}
 use Rattle.mk_base.specs.Trees.{member, nesting, nesting_step, deepest}
 use Rattle.mk_base.proofs.FoldsAgree.{folded_out}
-use Rattle.mk_base.proofs.Lists.{none_some, some_same, in_at, at_in, append_nil}
+use Rattle.mk_base.proofs.Lists.{none_some, some_same, append_nil}
 use Rattle.mk_meta.specs.Metadata.{unless_missing}
 use Rattle.mk_entities.specs.declared.described.Described.{Described}
-use Rattle.mk_entities.specs.Descriptions.{list_in, list_under, children_in, described, below, family}
+use Rattle.mk_entities.specs.Descriptions.{list_in, children_in, described, below, family}
 
 -- ---- how deep the parts of a tree nest
 

@@ -3,3 +3,4 @@ pub mod Families
 pub mod Faults
 pub mod Lookups
 pub mod Numbers
+pub mod Rows

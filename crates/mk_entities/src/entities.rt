@@ -1,5 +1,6 @@
-ghost use Rattle.std.specs.Prelude.{◌≡◌, ◌<◌, [], Some, Ok, Err, length, slice_get, option_map, OnOk, IfErr, ◌⊎◌};
-ghost use Rattle.mk_entities.specs.Creation.{entities_added, number_of};
+ghost use Rattle.std.specs.Prelude.{◌≡◌, ◌<◌, ◌≤◌, [], Some, Ok, Err, length, slice_get, option_map, OnOk, IfErr, ◌⊎◌};
+ghost use Rattle.mk_base.specs.Lists.{BeginsWith};
+ghost use Rattle.mk_entities.specs.Creation.{entities_added, most_entities, number_of};
 
 use crate::described::families;
 use crate::fault::CreateFault;
@@ -23,7 +24,8 @@ pub struct EntityInfo {
 }
 
 /// The entities of all simulators, numbered from 0 in order of creation, each followed by its children, depth first.
-/// There are at most 10,000. Contracts see them as the list of them.
+/// There are at most 10,000. Contracts see them as the list of them. A simulator is a place in a plan: its eids are kept at that
+/// place, and there is room for those of each simulator before it.
 #[derive(Drop)]
 pub struct Entities {
     alloc: Global,
@@ -67,6 +69,7 @@ impl Entities {
         reply: &Json,
     ) -> Result<(), CreateFault>
         ensures ok { OnOk result (entities_added self.old sim group num model.now meta.now reply.now ≡ Ok self.new) }
+        ensures kept { OnOk result (BeginsWith self.new self.old) }
         ensures unchanged { IfErr result (λ e. self.new ≡ self.old) }
         ensures refused { IfErr result (λ e. (e ≡ CreateFault.Mem) ⊎ (entities_added self.old sim group num model.now meta.now reply.now ≡ Err e)) }
     {
@@ -90,7 +93,8 @@ impl Entities {
     }
 
     pub fn len(&self) -> usize
-        ensures { result ≡ length self.now }
+        ensures len { result ≡ length self.now }
+        ensures few { length self.now ≤ most_entities }
     {
         self.kept.len()
     }

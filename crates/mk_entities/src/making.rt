@@ -1,5 +1,5 @@
 // The tests of a reply's entities, and what is made of them.
-ghost use Rattle.std.specs.Prelude.{◌≡◌, ◌+◌, ◌<◌, ◌≤◌, [], ◌∷◌, ◌++◌, None, Ok, Err, length, map, not, is_some, unwrap_or, filter_map, option_map, IfOk, IfErr, IfSome, OnOk, ◌⊎◌};
+ghost use Rattle.std.specs.Prelude.{◌≡◌, ◌+◌, ◌<◌, ◌≤◌, [], ◌∷◌, ◌++◌, None, Ok, Err, length, map, take, not, is_some, unwrap_or, filter_map, option_map, IfOk, IfErr, IfSome, OnOk, ◌⊎◌};
 ghost use Rattle.std.specs.List.{cons_option, find, list_any};
 ghost use Rattle.mk_base.specs.Lists.{BeginsWith, same_text};
 ghost use Rattle.mk_entities.specs.Creation.{most_entities, entity_fault, first_there, has_type, is_model_of, rel_fault, with_entities};
@@ -34,21 +34,25 @@ pub fn extend(
     ensures ok { OnOk result (with_entities kept.old.items sim group model.now meta.now entities.now ≡ Ok kept.new.items) }
     ensures few { length kept.new.items ≤ most_entities }
     ensures tied { names.new ≡ numbered sim.0 0 kept.new.items }
+    ensures kept { OnOk result (BeginsWith kept.new.items kept.old.items) }
     ensures unchanged { IfErr result (λ e. kept.new.items ≡ kept.old.items) }
     ensures refused { IfErr result (λ e. (e ≡ CreateFault.Mem) ⊎ (with_entities kept.old.items sim group model.now meta.now entities.now ≡ Err e)) }
 {
     let before = names.len();
     match put_entities(alloc, kept, names, sim, group, model, meta, entities) {
         Ok(None) => Ok(()),
-        Ok(Some(fault)) => {
-            names.truncate(before);
-            Err(fault)
-        }
-        Err(e) => {
-            names.truncate(before);
-            Err(CreateFault::from(e))
-        }
+        Ok(Some(fault)) => Err(back(names, before, fault)),
+        Err(e) => Err(back(names, before, CreateFault::from(e))),
     }
+}
+
+// Takes off the names that were put before the fault.
+fn back(names: &mut Names, before: usize, fault: CreateFault) -> CreateFault
+    ensures names { names.new ≡ take before names.old }
+    ensures fault { result ≡ fault }
+{
+    names.truncate(before);
+    fault
 }
 
 // The same; at a fault and at want of memory the names may be more than before.
@@ -67,6 +71,7 @@ fn put_entities(
     ensures told { IfOk result (λ fault. with_entities kept.old.items sim group model.now meta.now entities.now ≡ outcome kept.new.items fault) }
     ensures few { length kept.new.items ≤ most_entities }
     ensures tied { result ≡ Ok None → names.new ≡ numbered sim.0 0 kept.new.items }
+    ensures kept { result ≡ Ok None → BeginsWith kept.new.items kept.old.items }
     ensures refused { IfOk result (λ fault. IfSome fault (λ e. kept.new.items ≡ kept.old.items)) }
     ensures unchanged { IfErr result (λ e. kept.new.items ≡ kept.old.items) }
     ensures begins { BeginsWith names.new names.old }
@@ -181,11 +186,7 @@ fn first_rel_fault(
     Ok(None)
 }
 
-fn rel_fault(
-    alloc: Global,
-    names: &Names,
-    entity: &Described,
-) -> Result<Option<CreateFault>, Mem>
+fn rel_fault(alloc: Global, names: &Names, entity: &Described) -> Result<Option<CreateFault>, Mem>
     ensures { IfOk result (λ fault. fault ≡ rel_fault (number_in names.now) entity.now) }
 {
     let Some(rel) = &entity.rel else {

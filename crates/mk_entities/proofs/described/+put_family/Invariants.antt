@@ -1,4 +1,4 @@
-use Rattle.std.proofs.Common.{◌≡◌, ℕ, ◌++◌, ◌∷◌, flat_map, take, true}
+use Rattle.std.proofs.Common.{◌≡◌, ◌++◌, ◌∷◌, flat_map, take, true}
 use Rattle.mk_base.specs.Trees.{nesting}
 use Rattle.mk_entities.specs.Descriptions.{children_in, described, family}
 use Rattle.mk_entities.proofs.described.+put_family.Given as goal

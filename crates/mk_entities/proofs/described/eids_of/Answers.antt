@@ -1,4 +1,4 @@
-use Rattle.std.proofs.Common.{◌∙◌, ◌++◌, ap, sym, [], arith}
+use Rattle.std.proofs.Common.{◌∙◌, ◌++◌, ap, sym, []}
 use Rattle.std.specs.List.{cons_option}
 use Rattle.mk_entities.specs.Descriptions.{eid_in}
 use Rattle.mk_entities.proofs.Families.{filter_map_more}

@@ -1,4 +1,4 @@
-use Rattle.std.proofs.Common.{◌≡◌, ◌∙◌, ◌+◌, ap, sym, arith, length, Ok, None, ℕ, Option}
+use Rattle.std.proofs.Common.{◌≡◌, ◌∙◌, ap, sym, arith, length, Ok, None}
 use Rattle.mk_entities.specs.Making.{fault_at}
 use Rattle.mk_entities.proofs.Faults.{below_next, fault_here, named_more, none_there, there_first}
 use Rattle.mk_entities.proofs.making.name_all.Goals as goal
@@ -10,7 +10,7 @@ returns-in-Some-clause-told c = sym (there_first (fault_at c.args.names.now c.ar
 pub loop-n-preserved : goal.loop-n-preserved
 loop-n-preserved c = record {
   passed = below_next (λ k. fault_at c.args.names.now c.args.count c.args.model.now c.args.meta.now c.args.entities.now k ≡ None) c.loop-n.n c.loop-n.invariant.passed
-    (fault_here c.args.count c.args.entities.now c.loop-n.n c.index-entities-n.result c.loop-n-test.true c.index-entities-n.is c.args.names.now c.loop-n.names c.args.model.now c.args.meta.now c.loop-n.invariant.named ∙ sym c.in_ok-fault.ensures.told ∙ c.in_default.is);
+      (fault_here c.args.count c.args.entities.now c.loop-n.n c.index-entities-n.result c.loop-n-test.true c.index-entities-n.is c.args.names.now c.loop-n.names c.args.model.now c.args.meta.now c.loop-n.invariant.named ∙ sym c.in_ok-fault.ensures.told ∙ c.in_default.is);
   named = c.in_ok-fault.ensures.named (ap Ok c.in_default.is) ∙ named_more c.args.count c.args.entities.now c.loop-n.n c.index-entities-n.result c.loop-n-test.true c.index-entities-n.is c.args.names.now c.loop-n.names c.loop-n.invariant.named;
   few = let room = c.in_ok-fault.ensures.room (ap Ok c.in_default.is) in omega arith;
 }

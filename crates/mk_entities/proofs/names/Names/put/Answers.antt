@@ -1,4 +1,4 @@
-use Rattle.std.proofs.Common.{◌≡◌, ◌∙◌, ◌++◌, ◌∷◌, [], ap, sym, None, ℕ, List}
+use Rattle.std.proofs.Common.{◌≡◌, ◌∙◌, ◌++◌, ◌∷◌, [], ap, ℕ, List}
 use Rattle.std.specs.String.{string_eq, string_bytes}
 use Rattle.mk_base.specs.Lists.{value_under}
 use Rattle.mk_entities.specs.Names.{texts_of}
