@@ -1,24 +1,24 @@
 -- Entities that are added, and the names of their simulator.
-use Rattle.std.proofs.Common.{◌≡◌, ℕ, zero, suc, ◌+◌, ◌<◌, ◌==◌, Bool, true, false, List, [], ◌∷◌, ◌++◌, map, length, take, Option, Some, None, Result, Ok, Err, refl, sym, ap, ◌∙◌, arith, if◌then◌else◌, slice_get, unwrap_or, length-append, slice_set, ◌≤◌, ◌⊎◌, inl, inr}
-use Rattle.std.specs.Prelude.{option_and_then, OnOk, IfErr}
+use Rattle.std.proofs.Common.{◌≡◌, ℕ, suc, ◌+◌, ◌<◌, ◌==◌, Bool, true, false, List, [], ◌∷◌, ◌++◌, map, length, take, Option, Some, None, Ok, Err, refl, sym, ap, ◌∙◌, arith, if◌then◌else◌, slice_get, unwrap_or, length-append}
+use Rattle.std.specs.Prelude.{option_and_then}
 use Rattle.std.specs.List.{range_with_len}
 use Rattle.std.proofs.lemmas.List.{length-map, take-map}
 use Rattle.std.proofs.Math.Seq.{take-append-add}
 use Rattle.mk_base.specs.declared.SimNo.{SimNo}
-use Rattle.mk_base.proofs.Lists.{append_nil, map_same, set_else}
+use Rattle.mk_base.proofs.Lists.{map_same}
 use Rattle.mk_meta.specs.declared.meta.Meta.{Meta}
 use Rattle.mk_entities.specs.declared.described.Described.{Described}
 use Rattle.mk_entities.specs.declared.entities.EntityInfo.{EntityInfo}
 use Rattle.mk_entities.specs.declared.fault.CreateFault.{CreateFault}
-use Rattle.mk_entities.specs.Creation.{added, draft, drafts, entity_fault, first_entity_fault, first_there, is_named, most_entities, number_of, rel_fault, unless, with_entities}
+use Rattle.mk_entities.specs.Creation.{added, draft, drafts, entity_fault, first_entity_fault, first_there, is_named, number_of, rel_fault, unless, with_entities}
 use Rattle.mk_entities.specs.Making.{fault_at, first_fault, made_by, named_from, number_in}
-use Rattle.mk_entities.specs.Tied.{IsTied, names_at, numbered}
+use Rattle.mk_entities.specs.Tied.{numbered}
 use Rattle.mk_entities.proofs.Lookups.{number_is, place_below}
 use Rattle.mk_entities.proofs.Numbers.{put_is_filter}
 
 -- ---- numbered entities
 
-own : (n : ℕ) → (n == n) ≡ true
+pub own : (n : ℕ) → (n == n) ≡ true
 own n = grind arith
 
 pub numbered_append : (s n : ℕ) (xs ys : List EntityInfo) → numbered s n (xs ++ ys) ≡ numbered s n xs ++ numbered s (n + length xs) ys
@@ -37,13 +37,13 @@ numbered_append s n (x ∷ xs) ys = at (x.sim.0 == s) (numbered_append s (suc n)
     at false rest = rest
 
 module _ (sim : SimNo) (make : Described → EntityInfo) (own_sim : (e : Described) → (make e).sim.0 ≡ sim.0) (own_eid : (e : Described) → (make e).eid ≡ unwrap_or e.eid []) where
-  numbered_own : (n : ℕ) (es : List Described) → numbered sim.0 n (map make es) ≡ named_from n es
+  pub numbered_own : (n : ℕ) (es : List Described) → numbered sim.0 n (map make es) ≡ named_from n es
   numbered_own n [] = refl
   numbered_own n (e ∷ es) =
       let same : ((make e).sim.0 == sim.0) ≡ true = ap (λ s. s == sim.0) (own_sim e) ∙ own sim.0 in
       rw same (λ i. (own_eid e i, n) ∷ numbered_own (suc n) es i)
 
-  numbered_other : (s n : ℕ) (es : List Described) → (sim.0 == s) ≡ false → numbered s n (map make es) ≡ []
+  pub numbered_other : (s n : ℕ) (es : List Described) → (sim.0 == s) ≡ false → numbered s n (map make es) ≡ []
   numbered_other s n [] other = refl
   numbered_other s n (e ∷ es) other =
       let not_same : ((make e).sim.0 == s) ≡ false = ap (λ k. k == s) (own_sim e) ∙ other in
@@ -73,7 +73,7 @@ module _ (old : List EntityInfo) (sim : SimNo) (group : ℕ) (model : List ℕ) 
   same_number : (n : ℕ) → number_in (numbered sim.0 0 old ++ named_from (length old) (take n es)) ≡ number_of (take (length old + n) (drafts old sim group es)) sim
   same_number n = numbers_so_far old sim group (take n es) (numbered sim.0 0 old ++ named_from (length old) (take n es)) refl ∙ ap (λ before. number_of before sim) (sym (drafts_before n))
 
-  same_fault : first_fault (numbered sim.0 0 old) (length old) model meta es ≡ first_entity_fault old sim group model meta es
+  pub same_fault : first_fault (numbered sim.0 0 old) (length old) model meta es ≡ first_entity_fault old sim group model meta es
   same_fault = ap first_there (map_same (fault_at (numbered sim.0 0 old) (length old) model meta es)
       (λ n. option_and_then (entity_fault (number_of (take (length old + n) (drafts old sim group es)) sim) (length old + n) model meta n) (slice_get es n))
       (range_with_len 0 (length es))
@@ -120,49 +120,3 @@ module _ (old : List EntityInfo) (sim : SimNo) (group : ℕ) (model : List ℕ) 
         where
           zero_more : (n : ℕ) → n ≡ 0 + n
           zero_more n = omega arith
-
--- ---- the other simulators
-
-after : {B : Type 0} (f g : Option CreateFault) (x y : B) → unless f (unless g (Ok x)) ≡ Ok y → x ≡ y
-after None None x y is = cc
-after None (Some e) x y is = cc
-after (Some e) g x y is = cc
-
--- what is added of one simulator leaves the names of another as they are
-pub others_stay : (old new : List EntityInfo) (sim : SimNo) (group : ℕ) (model : List ℕ) (meta : Meta) (es : List Described) (s : ℕ) → (sim.0 == s) ≡ false → with_entities old sim group model meta es ≡ Ok new → numbered s 0 new ≡ numbered s 0 old
-others_stay old new sim group model meta es s other is =
-    let number = number_of (drafts old sim group es) sim in
-    let make = added number (length old + length es) sim group in
-    ap (numbered s 0) (sym (after (first_entity_fault old sim group model meta es) (first_there (map (rel_fault number) es)) (old ++ map make es) new is))
-    ∙ numbered_append s 0 old (map make es)
-    ∙ ap (λ l. numbered s 0 old ++ l) (numbered_other sim make (λ e. refl) (λ e. refl) s (0 + length old) es other)
-    ∙ append_nil (numbered s 0 old)
-
-same_or_other : (s i : ℕ) → (s ≡ i) ⊎ ((i == s) ≡ false)
-same_or_other s i = grind arith
-
-other_is : (s i : ℕ) → (i == s) ≡ false → s ≡ i → ⊥
-other_is s i other same = grind arith
-
-set_same : (names : List (List (List ℕ × ℕ))) (i : ℕ) (x : List (List ℕ × ℕ)) → i < length names → names_at (slice_set names i x) i ≡ x
-set_same [] i x below = absurd (omega arith)
-set_same (n ∷ names) zero x below = refl
-set_same (n ∷ names) (suc i) x below = set_same names i x (omega arith)
-
--- entities and names are tied after what is added of one simulator, or after nothing is
-pub tied_again : (r : Result (Unit {0}) CreateFault) (old new : List EntityInfo) (names grown : List (List (List ℕ × ℕ))) (sim : SimNo) (group : ℕ) (model : List ℕ) (meta : Meta) (es : List Described) (now : List (List ℕ × ℕ))
-    → IsTied old names → ((s : ℕ) → names_at grown s ≡ names_at names s) → sim.0 < length grown
-    → OnOk r (with_entities old sim group model meta es ≡ Ok new) → IfErr r (λ e. new ≡ old) → length new ≤ most_entities → now ≡ numbered sim.0 0 new
-    → IsTied new (slice_set grown sim.0 now)
-tied_again r old new names grown sim group model meta es now tied same room ok err few is = record {
-  few = few;
-  numbers = λ s. at s (same_or_other s sim.0);
-}
-  where
-    stay : (r : Result (Unit {0}) CreateFault) (s : ℕ) → (sim.0 == s) ≡ false → OnOk r (with_entities old sim group model meta es ≡ Ok new) → IfErr r (λ e. new ≡ old) → numbered s 0 new ≡ numbered s 0 old
-    stay (Ok u) s other ok err = others_stay old new sim group model meta es s other ok
-    stay (Err e) s other ok err = ap (numbered s 0) err
-
-    at : (s : ℕ) → (s ≡ sim.0) ⊎ ((sim.0 == s) ≡ false) → names_at (slice_set grown sim.0 now) s ≡ numbered s 0 new
-    at s (inl e) = ap (names_at (slice_set grown sim.0 now)) e ∙ set_same grown sim.0 now room ∙ is ∙ ap (λ k. numbered k 0 new) (sym e)
-    at s (inr other) = ap (λ o. unwrap_or o []) (set_else grown sim.0 s now (other_is s sim.0 other)) ∙ same s ∙ tied.numbers s ∙ sym (stay r s other ok err)

@@ -1,6 +1,8 @@
 pub mod Adding
+pub mod Distinct
 pub mod Families
 pub mod Faults
 pub mod Lookups
 pub mod Numbers
 pub mod Rows
+pub mod Tying

@@ -1,7 +1,7 @@
 -- The eids of each simulator, with the numbers of their entities.
-use Rattle.std.specs.Prelude.{◌≡◌, ℕ, suc, ◌==◌, ◌≤◌, List, [], ◌∷◌, length, unwrap_or, slice_get, if◌then◌else◌}
+use Rattle.std.specs.Prelude.{◌≡◌, ℕ, suc, ◌==◌, ◌≤◌, List, [], ◌∷◌, length, Some, unwrap_or, slice_get, if◌then◌else◌}
 use Rattle.mk_entities.specs.declared.entities.EntityInfo.{EntityInfo}
-use Rattle.mk_entities.specs.Creation.{most_entities}
+use Rattle.mk_entities.specs.Creation.{most_entities, number_of}
 
 -- the eids of simulator s among entities that are numbered from n
 abbrev pub numbered : ℕ → ℕ → List EntityInfo → List (List ℕ × ℕ)
@@ -12,7 +12,12 @@ numbered s n (e ∷ es) = if e.sim.0 == s then (e.eid, n) ∷ numbered s (suc n)
 abbrev pub names_at : List (List (List ℕ × ℕ)) → ℕ → List (List ℕ × ℕ)
 names_at names s = unwrap_or (slice_get names s) []
 
--- there are few enough entities, and each simulator's names are theirs
+-- each entity is the first of its simulator with its eid
+abbrev pub IsFound : List EntityInfo → Type 0
+IsFound entities = (i : ℕ) (entity : EntityInfo) → slice_get entities i ≡ Some entity → number_of entities entity.sim entity.eid ≡ Some i
+
+-- there are few enough entities, each is found by its eid, and each simulator's names are theirs
 pub record IsTied (entities : List EntityInfo) (names : List (List (List ℕ × ℕ))) : Type 0 where
   pub few : length entities ≤ most_entities
+  pub distinct : IsFound entities
   pub numbers : (s : ℕ) → names_at names s ≡ numbered s 0 entities

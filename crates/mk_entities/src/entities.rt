@@ -24,8 +24,8 @@ pub struct EntityInfo {
 }
 
 /// The entities of all simulators, numbered from 0 in order of creation, each followed by its children, depth first.
-/// There are at most 10,000. Contracts see them as the list of them. A simulator is a place in a plan: its eids are kept at that
-/// place, and there is room for those of each simulator before it.
+/// There are at most 10,000. Contracts see them as the list of them. A simulator's number is its place in a plan:
+/// there is room for the eids of each simulator up to the greatest number given.
 #[derive(Drop)]
 pub struct Entities {
     alloc: Global,
@@ -99,15 +99,16 @@ impl Entities {
         self.kept.len()
     }
 
-    /// The entity with this number.
+    /// The entity with this number, which is the number that `find` gives of its simulator and eid.
     pub fn at(&self, i: usize) -> &EntityInfo
         requires { i < length self.now }
-        ensures { slice_get self.now i ≡ Some result.now }
+        ensures entity { slice_get self.now i ≡ Some result.now }
+        ensures distinct { number_of self.now result.now.sim result.now.eid ≡ Some i }
     {
         &self.kept[i]
     }
 
-    /// The number of the first entity of the simulator with this eid.
+    /// The number of the entity of the simulator with this eid.
     pub fn find(&self, sim: SimNo, eid: &str) -> Option<u32>
         ensures { result ≡ number_of self.now sim eid.now }
     {

@@ -1,4 +1,4 @@
-use Rattle.mk_entities.proofs.Adding.{tied_again}
+use Rattle.mk_entities.proofs.Tying.{tied_again}
 use Rattle.mk_entities.proofs.entities.Entities.add.Goals as goal
 
 pub invariant_of-self-2 : goal.invariant_of-self-2
