@@ -4,7 +4,7 @@ ghost use Rattle.mk_entities.specs.Creation.{entities_added, most_entities, numb
 
 use crate::described::families;
 use crate::fault::CreateFault;
-use crate::making::extend;
+use crate::making::{Asked, extend};
 use crate::names::{Names, grow};
 use crate::trees::items_of;
 use mk_base::{Json, List, Mem, SimNo, Text};
@@ -80,14 +80,17 @@ impl Entities {
         let entities = families(self.alloc, outer)?;
         let place = sim.0 as usize;
         grow(self.alloc, &mut self.names, place)?;
-        extend(
-            self.alloc,
-            &mut self.kept,
-            &mut self.names[place],
+        let asked = Asked {
             sim,
             group,
             model,
             meta,
+        };
+        extend(
+            self.alloc,
+            &mut self.kept,
+            &mut self.names[place],
+            &asked,
             entities.as_slice(),
         )
     }

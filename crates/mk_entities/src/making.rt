@@ -18,28 +18,34 @@ use std::collections::BTreeSet;
 // How many entities there may be.
 const MOST_ENTITIES: usize = 10000;
 
+// What a simulator was asked to create: a group of entities of this model of its metadata.
+#[derive(Drop)]
+pub struct Asked<'a> {
+    pub sim: SimNo,
+    pub group: u32,
+    pub model: &'a Text,
+    pub meta: &'a Meta,
+}
+
 // Adds what a reply describes to the entities and to the names of their simulator, or nothing at a fault.
 pub fn extend(
     alloc: Global,
     kept: &mut Vec<EntityInfo>,
     names: &mut Names,
-    sim: SimNo,
-    group: u32,
-    model: &Text,
-    meta: &Meta,
+    asked: &Asked,
     entities: &[Described],
 ) -> Result<(), CreateFault>
     requires few { length kept.old.items ≤ most_entities }
-    requires tied { names.old ≡ numbered sim.0 0 kept.old.items }
-    ensures ok { OnOk result (with_entities kept.old.items sim group model.now meta.now entities.now ≡ Ok kept.new.items) }
+    requires tied { names.old ≡ numbered asked.now.sim.0 0 kept.old.items }
+    ensures ok { OnOk result (with_entities kept.old.items asked.now.sim asked.now.group asked.now.model.now asked.now.meta.now entities.now ≡ Ok kept.new.items) }
     ensures few { length kept.new.items ≤ most_entities }
-    ensures tied { names.new ≡ numbered sim.0 0 kept.new.items }
+    ensures tied { names.new ≡ numbered asked.now.sim.0 0 kept.new.items }
     ensures kept { OnOk result (BeginsWith kept.new.items kept.old.items) }
     ensures unchanged { IfErr result (λ e. kept.new.items ≡ kept.old.items) }
-    ensures refused { IfErr result (λ e. (e ≡ CreateFault.Mem) ⊎ (with_entities kept.old.items sim group model.now meta.now entities.now ≡ Err e)) }
+    ensures refused { IfErr result (λ e. (e ≡ CreateFault.Mem) ⊎ (with_entities kept.old.items asked.now.sim asked.now.group asked.now.model.now asked.now.meta.now entities.now ≡ Err e)) }
 {
     let before = names.len();
-    match put_entities(alloc, kept, names, sim, group, model, meta, entities) {
+    match put_entities(alloc, kept, names, asked, entities) {
         Ok(None) => Ok(()),
         Ok(Some(fault)) => Err(back(names, before, fault)),
         Err(e) => Err(back(names, before, CreateFault::from(e))),
@@ -60,29 +66,26 @@ fn put_entities(
     alloc: Global,
     kept: &mut Vec<EntityInfo>,
     names: &mut Names,
-    sim: SimNo,
-    group: u32,
-    model: &Text,
-    meta: &Meta,
+    asked: &Asked,
     entities: &[Described],
 ) -> Result<Option<CreateFault>, Mem>
     requires few { length kept.old.items ≤ most_entities }
-    requires tied { names.old ≡ numbered sim.0 0 kept.old.items }
-    ensures told { IfOk result (λ fault. with_entities kept.old.items sim group model.now meta.now entities.now ≡ outcome kept.new.items fault) }
+    requires tied { names.old ≡ numbered asked.now.sim.0 0 kept.old.items }
+    ensures told { IfOk result (λ fault. with_entities kept.old.items asked.now.sim asked.now.group asked.now.model.now asked.now.meta.now entities.now ≡ outcome kept.new.items fault) }
     ensures few { length kept.new.items ≤ most_entities }
-    ensures tied { result ≡ Ok None → names.new ≡ numbered sim.0 0 kept.new.items }
+    ensures tied { result ≡ Ok None → names.new ≡ numbered asked.now.sim.0 0 kept.new.items }
     ensures kept { result ≡ Ok None → BeginsWith kept.new.items kept.old.items }
     ensures refused { IfOk result (λ fault. IfSome fault (λ e. kept.new.items ≡ kept.old.items)) }
     ensures unchanged { IfErr result (λ e. kept.new.items ≡ kept.old.items) }
     ensures begins { BeginsWith names.new names.old }
 {
-    if let Some(fault) = name_all(alloc, kept.len(), names, model, meta, entities)? {
+    if let Some(fault) = name_all(alloc, kept.len(), names, asked, entities)? {
         return Ok(Some(fault));
     }
     if let Some(fault) = first_rel_fault(alloc, names, entities)? {
         return Ok(Some(fault));
     }
-    let mut made = make_all(alloc, names, sim, group, entities)?;
+    let mut made = make_all(alloc, names, asked, entities)?;
     kept.append(&mut made)?;
     Ok(None)
 }
@@ -92,18 +95,17 @@ fn name_all(
     alloc: Global,
     count: usize,
     names: &mut Names,
-    model: &Text,
-    meta: &Meta,
+    asked: &Asked,
     entities: &[Described],
 ) -> Result<Option<CreateFault>, Mem>
     requires { count ≤ most_entities }
-    ensures told { IfOk result (λ fault. fault ≡ first_fault names.old count model.now meta.now entities.now) }
+    ensures told { IfOk result (λ fault. fault ≡ first_fault names.old count asked.now.model.now asked.now.meta.now entities.now) }
     ensures named { result ≡ Ok None → names.new ≡ names.old ++ named_from count entities.now }
     ensures few { result ≡ Ok None → count + length entities.now ≤ most_entities }
     ensures begins { BeginsWith names.new names.old }
 {
     for (n, entity) in entities.iter().enumerate() {
-        if let Some(fault) = name(alloc, count, n, names, model, meta, entity)? {
+        if let Some(fault) = name(alloc, count, n, names, asked, entity)? {
             return Ok(Some(fault));
         }
     }
@@ -116,12 +118,11 @@ fn name(
     count: usize,
     n: usize,
     names: &mut Names,
-    model: &Text,
-    meta: &Meta,
+    asked: &Asked,
     entity: &Described,
 ) -> Result<Option<CreateFault>, Mem>
     requires { count + n ≤ most_entities }
-    ensures told { IfOk result (λ fault. fault ≡ entity_fault (number_in names.old) (count + n) model.now meta.now n entity.now) }
+    ensures told { IfOk result (λ fault. fault ≡ entity_fault (number_in names.old) (count + n) asked.now.model.now asked.now.meta.now n entity.now) }
     ensures named { result ≡ Ok None → names.new ≡ names.old ++ (unwrap_or entity.now.eid [], count + n) ∷ [] }
     ensures room { result ≡ Ok None → count + n < most_entities }
     ensures begins { BeginsWith names.new names.old }
@@ -132,7 +133,7 @@ fn name(
     if names.get(eid.as_str()).is_some() {
         return Ok(Some(CreateFault::TwiceEid(eid.copy()?)));
     }
-    if !has_type(model, meta, entity) {
+    if !has_type(asked, entity) {
         return Ok(Some(CreateFault::OfType(eid.copy()?)));
     }
     if count + n >= MOST_ENTITIES {
@@ -142,22 +143,22 @@ fn name(
     Ok(None)
 }
 
-fn has_type(model: &Text, meta: &Meta, entity: &Described) -> bool
-    ensures { result ≡ has_type model.now meta.now entity.now }
+fn has_type(asked: &Asked, entity: &Described) -> bool
+    ensures { result ≡ has_type asked.now.model.now asked.now.meta.now entity.now }
 {
     match &entity.kind {
-        Some(kind) => is_model_of(model, meta, entity, kind),
+        Some(kind) => is_model_of(asked, entity, kind),
         None => false,
     }
 }
 
-fn is_model_of(model: &Text, meta: &Meta, entity: &Described, kind: &Text) -> bool
-    ensures { result ≡ is_model_of model.now meta.now entity.now kind.now }
+fn is_model_of(asked: &Asked, entity: &Described, kind: &Text) -> bool
+    ensures { result ≡ is_model_of asked.now.model.now asked.now.meta.now entity.now kind.now }
 {
     if entity.is_child {
-        is_model(&meta.models, kind)
+        is_model(&asked.meta.models, kind)
     } else {
-        kind.bytes() == model.bytes()
+        kind.bytes() == asked.model.bytes()
     }
 }
 
@@ -225,34 +226,31 @@ fn text_or_empty(alloc: Global, text: &Option<Text>) -> Result<Text, Mem>
 fn make_all(
     alloc: Global,
     names: &Names,
-    sim: SimNo,
-    group: u32,
+    asked: &Asked,
     entities: &[Described],
 ) -> Result<Vec<EntityInfo>, Mem>
-    ensures { IfOk result (λ made. made.items ≡ map (made_by (number_in names.now) sim group) entities.now) }
+    ensures { IfOk result (λ made. made.items ≡ map (made_by (number_in names.now) asked.now.sim asked.now.group) entities.now) }
 {
     let mut made = Vec::new(alloc);
     for entity in entities {
-        made.push(make(alloc, names, sim, group, entity)?)?;
+        made.push(make(alloc, names, asked, entity)?)?;
     }
     Ok(made)
 }
 
-fn make(
-    alloc: Global,
-    names: &Names,
-    sim: SimNo,
-    group: u32,
-    entity: &Described,
-) -> Result<EntityInfo, Mem>
-    ensures { IfOk result (λ made. made ≡ made_by (number_in names.now) sim group entity.now) }
+fn make(alloc: Global, names: &Names, asked: &Asked, entity: &Described) -> Result<EntityInfo, Mem>
+    ensures { IfOk result (λ made. made ≡ made_by (number_in names.now) asked.now.sim asked.now.group entity.now) }
 {
     let eid = text_or_empty(alloc, &entity.eid)?;
     let model = text_or_empty(alloc, &entity.kind)?;
     let related = related_of(alloc, names, entity)?;
-    let group = if entity.is_child { None } else { Some(group) };
+    let group = if entity.is_child {
+        None
+    } else {
+        Some(asked.group)
+    };
     Ok(EntityInfo {
-        sim,
+        sim: asked.sim,
         group,
         eid,
         model,

@@ -3,4 +3,4 @@ use Rattle.mk_entities.specs.Making.{made_by, number_in}
 use Rattle.mk_entities.proofs.making.make_all.Given as goal
 
 abbrev pub invariant-loop-entity : goal.invariant-loop-entity
-invariant-loop-entity l = l.made.items ≡ map (made_by (number_in l.names) l.sim l.group) (take l.entity-index l.entities)
+invariant-loop-entity l = l.made.items ≡ map (made_by (number_in l.names) l.asked.sim l.asked.group) (take l.entity-index l.entities)

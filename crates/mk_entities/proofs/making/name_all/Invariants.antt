@@ -5,7 +5,7 @@ use Rattle.mk_entities.proofs.making.name_all.Given as goal
 
 abbrev pub invariant-loop-n : goal.invariant-loop-n
 invariant-loop-n l = record {
-  passed : (k : ℕ) → k < l.n → fault_at l.fn.names l.count l.model l.meta l.entities k ≡ None;
+  passed : (k : ℕ) → k < l.n → fault_at l.fn.names l.count l.asked.model.now l.asked.meta.now l.entities k ≡ None;
   named : l.names ≡ l.fn.names ++ named_from l.count (take l.n l.entities);
   few : l.count + l.n ≤ most_entities;
 }
