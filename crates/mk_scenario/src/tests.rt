@@ -62,6 +62,8 @@ fn the_top_table_is_tested_first(rt: HostRuntime) -> Result<(), Fail> {
             "until = 3\nmax_loop_iterations = 1000\nmax_entries = 20000001",
             "5 max_entries 20000001",
         ),
+        ("until = 3\nmax_entries = 0", "5 max_entries 0"),
+        ("until = 3\nmax_entries = 20000000", "2 sim"),
         (
             "until = 1\nmax_loop_iterations = 1\nmax_entries = 1\nsim = []",
             "5 sim 0",
@@ -116,6 +118,11 @@ fn a_simulator_is_tested_key_by_key(rt: HostRuntime) -> Result<(), Fail> {
             "name = 'A'\nlocal = 's'\nparams = {b = nan, a = [2020-01-02]}",
             "3 sim[0].params.a",
         ),
+        ("name = 'A'\nconnect = '127.0.0.1:1'", "well"),
+        (
+            "name = 'A'\nlocal = 's'\ninitial_events = [0, 1000000000]",
+            "well",
+        ),
         (
             "name = 'A'\nlocal = 's'\ninitial_events = [0, 1000000001]",
             "5 sim[0].initial_events[1] 1000000001",
@@ -152,6 +159,7 @@ fn a_group_is_tested_key_by_key(rt: HostRuntime) -> Result<(), Fail> {
             "id = 'g'\nsim = 'A-0'\nmodel = 'M'\nnum = 0",
             "5 entities[0].num 0",
         ),
+        ("id = 'g'\nsim = 'A-0'\nmodel = 'M'\nnum = 10000", "well"),
         (
             "id = 'g'\nsim = 'A-0'\nmodel = 'M'\nnum = 10001",
             "5 entities[0].num 10001",
@@ -215,6 +223,46 @@ fn a_connection_is_tested_key_by_key(rt: HostRuntime) -> Result<(), Fail> {
         let text = format!(in rt.alloc(); "[[connect]]\n{rest}")?;
         assert_eq!(rt; after(rt.alloc(), GROUPS, text.as_str())?.as_str(), want);
     }
+    Ok(())
+}
+
+// This text so many times.
+fn repeated(alloc: Global, text: &str, count: usize) -> Result<String, Fail> {
+    let mut whole = String::new(alloc);
+    for _ in 0..count {
+        whole.push_str(text)?;
+    }
+    Ok(whole)
+}
+
+// The verdict of a simulator with a name of so many bytes.
+fn long_name(alloc: Global, count: usize) -> Result<String, Fail> {
+    let name = repeated(alloc, "a", count)?;
+    let text = format!(in alloc; "until = 3\nsim = [{{name = '{name}', local = 's'}}]")?;
+    verdict(alloc, text.as_str())
+}
+
+// The verdict of a parameter that nests thirty tables and so many lists.
+fn deep_value(alloc: Global, lists: usize) -> Result<String, Fail> {
+    let keys = repeated(alloc, ".k", 30)?;
+    let open = repeated(alloc, "[", lists)?;
+    let close = repeated(alloc, "]", lists)?;
+    let text = format!(in alloc;
+        "until = 3\n[[sim]]\nname = 'A'\nlocal = 's'\n[sim.params{keys}]\nv = {open}{close}"
+    )?;
+    verdict(alloc, text.as_str())
+}
+
+#[test]
+fn names_and_nestings_are_tested_at_their_limits(rt: HostRuntime) -> Result<(), Fail> {
+    assert_eq!(rt; long_name(rt.alloc(), 64)?.as_str(), "well");
+    assert!(rt;
+        long_name(rt.alloc(), 65)?
+            .as_str()
+            .starts_with("5 sim[0].name a")
+    );
+    assert_eq!(rt; deep_value(rt.alloc(), 70)?.as_str(), "well");
+    assert_eq!(rt; deep_value(rt.alloc(), 71)?.as_str(), "3 sim[0].params.k");
     Ok(())
 }
 
