@@ -1,8 +1,7 @@
 use crate::{ReplayEnd, replay};
-use mk_base::{Json, SimNo};
-use mk_plan::Message;
+use mk_base::SimNo;
 use mk_record::{is_built, read_record};
-use mk_sched::{Core, CoreFault, Next, Taken};
+use mk_sched::{Core, CoreFault};
 use std::alloc::Global;
 use std::process::Abort;
 use std::test::Fail;
@@ -60,18 +59,12 @@ fn a_time_comes_again(rt: HostRuntime) -> Result<(), Fail> {
 }
 
 #[test]
-fn a_core_asks_and_notes_the_answer(rt: HostRuntime) -> Result<(), Fail> {
+fn a_core_begins_with_an_empty_journal(rt: HostRuntime) -> Result<(), Fail> {
     let text = b"mosaikrun 1\nrun [3,100,2000000]\nsim [\"A-0\",\"time-based\",3,0,[]]\nend 0\n";
     let saved = read_record(rt.alloc(), text)?;
     assert!(rt; mk_sched::is_built(&saved.plan));
-    let mut core = Core::new(rt.alloc(), saved.plan)?;
-    assert_eq!(rt; core.next()?, Next::Ask(SimNo(0)));
-    assert_eq!(rt; core.plan().sims.len(), 1);
-    let reply = Message::Success {
-        id: 3,
-        content: Json::Whole(1),
-    };
-    assert_eq!(rt; core.arrive(SimNo(0), &reply)?, Taken::Quiet);
-    assert_eq!(rt; core.journal().entries.len(), 2);
+    let core = Core::new(rt.alloc(), saved.plan)?;
+    assert_eq!(rt; core.plan().until, 3);
+    assert_eq!(rt; core.journal().entries.len(), 0);
     Ok(())
 }

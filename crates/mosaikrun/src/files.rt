@@ -1,5 +1,5 @@
 // The files of the system, and its streams. What they hold isn't told.
-ghost use Rattle.std.specs.Prelude.{◌≤◌, ◌≢◌, IfOk, length};
+ghost use Rattle.std.specs.Prelude.{◌≡◌, ◌≤◌, ◌≢◌, IfOk, length};
 
 use mk_outside::{FileRead, FileSave, Folder, Sink, Wrote};
 use std::fs::{self, Files, OpenFile};
@@ -15,7 +15,9 @@ pub struct SystemFolder<'a, R> {
 }
 
 impl<'a, R> SystemFolder<'a, R> {
-    pub fn new(rt: &'a R) -> SystemFolder<'a, R> {
+    pub fn new(rt: &'a R) -> SystemFolder<'a, R>
+        ensures { result.faults ≡ 0 }
+    {
         SystemFolder { rt, faults: 0 }
     }
 }
@@ -75,7 +77,9 @@ pub struct StreamSink<W> {
 }
 
 impl<W> StreamSink<W> {
-    pub fn new(stream: W) -> StreamSink<W> {
+    pub fn new(stream: W) -> StreamSink<W>
+        ensures { result.faults ≡ 0 }
+    {
         StreamSink { stream, faults: 0 }
     }
 }
