@@ -69,34 +69,43 @@ fn read_file<R: Files>(rt: &R, name: &str, into: &mut Vec<u8>) -> io::Result<Fil
     Ok(FileRead::Whole)
 }
 
-// A stream. It doesn't count the wants of memory.
+// A stream, with its counts of faults and of wants of memory.
 #[derive(Drop)]
 pub struct StreamSink<W> {
     stream: W,
     faults: u64,
+    shortages: u64,
 }
 
 impl<W> StreamSink<W> {
     pub fn new(stream: W) -> StreamSink<W>
-        ensures { result.faults ≡ 0 }
+        ensures faults { result.faults ≡ 0 }
+        ensures shortages { result.shortages ≡ 0 }
     {
-        StreamSink { stream, faults: 0 }
+        StreamSink {
+            stream,
+            faults: 0,
+            shortages: 0,
+        }
     }
 }
 
 impl<W: Write> Sink for StreamSink<W> {
-    ghost use Rattle.std.specs.Prelude.{None, ◌-◌, ◌^◌};
+    ghost use Rattle.std.specs.Prelude.{None};
 
     ghost faults = { λ k. k.faults };
 
-    ghost shortages = { λ _. 2 ^ 64 - 1 };
+    ghost shortages = { λ k. k.shortages };
 
     ghost written = { λ _. None };
 
     fn put(&mut self, bytes: &[u8]) -> Wrote {
         match write_some(&mut self.stream, bytes) {
             Ok(count) if count > 0 => Wrote::Took(count),
-            Err(e) if e.kind() == ErrorKind::OutOfMemory => Wrote::Mem,
+            Err(e) if e.kind() == ErrorKind::OutOfMemory => {
+                self.shortages = self.shortages.saturating_add(1);
+                Wrote::Mem
+            }
             _ => {
                 self.faults = self.faults.saturating_add(1);
                 Wrote::Failed
