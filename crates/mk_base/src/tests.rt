@@ -8,7 +8,7 @@ fn tiered_times_are_delayed_and_ordered(rt: HostRuntime) -> Result<(), Fail> {
     let at = Tier { time: 3, tier: 2 };
     assert_eq!(rt; at.after(Via::Plain), at);
     assert_eq!(rt; at.after(Via::Weak), Tier { time: 3, tier: 3 });
-    assert_eq!(rt; at.after(Via::Shift), Tier { time: 4, tier: 0 });
+    assert_eq!(rt; at.after(Via::Shift(1)), Tier { time: 4, tier: 0 });
     assert!(rt; at.is_up_to(at) && at.is_up_to(Tier { time: 4, tier: 0 }));
     assert!(rt; !at.is_up_to(Tier { time: 3, tier: 1 }));
     Ok(())
@@ -59,6 +59,16 @@ fn trees_are_looked_into_and_copied(rt: HostRuntime) -> Result<(), Fail> {
     let tree = Json::Object(members).copy(rt.alloc())?;
     assert!(rt; matches!(tree.member("y"), Some(Json::Bool(true))));
     assert!(rt; tree.member("z").is_none());
+    assert!(rt; tree.is_object() && !tree.is_null() && tree.as_text().is_none());
+    assert_eq!(rt; tree.as_object().map(|members| members.len()), Some(2));
+    assert_eq!(rt;
+        tree.member("x")
+            .and_then(|x| x.as_list())
+            .map(|items| items.len()),
+        Some(2)
+    );
+    assert_eq!(rt; tree.member("y").and_then(|y| y.as_bool()), Some(true));
+    assert_eq!(rt; Json::Whole(5).as_whole(), Some(5));
     assert!(rt; !tree.is_whole() && tree.nests_within(2) && !tree.nests_within(1));
     Ok(())
 }

@@ -1,6 +1,7 @@
 -- The compact text of a tree is what a writer prints of its tokens.
-use Rattle.std.proofs.Common.{◌≡◌, ℕ, ◌+◌, ◌/◌, ◌%◌, Bool, true, false, cond, ◌&&◌, ◌==◌, nat_lt, List, [], ◌∷◌, ◌++◌, map, flat_map, codes, inl, inr, refl, sym, ap, ap₂, ◌∙◌, append_assoc, append-nil, true≢false, if◌then◌else◌}
+use Rattle.std.proofs.Common.{◌≡◌, ℕ, ◌+◌, ◌/◌, ◌%◌, Bool, true, false, cond, ◌&&◌, ◌==◌, nat_lt, List, [], ◌∷◌, ◌++◌, length, take, map, flat_map, codes, inl, inr, refl, sym, ap, ap₂, ◌∙◌, append_assoc, append-nil, true≢false, if◌then◌else◌}
 use Rattle.std.proofs.lemmas.Bool.{cases_eq, ne_eqb}
+use Rattle.std.proofs.Math.Seq.{take-append_seam}
 use Rattle.std.specs.List.{join_with_byte}
 use Rattle.std.specs.Fmt.{signed_decimal}
 use Rattle.json.specs.Token.{Token}
@@ -165,7 +166,22 @@ pub text_of-is : (t : Json) → print.print (json_tokens (outline t)) ≡ text_o
 unfolding print_from
 text_of-is t = ap (print_from false) (sym (append-nil (json_tokens (outline t)))) ∙ by_layers Prints prints_each t false [] ∙ append-nil (text_of t)
 
--- what a writer gave for a tree, appended
-pub appended : (old new piece whole before : List ℕ) (first all : List Token) (t : Json) → first ≡ [] → before ≡ [] → all ≡ first ++ json_tokens (outline t) → whole ≡ before ++ print.print all → piece ≡ whole → new ≡ old ++ piece → new ≡ old ++ text_of t
-appended old new piece whole before first all t none empty tokens printed same grown =
-    grown ∙ ap (λ l. old ++ l) (same ∙ printed ∙ ap₂ (λ l ts. l ++ print.print ts) empty (tokens ∙ ap (λ ts. ts ++ json_tokens (outline t)) none) ∙ text_of-is t)
+-- ---- what a writer leaves that began behind what was there
+
+-- the text of a tree, appended
+pub appended : (old new before : List ℕ) (first all : List Token) (t : Json) → first ≡ [] → before ≡ old → all ≡ first ++ json_tokens (outline t) → new ≡ before ++ print.print all → new ≡ old ++ text_of t
+appended old new before first all t none same tokens grown =
+    grown ∙ ap₂ (λ l ts. l ++ print.print ts) same (tokens ∙ ap (λ ts. ts ++ json_tokens (outline t)) none) ∙ ap (λ l. old ++ l) (text_of-is t)
+
+print-text : (s : List ℕ) → print.print (Token.string s ∷ []) ≡ quoted s
+print-text s = ap (λ j. print.print (json_tokens j)) (sym (outline-Text s)) ∙ text_of-is (tree.Text s) ∙ folded-Text _ _ s
+
+-- a text in quotes, appended
+pub appended_text : (old new before : List ℕ) (first all : List Token) (s : List ℕ) → first ≡ [] → before ≡ old → all ≡ first ++ Token.string s ∷ [] → new ≡ before ++ print.print all → new ≡ old ++ quoted s
+appended_text old new before first all s none same tokens grown =
+    grown ∙ ap₂ (λ l ts. l ++ print.print ts) same (tokens ∙ ap (λ ts. ts ++ Token.string s ∷ []) none) ∙ ap (λ l. old ++ l) (print-text s)
+
+-- what was there, when the rest is taken off
+pub taken_back : (old new before whole : List ℕ) (all : List Token) (kept : ℕ) → kept ≡ length old → before ≡ old → whole ≡ before ++ print.print all → new ≡ take kept whole → new ≡ old
+taken_back old new before whole all kept count same grown cut =
+    cut ∙ ap₂ take count (grown ∙ ap (λ l. l ++ print.print all) same) ∙ take-append_seam old (print.print all)

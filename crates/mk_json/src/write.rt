@@ -12,17 +12,27 @@ ghost use Rattle.mk_json.specs.Proper.{is_proper, are_proper};
 
 use json::Writer;
 use mk_base::{Json, List, Mem, Members, Text};
-use serde_json::Value;
 use std::alloc::{AllocError, Global};
+use std::mem;
 
 /// Appends a text in quotes with the shortest escapes (RFC 8259, section 7).
 pub fn put_text(alloc: Global, out: &mut Vec<u8>, text: &Text) -> Result<(), Mem>
     ensures ok { OnOk result (out.new.items ≡ out.old.items ++ quoted text.now) }
     ensures err { OnErr result (out.new.items ≡ out.old.items) }
 {
-    let quoted = Value::try_from_str(alloc, text.as_str())?.to_vec(alloc)?;
-    out.extend_from_slice(quoted.as_slice())?;
-    Ok(())
+    let kept = out.as_slice().len();
+    let mut writer = Writer::new(mem::replace(out, Vec::new(alloc)));
+    match writer.string(text.as_str()) {
+        Ok(()) => {
+            *out = writer.into_inner();
+            Ok(())
+        }
+        Err(_) => {
+            *out = writer.into_inner();
+            out.truncate(kept);
+            Err(Mem)
+        }
+    }
 }
 
 /// Appends the compact text of a tree: no space, members in byte order of their names, the shortest
@@ -35,10 +45,19 @@ pub fn put_json(alloc: Global, out: &mut Vec<u8>, tree: &Json) -> Result<(), Mem
     ensures proper { OnOk result (is_proper tree.now ≡ true) }
     ensures reads_back { OnOk result (nesting tree.now ≤ 127 → parsed (text_of tree.now) ≡ Some tree.now) }
 {
-    let mut writer = Writer::new(Vec::new(alloc));
-    write(&mut writer, tree)?;
-    out.extend_from_slice(writer.into_inner().as_slice())?;
-    Ok(())
+    let kept = out.as_slice().len();
+    let mut writer = Writer::new(mem::replace(out, Vec::new(alloc)));
+    match write(&mut writer, tree) {
+        Ok(()) => {
+            *out = writer.into_inner();
+            Ok(())
+        }
+        Err(_) => {
+            *out = writer.into_inner();
+            out.truncate(kept);
+            Err(Mem)
+        }
+    }
 }
 
 #[cycle(write)]

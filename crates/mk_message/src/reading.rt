@@ -1,7 +1,6 @@
 // From a payload to its message.
 ghost use Rattle.std.specs.Prelude.{◌≡◌, ℕ, true, Ok, Err, None, Some, IfOk, option_map};
 ghost use Rattle.mk_base.specs.Trees as trees;
-ghost use Rattle.mk_base.specs.Trees.{is_object};
 ghost use Rattle.mk_message.specs.Written.{is_in_range};
 ghost use Rattle.mk_message.specs.Messages.{kind_in, id_in, request_in, content_in, message_in, message_of};
 
@@ -139,7 +138,7 @@ fn request_of(alloc: Global, id: u64, content: &Json) -> Result<Option<Message>,
     let [Json::Text(name), Json::List(args), named] = parts.as_slice() else {
         return Ok(None);
     };
-    if !is_object(named) {
+    if !named.is_object() {
         return Ok(None);
     }
     Ok(Some(Message::Ask {
@@ -148,10 +147,4 @@ fn request_of(alloc: Global, id: u64, content: &Json) -> Result<Option<Message>,
         args: args.copy(alloc)?,
         named: named.copy(alloc)?,
     }))
-}
-
-fn is_object(tree: &Json) -> bool
-    ensures { result ≡ is_object tree.now }
-{
-    matches!(tree, Json::Object(_))
 }

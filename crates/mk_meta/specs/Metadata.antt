@@ -4,9 +4,9 @@ use Rattle.std.specs.List.{find, list_any, before_first}
 use Rattle.std.specs.List.Sorted.{IsStrictlySortedBy}
 use Rattle.mk_base.specs.declared.SimKind.{SimKind}
 use Rattle.mk_base.specs.declared.SimKind.TheVariants.{TimeBased, EventBased, Hybrid}
-use Rattle.mk_base.specs.declared.json.Json.{Json, Json-F, out-Json}
+use Rattle.mk_base.specs.declared.json.Json.{Json}
 use Rattle.mk_base.specs.Lists.{same_text, text_order, all_there}
-use Rattle.mk_base.specs.Trees.{text_in, items_in, members_in, is_object, member}
+use Rattle.mk_base.specs.Trees.{bool_in, text_in, items_in, members_in, is_object, member}
 use Rattle.mk_meta.specs.declared.meta.ModelMeta.{ModelMeta}
 use Rattle.mk_meta.specs.declared.meta.Meta.{Meta}
 use Rattle.mk_meta.specs.declared.fault.MetaFault.{MetaFault}
@@ -36,14 +36,6 @@ abbrev pub all_well : {B : Type 0} → List (Result B MetaFault) → Result (Lis
 all_well [] = Ok []
 all_well (Err fault ∷ more) = Err fault
 all_well (Ok x ∷ more) = before x (all_well more)
-
-abbrev bool_at : Json-F Json → Option Bool
-bool_at (Json-F.Bool b) = Some b
-bool_at _ = None
-
--- the truth value that the tree is
-abbrev pub bool_in : Json → Option Bool
-bool_in tree = bool_at (out-Json tree)
 
 -- the list of texts that the tree is
 abbrev pub texts_in : Json → Option (List (List ℕ))

@@ -7,7 +7,7 @@ ghost use Rattle.mk_meta.specs.declared.fault.MetaFault.TheVariants as fault;
 
 use crate::fault::MetaFault;
 use crate::model::model_of;
-use crate::trees::{text_at, text_of};
+use crate::trees::text_at;
 use mk_base::{Json, List, Mem, Members, SimKind, Text};
 use std::alloc::Global;
 
@@ -79,7 +79,7 @@ fn kind_of(reply: &Json) -> Option<SimKind>
     ensures { result ≡ kind_in reply.now }
 {
     match reply.member("type") {
-        Some(tree) => match text_of(tree) {
+        Some(tree) => match tree.as_text() {
             Some(word) => kind_named(word),
             None => None,
         },

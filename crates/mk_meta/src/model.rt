@@ -5,7 +5,7 @@ ghost use Rattle.mk_meta.specs.declared.fault.MetaFault.TheVariants as fault;
 
 use crate::fault::MetaFault;
 use crate::meta::ModelMeta;
-use crate::trees::{bool_at, bool_or_false, hybrid_texts, is_object, texts_at};
+use crate::trees::{bool_at, bool_or_false, hybrid_texts, texts_at};
 use mk_base::{Json, List, Mem, SimKind, Text};
 use std::alloc::Global;
 
@@ -19,7 +19,7 @@ pub fn model_of(
     ensures told { IfOk result (λ model. model ≡ model_in kind (name.now, tree.now)) }
     ensures named { IfOk result (λ found. IfOk found (λ model. model.name ≡ name.now)) }
 {
-    if !is_object(tree) {
+    if !tree.is_object() {
         return misdescribed(alloc, name, "");
     }
     let Some(public) = bool_at(tree, "public") else {

@@ -1,61 +1,19 @@
 // What the members of a description are.
 ghost use Rattle.std.specs.Prelude.{◌≡◌, map, codes, false, IfOk, option_map, option_and_then};
 ghost use Rattle.mk_base.specs.Lists.{all_there};
-ghost use Rattle.mk_base.specs.Trees.{is_object, items_in, member, text_in};
-ghost use Rattle.mk_meta.specs.Metadata.{bool_in, texts_in, hybrid_texts, unless_missing};
+ghost use Rattle.mk_base.specs.Trees.{bool_in, member, text_in};
+ghost use Rattle.mk_meta.specs.Metadata.{texts_in, hybrid_texts, unless_missing};
 
 use mk_base::{Json, List, Mem, SimKind, Text};
 use std::alloc::Global;
-
-pub fn is_object(tree: &Json) -> bool
-    ensures { result ≡ is_object tree.now }
-{
-    match tree {
-        Json::Null => false,
-        Json::Bool(_) => false,
-        Json::Whole(_) => false,
-        Json::Odd => false,
-        Json::Text(_) => false,
-        Json::List(_) => false,
-        Json::Object(_) => true,
-    }
-}
-
-pub fn text_of(tree: &Json) -> Option<&Text>
-    ensures { option_map (λ t. t.now) result ≡ text_in tree.now }
-{
-    match tree {
-        Json::Null => None,
-        Json::Bool(_) => None,
-        Json::Whole(_) => None,
-        Json::Odd => None,
-        Json::Text(text) => Some(text),
-        Json::List(_) => None,
-        Json::Object(_) => None,
-    }
-}
 
 // The text under this name.
 pub fn text_at<'a>(tree: &'a Json, name: &str) -> Option<&'a Text>
     ensures { option_map (λ t. t.now) result ≡ option_and_then text_in (member name.now tree.now) }
 {
     match tree.member(name) {
-        Some(value) => text_of(value),
+        Some(value) => value.as_text(),
         None => None,
-    }
-}
-
-fn bool_of(tree: &Json) -> Option<bool>
-    ensures { result ≡ bool_in tree.now }
-{
-    match tree {
-        Json::Null => None,
-        Json::Bool(b) => Some(*b),
-        Json::Whole(_) => None,
-        Json::Odd => None,
-        Json::Text(_) => None,
-        Json::List(_) => None,
-        Json::Object(_) => None,
     }
 }
 
@@ -64,7 +22,7 @@ pub fn bool_at(tree: &Json, name: &str) -> Option<bool>
     ensures { result ≡ option_and_then bool_in (member name.now tree.now) }
 {
     match tree.member(name) {
-        Some(value) => bool_of(value),
+        Some(value) => value.as_bool(),
         None => None,
     }
 }
@@ -74,22 +32,8 @@ pub fn bool_or_false(tree: &Json, name: &str) -> Option<bool>
     ensures { result ≡ unless_missing false bool_in (member name.now tree.now) }
 {
     match tree.member(name) {
-        Some(value) => bool_of(value),
+        Some(value) => value.as_bool(),
         None => Some(false),
-    }
-}
-
-fn items_of(tree: &Json) -> Option<&List<Json>>
-    ensures { option_map (λ l. l.now) result ≡ items_in tree.now }
-{
-    match tree {
-        Json::Null => None,
-        Json::Bool(_) => None,
-        Json::Whole(_) => None,
-        Json::Odd => None,
-        Json::Text(_) => None,
-        Json::List(items) => Some(items),
-        Json::Object(_) => None,
     }
 }
 
@@ -98,7 +42,7 @@ fn texts_among(alloc: Global, items: &[Json]) -> Result<Option<List<Text>>, Mem>
 {
     let mut found = List::new(alloc);
     for item in items {
-        let Some(text) = text_of(item) else {
+        let Some(text) = item.as_text() else {
             return Ok(None);
         };
         found.push(text.copy()?)?;
@@ -109,7 +53,7 @@ fn texts_among(alloc: Global, items: &[Json]) -> Result<Option<List<Text>>, Mem>
 fn texts_of(alloc: Global, tree: &Json) -> Result<Option<List<Text>>, Mem>
     ensures { IfOk result (λ ts. ts ≡ texts_in tree.now) }
 {
-    match items_of(tree) {
+    match tree.as_list() {
         Some(items) => texts_among(alloc, items.as_slice()),
         None => Ok(None),
     }

@@ -2,8 +2,8 @@ ghost use Rattle.std.specs.Prelude.{◌≡◌, ◌==◌, int_lt, nat_lt, if◌th
 ghost use Rattle.mk_plan.specs.Plans.{kind_of};
 ghost use Rattle.mk_plan.specs.Turns.{holds_of, is_number, most_asks, too_many_asks, unasked, time_in, wanted, wrong, wrong_data, wrong_next};
 
-use crate::data::{has_bad_time, is_object, some_bad_part, some_deep_value, some_odd_value};
-use crate::numbers::{LATEST_TIME, is_at_most, is_below, is_null};
+use crate::data::{has_bad_time, some_bad_part, some_deep_value, some_odd_value};
+use crate::numbers::{LATEST_TIME, is_at_most, is_below};
 use mk_base::{Json, List, SimKind, SimNo, Tier};
 use mk_plan::{Cause, Message, Place, Plan, Want};
 
@@ -126,9 +126,9 @@ fn kind_of(plan: &Plan, sim: SimNo) -> SimKind
 fn wrong_next(kind: SimKind, at: &Tier, content: &Json) -> Option<Cause>
     ensures { result ≡ wrong_next kind at.now content.now }
 {
-    if !(is_null(content) || is_at_most(content, LATEST_TIME)) {
+    if !(content.is_null() || is_at_most(content, LATEST_TIME)) {
         Some(Cause::Wrong(NOT_A_TIME))
-    } else if is_null(content) && kind == SimKind::TimeBased {
+    } else if content.is_null() && kind == SimKind::TimeBased {
         Some(Cause::Wrong(NO_NEXT))
     } else if is_at_most(content, at.time as i128) {
         Some(Cause::Wrong(NOT_LATER))
@@ -141,7 +141,7 @@ fn wrong_next(kind: SimKind, at: &Tier, content: &Json) -> Option<Cause>
 fn wrong_data(wants: &List<Want>, at: &Tier, content: &Json) -> Option<Cause>
     ensures { result ≡ wrong_data wants.now at.now content.now }
 {
-    if !is_object(content) || has_bad_time(content) {
+    if !content.is_object() || has_bad_time(content) {
         Some(Cause::Wrong(BAD_DATA))
     } else if is_early(content, at) {
         Some(Cause::Wrong(EARLY_OUTPUT))

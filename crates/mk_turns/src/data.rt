@@ -56,7 +56,7 @@ fn has_bad_part(content: &Json, want: &Want) -> bool
     ensures { result ≡ holds_of (λ t. not (is_object t)) (part_for content.now want.now) }
 {
     match part_for(content, want) {
-        Some(part) => !is_object(part),
+        Some(part) => !part.is_object(),
         None => false,
     }
 }
@@ -88,21 +88,6 @@ pub fn has_bad_time(content: &Json) -> bool
     match content.member("time") {
         Some(time) => !is_output_time(time),
         None => false,
-    }
-}
-
-// Whether the tree is an object.
-pub fn is_object(tree: &Json) -> bool
-    ensures { result ≡ is_object tree.now }
-{
-    match tree {
-        Json::Null => false,
-        Json::Bool(_) => false,
-        Json::Whole(_) => false,
-        Json::Odd => false,
-        Json::Text(_) => false,
-        Json::List(_) => false,
-        Json::Object(_) => true,
     }
 }
 
