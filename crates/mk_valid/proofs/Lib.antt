@@ -1,3 +1,3 @@
 pub mod Meaning
-pub mod Ranges
+pub mod Neighbours
 pub mod Scanning

@@ -1,5 +1,5 @@
 -- A plan's tests are true exactly where its parts hold.
-use Rattle.std.proofs.Common.{◌≡◌, ◌≢◌, ℕ, zero, suc, ◌+◌, ◌<◌, ◌≤◌, ℤ, pos, ◌≤ℤ◌, int_le, Bool, true, false, not, ◌&&◌, ◌||◌, List, [], ◌∷◌, length, count_by, Option, Some, None, IfSome, IsSome, is_some, option_map, unwrap_or, ◌==◌, nat_eq, nat_le, nat_lt, All, AllPairs, get_or, refl, sym, ap, ◌∙◌, subst, inl, inr, ◌⊎◌, ◌↔◌, arith, codes, if◌then◌else◌}
+use Rattle.std.proofs.Common.{◌≡◌, ◌≢◌, ℕ, zero, suc, ◌+◌, ◌<◌, ◌≤◌, ℤ, pos, ◌≤ℤ◌, Bool, true, false, not, ◌&&◌, List, [], ◌∷◌, length, count_by, Option, Some, None, IfSome, IsSome, is_some, ◌==◌, nat_eq, nat_le, nat_lt, All, AllPairs, get_or, refl, sym, ap, ◌∙◌, subst, inl, inr, ◌⊎◌, arith, codes, if◌then◌else◌}
 use Rattle.std.specs.List.{list_all, range_with_len}
 use Rattle.std.proofs.lemmas.Int.{ints}
 use Rattle.std.proofs.lemmas.Bool.{and_parts, and_from, true≢false, both_ways, not-true, not_from_false, not_from_true, false_from_ne_true, eqb-true, eq-eqb, ne_eqb, leb-true, le-leb, ltb-true, lt-ltb, cases_lt}
@@ -9,6 +9,7 @@ use Rattle.mk_base.specs.declared.SimKind.TheVariants.{TimeBased, EventBased, Hy
 use Rattle.mk_base.specs.declared.tier.Via.{Via}
 use Rattle.mk_base.specs.declared.tier.Via.TheVariants.{Plain, Shift, Weak}
 use Rattle.mk_base.specs.Lists.{same_text}
+use Rattle.mk_base.specs.Tiers.{HasWidth}
 use Rattle.mk_base.specs.Trees.{nesting, value_depth}
 use Rattle.mk_base.specs.Data.{IsValueText, IsDatumText}
 use Rattle.mk_base.proofs.Lists.{all_in, range_in, filter_none}
@@ -17,7 +18,7 @@ use Rattle.mk_plan.specs.declared.PlanSim.{PlanSim}
 use Rattle.mk_plan.specs.declared.Conn.{Conn}
 use Rattle.mk_plan.specs.Plans.{owner, eid_of, kind_of, rank_of, dot, IsWithinLimits, RefersInside, HasDistinctNames, IsWellFormed, HasRanks, HasOneConnectionEach, HasInitialValues, HasKindsOfConnections, IsValidPlan}
 use Rattle.mk_valid.specs.Nesting.{nesting_of}
-use Rattle.mk_valid.specs.Tests.{all_apart, implies, numbers_fit, sizes_fit, event_fits, sim_fits, models_of, models_fit, initial_fits, is_within_limits, entity_refers, conn_refers, pair_refers, refers_inside, sims_apart, has_no_dot, eids_differ, eids_apart, is_eid, has_distinct_names, is_well_formed, ranked, is_plain, conn_rises, pair_rises, has_ranks, same_way, has_one_connection_each, initial_stands, has_initial_values, persistence_fits, triggering_fits, kinds_fit, same_bool, same_source, same_target, sources_agree, targets_agree, has_kinds_of_connections, first_bad}
+use Rattle.mk_valid.specs.Tests.{all_apart, implies, numbers_fit, sizes_fit, event_fits, sim_fits, models_of, models_fit, initial_fits, width_fits, is_within_limits, entity_refers, conn_refers, pair_refers, refers_inside, sims_apart, has_no_dot, eids_differ, eids_apart, is_eid, has_distinct_names, is_well_formed, ranked, is_plain, conn_rises, pair_rises, has_ranks, same_way, has_one_connection_each, initial_stands, has_initial_values, persistence_fits, triggering_fits, kinds_fit, same_bool, same_source, same_target, sources_agree, targets_agree, has_kinds_of_connections, first_bad}
 use Rattle.mk_valid.specs.FirstBad.{HasDatums, IsFirstBad}
 use Rattle.mk_valid.proofs.Scanning.{nesting_is}
 
@@ -77,6 +78,9 @@ parts4 a b c d h = let t = and_parts (a && b && c) d h in let u = parts3 a b c t
 parts5 : (a b c d e : Bool) → (a && b && c && d && e) ≡ true → (a ≡ true) × (b ≡ true) × (c ≡ true) × (d ≡ true) × (e ≡ true)
 parts5 a b c d e h = let t = and_parts (a && b && c && d) e h in let u = parts4 a b c d t.0 in (u.0, u.1, u.2, u.3, t.1)
 
+parts6 : (a b c d e f : Bool) → (a && b && c && d && e && f) ≡ true → (a ≡ true) × (b ≡ true) × (c ≡ true) × (d ≡ true) × (e ≡ true) × (f ≡ true)
+parts6 a b c d e f h = let t = and_parts (a && b && c && d && e) f h in let u = parts5 a b c d e t.0 in (u.0, u.1, u.2, u.3, u.4, t.1)
+
 from3 : (a b c : Bool) → a ≡ true → b ≡ true → c ≡ true → (a && b && c) ≡ true
 from3 a b c p q r = and_from (a && b) c (and_from a b p q) r
 
@@ -85,6 +89,9 @@ from4 a b c d p q r s = and_from (a && b && c) d (from3 a b c p q r) s
 
 from5 : (a b c d e : Bool) → a ≡ true → b ≡ true → c ≡ true → d ≡ true → e ≡ true → (a && b && c && d && e) ≡ true
 from5 a b c d e p q r s t = and_from (a && b && c && d) e (from4 a b c d p q r s) t
+
+from6 : (a b c d e f : Bool) → a ≡ true → b ≡ true → c ≡ true → d ≡ true → e ≡ true → f ≡ true → (a && b && c && d && e && f) ≡ true
+from6 a b c d e f p q r s t u = and_from (a && b && c && d && e) f (from5 a b c d e p q r s t) u
 
 -- tests over the numbers below n
 over_from : (p : ℕ → Bool) (a n i : ℕ) → list_all p (range_with_len a n) ≡ true → a ≤ i → i < a + n → p i ≡ true
@@ -141,6 +148,16 @@ sizes_from : (P : Plan) → sizes_fit P ≡ true → ((1 ≤ length P.sims) × (
 sizes_from P h = let t = parts4 (nat_le 1 (length P.sims)) (nat_le (length P.sims) 200) (nat_le (length P.entities) 10000) (nat_le (length P.conns) 100000) h in
     ((leb-true 1 (length P.sims) t.0, leb-true (length P.sims) 200 t.1), leb-true (length P.entities) 10000 t.2, leb-true (length P.conns) 100000 t.3)
 
+width_from : (v : Via) → width_fits v ≡ true → HasWidth v
+width_from Plain h = tt
+width_from (Shift d) h = let t = and_parts (nat_le 1 d) (nat_le d 1000000) h in (leb-true 1 d t.0, leb-true d 1000000 t.1)
+width_from Weak h = tt
+
+from_width : (v : Via) → HasWidth v → width_fits v ≡ true
+from_width Plain w = refl
+from_width (Shift d) w = and_from (nat_le 1 d) (nat_le d 1000000) (le-leb 1 d w.0) (le-leb d 1000000 w.1)
+from_width Weak w = refl
+
 -- a count of what isn't there
 count_none : {X : Type 0} (p : X → Bool) (xs : List X) → All (λ x. p x ≡ false) xs → count_by p xs ≡ 0
 count_none {X} p xs h = sym (length-filter p xs) ∙ ap length (filter_none p xs (λ x m. all_in (λ x. p x ≡ false) xs x h m))
@@ -159,10 +176,11 @@ limits_hold P data_of h k = record {
   entities = z.1;
   conns = z.2;
   initials = λ i d m. initial_from (get_or P.conns i d).initial (all_from (λ c. initial_fits c.initial) (λ c. initial_fits c.initial ≡ true) (λ c e. e) P.conns t.4 i d m) (data_of i d m);
+  widths = all_from (λ c. width_fits c.via) (λ c. HasWidth c.via) (λ c e. width_from c.via e) P.conns t.5;
 }
   where
-    t : (numbers_fit P ≡ true) × (sizes_fit P ≡ true) × (list_all sim_fits P.sims ≡ true) × (models_fit P ≡ true) × (list_all (λ c. initial_fits c.initial) P.conns ≡ true)
-    t = parts5 (numbers_fit P) (sizes_fit P) (list_all sim_fits P.sims) (models_fit P) (list_all (λ c. initial_fits c.initial) P.conns) h
+    t : (numbers_fit P ≡ true) × (sizes_fit P ≡ true) × (list_all sim_fits P.sims ≡ true) × (models_fit P ≡ true) × (list_all (λ c. initial_fits c.initial) P.conns ≡ true) × (list_all (λ c. width_fits c.via) P.conns ≡ true)
+    t = parts6 (numbers_fit P) (sizes_fit P) (list_all sim_fits P.sims) (models_fit P) (list_all (λ c. initial_fits c.initial) P.conns) (list_all (λ c. width_fits c.via) P.conns) h
 
     n : ((pos 1 ≤ℤ P.until) × (P.until ≤ℤ pos 1000000000)) × ((1 ≤ P.loops) × (P.loops ≤ 1000)) × ((1 ≤ P.entries) × (P.entries ≤ 20000000))
     n = limits_from P t.0
@@ -183,7 +201,7 @@ limits_hold P data_of h k = record {
     ]
 
 from_limits_hold : (P : Plan) → IsWithinLimits P → is_within_limits P ≡ true
-from_limits_hold P w = from5 (numbers_fit P) (sizes_fit P) (list_all sim_fits P.sims) (models_fit P) (list_all (λ c. initial_fits c.initial) P.conns)
+from_limits_hold P w = from6 (numbers_fit P) (sizes_fit P) (list_all sim_fits P.sims) (models_fit P) (list_all (λ c. initial_fits c.initial) P.conns) (list_all (λ c. width_fits c.via) P.conns)
     (from_limits P w.until.0 w.until.1 w.loops.0 w.loops.1 w.entries.0 w.entries.1)
     (from4 (nat_le 1 (length P.sims)) (nat_le (length P.sims) 200) (nat_le (length P.entities) 10000) (nat_le (length P.conns) 100000) (le-leb 1 (length P.sims) w.sims.0) (le-leb (length P.sims) 200 w.sims.1) (le-leb (length P.entities) 10000 w.entities) (le-leb (length P.conns) 100000 w.conns))
     (from_all sim_fits (λ s. (s.rank ≤ 199) × (s.first_id ≤ 1000000) × All (λ (e : ℤ). (pos 0 ≤ℤ e) × (e ≤ℤ pos 1000000000)) s.initial)
@@ -191,6 +209,7 @@ from_limits_hold P w = from5 (numbers_fit P) (sizes_fit P) (list_all sim_fits P.
     P.sims (λ i d m. (w.ranks i d m, w.first_ids i d m, w.events i d m)))
     (from_over (λ i. nat_le (models_of P i) 10000) 0 (length P.sims) (λ i low high. le-leb (models_of P i) 10000 (w.models i)))
     (from_all (λ c. initial_fits c.initial) (λ c. IfSome c.initial IsValueText) (λ c. from_initial c.initial) P.conns w.initials)
+    (from_all (λ c. width_fits c.via) (λ c. HasWidth c.via) (λ c. from_width c.via) P.conns w.widths)
 
 references_hold : (P : Plan) → refers_inside P ≡ true → RefersInside P
 references_hold P h = record {
@@ -264,7 +283,7 @@ rises_from P c h e = ltb-true (rank_of P (owner P c.from)) (rank_of P (owner P c
 
 rises_via : (v : Via) (m n : ℕ) → (v ≡ Plain → m < n) → implies (is_plain v) (nat_lt m n) ≡ true
 rises_via Plain m n h = lt-ltb m n (h refl)
-rises_via Shift m n h = refl
+rises_via (Shift d) m n h = refl
 rises_via Weak m n h = refl
 
 pub ranks_from : (P : Plan) → has_ranks P ≡ true → HasRanks P
@@ -304,20 +323,20 @@ from_connections P w = from_pairs (λ c d. not (same_way c d)) Alone from_alone 
 
 -- the fourth part
 abbrev Stands : Via → Bool → Option (List ℕ) → Type 0
-Stands v b o = (v ≡ Shift → b ≡ true → IsSome o) × (v ≡ Plain → o ≡ None)
+Stands v b o = ((d : ℕ) → v ≡ Shift d → b ≡ true → IsSome o) × (v ≡ Plain → o ≡ None)
 
 stands_from : (v : Via) (b : Bool) (o : Option (List ℕ)) → initial_stands v b (is_some o) ≡ true → Stands v b o
-stands_from Plain b None h = (λ e. cc, λ e. refl)
+stands_from Plain b None h = (λ d e. cc, λ e. refl)
 stands_from Plain b (Some t) h = absurd (true≢false (sym h))
-stands_from Shift true o h = (λ e f. h, λ e. cc)
-stands_from Shift false o h = (λ e f. absurd (true≢false (sym f)), λ e. cc)
-stands_from Weak b o h = (λ e. cc, λ e. cc)
+stands_from (Shift d) true o h = (λ n e f. h, λ e. cc)
+stands_from (Shift d) false o h = (λ n e f. absurd (true≢false (sym f)), λ e. cc)
+stands_from Weak b o h = (λ d e. cc, λ e. cc)
 
 from_stands : (v : Via) (b : Bool) (o : Option (List ℕ)) → Stands v b o → initial_stands v b (is_some o) ≡ true
 from_stands Plain b None h = refl
 from_stands Plain b (Some t) h = let e : Some t ≡ None = h.1 refl in cc
-from_stands Shift true o h = h.0 refl refl
-from_stands Shift false o h = refl
+from_stands (Shift d) true o h = h.0 d refl refl
+from_stands (Shift d) false o h = refl
 from_stands Weak b o h = refl
 
 pub initials_from : (P : Plan) → has_initial_values P ≡ true → HasInitialValues P
@@ -347,19 +366,19 @@ from_triggers TimeBased b h = not_from_false b (h.0 refl)
 from_triggers EventBased b h = h.1 refl
 from_triggers Hybrid b h = refl
 
-bools_from : (a b : Bool) → same_bool a b ≡ true → a ≡ b
+pub bools_from : (a b : Bool) → same_bool a b ≡ true → a ≡ b
 bools_from true b h = sym h
 bools_from false b h = sym (not-true b h)
 
-from_bools : (a b : Bool) → a ≡ b → same_bool a b ≡ true
+pub from_bools : (a b : Bool) → a ≡ b → same_bool a b ≡ true
 from_bools true b h = sym h
 from_bools false b h = not_from_false b (sym h)
 
-implies_at : (a b : Bool) → implies a b ≡ true → a ≡ true → b ≡ true
+pub implies_at : (a b : Bool) → implies a b ≡ true → a ≡ true → b ≡ true
 implies_at true b h e = h
 implies_at false b h e = absurd (true≢false (sym e))
 
-at_implies : (a b : Bool) → (a ≡ true → b ≡ true) → implies a b ≡ true
+pub at_implies : (a b : Bool) → (a ≡ true → b ≡ true) → implies a b ≡ true
 at_implies true b h = h refl
 at_implies false b h = refl
 

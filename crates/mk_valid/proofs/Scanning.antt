@@ -1,18 +1,16 @@
 -- A tree's text nests as the tree does.
-use Rattle.std.proofs.Common.{◌≡◌, ◌≢◌, ℕ, zero, suc, ◌+◌, ◌-◌, ◌/◌, ◌%◌, ◌<◌, ◌≤◌, ℤ, pos, negsuc, Bool, true, false, cond, ◌||◌, List, [], ◌∷◌, ◌++◌, map, flat_map, fold, max, codes, refl, sym, ap, ◌∙◌, subst, arith, ◌==◌, nat_lt, if◌then◌else◌}
+use Rattle.std.proofs.Common.{◌≡◌, ℕ, zero, suc, ◌+◌, ◌-◌, ◌/◌, ◌%◌, ◌<◌, ◌≤◌, ℤ, pos, negsuc, Bool, true, false, cond, List, [], ◌∷◌, ◌++◌, map, flat_map, fold, max, codes, refl, sym, ap, ◌∙◌, subst, arith, ◌==◌, nat_lt, if◌then◌else◌}
 use Rattle.std.proofs.lemmas.List.Sums.{fold-append}
 use Rattle.std.specs.List.{join_with_byte}
 use Rattle.std.specs.Fmt.{decimal, signed_decimal, digits, digits_onto, digit_glyph}
-use Rattle.mk_base.specs.declared.json.Json as j
-use Rattle.mk_base.specs.declared.json.Json.{Json, Json-F, roll-Json, map-Json, ind-Json, fold-roll-Json, fold-Json}
-use Rattle.mk_base.specs.Folds.{folded}
+use Rattle.mk_base.specs.declared.json.Json.{Json, Json-F, roll-Json, map-Json, ind-Json, fold-roll-Json}
 use Rattle.mk_base.specs.Trees.{nesting}
 use Rattle.mk_base.specs.Texts.{text_of, quoted, list_text, object_text}
 use Rattle.mk_base.proofs.FoldsAgree.{folded_is}
 use Rattle.mk_valid.specs.declared.nesting.Place.{Place}
-use Rattle.mk_valid.specs.declared.nesting.Place.TheVariants.{Outside, Quoted, Escaped}
+use Rattle.mk_valid.specs.declared.nesting.Place.TheVariants.{Outside, Quoted}
 use Rattle.mk_valid.specs.declared.nesting.Scan.{Scan}
-use Rattle.mk_valid.specs.Nesting.{place_after, is_opening, is_closing, depth_after, scanned, nesting_of}
+use Rattle.mk_valid.specs.Nesting.{is_opening, is_closing, scanned, nesting_of}
 
 abbrev at : Place → ℕ → ℕ → Scan
 at p d m = record { place = p; depth = d; most = m }

@@ -1,3 +1,4 @@
 pub mod FirstBad
+pub mod Marks
 pub mod Nesting
 pub mod Tests

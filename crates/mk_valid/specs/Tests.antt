@@ -1,5 +1,5 @@
 -- The five parts of a valid plan as tests, and the first that fails.
-use Rattle.std.specs.Prelude.{◌≡◌, ℕ, ◌+◌, ℤ, pos, int_le, Bool, true, false, not, ◌&&◌, ◌||◌, List, [], ◌∷◌, length, count_by, Option, Some, None, is_some, option_map, unwrap_or, ◌==◌, nat_le, nat_lt, codes, if◌then◌else◌}
+use Rattle.std.specs.Prelude.{ℕ, ℤ, pos, int_le, Bool, true, false, not, ◌&&◌, ◌||◌, List, [], ◌∷◌, length, count_by, Option, Some, None, is_some, option_map, unwrap_or, ◌==◌, nat_le, nat_lt, codes, if◌then◌else◌}
 use Rattle.std.specs.List.{list_all, range_with_len}
 use Rattle.mk_base.specs.declared.SimKind.{SimKind}
 use Rattle.mk_base.specs.declared.SimKind.TheVariants.{TimeBased, EventBased, Hybrid}
@@ -9,7 +9,6 @@ use Rattle.mk_base.specs.Lists.{same_text}
 use Rattle.mk_base.specs.Trees.{value_depth}
 use Rattle.mk_plan.specs.declared.Plan.{Plan}
 use Rattle.mk_plan.specs.declared.PlanSim.{PlanSim}
-use Rattle.mk_plan.specs.declared.PlanModel.{PlanModel}
 use Rattle.mk_plan.specs.declared.PlanEntity.{PlanEntity}
 use Rattle.mk_plan.specs.declared.Conn.{Conn}
 use Rattle.mk_plan.specs.declared.AsyncPair.{AsyncPair}
@@ -50,8 +49,14 @@ models_fit P = list_all (λ i. nat_le (models_of P i) 10000) (range_with_len 0 (
 abbrev pub initial_fits : Option (List ℕ) → Bool
 initial_fits o = unwrap_or (option_map (λ t. nat_le (nesting_of t) value_depth) o) true
 
+-- a time shift is by 1 to 1,000,000 times
+abbrev pub width_fits : Via → Bool
+width_fits Plain = true
+width_fits (Shift width) = nat_le 1 width && nat_le width 1000000
+width_fits Weak = true
+
 abbrev pub is_within_limits : Plan → Bool
-is_within_limits P = numbers_fit P && sizes_fit P && list_all sim_fits P.sims && models_fit P && list_all (λ c. initial_fits c.initial) P.conns
+is_within_limits P = numbers_fit P && sizes_fit P && list_all sim_fits P.sims && models_fit P && list_all (λ c. initial_fits c.initial) P.conns && list_all (λ c. width_fits c.via) P.conns
 
 abbrev pub entity_refers : Plan → PlanEntity → Bool
 entity_refers P n = nat_lt n.model (length P.models) && list_all (λ (r : ℕ). nat_lt r (length P.entities)) n.related
@@ -94,7 +99,7 @@ ranked P r = count_by (λ s. s.rank == r) P.sims
 
 abbrev pub is_plain : Via → Bool
 is_plain Plain = true
-is_plain Shift = false
+is_plain (Shift width) = false
 is_plain Weak = false
 
 -- a plain connection goes to a higher rank
@@ -117,7 +122,7 @@ has_one_connection_each P = all_apart (λ c d. not (same_way c d)) P.conns
 -- a time-shifted persistent connection has an initial value, a plain one has none
 abbrev pub initial_stands : Via → Bool → Bool → Bool
 initial_stands Plain persistent given = not given
-initial_stands Shift persistent given = implies persistent given
+initial_stands (Shift width) persistent given = implies persistent given
 initial_stands Weak persistent given = true
 
 abbrev pub has_initial_values : Plan → Bool

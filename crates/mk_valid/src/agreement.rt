@@ -1,83 +1,74 @@
-ghost use Rattle.std.specs.Prelude.{◌≡◌, not};
-ghost use Rattle.std.specs.List.{list_all};
+// What holds between each two connections: the marks of both are compared where they stand side by side in order.
+ghost use Rattle.std.specs.Prelude.{◌≡◌, map, IfOk};
 ghost use Rattle.mk_base.specs.Lists.{same_text};
-ghost use Rattle.mk_valid.specs.Tests.{all_apart, implies, same_bool, same_way, same_source, same_target, has_one_connection_each, sources_agree, targets_agree};
+ghost use Rattle.mk_valid.specs.Marks.{label_of, differ, agree, differ_by, agree_by, all_next};
+ghost use Rattle.mk_valid.specs.Tests.{all_apart, has_one_connection_each, sources_agree, targets_agree};
 
-use mk_plan::{Conn, Plan};
+use crate::marks::{Mark, sort, sources, targets, ways};
+use mk_base::Mem;
+use mk_plan::Plan;
+use std::alloc::Global;
 
-fn same_way(one: &Conn, other: &Conn) -> bool
-    ensures { result ≡ same_way one.now other.now }
+pub(crate) fn has_one_connection_each(alloc: Global, plan: &Plan) -> Result<bool, Mem>
+    ensures { IfOk result (λ holds. holds ≡ has_one_connection_each plan.now) }
 {
-    one.from == other.from && one.to == other.to && one.to_attr.bytes() == other.to_attr.bytes()
+    Ok(are_apart(ways(alloc, plan)?))
 }
 
-fn goes_alone(one: &Conn, later: &[Conn]) -> bool
-    ensures { result ≡ list_all (λ d. not (same_way one.now d)) later.now }
+pub(crate) fn sources_agree(alloc: Global, plan: &Plan) -> Result<bool, Mem>
+    ensures { IfOk result (λ holds. holds ≡ sources_agree plan.now) }
 {
-    later.iter().all(|other| !same_way(one, other))
+    Ok(do_agree(sources(alloc, plan)?))
 }
 
-pub(crate) fn has_one_connection_each(plan: &Plan) -> bool
-    ensures { result ≡ has_one_connection_each plan.now }
+pub(crate) fn targets_agree(alloc: Global, plan: &Plan) -> Result<bool, Mem>
+    ensures { IfOk result (λ holds. holds ≡ targets_agree plan.now) }
 {
-    let mut left = plan.conns.as_slice();
-    'pairs: while let Some((one, later)) = left.split_first() {
-        if !goes_alone(one, later) {
-            return false;
-        }
-        left = later;
-    }
-    true
+    Ok(do_agree(targets(alloc, plan)?))
 }
 
-fn agrees_as_source(one: &Conn, other: &Conn) -> bool
-    ensures { result ≡ implies (same_source one.now other.now) (same_bool one.now.persistent other.now.persistent) }
+// Whether no two marks have the same numbers and text.
+pub(crate) fn are_apart(mut marks: Vec<Mark>) -> bool
+    ensures { result ≡ all_apart differ (map label_of marks.entry.items) }
 {
-    let same = one.from == other.from && one.from_attr.bytes() == other.from_attr.bytes();
-    !same || one.persistent == other.persistent
+    sort(&mut marks);
+    next_differ(marks.as_slice())
 }
 
-fn agrees_with_sources(one: &Conn, later: &[Conn]) -> bool
-    ensures { result ≡ list_all (λ d. implies (same_source one.now d) (same_bool one.now.persistent d.persistent)) later.now }
+// Whether each two marks with the same numbers and text have the same flag.
+fn do_agree(mut marks: Vec<Mark>) -> bool
+    ensures { result ≡ all_apart agree (map label_of marks.entry.items) }
 {
-    later.iter().all(|other| agrees_as_source(one, other))
+    sort(&mut marks);
+    next_agree(marks.as_slice())
 }
 
-pub(crate) fn sources_agree(plan: &Plan) -> bool
-    ensures { result ≡ sources_agree plan.now }
+fn next_differ(marks: &[Mark]) -> bool
+    ensures { result ≡ all_next differ_by marks.now }
 {
-    let mut left = plan.conns.as_slice();
-    'pairs: while let Some((one, later)) = left.split_first() {
-        if !agrees_with_sources(one, later) {
-            return false;
-        }
-        left = later;
-    }
-    true
+    marks.is_sorted_by(|one, next| differ(one, next))
 }
 
-fn agrees_as_target(one: &Conn, other: &Conn) -> bool
-    ensures { result ≡ implies (same_target one.now other.now) (same_bool one.now.triggering other.now.triggering) }
+fn next_agree(marks: &[Mark]) -> bool
+    ensures { result ≡ all_next agree_by marks.now }
 {
-    let same = one.to == other.to && one.to_attr.bytes() == other.to_attr.bytes();
-    !same || one.triggering == other.triggering
+    marks.is_sorted_by(|one, next| agree(one, next))
 }
 
-fn agrees_with_targets(one: &Conn, later: &[Conn]) -> bool
-    ensures { result ≡ list_all (λ d. implies (same_target one.now d) (same_bool one.now.triggering d.triggering)) later.now }
+fn are_alike(one: &Mark, other: &Mark) -> bool
+    ensures { result ≡ same_text (label_of one.now).key (label_of other.now).key }
 {
-    later.iter().all(|other| agrees_as_target(one, other))
+    one.first == other.first && (one.second == other.second && one.text == other.text)
 }
 
-pub(crate) fn targets_agree(plan: &Plan) -> bool
-    ensures { result ≡ targets_agree plan.now }
+fn differ(one: &Mark, other: &Mark) -> bool
+    ensures { result ≡ differ_by one.now other.now }
 {
-    let mut left = plan.conns.as_slice();
-    'pairs: while let Some((one, later)) = left.split_first() {
-        if !agrees_with_targets(one, later) {
-            return false;
-        }
-        left = later;
-    }
-    true
+    !are_alike(one, other)
+}
+
+fn agree(one: &Mark, other: &Mark) -> bool
+    ensures { result ≡ agree_by one.now other.now }
+{
+    !are_alike(one, other) || one.flag == other.flag
 }

@@ -1,18 +1,20 @@
-ghost use Rattle.std.specs.Prelude.{◌≡◌, is_some};
+// What each connection has to be, by its kind and its ends.
+ghost use Rattle.std.specs.Prelude.{◌≡◌, is_some, IfOk};
 ghost use Rattle.std.specs.List.{list_all};
 ghost use Rattle.mk_valid.specs.Tests.{initial_stands, persistence_fits, triggering_fits, kinds_fit, has_initial_values, has_kinds_of_connections};
 
 use crate::agreement::{sources_agree, targets_agree};
 use crate::parts::{kind_of, owner};
-use mk_base::{SimKind, Via};
+use mk_base::{Mem, SimKind, Via};
 use mk_plan::{Conn, Plan};
+use std::alloc::Global;
 
 fn initial_stands(conn: &Conn) -> bool
     ensures { result ≡ initial_stands conn.now.via conn.now.persistent (is_some conn.now.initial) }
 {
     match conn.via {
         Via::Plain => conn.initial.is_none(),
-        Via::Shift => !conn.persistent || conn.initial.is_some(),
+        Via::Shift(_) => !conn.persistent || conn.initial.is_some(),
         Via::Weak => true,
     }
 }
@@ -64,8 +66,11 @@ fn all_kinds_fit(plan: &Plan) -> bool
         .all(|conn| kinds_fit(plan, conn))
 }
 
-pub(crate) fn has_kinds_of_connections(plan: &Plan) -> bool
-    ensures { result ≡ has_kinds_of_connections plan.now }
+pub(crate) fn has_kinds_of_connections(alloc: Global, plan: &Plan) -> Result<bool, Mem>
+    ensures { IfOk result (λ holds. holds ≡ has_kinds_of_connections plan.now) }
 {
-    all_kinds_fit(plan) && sources_agree(plan) && targets_agree(plan)
+    if !all_kinds_fit(plan) || !sources_agree(alloc, plan)? {
+        return Ok(false);
+    }
+    targets_agree(alloc, plan)
 }

@@ -10,6 +10,7 @@ ghost use Rattle.mk_valid.specs.Tests.{first_bad, is_well_formed};
 mod agreement;
 mod connections;
 mod limits;
+mod marks;
 mod names;
 mod nesting;
 mod parts;
@@ -51,31 +52,35 @@ impl From<Mem> for PlanFault {
     }
 }
 
-fn is_well_formed(plan: &Plan) -> bool
-    ensures value { result ≡ is_well_formed plan.now }
-    ensures datums { OnTrue result (HasDatums plan.now) }
+fn is_well_formed(alloc: Global, plan: &Plan) -> Result<bool, Mem>
+    ensures value { IfOk result (λ holds. holds ≡ is_well_formed plan.now) }
+    ensures datums { IfOk result (λ holds. OnTrue holds (HasDatums plan.now)) }
 {
-    is_within_limits(plan) && refers_inside(plan) && has_distinct_names(plan)
+    if is_within_limits(plan) && refers_inside(plan) {
+        has_distinct_names(alloc, plan)
+    } else {
+        Ok(false)
+    }
 }
 
 // The number of the first part that fails.
-fn first_bad(_alloc: Global, plan: &Plan) -> Result<Option<u8>, Mem>
+fn first_bad(alloc: Global, plan: &Plan) -> Result<Option<u8>, Mem>
     ensures value { IfOk result (λ o. o ≡ first_bad plan.now) }
     ensures datums { OnOk result (OnTrue (is_well_formed plan.now) (HasDatums plan.now)) }
 {
-    if !is_well_formed(plan) {
+    if !is_well_formed(alloc, plan)? {
         return Ok(Some(1));
     }
     if !has_ranks(plan) {
         return Ok(Some(2));
     }
-    if !has_one_connection_each(plan) {
+    if !has_one_connection_each(alloc, plan)? {
         return Ok(Some(3));
     }
     if !has_initial_values(plan) {
         return Ok(Some(4));
     }
-    if !has_kinds_of_connections(plan) {
+    if !has_kinds_of_connections(alloc, plan)? {
         return Ok(Some(5));
     }
     Ok(None)

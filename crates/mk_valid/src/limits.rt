@@ -2,12 +2,12 @@ ghost use Rattle.std.specs.Prelude.{◌≡◌, IfSome};
 ghost use Rattle.std.specs.Bool.{OnTrue};
 ghost use Rattle.mk_base.specs.Data.{IsDatumText};
 ghost use Rattle.mk_valid.specs.FirstBad.{HasDatums};
-ghost use Rattle.mk_valid.specs.Tests.{numbers_fit, sizes_fit, event_fits, sim_fits, models_of, models_fit, initial_fits, is_within_limits};
+ghost use Rattle.mk_valid.specs.Tests.{numbers_fit, sizes_fit, event_fits, sim_fits, models_of, models_fit, initial_fits, width_fits, is_within_limits};
 ghost use Rattle.std.specs.List.{list_all};
 
 use crate::nesting::text_nesting;
-use mk_base::Datum;
-use mk_plan::{Plan, PlanSim};
+use mk_base::{Datum, Via};
+use mk_plan::{Conn, Plan, PlanSim};
 
 fn numbers_fit(plan: &Plan) -> bool
     ensures { result ≡ numbers_fit plan.now }
@@ -91,9 +91,29 @@ fn initials_fit(plan: &Plan) -> bool
     true
 }
 
+fn width_fits(conn: &Conn) -> bool
+    ensures { result ≡ width_fits conn.now.via }
+{
+    match conn.via {
+        Via::Plain | Via::Weak => true,
+        Via::Shift(width) => 1 <= width && width <= 1_000_000,
+    }
+}
+
+fn widths_fit(plan: &Plan) -> bool
+    ensures { result ≡ list_all (λ c. width_fits c.via) plan.now.conns }
+{
+    plan.conns.as_slice().iter().all(width_fits)
+}
+
 pub(crate) fn is_within_limits(plan: &Plan) -> bool
     ensures value { result ≡ is_within_limits plan.now }
     ensures datums { OnTrue result (HasDatums plan.now) }
 {
-    numbers_fit(plan) && sizes_fit(plan) && sims_fit(plan) && models_fit(plan) && initials_fit(plan)
+    numbers_fit(plan)
+        && sizes_fit(plan)
+        && sims_fit(plan)
+        && models_fit(plan)
+        && initials_fit(plan)
+        && widths_fit(plan)
 }

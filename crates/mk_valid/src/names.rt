@@ -1,11 +1,14 @@
-ghost use Rattle.std.specs.Prelude.{◌≡◌, ◌+◌, ◌-◌, ◌<◌, ◌&&◌, ◌==◌, not, length};
-ghost use Rattle.std.specs.List.{list_all, range_with_len};
+// The ids of simulators and of entities.
+ghost use Rattle.std.specs.Prelude.{◌≡◌, not, IfOk};
+ghost use Rattle.std.specs.List.{list_all};
 ghost use Rattle.mk_base.specs.Lists.{same_text};
-ghost use Rattle.mk_plan.specs.Plans.{owner, eid_of};
-ghost use Rattle.mk_valid.specs.Tests.{all_apart, has_no_dot, is_eid, sims_apart, eids_differ, eids_apart, has_distinct_names};
+ghost use Rattle.mk_valid.specs.Tests.{all_apart, has_no_dot, is_eid, sims_apart, eids_apart, has_distinct_names};
 
-use crate::parts::owner;
+use crate::agreement::are_apart;
+use crate::marks::names;
+use mk_base::Mem;
 use mk_plan::{Plan, PlanSim};
+use std::alloc::Global;
 
 fn is_apart(sim: &PlanSim, later: &[PlanSim]) -> bool
     ensures { result ≡ list_all (λ t. not (same_text sim.now.id t.id)) later.now }
@@ -56,42 +59,18 @@ fn are_named(plan: &Plan) -> bool
         .all(|entity| is_eid(entity.eid.bytes()))
 }
 
-fn eid_of(plan: &Plan, entity: usize) -> &[u8]
-    ensures { result.now ≡ eid_of plan.now entity }
+fn eids_apart(alloc: Global, plan: &Plan) -> Result<bool, Mem>
+    ensures { IfOk result (λ holds. holds ≡ eids_apart plan.now) }
 {
-    match plan.entities.as_slice().get(entity) {
-        None => b"".as_slice(),
-        Some(entity) => entity.eid.bytes(),
+    Ok(are_apart(names(alloc, plan)?))
+}
+
+pub(crate) fn has_distinct_names(alloc: Global, plan: &Plan) -> Result<bool, Mem>
+    ensures { IfOk result (λ holds. holds ≡ has_distinct_names plan.now) }
+{
+    if sims_apart(plan) && have_no_dots(plan) && are_named(plan) {
+        eids_apart(alloc, plan)
+    } else {
+        Ok(false)
     }
-}
-
-fn eids_differ(plan: &Plan, one: usize, other: usize) -> bool
-    ensures { result ≡ eids_differ plan.now one other }
-{
-    !(owner(plan, one) == owner(plan, other) && eid_of(plan, one) == eid_of(plan, other))
-}
-
-fn differs_from_later(plan: &Plan, one: usize) -> bool
-    requires { one < length plan.now.entities }
-    ensures { result ≡ list_all (eids_differ plan.now one) (range_with_len (one + 1) (length plan.now.entities - (one + 1))) }
-{
-    let count = plan.entities.len();
-    (one + 1..count).all(|other| eids_differ(plan, one, other))
-}
-
-fn eids_apart(plan: &Plan) -> bool
-    ensures { result ≡ eids_apart plan.now }
-{
-    for one in 0..plan.entities.len() {
-        if !differs_from_later(plan, one) {
-            return false;
-        }
-    }
-    true
-}
-
-pub(crate) fn has_distinct_names(plan: &Plan) -> bool
-    ensures { result ≡ has_distinct_names plan.now }
-{
-    sims_apart(plan) && have_no_dots(plan) && are_named(plan) && eids_apart(plan)
 }

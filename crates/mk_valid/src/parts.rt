@@ -1,5 +1,5 @@
 ghost use Rattle.std.specs.Prelude.{◌≡◌};
-ghost use Rattle.mk_plan.specs.Plans.{owner, kind_of, rank_of};
+ghost use Rattle.mk_plan.specs.Plans.{owner, eid_of, kind_of, rank_of};
 
 use mk_base::SimKind;
 use mk_plan::Plan;
@@ -32,5 +32,15 @@ pub(crate) fn rank_of(plan: &Plan, sim: usize) -> u32
     match plan.sims.as_slice().get(sim) {
         None => 0,
         Some(sim) => sim.rank,
+    }
+}
+
+// The name of an entity, empty where the plan doesn't have it.
+pub(crate) fn eid_of(plan: &Plan, entity: usize) -> &[u8]
+    ensures { result.now ≡ eid_of plan.now entity }
+{
+    match plan.entities.as_slice().get(entity) {
+        None => b"".as_slice(),
+        Some(entity) => entity.eid.bytes(),
     }
 }

@@ -22,7 +22,7 @@ fn conn_rises(plan: &Plan, conn: &Conn) -> bool
     match conn.via {
         Via::Plain => rank_of(plan, owner(plan, conn.from as usize))
             < rank_of(plan, owner(plan, conn.to as usize)),
-        Via::Shift | Via::Weak => true,
+        Via::Shift(_) | Via::Weak => true,
     }
 }
 

@@ -107,6 +107,20 @@ fn each_part_is_told_by_its_number(rt: HostRuntime) -> Result<(), Fail> {
     Ok(())
 }
 
+#[test]
+fn a_time_shift_has_a_width_within_its_limits(rt: HostRuntime) -> Result<(), Fail> {
+    let alloc = rt.alloc();
+    let rows = [(0, 1), (1, 0), (2, 0), (1_000_000, 0), (1_000_001, 1)];
+    for (width, part) in rows {
+        let mut conns = List::new(alloc);
+        let mut shifted = conn(alloc, "in", true, Some(seven(alloc)?))?;
+        shifted.via = Via::Shift(width);
+        conns.push(shifted)?;
+        assert_eq!(rt; told(alloc, &plan_of(alloc, 7, 1, conns)?), part);
+    }
+    Ok(())
+}
+
 // As many lists within one another around a text that holds brackets, an escaped quote and a backslash.
 fn nested(alloc: Global, depth: usize) -> Result<Vec<u8>, Mem> {
     let mut text = Vec::new(alloc);

@@ -1,4 +1,4 @@
-use Rattle.std.proofs.Common.{◌≡◌, ℕ, Option, Some, None, sym, ◌∙◌}
+use Rattle.std.proofs.Common.{◌≡◌, Some, None, sym, ◌∙◌}
 use Rattle.std.proofs.lemmas.Bool.{OnTrue_at}
 use Rattle.mk_valid.specs.Tests.{first_bad}
 use Rattle.mk_valid.proofs.Meaning.{valid_where, bad_is}

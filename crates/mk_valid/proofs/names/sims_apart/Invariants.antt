@@ -1,6 +1,6 @@
 use Rattle.std.proofs.Common.{◌≡◌, not, length}
 use Rattle.mk_base.specs.Lists.{same_text}
-use Rattle.mk_valid.specs.Tests.{all_apart, implies, same_bool, same_way, same_source, same_target}
+use Rattle.mk_valid.specs.Tests.{all_apart}
 use Rattle.mk_valid.proofs.names.sims_apart.Given as goal
 
 abbrev pub invariant-pairs : goal.invariant-pairs

@@ -1,4 +1,4 @@
-use Rattle.std.proofs.Common.{◌≡◌, ◌≤◌, ℕ, pos, List, [], ◌∷◌, refl, sym, subst, arith, true}
+use Rattle.std.proofs.Common.{◌≡◌, ◌≤◌, pos, [], ◌∷◌, refl, sym, subst, arith}
 use Rattle.mk_base.specs.declared.json.Json as j
 use Rattle.mk_base.specs.declared.json.Json.{Json}
 use Rattle.mk_base.specs.Data.{IsDatumText}
