@@ -8,7 +8,7 @@ use Rattle.mk_base.specs.Lists.{IsIn}
 use Rattle.mk_base.specs.Trees.{whole_in}
 use Rattle.std.specs.List.{cons_option}
 use Rattle.mk_base.proofs.Lists.{none_some, below_get, in_each, in_back, filter_map_append}
-use Rattle.mk_buffers.specs.Held.{Held, Holds}
+use Rattle.mk_delivered.specs.Held.{Held, Holds}
 use Rattle.mk_plan.specs.declared.Plan.{Plan}
 use Rattle.mk_plan.specs.declared.Message.{Message}
 use Rattle.mk_plan.specs.declared.Message.TheVariants.{Success}

@@ -16,7 +16,7 @@ use Rattle.mk_plan.specs.Due.{is_within, due_times}
 use Rattle.mk_plan.specs.Inputs.{is_since}
 use Rattle.mk_plan.specs.Sequential.{no_acts}
 use Rattle.mk_plan.specs.Journals.{empty_view}
-use Rattle.mk_buffers.proofs.Holding.{new_holds}
+use Rattle.mk_delivered.proofs.Holding.{new_holds}
 use Rattle.mk_sched.specs.declared.sims.Sim.{Sim}
 use Rattle.mk_sched.specs.declared.sims.Kept.{Kept}
 use Rattle.mk_sched.specs.Built.{IsBuiltPlan}

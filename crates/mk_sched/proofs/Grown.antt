@@ -22,8 +22,8 @@ use Rattle.mk_plan.specs.Acts.{Act, Family, asks, outputs_in, made}
 use Rattle.mk_plan.specs.Asks.{set_values, sets_of}
 use Rattle.mk_plan.specs.Deliveries.{Timed, Gift, supply, gifts_of}
 use Rattle.mk_plan.specs.Sequential.{grown}
-use Rattle.mk_buffers.specs.Held.{Held, Holds, with_output}
-use Rattle.mk_buffers.proofs.Holding.{given_all, given_one, given_nothing}
+use Rattle.mk_delivered.specs.Held.{Held, Holds, with_output}
+use Rattle.mk_delivered.proofs.Holding.{given_all, given_one, given_nothing}
 use Rattle.mk_confluence.proofs.LateActs.{sets_lent}
 use Rattle.mk_sched.specs.Built.{IsBuiltPlan}
 use Rattle.mk_sched.specs.Moves.{HasGained, gained, data_act, made_at}
@@ -44,8 +44,8 @@ module _ (P : Plan) (built : IsBuiltPlan P) where
   -- without asynchronous pairs nothing is set
   pub no_gifts : (e : ℕ) (acts : List Act) → gifts_of P e acts ≡ []
   no_gifts e acts = empty_is (gifts_of P e acts) (λ g m.
-      let a = in_flat_map (λ a. map (λ w. let g : Gift = record { at = delayed a.at Shift; given = w } in g) (filter (λ w. same_text w.source (full_id P e)) (set_values P (owner P e) a))) g acts m in
-      let w = in_map (λ (w : SetValue). let g : Gift = record { at = delayed a.0.at Shift; given = w } in g) g (filter (λ w. same_text w.source (full_id P e)) (set_values P (owner P e) a.0)) a.2 in
+      let a = in_flat_map (λ a. map (λ w. let g : Gift = record { at = delayed a.at (Shift 1); given = w } in g) (filter (λ w. same_text w.source (full_id P e)) (set_values P (owner P e) a))) g acts m in
+      let w = in_map (λ (w : SetValue). let g : Gift = record { at = delayed a.0.at (Shift 1); given = w } in g) g (filter (λ w. same_text w.source (full_id P e)) (set_values P (owner P e) a.0)) a.2 in
       no_sets (owner P e) a.0 w.0 (in_filter (λ (w : SetValue). same_text w.source (full_id P e)) w.0 (set_values P (owner P e) a.0) w.1).0)
 
 -- what a turn gives follows from its data and its time

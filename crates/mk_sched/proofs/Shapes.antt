@@ -25,7 +25,7 @@ kind_is Hybrid h = absurd (true≢false (sym h))
 
 via_is : (v : Via) → plain_via v ≡ true → v ≡ Plain
 via_is Plain h = refl
-via_is Shift h = absurd (true≢false (sym h))
+via_is (Shift d) h = absurd (true≢false (sym h))
 via_is Weak h = absurd (true≢false (sym h))
 
 empty_is : {X : Type 0} (xs : List X) → (length xs == 0) ≡ true → xs ≡ []

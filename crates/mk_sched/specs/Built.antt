@@ -24,7 +24,7 @@ is_built_sim s = is_time_based s.kind && (length s.initial == 0)
 
 abbrev pub plain_via : Via → Bool
 plain_via Plain = true
-plain_via Shift = false
+plain_via (Shift width) = false
 plain_via Weak = false
 
 -- the connection is plain

@@ -19,7 +19,7 @@ use Rattle.mk_plan.specs.Sequential.{ids_used, last_time, messages_in}
 use Rattle.mk_plan.specs.Journals.{View, OpenTurn, messages_of, view}
 use Rattle.mk_plan.specs.Ready.{step_at}
 use Rattle.mk_plan.specs.Orderly.{IsOrderly}
-use Rattle.mk_buffers.specs.Held.{Holds}
+use Rattle.mk_delivered.specs.Held.{Holds}
 use Rattle.mk_sched.specs.declared.sims.Sim.{Sim}
 use Rattle.mk_sched.specs.declared.sims.Kept.{Kept}
 use Rattle.mk_sched.specs.declared.faults.Ended.{Ended}

@@ -23,7 +23,7 @@ use Rattle.mk_plan.specs.Turns.{wanted, wrong, next_place, time_in}
 use Rattle.mk_plan.specs.Acts.{Act, content_of, made, output}
 use Rattle.mk_plan.specs.Deliveries.{Supply, Timed}
 use Rattle.mk_plan.specs.Inputs.{inputs, is_since}
-use Rattle.mk_buffers.specs.Held.{Held, Holds}
+use Rattle.mk_delivered.specs.Held.{Held, Holds}
 use Rattle.mk_sched.specs.declared.sims.Sim.{Sim}
 use Rattle.mk_sched.specs.declared.sims.Kept.{Kept}
 use Rattle.mk_sched.specs.declared.faults.CoreFault.{CoreFault}

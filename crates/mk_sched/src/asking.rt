@@ -1,10 +1,11 @@
-ghost use Rattle.std.specs.Prelude.{◌≡◌, ◌<◌, ◌^◌, ◌∷◌, ◌++◌, [], length, IfOk, IfErr, Some, slice_get};
+ghost use Rattle.std.specs.Prelude.{◌≡◌, ◌<◌, ◌^◌, ◌∷◌, ◌++◌, [], length, All, IfOk, IfErr, Some, slice_get};
+ghost use Rattle.mk_base.specs.Tiers.{HasWidth};
 ghost use Rattle.mk_plan.specs.declared.Entry.TheVariants.{Sent};
 ghost use Rattle.mk_plan.specs.declared.Item.TheVariants.{Step};
 ghost use Rattle.mk_plan.specs.Deliveries.{Supply};
 ghost use Rattle.mk_plan.specs.Inputs.{inputs};
 ghost use Rattle.mk_plan.specs.Plans.{RefersInside};
-ghost use Rattle.mk_buffers.specs.Held.{Holds};
+ghost use Rattle.mk_delivered.specs.Held.{Holds};
 ghost use Rattle.mk_sched.specs.Steps.{begun, begun_sim, IsFirst};
 ghost use Rattle.mk_sched.specs.Moves.{AskedBy, AdvancedBy};
 
@@ -27,6 +28,7 @@ pub fn advance(
     requires dues { length kept.old.dues ≡ length kept.old.sims }
     requires of_plan { length kept.old.buffers ≡ length plan.now.conns }
     requires references { RefersInside plan.now }
+    requires widths { All (λ c. HasWidth c.via) plan.now.conns }
     ensures ok { IfOk result (λ next. AdvancedBy plan.now kept.old journal.old.entries next kept.new journal.new.entries) }
     ensures err { IfErr result (λ _. journal.new.entries ≡ journal.old.entries) }
 {
@@ -62,6 +64,7 @@ fn ask(
     requires dues { length kept.old.dues ≡ length kept.old.sims }
     requires of_plan { length kept.old.buffers ≡ length plan.now.conns }
     requires references { RefersInside plan.now }
+    requires widths { All (λ c. HasWidth c.via) plan.now.conns }
     ensures ok { IfOk result (λ _. AskedBy plan.now kept.old journal.old.entries sim at kept.new journal.new.entries) }
     ensures err { IfErr result (λ _. journal.new.entries ≡ journal.old.entries) }
 {

@@ -15,7 +15,7 @@ use crate::ready::place_in;
 use crate::sims::{Kept, Sim, is_within};
 use crate::taking::take;
 use mk_base::{List, Mem, SimNo, Tier};
-use mk_buffers::Buffers;
+use mk_delivered::Buffers;
 use mk_plan::{Journal, Message, Place, Plan};
 use mk_turns::wanted;
 use std::alloc::Global;

@@ -59,7 +59,7 @@ fn is_plain(conn: &Conn) -> bool
 {
     match conn.via {
         Via::Plain => true,
-        Via::Shift => false,
+        Via::Shift(_) => false,
         Via::Weak => false,
     }
 }

@@ -6,11 +6,11 @@ ghost use Rattle.mk_base.specs.Trees.{member, is_in_range, is_datum, whole_in};
 ghost use Rattle.mk_plan.specs.Plans.{RefersInside, owner, eid_of};
 ghost use Rattle.mk_plan.specs.Turns.{wanted, wrong_data, time_in};
 ghost use Rattle.mk_base.specs.declared.tier.Tier.{Tier};
-ghost use Rattle.mk_buffers.specs.Held.{Held};
+ghost use Rattle.mk_delivered.specs.Held.{Held};
 ghost use Rattle.mk_sched.specs.Moves.{HasGained, CanBeMade, HasValues, data_act, made_at};
 
 use mk_base::{Datum, Json, Mem, SimNo, Tier};
-use mk_buffers::Buffers;
+use mk_delivered::Buffers;
 use mk_json::datum;
 use mk_plan::{Conn, Plan};
 use mk_turns::{output_time, owner};

@@ -136,7 +136,7 @@ fn comes_after(at: Tier, start: Tier, via: Via) -> bool
 {
     match via {
         Via::Plain => !start.is_up_to(at),
-        Via::Shift => at.time <= start.time,
+        Via::Shift(width) => i128::from(at.time) < i128::from(start.time) + i128::from(width),
         Via::Weak => at.time < start.time || (at.time <= start.time && at.tier <= start.tier),
     }
 }

@@ -5,7 +5,7 @@ ghost use Rattle.mk_plan.specs.Ready.{least, earlier};
 ghost use Rattle.mk_sched.specs.Steps.{time_at};
 
 use mk_base::{List, Mem, Tier};
-use mk_buffers::Buffers;
+use mk_delivered::Buffers;
 use mk_plan::{Place, Plan, Want};
 use std::alloc::Global;
 

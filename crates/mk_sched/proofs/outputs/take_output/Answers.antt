@@ -1,5 +1,5 @@
 use Rattle.std.proofs.Common.{◌≡◌, ℕ, List, sym, ap, ◌∙◌}
-use Rattle.mk_buffers.specs.Held.{with_output}
+use Rattle.mk_delivered.specs.Held.{with_output}
 use Rattle.mk_sched.proofs.outputs.take_output.Goals as goal
 use Rattle.mk_base.proofs.Lists.{at_in}
 use Rattle.mk_sched.proofs.Data.{value_in_range}

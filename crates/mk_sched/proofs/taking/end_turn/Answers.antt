@@ -5,7 +5,7 @@ use Rattle.mk_plan.specs.declared.Place.{Place}
 use Rattle.mk_plan.specs.declared.Place.TheVariants.{Fetching}
 use Rattle.mk_plan.specs.Turns.{wrong, next_place}
 use Rattle.mk_plan.specs.Acts.{content_of}
-use Rattle.mk_buffers.specs.Held.{Held}
+use Rattle.mk_delivered.specs.Held.{Held}
 use Rattle.mk_sched.specs.declared.sims.Sim.{Sim}
 use Rattle.mk_sched.specs.declared.sims.Kept.{Kept}
 use Rattle.mk_sched.specs.Moves.{EndsAt, HasGained, data_act, ended}
