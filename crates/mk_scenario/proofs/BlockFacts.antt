@@ -1,15 +1,16 @@
 -- What is known of blocks that are read.
-use Rattle.std.proofs.Common.{◌≡◌, ℕ, ◌<◌, Bool, true, false, ◌&&◌, ◌||◌, List, [], map, length, Some, None, nat_lt, ◌==◌, Ok, refl, subst, sym, codes, if◌then◌else◌}
+use Rattle.std.proofs.Common.{◌≡◌, ℕ, ◌<◌, ◌≤◌, Bool, true, false, ◌&&◌, ◌||◌, List, [], map, length, Option, Some, None, is_some, IfSome, nat_lt, ◌==◌, Ok, refl, subst, sym, codes, if◌then◌else◌}
 use Rattle.std.specs.List.{before_first, after_first}
 use Rattle.std.proofs.lemmas.List.{length-map}
 use Rattle.mk_base.specs.declared.json.Json.{Json}
 use Rattle.mk_base.specs.declared.json.Json as tree
 use Rattle.mk_base.specs.declared.tier.Via.TheVariants.{Plain}
 use Rattle.mk_base.specs.Lists.{IsIn, Each}
+use Rattle.mk_base.specs.Tiers.{HasWidth}
 use Rattle.mk_base.specs.Trees.{member}
 use Rattle.mk_scenario.specs.Spelling.{spelled}
 use Rattle.mk_scenario.specs.Tests.{found, key_in}
-use Rattle.mk_scenario.specs.Keys.{required, optional, first_unknown, is_among, members_of, text, truth, values}
+use Rattle.mk_scenario.specs.Keys.{required, optional, first_unknown, is_among, members_of, text, truth, some_width, values}
 use Rattle.mk_scenario.specs.Groups.{sim_of_id}
 use Rattle.mk_scenario.specs.Places.{place_in}
 use Rattle.mk_scenario.specs.References.{has_byte, ends_with, but_last, full_id, group_ids, group_of_id, num_at, index_below, indexed, whole, place_of, size_of}
@@ -24,7 +25,8 @@ use Rattle.mk_scenario.specs.declared.blocks.Manner.{Manner}
 use Rattle.mk_scenario.specs.declared.blocks.BlockSaid.{BlockSaid}
 use Rattle.mk_scenario.specs.declared.fault.ScenarioFault.TheVariants.{UnknownKey, UnknownGroup, OutOfRange, TwoKinds, Uneven}
 use Rattle.mk_scenario.proofs.Passing.{ok_same, passed_ok, held_ok, no_text_ok, found_ok, and_then_some, none_found}
-use Rattle.mk_scenario.proofs.KeyFacts.{left_out_values}
+use Rattle.mk_scenario.proofs.KeyFacts.{left_out_values, left_out_width}
+use Rattle.mk_scenario.proofs.Ranges.{InRange, under_range}
 use Rattle.mk_scenario.proofs.ListFacts.{empty_is, each_of_map, each_then, among_in}
 use Rattle.mk_scenario.proofs.GroupFacts.{below_chosen, place_ok, sim_of_ok}
 
@@ -64,17 +66,22 @@ module _ (sims : List (List ℕ)) (groups : List Group) (path id : List ℕ) whe
       at false false e = whole_ok p e
 
 -- which connections are delayed
-plain_is : (shifted weak : Bool) → via_of shifted weak ≡ Plain → (shifted || weak) ≡ false
-plain_is true weak e = cc
-plain_is false true e = cc
-plain_is false false e = refl
+plain_is : (width : Option ℕ) (weak : Bool) → via_of width weak ≡ Plain → (is_some width || weak) ≡ false
+plain_is (Some d) weak e = cc
+plain_is None true e = cc
+plain_is None false e = refl
 
-one_kind : (shifted weak asks : Bool) → at_most_one shifted weak asks ≡ true → asks ≡ true → via_of shifted weak ≡ Plain
-one_kind true true true one e = cc
-one_kind true false true one e = cc
-one_kind false true true one e = cc
-one_kind false false true one e = refl
-one_kind shifted weak false one e = cc
+one_kind : (width : Option ℕ) (weak asks : Bool) → at_most_one (is_some width) weak asks ≡ true → asks ≡ true → via_of width weak ≡ Plain
+one_kind (Some d) true true one e = cc
+one_kind (Some d) false true one e = cc
+one_kind None true true one e = cc
+one_kind None false true one e = refl
+one_kind width weak false one e = cc
+
+width_is : (width : Option ℕ) (weak : Bool) → IfSome width (λ d. (1 ≤ d) × (d ≤ 1000000)) → HasWidth (via_of width weak)
+width_is (Some d) weak w = w
+width_is None true w = tt
+width_is None false w = tt
 
 fed_ok : (attrs : List AttrPair) (initial : Json) → first_unfed attrs initial ≡ None → Each (λ (m : List ℕ × Json). IsIn m.0 (map (λ (p : AttrPair). p.from) attrs)) (members_of initial)
 fed_ok attrs initial e =
@@ -82,37 +89,38 @@ fed_ok attrs initial e =
     let all = none_found (is_among sources) (map (λ (m : List ℕ × Json). m.0) (members_of initial)) e in
     each_of_map (λ n. IsIn n sources) (λ (m : List ℕ × Json). m.0) (members_of initial) (each_then (λ n. is_among sources n ≡ true) (λ n. IsIn n sources) (map (λ (m : List ℕ × Json). m.0) (members_of initial)) (among_in sources) all)
 
-pub block_ok : (sims : List (List ℕ)) (groups : List Group) (path : List ℕ) (table : Json) (b : Block) → block_at sims groups path table ≡ Ok b → IsWellformedBlock (length sims) groups b
+pub block_ok : (sims : List (List ℕ)) (groups : List Group) (path : List ℕ) (table : Json) (b : Block) → InRange table → block_at sims groups path table ≡ Ok b → IsWellformedBlock (length sims) groups b
 unfolding block_at
-block_ok sims groups path table b e =
+block_ok sims groups path table b all e =
     let said = passed_ok (block_said path table) _ _ e in
     let known = no_text_ok (λ key. UnknownKey (key_in path key)) (first_unknown block_keys table) _ _ said.1 in
     let from_text = passed_ok (required (key_in path (codes "from")) text (member (codes "from") table)) _ _ known.1 in
     let to_text = passed_ok (required (key_in path (codes "to")) text (member (codes "to") table)) _ _ from_text.2 in
     let attrs = passed_ok (optional [] (key_in path (codes "attrs")) pairs (member (codes "attrs") table)) _ _ to_text.2 in
     let manner = passed_ok (manner_said path table) _ _ attrs.2 in
-    let shifted = passed_ok (optional false (key_in path (codes "time_shifted")) truth (member (codes "time_shifted") table)) _ _ manner.1 in
-    let weak = passed_ok (optional false (key_in path (codes "weak")) truth (member (codes "weak") table)) _ _ shifted.2 in
+    let width = passed_ok (optional None (key_in path (codes "time_shifted")) some_width (member (codes "time_shifted") table)) _ _ manner.1 in
+    let weak = passed_ok (optional false (key_in path (codes "weak")) truth (member (codes "weak") table)) _ _ width.2 in
     let asks = passed_ok (optional false (key_in path (codes "async_requests")) truth (member (codes "async_requests") table)) _ _ weak.2 in
     let initial = passed_ok (optional (tree.Object []) (key_in path (codes "initial_data")) values (member (codes "initial_data") table)) _ _ manner.2 in
-    let manner_is = ok_same (record { shifted = shifted.0; weak = weak.0; asks = asks.0 }) manner.0 asks.2 in
+    let manner_is = ok_same (record { width = width.0; weak = weak.0; asks = asks.0 }) manner.0 asks.2 in
     let said_is = ok_same (record { from = from_text.0; to = to_text.0; attrs = attrs.0; manner = manner.0; initial = initial.0 }) said.0 initial.2 in
     let said_so = subst (λ (s : BlockSaid). block_made sims groups path s ≡ Ok b) (sym said_is) said.2 in
     let made = subst (λ (m : Manner). block_made sims groups path (record { from = from_text.0; to = to_text.0; attrs = attrs.0; manner = m; initial = initial.0 }) ≡ Ok b) (sym manner_is) said_so in
     let from = passed_ok (place_of sims groups (key_in path (codes "from")) from_text.0) _ _ made in
     let to = passed_ok (place_of sims groups (key_in path (codes "to")) to_text.0) _ _ from.2 in
-    let kind = held_ok (TwoKinds path) (at_most_one shifted.0 weak.0 asks.0) _ _ to.2 in
-    let fits = passed_ok (initial_fits (key_in path (codes "initial_data")) (shifted.0 || weak.0) attrs.0 initial.0) _ _ kind.1 in
-    let delayed = held_ok (UnknownKey (key_in path (codes "initial_data"))) (shifted.0 || weak.0 || length (members_of initial.0) == 0) _ _ fits.1 in
+    let kind = held_ok (TwoKinds path) (at_most_one (is_some width.0) weak.0 asks.0) _ _ to.2 in
+    let fits = passed_ok (initial_fits (key_in path (codes "initial_data")) (is_some width.0 || weak.0) attrs.0 initial.0) _ _ kind.1 in
+    let delayed = held_ok (UnknownKey (key_in path (codes "initial_data"))) (is_some width.0 || weak.0 || length (members_of initial.0) == 0) _ _ fits.1 in
     let fed = no_text_ok (λ key. UnknownKey (key_in (key_in path (codes "initial_data")) key)) (first_unfed attrs.0 initial.0) _ _ delayed.1 in
     let same = ok_same initial.0 fits.0 fed.1 in
     let sides = held_ok (Uneven path (size_of groups from.0) (size_of groups to.0)) (sides_pair (size_of groups from.0) (size_of groups to.0)) _ _ fits.2 in
-    subst (IsWellformedBlock (length sims) groups) (ok_same _ b sides.1) (subst (λ (i : Json). IsWellformedBlock (length sims) groups (record { from = from.0; to = to.0; attrs = attrs.0; via = via_of shifted.0 weak.0; async_requests = asks.0; initial = i })) same (record {
+    subst (IsWellformedBlock (length sims) groups) (ok_same _ b sides.1) (subst (λ (i : Json). IsWellformedBlock (length sims) groups (record { from = from.0; to = to.0; attrs = attrs.0; via = via_of width.0 weak.0; async_requests = asks.0; initial = i })) same (record {
       from = place_of_ok sims groups (key_in path (codes "from")) from_text.0 from.0 from.1;
       to = place_of_ok sims groups (key_in path (codes "to")) to_text.0 to.0 to.1;
       sides = sides.0;
-      kind = one_kind shifted.0 weak.0 asks.0 kind.0;
-      initial = left_out_values (key_in path (codes "initial_data")) (member (codes "initial_data") table) initial.0 initial.1;
-      delayed = λ plain. empty_is (members_of initial.0) (subst (λ d. (d || length (members_of initial.0) == 0) ≡ true) (plain_is shifted.0 weak.0 plain) delayed.0);
+      kind = one_kind width.0 weak.0 asks.0 kind.0;
+      width = width_is width.0 weak.0 (left_out_width (key_in path (codes "time_shifted")) (member (codes "time_shifted") table) width.0 width.1);
+      initial = left_out_values (key_in path (codes "initial_data")) (member (codes "initial_data") table) initial.0 (under_range table (codes "initial_data") all) initial.1;
+      delayed = λ plain. empty_is (members_of initial.0) (subst (λ d. (d || length (members_of initial.0) == 0) ≡ true) (plain_is width.0 weak.0 plain) delayed.0);
       fed = fed_ok attrs.0 initial.0 fed.0;
     }))

@@ -7,7 +7,7 @@ use Rattle.mk_base.specs.declared.json.Json as tree
 use Rattle.mk_base.specs.declared.SimNo.{SimNo}
 use Rattle.mk_base.specs.Lists.{Each, same_text}
 use Rattle.mk_base.specs.Trees.{member}
-use Rattle.mk_base.proofs.Lists.{some_same, at_in, filter_map_in, passes_some}
+use Rattle.mk_base.proofs.Lists.{some_same, in_each, at_in, filter_map_in, passes_some}
 use Rattle.mk_scenario.specs.Tests.{key_in, item_in, each_after}
 use Rattle.mk_scenario.specs.Keys.{required, optional, first_unknown, is_among, count_within, text, name, values}
 use Rattle.mk_scenario.specs.Sims.{texts_under}
@@ -18,7 +18,8 @@ use Rattle.mk_scenario.specs.Wellformed.{IsWellformedGroup}
 use Rattle.mk_scenario.specs.declared.parts.Group.{Group}
 use Rattle.mk_scenario.specs.declared.fault.ScenarioFault.{ScenarioFault}
 use Rattle.mk_scenario.specs.declared.fault.ScenarioFault.TheVariants.{UnknownKey, UnknownSim, Taken}
-use Rattle.mk_scenario.proofs.Passing.{ok_same, passed_ok, held_ok, no_text_ok, found_ok, chosen_some, each_gives, each_at_ok}
+use Rattle.mk_scenario.proofs.Passing.{ok_same, passed_ok, held_ok, no_text_ok, found_ok, chosen_some, each_gives_where, each_at_ok}
+use Rattle.mk_scenario.proofs.Ranges.{InRange, under_range}
 use Rattle.mk_scenario.proofs.KeyFacts.{left_out_values, left_out_count}
 use Rattle.mk_scenario.proofs.ListFacts.{is_same, get_taken, get_default}
 use Rattle.mk_scenario.proofs.KeyFacts.{text_under, name_under}
@@ -41,9 +42,9 @@ sim_of_ok ids path id s e = at (place_in ids id) refl (found_ok (UnknownSim path
 IsGroupOf : ℕ → List Json → Json → Group → Type 0
 IsGroupOf sims earlier table g = IsWellformedGroup sims g × (text_under (codes "id") table ≡ Some g.id) × (is_among (texts_under (codes "id") earlier) g.id ≡ false)
 
-group_ok : (ids : List (List ℕ)) (path : List ℕ) (earlier : List Json) (table : Json) (g : Group) → group_at ids path earlier table ≡ Ok g → IsGroupOf (length ids) earlier table g
+group_ok : (ids : List (List ℕ)) (path : List ℕ) (earlier : List Json) (table : Json) (g : Group) → InRange table → group_at ids path earlier table ≡ Ok g → IsGroupOf (length ids) earlier table g
 unfolding IsGroupOf
-group_ok ids path earlier table g e =
+group_ok ids path earlier table g all e =
     let taken = texts_under (codes "id") earlier in
     let said = passed_ok (group_said path table) _ _ e in
     let known = no_text_ok (λ key. UnknownKey (key_in path key)) (first_unknown group_keys table) _ _ said.1 in
@@ -62,23 +63,23 @@ group_ok ids path earlier table g e =
         id = id_is.1;
         sim = sim_of_ok ids (key_in path (codes "sim")) sim.0 found.0 found.1;
         num = left_out_count 1 1 10000 (key_in path (codes "num")) (member (codes "num") table) num.0 num.1 (omega arith, omega arith);
-        params = left_out_values (key_in path (codes "params")) (member (codes "params") table) params.0 params.1;
+        params = left_out_values (key_in path (codes "params")) (member (codes "params") table) params.0 (under_range table (codes "params") all) params.1;
       },
       id_is.0,
       not-true (is_among (texts_under (codes "id") earlier) id.0) free.0,
     )
 
 -- the groups of these tables
-module _ (ids : List (List ℕ)) (tables : List Json) (groups : List Group) (e : each_after (group_in ids) tables ≡ Ok groups) where
+module _ (ids : List (List ℕ)) (tables : List Json) (groups : List Group) (all : Each InRange tables) (e : each_after (group_in ids) tables ≡ Ok groups) where
   abbrev one_group : ℕ → Json → Result Group ScenarioFault
   one_group i table = group_in ids (take i tables) i table
 
   pub groups_ok : Each (IsWellformedGroup (length ids)) groups
   unfolding IsGroupOf
-  groups_ok = each_gives one_group (IsWellformedGroup (length ids)) tables groups e (λ i table g w. (group_ok ids (item_in (codes "entities") i) (take i tables) table g w).0)
+  groups_ok = each_gives_where one_group InRange (IsWellformedGroup (length ids)) tables groups e all (λ i table g within w. (group_ok ids (item_in (codes "entities") i) (take i tables) table g within w).0)
 
   at_group : (i : ℕ) (g : Group) → slice_get groups i ≡ Some g → (table : Json) × (slice_get tables i ≡ Some table) × IsGroupOf (length ids) (take i tables) table g
-  at_group i g at = let t = (each_at_ok one_group tables groups e).1 i g at in (t.0, t.1, group_ok ids (item_in (codes "entities") i) (take i tables) t.0 g t.2)
+  at_group i g at = let t = (each_at_ok one_group tables groups e).1 i g at in (t.0, t.1, group_ok ids (item_in (codes "entities") i) (take i tables) t.0 g (in_each InRange t.0 tables all (at_in t.0 tables i t.1)) t.2)
 
   apart : (i j : ℕ) (g h : Group) → i < j → slice_get groups i ≡ Some g → slice_get groups j ≡ Some h → g.id ≢ h.id
   unfolding IsGroupOf

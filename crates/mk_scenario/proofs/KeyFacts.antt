@@ -7,14 +7,15 @@ use Rattle.std.proofs.lemmas.Int.{ints}
 use Rattle.mk_base.specs.declared.json.Json.{Json}
 use Rattle.mk_base.specs.declared.json.Json as tree
 use Rattle.mk_base.specs.Lists.{Each, same_text}
-use Rattle.mk_base.specs.Trees.{is_object, is_datum, member, members_in, text_in}
+use Rattle.mk_base.specs.Trees.{bool_in, is_object, is_datum, member, members_in, items_in, text_in}
 use Rattle.mk_base.proofs.OnTrees.{trees_compute}
 use Rattle.mk_scenario.specs.Spelling.{is_name, spelled, port_number, port_of, is_loopback}
 use Rattle.mk_scenario.specs.Tests.{each_at, key_in, item_in, found}
-use Rattle.mk_scenario.specs.Keys.{required, optional, members_of, first_unfit, within, whole, whole_within, wholes_within, count_within, text, name, some_port, items, table, tables_within, values}
+use Rattle.mk_scenario.specs.Keys.{required, optional, members_of, first_unfit, within, whole, whole_within, wholes_within, count_within, width_by, some_width, text, name, some_port, items, table, tables_within, values}
 use Rattle.mk_scenario.specs.Wellformed.{IsObjectOfData}
 use Rattle.mk_scenario.specs.declared.fault.ScenarioFault.TheVariants.{WrongKind, OutOfRange}
-use Rattle.mk_scenario.proofs.Passing.{ok_same, passed_ok, held_ok, no_text_ok, found_ok, required_ok, optional_ok, and_then_some, map_none, chosen_some, none_found, each_gives}
+use Rattle.mk_scenario.proofs.Passing.{ok_same, passed_ok, held_ok, no_text_ok, found_ok, required_ok, optional_ok, and_then_some, map_none, chosen_some, none_found, each_gives, each_gives_where}
+use Rattle.mk_scenario.proofs.Ranges.{InRange, items_range}
 
 within_is : (least most n : ℤ) → (int_le least n && int_le n most) ≡ true → (least ≤ℤ n) × (n ≤ℤ most)
 within_is least most n e = let t = and_parts (int_le least n) (int_le n most) e in let low = t.0 in let high = t.1 in (grind (arith, ints), grind (arith, ints))
@@ -55,6 +56,10 @@ name_ok path value t e =
     let same = ok_same s.0 t h.1 in
     (text_ok path value s.0 s.1 ∙ ap Some same, ap is_name (sym same) ∙ h.0)
 
+-- the table is the value
+table_is : (path : List ℕ) (value t : Json) → table path value ≡ Ok t → value ≡ t
+table_is path value t e = ok_same value t (passed_ok (found (WrongKind path) (members_in value)) _ _ e).2
+
 -- so many tables
 pub tables_within_ok : (least most : ℕ) (path : List ℕ) (value : Json) (ts : List Json) → tables_within least most path value ≡ Ok ts → (least ≤ length ts) × (length ts ≤ most)
 tables_within_ok least most path value ts e =
@@ -63,6 +68,14 @@ tables_within_ok least most path value ts e =
     let h = held_ok (OutOfRange path (decimal (length s.0))) (nat_le least (length s.0) && nat_le (length s.0) most) _ _ s.2 in
     let b = and_parts (nat_le least (length s.0)) (nat_le (length s.0) most) h.0 in
     subst (λ z. (least ≤ length z) × (length z ≤ most)) (ok_same s.0 ts h.1) (leb-true least (length s.0) b.0, leb-true (length s.0) most b.1)
+
+pub tables_range : (least most : ℕ) (path : List ℕ) (value : Json) (ts : List Json) → InRange value → tables_within least most path value ≡ Ok ts → Each InRange ts
+tables_range least most path value ts all e =
+    let t = passed_ok (items path value) _ _ e in
+    let s = passed_ok (each_at (λ i member. table (item_in path i) member) t.0) _ _ t.2 in
+    let h = held_ok (OutOfRange path (decimal (length s.0))) (nat_le least (length s.0) && nat_le (length s.0) most) _ _ s.2 in
+    let among = items_range value t.0 all (found_ok (WrongKind path) (items_in value) t.0 t.1) in
+    subst (Each InRange) (ok_same s.0 ts h.1) (each_gives_where (λ i member. table (item_in path i) member) InRange InRange t.0 s.0 s.1 among (λ i x y within gives. subst InRange (table_is (item_in path i) x y gives) within))
 
 -- an address's port
 port_number_is : (digits : List ℕ) (port : ℕ) → port_number digits ≡ Some port → (1 ≤ port) × (port ≤ 65535)
@@ -86,21 +99,29 @@ some_port_ok path value o e =
     let s = passed_ok (found (OutOfRange path t.0) (port_of t.0)) _ _ t.2 in
     subst (λ p. IfSome p (λ port. (1 ≤ port) × (port ≤ 65535))) (ok_same (Some s.0) o s.2) (port_is t.0 s.0 (found_ok (OutOfRange path t.0) (port_of t.0) s.0 s.1))
 
+-- the width of a time shift
+width_by_ok : (b : Option Bool) (path : List ℕ) (value : Json) (o : Option ℕ) → width_by b path value ≡ Ok o → IfSome o (λ width. (1 ≤ width) × (width ≤ 1000000))
+width_by_ok (Some true) path value o e = subst (λ p. IfSome p (λ width. (1 ≤ width) × (width ≤ 1000000))) (ok_same (Some 1) o e) (omega arith, omega arith)
+width_by_ok (Some false) path value o e = subst (λ p. IfSome p (λ width. (1 ≤ width) × (width ≤ 1000000))) (ok_same None o e) tt
+width_by_ok None path value o e =
+    let t = passed_ok (count_within 1 1000000 path value) _ _ e in
+    subst (λ p. IfSome p (λ width. (1 ≤ width) × (width ≤ 1000000))) (ok_same (Some t.0) o t.2) (count_within_ok 1 1000000 path value t.0 t.1)
+
 -- a table of parameters or of values
 none_given : IsObjectOfData (tree.Object [])
 unfolding trees_compute
-none_given = (refl, tt)
+none_given = (refl, refl, tt)
 
 table_ok : (path : List ℕ) (value : Json) (t : Json) → table path value ≡ Ok t → is_object t ≡ true
 table_ok path value t e =
     let s = passed_ok (found (WrongKind path) (members_in value)) _ _ e in
     ap is_object (sym (ok_same value t s.2)) ∙ ap is_some (found_ok (WrongKind path) (members_in value) s.0 s.1)
 
-values_ok : (path : List ℕ) (value : Json) (t : Json) → values path value ≡ Ok t → IsObjectOfData t
-values_ok path value t e =
+values_ok : (path : List ℕ) (value : Json) (t : Json) → InRange value → values path value ≡ Ok t → IsObjectOfData t
+values_ok path value t all e =
     let s = passed_ok (table path value) _ _ e in
     let h = no_text_ok (λ key. WrongKind (key_in path key)) (first_unfit s.0) _ _ s.2 in
-    subst IsObjectOfData (ok_same s.0 t h.1) (table_ok path value s.0 s.1, none_found (λ (m : List ℕ × Json). is_datum m.1) (members_of s.0) (map_none (λ (m : List ℕ × Json). m.0) (find (λ (m : List ℕ × Json). not (is_datum m.1)) (members_of s.0)) h.0))
+    subst IsObjectOfData (ok_same s.0 t h.1) (table_ok path value s.0 s.1, subst InRange (table_is path value s.0 s.1) all, none_found (λ (m : List ℕ × Json). is_datum m.1) (members_of s.0) (map_none (λ (m : List ℕ × Json). m.0) (find (λ (m : List ℕ × Json). not (is_datum m.1)) (members_of s.0)) h.0))
 
 -- the text that a table has under a key
 abbrev pub text_under : List ℕ → Json → Option (List ℕ)
@@ -123,8 +144,16 @@ left_out_wholes least most path o ns e = optional_ok (Each (λ n. (least ≤ℤ 
 pub left_out_port : (path : List ℕ) (o : Option Json) (p : Option ℕ) → optional None path some_port o ≡ Ok p → IfSome p (λ port. (1 ≤ port) × (port ≤ 65535))
 left_out_port path o p e = optional_ok (λ q. IfSome q (λ port. (1 ≤ port) × (port ≤ 65535))) None path some_port o p e tt (λ value. some_port_ok path value p)
 
-pub left_out_values : (path : List ℕ) (o : Option Json) (t : Json) → optional (tree.Object []) path values o ≡ Ok t → IsObjectOfData t
-left_out_values path o t e = optional_ok IsObjectOfData (tree.Object []) path values o t e none_given (λ value. values_ok path value t)
+pub left_out_width : (path : List ℕ) (o : Option Json) (p : Option ℕ) → optional None path some_width o ≡ Ok p → IfSome p (λ width. (1 ≤ width) × (width ≤ 1000000))
+left_out_width path o p e = optional_ok (λ q. IfSome q (λ width. (1 ≤ width) × (width ≤ 1000000))) None path some_width o p e tt (λ value. width_by_ok (bool_in value) path value p)
+
+pub left_out_values : (path : List ℕ) (o : Option Json) (t : Json) → IfSome o InRange → optional (tree.Object []) path values o ≡ Ok t → IsObjectOfData t
+left_out_values path None t all e = subst IsObjectOfData (ok_same (tree.Object []) t e) none_given
+left_out_values path (Some value) t all e = values_ok path value t all e
+
+pub left_out_range : (most : ℕ) (path : List ℕ) (o : Option Json) (ts : List Json) → IfSome o InRange → optional [] path (tables_within 0 most) o ≡ Ok ts → Each InRange ts
+left_out_range most path None ts all e = subst (Each InRange) (ok_same [] ts e) tt
+left_out_range most path (Some value) ts all e = tables_range 0 most path value ts all e
 
 pub left_out_tables : (most : ℕ) (path : List ℕ) (o : Option Json) (ts : List Json) → optional [] path (tables_within 0 most) o ≡ Ok ts → length ts ≤ most
 left_out_tables most path o ts e = optional_ok (λ (zs : List Json). length zs ≤ most) [] path (tables_within 0 most) o ts e (omega arith) (λ value w. (tables_within_ok 0 most path value ts w).1)

@@ -1,3 +1,4 @@
+pub mod Ranges
 pub mod Referring
 pub mod Earlier
 pub mod Placing

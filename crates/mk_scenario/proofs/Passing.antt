@@ -3,7 +3,7 @@ use Rattle.std.proofs.Common.{◌≡◌, ℕ, zero, suc, ◌+◌, ◌<◌, arith
 use Rattle.std.specs.List.{enumerate_from, find}
 use Rattle.mk_base.specs.declared.json.Json.{Json}
 use Rattle.mk_base.specs.Lists.{Each}
-use Rattle.mk_base.proofs.Lists.{each_in, in_at, get_is, below_get, some_same}
+use Rattle.mk_base.proofs.Lists.{each_in, in_each, in_at, at_in, get_is, below_get, some_same}
 use Rattle.mk_scenario.specs.Tests.{passed, held, no_text, found, before, all_well, each_at}
 use Rattle.mk_scenario.specs.Keys.{required, optional}
 use Rattle.mk_scenario.specs.declared.fault.ScenarioFault.{ScenarioFault}
@@ -94,6 +94,13 @@ module _ {X A : Type 0} (test : ℕ → X → Result A ScenarioFault) where
   -- what holds of what each item gives
   pub each_gives : (Q : A → Type 0) (items : List X) (ys : List A) → each_at test items ≡ Ok ys → ((i : ℕ) (x : X) (y : A) → test i x ≡ Ok y → Q y) → Each Q ys
   each_gives Q items ys e f = each_in Q ys (λ y m. let t = in_at y ys m in let s = (each_at_ok items ys e).1 t.0 y t.1 in f t.0 s.0 y s.2)
+
+  -- the same, of what each item that has R gives
+  pub each_gives_where : (R : X → Type 0) (Q : A → Type 0) (items : List X) (ys : List A) → each_at test items ≡ Ok ys → Each R items → ((i : ℕ) (x : X) (y : A) → R x → test i x ≡ Ok y → Q y) → Each Q ys
+  each_gives_where R Q items ys e all f = each_in Q ys (λ y m.
+      let t = in_at y ys m in
+      let s = (each_at_ok items ys e).1 t.0 y t.1 in
+      f t.0 s.0 y (in_each R s.0 items all (at_in s.0 items t.0 s.1)) s.2)
 
   -- what each item gives, by the items
   pub each_item_ok : (items : List X) (ys : List A) → each_at test items ≡ Ok ys → (i : ℕ) (x : X) → slice_get items i ≡ Some x → (y : A) × (slice_get ys i ≡ Some y) × (test i x ≡ Ok y)

@@ -5,7 +5,7 @@ use Rattle.mk_base.specs.declared.json.Json.{Json}
 use Rattle.mk_base.specs.declared.json.Json as tree
 use Rattle.mk_base.specs.Lists.{Each}
 use Rattle.mk_base.specs.Trees.{member}
-use Rattle.mk_base.proofs.Lists.{some_same, each_in, in_at, in_filter_map}
+use Rattle.mk_base.proofs.Lists.{some_same, each_in, in_each, in_at, at_in, in_filter_map}
 use Rattle.mk_scenario.specs.Spelling.{is_name}
 use Rattle.mk_scenario.specs.Tests.{key_in, item_in, each_after}
 use Rattle.mk_scenario.specs.Keys.{required, optional, first_unknown, wholes_within, name, some_text, some_port, values}
@@ -17,7 +17,8 @@ use Rattle.mk_scenario.specs.declared.parts.Begin.TheVariants.{Command, Connect,
 use Rattle.mk_scenario.specs.declared.parts.SimPart.{SimPart}
 use Rattle.mk_scenario.specs.declared.fault.ScenarioFault.{ScenarioFault}
 use Rattle.mk_scenario.specs.declared.fault.ScenarioFault.TheVariants.{UnknownKey}
-use Rattle.mk_scenario.proofs.Passing.{ok_same, passed_ok, held_ok, no_text_ok, each_gives, each_at_ok, each_item_ok}
+use Rattle.mk_scenario.proofs.Passing.{ok_same, passed_ok, held_ok, no_text_ok, each_gives_where, each_at_ok, each_item_ok}
+use Rattle.mk_scenario.proofs.Ranges.{InRange, under_range}
 use Rattle.mk_scenario.proofs.KeyFacts.{left_out_port, left_out_values, left_out_wholes}
 use Rattle.mk_scenario.proofs.ListFacts.{all_kept, none_there, get_map, none_also}
 use Rattle.mk_scenario.proofs.KeyFacts.{text_under, name_under}
@@ -36,9 +37,9 @@ begin_ok path None (Some port) (Some k) begin e p = cc
 IsSimOf : List Json → Json → SimPart → Type 0
 IsSimOf earlier table s = IsWellformedSim s × ((n : List ℕ) × (text_under (codes "name") table ≡ Some n) × (is_name n ≡ true) × (s.id ≡ sim_id (texts_under (codes "name") earlier) n))
 
-sim_ok : (path : List ℕ) (earlier : List Json) (table : Json) (s : SimPart) → sim_at path earlier table ≡ Ok s → IsSimOf earlier table s
+sim_ok : (path : List ℕ) (earlier : List Json) (table : Json) (s : SimPart) → InRange table → sim_at path earlier table ≡ Ok s → IsSimOf earlier table s
 unfolding IsSimOf
-sim_ok path earlier table s e =
+sim_ok path earlier table s all e =
     let known = no_text_ok (λ key. UnknownKey (key_in path key)) (first_unknown sim_keys table) _ _ e in
     let named = passed_ok (required (key_in path (codes "name")) name (member (codes "name") table)) _ _ known.1 in
     let command = passed_ok (optional None (key_in path (codes "command")) some_text (member (codes "command") table)) _ _ named.2 in
@@ -52,7 +53,7 @@ sim_ok path earlier table s e =
     subst (IsSimOf earlier table) (ok_same _ s resolution.1) (
       record {
         port = begin_ok path command.0 connect.0 kind.0 begin.0 begin.1 (left_out_port (key_in path (codes "connect")) (member (codes "connect") table) connect.0 connect.1);
-        params = left_out_values (key_in path (codes "params")) (member (codes "params") table) params.0 params.1;
+        params = left_out_values (key_in path (codes "params")) (member (codes "params") table) params.0 (under_range table (codes "params") all) params.1;
         resolution = none_there (member (codes "time_resolution") params.0) resolution.0;
         initial = left_out_wholes (pos 0) (pos 1000000000) (key_in path (codes "initial_events")) (member (codes "initial_events") table) initial.0 initial.1;
       },
@@ -60,7 +61,7 @@ sim_ok path earlier table s e =
     )
 
 -- the simulators of these tables
-module _ (tables : List Json) (sims : List SimPart) (e : each_after sim_in tables ≡ Ok sims) where
+module _ (tables : List Json) (sims : List SimPart) (all : Each InRange tables) (e : each_after sim_in tables ≡ Ok sims) where
   abbrev one : ℕ → Json → Result SimPart ScenarioFault
   one i table = sim_in (take i tables) i table
 
@@ -69,10 +70,10 @@ module _ (tables : List Json) (sims : List SimPart) (e : each_after sim_in table
 
   pub sims_ok : Each IsWellformedSim sims
   unfolding IsSimOf
-  sims_ok = each_gives one IsWellformedSim tables sims e (λ i table s w. (sim_ok (item_in (codes "sim") i) (take i tables) table s w).0)
+  sims_ok = each_gives_where one InRange IsWellformedSim tables sims e all (λ i table s within w. (sim_ok (item_in (codes "sim") i) (take i tables) table s within w).0)
 
   sim_at_table : (i : ℕ) (table : Json) → slice_get tables i ≡ Some table → (s : SimPart) × (slice_get sims i ≡ Some s) × IsSimOf (take i tables) table s
-  sim_at_table i table at = let t = each_item_ok one tables sims e i table at in (t.0, t.1, sim_ok (item_in (codes "sim") i) (take i tables) table t.0 t.2)
+  sim_at_table i table at = let t = each_item_ok one tables sims e i table at in (t.0, t.1, sim_ok (item_in (codes "sim") i) (take i tables) table t.0 (in_each InRange table tables all (at_in table tables i at)) t.2)
 
   have_names : Each (λ table. IsSome (text_under (codes "name") table)) tables
   unfolding IsSimOf

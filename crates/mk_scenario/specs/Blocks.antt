@@ -1,12 +1,12 @@
 -- A `connect` table: a block of connections.
-use Rattle.std.specs.Prelude.{ℕ, Bool, false, not, ◌&&◌, ◌||◌, ◌==◌, List, [], ◌∷◌, map, length, codes, Option, Some, None, Result, Ok, if◌then◌else◌}
+use Rattle.std.specs.Prelude.{ℕ, Bool, false, not, ◌&&◌, ◌||◌, ◌==◌, List, [], ◌∷◌, map, length, codes, Option, Some, None, is_some, Result, Ok, if◌then◌else◌}
 use Rattle.mk_base.specs.declared.json.Json.{Json, Json-F, out-Json}
 use Rattle.mk_base.specs.declared.json.Json as tree
 use Rattle.mk_base.specs.declared.tier.Via.{Via}
 use Rattle.mk_base.specs.declared.tier.Via.TheVariants.{Plain, Shift, Weak}
 use Rattle.mk_base.specs.Trees.{text_in, member}
 use Rattle.mk_scenario.specs.Tests.{passed, held, no_text, found, each_at, key_in, item_in}
-use Rattle.mk_scenario.specs.Keys.{required, optional, members_of, first_unknown, truth, text, items, values}
+use Rattle.mk_scenario.specs.Keys.{required, optional, members_of, first_unknown, truth, some_width, text, items, values}
 use Rattle.mk_scenario.specs.References.{place_of, size_of}
 use Rattle.mk_scenario.specs.declared.parts.AttrPair.{AttrPair}
 use Rattle.mk_scenario.specs.declared.parts.Group.{Group}
@@ -45,8 +45,9 @@ pairs path value =
     each_at (λ i member. found (WrongKind (item_in path i)) (pair_in member)) members)
 
 -- when the connection delivers
-abbrev pub via_of : Bool → Bool → Via
-via_of shifted weak = if shifted then Shift else if weak then Weak else Plain
+abbrev pub via_of : Option ℕ → Bool → Via
+via_of (Some width) weak = Shift width
+via_of None weak = if weak then Weak else Plain
 
 -- at most one of the three holds
 abbrev pub at_most_one : Bool → Bool → Bool → Bool
@@ -74,10 +75,10 @@ sides_pair m n = (n == 1) || (m == 1) || (m == n)
 -- the manner in which a table of this path says that the connection delivers
 abbrev pub manner_said : List ℕ → Json → Result Manner ScenarioFault
 manner_said path table =
-    passed (optional false (key_in path (codes "time_shifted")) truth (member (codes "time_shifted") table)) (λ shifted.
+    passed (optional None (key_in path (codes "time_shifted")) some_width (member (codes "time_shifted") table)) (λ width.
     passed (optional false (key_in path (codes "weak")) truth (member (codes "weak") table)) (λ weak.
     passed (optional false (key_in path (codes "async_requests")) truth (member (codes "async_requests") table)) (λ asks.
-    Ok (record { shifted = shifted; weak = weak; asks = asks }))))
+    Ok (record { width = width; weak = weak; asks = asks }))))
 
 -- what the table of this path says
 abbrev pub block_said : List ℕ → Json → Result BlockSaid ScenarioFault
@@ -93,10 +94,10 @@ block_said path table =
 -- the block that a table of this path says, between these places
 abbrev pub block_between : List Group → List ℕ → BlockSaid → Place → Place → Result Block ScenarioFault
 block_between groups path said from to =
-    held (TwoKinds path) (at_most_one said.manner.shifted said.manner.weak said.manner.asks) (
-    passed (initial_fits (key_in path (codes "initial_data")) (said.manner.shifted || said.manner.weak) said.attrs said.initial) (λ initial.
+    held (TwoKinds path) (at_most_one (is_some said.manner.width) said.manner.weak said.manner.asks) (
+    passed (initial_fits (key_in path (codes "initial_data")) (is_some said.manner.width || said.manner.weak) said.attrs said.initial) (λ initial.
     held (Uneven path (size_of groups from) (size_of groups to)) (sides_pair (size_of groups from) (size_of groups to)) (
-    Ok (record { from = from; to = to; attrs = said.attrs; via = via_of said.manner.shifted said.manner.weak; async_requests = said.manner.asks; initial = initial }))))
+    Ok (record { from = from; to = to; attrs = said.attrs; via = via_of said.manner.width said.manner.weak; async_requests = said.manner.asks; initial = initial }))))
 
 -- the block that a table of this path says
 abbrev pub block_made : List (List ℕ) → List Group → List ℕ → BlockSaid → Result Block ScenarioFault

@@ -1,22 +1,14 @@
 -- What a key's value is, by its kind and range.
-use Rattle.std.specs.Prelude.{ℕ, ℤ, pos, nat_abs, int_le, nat_le, Bool, not, ◌&&◌, List, [], map, length, Option, Some, None, option_map, unwrap_or, Result, Ok, Err}
+use Rattle.std.specs.Prelude.{ℕ, ℤ, pos, nat_abs, int_le, nat_le, Bool, not, ◌&&◌, List, [], map, length, Option, Some, None, option_map, unwrap_or, Result, Ok, Err, if◌then◌else◌}
 use Rattle.std.specs.Fmt.{decimal, signed_decimal}
 use Rattle.std.specs.List.{find, list_any}
-use Rattle.mk_base.specs.declared.json.Json.{Json, Json-F, out-Json}
+use Rattle.mk_base.specs.declared.json.Json.{Json}
 use Rattle.mk_base.specs.Lists.{same_text}
-use Rattle.mk_base.specs.Trees.{whole_in, text_in, items_in, members_in, is_datum}
+use Rattle.mk_base.specs.Trees.{bool_in, whole_in, text_in, items_in, members_in, is_datum}
 use Rattle.mk_scenario.specs.Spelling.{is_name, port_of}
 use Rattle.mk_scenario.specs.Tests.{passed, held, no_text, found, each_at, key_in, item_in}
 use Rattle.mk_scenario.specs.declared.fault.ScenarioFault.{ScenarioFault}
 use Rattle.mk_scenario.specs.declared.fault.ScenarioFault.TheVariants.{Missing, WrongKind, OutOfRange}
-
-abbrev bool_at : Json-F Json → Option Bool
-bool_at (Json-F.Bool b) = Some b
-bool_at _ = None
-
--- the truth value that the tree is
-abbrev pub bool_in : Json → Option Bool
-bool_in tree = bool_at (out-Json tree)
 
 -- a key that must stand there
 abbrev pub required : {A : Type 0} → List ℕ → (List ℕ → Json → Result A ScenarioFault) → Option Json → Result A ScenarioFault
@@ -59,6 +51,15 @@ count_within least most path value = passed (whole_within (pos least) (pos most)
 -- a truth value
 abbrev pub truth : List ℕ → Json → Result Bool ScenarioFault
 truth path value = found (WrongKind path) (bool_in value)
+
+-- the width of a value that is this truth value, or none
+abbrev pub width_by : Option Bool → List ℕ → Json → Result (Option ℕ) ScenarioFault
+width_by (Some shifted) path value = Ok (if shifted then Some 1 else None)
+width_by None path value = passed (count_within 1 1000000 path value) (λ width. Ok (Some width))
+
+-- a time shift's width, of a key that may be left out: false for no shift, true for 1, or a number from 1 to 1,000,000
+abbrev pub some_width : List ℕ → Json → Result (Option ℕ) ScenarioFault
+some_width path value = width_by (bool_in value) path value
 
 -- a text
 abbrev pub text : List ℕ → Json → Result (List ℕ) ScenarioFault

@@ -3,7 +3,8 @@ use Rattle.std.specs.Prelude.{◌≡◌, ◌≢◌, ℕ, ◌<◌, ◌≤◌, ℤ
 use Rattle.mk_base.specs.declared.json.Json.{Json}
 use Rattle.mk_base.specs.declared.tier.Via.TheVariants.{Plain}
 use Rattle.mk_base.specs.Lists.{IsIn, Each}
-use Rattle.mk_base.specs.Trees.{is_object, is_datum, member}
+use Rattle.mk_base.specs.Tiers.{HasWidth}
+use Rattle.mk_base.specs.Trees.{is_object, is_datum, is_in_range, member}
 use Rattle.mk_scenario.specs.Spelling.{is_name}
 use Rattle.mk_scenario.specs.Keys.{members_of}
 use Rattle.mk_scenario.specs.Sims.{sim_id}
@@ -20,9 +21,9 @@ use Rattle.mk_scenario.specs.declared.parts.AttrPair.{AttrPair}
 use Rattle.mk_scenario.specs.declared.parts.Block.{Block}
 use Rattle.mk_scenario.specs.declared.parts.Scenario.{Scenario}
 
--- an object, each value of which is whole and not too deep
+-- an object, each value of which is whole and not too deep, its numbers in range
 abbrev pub IsObjectOfData : Json → Type 0
-IsObjectOfData tree = IsTrue (is_object tree) × Each (λ (m : List ℕ × Json). IsTrue (is_datum m.1)) (members_of tree)
+IsObjectOfData tree = IsTrue (is_object tree) × IsTrue (is_in_range tree) × Each (λ (m : List ℕ × Json). IsTrue (is_datum m.1)) (members_of tree)
 
 -- the ids are those of simulators of these names, in order
 pub record AreIdsOf (names ids : List (List ℕ)) : Type 0 where
@@ -62,6 +63,7 @@ pub record IsWellformedBlock (sims : ℕ) (groups : List Group) (b : Block) : Ty
   pub to : IsPlace sims groups b.to
   pub sides : IsTrue (sides_pair (size_of groups b.from) (size_of groups b.to))
   pub kind : b.async_requests ≡ true → b.via ≡ Plain
+  pub width : HasWidth b.via
   pub initial : IsObjectOfData b.initial
   pub delayed : b.via ≡ Plain → members_of b.initial ≡ []
   pub fed : Each (λ (m : List ℕ × Json). IsIn m.0 (map (λ (p : AttrPair). p.from) b.attrs)) (members_of b.initial)

@@ -13,20 +13,20 @@ ghost use Rattle.mk_scenario.specs.declared.fault.ScenarioFault.TheVariants as f
 
 use crate::fault::ScenarioFault;
 use crate::groups::ids_of;
-use crate::keys::{required_text, truth_or_false, values_or_none};
+use crate::keys::{required_text, truth_or_false, values_or_none, width_or_none};
 use crate::known::{Table, first_unknown};
 use crate::names::Names;
 use crate::parts::{AttrPair, Block, Group, Place, SimPart};
 use crate::paths::{item_in, key_in};
 use crate::references::{place_of, size_of};
-use crate::values::{items, members_of, text_of};
+use crate::values::items;
 use mk_base::{Json, List, Mem, Members, Text, Via};
 use std::alloc::Global;
 
-// The manner in which a `connect` table says that the connection delivers.
+// The manner in which a `connect` table says that the connection delivers; the width is that of its time shift.
 #[derive(Clone, Copy)]
 pub struct Manner {
-    shifted: bool,
+    width: Option<u32>,
     weak: bool,
     asks: bool,
 }
@@ -149,14 +149,10 @@ fn manner_said(alloc: Global, path: &Text, table: &Json) -> Result<Manner, Scena
     ensures ok { IfOk result (λ manner. blocks.manner_said path.now table.now ≡ Ok manner) }
     ensures refused { IfErr result (λ e. IsFaultOf (blocks.manner_said path.now table.now) e) }
 {
-    let shifted = truth_or_false(alloc, path, "time_shifted", table)?;
+    let width = width_or_none(alloc, path, "time_shifted", table)?;
     let weak = truth_or_false(alloc, path, "weak", table)?;
     let asks = truth_or_false(alloc, path, "async_requests", table)?;
-    Ok(Manner {
-        shifted,
-        weak,
-        asks,
-    })
+    Ok(Manner { width, weak, asks })
 }
 
 // The pairs of attributes of the table of this path, none where it says none.
@@ -214,7 +210,7 @@ fn two_of(items: &[Json]) -> Result<Option<AttrPair>, Mem>
     ensures { IfOk result (λ pair. pair ≡ blocks.two_of items.now) }
 {
     match items {
-        [from, to] => two_names(text_of(from), text_of(to)),
+        [from, to] => two_names(from.as_text(), to.as_text()),
         _ => Ok(None),
     }
 }
@@ -276,14 +272,14 @@ fn block_between(
     ensures refused { IfErr result (λ e. IsFaultOf (blocks.block_between groups.now path.now said from to) e) }
 {
     let manner = said.manner;
-    if !at_most_one(manner.shifted, manner.weak, manner.asks) {
+    if !at_most_one(manner.width.is_some(), manner.weak, manner.asks) {
         return Err(ScenarioFault::TwoKinds(path.copy()?));
     }
     let place = key_in(alloc, path, "initial_data")?;
     initial_fits(
         alloc,
         &place,
-        manner.shifted || manner.weak,
+        manner.width.is_some() || manner.weak,
         said.attrs.as_slice(),
         &said.initial,
     )?;
@@ -295,7 +291,7 @@ fn block_between(
         from,
         to,
         attrs: said.attrs,
-        via: via_of(manner.shifted, manner.weak),
+        via: via_of(manner.width, manner.weak),
         async_requests: manner.asks,
         initial: said.initial,
     })
@@ -307,15 +303,13 @@ fn at_most_one(a: bool, b: bool, c: bool) -> bool
     !((a && b) || (a && c) || (b && c))
 }
 
-fn via_of(shifted: bool, weak: bool) -> Via
-    ensures { result ≡ blocks.via_of shifted weak }
+fn via_of(width: Option<u32>, weak: bool) -> Via
+    ensures { result ≡ blocks.via_of width weak }
 {
-    if shifted {
-        Via::Shift
-    } else if weak {
-        Via::Weak
-    } else {
-        Via::Plain
+    match width {
+        Some(width) => Via::Shift(width),
+        None if weak => Via::Weak,
+        None => Via::Plain,
     }
 }
 
@@ -349,7 +343,7 @@ fn initial_fits(
 fn is_empty(table: &Json) -> bool
     ensures { result ≡ (length (keys.members_of table.now) == 0) }
 {
-    match members_of(table) {
+    match table.as_object() {
         Some(members) => members.is_empty(),
         None => true,
     }
@@ -359,7 +353,7 @@ fn is_empty(table: &Json) -> bool
 fn first_unfed<'a>(attrs: &[AttrPair], initial: &'a Json) -> Option<&'a Text>
     ensures { option_map (λ t. t.now) result ≡ blocks.first_unfed attrs.now initial.now }
 {
-    match members_of(initial) {
+    match initial.as_object() {
         Some(members) => first_unfed_of(attrs, members),
         None => None,
     }

@@ -96,6 +96,22 @@ pub fn truth_or_false(
     }
 }
 
+// The width of the time shift that stands under a key that may be left out, none then.
+pub fn width_or_none(
+    alloc: Global,
+    path: &Text,
+    key: &str,
+    table: &Json,
+) -> Result<Option<u32>, ScenarioFault>
+    ensures ok { IfOk result (λ width. keys.optional None (key_in path.now key.now) keys.some_width (member key.now table.now) ≡ Ok width) }
+    ensures refused { IfErr result (λ e. IsFaultOf (keys.optional None (key_in path.now key.now) keys.some_width (member key.now table.now)) e) }
+{
+    match table.member(key) {
+        Some(value) => values::width(alloc, &key_in(alloc, path, key)?, value),
+        None => Ok(None),
+    }
+}
+
 // A copy of the table of values under a key that may be left out, an empty one then.
 pub fn values_or_none(
     alloc: Global,

@@ -9,7 +9,6 @@ ghost use Rattle.mk_scenario.specs.Known.{keys_of};
 ghost use Rattle.mk_scenario.specs.Scenarios.{top_keys};
 ghost use Rattle.mk_scenario.specs.Sims.{sim_keys};
 
-use crate::values::members_of;
 use mk_base::{Json, Members, Text};
 
 // The tables of a scenario: the document itself, and those in its three lists.
@@ -25,7 +24,7 @@ pub enum Table {
 pub fn first_unknown(table: Table, value: &Json) -> Option<&Text>
     ensures { option_map (λ t. t.now) result ≡ first_unknown (keys_of table) value.now }
 {
-    match members_of(value) {
+    match value.as_object() {
         Some(members) => first_unknown_of(table, members),
         None => None,
     }

@@ -11,7 +11,6 @@ use crate::keys::{optional_port, optional_text, required_name, times_or_none, va
 use crate::known::{Table, first_unknown};
 use crate::parts::{Begin, SimPart};
 use crate::paths::{item_in, key_in};
-use crate::values::text_of;
 use mk_base::{Json, List, Mem, Text};
 use std::alloc::Global;
 
@@ -122,7 +121,7 @@ fn is_named(table: &Json, name: &Text) -> bool
     ensures { result ≡ unwrap_or (option_map (λ n. same_text n name.now) (option_and_then text_in (member (codes "name") table.now))) false }
 {
     match table.member("name") {
-        Some(value) => match text_of(value) {
+        Some(value) => match value.as_text() {
             Some(text) => text.bytes() == name.bytes(),
             None => false,
         },

@@ -199,6 +199,22 @@ fn a_connection_is_tested_key_by_key(rt: HostRuntime) -> Result<(), Fail> {
             "8 connect[0]",
         ),
         (
+            "from = 'p'\nto = 'g'\ntime_shifted = 2\nasync_requests = true",
+            "8 connect[0]",
+        ),
+        (
+            "from = 'p'\nto = 'g'\ntime_shifted = 0",
+            "5 connect[0].time_shifted 0",
+        ),
+        (
+            "from = 'p'\nto = 'g'\ntime_shifted = 1000001\nweak = 2",
+            "5 connect[0].time_shifted 1000001",
+        ),
+        (
+            "from = 'p'\nto = 'g'\ntime_shifted = \"2\"",
+            "3 connect[0].time_shifted",
+        ),
+        (
             "from = 'p'\nto = 'g'\nattrs = ['x', ['a', 1]]",
             "3 connect[0].attrs[1]",
         ),
@@ -222,6 +238,32 @@ fn a_connection_is_tested_key_by_key(rt: HostRuntime) -> Result<(), Fail> {
     for (rest, want) in rows {
         let text = format!(in rt.alloc(); "[[connect]]\n{rest}")?;
         assert_eq!(rt; after(rt.alloc(), GROUPS, text.as_str())?.as_str(), want);
+    }
+    Ok(())
+}
+
+// How the first connection of a scenario after this beginning delivers.
+fn first_via(alloc: Global, rest: &str) -> Option<Via> {
+    let text = format!(in alloc; "{GROUPS}[[connect]]\nfrom = 'p'\nto = 'g'\n{rest}").ok()?;
+    let scenario = read_scenario(alloc, text.as_bytes()).ok()?;
+    let block = scenario.blocks.get(0)?;
+    Some(block.via)
+}
+
+#[test]
+fn a_connection_is_time_shifted_by_a_width(rt: HostRuntime) -> Result<(), Fail> {
+    let rows = [
+        ("time_shifted = false", Some(Via::Plain)),
+        ("time_shifted = true", Some(Via::Shift(1))),
+        ("time_shifted = 1", Some(Via::Shift(1))),
+        ("time_shifted = 2", Some(Via::Shift(2))),
+        ("time_shifted = 1000000", Some(Via::Shift(1000000))),
+        ("time_shifted = false\nweak = true", Some(Via::Weak)),
+        ("time_shifted = 2\nweak = false", Some(Via::Shift(2))),
+        ("time_shifted = 2\nweak = true", None),
+    ];
+    for (rest, want) in rows {
+        assert_eq!(rt; first_via(rt.alloc(), rest), want);
     }
     Ok(())
 }

@@ -2,7 +2,7 @@
 ghost use Rattle.std.specs.Prelude.{◌≡◌, ℕ, List, IfOk, IfErr, Ok, Some, option_map, not, pos};
 ghost use Rattle.std.specs.List.{find};
 ghost use Rattle.mk_base.specs.declared.json.Json.{Json};
-ghost use Rattle.mk_base.specs.Trees.{whole_in, text_in, items_in, members_in, is_datum};
+ghost use Rattle.mk_base.specs.Trees.{is_datum};
 ghost use Rattle.mk_scenario.specs.Keys as keys;
 ghost use Rattle.mk_scenario.specs.Tests.{IsFaultOf, each_at, item_in};
 
@@ -15,75 +15,8 @@ use std::alloc::Global;
 // The latest time that a scenario may name.
 pub const LATEST: i64 = 1_000_000_000;
 
-pub fn whole_of(value: &Json) -> Option<i128>
-    ensures { result ≡ whole_in value.now }
-{
-    match value {
-        Json::Null => None,
-        Json::Bool(_) => None,
-        Json::Whole(n) => Some(*n),
-        Json::Odd => None,
-        Json::Text(_) => None,
-        Json::List(_) => None,
-        Json::Object(_) => None,
-    }
-}
-
-pub fn truth_of(value: &Json) -> Option<bool>
-    ensures { result ≡ keys.bool_in value.now }
-{
-    match value {
-        Json::Null => None,
-        Json::Bool(b) => Some(*b),
-        Json::Whole(_) => None,
-        Json::Odd => None,
-        Json::Text(_) => None,
-        Json::List(_) => None,
-        Json::Object(_) => None,
-    }
-}
-
-pub fn text_of(value: &Json) -> Option<&Text>
-    ensures { option_map (λ t. t.now) result ≡ text_in value.now }
-{
-    match value {
-        Json::Null => None,
-        Json::Bool(_) => None,
-        Json::Whole(_) => None,
-        Json::Odd => None,
-        Json::Text(text) => Some(text),
-        Json::List(_) => None,
-        Json::Object(_) => None,
-    }
-}
-
-pub fn items_of(value: &Json) -> Option<&List<Json>>
-    ensures { option_map (λ l. l.now) result ≡ items_in value.now }
-{
-    match value {
-        Json::Null => None,
-        Json::Bool(_) => None,
-        Json::Whole(_) => None,
-        Json::Odd => None,
-        Json::Text(_) => None,
-        Json::List(items) => Some(items),
-        Json::Object(_) => None,
-    }
-}
-
-pub fn members_of(value: &Json) -> Option<&Members<Json>>
-    ensures { option_map (λ ms. ms.now) result ≡ members_in value.now }
-{
-    match value {
-        Json::Null => None,
-        Json::Bool(_) => None,
-        Json::Whole(_) => None,
-        Json::Odd => None,
-        Json::Text(_) => None,
-        Json::List(_) => None,
-        Json::Object(members) => Some(members),
-    }
-}
+// The greatest width of a time shift.
+const WIDEST: u32 = 1_000_000;
 
 // The number, where it is in this range.
 pub fn within(
@@ -114,7 +47,7 @@ pub fn whole_within(
     ensures ok { IfOk result (λ x. keys.whole_within least most path.now value.now ≡ Ok x) }
     ensures refused { IfErr result (λ e. IsFaultOf (keys.whole_within least most path.now value.now) e) }
 {
-    match whole_of(value) {
+    match value.as_whole() {
         Some(n) => within(alloc, least, most, path, n),
         None => Err(ScenarioFault::WrongKind(path.copy()?)),
     }
@@ -139,7 +72,7 @@ pub fn text<'a>(path: &Text, value: &'a Json) -> Result<&'a Text, ScenarioFault>
     ensures ok { IfOk result (λ t. keys.text path.now value.now ≡ Ok t.now) }
     ensures refused { IfErr result (λ e. IsFaultOf (keys.text path.now value.now) e) }
 {
-    match text_of(value) {
+    match value.as_text() {
         Some(text) => Ok(text),
         None => Err(ScenarioFault::WrongKind(path.copy()?)),
     }
@@ -150,9 +83,20 @@ pub fn truth(path: &Text, value: &Json) -> Result<bool, ScenarioFault>
     ensures ok { IfOk result (λ b. keys.truth path.now value.now ≡ Ok b) }
     ensures refused { IfErr result (λ e. IsFaultOf (keys.truth path.now value.now) e) }
 {
-    match truth_of(value) {
+    match value.as_bool() {
         Some(truth) => Ok(truth),
         None => Err(ScenarioFault::WrongKind(path.copy()?)),
+    }
+}
+
+// The width of the time shift that the value says, if it says one.
+pub fn width(alloc: Global, path: &Text, value: &Json) -> Result<Option<u32>, ScenarioFault>
+    ensures ok { IfOk result (λ width. keys.some_width path.now value.now ≡ Ok width) }
+    ensures refused { IfErr result (λ e. IsFaultOf (keys.some_width path.now value.now) e) }
+{
+    match value.as_bool() {
+        Some(shifted) => Ok(if shifted { Some(1) } else { None }),
+        None => Ok(Some(count_within(alloc, WIDEST, path, value)?)),
     }
 }
 
@@ -186,7 +130,7 @@ pub fn items<'a>(path: &Text, value: &'a Json) -> Result<&'a List<Json>, Scenari
     ensures ok { IfOk result (λ l. keys.items path.now value.now ≡ Ok l.now) }
     ensures refused { IfErr result (λ e. IsFaultOf (keys.items path.now value.now) e) }
 {
-    match items_of(value) {
+    match value.as_list() {
         Some(items) => Ok(items),
         None => Err(ScenarioFault::WrongKind(path.copy()?)),
     }
@@ -197,7 +141,7 @@ pub fn table<'a>(path: &Text, value: &'a Json) -> Result<&'a Json, ScenarioFault
     ensures ok { IfOk result (λ t. keys.table path.now value.now ≡ Ok t.now) }
     ensures refused { IfErr result (λ e. IsFaultOf (keys.table path.now value.now) e) }
 {
-    match members_of(value) {
+    match value.as_object() {
         Some(_) => Ok(value),
         None => Err(ScenarioFault::WrongKind(path.copy()?)),
     }
@@ -219,7 +163,7 @@ pub fn values<'a>(alloc: Global, path: &Text, value: &'a Json) -> Result<&'a Jso
 fn first_unfit(table: &Json) -> Option<&Text>
     ensures { option_map (λ t. t.now) result ≡ keys.first_unfit table.now }
 {
-    match members_of(table) {
+    match table.as_object() {
         Some(members) => first_unfit_of(members),
         None => None,
     }
@@ -258,7 +202,7 @@ fn wholes(alloc: Global, path: &Text, items: &List<Json>) -> Result<List<i128>, 
 {
     let mut numbers = List::new(alloc);
     for (i, item) in items.as_slice().iter().enumerate() {
-        match whole_of(item) {
+        match item.as_whole() {
             Some(n) => numbers.push(n)?,
             None => return Err(ScenarioFault::WrongKind(item_in(alloc, path, i)?)),
         }
@@ -304,7 +248,7 @@ fn all_tables(alloc: Global, path: &Text, items: &[Json]) -> Result<(), Scenario
     ensures refused { IfErr result (λ e. IsFaultOf (each_at (λ i item. keys.table (item_in path.now i) item) items.now) e) }
 {
     for (i, item) in items.iter().enumerate() {
-        if members_of(item).is_none() {
+        if !item.is_object() {
             return Err(ScenarioFault::WrongKind(item_in(alloc, path, i)?));
         }
     }
