@@ -1,0 +1,3 @@
+pub mod Apart
+mod Filtering
+pub mod OnLinks

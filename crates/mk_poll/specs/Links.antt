@@ -1,0 +1,55 @@
+-- How links change their places.
+use Rattle.std.specs.Prelude.{◌≡◌, ◌+◌, ◌≤◌, ◌⊎◌, ℕ, ◌==◌, Bool, not, List, [], ◌∷◌, ◌++◌, filter, Option, None, Some, if◌then◌else◌}
+use Rattle.std.specs.List.{list_any}
+use Rattle.mk_base.specs.declared.LinkNo.{LinkNo}
+use Rattle.mk_base.specs.Lists.{IsIn}
+use Rattle.mk_poll.specs.Turning.{Turning}
+
+-- the two are one link
+abbrev pub same_link : LinkNo → LinkNo → Bool
+same_link one other = one.0 == other.0
+
+-- the links without this one
+abbrev pub without : LinkNo → List LinkNo → List LinkNo
+without link = filter (λ other. not (same_link other link))
+
+-- no link
+abbrev pub no_links : Turning
+no_links = record { ready = []; taken = []; parked = [] }
+
+-- the link was added
+abbrev pub IsAdded : LinkNo → Turning → Type 0
+IsAdded link t = IsIn link t.ready ⊎ (IsIn link t.taken ⊎ IsIn link t.parked)
+
+-- how often the link stands among these
+abbrev pub times_in : LinkNo → List LinkNo → ℕ
+times_in link [] = 0
+times_in link (other ∷ more) = if same_link other link then 1 + times_in link more else times_in link more
+
+-- no link stands twice, nor in two of the places
+abbrev pub IsApart : Turning → Type 0
+IsApart t = (link : LinkNo) → times_in link t.ready + (times_in link t.taken + times_in link t.parked) ≤ 1
+
+-- one more link, which is ready
+abbrev pub added : LinkNo → Turning → Turning
+added link t = record { ready = t.ready ++ link ∷ []; taken = t.taken; parked = t.parked }
+
+-- a ready link stays in its place; another one becomes the last that is ready
+abbrev pub made_ready : LinkNo → Turning → Turning
+made_ready link t = if list_any (λ other. same_link other link) t.ready then t else record { ready = t.ready ++ link ∷ []; taken = without link t.taken; parked = without link t.parked }
+
+-- a taken link, parked
+abbrev pub made_parked : LinkNo → Turning → Turning
+made_parked link t = record { ready = t.ready; taken = without link t.taken; parked = t.parked ++ link ∷ [] }
+
+-- the first ready link was taken; or none is ready
+abbrev pub TakeOf : Turning → Option LinkNo → Turning → Type 0
+TakeOf old None new = (old.ready ≡ []) × (new ≡ old)
+TakeOf old (Some link) new = (rest : List LinkNo) × (old.ready ≡ link ∷ rest) × (new ≡ record { ready = rest; taken = old.taken ++ link ∷ []; parked = old.parked })
+
+-- there is room for so many links in each of the three places, and there are no more
+pub record HasRoom (count ready taken parked room_ready room_taken room_parked : ℕ) : Type 0 where
+  pub within : ready + (taken + parked) ≤ count
+  pub for_ready : count ≤ room_ready
+  pub for_taken : count ≤ room_taken
+  pub for_parked : count ≤ room_parked
