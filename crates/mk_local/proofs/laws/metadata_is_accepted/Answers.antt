@@ -1,0 +1,5 @@
+use Rattle.mk_local.proofs.Accepting.{accepted}
+use Rattle.mk_local.proofs.laws.metadata_is_accepted.Goals as goal
+
+pub returns : goal.returns
+returns c = accepted

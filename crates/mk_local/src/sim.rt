@@ -1,0 +1,141 @@
+ghost use Rattle.std.specs.Prelude.{◌≡◌, true, Some, IfOk, OnOk, OnErr};
+ghost use Rattle.mk_base.specs.Lists.{IsIn};
+ghost use Rattle.mk_local.specs.Calls.{IsCallReplied, after_call, call_reply};
+ghost use Rattle.mk_local.specs.Kinds.{has_kind, kind_named};
+ghost use Rattle.mk_local.specs.Registries.{rows_in};
+ghost use Rattle.mk_local.specs.Replies.{IsItemReplied, after_item, item_reply};
+ghost use Rattle.mk_local.specs.Rows.{IsStepOf};
+ghost use Rattle.mk_local.specs.Simulators.{new_simulator};
+
+use crate::calls::{add_entities, create_content, init_content, message};
+use crate::data::data_content;
+use crate::entity::Entity;
+use crate::names::least_step;
+use crate::params::{setting_in, step_in};
+use crate::registry::Registry;
+use crate::steps::{Pace, step_content, take_turns};
+use crate::turn::Turn;
+use mk_base::{Json, List, Mem, Text};
+use mk_plan::{Call, Item, Message};
+use std::alloc::Global;
+use std::marker::Model;
+
+/// A simulator within the program: its kind, the step that it took over, and its entities, each with its setting, its state
+/// and the output and output time of its last Step.
+#[derive(Drop)]
+pub struct LocalSim {
+    turn: Turn,
+    step: i64,
+    entities: List<Entity>,
+}
+
+impl Model for LocalSim {
+    ghost use Rattle.mk_local.specs.Rows.{IsStepOf};
+    ghost use Rattle.mk_local.specs.Simulators.{Simulator};
+
+    ghost Value = { Simulator };
+
+    ghost view = { λ a. record { kind = a.turn; step = a.step; entities = a.entities } };
+
+    ghost invariant = { λ a. IsStepOf a.turn a.step };
+}
+
+impl LocalSim {
+    /// A simulator of the kind of this name.
+    pub fn new(alloc: Global, kinds: &Registry, name: &Text) -> Result<LocalSim, Mem>
+        requires { has_kind name.now (rows_in kinds.now) ≡ true }
+        ensures named { IfOk result (λ s. kind_named name.now (rows_in kinds.now) ≡ Some s.kind) }
+        ensures there { IfOk result (λ s. IsIn s.kind (rows_in kinds.now)) }
+        ensures new { IfOk result (λ s. s ≡ new_simulator s.kind) }
+        ensures step { IfOk result (λ s. IsStepOf s.kind s.step) }
+    {
+        match kinds.named(name.as_str()) {
+            Some(turn) => Ok(LocalSim {
+                turn,
+                step: least_step(turn),
+                entities: List::new(alloc),
+            }),
+            None => unreachable!(),
+        }
+    }
+
+    /// The reply to a request before the run, which isn't `stop`.
+    pub fn answer_call(
+        &mut self,
+        alloc: Global,
+        _kinds: &Registry,
+        call: &Call,
+        id: u64,
+    ) -> Result<Message, Mem>
+        requires { IsCallReplied call.now }
+        ensures reply { IfOk result (λ m. call_reply self.old id call.now ≡ Some m) }
+        ensures after { OnOk result (self.new ≡ after_call self.old call.now) }
+        ensures kind { self.new.kind ≡ self.old.kind }
+        ensures step { IsStepOf self.new.kind self.new.step }
+        ensures err { OnErr result (self.new ≡ self.old) }
+    {
+        match call {
+            Call::Init { sim: _, params } => {
+                let content = init_content(alloc, self.turn, params)?;
+                if content.is_ok() {
+                    self.step = step_in(self.turn, params);
+                }
+                Ok(message(id, content))
+            }
+            Call::Create { num, model, params } => {
+                let count = self.entities.len();
+                let content = create_content(alloc, self.turn, count, *num, model, params)?;
+                if content.is_ok() {
+                    let setting = setting_in(self.turn, params);
+                    add_entities(alloc, &mut self.entities, *num, setting)?;
+                }
+                Ok(message(id, content))
+            }
+            Call::SetupDone => Ok(message(id, Ok(Json::Null))),
+            Call::Stop => unreachable!(),
+        }
+    }
+
+    /// The reply to an item of the run, a Step or a GetData.
+    pub fn answer_item(
+        &mut self,
+        alloc: Global,
+        kinds: &Registry,
+        item: &Item,
+        id: u64,
+    ) -> Result<Message, Mem>
+        requires there { IsIn self.old.kind (rows_in kinds.now) }
+        requires replied { IsItemReplied item.now }
+        ensures reply { IfOk result (λ m. item_reply self.old id item.now ≡ Some m) }
+        ensures after { OnOk result (self.new ≡ after_item self.old item.now) }
+        ensures kind { self.new.kind ≡ self.old.kind }
+        ensures step { IsStepOf self.new.kind self.new.step }
+        ensures err { OnErr result (self.new ≡ self.old) }
+    {
+        match item {
+            Item::Step {
+                at,
+                inputs,
+                max_advance: _,
+            } => {
+                let Some(kind) = kinds.of(self.turn) else {
+                    unreachable!()
+                };
+                let pace = Pace {
+                    step: self.step,
+                    time: at.time,
+                };
+                let turned = take_turns(alloc, kind, &pace, inputs, &self.entities)?;
+                let content = step_content(self.turn, &pace, &self.entities, turned.least);
+                self.entities = turned.entities;
+                Ok(Message::Success { id, content })
+            }
+            Item::GetData { wanted } => {
+                let content = data_content(alloc, self.turn, &self.entities, wanted)?;
+                Ok(Message::Success { id, content })
+            }
+            Item::Answer { id: _, content: _ } => unreachable!(),
+            Item::Refuse { id: _, reason: _ } => unreachable!(),
+        }
+    }
+}

@@ -1,0 +1,13 @@
+//! The words of the command line, and the requests that they are.
+#![tactic(auto)]
+
+mod arranged;
+mod number;
+mod reading;
+mod request;
+#[cfg(test)]
+mod tests;
+mod words;
+
+pub use request::{Command, Request};
+pub use words::read_words;
