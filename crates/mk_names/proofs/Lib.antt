@@ -1,0 +1,3 @@
+pub mod FullIds
+pub mod Indexing
+pub mod Sources
