@@ -24,7 +24,7 @@ use Rattle.mk_record.proofs.Known.{arrival-known}
 use Rattle.mk_record.proofs.Splitting.{reads_on, reads_bad, reads_end, reads_more}
 
 -- a message is added
-pub arrived-sound : (p : Progress) (here : ℕ) (a : Arrival) → here ≡ 8 → IsSound p → IsValidPlan p.plan → IsKnown p.plan (came a) → IsSoundAfter false (record { last = here; plan = p.plan; arrivals = p.arrivals ++ a ∷ [] })
+pub arrived-sound : (p : Progress) (here : ℕ) (a : Arrival) → here ≡ 8 → IsSound p → IsValidPlan p.plan → IsKnown p.plan (came a) → IsSoundAfter false (record { last = here; plan = p.plan; arrivals = p.arrivals ++ a ∷ []; asks = p.asks })
 arrived-sound p here a is sound valid known = record {
   sound = record {
     valid = λ _. valid;
@@ -68,8 +68,8 @@ reads-fault bytes rest line after number l n p (Bad k) f reads cut step at is =
 reads-fault bytes rest line after number l n p Mem f reads cut step at is = let odd : record_fault.Mem ≡ Line l n = sym at ∙ is in absurd (grind (arith, odd))
 
 -- the `end` line is the last
-pub reads-whole : (bytes rest line after : List ℕ) (number : ℕ) (p q : Progress) → Reads bytes rest number p → slice_split is_feed rest ≡ line ∷ slice_split is_feed after → line_step (state_of p) line ≡ Ended → state_of q ≡ state_of p → after ≡ [] → reading bytes ≡ Said q.plan (map came q.arrivals)
-reads-whole bytes rest line after number p q reads cut step same none = sym reads.going ∙ ap (reading_from (state_of p) number) cut ∙ reads_end (state_of p) number line after step none ∙ ap (λ S. Said S.plan S.arrivals) (sym same)
+pub reads-whole : (bytes rest line after : List ℕ) (number : ℕ) (p q : Progress) → Reads bytes rest number p → slice_split is_feed rest ≡ line ∷ slice_split is_feed after → line_step (state_of p) line ≡ Ended → state_of q ≡ state_of p → after ≡ [] → reading bytes ≡ Said q.plan (map came q.arrivals) q.asks
+reads-whole bytes rest line after number p q reads cut step same none = sym reads.going ∙ ap (reading_from (state_of p) number) cut ∙ reads_end (state_of p) number line after step none ∙ ap (λ S. Said S.plan S.arrivals S.asks) (sym same)
 
 -- more stands after the `end` line
 pub reads-overlong : (bytes rest line after : List ℕ) (number l n : ℕ) (p q : Progress) (r : Result Saved RecordFault) → Reads bytes rest number p → slice_split is_feed rest ≡ line ∷ slice_split is_feed after

@@ -39,7 +39,7 @@ pub reads_bad : (S : State) (n k : ℕ) (line rest : List ℕ) → line_step S l
 reads_bad S n k line rest e = step_of S n line rest (Bad k) e
 
 -- the line ends the record, and nothing follows
-pub reads_end : (S : State) (n : ℕ) (line rest : List ℕ) → line_step S line ≡ Ended → rest ≡ [] → reading_from S n (line ∷ slice_split is_feed rest) ≡ Said S.plan S.arrivals
+pub reads_end : (S : State) (n : ℕ) (line rest : List ℕ) → line_step S line ≡ Ended → rest ≡ [] → reading_from S n (line ∷ slice_split is_feed rest) ≡ Said S.plan S.arrivals S.asks
 reads_end S n line rest e none = step_of S n line rest Ended e ∙ ap (λ r. closed S n (slice_split is_feed r)) none
 
 -- what follows isn't just an empty piece

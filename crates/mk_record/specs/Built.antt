@@ -13,7 +13,7 @@ use Rattle.mk_plan.specs.Plans.{is_time_based}
 
 abbrev pub is_plain : Via → Bool
 is_plain Plain = true
-is_plain Shift = false
+is_plain (Shift d) = false
 is_plain Weak = false
 
 -- the message is a success reply

@@ -12,12 +12,12 @@ came a = record { sim = a.sim.0; message = a.message }
 
 -- what a saved record says
 abbrev pub said_by : Saved → Reading
-said_by s = Said s.plan (map came s.arrivals)
+said_by s = Said s.plan (map came s.arrivals) s.asks
 
 -- what stands in the lines that were read
 abbrev pub state_of : Progress → State
-state_of p = record { last = p.last; plan = p.plan; arrivals = map came p.arrivals }
+state_of p = record { last = p.last; plan = p.plan; arrivals = map came p.arrivals; asks = p.asks }
 
 -- what is saved of the lines that were read
 abbrev pub saved_in : Progress → Saved
-saved_in p = record { plan = p.plan; arrivals = p.arrivals }
+saved_in p = record { plan = p.plan; arrivals = p.arrivals; asks = p.asks }

@@ -30,7 +30,7 @@ pub record IsKnown (P : Plan) (a : Arrival) : Type 0 where
   pub sim : a.sim < sim_count P
   pub in_range : (content : Json) → content_of a.message ≡ Some content → is_in_range content ≡ true
 
--- what holds of the lines so far: from the first `got` line on the plan is valid, before it no message came, and each message is known
+-- what holds of the lines so far: from the first `ask` or `got` line on the plan is valid, before it no message came, and each message is known
 pub record IsSound (p : Progress) : Type 0 where
   pub valid : 8 ≤ p.last → IsValidPlan p.plan
   pub early : p.last < 8 → p.arrivals ≡ []

@@ -53,7 +53,7 @@ fn is_plain(via: Via) -> bool
 {
     match via {
         Via::Plain => true,
-        Via::Shift => false,
+        Via::Shift(_) => false,
         Via::Weak => false,
     }
 }

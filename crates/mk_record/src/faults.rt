@@ -5,8 +5,8 @@ use thiserror::Error;
 ///
 /// 1: the line isn't of a kind that may stand there, or not of its kind's form. 2: a number is
 /// outside its limits, a reference is to nothing that stands before, or a type or via is unknown.
-/// 3: the plan before the first `got` or `end` line isn't valid. 4: the number of `end` isn't the
-/// number of `got` lines. 5: the text ends before a whole `end` line. 6: bytes stand after the
+/// 3: the plan before the first `ask`, `got` or `end` line isn't valid. 4: the number of `end` isn't the
+/// number of `ask` and `got` lines. 5: the text ends before a whole `end` line. 6: bytes stand after the
 /// `end` line.
 #[derive(Debug, Drop, Error)]
 pub enum RecordFault {

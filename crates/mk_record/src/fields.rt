@@ -3,8 +3,8 @@ ghost use Rattle.std.specs.Prelude.{◌≡◌, Some, None, ℤ, pos, map, nat_ab
 ghost use Rattle.std.specs.List.{list_all};
 ghost use Rattle.mk_base.specs.Lists.{all_there, same_text};
 ghost use Rattle.mk_base.specs.Texts.{text_of};
-ghost use Rattle.mk_base.specs.Trees.{text_in, whole_in, items_in, is_in_range, is_datum};
-ghost use Rattle.mk_record.specs.Fields.{bool_in, wholes_in, texts_in, initial_in, kind_named, via_named, is_between, is_below};
+ghost use Rattle.mk_base.specs.Trees.{bool_in, text_in, whole_in, items_in, is_in_range, is_datum};
+ghost use Rattle.mk_record.specs.Fields.{wholes_in, texts_in, initial_in, kind_named, way_in, way_in_list, shift_of, lone, via_of, is_between};
 ghost use Rattle.mk_record.specs.Faults.{IsMissing, IsUnknown, IsNoDatum};
 
 use crate::faults::LineFault;
@@ -20,9 +20,9 @@ pub fn text_of(tree: &Json) -> Result<&Text, LineFault>
     ensures ok { IfOk result (λ t. text_in tree.now ≡ Some t.now) }
     ensures err { IfErr result (IsMissing (text_in tree.now)) }
 {
-    match tree {
-        Json::Text(text) => Ok(text),
-        _ => Err(LineFault::Bad(MISFORMED)),
+    match tree.as_text() {
+        Some(text) => Ok(text),
+        None => Err(LineFault::Bad(MISFORMED)),
     }
 }
 
@@ -30,9 +30,9 @@ pub fn whole_of(tree: &Json) -> Result<i128, LineFault>
     ensures ok { IfOk result (λ n. whole_in tree.now ≡ Some n) }
     ensures err { IfErr result (IsMissing (whole_in tree.now)) }
 {
-    match tree {
-        Json::Whole(n) => Ok(*n),
-        _ => Err(LineFault::Bad(MISFORMED)),
+    match tree.as_whole() {
+        Some(n) => Ok(n),
+        None => Err(LineFault::Bad(MISFORMED)),
     }
 }
 
@@ -40,9 +40,9 @@ pub fn bool_of(tree: &Json) -> Result<bool, LineFault>
     ensures ok { IfOk result (λ b. bool_in tree.now ≡ Some b) }
     ensures err { IfErr result (IsMissing (bool_in tree.now)) }
 {
-    match tree {
-        Json::Bool(b) => Ok(*b),
-        _ => Err(LineFault::Bad(MISFORMED)),
+    match tree.as_bool() {
+        Some(b) => Ok(b),
+        None => Err(LineFault::Bad(MISFORMED)),
     }
 }
 
@@ -128,21 +128,72 @@ pub fn kind_of(name: &Text) -> Result<SimKind, LineFault>
     Err(LineFault::Bad(OUT_OF_LIMITS))
 }
 
-pub fn via_of(name: &Text) -> Result<Via, LineFault>
-    ensures ok { IfOk result (λ v. via_named name.now ≡ Some v) }
-    ensures err { IfErr result (IsUnknown (via_named name.now)) }
+// How a connection delays, as it stands in a line of version 2 or of version 1: a name, and the number beside it.
+pub fn way_of(second: bool, tree: &Json) -> Result<(&Text, Option<i128>), LineFault>
+    ensures ok { IfOk result (λ w. way_in second tree.now ≡ Some (w.0.now, w.1)) }
+    ensures err { IfErr result (IsMissing (way_in second tree.now)) }
+{
+    if let Some(name) = tree.as_text() {
+        return Ok((name, None));
+    }
+    match tree {
+        Json::List(items) => listed_way(second, items.as_slice()),
+        _ => Err(LineFault::Bad(MISFORMED)),
+    }
+}
+
+fn listed_way(second: bool, items: &[Json]) -> Result<(&Text, Option<i128>), LineFault>
+    ensures ok { IfOk result (λ w. way_in_list second (Some items.now) ≡ Some (w.0.now, w.1)) }
+    ensures err { IfErr result (IsMissing (way_in_list second (Some items.now))) }
+{
+    if !second {
+        return Err(LineFault::Bad(MISFORMED));
+    }
+    let [name, width] = items else {
+        return Err(LineFault::Bad(MISFORMED));
+    };
+    Ok((text_of(name)?, Some(whole_of(width)?)))
+}
+
+pub fn via_of(second: bool, name: &Text, width: Option<i128>) -> Result<Via, LineFault>
+    ensures ok { IfOk result (λ v. via_of second (name.now, width) ≡ Some v) }
+    ensures err { IfErr result (IsUnknown (via_of second (name.now, width))) }
 {
     let name = name.bytes();
     if is_word(name, b"plain") {
-        return Ok(Via::Plain);
-    }
-    if is_word(name, b"shift") {
-        return Ok(Via::Shift);
+        return lone(width, Via::Plain);
     }
     if is_word(name, b"weak") {
-        return Ok(Via::Weak);
+        return lone(width, Via::Weak);
+    }
+    if is_word(name, b"shift") {
+        return shift_of(second, width);
     }
     Err(LineFault::Bad(OUT_OF_LIMITS))
+}
+
+// No number stands beside the name of such a way.
+fn lone(width: Option<i128>, via: Via) -> Result<Via, LineFault>
+    ensures ok { IfOk result (λ v. lone width via ≡ Some v) }
+    ensures err { IfErr result (IsUnknown (lone width via)) }
+{
+    match width {
+        None => Ok(via),
+        Some(_) => Err(LineFault::Bad(OUT_OF_LIMITS)),
+    }
+}
+
+fn shift_of(second: bool, width: Option<i128>) -> Result<Via, LineFault>
+    ensures ok { IfOk result (λ v. shift_of second width ≡ Some v) }
+    ensures err { IfErr result (IsUnknown (shift_of second width)) }
+{
+    if !second {
+        return Ok(Via::Shift(1));
+    }
+    match width {
+        Some(d) if is_from(1, 1000000, d) => Ok(Via::Shift(d as u32)),
+        _ => Err(LineFault::Bad(OUT_OF_LIMITS)),
+    }
 }
 
 pub fn is_from(low: i128, high: i128, n: i128) -> bool

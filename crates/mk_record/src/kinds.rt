@@ -14,12 +14,14 @@ pub enum LineKind {
     Entity,
     Conn,
     Async,
+    Ask,
     Got,
     End,
 }
 
-pub fn kind_of_word(word: &[u8]) -> Option<LineKind>
-    ensures { result ≡ kind_of_word word.now }
+// `ask` lines stand in version 2 alone.
+pub fn kind_of_word(second: bool, word: &[u8]) -> Option<LineKind>
+    ensures { result ≡ kind_of_word second word.now }
 {
     if is_word(word, b"mosaikrun") {
         return Some(LineKind::Head);
@@ -45,6 +47,9 @@ pub fn kind_of_word(word: &[u8]) -> Option<LineKind>
     if is_word(word, b"got") {
         return Some(LineKind::Got);
     }
+    if second && is_word(word, b"ask") {
+        return Some(LineKind::Ask);
+    }
     if is_word(word, b"end") {
         return Some(LineKind::End);
     }
@@ -63,6 +68,7 @@ pub fn place(kind: LineKind) -> u8
         LineKind::Entity => 5,
         LineKind::Conn => 6,
         LineKind::Async => 7,
+        LineKind::Ask => 8,
         LineKind::Got => 8,
         LineKind::End => 9,
     }

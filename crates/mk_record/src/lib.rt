@@ -1,4 +1,4 @@
-//! Records: the plan of a run and the messages that came in it, as a text of lines.
+//! Records: the plan of a run, the messages that came in it, and the steps that were asked for, as a text of lines.
 #![tactic(auto)]
 
 mod built;
@@ -13,7 +13,7 @@ mod saved;
 pub use built::is_built;
 pub use faults::RecordFault;
 pub use read::read_record;
-pub use saved::{Arrival, Saved};
+pub use saved::{Arrival, Asked, Saved};
 
 #[cfg(test)]
 mod tests;

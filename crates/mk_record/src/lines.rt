@@ -1,4 +1,4 @@
-// What each kind of line adds to the plan, or to the messages that came.
+// What each kind of line adds to the plan, to the messages that came, or to the steps that were asked for.
 ghost use Rattle.std.specs.Prelude.{◌≡◌, Ok, Some, OnOk, IfOk, IfErr, true, ◌&&◌, map, nat_abs};
 ghost use Rattle.std.specs.List.{list_all};
 ghost use Rattle.std.specs.Result.{result_ok};
@@ -6,15 +6,15 @@ ghost use Rattle.mk_message.specs.Messages.{message_in};
 ghost use Rattle.mk_base.specs.Trees.{is_in_range};
 ghost use Rattle.mk_record.specs.Faults.{IsFaultOf, IsMissing};
 ghost use Rattle.mk_record.specs.Fields.{is_below};
-ghost use Rattle.mk_record.specs.Lines.{run_fits, event_fits, sim_fits, entity_fits, with_run, with_sim, with_model, with_entity, with_way, with_conn, with_async, arrival_in};
+ghost use Rattle.mk_record.specs.Lines.{run_fits, event_fits, sim_fits, entity_fits, with_run, with_sim, with_model, with_entity, with_way, with_conn, with_async, arrival_in, asked_in, step_asked, step_fits};
 ghost use Rattle.mk_record.specs.Seen.{came};
 
 use crate::faults::LineFault;
 use crate::fields::{
-    bool_of, initial_of, is_from, kind_of, text_of, texts_of, via_of, whole_of, wholes_of,
+    bool_of, initial_of, is_from, kind_of, text_of, texts_of, via_of, way_of, whole_of, wholes_of,
 };
-use crate::saved::Arrival;
-use mk_base::{Json, List, Mem, SimNo, Text};
+use crate::saved::{Arrival, Asked};
+use mk_base::{Json, List, Mem, SimKind, SimNo, Text, Tier};
 use mk_message::{ReadFault, read_tree};
 use mk_plan::{AsyncPair, Conn, Message, Plan, PlanEntity, PlanModel, PlanSim};
 use std::alloc::Global;
@@ -64,15 +64,29 @@ pub fn add_sim(alloc: Global, plan: &mut Plan, items: &[Json]) -> Result<(), Lin
     if !sim_fits(first_id, rank, &events) {
         return Err(OUT_OF_LIMITS);
     }
-    let sim = PlanSim {
+    plan.sims
+        .push(sim_of(alloc, id, kind, first_id, rank, &events)?)?;
+    Ok(())
+}
+
+fn sim_of(
+    alloc: Global,
+    id: &Text,
+    kind: SimKind,
+    first_id: i128,
+    rank: i128,
+    events: &List<i128>,
+) -> Result<PlanSim, Mem>
+    requires { sim_fits first_id rank events.now ≡ true }
+    ensures { IfOk result (λ s. s ≡ record { id = id.now; kind = kind; first_id = nat_abs first_id; rank = nat_abs rank; initial = events.now }) }
+{
+    Ok(PlanSim {
         id: id.copy()?,
         kind,
         first_id: first_id as u64,
         rank: rank as u32,
-        initial: times_of(alloc, &events)?,
-    };
-    plan.sims.push(sim)?;
-    Ok(())
+        initial: times_of(alloc, events)?,
+    })
 }
 
 fn sim_fits(first_id: i128, rank: i128, events: &List<i128>) -> bool
@@ -178,10 +192,15 @@ fn numbers_of(alloc: Global, places: &List<i128>) -> Result<List<u32>, LineFault
     Ok(numbers)
 }
 
-pub fn add_conn(alloc: Global, plan: &mut Plan, items: &[Json]) -> Result<(), LineFault>
+pub fn add_conn(
+    alloc: Global,
+    plan: &mut Plan,
+    second: bool,
+    items: &[Json],
+) -> Result<(), LineFault>
     requires { list_all is_in_range items.now ≡ true }
-    ensures ok { OnOk result (with_conn plan.old items.now ≡ Ok plan.new) }
-    ensures err { IfErr result (IsFaultOf (with_conn plan.old items.now)) }
+    ensures ok { OnOk result (with_conn second plan.old items.now ≡ Ok plan.new) }
+    ensures err { IfErr result (IsFaultOf (with_conn second plan.old items.now)) }
 {
     let [from, from_attr, to, to_attr, way @ ..] = items else {
         return Err(MISFORMED);
@@ -190,12 +209,13 @@ pub fn add_conn(alloc: Global, plan: &mut Plan, items: &[Json]) -> Result<(), Li
     let from_attr = text_of(from_attr)?;
     let to = whole_of(to)?;
     let to_attr = text_of(to_attr)?;
-    add_way(alloc, plan, from, from_attr, to, to_attr, way)
+    add_way(alloc, plan, second, from, from_attr, to, to_attr, way)
 }
 
 fn add_way(
     alloc: Global,
     plan: &mut Plan,
+    second: bool,
     from: i128,
     from_attr: &Text,
     to: i128,
@@ -203,17 +223,17 @@ fn add_way(
     way: &[Json],
 ) -> Result<(), LineFault>
     requires { list_all is_in_range way.now ≡ true }
-    ensures ok { OnOk result (with_way plan.old from from_attr.now to to_attr.now way.now ≡ Ok plan.new) }
-    ensures err { IfErr result (IsFaultOf (with_way plan.old from from_attr.now to to_attr.now way.now)) }
+    ensures ok { OnOk result (with_way second plan.old from from_attr.now to to_attr.now way.now ≡ Ok plan.new) }
+    ensures err { IfErr result (IsFaultOf (with_way second plan.old from from_attr.now to to_attr.now way.now)) }
 {
     let [via, persistent, triggering, initial] = way else {
         return Err(MISFORMED);
     };
-    let via = text_of(via)?;
+    let (name, width) = way_of(second, via)?;
     let persistent = bool_of(persistent)?;
     let triggering = bool_of(triggering)?;
     let initial = initial_of(alloc, initial)?;
-    let via = via_of(via)?;
+    let via = via_of(second, name, width)?;
     if !both_named(plan.entities.len(), from, to) {
         return Err(OUT_OF_LIMITS);
     }
@@ -273,6 +293,54 @@ pub fn arrival_of(alloc: Global, plan: &Plan, items: &[Json]) -> Result<Arrival,
         sim: SimNo(number_of(sim)?),
         message,
     })
+}
+
+pub fn asked_of(plan: &Plan, before: u64, items: &[Json]) -> Result<Asked, LineFault>
+    ensures ok { IfOk result (λ a. asked_in plan.now before items.now ≡ Ok a) }
+    ensures err { IfErr result (IsFaultOf (asked_in plan.now before items.now)) }
+{
+    let [sim, time, tier, max_advance] = items else {
+        return Err(MISFORMED);
+    };
+    let sim = whole_of(sim)?;
+    let time = whole_of(time)?;
+    let tier = whole_of(tier)?;
+    let max_advance = whole_of(max_advance)?;
+    if !names_one_of(plan.sims.len(), sim) {
+        return Err(OUT_OF_LIMITS);
+    }
+    let sim = number_of(sim)?;
+    step_asked(before, sim, time, tier, max_advance)
+}
+
+fn step_asked(
+    before: u64,
+    sim: u32,
+    time: i128,
+    tier: i128,
+    max_advance: i128,
+) -> Result<Asked, LineFault>
+    ensures ok { IfOk result (λ a. step_asked before sim time tier max_advance ≡ Ok a) }
+    ensures err { IfErr result (IsFaultOf (step_asked before sim time tier max_advance)) }
+{
+    if !step_fits(time, tier, max_advance) {
+        return Err(OUT_OF_LIMITS);
+    }
+    Ok(Asked {
+        before,
+        sim: SimNo(sim),
+        at: Tier {
+            time: time as i64,
+            tier: tier as u32,
+        },
+        max_advance: max_advance as i64,
+    })
+}
+
+fn step_fits(time: i128, tier: i128, max_advance: i128) -> bool
+    ensures { result ≡ step_fits time tier max_advance }
+{
+    is_from(0, 1000000000, time) && is_from(0, 1000, tier) && is_from(0, 1000000000, max_advance)
 }
 
 fn message_of(alloc: Global, tree: &Json) -> Result<Message, LineFault>

@@ -5,7 +5,7 @@ ghost use Rattle.mk_base.specs.Trees.{is_in_range};
 ghost use Rattle.mk_json.specs.Parsed.{parsed};
 ghost use Rattle.mk_record.specs.Faults.{IsFaultOf, IsMissing};
 ghost use Rattle.mk_record.specs.Fields.{found, misformed};
-ghost use Rattle.mk_record.specs.Lines.{arrival_in};
+ghost use Rattle.mk_record.specs.Lines.{arrival_in, asked_in};
 ghost use Rattle.mk_record.specs.Reading.{is_digit, is_number, end_step, items_read, with_part};
 ghost use Rattle.mk_record.specs.Seen.{came};
 ghost use Rattle.mk_record.specs.Steps.{IsBadStep, IsKnown};
@@ -14,8 +14,10 @@ ghost use Rattle.mk_record.specs.Reading.{Ended};
 use crate::faults::LineFault;
 use crate::fields::{is_word, items_of};
 use crate::kinds::LineKind;
-use crate::lines::{add_async, add_conn, add_entity, add_model, add_run, add_sim, arrival_of};
-use crate::saved::Arrival;
+use crate::lines::{
+    add_async, add_conn, add_entity, add_model, add_run, add_sim, arrival_of, asked_of,
+};
+use crate::saved::{Arrival, Asked};
 use itoa::Buffer;
 use mk_base::Json;
 use mk_json::{JsonFault, read_json};
@@ -41,37 +43,40 @@ fn tree_of(alloc: Global, text: &[u8]) -> Result<Json, LineFault>
 pub fn add_part(
     alloc: Global,
     plan: &mut Plan,
+    second: bool,
     kind: LineKind,
     text: &[u8],
 ) -> Result<(), LineFault>
     ensures ok { OnOk result
-        (found misformed (items_read text.now) (with_part kind plan.old) ≡ Ok plan.new) }
+        (found misformed (items_read text.now) (with_part second kind plan.old) ≡ Ok plan.new) }
     ensures err { IfErr result
-        (IsFaultOf (found misformed (items_read text.now) (with_part kind plan.old))) }
+        (IsFaultOf (found misformed (items_read text.now) (with_part second kind plan.old))) }
 {
     let tree = tree_of(alloc, text)?;
     let items = items_of(&tree)?;
-    add_items(alloc, plan, kind, items)
+    add_items(alloc, plan, second, kind, items)
 }
 
 fn add_items(
     alloc: Global,
     plan: &mut Plan,
+    second: bool,
     kind: LineKind,
     items: &[Json],
 ) -> Result<(), LineFault>
     requires { list_all is_in_range items.now ≡ true }
-    ensures ok { OnOk result (with_part kind plan.old items.now ≡ Ok plan.new) }
-    ensures err { IfErr result (IsFaultOf (with_part kind plan.old items.now)) }
+    ensures ok { OnOk result (with_part second kind plan.old items.now ≡ Ok plan.new) }
+    ensures err { IfErr result (IsFaultOf (with_part second kind plan.old items.now)) }
 {
     match kind {
         LineKind::Run => add_run(plan, items),
         LineKind::Sim => add_sim(alloc, plan, items),
         LineKind::Model => add_model(alloc, plan, items),
         LineKind::Entity => add_entity(alloc, plan, items),
-        LineKind::Conn => add_conn(alloc, plan, items),
+        LineKind::Conn => add_conn(alloc, plan, second, items),
         LineKind::Async => add_async(plan, items),
         LineKind::Head => Err(MISFORMED),
+        LineKind::Ask => Err(MISFORMED),
         LineKind::Got => Err(MISFORMED),
         LineKind::End => Err(MISFORMED),
     }
@@ -89,7 +94,18 @@ pub fn read_arrival(alloc: Global, plan: &Plan, text: &[u8]) -> Result<Arrival, 
     arrival_of(alloc, plan, items)
 }
 
-pub fn read_end(count: usize, text: &[u8]) -> Result<(), LineFault>
+pub fn read_asked(alloc: Global, plan: &Plan, before: u64, text: &[u8]) -> Result<Asked, LineFault>
+    ensures ok { IfOk result
+        (λ a. found misformed (items_read text.now) (asked_in plan.now before) ≡ Ok a) }
+    ensures err { IfErr result
+        (IsFaultOf (found misformed (items_read text.now) (asked_in plan.now before))) }
+{
+    let tree = tree_of(alloc, text)?;
+    let items = items_of(&tree)?;
+    asked_of(plan, before, items)
+}
+
+pub fn read_end(count: u128, text: &[u8]) -> Result<(), LineFault>
     ensures ok { OnOk result (end_step count text.now ≡ Ended) }
     ensures err { IfErr result (IsBadStep (end_step count text.now)) }
 {

@@ -3,14 +3,14 @@ ghost use Rattle.std.specs.Prelude.{◌≡◌, ◌<◌, ◌+◌, ◌≤◌, ℕ,
 ghost use Rattle.std.specs.List.{slice_split};
 ghost use Rattle.mk_plan.specs.Plans.{IsValidPlan};
 ghost use Rattle.mk_valid.specs.Tests.{first_bad};
-ghost use Rattle.mk_record.specs.Reading.{reading, Faulty, start, is_feed, word_of, rest_of, place, may_stand, line_step, kind_step, part_step, plan_step};
+ghost use Rattle.mk_record.specs.Reading.{reading, Faulty, start, is_feed, word_of, rest_of, place, may_stand, line_step, kind_step, part_step, plan_step, steps_in};
 ghost use Rattle.mk_record.specs.Seen.{came, state_of, said_by, saved_in};
 ghost use Rattle.mk_record.specs.Steps.{IsStep, IsBadStep, IsSound, IsSoundAfter, IsInvalid, IsKnown, IsOverlong, IsFaultAt};
 
 use crate::faults::{LineFault, RecordFault};
 use crate::fields::is_word;
 use crate::kinds::{LineKind, ends_plan, kind_of_word, may_stand, place};
-use crate::parts::{add_part, read_arrival, read_end};
+use crate::parts::{add_part, read_arrival, read_asked, read_end};
 use crate::saved::{Progress, Saved};
 use mk_base::List;
 use mk_plan::Plan;
@@ -53,22 +53,23 @@ fn take_part(
     ensures sound { IfOk result (λ ended. IsSoundAfter ended progress.new) }
 {
     match kind {
-        LineKind::Head => take_head(progress, text),
+        LineKind::Head => take_head(alloc, progress, text),
         LineKind::Run => take_addition(alloc, progress, kind, text),
         LineKind::Sim => take_addition(alloc, progress, kind, text),
         LineKind::Model => take_addition(alloc, progress, kind, text),
         LineKind::Entity => take_addition(alloc, progress, kind, text),
         LineKind::Conn => take_addition(alloc, progress, kind, text),
         LineKind::Async => take_addition(alloc, progress, kind, text),
+        LineKind::Ask => take_ask(alloc, progress, text),
         LineKind::Got => take_message(alloc, progress, text),
         LineKind::End => {
-            read_end(progress.arrivals.len(), text)?;
+            read_end(line_count(progress), text)?;
             Ok(true)
         }
     }
 }
 
-fn take_head(progress: &mut Progress, text: &[u8]) -> Result<bool, LineFault>
+fn take_head(alloc: Global, progress: &mut Progress, text: &[u8]) -> Result<bool, LineFault>
     requires stands { may_stand progress.old.last LineKind.Head ≡ true }
     requires sound { IsSound progress.old }
     ensures ok { IfOk result
@@ -76,7 +77,11 @@ fn take_head(progress: &mut Progress, text: &[u8]) -> Result<bool, LineFault>
     ensures err { IfErr result (IsBadStep (part_step (state_of progress.old) LineKind.Head text.now)) }
     ensures sound { IfOk result (λ ended. IsSoundAfter ended progress.new) }
 {
-    if !is_word(text, b"1") {
+    if is_word(text, b"1") {
+        progress.asks = None;
+    } else if is_word(text, b"2") {
+        progress.asks = Some(List::new(alloc));
+    } else {
         return Err(MISFORMED);
     }
     progress.last = place(LineKind::Head);
@@ -97,7 +102,8 @@ fn take_addition(
     ensures err { IfErr result (IsBadStep (plan_step (state_of progress.old) kind text.now)) }
     ensures sound { IfOk result (λ ended. IsSoundAfter ended progress.new) }
 {
-    add_part(alloc, &mut progress.plan, kind, text)?;
+    let second = progress.asks.is_some();
+    add_part(alloc, &mut progress.plan, second, kind, text)?;
     progress.last = place(kind);
     Ok(false)
 }
@@ -116,6 +122,37 @@ fn take_message(alloc: Global, progress: &mut Progress, text: &[u8]) -> Result<b
     Ok(false)
 }
 
+// Adds a step that was asked for; such lines stand in version 2 alone.
+fn take_ask(alloc: Global, progress: &mut Progress, text: &[u8]) -> Result<bool, LineFault>
+    requires valid { IsValidPlan progress.old.plan }
+    requires sound { IsSound progress.old }
+    ensures ok { IfOk result
+        (λ ended. IsStep (state_of progress.old) (part_step (state_of progress.old) LineKind.Ask text.now) ended progress.new) }
+    ensures err { IfErr result (IsBadStep (part_step (state_of progress.old) LineKind.Ask text.now)) }
+    ensures sound { IfOk result (λ ended. IsSoundAfter ended progress.new) }
+{
+    let asked = read_asked(alloc, &progress.plan, progress.arrivals.len() as u64, text)?;
+    let mut asks = match progress.asks.take() {
+        Some(asks) => asks,
+        None => List::new(alloc),
+    };
+    asks.push(asked)?;
+    progress.asks = Some(asks);
+    progress.last = place(LineKind::Ask);
+    Ok(false)
+}
+
+// How many lines say that a message came or that a step was asked for.
+fn line_count(progress: &Progress) -> u128
+    ensures { result ≡ length progress.now.arrivals + length (steps_in (state_of progress.now)) }
+{
+    let steps = match &progress.asks {
+        Some(asks) => asks.len(),
+        None => 0,
+    };
+    progress.arrivals.len() as u128 + steps as u128
+}
+
 // Adds a line; whether it ends the record.
 fn take_line(alloc: Global, progress: &mut Progress, line: &[u8]) -> Result<bool, LineFault>
     requires { IsSound progress.old }
@@ -125,7 +162,7 @@ fn take_line(alloc: Global, progress: &mut Progress, line: &[u8]) -> Result<bool
     ensures sound { IfOk result (λ ended. IsSoundAfter ended progress.new) }
 {
     let (word, text) = word_and_rest(line);
-    let Some(kind) = kind_of_word(word) else {
+    let Some(kind) = kind_of_word(progress.asks.is_some(), word) else {
         return Err(MISFORMED);
     };
     take_kind(alloc, progress, kind, text)
@@ -180,8 +217,8 @@ fn line_and_rest(bytes: &[u8]) -> Option<(&[u8], &[u8])>
     }
 }
 
-/// What a record (version 1) says: its plan, which is valid, and the messages that came. `Line` has
-/// the line and the number of the first fault.
+/// What a record of version 1 or 2 says: its plan, which is valid, the messages that came and, in version 2, the steps that
+/// were asked for. `Line` has the line and the number of the first fault.
 pub fn read_record(alloc: Global, bytes: &[u8]) -> Result<Saved, RecordFault>
     ensures ok { IfOk result (λ s. reading bytes.now ≡ said_by s) }
     ensures valid { IfOk result (λ s. IsValidPlan s.plan) }
@@ -229,6 +266,7 @@ fn empty_progress(alloc: Global) -> Progress
             asyncs: List::new(alloc),
         },
         arrivals: List::new(alloc),
+        asks: None,
     }
 }
 
@@ -242,6 +280,7 @@ fn closed(progress: Progress, number: u64, after: &[u8]) -> Result<Saved, Record
         [] => Ok(Saved {
             plan: progress.plan,
             arrivals: progress.arrivals,
+            asks: progress.asks,
         }),
         _ => Err(RecordFault::Line(number + 1, OVERLONG)),
     }

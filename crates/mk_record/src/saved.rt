@@ -1,5 +1,5 @@
 // A record that was read.
-use mk_base::{List, SimNo};
+use mk_base::{List, SimNo, Tier};
 use mk_plan::{Message, Plan};
 
 /// A message, and the simulator that it came from.
@@ -9,17 +9,30 @@ pub struct Arrival {
     pub message: Message,
 }
 
-/// What a record says: the plan of a run, and the messages that came, in their order.
+/// A step that a simulator was asked for: how many messages had come before, the simulator, the step's time, and the time up
+/// to which nothing from outside triggers the simulator.
+#[derive(Clone, Copy, Debug, PartialEq, Eq)]
+pub struct Asked {
+    pub before: u64,
+    pub sim: SimNo,
+    pub at: Tier,
+    pub max_advance: i64,
+}
+
+/// What a record says: the plan of a run, the messages that came, in their order, and in version 2 the steps that were asked
+/// for, in theirs.
 #[derive(Drop)]
 pub struct Saved {
     pub plan: Plan,
     pub arrivals: List<Arrival>,
+    pub asks: Option<List<Asked>>,
 }
 
-// The lines of a record so far: the place of the last one's kind, the plan, and the messages.
+// The lines of a record so far: the place of the last one's kind, the plan, the messages, and in version 2 the steps.
 #[derive(Drop)]
 pub struct Progress {
     pub last: u8,
     pub plan: Plan,
     pub arrivals: List<Arrival>,
+    pub asks: Option<List<Asked>>,
 }

@@ -1,5 +1,5 @@
-use crate::{RecordFault, is_built, read_record};
-use mk_base::SimKind;
+use crate::{Asked, RecordFault, is_built, read_record};
+use mk_base::{SimKind, SimNo, Tier, Via};
 use std::alloc::Global;
 use std::test::Fail;
 
@@ -38,13 +38,104 @@ fn nine_lines_say_a_plan_and_three_messages(rt: HostRuntime) -> Result<(), Fail>
     Ok(())
 }
 
+// The first five lines, in which a plan of one counter stands.
+const PLAN: &str =
+    "run [3,100,2000000]\nsim [\"A-0\",\"time-based\",3,0,[]]\nmodel [0,\"Count\",[\"out\"],false]\nentity [0,\"0\",[]]\n";
+
 #[test]
-fn a_message_of_nobody_and_a_wrong_count_are_refused(rt: HostRuntime) {
-    let of_nobody =
-        b"mosaikrun 1\nrun [1,100,9]\nsim [\"A-0\",\"time-based\",3,0,[]]\ngot [7,[1,3,1]]\nend 1\n";
-    let miscounted =
-        b"mosaikrun 1\nrun [1,100,9]\nsim [\"A-0\",\"time-based\",3,0,[]]\ngot [0,[1,3,1]]\nend 2\n";
-    assert!(rt; has_fault(rt.alloc(), of_nobody, 4, 2));
-    assert!(rt; has_fault(rt.alloc(), miscounted, 5, 4));
+fn twelve_lines_say_the_steps_too(rt: HostRuntime) -> Result<(), Fail> {
+    let lines =
+        "ask [0,0,0,3]\ngot [0,[1,3,1]]\nask [0,1,0,3]\ngot [0,[1,4,2]]\nask [0,2,0,3]\ngot [0,[1,5,3]]\nend 6\n";
+    let text = format!(in rt.alloc(); "mosaikrun 2\n{PLAN}{lines}")?;
+    let saved = read_record(rt.alloc(), text.as_bytes())?;
+    assert_eq!(rt; saved.arrivals.len(), 3);
+    assert!(rt; is_built(&saved));
+    let asks = saved.asks.ok_or("no steps")?;
+    assert_eq!(rt; asks.as_slice(), [step(0), step(1), step(2)].as_slice());
+    Ok(())
+}
+
+// The counter's step at this time, before which it replied as often.
+fn step(time: u32) -> Asked {
+    Asked {
+        before: time as u64,
+        sim: SimNo(0),
+        at: Tier {
+            time: time as i64,
+            tier: 0,
+        },
+        max_advance: 3,
+    }
+}
+
+#[test]
+fn faults_by_line_and_number(rt: HostRuntime) -> Result<(), Fail> {
+    let cases = [
+        ("mosaikrun 1\n", "got [7,[1,3,1]]\nend 1\n", 6, 2),
+        ("mosaikrun 1\n", "got [0,[1,3,1]]\nend 2\n", 7, 4),
+        ("mosaikrun 1\n", "end 0\n\n", 7, 6),
+        ("mosaikrun 1\n", "ask [0,0,0,3]\nend 1\n", 6, 1),
+        ("mosaikrun 1\n", "end 0", 6, 5),
+        ("mosaikrun 9\n", "end 0\n", 1, 1),
+        (
+            "mosaikrun 2\n",
+            "ask [0,0,0,3]\ngot [0,[1,3,1]]\nend 1\n",
+            8,
+            4,
+        ),
+        ("mosaikrun 2\n", "ask [1,0,0,3]\nend 1\n", 6, 2),
+        ("mosaikrun 2\n", "ask [0,0,1001,3]\nend 1\n", 6, 2),
+        (
+            "mosaikrun 2\n",
+            "conn [0,\"out\",0,\"in\",[\"shift\",0],true,false,[1]]\nend 0\n",
+            6,
+            2,
+        ),
+        (
+            "mosaikrun 2\n",
+            "conn [0,\"out\",0,\"in\",\"shift\",true,false,[1]]\nend 0\n",
+            6,
+            2,
+        ),
+        (
+            "mosaikrun 1\n",
+            "conn [0,\"out\",0,\"in\",[\"shift\",1],true,false,[1]]\nend 0\n",
+            6,
+            1,
+        ),
+        (
+            "mosaikrun 2\n",
+            "conn [0,\"out\",0,\"in\",[\"shift\",1],true,false,[]]\nask [0,0,0,3]\nend 1\n",
+            7,
+            3,
+        ),
+    ];
+    for (head, lines, line, number) in cases {
+        let text = format!(in rt.alloc(); "{head}{PLAN}{lines}")?;
+        assert!(rt;
+            has_fault(rt.alloc(), text.as_bytes(), line, number),
+            "in {lines}"
+        );
+    }
     assert!(rt; has_fault(rt.alloc(), b"", 1, 5));
+    Ok(())
+}
+
+#[test]
+fn widths_of_time_shifts(rt: HostRuntime) -> Result<(), Fail> {
+    let cases = [
+        ("mosaikrun 1\n", "\"shift\"", 1),
+        ("mosaikrun 2\n", "[\"shift\",1000000]", 1000000),
+    ];
+    for (head, via, width) in cases {
+        let text = format!(in rt.alloc();
+            "{head}{PLAN}conn [0,\"out\",0,\"in\",{via},true,false,[1]]\nend 0\n"
+        )?;
+        let saved = read_record(rt.alloc(), text.as_bytes())?;
+        assert_eq!(rt; saved.plan.conns.len(), 1);
+        for conn in saved.plan.conns.as_slice() {
+            assert_eq!(rt; conn.via, Via::Shift(width));
+        }
+    }
+    Ok(())
 }

@@ -30,7 +30,7 @@ use Rattle.mk_sched.specs.Answers.{NextOf, ArriveOf, IsAsked, IsWaiting, IsOver,
 use Rattle.mk_replay.specs.declared.replaying.ReplayEnd.TheVariants.{Done, Core, Short}
 use Rattle.mk_replay.specs.Replays.{messages_from, IsReplay, IsLastFaulty, IsTooLong}
 use Rattle.mk_replay.specs.Loops.{IsPatient, IsOnWay, GoesOn, IsUnready, IsSettled, IsStopped, GivenBy, IsRun}
-use Rattle.mk_replay.proofs.Pushing.{on_way_sent, on_way_got, patient_got, arrivals_after_got, got_is}
+use Rattle.mk_replay.proofs.Pushing.{given_of, given_got, on_way_sent, on_way_got, patient_got, arrivals_after_got, got_is}
 use Rattle.mk_replay.proofs.Counting.{some_are_open}
 
 -- ---- whoever is ready is asked
@@ -41,7 +41,7 @@ goes_on_first core = record { plan = refl; on_way = λ A h. h }
 pub goes_on_asked : (first old new : CoreState) (s : SimNo) → GoesOn first old → IsAsked old s new → GoesOn first new
 goes_on_asked first old new s g a = record {
   plan = ap (λ (c : CoreState). c.plan) a.moved ∙ g.plan;
-  on_way = λ A h. subst (λ (c : CoreState). IsOnWay first.plan A c.entries) (sym a.moved) (on_way_sent first.plan A old.entries s (Step a.at a.inputs a.advance) (g.on_way A h));
+  on_way = λ A h. subst (λ (c : CoreState). IsOnWay first.plan A c.entries) (sym a.moved) (on_way_sent first.plan A old.entries s (Step a.at a.inputs a.advance) (given_of first.plan A old.entries (g.on_way A h)));
 }
 
 pub asked_goes : (old new : CoreState) (s : SimNo) → IsAsked old s new → new.ended ≡ None
@@ -114,14 +114,14 @@ module _ (old new : CoreState) (sim : SimNo) (m : Message) where
   given_with A more way = (more, with_rest A a more ∙ ap (λ (B : List Arrival). B ++ more) (sym (arrivals_after_got old.entries sim m ∙ ap (λ (B : List Arrival). B ++ a ∷ []) way.given)))
 
   pub taken_quiet : IsUnready old → IsQuiet old sim m new → GivenBy old a None new
-  taken_quiet nobody q = (ap (λ (c : CoreState). c.ended) q.moved, ap (λ (c : CoreState). c.plan) q.moved, λ A way. subst (λ (c : CoreState). IsOnWay old.plan (A ++ a ∷ []) c.entries) (sym q.moved) (on_way_got old.plan A old.entries sim m way nobody q.no_fault))
+  taken_quiet nobody q = (ap (λ (c : CoreState). c.ended) q.moved, ap (λ (c : CoreState). c.plan) q.moved, λ A way. subst (λ (c : CoreState). IsOnWay old.plan (A ++ a ∷ []) c.entries) (sym q.moved) (on_way_got old.plan A old.entries sim m way nobody q.no_fault q.none_owed))
 
   pub taken_send : IsUnready old → IsAnswered old sim m new → GivenBy old a None new
   taken_send nobody q = (
     ap (λ (c : CoreState). c.ended) q.moved,
     ap (λ (c : CoreState). c.plan) q.moved,
     λ A way. subst (λ (c : CoreState). IsOnWay old.plan (A ++ a ∷ []) c.entries) (sym q.moved)
-        (on_way_sent old.plan (A ++ a ∷ []) J sim q.item (on_way_got old.plan A old.entries sim m way nobody q.no_fault)),
+        (on_way_sent old.plan (A ++ a ∷ []) J sim q.item (given_got old.plan A old.entries sim m way nobody q.no_fault)),
   )
 
   pub taken_fault : (f : CoreFault) → old.ended ≡ None → IsUnready old → ArriveOf old sim m (taken.Fault f) new → Stands new.plan new.entries → GivenBy old a (Some f) new
@@ -172,6 +172,7 @@ module _ (old new : CoreState) where
     ends = record {
       given = after.given;
       done = subst (λ (P : Plan). IsDone P (view P new.entries)) s.goes.plan s.by.1;
+      paid = after.paid;
       finished = finished;
       sent = λ i h. (finished i h).sent ∙ ap (λ (R : Messages). run_items old.plan R i) (λ k j. (got_is new.entries j ∙ ap (λ (B : List Arrival). messages_from B j) after.given) k);
     };
@@ -184,6 +185,7 @@ module _ (old new : CoreState) where
     ends = record {
       given = after.given;
       no_fault = after.no_fault;
+      paid = after.paid;
       nobody = subst (λ (P : Plan). SomeReady P new.entries → ⊥) s.goes.plan s.by.1;
       count = count;
       some = let one : 1 ≤ open_count new.plan (view new.plan new.entries) = some_are_open new.plan new.entries s.by.2 in subst (λ (k : ℕ). 1 ≤ k) (sym e) one;

@@ -41,7 +41,7 @@ time_based Hybrid e = absurd (true≢false (sym e))
 
 plain : (v : Via) → is_plain v ≡ true → v ≡ Plain
 plain Plain e = refl
-plain Shift e = absurd (true≢false (sym e))
+plain (Shift d) e = absurd (true≢false (sym e))
 plain Weak e = absurd (true≢false (sym e))
 
 empty : {X : Type 0} (xs : List X) → (length xs == 0) ≡ true → xs ≡ []

@@ -2,3 +2,4 @@ pub mod Counting
 pub mod Giving
 pub mod Known
 pub mod Pushing
+pub mod OneEnd

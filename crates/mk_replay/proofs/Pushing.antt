@@ -12,7 +12,7 @@ use Rattle.mk_plan.specs.Journals.{Arrival, arrival_of, arrivals, note, view, em
 use Rattle.mk_plan.specs.Ready.{IsReady}
 use Rattle.mk_sched.specs.Answers.{SomeReady}
 use Rattle.mk_replay.specs.Replays.{messages_from}
-use Rattle.mk_replay.specs.Loops.{IsPatient, IsOnWay}
+use Rattle.mk_replay.specs.Loops.{IsPatient, IsGiven, IsOnWay}
 
 fold_push : {A B : Type 0} (f : B → A → B) (b : B) (xs : List A) (x : A) → fold f b (xs ++ x ∷ []) ≡ f (fold f b xs) x
 fold_push f b [] x = refl
@@ -66,14 +66,21 @@ patient_got P J s m patient nobody H t n more q i x ready = elim (last_or_before
 
 -- before any message
 pub on_way_first : (P : Plan) → IsOnWay P [] []
-on_way_first P = record { given = refl; no_fault = refl; patient = λ H s m more q i x ready. not_empty H more (Got s m) q }
+on_way_first P = record { given = refl; no_fault = refl; patient = λ H s m more q i x ready. not_empty H more (Got s m) q; paid = refl }
 
-pub on_way_sent : (P : Plan) (A : List Arrival) (J : List Entry) (s : SimNo) (item : Item) → IsOnWay P A J → IsOnWay P A (J ++ Sent s item ∷ [])
-on_way_sent P A J s item h = record { given = arrivals_after_sent J s item ∙ h.given; no_fault = fault_after_sent P J s item h.no_fault; patient = patient_sent P J s item h.patient }
+pub given_of : (P : Plan) (A : List Arrival) (J : List Entry) → IsOnWay P A J → IsGiven P A J
+given_of P A J h = record { given = h.given; no_fault = h.no_fault; patient = h.patient }
 
-pub on_way_got : (P : Plan) (A : List Arrival) (J : List Entry) (s : SimNo) (m : Message) → IsOnWay P A J → (SomeReady P J → ⊥) → (view P (J ++ Got s m ∷ [])).fault ≡ None
+pub on_way_sent : (P : Plan) (A : List Arrival) (J : List Entry) (s : SimNo) (item : Item) → IsGiven P A J → IsOnWay P A (J ++ Sent s item ∷ [])
+on_way_sent P A J s item h = record { given = arrivals_after_sent J s item ∙ h.given; no_fault = fault_after_sent P J s item h.no_fault; patient = patient_sent P J s item h.patient; paid = ap (λ V. V.owed) (view_push P J (Sent s item)) }
+
+pub given_got : (P : Plan) (A : List Arrival) (J : List Entry) (s : SimNo) (m : Message) → IsOnWay P A J → (SomeReady P J → ⊥) → (view P (J ++ Got s m ∷ [])).fault ≡ None
+    → IsGiven P (A ++ record { sim = s.0; message = m } ∷ []) (J ++ Got s m ∷ [])
+given_got P A J s m h nobody right = record { given = arrivals_after_got J s m ∙ ap (λ (B : List Arrival). B ++ record { sim = s.0; message = m } ∷ []) h.given; no_fault = right; patient = patient_got P J s m h.patient nobody }
+
+pub on_way_got : (P : Plan) (A : List Arrival) (J : List Entry) (s : SimNo) (m : Message) → IsOnWay P A J → (SomeReady P J → ⊥) → (view P (J ++ Got s m ∷ [])).fault ≡ None → (view P (J ++ Got s m ∷ [])).owed ≡ None
     → IsOnWay P (A ++ record { sim = s.0; message = m } ∷ []) (J ++ Got s m ∷ [])
-on_way_got P A J s m h nobody right = record { given = arrivals_after_got J s m ∙ ap (λ (B : List Arrival). B ++ record { sim = s.0; message = m } ∷ []) h.given; no_fault = right; patient = patient_got P J s m h.patient nobody }
+on_way_got P A J s m h nobody right paid = let g = given_got P A J s m h nobody right in record { given = g.given; no_fault = g.no_fault; patient = g.patient; paid = paid }
 
 -- the messages that came from a simulator are its messages among those that came
 pub got_is : (J : List Entry) (i : ℕ) → got J i ≡ messages_from (arrivals J) i

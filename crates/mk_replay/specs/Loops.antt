@@ -32,10 +32,17 @@ abbrev pub IsPatient : Plan → List Entry → Type 0
 IsPatient P J = (H : List Entry) (s : SimNo) (m : Message) (more : List Entry) → J ≡ H ++ Got s m ∷ more → (i : ℕ) (x : Tier) → IsReady P (view P H) i x → ⊥
 
 -- the messages A were given, and there is no fault
+pub record IsGiven (P : Plan) (A : List journals.Arrival) (J : List Entry) : Type 0 where
+  pub given : arrivals J ≡ A
+  pub no_fault : (view P J).fault ≡ None
+  pub patient : IsPatient P J
+
+-- the same, and nothing is owed
 pub record IsOnWay (P : Plan) (A : List journals.Arrival) (J : List Entry) : Type 0 where
   pub given : arrivals J ≡ A
   pub no_fault : (view P J).fault ≡ None
   pub patient : IsPatient P J
+  pub paid : (view P J).owed ≡ None
 
 -- the core goes on with the same plan and without a message
 pub record GoesOn (old new : CoreState) : Type 0 where

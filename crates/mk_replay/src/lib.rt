@@ -6,4 +6,4 @@ mod replaying;
 #[cfg(test)]
 mod tests;
 
-pub use replaying::{ReplayEnd, Replayed, replay};
+pub use replaying::{ReplayEnd, Replayed, replay, replay_is_one};

@@ -1,27 +1,33 @@
-ghost use Rattle.std.specs.Prelude.{◌≡◌, ◌<◌, ◌^◌, List, [], None, true, map, All, IfOk, is_some, if◌then◌else◌};
+ghost use Rattle.std.specs.Prelude.{◌≡◌, ◌<◌, ◌^◌, List, [], Option, None, true, map, All, IfOk, is_some, if◌then◌else◌};
 ghost use Rattle.mk_plan.specs.Plans.{IsValidPlan, sim_count};
 ghost use Rattle.mk_plan.specs.Journals as journals;
 ghost use Rattle.mk_plan.specs.Journals.{view, open_count};
+ghost use Rattle.mk_plan.specs.declared.Entry.{Entry};
+ghost use Rattle.mk_plan.specs.declared.Plan.{Plan};
+ghost use Rattle.mk_record.specs.declared.saved.Asked.{Asked};
+ghost use Rattle.mk_replay.specs.declared.replaying.ReplayEnd.{ReplayEnd};
 ghost use Rattle.mk_record.specs.Built.{is_built_record};
 ghost use Rattle.mk_record.specs.Seen.{came};
 ghost use Rattle.mk_record.specs.Steps.{IsKnown};
 ghost use Rattle.mk_sched.specs.Answers.{open_id};
-ghost use Rattle.mk_replay.specs.Replays.{IsReplay, EndsBy};
+ghost use Rattle.mk_replay.specs.Replays.{IsReplay, IsEndOf, end_with};
 ghost use Rattle.mk_replay.specs.Loops.{CanArrive, GivenBy, IsOnWay, IsRun, IsSettled, IsUnready};
 
 use mk_base::{List, Mem, SimNo};
+use mk_differs::first_other;
 use mk_plan::{Journal, Plan};
 use mk_record::{Arrival, Saved};
 use mk_sched::{Core, CoreFault, Next, Taken};
 use std::alloc::Global;
 
-/// How a replay ends: nothing is left to do; the core met a fault; or all messages were given, and this many simulators
-/// still owe a reply.
+/// How a replay ends: nothing is left to do; the core met a fault; all messages were given, and this many simulators still
+/// owe a reply; or the record's entry of this number, from 0, isn't the journal's.
 #[derive(Clone, Copy, Debug, PartialEq, Eq)]
 pub enum ReplayEnd {
     Done,
     Core(CoreFault),
     Short(u32),
+    Other(u32),
 }
 
 /// What a replay comes to: its end, the plan, and the journal as far as it came.
@@ -33,21 +39,61 @@ pub struct Replayed {
 }
 
 /// Runs the plan of a record over the messages that came. Whoever is ready is asked first; then one message is given, and so
-/// on, up to the first fault, or until all were given and nobody is ready.
+/// on, up to the first fault, or until all were given and nobody is ready. Where no fault was met, the entries of a record
+/// of version 2 are then compared with the journal.
 pub fn replay(alloc: Global, saved: Saved) -> Result<Replayed, Mem>
     requires valid { IsValidPlan saved.plan }
     requires built { is_built_record saved.plan (map came saved.arrivals) ≡ true }
     requires known { All (IsKnown saved.plan) (map came saved.arrivals) }
     ensures plan { IfOk result (λ r. r.plan ≡ saved.plan) }
     ensures replay { IfOk result (λ r. IsReplay saved.plan (map came saved.arrivals) r.journal.entries) }
-    ensures end { IfOk result (λ r. EndsBy saved.plan (map came saved.arrivals) r.journal.entries r.end) }
+    ensures end { IfOk result (λ r. IsEndOf saved.plan (map came saved.arrivals) saved.asks r.journal.entries r.end) }
 {
-    let arrivals = saved.arrivals;
-    let mut core = Core::new(alloc, saved.plan)?;
+    let Saved {
+        plan,
+        arrivals,
+        asks,
+    } = saved;
+    let mut core = Core::new(alloc, plan)?;
     let end = run(&mut core, &arrivals)?;
     let (plan, journal) = core.into_parts();
-    Ok(Replayed { end, plan, journal })
+    let replayed = Saved {
+        plan,
+        arrivals,
+        asks,
+    };
+    let other = first_other(&replayed, &journal);
+    Ok(Replayed {
+        end: end_with(end, other),
+        plan: replayed.plan,
+        journal,
+    })
 }
+
+// How the replay of a record ends, by how that of its messages ends and which of its entries is another.
+fn end_with(end: ReplayEnd, other: Option<u32>) -> ReplayEnd
+    ensures { result ≡ end_with end other }
+{
+    match end {
+        ReplayEnd::Core(fault) => ReplayEnd::Core(fault),
+        ReplayEnd::Other(place) => ReplayEnd::Other(place),
+        ReplayEnd::Done => match other {
+            None => ReplayEnd::Done,
+            Some(place) => ReplayEnd::Other(place),
+        },
+        ReplayEnd::Short(count) => match other {
+            None => ReplayEnd::Short(count),
+            Some(place) => ReplayEnd::Other(place),
+        },
+    }
+}
+
+/// A record has one replay: two journals over its plan and its messages that have come to an end are the same, and so is
+/// their end.
+pub fn replay_is_one()
+    ensures { (P : Plan) → (A : List journals.Arrival) → (steps : Option (List Asked)) → (J : List Entry) → (K : List Entry) → (e : ReplayEnd) → (f : ReplayEnd)
+        → IsReplay P A J → IsEndOf P A steps J e → IsReplay P A K → IsEndOf P A steps K f → (J ≡ K) × (e ≡ f) }
+{}
 
 // Gives these messages to a new core.
 fn run(core: &mut Core, arrivals: &List<Arrival>) -> Result<ReplayEnd, Mem>

@@ -1,0 +1,7 @@
+pub mod Deciding
+pub mod Left
+pub mod Levels
+pub mod Matching
+pub mod Pairs
+pub mod Places
+pub mod Walking

@@ -1,0 +1,13 @@
+//! Compares a record with a journal: which of the record's entries is the first that isn't the journal's.
+#![tactic(auto)]
+
+mod first;
+mod messages;
+mod trees;
+
+pub use first::first_other;
+pub use messages::same_message;
+pub use trees::same_tree;
+
+#[cfg(test)]
+mod tests;
