@@ -1,0 +1,41 @@
+use Rattle.std.proofs.Common.{◌≡◌, ℕ, List, length, ◌∙◌, ap, subst}
+use Rattle.mk_cycles.specs.Cycles.{IsCycle}
+use Rattle.mk_cycles.specs.Edges.{has_edge}
+use Rattle.mk_cycles.specs.Orders.{IsRanking}
+use Rattle.mk_cycles.specs.Outcomes.{CycleOf, numbers}
+use Rattle.mk_cycles.specs.declared.ranking.Edge.{Edge}
+use Rattle.mk_cycles.specs.declared.ranking.CycleFault.{CycleFault}
+use Rattle.mk_connect.specs.Edges.{edges_of}
+use Rattle.mk_checked.specs.CheckText.{check_text}
+use Rattle.mk_checked.proofs.checking.checked.Goals as goal
+
+pub returns-in-Ok-ranks-clause-checked : goal.returns-in-Ok-ranks-clause-checked
+returns-in-Ok-ranks-clause-checked c =
+    let S = c.in-Ok.scenario in
+    let ranks = c.in-Ok-ranks.ranks in
+    let edges : c.as_slice.result.now ≡ edges_of S = c.as_slice.ensures ∙ c.in_ok-edges.ensures.edges in
+    record {
+      scenario = S;
+      ranks = ranks;
+      read = c.in-Ok.ensures.ok;
+      ranked =
+          subst (λ (n : ℕ). IsRanking (has_edge (edges_of S)) n ranks) c.len.ensures
+          (subst (λ (es : List Edge). IsRanking (has_edge es) c.len.result ranks) edges c.in-Ok-ranks.ensures.ranking);
+      is = c.in_ok-check_text-in-Ok-ranks.ensures ∙ ap (check_text S) c.as_slice-in-Ok-ranks.ensures;
+    }
+
+pub returns-in-Err-Cycle-clause-unchecked : goal.returns-in-Err-Cycle-clause-unchecked
+returns-in-Err-Cycle-clause-unchecked c =
+    let S = c.in-Ok.scenario in
+    let walk = c.in-Err-Cycle.walk in
+    let edges : c.as_slice.result.now ≡ edges_of S = c.as_slice.ensures ∙ c.in_ok-edges.ensures.edges in
+    let cycle = subst (λ (f : CycleFault). CycleOf c.as_slice.result.now c.len.result f) c.in-Err-Cycle.field-0-is c.in-Err-Cycle.ensures.cycle in
+    record {
+      scenario = S;
+      walk = walk;
+      read = c.in-Ok.ensures.ok;
+      cycle =
+          subst (λ (n : ℕ). IsCycle (has_edge (edges_of S)) n (numbers walk)) c.len.ensures
+          (subst (λ (es : List Edge). IsCycle (has_edge es) c.len.result (numbers walk)) edges cycle);
+      are = c.in_ok-ids_of-in-Err-Cycle.ensures;
+    }

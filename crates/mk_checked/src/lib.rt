@@ -1,0 +1,7 @@
+//! The command `check`: a scenario file is read and its simulators are ranked; nothing is started.
+#![tactic(auto)]
+
+mod checking;
+mod text;
+
+pub use checking::{checked, scenario_has_one_status};

@@ -1,0 +1,73 @@
+// Which simulators a scenario's connections put before which: what ranks rise along.
+ghost use Rattle.std.specs.Prelude.{◌≡◌, ◌++◌, ◌||◌, ◌&&◌, not, length, slice_get, option_map, unwrap_or, IfOk, OnOk, OnErr};
+ghost use Rattle.mk_cycles.specs.Edges.{EndsBelow};
+ghost use Rattle.mk_scenario.specs.Wellformed.{IsWellformed};
+ghost use Rattle.mk_connect.specs.Edges.{edges_in, edges_of, is_ordering, is_plain, sim_at, sim_of_group};
+
+use mk_base::{List, Mem, SimNo, Via};
+use mk_cycles::Edge;
+use mk_scenario::{Block, Group, Place, Scenario};
+use std::alloc::Global;
+
+/// One edge for each block that orders its simulators: a plain one that connects attributes, or an asynchronous one, whose
+/// left side has to come first (mosaik 3, scenario definition). The edges stand in the order of their blocks.
+pub fn edges(alloc: Global, scenario: &Scenario) -> Result<List<Edge>, Mem>
+    requires { IsWellformed scenario.now }
+    ensures edges { IfOk result (λ edges. edges ≡ edges_of scenario.now) }
+    ensures below { IfOk result (λ edges. EndsBelow (length scenario.now.sims) edges) }
+{
+    let mut edges = List::new(alloc);
+    for block in scenario.blocks.as_slice() {
+        put_edge(&mut edges, scenario.groups.as_slice(), block)?;
+    }
+    Ok(edges)
+}
+
+// Puts the edge of the block, if it orders its simulators.
+fn put_edge(edges: &mut List<Edge>, groups: &[Group], block: &Block) -> Result<(), Mem>
+    ensures { OnOk result (edges.new ≡ edges.old ++ edges_in groups.now block.now) }
+{
+    if is_ordering(block) {
+        edges.push(Edge {
+            from: sim_at(groups, &block.from),
+            to: sim_at(groups, &block.to),
+        })?;
+    }
+    Ok(())
+}
+
+// Whether the block orders its simulators.
+fn is_ordering(block: &Block) -> bool
+    ensures { result ≡ is_ordering block.now }
+{
+    block.async_requests || (is_plain(block.via) && !block.attrs.is_empty())
+}
+
+fn is_plain(via: Via) -> bool
+    ensures { result ≡ is_plain via }
+{
+    match via {
+        Via::Plain => true,
+        Via::Shift(_) | Via::Weak => false,
+    }
+}
+
+// The simulator whose entities stand at this place.
+fn sim_at(groups: &[Group], place: &Place) -> SimNo
+    ensures { result.0 ≡ sim_at groups.now place.now }
+{
+    match place {
+        Place::Whole(group) => sim_of_group(groups, *group),
+        Place::One(group, _) => sim_of_group(groups, *group),
+        Place::Full(sim, _) => *sim,
+    }
+}
+
+fn sim_of_group(groups: &[Group], group: u32) -> SimNo
+    ensures { result.0 ≡ sim_of_group groups.now group }
+{
+    match groups.get(group as usize) {
+        Some(found) => found.sim,
+        None => SimNo(0),
+    }
+}

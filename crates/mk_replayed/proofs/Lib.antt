@@ -1,0 +1,2 @@
+mod WholeRuns
+pub mod OneOutcome

@@ -1,0 +1,113 @@
+use Rattle.std.proofs.Common.{◌≡◌, ℕ, suc, ◌+◌, ◌<◌, ◌≤◌, Bool, true, false, List, [], ◌∷◌, ◌++◌, length, map, filter, refl, sym, ap, ◌∙◌, subst, arith, Option, Some, None}
+use Rattle.std.proofs.Math.Path.{fun_ext}
+use Rattle.std.specs.Prelude.{flat_map, sum, codes, ◌==◌, if◌then◌else◌}
+use Rattle.std.specs.Fmt.{decimal}
+use Rattle.std.specs.List.{enumerate_from, cons_option}
+use Rattle.mk_plan.specs.declared.Plan.{Plan}
+use Rattle.mk_plan.specs.declared.Item.{Item}
+use Rattle.mk_plan.specs.declared.Item.TheVariants.{Step, GetData, Answer, Refuse}
+use Rattle.mk_plan.specs.declared.Message.{Message}
+use Rattle.mk_plan.specs.declared.Entry.{Entry}
+use Rattle.mk_plan.specs.declared.Entry.TheVariants.{Sent, Got}
+use Rattle.mk_plan.specs.Plans.{IsValidPlan, sim_count}
+use Rattle.mk_plan.specs.Journals.{Arrival, arrivals, bare, got, sent}
+use Rattle.mk_plan.specs.Sequential.{Messages, run_items, sequential, all_ended, messages_in}
+use Rattle.mk_plan.specs.Report.{report, line_of, is_step}
+use Rattle.mk_record.specs.Reading.{reading, Said}
+use Rattle.mk_record.specs.Built.{is_built_record}
+use Rattle.mk_record.specs.declared.saved.Asked.{Asked}
+use Rattle.mk_differs.specs.Differences.{IsOther}
+use Rattle.mk_replay.specs.Replays.{EndsBy, IsEndOf, end_with, IsReplay, IsWhole, messages_from}
+use Rattle.mk_replay.specs.declared.replaying.ReplayEnd.{ReplayEnd}
+use Rattle.mk_replay.specs.declared.replaying.ReplayEnd.TheVariants.{Done, Core, Short, Other}
+use Rattle.mk_replayed.specs.Reports.{IsReportOf}
+
+-- one more message, if it is the simulator's
+one_more : (b : Bool) (a : Arrival) (ms : List Message) (came : List Arrival) → ms ≡ map (λ (x : Arrival). x.message) came
+    → cons_option (if b then Some a.message else None) ms ≡ map (λ (x : Arrival). x.message) (if b then a ∷ came else came)
+one_more true a ms came e = ap (λ xs. a.message ∷ xs) e
+one_more false a ms came e = e
+
+-- a journal's messages of a simulator are those among all that came
+pub got_is : (J : List Entry) (i : ℕ) → got J i ≡ messages_from (arrivals J) i
+got_is [] i = refl
+got_is (Sent s item ∷ J) i = got_is J i
+got_is (Got s m ∷ J) i = one_more (s.0 == i) (record { sim = s.0; message = m }) _ _ (got_is J i)
+
+-- a line doesn't show max_advance
+line_bare : (item : Item) → line_of (bare item) ≡ line_of item
+line_bare (Step x ins advance) = refl
+line_bare (GetData wants) = refl
+line_bare (Answer id content) = refl
+line_bare (Refuse id reason) = refl
+
+-- nor do the lines
+lines_bare : (items : List Item) → flat_map line_of (map bare items) ≡ flat_map line_of items
+lines_bare [] = refl
+lines_bare (item ∷ items) = ap (λ line. line ++ flat_map line_of (map bare items)) (line_bare item) ∙ ap (λ lines. line_of item ++ lines) (lines_bare items)
+
+-- a Step stays one without its max_advance
+steps_bare : (items : List Item) → length (filter is_step (map bare items)) ≡ length (filter is_step items)
+steps_bare [] = refl
+steps_bare (Step x ins advance ∷ items) = ap suc (steps_bare items)
+steps_bare (GetData wants ∷ items) = steps_bare items
+steps_bare (Answer id content ∷ items) = steps_bare items
+steps_bare (Refuse id reason ∷ items) = steps_bare items
+
+-- a map over numbered items depends on what it is at their numbers
+map_numbered : {X Y : Type 0} (f g : ℕ × X → Y) (n : ℕ) (xs : List X) → ((k : ℕ) (x : X) → n ≤ k → k < n + length xs → f (k, x) ≡ g (k, x)) → map f (enumerate_from n xs) ≡ map g (enumerate_from n xs)
+map_numbered f g n [] same = refl
+map_numbered f g n (x ∷ xs) same =
+    ap (λ first. first ∷ map f (enumerate_from (n + 1) xs)) (same n x (omega arith) (omega arith))
+    ∙ ap (λ more. g (n, x) ∷ more) (map_numbered f g (n + 1) xs (λ k y low high. same k y (omega arith) (omega arith)))
+
+-- and so do lists that are joined
+joined_numbered : {X Y : Type 0} (f g : ℕ × X → List Y) (n : ℕ) (xs : List X) → ((k : ℕ) (x : X) → n ≤ k → k < n + length xs → f (k, x) ≡ g (k, x)) → flat_map f (enumerate_from n xs) ≡ flat_map g (enumerate_from n xs)
+joined_numbered f g n [] same = refl
+joined_numbered f g n (x ∷ xs) same =
+    ap (λ first. first ++ flat_map f (enumerate_from (n + 1) xs)) (same n x (omega arith) (omega arith))
+    ∙ ap (λ more. g (n, x) ++ more) (joined_numbered f g (n + 1) xs (λ k y low high. same k y (omega arith) (omega arith)))
+
+-- the report of what was sent is the report of the same items without max_advance
+pub report_bare : (P : Plan) (one other : ℕ → List Item) → ((i : ℕ) → i < sim_count P → map bare (one i) ≡ other i) → report P one ≡ report P other
+report_bare P one other same =
+    let lines : (i : ℕ) → i < sim_count P → flat_map line_of (one i) ≡ flat_map line_of (other i) = λ i within. sym (lines_bare (one i)) ∙ ap (flat_map line_of) (same i within) in
+    let steps : (i : ℕ) → i < sim_count P → length (filter is_step (one i)) ≡ length (filter is_step (other i)) = λ i within. sym (steps_bare (one i)) ∙ ap (λ items. length (filter is_step items)) (same i within) in
+    ap
+    (λ parts. parts ++ codes "end " ++ decimal (sum (map (λ s. length (filter is_step (one s.0))) (enumerate_from 0 P.sims))) ++ codes "\n")
+    (joined_numbered (λ x. codes "sim " ++ x.1.id ++ codes "\n" ++ flat_map line_of (one x.0)) (λ x. codes "sim " ++ x.1.id ++ codes "\n" ++ flat_map line_of (other x.0)) 0 P.sims (λ k x low high. ap (λ shown. codes "sim " ++ x.id ++ codes "\n" ++ shown) (lines k (omega (arith, high)))))
+    ∙ ap
+    (λ counts. flat_map (λ s. codes "sim " ++ s.1.id ++ codes "\n" ++ flat_map line_of (other s.0)) (enumerate_from 0 P.sims) ++ codes "end " ++ decimal (sum counts) ++ codes "\n")
+    (map_numbered (λ x. length (filter is_step (one x.0))) (λ x. length (filter is_step (other x.0))) 0 P.sims (λ k x low high. steps k (omega (arith, high))))
+
+-- a replay that ends with all done is one of messages that ends so, and whose entries are those of the record
+done_ends : (e : ReplayEnd) (other : Option ℕ) → Done ≡ end_with e other → (e ≡ Done) × (other ≡ None)
+done_ends Done None is = (refl, refl)
+done_ends Done (Some n) is = cc
+done_ends (Core f) other is = cc
+done_ends (Other k) other is = cc
+done_ends (Short k) None is = cc
+done_ends (Short k) (Some n) is = cc
+
+-- the report of a replay that ends with all done is that of the sequential execution of its plan over the messages that came
+pub report_done : (bytes text : List ℕ) (P Q : Plan) (A : List Arrival) (steps : Option (List Asked)) (J : List Entry) (end : ReplayEnd)
+    → reading bytes ≡ Said P A steps → is_built_record P A ≡ true → IsValidPlan P → Q ≡ P → IsReplay P A J → IsEndOf P A steps J end → end ≡ Done → text ≡ report Q (sent J) → IsReportOf bytes text
+report_done bytes text P Q A steps J end read built valid same replayed ends done reported =
+    let so = done_ends ends.messages_end ends.other (sym done ∙ ends.is) in
+    let whole : IsWhole P A J = subst (λ e. EndsBy P A J e) so.0 ends.ends in
+    let heard : got J ≡ messages_from A = fun_ext (got_is J) ∙ ap messages_from whole.given in
+    record {
+      plan = P;
+      arrivals = A;
+      journal = J;
+      steps = steps;
+      read = read;
+      built = built;
+      valid = valid;
+      replayed = replayed;
+      compared = subst (λ (n : Option ℕ). IsOther A steps J n) so.1 ends.compared;
+      whole = whole;
+      used = λ i within. subst (λ (R : Messages). messages_in (sequential P R i) ≡ R i) heard (whole.finished i within).used;
+      uncut = λ i within. subst (λ (R : Messages). all_ended (sequential P R i) ≡ true) heard (whole.finished i within).ended;
+      reported = reported ∙ ap (λ S. report S (sent J)) same ∙ report_bare P (sent J) (run_items P (messages_from A)) whole.sent;
+    }

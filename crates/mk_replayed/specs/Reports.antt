@@ -1,0 +1,104 @@
+-- What `replay` makes of a record's bytes: a report, or why there is none.
+use Rattle.std.specs.Prelude.{◌≡◌, ℕ, ◌<◌, ◌≤◌, ◌⊎◌, ⊤, true, false, List, [], ◌-◌, length, slice_get, unwrap_or, option_map, Option, Some, None, Result, Ok, Err}
+use Rattle.mk_plan.specs.declared.Plan.{Plan}
+use Rattle.mk_plan.specs.declared.Message.TheVariants as messages
+use Rattle.mk_plan.specs.declared.Entry.{Entry}
+use Rattle.mk_plan.specs.declared.Entry.TheVariants as entries
+use Rattle.mk_plan.specs.Plans.{IsValidPlan, sim_count, sim_id}
+use Rattle.mk_plan.specs.Journals.{Arrival}
+use Rattle.mk_plan.specs.Sequential.{run_items, sequential, all_ended, messages_in}
+use Rattle.mk_plan.specs.Report.{report}
+use Rattle.mk_record.specs.Reading.{reading, Said, Faulty}
+use Rattle.mk_record.specs.Built.{is_built_record}
+use Rattle.mk_record.specs.declared.saved.Asked.{Asked}
+use Rattle.mk_differs.specs.Differences.{IsOther}
+use Rattle.mk_replay.specs.Replays.{IsReplay, IsWhole, IsEndOf, messages_from}
+use Rattle.mk_sched.specs.declared.faults.CoreFault.{CoreFault}
+use Rattle.mk_sched.specs.declared.faults.CoreFault.TheVariants as core
+use Rattle.mk_replay.specs.declared.replaying.ReplayEnd.{ReplayEnd}
+use Rattle.mk_replay.specs.declared.replaying.ReplayEnd.TheVariants as ends
+use Rattle.mk_endings.specs.declared.ending.Ending.{Ending}
+use Rattle.mk_endings.specs.declared.ending.Ending.TheVariants.{Usage, Missing, TooLong, Scenario, Cycle, Record, Refused, Wrong, Failed, LoopLimit, Short, Differs, Folder, Output, Entries, Mem}
+
+-- the bytes are a record of a valid plan; its replay comes to a journal in which all is done, and which begins with the steps and messages of a record of version 2; and the text is the report of the sequential execution of the plan over the record's messages, in which each message is used and no turn is cut
+pub record IsReportOf (bytes text : List ℕ) : Type 0 where
+  pub plan : Plan
+  pub arrivals : List Arrival
+  pub journal : List Entry
+  pub steps : Option (List Asked)
+  pub read : reading bytes ≡ Said plan arrivals steps
+  pub built : is_built_record plan arrivals ≡ true
+  pub valid : IsValidPlan plan
+  pub replayed : IsReplay plan arrivals journal
+  pub compared : IsOther arrivals steps journal None
+  pub whole : IsWhole plan arrivals journal
+  pub used : (i : ℕ) → i < sim_count plan → messages_in (sequential plan (messages_from arrivals) i) ≡ messages_from arrivals i
+  pub uncut : (i : ℕ) → i < sim_count plan → all_ended (sequential plan (messages_from arrivals) i) ≡ true
+  pub reported : text ≡ report plan (run_items plan (messages_from arrivals))
+
+-- the bytes are a record of a form that can't be replayed yet
+abbrev pub IsRefused : List ℕ → Type 0
+IsRefused bytes = (P : Plan) × (A : List Arrival) × (steps : Option (List Asked)) × (reading bytes ≡ Said P A steps) × (is_built_record P A ≡ false)
+
+-- the text of a failure reply
+abbrev pub failure_in : Entry → List ℕ
+failure_in (entries.Got s (messages.Failure id text)) = text
+failure_in (entries.Got s (messages.Ask id name args named)) = []
+failure_in (entries.Got s (messages.Success id content)) = []
+failure_in (entries.Sent s item) = []
+
+-- the text of the failure reply that a journal ends with
+abbrev pub last_failure : List Entry → List ℕ
+last_failure J = unwrap_or (option_map failure_in (slice_get J (length J - 1))) []
+
+-- what is said of a fault of the core
+abbrev pub stop_of : Plan → List Entry → CoreFault → Ending
+stop_of P J (core.Wrong s place cause) = Wrong (sim_id P s.0) place cause
+stop_of P J (core.Failed s place) = Failed (sim_id P s.0) (last_failure J)
+stop_of P J (core.LoopLimit s time) = LoopLimit (sim_id P s.0) time
+stop_of P J (core.TooLong count) = Entries count
+
+-- what is said of a replay that doesn't end with all done
+abbrev pub IsSaidOf : Plan → List Entry → ReplayEnd → Ending → Type 0
+IsSaidOf P J ends.Done e = ⊥
+IsSaidOf P J (ends.Short n) e = e ≡ Short n
+IsSaidOf P J (ends.Other n) e = e ≡ Differs n
+IsSaidOf P J (ends.Core fault) e = e ≡ stop_of P J fault
+
+-- the bytes are a record of a valid plan, whose replay ends as is said
+pub record IsStopped (bytes : List ℕ) (e : Ending) : Type 0 where
+  pub plan : Plan
+  pub arrivals : List Arrival
+  pub journal : List Entry
+  pub end : ReplayEnd
+  pub steps : Option (List Asked)
+  pub read : reading bytes ≡ Said plan arrivals steps
+  pub built : is_built_record plan arrivals ≡ true
+  pub valid : IsValidPlan plan
+  pub replayed : IsReplay plan arrivals journal
+  pub stopped : IsEndOf plan arrivals steps journal end
+  pub said : IsSaidOf plan journal end e
+
+-- why these bytes give no report
+abbrev pub Unreported : List ℕ → Ending → Type 0
+Unreported bytes Usage = ⊥
+Unreported bytes (Missing name) = ⊥
+Unreported bytes (TooLong name count) = ⊥
+Unreported bytes (Scenario fault) = ⊥
+Unreported bytes (Cycle sims) = ⊥
+Unreported bytes (Record line fault) = reading bytes ≡ Faulty line fault
+Unreported bytes Refused = IsRefused bytes
+Unreported bytes (Wrong sim place cause) = IsStopped bytes (Wrong sim place cause)
+Unreported bytes (Failed sim text) = IsStopped bytes (Failed sim text)
+Unreported bytes (LoopLimit sim time) = IsStopped bytes (LoopLimit sim time)
+Unreported bytes (Short outstanding) = IsStopped bytes (Short outstanding)
+Unreported bytes (Differs entry) = IsStopped bytes (Differs entry)
+Unreported bytes Folder = ⊥
+Unreported bytes Output = ⊥
+Unreported bytes (Entries entries) = IsStopped bytes (Entries entries)
+Unreported bytes Mem = ⊤
+
+-- what `replay` makes of these bytes: the text that it prints, or why there is none
+abbrev pub IsOutcome : List ℕ → Result (List ℕ) Ending → Type 0
+IsOutcome bytes (Ok text) = IsReportOf bytes text
+IsOutcome bytes (Err e) = Unreported bytes e
