@@ -1,78 +1,227 @@
+-- What the program's status says, by how it ended.
 use Rattle.std.proofs.Common.{◌≡◌, ℕ, ◌<◌, ◌≤◌, ◌⊎◌, inl, inr, refl, sym, ap, ◌∙◌, subst, arith, List, [], length, Option, None, Some, Result, Ok, Err}
 use Rattle.std.specs.Prelude.{IfSome, unwrap_or}
+use Rattle.mk_outside.specs.Counts.{HasRisen}
 use Rattle.mk_outside.specs.Folders.{Files, file_limit}
-use Rattle.mosaikrun.specs.declared.ending.Ending.{Ending}
-use Rattle.mosaikrun.specs.declared.ending.Ending.TheVariants.{Usage, Missing, TooLong, Refused, Wrong, Failed, LoopLimit, Short, Folder, Output, Entries, Mem}
-use Rattle.mosaikrun.specs.Lines.{status_of}
-use Rattle.mosaikrun.specs.Program.{Around, Ended, IsRead, IsUnreadable, IsUnreadStatus, status}
-use Rattle.mosaikrun.specs.Endings.{IsHeld}
-use Rattle.mosaikrun.specs.Words.{replayed_file}
+use Rattle.mk_outside.specs.Sinks.{TookBeginning}
+use Rattle.mk_words.specs.declared.request.Request.{Request}
+use Rattle.mk_words.specs.declared.request.Request.TheVariants.{Run, Replay, Check, Demo, Migrate}
+use Rattle.mk_words.proofs.Requested.{requested}
+use Rattle.mk_endings.specs.declared.ending.Ending.{Ending}
+use Rattle.mk_endings.specs.declared.ending.Ending.TheVariants.{Usage, Missing, TooLong, Scenario, Cycle, Record, Refused, Wrong, Failed, LoopLimit, Short, Differs, Folder, Output, Entries, Mem}
+use Rattle.mk_endings.specs.Endings.{outcome_status, status_of}
+use Rattle.mk_replayed.proofs.OneOutcome.{one_outcome}
+use Rattle.mk_checked.proofs.OneRanking.{one_status}
+use Rattle.mosaikrun.specs.declared.commands.TheConstants.{COMMANDS}
+use Rattle.mosaikrun.specs.Commands.{IsAsked, IsHeld, IsNoFile, IsOutcomeOf, IsUnasked, IsUnreadable, file_of}
+use Rattle.mosaikrun.specs.Program.{Around, Ended, IsCutBy, IsMisused, IsPrinted, IsRead, IsStatusOr, status}
 
 -- want of memory may be said instead
 as_mem : (S : Around) (e : Ending) → Ended S (Err e) → Ended S (Err Mem)
-as_mem S Usage ended = inl ended.1
-as_mem S (Missing name) ended = inl ended.unput
-as_mem S (TooLong name count) ended = inl ended.unput
-as_mem S Refused ended = inl ended.unput
-as_mem S (Wrong sim place cause) ended = inl ended.unput
-as_mem S (Failed sim text) ended = inl ended.unput
-as_mem S (LoopLimit sim time) ended = inl ended.unput
-as_mem S (Short outstanding) ended = inl ended.unput
-as_mem S Folder ended = inl ended.unput
-as_mem S Output ended = inr ended.1
-as_mem S (Entries entries) ended = inl ended.unput
-as_mem S Mem ended = ended
+as_mem S e (inl misused) = inl (record { cause = inl refl; unput = misused.unput })
+as_mem S e (inr (inl unread)) = inl (record { cause = inl refl; unput = unread.unput })
+as_mem S e (inr (inr (inl textless))) = inl (record { cause = inl refl; unput = textless.unput })
+as_mem S e (inr (inr (inr cut))) = inr (inr (inr (record {
+  request = cut.request;
+  bytes = cut.bytes;
+  text = cut.text;
+  read = cut.read;
+  outcome = cut.outcome;
+  put = cut.put;
+  cause = inr (refl, why cut.cause);
+})))
+  where
+    why : IsCutBy S e → HasRisen S.out_before S.out_after ⊎ HasRisen S.wants_before S.wants_after
+    why (inl failed) = inl failed.1
+    why (inr short) = short.1
+
+-- the output has taken a beginning alone
+pub cut_short : (S : Around) (R : Request) (bytes text : List ℕ) (e : Ending) → IsRead S R bytes → IsOutcomeOf R bytes (Ok text) → TookBeginning text S.before S.after → IsCutBy S e → Ended S (Err e)
+cut_short S R bytes text e read outcome put cause = inr (inr (inr (record { request = R; bytes = bytes; text = text; read = read; outcome = outcome; put = put; cause = cause })))
 
 -- what is said holds, where it is the ending or want of memory
 pub said_ended : (S : Around) (e f : Ending) → Ended S (Err f) → (e ≡ f) ⊎ (e ≡ Mem) → Ended S (Err e)
-said_ended S e f ended (inl same) = subst (λ x. Ended S (Err x)) (sym same) ended
-said_ended S e f ended (inr mem) = subst (λ x. Ended S (Err x)) (sym mem) (as_mem S f ended)
+said_ended S e f ended (inl same) = subst (λ (x : Ending). Ended S (Err x)) (sym same) ended
+said_ended S e f ended (inr mem) = subst (λ (x : Ending). Ended S (Err x)) (sym mem) (as_mem S f ended)
+
+-- words ask for one thing
+pub one_request : (words : List (List ℕ)) (R Q : Request) → IsAsked words R → IsAsked words Q → R ≡ Q
+one_request words R Q a b = let same = sym ((requested COMMANDS words R).1 a.0) ∙ (requested COMMANDS words Q).1 b.0 in cc
+
+-- no command says that the words are none
+never_usage : (R : Request) (bytes : List ℕ) → IsOutcomeOf R bytes (Err Usage) → ⊥
+never_usage (Run scenario saved) bytes h = h
+never_usage (Replay saved order) bytes h = h
+never_usage (Check scenario) bytes h = h
+never_usage (Demo size) bytes h = h
+never_usage (Migrate old new) bytes h = h
 
 -- the status 2 is that of words that are no command
-pub usage_words : (S : Around) (e : Ending) → Ended S (Err e) → status_of e ≡ 2 → replayed_file S.words ≡ None
-usage_words S Usage ended two = ended.0
-usage_words S (Missing name) ended two = absurd (omega (arith, two))
-usage_words S (TooLong name count) ended two = absurd (omega (arith, two))
-usage_words S Refused ended two = absurd (omega (arith, two))
-usage_words S (Wrong sim place cause) ended two = absurd (omega (arith, two))
-usage_words S (Failed sim text) ended two = absurd (omega (arith, two))
-usage_words S (LoopLimit sim time) ended two = absurd (omega (arith, two))
-usage_words S (Short outstanding) ended two = absurd (omega (arith, two))
-usage_words S Folder ended two = absurd (omega (arith, two))
-usage_words S Output ended two = absurd (omega (arith, two))
-usage_words S (Entries entries) ended two = absurd (omega (arith, two))
-usage_words S Mem ended two = absurd (omega (arith, two))
+only_usage : (e : Ending) → status_of e ≡ 2 → e ≡ Usage
+only_usage Usage two = refl
+only_usage (Missing name) two = absurd (omega (arith, two))
+only_usage (TooLong name count) two = absurd (omega (arith, two))
+only_usage (Scenario fault) two = absurd (omega (arith, two))
+only_usage (Cycle sims) two = absurd (omega (arith, two))
+only_usage (Record line fault) two = absurd (omega (arith, two))
+only_usage Refused two = absurd (omega (arith, two))
+only_usage (Wrong sim place cause) two = absurd (omega (arith, two))
+only_usage (Failed sim text) two = absurd (omega (arith, two))
+only_usage (LoopLimit sim time) two = absurd (omega (arith, two))
+only_usage (Short outstanding) two = absurd (omega (arith, two))
+only_usage (Differs entry) two = absurd (omega (arith, two))
+only_usage Folder two = absurd (omega (arith, two))
+only_usage Output two = absurd (omega (arith, two))
+only_usage (Entries entries) two = absurd (omega (arith, two))
+only_usage Mem two = absurd (omega (arith, two))
 
--- a file that can't be read has no bytes that a file may have
-unreadable_not : (file : Option (List ℕ)) (bytes : List ℕ) → file ≡ Some bytes → length bytes ≤ file_limit → IsUnreadable file → ⊥
-unreadable_not file bytes is short unreadable = let long : file_limit < length bytes = subst IsUnreadable is unreadable in omega (arith, long, short)
+-- an ending is want of memory, or another
+is_memory : (e : Ending) → (e ≡ Mem) ⊎ (e ≡ Mem → ⊥)
+is_memory Usage = inr (λ wrong. cc)
+is_memory (Missing name) = inr (λ wrong. cc)
+is_memory (TooLong name count) = inr (λ wrong. cc)
+is_memory (Scenario fault) = inr (λ wrong. cc)
+is_memory (Cycle sims) = inr (λ wrong. cc)
+is_memory (Record line fault) = inr (λ wrong. cc)
+is_memory Refused = inr (λ wrong. cc)
+is_memory (Wrong sim place cause) = inr (λ wrong. cc)
+is_memory (Failed sim text) = inr (λ wrong. cc)
+is_memory (LoopLimit sim time) = inr (λ wrong. cc)
+is_memory (Short outstanding) = inr (λ wrong. cc)
+is_memory (Differs entry) = inr (λ wrong. cc)
+is_memory Folder = inr (λ wrong. cc)
+is_memory Output = inr (λ wrong. cc)
+is_memory (Entries entries) = inr (λ wrong. cc)
+is_memory Mem = inl refl
 
-module _ (S : Around) (held : Files) (name : List ℕ) (told : S.files ≡ Some held) (named : replayed_file S.words ≡ Some name) (unreadable : IsUnreadable (held name)) where
-  -- such a file isn't read
-  not_read : (other bytes : List ℕ) → IsRead S other bytes → ⊥
-  not_read other bytes read =
-      let same : other ≡ name = ap (λ (o : Option (List ℕ)). unwrap_or o []) (sym read.0 ∙ named) in
-      let there = subst (λ files. IsHeld files other bytes) told read.1 in
-      unreadable_not (held other) bytes there.0 there.1 (subst (λ n. IsUnreadable (held n)) (sym same) unreadable)
+-- want of memory has the status 8, and is an answer besides each
+memory : (wanted : ℕ) (e : Ending) → e ≡ Mem → IsStatusOr wanted (status_of e)
+memory wanted e mem = inr (inr (ap status_of mem))
 
-  -- so the status is 3, but for a folder that failed and want of memory
-  pub unread_status : (r : Result (Unit {0}) Ending) → Ended S r → IsUnreadStatus (status r)
-  unread_status (Ok done) ended = absurd (not_read ended.name ended.bytes ended.read)
-  unread_status (Err Usage) ended = absurd (subst (λ (o : Option (List ℕ)). IfSome o (λ n. ⊥)) (sym ended.0 ∙ named) tt)
-  unread_status (Err (Missing missing)) ended = inl refl
-  unread_status (Err (TooLong long count)) ended = inl refl
-  unread_status (Err Refused) ended = inl refl
-  unread_status (Err (Wrong sim place cause)) ended = absurd (not_read ended.name ended.bytes ended.read)
-  unread_status (Err (Failed sim text)) ended = absurd (not_read ended.name ended.bytes ended.read)
-  unread_status (Err (LoopLimit sim time)) ended = absurd (not_read ended.name ended.bytes ended.read)
-  unread_status (Err (Short outstanding)) ended = absurd (not_read ended.name ended.bytes ended.read)
-  unread_status (Err Folder) ended = inr (inl refl)
-  unread_status (Err Output) ended = inr (inl refl)
-  unread_status (Err (Entries entries)) ended = absurd (not_read ended.name ended.bytes ended.read)
-  unread_status (Err Mem) ended = inr (inr refl)
+cut_status : (S : Around) (wanted : ℕ) (e : Ending) → IsCutBy S e → IsStatusOr wanted (status_of e)
+cut_status S wanted e (inl failed) = inr (inl (ap status_of failed.0))
+cut_status S wanted e (inr short) = memory wanted e short.0
 
--- the same, if the folder tells
-pub told_status : (S : Around) (files : Option Files) (r : Result (Unit {0}) Ending) (n : ℕ) → S.files ≡ files → n ≡ status r → Ended S r
-    → IfSome files (λ held. (name : List ℕ) → replayed_file S.words ≡ Some name → IsUnreadable (held name) → IsUnreadStatus n)
-told_status S None r n told is ended = tt
-told_status S (Some held) r n told is ended = λ name named unreadable. subst IsUnreadStatus (sym is) (unread_status S held name told named unreadable r ended)
+-- of one command and file one status is said
+one_status_of : (R : Request) (bytes : List ℕ) (o p : Result (List ℕ) Ending) → IsOutcomeOf R bytes o → IsOutcomeOf R bytes p → (o ≡ Err Mem → ⊥) → (p ≡ Err Mem → ⊥) → outcome_status o ≡ outcome_status p
+one_status_of (Run scenario saved) bytes o p a b m n = absurd a
+one_status_of (Replay saved order) bytes o p a b m n = ap outcome_status (one_outcome bytes o p a b m n)
+one_status_of (Check scenario) bytes o p a b m n = one_status bytes o p a b m n
+one_status_of (Demo size) bytes o p a b m n = absurd a
+one_status_of (Migrate old new) bytes o p a b m n = absurd a
+
+-- words that ask for nothing are said to, but for want of memory
+unasked_status : (words : List (List ℕ)) (e : Ending) → IsUnasked words e → IsStatusOr 2 (status_of e)
+unasked_status words e (inl mem) = memory 2 e mem
+unasked_status words e (inr usage) = inl (ap status_of usage.0)
+
+unasked_not : (words : List (List ℕ)) (e : Ending) → IsUnasked words e → (wanted : ℕ) → (R : Request) → IsAsked words R → IsStatusOr wanted (status_of e)
+unasked_not words e (inl mem) wanted R asked = memory wanted e mem
+unasked_not words e (inr usage) wanted R asked = absurd (usage.1 R asked)
+
+-- the status of a file that isn't read isn't that of words
+unread_not_two : (files : Option Files) (name : List ℕ) (risen : Type 0) (e : Ending) → IsUnreadable files name risen e → e ≡ Usage → ⊥
+unread_not_two files name risen e (inl mem) usage = cc
+unread_not_two files name risen e (inr (inl failed)) usage = let f = failed.0 in cc
+unread_not_two files name risen e (inr (inr (inl missing))) usage = let f = missing.0 in cc
+unread_not_two files name risen e (inr (inr (inr long))) usage = let f = long.1 in cc
+
+cut_not_two : (S : Around) (e : Ending) → IsCutBy S e → e ≡ Usage → ⊥
+cut_not_two S e (inl failed) usage = let f = failed.0 in cc
+cut_not_two S e (inr short) usage = let f = short.0 in cc
+
+misused_two : (words : List (List ℕ)) (e : Ending) → IsUnasked words e → e ≡ Usage → (R : Request) → IsAsked words R → ⊥
+misused_two words e (inl mem) usage R asked = let wrong : Mem ≡ Usage = sym mem ∙ usage in cc
+misused_two words e (inr none) usage R asked = none.1 R asked
+
+-- the status 2 comes only where the words ask for nothing
+pub usage_only : (S : Around) (r : Result (Unit {0}) Ending) → Ended S r → status r ≡ 2 → (R : Request) → IsAsked S.words R → ⊥
+usage_only S (Ok done) ended two R asked = absurd (omega (arith, two))
+usage_only S (Err e) (inl misused) two R asked = misused_two S.words e misused.cause (only_usage e two) R asked
+usage_only S (Err e) (inr (inl unread)) two R asked = unread_not_two _ _ _ e unread.cause (only_usage e two)
+usage_only S (Err e) (inr (inr (inl textless))) two R asked = never_usage textless.request textless.bytes (subst (λ (x : Ending). IsOutcomeOf textless.request textless.bytes (Err x)) (only_usage e two) textless.outcome)
+usage_only S (Err e) (inr (inr (inr cut))) two R asked = cut_not_two S e cut.cause (only_usage e two)
+
+-- and there it comes, but for want of memory
+pub useless_words : (S : Around) (r : Result (Unit {0}) Ending) → Ended S r → ((R : Request) → IsAsked S.words R → ⊥) → IsStatusOr 2 (status r)
+useless_words S (Ok done) ended none = absurd (none ended.request ended.read.0)
+useless_words S (Err e) (inl misused) none = unasked_status S.words e misused.cause
+useless_words S (Err e) (inr (inl unread)) none = absurd (none unread.request unread.asked)
+useless_words S (Err e) (inr (inr (inl textless))) none = absurd (none textless.request textless.read.0)
+useless_words S (Err e) (inr (inr (inr cut))) none = absurd (none cut.request cut.read.0)
+
+-- the file of what is asked for, where the folder tells
+module _ (S : Around) (held : Files) (told : S.files ≡ Some held) (R : Request) (asked : IsAsked S.words R) where
+  -- what was read is that file
+  read_here : (Q : Request) (bytes : List ℕ) → IsRead S Q bytes → (Q ≡ R) × (held (file_of R) ≡ Some bytes) × (length bytes ≤ file_limit)
+  read_here Q bytes read =
+      let same = one_request S.words Q R read.0 asked in
+      let there = subst (λ (files : Option Files). IsHeld files (file_of Q) bytes) told read.1 in
+      (same, subst (λ (X : Request). held (file_of X) ≡ Some bytes) same there.0, there.1)
+
+  module _ (bytes : List ℕ) (there : held (file_of R) ≡ Some bytes) (short : length bytes ≤ file_limit) where
+    -- so what comes of it is what comes of these bytes
+    same_bytes : (other : List ℕ) → held (file_of R) ≡ Some other → other ≡ bytes
+    same_bytes other here = let same = sym here ∙ there in cc
+
+    outcome_here : (Q : Request) (other : List ℕ) (o : Result (List ℕ) Ending) → IsRead S Q other → IsOutcomeOf Q other o → IsOutcomeOf R bytes o
+    outcome_here Q other o read outcome =
+        let here = read_here Q other read in
+        subst (λ (b : List ℕ). IsOutcomeOf R b o) (same_bytes other here.1) (subst (λ (X : Request). IsOutcomeOf X other o) here.0 outcome)
+
+    -- a file that is there, and short enough, is read, but for a folder that failed and want of memory
+    unread_status : (name : List ℕ) (e : Ending) (wanted : ℕ) → name ≡ file_of R → IsUnreadable S.files name (HasRisen S.folder_before S.folder_after) e → IsStatusOr wanted (status_of e)
+    unread_status name e wanted same (inl mem) = memory wanted e mem
+    unread_status name e wanted same (inr (inl failed)) = inr (inl (ap status_of failed.0))
+    unread_status name e wanted same (inr (inr (inl missing))) =
+        let none = subst (λ (files : Option Files). IfSome files (λ h. h name ≡ None)) told missing.1 in
+        let here = subst (λ (x : List ℕ). held x ≡ None) same none in
+        let wrong : Some bytes ≡ None = sym there ∙ here in absurd cc
+    unread_status name e wanted same (inr (inr (inr long))) =
+        let more = subst (λ (files : Option Files). IfSome files (λ h. (b : List ℕ) × (h name ≡ Some b) × (length b ≡ long.0) × (file_limit < long.0))) told long.2 in
+        let here = same_bytes more.0 (subst (λ (x : List ℕ). held x ≡ Some more.0) same more.1) in
+        let count = sym more.2 ∙ ap length here in
+        absurd (omega (arith, count, more.3, short))
+
+    pub decided_status : (o : Result (List ℕ) Ending) → IsOutcomeOf R bytes o → (o ≡ Err Mem → ⊥) → (r : Result (Unit {0}) Ending) → Ended S r → IsStatusOr (outcome_status o) (status r)
+    decided_status o outcome named (Ok done) ended = inl (one_status_of R bytes (Ok ended.text) o (outcome_here ended.request ended.bytes (Ok ended.text) ended.read ended.outcome) outcome (λ wrong. cc) named)
+    decided_status o outcome named (Err e) (inl misused) = unasked_not S.words e misused.cause (outcome_status o) R asked
+    decided_status o outcome named (Err e) (inr (inl unread)) =
+        unread_status (file_of unread.request) e (outcome_status o) (ap file_of (one_request S.words unread.request R unread.asked asked)) unread.cause
+    decided_status o outcome named (Err e) (inr (inr (inl textless))) = elim (is_memory e) [
+      | inl mem ↦ memory (outcome_status o) e mem
+      | inr other ↦ inl (one_status_of R bytes (Err e) o (outcome_here textless.request textless.bytes (Err e) textless.read textless.outcome) outcome (λ wrong. other (let x : e ≡ Mem = cc in x)) named)
+    ]
+    decided_status o outcome named (Err e) (inr (inr (inr cut))) = cut_status S (outcome_status o) e cut.cause
+
+  -- a file that isn't there, or is too long, isn't read
+  module _ (nothing : IsNoFile (held (file_of R))) where
+    not_read : (Q : Request) (bytes : List ℕ) → IsRead S Q bytes → ⊥
+    not_read Q bytes read =
+        let here = read_here Q bytes read in
+        let long : file_limit < length bytes = subst IsNoFile here.1 nothing in
+        omega (arith, long, here.2)
+
+    no_file_cause : (files : Option Files) (name : List ℕ) (risen : Type 0) (e : Ending) → IsUnreadable files name risen e → IsStatusOr 3 (status_of e)
+    no_file_cause files name risen e (inl mem) = memory 3 e mem
+    no_file_cause files name risen e (inr (inl failed)) = inr (inl (ap status_of failed.0))
+    no_file_cause files name risen e (inr (inr (inl missing))) = inl (ap status_of missing.0)
+    no_file_cause files name risen e (inr (inr (inr long))) = inl (ap status_of long.1)
+
+    pub no_file_status : (r : Result (Unit {0}) Ending) → Ended S r → IsStatusOr 3 (status r)
+    no_file_status (Ok done) ended = absurd (not_read ended.request ended.bytes ended.read)
+    no_file_status (Err e) (inl misused) = unasked_not S.words e misused.cause 3 R asked
+    no_file_status (Err e) (inr (inl unread)) = no_file_cause _ _ _ e unread.cause
+    no_file_status (Err e) (inr (inr (inl textless))) = absurd (not_read textless.request textless.bytes textless.read)
+    no_file_status (Err e) (inr (inr (inr cut))) = absurd (not_read cut.request cut.bytes cut.read)
+
+-- the same where the folder may not tell
+pub told_decided : (S : Around) (files : Option Files) (r : Result (Unit {0}) Ending) (n : ℕ) → S.files ≡ files → n ≡ status r → Ended S r
+    → IfSome files (λ held. (R : Request) → (bytes : List ℕ) → (o : Result (List ℕ) Ending) → IsAsked S.words R → held (file_of R) ≡ Some bytes → length bytes ≤ file_limit → IsOutcomeOf R bytes o → (o ≡ Err Mem → ⊥) → IsStatusOr (outcome_status o) n)
+told_decided S None r n told is ended = tt
+told_decided S (Some held) r n told is ended = λ R bytes o asked there short outcome named. subst (IsStatusOr (outcome_status o)) (sym is) (decided_status S held told R asked bytes there short o outcome named r ended)
+
+pub told_no_file : (S : Around) (files : Option Files) (r : Result (Unit {0}) Ending) (n : ℕ) → S.files ≡ files → n ≡ status r → Ended S r
+    → IfSome files (λ held. (R : Request) → IsAsked S.words R → IsNoFile (held (file_of R)) → IsStatusOr 3 n)
+told_no_file S None r n told is ended = tt
+told_no_file S (Some held) r n told is ended = λ R asked nothing. subst (IsStatusOr 3) (sym is) (no_file_status S held told R asked nothing r ended)

@@ -1,2 +1,1 @@
-mod Reports
 mod Answering

@@ -1,4 +1,2 @@
-pub mod Words
-pub mod Lines
-pub mod Endings
+pub mod Commands
 pub mod Program

@@ -1,15 +1,15 @@
 -- What the program has done, by its answer.
-use Rattle.std.specs.Prelude.{◌≡◌, ℕ, ◌<◌, ◌⊎◌, ⊤, length, List, Option, Some, None, Result, Ok, Err}
+use Rattle.std.specs.Prelude.{◌≡◌, ℕ, ◌⊎◌, List, Option, Result, Ok, Err}
 use Rattle.mk_outside.specs.Counts.{HasRisen}
-use Rattle.mk_outside.specs.Folders.{Files, file_limit}
+use Rattle.mk_outside.specs.Folders.{Files}
 use Rattle.mk_outside.specs.Sinks.{TookBeginning, appended}
-use Rattle.mosaikrun.specs.declared.ending.Ending.{Ending}
-use Rattle.mosaikrun.specs.declared.ending.Ending.TheVariants.{Usage, Missing, TooLong, Refused, Wrong, Failed, LoopLimit, Short, Folder, Output, Entries, Mem}
-use Rattle.mosaikrun.specs.Endings.{IsHeld, IsReportOf, Unread, Unreported}
-use Rattle.mosaikrun.specs.Lines.{line_of, status_of}
-use Rattle.mosaikrun.specs.Words.{replayed_file}
+use Rattle.mk_words.specs.declared.request.Request.{Request}
+use Rattle.mk_endings.specs.declared.ending.Ending.{Ending}
+use Rattle.mk_endings.specs.declared.ending.Ending.TheVariants.{Output, Mem}
+use Rattle.mk_endings.specs.Endings.{line_of, status_of}
+use Rattle.mosaikrun.specs.Commands.{IsAsked, IsHeld, IsOutcomeOf, IsUnasked, IsUnreadable, file_of}
 
--- what lies around a call of the program: its words, the folder's files, the counts of faults of the folder and of the output before and after, and what the output has taken before and after
+-- what lies around a call of the program: its words, the folder's files, the counts of faults of the folder and of the output before and after, the output's counts of wants of memory, and what the output has taken before and after
 pub record Around : Type 0 where
   pub words : List (List ℕ)
   pub files : Option Files
@@ -17,6 +17,8 @@ pub record Around : Type 0 where
   pub folder_after : ℕ
   pub out_before : ℕ
   pub out_after : ℕ
+  pub wants_before : ℕ
+  pub wants_after : ℕ
   pub before : Option (List ℕ)
   pub after : Option (List ℕ)
 
@@ -24,58 +26,57 @@ pub record Around : Type 0 where
 abbrev pub IsUnput : Around → Type 0
 IsUnput S = S.after ≡ S.before
 
--- the words name a file, which has these bytes if the folder tells
-abbrev pub IsRead : Around → List ℕ → List ℕ → Type 0
-IsRead S name bytes = (replayed_file S.words ≡ Some name) × IsHeld S.files name bytes
+-- the words ask for something, and these are the bytes of its file, if the folder tells
+abbrev pub IsRead : Around → Request → List ℕ → Type 0
+IsRead S R bytes = IsAsked S.words R × IsHeld S.files (file_of R) bytes
 
--- the file gives a report, and the output has taken the whole of it
-pub record IsReported (S : Around) : Type 0 where
-  pub name : List ℕ
+-- the command has a text, and the output has taken the whole of it
+pub record IsPrinted (S : Around) : Type 0 where
+  pub request : Request
   pub bytes : List ℕ
   pub text : List ℕ
-  pub read : IsRead S name bytes
-  pub report : IsReportOf bytes text
+  pub read : IsRead S request bytes
+  pub outcome : IsOutcomeOf request bytes (Ok text)
   pub put : S.after ≡ appended text S.before
 
--- the file gives a report, and the output has taken a beginning of it
-pub record IsBegun (S : Around) : Type 0 where
-  pub name : List ℕ
+-- the words ask for nothing
+pub record IsMisused (S : Around) (e : Ending) : Type 0 where
+  pub cause : IsUnasked S.words e
+  pub unput : IsUnput S
+
+-- the file isn't read
+pub record IsUnread (S : Around) (e : Ending) : Type 0 where
+  pub request : Request
+  pub asked : IsAsked S.words request
+  pub cause : IsUnreadable S.files (file_of request) (HasRisen S.folder_before S.folder_after) e
+  pub unput : IsUnput S
+
+-- the command has no text
+pub record IsTextless (S : Around) (e : Ending) : Type 0 where
+  pub request : Request
+  pub bytes : List ℕ
+  pub read : IsRead S request bytes
+  pub outcome : IsOutcomeOf request bytes (Err e)
+  pub unput : IsUnput S
+
+-- why the output has only a beginning of the text: it failed, or found no memory; that it failed may have to be said as want of memory
+abbrev pub IsCutBy : Around → Ending → Type 0
+IsCutBy S e = ((e ≡ Output) × HasRisen S.out_before S.out_after) ⊎ ((e ≡ Mem) × (HasRisen S.out_before S.out_after ⊎ HasRisen S.wants_before S.wants_after))
+
+-- the command has a text, and the output has taken a beginning of it
+pub record IsCutShort (S : Around) (e : Ending) : Type 0 where
+  pub request : Request
   pub bytes : List ℕ
   pub text : List ℕ
-  pub read : IsRead S name bytes
-  pub report : IsReportOf bytes text
+  pub read : IsRead S request bytes
+  pub outcome : IsOutcomeOf request bytes (Ok text)
   pub put : TookBeginning text S.before S.after
-
--- the file isn't read, as is said
-pub record IsUnread (S : Around) (e : Ending) : Type 0 where
-  pub name : List ℕ
-  pub named : replayed_file S.words ≡ Some name
-  pub cause : Unread S.files name (HasRisen S.folder_before S.folder_after) e
-  pub unput : IsUnput S
-
--- the file gives no report, as is said
-pub record IsUnreported (S : Around) (e : Ending) : Type 0 where
-  pub name : List ℕ
-  pub bytes : List ℕ
-  pub read : IsRead S name bytes
-  pub cause : Unreported bytes e
-  pub unput : IsUnput S
+  pub cause : IsCutBy S e
 
 -- what an answer says
 abbrev pub Ended : Around → Result (Unit {0}) Ending → Type 0
-Ended S (Ok done) = IsReported S
-Ended S (Err Usage) = (replayed_file S.words ≡ None) × IsUnput S
-Ended S (Err (Missing name)) = IsUnread S (Missing name)
-Ended S (Err (TooLong name count)) = IsUnread S (TooLong name count)
-Ended S (Err Folder) = IsUnread S Folder
-Ended S (Err Refused) = IsUnreported S Refused
-Ended S (Err (Wrong sim place cause)) = IsUnreported S (Wrong sim place cause)
-Ended S (Err (Failed sim text)) = IsUnreported S (Failed sim text)
-Ended S (Err (LoopLimit sim time)) = IsUnreported S (LoopLimit sim time)
-Ended S (Err (Short outstanding)) = IsUnreported S (Short outstanding)
-Ended S (Err (Entries entries)) = IsUnreported S (Entries entries)
-Ended S (Err Output) = HasRisen S.out_before S.out_after × IsBegun S
-Ended S (Err Mem) = IsUnput S ⊎ IsBegun S
+Ended S (Ok done) = IsPrinted S
+Ended S (Err e) = IsMisused S e ⊎ (IsUnread S e ⊎ (IsTextless S e ⊎ IsCutShort S e))
 
 -- the status of an answer
 abbrev pub status : Result (Unit {0}) Ending → ℕ
@@ -98,11 +99,6 @@ pub record EndsWith (S : Around) (failed : Type 0) (err_before err_after : Optio
   pub ended : Ended S answer
   pub told : Told answer failed err_before err_after
 
--- the file isn't there, or is too long
-abbrev pub IsUnreadable : Option (List ℕ) → Type 0
-IsUnreadable None = ⊤
-IsUnreadable (Some bytes) = file_limit < length bytes
-
--- the status of a file that can't be read, or that of a folder that failed, or that of want of memory
-abbrev pub IsUnreadStatus : ℕ → Type 0
-IsUnreadStatus n = (n ≡ 3) ⊎ ((n ≡ 6) ⊎ (n ≡ 8))
+-- the status that goes with an outcome, or that of a folder or an output that failed, or of want of memory
+abbrev pub IsStatusOr : ℕ → ℕ → Type 0
+IsStatusOr wanted n = (n ≡ wanted) ⊎ ((n ≡ 6) ⊎ (n ≡ 8))

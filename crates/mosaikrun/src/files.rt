@@ -30,7 +30,12 @@ impl<'a, R: Files> Folder for SystemFolder<'a, R> {
     ghost files = { λ _. None };
 
     fn read(&mut self, name: &str, into: &mut Vec<u8>) -> FileRead {
-        match read_file(self.rt, name, into) {
+        let answer = read_file(self.rt, name, into);
+        if let Ok(FileRead::Whole) = answer {
+            return FileRead::Whole;
+        }
+        into.clear();
+        match answer {
             Ok(answer) => answer,
             Err(e) if e.kind() == ErrorKind::NotFound => FileRead::Missing,
             Err(e) if e.kind() == ErrorKind::OutOfMemory => FileRead::Mem,

@@ -1,13 +1,11 @@
-// Replays a record of a co-simulation, and prints what each simulator was sent.
+// Reads the words and does what they ask: replays a record, or checks a scenario.
 #![tactic(auto)]
 
-mod ending;
+mod commands;
 mod files;
-mod replaying;
 #[cfg(test)]
 mod tests;
 mod top;
-mod words;
 
 use files::{StreamSink, SystemFolder};
 use std::process::ExitCode;

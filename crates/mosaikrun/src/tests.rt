@@ -127,7 +127,7 @@ fn a_record_without_a_report_gets_a_line(rt: HostRuntime) -> Result<(), Fail> {
             "[3,100,2000000]",
             "end 1\n",
             3,
-            "mosaikrun: record: refused\n",
+            "mosaikrun: record: line 6 fault 4\n",
         ),
         (
             "[3,100,2000000]",
@@ -164,10 +164,31 @@ fn a_record_without_a_report_gets_a_line(rt: HostRuntime) -> Result<(), Fail> {
 #[test]
 fn words_that_are_no_command_and_a_file_that_is_missing(rt: HostRuntime) -> Result<(), Fail> {
     for (command, name, wanted, line) in [
-        ("run", "r", 2, "mosaikrun: usage: replay RECORD\n"),
-        ("replay", "-r", 2, "mosaikrun: usage: replay RECORD\n"),
-        ("replay", "", 2, "mosaikrun: usage: replay RECORD\n"),
+        (
+            "run",
+            "r",
+            2,
+            "mosaikrun: usage: replay RECORD or check SCENARIO\n",
+        ),
+        (
+            "replay",
+            "-r",
+            2,
+            "mosaikrun: usage: replay RECORD or check SCENARIO\n",
+        ),
+        (
+            "replay",
+            "",
+            2,
+            "mosaikrun: usage: replay RECORD or check SCENARIO\n",
+        ),
         ("replay", "a\nb", 3, "mosaikrun: a b: no such file\n"),
+        (
+            "check",
+            "none.toml",
+            3,
+            "mosaikrun: none.toml: no such file\n",
+        ),
     ] {
         let words = words_of(rt.alloc(), command, name)?;
         let mut folder = PlainFolder::new(rt.alloc());
@@ -183,6 +204,60 @@ fn words_that_are_no_command_and_a_file_that_is_missing(rt: HostRuntime) -> Resu
         assert_eq!(rt; status, wanted, "{line}");
         assert_eq!(rt; err.bytes(), line.as_bytes());
         assert_eq!(rt; out.bytes(), b"".as_slice());
+    }
+    Ok(())
+}
+
+// Two simulators of one entity each, A-0 connected to B-0.
+const TWO_SUMS: &str =
+    "until = 3\n[[sim]]\nname = \"A\"\nlocal = \"sum\"\n[[sim]]\nname = \"B\"\nlocal = \"sum\"\n[[entities]]\nid = \"a\"\nsim = \"A-0\"\nmodel = \"Sum\"\n[[entities]]\nid = \"b\"\nsim = \"B-0\"\nmodel = \"Sum\"\n[[connect]]\nfrom = \"a\"\nto = \"b\"\nattrs = [[\"out\", \"in\"]]\n";
+
+#[test]
+fn a_scenario_is_checked(rt: HostRuntime) -> Result<(), Fail> {
+    let words = words_of(rt.alloc(), "check", "s")?;
+    for (more, wanted, text, line) in [
+        ("", 0, "sims 2\ngroups 2\nblocks 1\norder A-0 B-0\n", ""),
+        (
+            "[[connect]]\nfrom = \"b\"\nto = \"a\"\nattrs = [[\"out\", \"in\"]]\ntime_shifted = 2\n",
+            0,
+            "sims 2\ngroups 2\nblocks 2\norder A-0 B-0\n",
+            "",
+        ),
+        (
+            "[[connect]]\nfrom = \"b\"\nto = \"a\"\nattrs = [[\"out\", \"in\"]]\n",
+            3,
+            "",
+            "mosaikrun: connect 8: cycle A-0 B-0\n",
+        ),
+        (
+            "[[connect]]\nfrom = \"a\"\nto = \"a\"\nattrs = [[\"out\", \"in\"]]\n",
+            3,
+            "",
+            "mosaikrun: connect 8: cycle A-0\n",
+        ),
+        (
+            "[[connect]]\nfrom = \"b\"\nto = \"a\"\ntime_shifted = 0\n",
+            3,
+            "",
+            "mosaikrun: scenario 5: out of range connect[1].time_shifted 0\n",
+        ),
+    ] {
+        let mut scenario = Vec::from_slice(rt.alloc(), TWO_SUMS.as_bytes())?;
+        scenario.extend_from_slice(more.as_bytes())?;
+        let mut folder = PlainFolder::new(rt.alloc());
+        folder.add("s", scenario.as_slice())?;
+        let mut out = PlainSink::new(rt.alloc());
+        let mut err = PlainSink::new(rt.alloc());
+        let status = program(
+            rt.alloc(),
+            words.as_slice(),
+            &mut folder,
+            &mut out,
+            &mut err,
+        );
+        assert_eq!(rt; status, wanted, "{line}");
+        assert_eq!(rt; out.bytes(), text.as_bytes());
+        assert_eq!(rt; err.bytes(), line.as_bytes());
     }
     Ok(())
 }

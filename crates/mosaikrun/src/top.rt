@@ -1,22 +1,26 @@
-ghost use Rattle.std.specs.Prelude.{◌≡◌, ℕ, ◌≤◌, ◌↔◌, ◌⊎◌, List, None, Some, IfSome, Err, IfOk, IfErr, map};
+// The top call: all that the program does, over a folder and two sinks.
+ghost use Rattle.std.specs.Prelude.{◌≡◌, ℕ, ◌≤◌, ◌⊎◌, List, Some, Result, Err, IfSome, IfOk, IfErr, map, length};
 ghost use Rattle.std.specs.String.{string_bytes};
 ghost use Rattle.mk_outside.specs.Counts.{HasRisen};
-ghost use Rattle.mosaikrun.specs.Endings.{IsHeld, Unread};
-ghost use Rattle.mosaikrun.specs.Lines.{line_of, status_of};
-ghost use Rattle.mosaikrun.specs.Program.{Ended, EndsWith, IsUnreadStatus, IsUnreadable, TookLine};
-ghost use Rattle.mosaikrun.specs.Words.{replayed_file};
+ghost use Rattle.mk_outside.specs.Folders.{Files, file_limit};
+ghost use Rattle.mk_outside.specs.Sinks.{TookBeginning, appended};
+ghost use Rattle.mk_words.specs.declared.request.Request.{Request};
+ghost use Rattle.mk_endings.specs.declared.ending.Ending.{Ending};
+ghost use Rattle.mk_endings.specs.declared.ending.Ending.TheVariants as ends;
+ghost use Rattle.mk_endings.specs.Endings.{line_of, outcome_status, status_of};
+ghost use Rattle.mosaikrun.specs.Commands.{IsAsked, IsHeld, IsOutcomeOf, IsNoFile, IsUnreadable, file_of};
+ghost use Rattle.mosaikrun.specs.Program.{Ended, EndsWith, IsStatusOr, TookLine};
 
-use crate::ending::Ending;
-use crate::replaying::reported;
-use crate::words::replayed_file;
+use crate::commands::{asked, file_of, outcome};
 use mk_base::Text;
+use mk_endings::Ending;
 use mk_outside::{FileRead, Folder, PutAll, Sink, put_all};
 use std::alloc::Global;
 
-/// Does what the words ask: replays the record that they name, and puts the report to `out`. Answers the status.
+/// Does what the words ask: reads the file that they name, and puts what the command makes of it to `out`. Answers the status.
 ///
-/// At a status other than 0 `err` gets a line that says why, and `out` gets nothing, or a beginning of the report where
-/// it fails or finds no memory. The folder stays as it is.
+/// At a status other than 0 `err` gets a line that says why, and `out` gets nothing, or a beginning of the text where it
+/// failed or found no memory. The folder stays as it is.
 pub fn program<D: Folder, K: Sink, E: Sink>(
     alloc: Global,
     words: &[String],
@@ -32,14 +36,19 @@ pub fn program<D: Folder, K: Sink, E: Sink>(
           folder_after = D.faults folder.new;
           out_before = K.faults out.old;
           out_after = K.faults out.new;
+          wants_before = K.shortages out.old;
+          wants_after = K.shortages out.new;
           before = K.written out.old;
           after = K.written out.new;
         })
         (HasRisen (E.faults err.old) (E.faults err.new) ⊎ HasRisen (E.shortages err.old) (E.shortages err.new))
         (E.written err.old) (E.written err.new) result }
-    ensures usage { (result ≡ 2) ↔ (replayed_file (map string_bytes words.now) ≡ None) }
-    ensures unreadable { IfSome (D.files folder.old) (λ held. (name : List ℕ)
-        → replayed_file (map string_bytes words.now) ≡ Some name → IsUnreadable (held name) → IsUnreadStatus result) }
+    ensures usage { (result ≡ 2) → (R : Request) → IsAsked (map string_bytes words.now) R → ⊥ }
+    ensures useless { ((R : Request) → IsAsked (map string_bytes words.now) R → ⊥) → IsStatusOr 2 result }
+    ensures decided { IfSome (D.files folder.old) (λ held. (R : Request) → (bytes : List ℕ) → (o : Result (List ℕ) Ending) → IsAsked (map string_bytes words.now) R
+        → held (file_of R) ≡ Some bytes → length bytes ≤ file_limit → IsOutcomeOf R bytes o → (o ≡ Err ends.Mem → ⊥) → IsStatusOr (outcome_status o) result) }
+    ensures unreadable { IfSome (D.files folder.old) (λ held. (R : Request) → IsAsked (map string_bytes words.now) R
+        → IsNoFile (held (file_of R)) → IsStatusOr 3 result) }
     ensures folder_kept { D.files folder.new ≡ D.files folder.old }
     ensures folder_count { D.faults folder.old ≤ D.faults folder.new }
     ensures out_count { K.faults out.old ≤ K.faults out.new }
@@ -51,7 +60,7 @@ pub fn program<D: Folder, K: Sink, E: Sink>(
     }
 }
 
-// Replays the record that the words name, and puts its report.
+// Reads the file that the words name, and puts what the command makes of it.
 fn answer<D: Folder, K: Sink>(
     alloc: Global,
     words: &[String],
@@ -65,20 +74,18 @@ fn answer<D: Folder, K: Sink>(
       folder_after = D.faults folder.new;
       out_before = K.faults out.old;
       out_after = K.faults out.new;
+      wants_before = K.shortages out.old;
+      wants_after = K.shortages out.new;
       before = K.written out.old;
       after = K.written out.new;
     }) result }
-    ensures usage { replayed_file (map string_bytes words.now) ≡ None → result ≡ Err Ending.Usage }
     ensures folder_kept { D.files folder.new ≡ D.files folder.old }
     ensures folder_count { D.faults folder.old ≤ D.faults folder.new }
     ensures out_count { K.faults out.old ≤ K.faults out.new }
 {
-    let name = match replayed_file(words) {
-        Some(name) => name,
-        None => return Err(Ending::Usage),
-    };
-    let bytes = file_bytes(alloc, folder, name)?;
-    let text = reported(alloc, bytes.as_slice())?;
+    let request = asked(alloc, words)?;
+    let bytes = file_bytes(alloc, folder, file_of(&request))?;
+    let text = outcome(alloc, &request, bytes.as_slice())?;
     match put_all(out, text.as_slice()) {
         PutAll::Done => Ok(()),
         PutAll::Failed => Err(Ending::Output),
@@ -89,7 +96,7 @@ fn answer<D: Folder, K: Sink>(
 // A file's bytes, or why there are none.
 fn file_bytes<D: Folder>(alloc: Global, folder: &mut D, name: &str) -> Result<Vec<u8>, Ending>
     ensures read { IfOk result (λ bytes. IsHeld (D.files folder.old) name.now bytes.items) }
-    ensures unread { IfErr result (Unread (D.files folder.old) name.now (HasRisen (D.faults folder.old) (D.faults folder.new))) }
+    ensures unread { IfErr result (λ e. IsUnreadable (D.files folder.old) name.now (HasRisen (D.faults folder.old) (D.faults folder.new)) e) }
     ensures kept { D.files folder.new ≡ D.files folder.old }
     ensures count { D.faults folder.old ≤ D.faults folder.new }
 {
@@ -108,17 +115,12 @@ fn file_bytes<D: Folder>(alloc: Global, folder: &mut D, name: &str) -> Result<Ve
     }
 }
 
-// Says why there is no report, and answers the status. Where there is no memory for the line it says that.
+// Says why there is no text, and answers the status. Where there is no memory for the line it says that.
 fn tell<E: Sink>(alloc: Global, ending: Ending, err: &mut E) -> u8
-    ensures told { (e : Ending) × ((e ≡ ending) ⊎ (e ≡ Ending.Mem)) × (result ≡ status_of e)
+    ensures told { (e : Ending) × ((e ≡ ending) ⊎ (e ≡ ends.Mem)) × (result ≡ status_of e)
         × TookLine (line_of e) (HasRisen (E.faults err.old) (E.faults err.new) ⊎ HasRisen (E.shortages err.old) (E.shortages err.new)) (E.written err.old) (E.written err.new) }
-    ensures usage { ending ≡ Ending.Usage → result ≡ 2 }
     ensures count { E.faults err.old ≤ E.faults err.new }
 {
-    if let Ending::Usage = ending {
-        put_line(err, b"mosaikrun: usage: replay RECORD\n");
-        return 2;
-    }
     match ending.line(alloc) {
         Ok(line) => {
             put_line(err, line.as_slice());

@@ -1,45 +1,91 @@
-use Rattle.std.proofs.Common.{refl, sym, map, ◌∙◌, arith, Err}
+use Rattle.std.proofs.Common.{Ok, Err, refl, map}
 use Rattle.std.specs.String.{string_bytes}
 use Rattle.mosaikrun.specs.Program.{Around}
-use Rattle.mosaikrun.proofs.Answering.{said_ended, told_status, usage_words}
-use Rattle.mosaikrun.proofs.top.program.Given as given
+use Rattle.mosaikrun.proofs.Answering.{said_ended, told_decided, told_no_file}
 use Rattle.mosaikrun.proofs.top.program.Goals as goal
 
--- what lay around the call
-around : (g : given.Over) → goal.After-tell g → Around
-around g c = record {
-  words = map string_bytes c.args.words.now;
-  files = g.D.Folder.files c.args.folder.now;
-  folder_before = g.D.Folder.faults c.args.folder.now;
-  folder_after = g.D.Folder.faults c.answer.new.folder;
-  out_before = g.K.Sink.faults c.args.out.now;
-  out_after = g.K.Sink.faults c.answer.new.out;
-  before = g.K.Sink.written c.args.out.now;
-  after = g.K.Sink.written c.answer.new.out;
-}
+pub returns-in-Ok-clause-decided : goal.returns-in-Ok-clause-decided
+returns-in-Ok-clause-decided g c =
+    let S : Around = record {
+      words = map string_bytes c.args.words.now;
+      files = g.D.Folder.files c.args.folder.now;
+      folder_before = g.D.Folder.faults c.args.folder.now;
+      folder_after = g.D.Folder.faults c.answer.new.folder;
+      out_before = g.K.Sink.faults c.args.out.now;
+      out_after = g.K.Sink.faults c.answer.new.out;
+      wants_before = g.K.Sink.shortages c.args.out.now;
+      wants_after = g.K.Sink.shortages c.answer.new.out;
+      before = g.K.Sink.written c.args.out.now;
+      after = g.K.Sink.written c.answer.new.out;
+    } in
+    told_decided S S.files (Ok tt) 0 refl refl c.in-Ok.ensures.ended
+
+pub returns-in-Ok-clause-unreadable : goal.returns-in-Ok-clause-unreadable
+returns-in-Ok-clause-unreadable g c =
+    let S : Around = record {
+      words = map string_bytes c.args.words.now;
+      files = g.D.Folder.files c.args.folder.now;
+      folder_before = g.D.Folder.faults c.args.folder.now;
+      folder_after = g.D.Folder.faults c.answer.new.folder;
+      out_before = g.K.Sink.faults c.args.out.now;
+      out_after = g.K.Sink.faults c.answer.new.out;
+      wants_before = g.K.Sink.shortages c.args.out.now;
+      wants_after = g.K.Sink.shortages c.answer.new.out;
+      before = g.K.Sink.written c.args.out.now;
+      after = g.K.Sink.written c.answer.new.out;
+    } in
+    told_no_file S S.files (Ok tt) 0 refl refl c.in-Ok.ensures.ended
 
 pub returns-in-Err-clause-ended : goal.returns-in-Err-clause-ended
-unfolding around
 returns-in-Err-clause-ended g c =
+    let S : Around = record {
+      words = map string_bytes c.args.words.now;
+      files = g.D.Folder.files c.args.folder.now;
+      folder_before = g.D.Folder.faults c.args.folder.now;
+      folder_after = g.D.Folder.faults c.answer.new.folder;
+      out_before = g.K.Sink.faults c.args.out.now;
+      out_after = g.K.Sink.faults c.answer.new.out;
+      wants_before = g.K.Sink.shortages c.args.out.now;
+      wants_after = g.K.Sink.shortages c.answer.new.out;
+      before = g.K.Sink.written c.args.out.now;
+      after = g.K.Sink.written c.answer.new.out;
+    } in
     let told = c.tell.ensures.told in
-    record {
-      answer = Err told.0;
-      is = told.2;
-      ended = said_ended (around g c) told.0 c.in-Err.ending c.in-Err.ensures.ended told.1;
-      told = told.3;
-    }
+    let ended = said_ended S told.0 c.in-Err.ending c.in-Err.ensures.ended told.1 in
+    record { answer = Err told.0; is = told.2; ended = ended; told = told.3 }
 
-pub returns-in-Err-clause-usage : goal.returns-in-Err-clause-usage
-unfolding around
-returns-in-Err-clause-usage g c =
+pub returns-in-Err-clause-decided : goal.returns-in-Err-clause-decided
+returns-in-Err-clause-decided g c =
+    let S : Around = record {
+      words = map string_bytes c.args.words.now;
+      files = g.D.Folder.files c.args.folder.now;
+      folder_before = g.D.Folder.faults c.args.folder.now;
+      folder_after = g.D.Folder.faults c.answer.new.folder;
+      out_before = g.K.Sink.faults c.args.out.now;
+      out_after = g.K.Sink.faults c.answer.new.out;
+      wants_before = g.K.Sink.shortages c.args.out.now;
+      wants_after = g.K.Sink.shortages c.answer.new.out;
+      before = g.K.Sink.written c.args.out.now;
+      after = g.K.Sink.written c.answer.new.out;
+    } in
     let told = c.tell.ensures.told in
-    let said = c.in-Err.ensures.usage in (
-      λ two. usage_words (around g c) told.0 (said_ended (around g c) told.0 c.in-Err.ending c.in-Err.ensures.ended told.1) (sym told.2 ∙ two),
-      λ none. c.tell.ensures.usage (let same = said none in grind arith),
-    )
+    let ended = said_ended S told.0 c.in-Err.ending c.in-Err.ensures.ended told.1 in
+    told_decided S S.files (Err told.0) c.tell.result refl told.2 ended
 
 pub returns-in-Err-clause-unreadable : goal.returns-in-Err-clause-unreadable
-unfolding around
 returns-in-Err-clause-unreadable g c =
+    let S : Around = record {
+      words = map string_bytes c.args.words.now;
+      files = g.D.Folder.files c.args.folder.now;
+      folder_before = g.D.Folder.faults c.args.folder.now;
+      folder_after = g.D.Folder.faults c.answer.new.folder;
+      out_before = g.K.Sink.faults c.args.out.now;
+      out_after = g.K.Sink.faults c.answer.new.out;
+      wants_before = g.K.Sink.shortages c.args.out.now;
+      wants_after = g.K.Sink.shortages c.answer.new.out;
+      before = g.K.Sink.written c.args.out.now;
+      after = g.K.Sink.written c.answer.new.out;
+    } in
     let told = c.tell.ensures.told in
-    told_status (around g c) _ (Err told.0) _ refl told.2 (said_ended (around g c) told.0 c.in-Err.ending c.in-Err.ensures.ended told.1)
+    let ended = said_ended S told.0 c.in-Err.ending c.in-Err.ensures.ended told.1 in
+    told_no_file S S.files (Err told.0) c.tell.result refl told.2 ended

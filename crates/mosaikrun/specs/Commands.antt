@@ -1,0 +1,61 @@
+-- The commands of the program, and what each makes of the file that it names.
+use Rattle.std.specs.Prelude.{◌≡◌, ℕ, ◌<◌, ◌≤◌, ◌⊎◌, ⊤, length, List, [], Option, Some, None, IfSome, Result, Ok, Err}
+use Rattle.mk_outside.specs.Folders.{Files, file_limit}
+use Rattle.mk_words.specs.declared.request.Request.{Request}
+use Rattle.mk_words.specs.declared.request.Request.TheVariants.{Run, Replay, Check, Demo, Migrate}
+use Rattle.mk_words.specs.Requests.{IsRequestAmong}
+use Rattle.mk_endings.specs.declared.ending.Ending.{Ending}
+use Rattle.mk_endings.specs.declared.ending.Ending.TheVariants as ends
+use Rattle.mk_replayed.specs.Reports as reports
+use Rattle.mk_checked.specs.Checks as checks
+use Rattle.mosaikrun.specs.declared.commands.TheConstants.{COMMANDS}
+
+-- the program can do it: a replay in another order isn't there yet
+abbrev pub IsServed : Request → Type 0
+IsServed (Replay name None) = ⊤
+IsServed (Replay name (Some order)) = ⊥
+IsServed (Run scenario saved) = ⊤
+IsServed (Check scenario) = ⊤
+IsServed (Demo size) = ⊤
+IsServed (Migrate old new) = ⊤
+
+-- the words ask for this, by a command that the program has
+abbrev pub IsAsked : List (List ℕ) → Request → Type 0
+IsAsked words R = IsRequestAmong COMMANDS words R × IsServed R
+
+-- the file that is read
+abbrev pub file_of : Request → List ℕ
+file_of (Run scenario saved) = scenario
+file_of (Replay name order) = name
+file_of (Check scenario) = scenario
+file_of (Demo size) = []
+file_of (Migrate old new) = old
+
+-- what a command makes of its file's bytes: the text that it prints, or why there is none
+abbrev pub IsOutcomeOf : Request → List ℕ → Result (List ℕ) Ending → Type 0
+IsOutcomeOf (Replay name order) bytes outcome = reports.IsOutcome bytes outcome
+IsOutcomeOf (Check scenario) bytes outcome = checks.IsOutcome bytes outcome
+IsOutcomeOf (Run scenario saved) bytes outcome = ⊥
+IsOutcomeOf (Demo size) bytes outcome = ⊥
+IsOutcomeOf (Migrate old new) bytes outcome = ⊥
+
+-- the words ask for nothing
+abbrev pub IsUnasked : List (List ℕ) → Ending → Type 0
+IsUnasked words e = (e ≡ ends.Mem) ⊎ ((e ≡ ends.Usage) × ((R : Request) → IsAsked words R → ⊥))
+
+-- the file of this name has these bytes, no more than a file may have, if the folder tells
+abbrev pub IsHeld : Option Files → List ℕ → List ℕ → Type 0
+IsHeld files name bytes = IfSome files (λ held. (held name ≡ Some bytes) × (length bytes ≤ file_limit))
+
+-- the file isn't there, or is longer than a file may be
+abbrev pub IsNoFile : Option (List ℕ) → Type 0
+IsNoFile None = ⊤
+IsNoFile (Some bytes) = file_limit < length bytes
+
+-- why a file gives no bytes; risen says that the folder's count of faults rose
+abbrev pub IsUnreadable : Option Files → List ℕ → Type 0 → Ending → Type 0
+IsUnreadable files name risen e =
+    (e ≡ ends.Mem)
+    ⊎ ((e ≡ ends.Folder) × risen
+    ⊎ ((e ≡ ends.Missing name) × IfSome files (λ held. held name ≡ None)
+    ⊎ (count : ℕ) × (e ≡ ends.TooLong name count) × IfSome files (λ held. (bytes : List ℕ) × (held name ≡ Some bytes) × (length bytes ≡ count) × (file_limit < count))))

@@ -1,0 +1,65 @@
+// The commands of the program, and what each makes of the file that it names.
+ghost use Rattle.std.specs.Prelude.{◌≡◌, Ok, Err, IfOk, IfErr, map};
+ghost use Rattle.std.specs.String.{string_bytes};
+ghost use Rattle.mk_base.specs.Lists.{IsIn};
+ghost use Rattle.mk_words.specs.Requests.{command_of};
+ghost use Rattle.mk_endings.specs.declared.ending.Ending.TheVariants as ends;
+ghost use Rattle.mosaikrun.specs.Commands.{IsAsked, IsOutcomeOf, IsServed, IsUnasked, file_of};
+
+use mk_base::Text;
+use mk_checked::checked;
+use mk_endings::Ending;
+use mk_replayed::reported;
+use mk_words::{Command, Request, read_words};
+use std::alloc::Global;
+
+// The commands that the program has.
+pub const COMMANDS: [Command; 2] = [Command::Replay, Command::Check];
+
+// What the words ask for.
+pub fn asked(alloc: Global, words: &[String]) -> Result<Request, Ending>
+    ensures asked { IfOk result (λ request. IsAsked (map string_bytes words.now) request) }
+    ensures unasked { IfErr result (λ ending. IsUnasked (map string_bytes words.now) ending) }
+{
+    match read_words(alloc, &COMMANDS, words)? {
+        Some(request) => served(request),
+        None => Err(Ending::Usage),
+    }
+}
+
+// The request, if the program can do it.
+fn served(request: Request) -> Result<Request, Ending>
+    ensures served { IfOk result (λ same. (same ≡ request) × IsServed request) }
+    ensures unserved { IfErr result (λ ending. (ending ≡ ends.Usage) × (IsServed request → ⊥)) }
+{
+    match request {
+        Request::Replay { order: Some(_), .. } => Err(Ending::Usage),
+        other => Ok(other),
+    }
+}
+
+// The name of the file that is read.
+pub fn file_of(request: &Request) -> &str
+    ensures { result.now ≡ file_of request.now }
+{
+    match request {
+        Request::Run { scenario, .. } => scenario.as_str(),
+        Request::Replay { record, .. } => record.as_str(),
+        Request::Check { scenario } => scenario.as_str(),
+        Request::Demo { .. } => "",
+        Request::Migrate { old, .. } => old.as_str(),
+    }
+}
+
+// What the command makes of its file's bytes.
+pub fn outcome(alloc: Global, request: &Request, bytes: &[u8]) -> Result<Vec<u8>, Ending>
+    requires { IsIn (command_of request.now) COMMANDS }
+    ensures text { IfOk result (λ text. IsOutcomeOf request.now bytes.now (Ok text.items)) }
+    ensures none { IfErr result (λ ending. IsOutcomeOf request.now bytes.now (Err ending)) }
+{
+    match request {
+        Request::Replay { .. } => reported(alloc, bytes),
+        Request::Check { .. } => checked(alloc, bytes),
+        Request::Run { .. } | Request::Demo { .. } | Request::Migrate { .. } => unreachable!(),
+    }
+}
