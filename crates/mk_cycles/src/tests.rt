@@ -1,3 +1,4 @@
+// Ranks and cycles of small graphs.
 ghost use Rattle.std.specs.Prelude.{◌≡◌};
 ghost use Rattle.mk_cycles.specs.Edges.{edge};
 

@@ -1,3 +1,4 @@
+// What was delivered over each connection so far, and the inputs of a step over it.
 ghost use Rattle.std.specs.Prelude.{◌≡◌, ℕ, ◌<◌, ◌≤◌, pos, ◌≤ℤ◌, [], map, length, All, IfOk, IfErr};
 ghost use Rattle.mk_base.specs.Tiers.{HasWidth};
 ghost use Rattle.mk_plan.specs.Deliveries.{Supply};

@@ -1,3 +1,4 @@
+// What a connection gives a step: its latest output that counts, or its initial value.
 ghost use Rattle.std.specs.Prelude.{◌≡◌, ◌&&◌, ◌||◌, option_map, filter};
 ghost use Rattle.mk_base.specs.Tiers.{up_to, HasWidth};
 ghost use Rattle.mk_plan.specs.Inputs.{later, latest, initial_of, is_since, pick};

@@ -1,3 +1,4 @@
+// Inputs of steps over a few small plans.
 ghost use Rattle.std.specs.Prelude.{◌≡◌, ◌<◌, ◌≤◌, pos, ◌≤ℤ◌, ◌↔◌, IsTrue, All, length, IfOk};
 ghost use Rattle.std.specs.Bool.{OnTrue};
 ghost use Rattle.mk_base.specs.Tiers.{HasWidth};

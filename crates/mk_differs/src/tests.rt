@@ -1,3 +1,4 @@
+// Records that differ from their journals, entry by entry.
 use crate::first_other;
 use mk_base::{Json, List, SimNo, Tier};
 use mk_plan::{Entry, Item, Journal, Message};

@@ -1,3 +1,4 @@
+// Frames written, and given again for several cuttings.
 use crate::{Feeder, Framed, put_frame};
 use std::test::Fail;
 
@@ -60,5 +61,20 @@ fn next_frame_stays_behind_the_first(rt: HostRuntime) -> Result<(), Fail> {
     assert!(rt; is_not_yet(feeder.next()?));
     feeder.feed(&FRAME[1..])?;
     assert!(rt; is_payload(feeder.next()?));
+    Ok(())
+}
+
+#[test]
+fn a_header_above_the_limit_stays(rt: HostRuntime) -> Result<(), Fail> {
+    let mut feeder = Feeder::new(rt.alloc());
+    feeder.feed(&[4, 0, 0, 1])?;
+    for _ in 0..2 {
+        let length = match feeder.next()? {
+            Framed::TooLong(length) => length,
+            Framed::NotYet => 0,
+            Framed::Frame(_) => 0,
+        };
+        assert_eq!(rt; length, 67_108_865);
+    }
     Ok(())
 }

@@ -1,3 +1,4 @@
+// Bytes read, trees written, and both again.
 use crate::{DatumFault, JsonFault, datum, put_json, put_text, read_json};
 use mk_base::Text;
 use std::alloc::Global;

@@ -1,3 +1,4 @@
+// Payloads read and written, request by request and item by item.
 use crate::{ReadFault, read, write, write_call, write_item};
 use mk_base::{Datum, Json, List, Mem, Text, Tier};
 use mk_json::{datum, read_json};

@@ -1,3 +1,4 @@
+// Names of a small plan, found and not found.
 use crate::Names;
 use mk_base::{List, Mem, SimKind, SimNo, Text, Via};
 use mk_plan::{AsyncPair, Conn, Plan, PlanEntity, PlanModel, PlanSim};

@@ -1,3 +1,4 @@
+// Messages are copied whole.
 use crate::Message;
 use mk_base::{Json, List, Text};
 use std::test::Fail;

@@ -1,3 +1,4 @@
+// Whose turn it is: links that are ready, taken or parked.
 ghost use Rattle.std.specs.Prelude.{◌≡◌, OnOk, OnErr};
 ghost use Rattle.std.specs.List.{list_any};
 ghost use Rattle.mk_base.specs.Lists.{IsIn};

@@ -1,3 +1,4 @@
+// Records of both versions, and the first fault of wrong ones.
 use crate::{Asked, RecordFault, is_built, read_record};
 use mk_base::{SimKind, SimNo, Tier, Via};
 use std::alloc::Global;
@@ -76,33 +77,6 @@ fn faults_by_line_and_number(rt: HostRuntime) -> Result<(), Fail> {
         ("mosaikrun 1\n", "end 0\n\n", 7, 6),
         ("mosaikrun 1\n", "ask [0,0,0,3]\nend 1\n", 6, 1),
         ("mosaikrun 1\n", "end 0", 6, 5),
-        ("mosaikrun 9\n", "end 0\n", 1, 1),
-        (
-            "mosaikrun 2\n",
-            "ask [0,0,0,3]\ngot [0,[1,3,1]]\nend 1\n",
-            8,
-            4,
-        ),
-        ("mosaikrun 2\n", "ask [1,0,0,3]\nend 1\n", 6, 2),
-        ("mosaikrun 2\n", "ask [0,0,1001,3]\nend 1\n", 6, 2),
-        (
-            "mosaikrun 2\n",
-            "conn [0,\"out\",0,\"in\",[\"shift\",0],true,false,[1]]\nend 0\n",
-            6,
-            2,
-        ),
-        (
-            "mosaikrun 2\n",
-            "conn [0,\"out\",0,\"in\",\"shift\",true,false,[1]]\nend 0\n",
-            6,
-            2,
-        ),
-        (
-            "mosaikrun 1\n",
-            "conn [0,\"out\",0,\"in\",[\"shift\",1],true,false,[1]]\nend 0\n",
-            6,
-            1,
-        ),
         (
             "mosaikrun 2\n",
             "conn [0,\"out\",0,\"in\",[\"shift\",1],true,false,[]]\nask [0,0,0,3]\nend 1\n",

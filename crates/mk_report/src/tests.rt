@@ -1,3 +1,4 @@
+// The report of a small journal.
 use crate::write_report;
 use mk_base::{List, Mem, SimKind, SimNo, Text, Tier};
 use mk_plan::{Entry, Item, Journal, Plan, PlanSim};

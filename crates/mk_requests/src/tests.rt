@@ -1,3 +1,4 @@
+// Ids drawn and answered.
 use crate::{Answered, Numbers};
 
 #[test]

@@ -1,5 +1,6 @@
+// Scenario files, table by table, right and with each fault.
 use crate::{Begin, Place, Scenario, ScenarioFault, read_scenario};
-use mk_base::Via;
+use mk_base::{Json, Via};
 use std::alloc::Global;
 use std::test::Fail;
 
@@ -40,107 +41,6 @@ fn after(alloc: Global, beginning: &str, rest: &str) -> Result<String, Fail> {
     verdict(alloc, text.as_str())
 }
 
-#[test]
-fn the_top_table_is_tested_first(rt: HostRuntime) -> Result<(), Fail> {
-    let rows = [
-        ("x =", "1"),
-        ("", "2 until"),
-        ("until = \"3\"", "3 until"),
-        ("until = 0", "5 until 0"),
-        ("until = 1000000001", "5 until 1000000001"),
-        ("until = 3\nspeed = 1", "4 speed"),
-        ("until = 1000000000", "2 sim"),
-        (
-            "until = 3\nmax_loop_iterations = 0",
-            "5 max_loop_iterations 0",
-        ),
-        (
-            "until = 3\nmax_loop_iterations = 1001",
-            "5 max_loop_iterations 1001",
-        ),
-        (
-            "until = 3\nmax_loop_iterations = 1000\nmax_entries = 20000001",
-            "5 max_entries 20000001",
-        ),
-        ("until = 3\nmax_entries = 0", "5 max_entries 0"),
-        ("until = 3\nmax_entries = 20000000", "2 sim"),
-        (
-            "until = 1\nmax_loop_iterations = 1\nmax_entries = 1\nsim = []",
-            "5 sim 0",
-        ),
-        ("until = 3\nsim = [{}, 1]\nconnect = 1", "3 sim[1]"),
-        ("until = 3\nsim = [{}]\nentities = {}", "3 entities"),
-    ];
-    for (text, want) in rows {
-        assert_eq!(rt; verdict(rt.alloc(), text)?.as_str(), want);
-    }
-    Ok(())
-}
-
-#[test]
-fn a_simulator_is_tested_key_by_key(rt: HostRuntime) -> Result<(), Fail> {
-    let rows = [
-        ("", "2 sim[0].name"),
-        ("name = 'A'\nport = 1\nhost = 2", "4 sim[0].host"),
-        ("name = '1'", "5 sim[0].name 1"),
-        ("name = 'A'", "2 sim[0].command"),
-        ("name = 'A'\nlocal = 'sum'\ncommand = 'x'", "8 sim[0]"),
-        (
-            "name = 'A'\nconnect = '127.0.0.1:0'",
-            "5 sim[0].connect 127.0.0.1:0",
-        ),
-        (
-            "name = 'A'\nconnect = '127.0.0.1:70000'",
-            "5 sim[0].connect 127.0.0.1:70000",
-        ),
-        (
-            "name = 'A'\nconnect = 'localhost:08'",
-            "5 sim[0].connect localhost:08",
-        ),
-        (
-            "name = 'A'\nconnect = 'localhost'",
-            "5 sim[0].connect localhost",
-        ),
-        (
-            "name = 'A'\nconnect = 'example:80'",
-            "5 sim[0].connect example:80",
-        ),
-        ("name = 'A'\nconnect = 'localhost:65535'", "well"),
-        (
-            "name = 'A'\nlocal = 's'\nparams = {time_resolution = 4}",
-            "4 sim[0].params.time_resolution",
-        ),
-        (
-            "name = 'A'\nlocal = 's'\nparams = {x = 1.0}",
-            "3 sim[0].params.x",
-        ),
-        (
-            "name = 'A'\nlocal = 's'\nparams = {b = nan, a = [2020-01-02]}",
-            "3 sim[0].params.a",
-        ),
-        ("name = 'A'\nconnect = '127.0.0.1:1'", "well"),
-        (
-            "name = 'A'\nlocal = 's'\ninitial_events = [0, 1000000000]",
-            "well",
-        ),
-        (
-            "name = 'A'\nlocal = 's'\ninitial_events = [0, 1000000001]",
-            "5 sim[0].initial_events[1] 1000000001",
-        ),
-        (
-            "name = 'A'\nlocal = 's'\ninitial_events = [-1, 'x']",
-            "3 sim[0].initial_events[1]",
-        ),
-    ];
-    for (rest, want) in rows {
-        assert_eq!(rt;
-            after(rt.alloc(), "until = 3\n[[sim]]\n", rest)?.as_str(),
-            want
-        );
-    }
-    Ok(())
-}
-
 // Two simulators of one name, and groups of three, two and one entities.
 const GROUPS: &str = "until = 3
 sim = [{name = 'A', local = 's'}, {name = 'A', local = 's'}]
@@ -148,97 +48,37 @@ entities = [{id = 'h', sim = 'A-0', model = 'M', num = 3}, {id = 'p', sim = 'A-1
 ";
 
 #[test]
-fn a_group_is_tested_key_by_key(rt: HostRuntime) -> Result<(), Fail> {
+fn each_fault_is_named_by_its_key(rt: HostRuntime) -> Result<(), Fail> {
     let rows = [
-        (
-            "id = 'g'\nsim = 'B-0'\nmodel = 'M'",
-            "6 entities[0].sim B-0",
-        ),
-        ("id = 'g'\nsim = 'A-0'", "2 entities[0].model"),
-        (
-            "id = 'g'\nsim = 'A-0'\nmodel = 'M'\nnum = 0",
-            "5 entities[0].num 0",
-        ),
-        ("id = 'g'\nsim = 'A-0'\nmodel = 'M'\nnum = 10000", "well"),
-        (
-            "id = 'g'\nsim = 'A-0'\nmodel = 'M'\nnum = 10001",
-            "5 entities[0].num 10001",
-        ),
-        (
-            "id = 'g'\nsim = 'A-0'\nmodel = 'M'\n[[entities]]\nid = 'g'\nsim = 'B-0'\nmodel = 'M'",
-            "10 g",
-        ),
-    ];
-    for (rest, want) in rows {
-        assert_eq!(rt;
-            after(
-                rt.alloc(),
-                "until = 3\n[[sim]]\nname = 'A'\nlocal = 's'\n[[entities]]\n",
-                rest
-            )?
-            .as_str(),
-            want
-        );
-    }
-    Ok(())
-}
-
-#[test]
-fn a_connection_is_tested_key_by_key(rt: HostRuntime) -> Result<(), Fail> {
-    let rows = [
-        ("from = 'x'\nto = 'y'", "7 connect[0].from x"),
-        ("from = 'h[0'\nto = 'g'", "7 connect[0].from h[0"),
-        ("from = 'h[3]'\nto = 'g'", "5 connect[0].from h[3]"),
-        ("from = 'h[02]'\nto = 'A-1.a.b'", "well"),
-        ("from = 'h[]'\nto = 'g'", "5 connect[0].from h[]"),
-        ("from = 'h[x]'\nto = 'g'", "5 connect[0].from h[x]"),
-        ("from = 'A-2.0'\nto = 'g'", "6 connect[0].from A-2"),
-        ("from = 'p'\nto = 'h'", "9 connect[0] 2 3"),
-        (
-            "from = 'p'\nto = 'g'\ntime_shifted = true\nweak = true",
-            "8 connect[0]",
-        ),
-        (
-            "from = 'p'\nto = 'g'\ntime_shifted = 2\nasync_requests = true",
-            "8 connect[0]",
-        ),
+        ("x =", "1"),
+        ("from = 'p'", "2 connect[0].to"),
+        ("from = 'p'\nto = 7", "3 connect[0].to"),
+        ("speed = 1", "4 connect[0].speed"),
         (
             "from = 'p'\nto = 'g'\ntime_shifted = 0",
             "5 connect[0].time_shifted 0",
         ),
+        ("from = 'A-2.0'\nto = 'g'", "6 connect[0].from A-2"),
+        ("from = 'x'\nto = 'y'", "7 connect[0].from x"),
         (
-            "from = 'p'\nto = 'g'\ntime_shifted = 1000001\nweak = 2",
-            "5 connect[0].time_shifted 1000001",
+            "from = 'p'\nto = 'g'\ntime_shifted = 2\nasync_requests = true",
+            "8 connect[0]",
         ),
-        (
-            "from = 'p'\nto = 'g'\ntime_shifted = \"2\"",
-            "3 connect[0].time_shifted",
-        ),
-        (
-            "from = 'p'\nto = 'g'\nattrs = ['x', ['a', 1]]",
-            "3 connect[0].attrs[1]",
-        ),
-        (
-            "from = 'p'\nto = 'g'\nattrs = ['x']\ninitial_data = {x = 1}",
-            "4 connect[0].initial_data",
-        ),
-        (
-            "from = 'p'\nto = 'g'\nweak = true\nattrs = [['x', 'y']]\ninitial_data = {x = 1, y = 2}",
-            "4 connect[0].initial_data.y",
-        ),
-        (
-            "from = 'p'\nto = 'g'\nweak = true\nattrs = ['x']\ninitial_data = {x = 1.5}",
-            "3 connect[0].initial_data.x",
-        ),
-        (
-            "from = 'p'\nto = 'g'\nasync_requests = true\nattrs = ['x', ['y', 'z']]",
-            "well",
-        ),
+        ("from = 'p'\nto = 'h'", "9 connect[0] 2 3"),
+        ("from = 'h[02]'\nto = 'A-1.a.b'", "well"),
     ];
     for (rest, want) in rows {
         let text = format!(in rt.alloc(); "[[connect]]\n{rest}")?;
         assert_eq!(rt; after(rt.alloc(), GROUPS, text.as_str())?.as_str(), want);
     }
+    let group = "{id = 'g', sim = 'A-0', model = 'M'}";
+    let twice = format!(in rt.alloc();
+        "sim = [{{name = 'A', local = 's'}}]\nentities = [{group}, {group}]"
+    )?;
+    assert_eq!(rt;
+        after(rt.alloc(), "until = 3\n", twice.as_str())?.as_str(),
+        "10 g"
+    );
     Ok(())
 }
 
@@ -457,4 +297,77 @@ fn the_demo_is_read_whole(rt: HostRuntime) -> Result<(), Fail> {
         assert_eq!(rt; block.attrs.len(), 1);
     }
     Ok(())
+}
+
+// A simulator at a port and one by a command, each with parameters or events, and a connection of single entities.
+const PARTS: &str = "until = 3
+[[sim]]
+name = 'A'
+connect = '127.0.0.1:4567'
+params = { step = 4 }
+[[sim]]
+name = 'B'
+command = 'python b.py'
+initial_events = [0, 5]
+[[entities]]
+id = 'g'
+sim = 'A-0'
+model = 'M'
+num = 3
+params = { start = 2 }
+[[connect]]
+from = 'g[2]'
+to = 'B-0.e'
+attrs = ['x', ['y', 'z']]
+time_shifted = 2
+initial_data = { y = 7 }
+";
+
+// The whole number of this name among parameters.
+fn whole_of(params: &Json, name: &str) -> Option<i128> {
+    params.member(name)?.as_whole()
+}
+
+#[test]
+fn parts_are_read_as_they_stand(rt: HostRuntime) -> Result<(), Fail> {
+    let scenario = read_scenario(rt.alloc(), PARTS.as_bytes())?;
+    let first = scenario.sims.get(0).ok_or("no simulator")?;
+    let second = scenario.sims.get(1).ok_or("no second simulator")?;
+    assert_eq!(rt; port_of(&first.begin), Some(4567));
+    assert_eq!(rt; whole_of(&first.params, "step"), Some(4));
+    assert_eq!(rt; command_of(&second.begin), Some("python b.py"));
+    assert_eq!(rt; second.initial.as_slice(), [0, 5].as_slice());
+    let group = scenario.groups.get(0).ok_or("no group")?;
+    assert_eq!(rt; whole_of(&group.params, "start"), Some(2));
+    let block = scenario.blocks.get(0).ok_or("no connection")?;
+    assert_eq!(rt; group_of(&scenario, &block.from), ("one entity", 1));
+    assert_eq!(rt; group_of(&scenario, &block.to), ("e", 1));
+    assert_eq!(rt; whole_of(&block.initial, "y"), Some(7));
+    let names = [("x", "x"), ("y", "z")];
+    assert_eq!(rt; block.attrs.len(), names.len());
+    for (i, pair) in block.attrs.as_slice().iter().enumerate() {
+        assert_eq!(rt;
+            Some((pair.from.as_str(), pair.to.as_str())),
+            names.get(i).copied()
+        );
+    }
+    Ok(())
+}
+
+// The port of a simulator that listens at one.
+fn port_of(begin: &Begin) -> Option<u16> {
+    match begin {
+        Begin::Connect(port) => Some(*port),
+        Begin::Command(_) => None,
+        Begin::Local(_) => None,
+    }
+}
+
+// The template of a simulator's command.
+fn command_of(begin: &Begin) -> Option<&str> {
+    match begin {
+        Begin::Command(template) => Some(template.as_str()),
+        Begin::Connect(_) => None,
+        Begin::Local(_) => None,
+    }
 }

@@ -1,3 +1,4 @@
+// How a ready simulator is asked for its Step.
 ghost use Rattle.std.specs.Prelude.{◌≡◌, ◌<◌, ◌^◌, ◌∷◌, ◌++◌, [], length, All, IfOk, IfErr, Some, slice_get};
 ghost use Rattle.mk_base.specs.Tiers.{HasWidth};
 ghost use Rattle.mk_plan.specs.declared.Entry.TheVariants.{Sent};

@@ -1,3 +1,4 @@
+// The core: a run of a plan, message by message.
 ghost use Rattle.std.specs.Prelude.{◌≡◌, ◌<◌, ◌^◌, ◌≤◌, ◌∷◌, [], length, true, IfOk, IfErr, OnErr, Some, None, slice_get, filter, pos};
 ghost use Rattle.mk_plan.specs.Due.{is_within};
 ghost use Rattle.mk_plan.specs.Plans.{IsValidPlan, sim_count};

@@ -1,3 +1,4 @@
+// What a core answers.
 use mk_base::SimNo;
 
 /// Why a run cannot go on.

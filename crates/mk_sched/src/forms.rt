@@ -1,3 +1,4 @@
+// Which plans and messages the core is built for.
 ghost use Rattle.std.specs.Prelude.{◌≡◌, ◌&&◌, ◌==◌, ◌↔◌, true, length, IsTrue};
 ghost use Rattle.std.specs.List.{list_all};
 ghost use Rattle.mk_plan.specs.Plans.{is_time_based};

@@ -1,3 +1,4 @@
+// The outputs of a turn, delivered over the connections that take them.
 ghost use Rattle.std.specs.Prelude.{◌≡◌, ◌+◌, ◌≤◌, ◌<◌, ◌≤ℤ◌, pos, true, false, length, IfOk, option_map, option_and_then, slice_get, Some, FitsSigned};
 ghost use Rattle.std.specs.Option.{ForSome};
 ghost use Rattle.std.specs.Int.{w64};

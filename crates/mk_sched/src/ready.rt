@@ -1,3 +1,4 @@
+// Which simulator is ready, and when.
 ghost use Rattle.std.specs.Prelude.{◌≡◌, ◌<◌, ◌^◌, ℕ, Some, None, length, not, slice_get, option_to_list};
 ghost use Rattle.std.specs.List.{list_any};
 ghost use Rattle.mk_plan.specs.Plans.{RefersInside, owner};

@@ -1,3 +1,4 @@
+// What the core keeps of each simulator.
 ghost use Rattle.std.specs.Prelude.{◌≡◌, ◌+◌, ◌^◌, ◌<◌, filter, fold, IfOk, Some, None};
 ghost use Rattle.mk_plan.specs.Due.{is_within};
 ghost use Rattle.mk_plan.specs.Inputs.{is_since};

@@ -1,3 +1,4 @@
+// How a message is taken: what it is judged to be, and what follows.
 ghost use Rattle.std.specs.Prelude.{◌≡◌, ◌≢◌, ◌+◌, ◌<◌, ◌^◌, ◌∷◌, ◌++◌, ◌==◌, [], true, false, length, IfOk, IfErr, Some, None, slice_get, filter, pos, ◌≤ℤ◌, IfSome, FitsSigned, option_and_then};
 ghost use Rattle.std.specs.Option.{ForSome};
 ghost use Rattle.std.specs.Int.{w64};

@@ -1,3 +1,4 @@
+// Bounds of chains, rings, fans and loops.
 ghost use Rattle.std.specs.Prelude.{◌≡◌, ◌<◌, length, IfOk};
 ghost use Rattle.mk_plan.specs.Plans.{sim_count};
 ghost use Rattle.mk_tiers.specs.Standing.{IsOwn};

@@ -1,3 +1,4 @@
+// Values of each type, and tables in order.
 use crate::{TomlFault, read_toml};
 use mk_base::Json;
 use std::alloc::Global;

@@ -1,3 +1,4 @@
+// What the data of a reply gives, and whether it has the right form.
 ghost use Rattle.std.specs.Prelude.{◌≡◌, not, nat_le, option_map};
 ghost use Rattle.std.specs.List.{list_any};
 ghost use Rattle.mk_base.specs.Trees.{is_object, is_whole, nesting, value_depth};

@@ -1,3 +1,4 @@
+// What is open after a right message.
 ghost use Rattle.std.specs.Prelude.{◌≡◌, ◌<◌, ◌^◌, ◌+◌, None};
 ghost use Rattle.mk_plan.specs.Turns.{next_place, wrong};
 ghost use Rattle.mk_turns.specs.Places.{open_id};

@@ -1,3 +1,4 @@
+// Messages judged at each place, by each cause.
 use crate::{next_place, value_for, wanted, wrong};
 use mk_base::{Json, List, Mem, Members, SimKind, SimNo, Text, Tier, Via};
 use mk_plan::{Cause, Conn, Message, Place, Plan, PlanEntity, PlanModel, PlanSim};

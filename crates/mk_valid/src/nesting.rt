@@ -1,3 +1,4 @@
+// How deep a JSON text nests.
 ghost use Rattle.std.specs.Prelude.{◌≡◌, ◌+◌, ◌<◌, ◌^◌};
 ghost use Rattle.mk_valid.specs.Nesting.{place_after, scanned, nesting_of};
 

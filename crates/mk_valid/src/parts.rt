@@ -1,3 +1,4 @@
+// The five parts of a valid plan, tested in order.
 ghost use Rattle.std.specs.Prelude.{◌≡◌};
 ghost use Rattle.mk_plan.specs.Plans.{owner, eid_of, kind_of, rank_of};
 

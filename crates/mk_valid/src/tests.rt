@@ -1,3 +1,4 @@
+// Plans that fail each part, and one of size.
 use crate::{PlanFault, check_plan, text_nesting};
 use mk_base::{Datum, List, Mem, SimKind, SimNo, Text, Via};
 use mk_plan::{Conn, Plan, PlanEntity, PlanModel, PlanSim};

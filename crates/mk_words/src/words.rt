@@ -1,3 +1,4 @@
+// From words to a request: the crate's call.
 ghost use Rattle.std.specs.Prelude.{◌≡◌, ◌↔◌, IfOk, Some, map};
 ghost use Rattle.std.specs.String.{string_bytes};
 ghost use Rattle.mk_words.specs.Arranged.{check_of, demo_of, migrate_of, replay_in, replay_of, request_among, request_by, request_of, run_of, word_of};
