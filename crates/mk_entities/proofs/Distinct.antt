@@ -19,7 +19,7 @@ use Rattle.mk_entities.proofs.Lookups.{number_is, place_first, place_later}
 
 -- ---- where no test fails
 
-none_at : {X : Type 0} (f : ℕ → Option X) (a n k : ℕ) → first_there (map f (range_with_len a n)) ≡ None → a ≤ k → k < a + n → f k ≡ None
+pub none_at : {X : Type 0} (f : ℕ → Option X) (a n k : ℕ) → first_there (map f (range_with_len a n)) ≡ None → a ≤ k → k < a + n → f k ≡ None
 none_at f a zero k none low high = absurd (omega arith)
 none_at {X} f a (suc n) k none low high = at (f a) refl (apart k a low) none (none_at f (a + 1) n k)
   where

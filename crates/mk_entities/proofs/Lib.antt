@@ -5,4 +5,5 @@ pub mod Faults
 pub mod Lookups
 pub mod Numbers
 pub mod Rows
+pub mod Sounding
 pub mod Tying

@@ -2,6 +2,7 @@
 use Rattle.std.proofs.Common.{◌≡◌, ℕ, zero, suc, ◌+◌, ◌<◌, ◌≤◌, ◌==◌, false, List, [], ◌∷◌, ◌++◌, map, length, Option, Some, None, Result, Ok, Err, refl, sym, ap, subst, ◌∙◌, arith, unwrap_or, slice_set, ◌⊎◌, inl, inr}
 use Rattle.std.specs.Prelude.{OnOk, IfErr}
 use Rattle.mk_base.specs.declared.SimNo.{SimNo}
+use Rattle.mk_base.specs.Lists.{Each}
 use Rattle.mk_base.proofs.Lists.{append_nil, set_else}
 use Rattle.mk_meta.specs.declared.meta.Meta.{Meta}
 use Rattle.mk_entities.specs.declared.described.Described.{Described}
@@ -10,7 +11,9 @@ use Rattle.mk_entities.specs.declared.fault.CreateFault.{CreateFault}
 use Rattle.mk_entities.specs.Creation.{added, drafts, first_entity_fault, first_there, most_entities, number_of, rel_fault, unless, with_entities}
 use Rattle.mk_entities.specs.Tied.{IsFound, IsTied, names_at, numbered}
 use Rattle.mk_entities.proofs.Adding.{numbered_append, numbered_other, same_fault}
+use Rattle.mk_entities.specs.Sound.{AreSound}
 use Rattle.mk_entities.proofs.Distinct.{still_found}
+use Rattle.mk_entities.proofs.Sounding.{IsNamed, eids_there, still_sound}
 
 passes : {B : Type 0} (f g : Option CreateFault) (x y : B) → unless f (unless g (Ok x)) ≡ Ok y → (f ≡ None) × (x ≡ y)
 passes None None x y is = (cc, cc)
@@ -33,6 +36,10 @@ module _ (old new : List EntityInfo) (sim : SimNo) (group : ℕ) (model : List �
   found_again : IsFound old → IsFound new
   found_again found = subst IsFound passed.1 (still_found old sim model meta es make (λ e. refl) (λ e. refl) found (same_fault old sim group model meta es ∙ passed.0))
 
+  -- each new entity has what it must have
+  sound_again : AreSound old → Each IsNamed es → AreSound new
+  sound_again sound named = subst AreSound passed.1 (still_sound old (number_of (drafts old sim group es) sim) sim group es sound (eids_there (numbered sim.0 0 old) (length old) model meta es (same_fault old sim group model meta es ∙ passed.0) named))
+
 same_or_other : (s i : ℕ) → (s ≡ i) ⊎ ((i == s) ≡ false)
 same_or_other s i = grind arith
 
@@ -48,16 +55,21 @@ set_same (n ∷ names) (suc i) x below = set_same names i x (omega arith)
 pub tied_again : (r : Result (Unit {0}) CreateFault) (old new : List EntityInfo) (names grown : List (List (List ℕ × ℕ))) (sim : SimNo) (group : ℕ) (model : List ℕ) (meta : Meta) (es : List Described) (now : List (List ℕ × ℕ))
     → IsTied old names → ((s : ℕ) → names_at grown s ≡ names_at names s) → sim.0 < length grown
     → OnOk r (with_entities old sim group model meta es ≡ Ok new) → IfErr r (λ e. new ≡ old) → length new ≤ most_entities → now ≡ numbered sim.0 0 new
-    → IsTied new (slice_set grown sim.0 now)
-tied_again r old new names grown sim group model meta es now tied same room ok err few is = record {
+    → Each IsNamed es → IsTied new (slice_set grown sim.0 now)
+tied_again r old new names grown sim group model meta es now tied same room ok err few is named = record {
   few = few;
   distinct = found r ok err;
+  sound = sound r ok err;
   numbers = λ s. at s (same_or_other s sim.0);
 }
   where
     found : (r : Result (Unit {0}) CreateFault) → OnOk r (with_entities old sim group model meta es ≡ Ok new) → IfErr r (λ e. new ≡ old) → IsFound new
     found (Ok u) ok err = found_again old new sim group model meta es ok tied.distinct
     found (Err e) ok err = subst IsFound (sym err) tied.distinct
+
+    sound : (r : Result (Unit {0}) CreateFault) → OnOk r (with_entities old sim group model meta es ≡ Ok new) → IfErr r (λ e. new ≡ old) → AreSound new
+    sound (Ok u) ok err = sound_again old new sim group model meta es ok tied.sound named
+    sound (Err e) ok err = subst AreSound (sym err) tied.sound
 
     stay : (r : Result (Unit {0}) CreateFault) (s : ℕ) → (sim.0 == s) ≡ false → OnOk r (with_entities old sim group model meta es ≡ Ok new) → IfErr r (λ e. new ≡ old) → numbered s 0 new ≡ numbered s 0 old
     stay (Ok u) s other ok err = others_stay old new sim group model meta es ok s other

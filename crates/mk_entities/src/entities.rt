@@ -1,6 +1,9 @@
+// The entities of all simulators: the list of them, and how replies to `create` add to it.
 ghost use Rattle.std.specs.Prelude.{◌≡◌, ◌<◌, ◌≤◌, [], Some, Ok, Err, length, slice_get, option_map, OnOk, IfErr, ◌⊎◌};
 ghost use Rattle.mk_base.specs.Lists.{BeginsWith};
 ghost use Rattle.mk_entities.specs.Creation.{entities_added, most_entities, number_of};
+ghost use Rattle.mk_entities.specs.Sound.{AreSound};
+ghost use Rattle.mk_entities.specs.Tied.{IsFound};
 
 use crate::described::families;
 use crate::fault::CreateFault;
@@ -100,6 +103,17 @@ impl Entities {
         ensures few { length self.now ≤ most_entities }
     {
         self.kept.len()
+    }
+
+    /// All entities, in order of their numbers: each is the only one of its simulator with its eid, which is neither empty nor
+    /// `time`, and its related numbers are those of entities, in rising order.
+    pub fn as_slice(&self) -> &[EntityInfo]
+        ensures same { result.now ≡ self.now }
+        ensures few { length self.now ≤ most_entities }
+        ensures distinct { IsFound self.now }
+        ensures sound { AreSound self.now }
+    {
+        self.kept.as_slice()
     }
 
     /// The entity with this number, which is the number that `find` gives of its simulator and eid.

@@ -1,3 +1,4 @@
+// Replies to `create`, right ones and each fault.
 use crate::{CreateFault, Entities};
 use mk_base::{Json, SimNo, Text};
 use mk_json::read_json;
@@ -148,6 +149,9 @@ fn entities_are_numbered_depth_first(rt: HostRuntime) -> Result<(), Fail> {
     assert_eq!(rt; entities.at(2).group, None);
     assert_eq!(rt; entities.at(4).group, Some(7));
     assert_eq!(rt; entities.at(2).model.as_str(), "N");
+    let all = entities.as_slice();
+    assert_eq!(rt; all.len(), 5);
+    assert_eq!(rt; all[4].eid.as_str(), "d");
     Ok(())
 }
 

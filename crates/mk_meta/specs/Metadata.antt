@@ -1,11 +1,11 @@
 -- The metadata that a reply to `init` has, or the first test that it fails.
-use Rattle.std.specs.Prelude.{ℕ, Bool, true, false, ◌==◌, not, codes, nat_le, ◌≤◌, List, [], ◌∷◌, map, length, Option, Some, None, option_and_then, unwrap_or, Result, Ok, Err, if◌then◌else◌}
+use Rattle.std.specs.Prelude.{◌≡◌, IsTrue, ℕ, Bool, true, false, ◌==◌, not, codes, nat_le, ◌≤◌, List, [], ◌∷◌, map, length, Option, Some, None, option_and_then, unwrap_or, Result, Ok, Err, if◌then◌else◌}
 use Rattle.std.specs.List.{find, list_any, before_first}
 use Rattle.std.specs.List.Sorted.{IsStrictlySortedBy}
 use Rattle.mk_base.specs.declared.SimKind.{SimKind}
 use Rattle.mk_base.specs.declared.SimKind.TheVariants.{TimeBased, EventBased, Hybrid}
 use Rattle.mk_base.specs.declared.json.Json.{Json}
-use Rattle.mk_base.specs.Lists.{same_text, text_order, all_there}
+use Rattle.mk_base.specs.Lists.{same_text, text_order, all_there, Each}
 use Rattle.mk_base.specs.Trees.{bool_in, text_in, items_in, members_in, is_object, member}
 use Rattle.mk_meta.specs.declared.meta.ModelMeta.{ModelMeta}
 use Rattle.mk_meta.specs.declared.meta.Meta.{Meta}
@@ -123,6 +123,13 @@ with_models kind (Err fault) = Err fault
 -- the models are few enough, distinct and in byte order
 abbrev pub IsListed : List ModelMeta → Type 0
 IsListed models = (length models ≤ most_models) × IsStrictlySortedBy text_order (map (λ (m : ModelMeta). m.name) models)
+
+-- only a hybrid simulator's model names attributes that trigger or aren't persistent, and it has those that it names, but for what triggers where any input is taken
+pub record HasKnownAttrs (kind : SimKind) (model : ModelMeta) : Type 0 where
+  pub trigger : is_hybrid kind ≡ false → model.trigger ≡ []
+  pub events : is_hybrid kind ≡ false → model.events ≡ []
+  pub triggers_known : model.any_inputs ≡ false → Each (λ t. IsTrue (is_among model.attrs t)) model.trigger
+  pub events_known : Each (λ t. IsTrue (is_among model.attrs t)) model.events
 
 -- the tests of a reply: a version that is 3, a type, models, and each model in byte order
 abbrev pub meta_in : Json → Result Meta MetaFault

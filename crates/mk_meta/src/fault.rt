@@ -1,3 +1,4 @@
+// Why a reply to `init` is refused.
 ghost use Rattle.std.specs.Prelude.{◌≡◌};
 
 use mk_base::{Mem, Text};

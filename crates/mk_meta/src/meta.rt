@@ -1,8 +1,8 @@
 // The tests of a reply to `init`.
 ghost use Rattle.std.specs.Prelude.{◌≡◌, map, IfOk, IfErr, IfSome, ◌≤◌, length, Ok, Err, ◌⊎◌, option_map, option_and_then};
-ghost use Rattle.mk_base.specs.Lists.{same_text};
+ghost use Rattle.mk_base.specs.Lists.{Each, same_text};
 ghost use Rattle.mk_base.specs.Trees.{members_in};
-ghost use Rattle.mk_meta.specs.Metadata.{IsListed, most_models, all_well, is_version_three, kind_in, few_enough, kind_named, meta_in, model_in, models_in, type_text, version_in};
+ghost use Rattle.mk_meta.specs.Metadata.{HasKnownAttrs, IsListed, most_models, all_well, is_version_three, kind_in, few_enough, kind_named, meta_in, model_in, models_in, type_text, version_in};
 ghost use Rattle.mk_meta.specs.declared.fault.MetaFault.TheVariants as fault;
 
 use crate::fault::MetaFault;
@@ -38,6 +38,7 @@ pub struct Meta {
 pub fn read_meta(alloc: Global, reply: &Json) -> Result<Meta, MetaFault>
     ensures ok { IfOk result (λ meta. meta_in reply.now ≡ Ok meta) }
     ensures listed { IfOk result (λ meta. IsListed meta.models) }
+    ensures known { IfOk result (λ meta. Each (HasKnownAttrs meta.kind) meta.models) }
     ensures refused { IfErr result (λ e. (e ≡ MetaFault.Mem) ⊎ (meta_in reply.now ≡ Err e)) }
 {
     meta_of(alloc, reply)?
@@ -46,6 +47,7 @@ pub fn read_meta(alloc: Global, reply: &Json) -> Result<Meta, MetaFault>
 fn meta_of(alloc: Global, reply: &Json) -> Result<Result<Meta, MetaFault>, Mem>
     ensures told { IfOk result (λ meta. meta ≡ meta_in reply.now) }
     ensures listed { IfOk result (λ found. IfOk found (λ meta. IsListed meta.models)) }
+    ensures known { IfOk result (λ found. IfOk found (λ meta. Each (HasKnownAttrs meta.kind) meta.models)) }
 {
     let Some(version) = text_at(reply, "api_version") else {
         return Ok(Err(MetaFault::NoVersion));
@@ -162,6 +164,7 @@ fn models_from(
     requires { length described.now ≤ most_models }
     ensures told { IfOk result (λ models. models ≡ all_well (map (model_in kind) described.now)) }
     ensures listed { IfOk result (λ found. IfOk found (λ models. IsListed models)) }
+    ensures known { IfOk result (λ found. IfOk found (λ models. Each (HasKnownAttrs kind) models)) }
 {
     let mut models = List::new(alloc);
     let entries = described.entries();

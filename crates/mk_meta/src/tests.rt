@@ -1,3 +1,4 @@
+// Replies to `init`, right ones and each fault.
 use crate::{MetaFault, read_meta};
 use mk_json::read_json;
 use std::alloc::Global;

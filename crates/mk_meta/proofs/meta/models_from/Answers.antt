@@ -1,8 +1,9 @@
-use Rattle.std.proofs.Common.{arith, sym, ap, ◌∙◌, ◌≡◌, subst, map, IfOk}
+use Rattle.std.proofs.Common.{arith, sym, ap, ◌∙◌, ◌≡◌, subst, map, take, IfOk}
 use Rattle.std.proofs.lemmas.List.{take_all}
 use Rattle.mk_meta.specs.declared.meta.ModelMeta.{ModelMeta}
 use Rattle.mk_meta.specs.Metadata.{all_well, model_in}
 use Rattle.mk_meta.proofs.Gathering.{first_fault, more_well, more_named}
+use Rattle.mk_meta.proofs.Known.{all_known}
 use Rattle.mk_meta.proofs.Names.{models_listed, name_of, described_as}
 use Rattle.mk_meta.proofs.meta.models_from.Goals as goal
 
@@ -22,3 +23,6 @@ loop-name-preserved c =
 pub returns-clause-listed : goal.returns-clause-listed
 returns-clause-listed c = models_listed c.args.described.now c.loop-name.models c.requires c.entries-entries.ensures.sorted
     (c.loop-name.invariant.named ∙ ap (map described_as) (take_all c.loop-name.name-index c.entries-entries.result.now c.loop-name-test.false ∙ c.entries-entries.ensures.items))
+
+pub returns-clause-known : goal.returns-clause-known
+returns-clause-known c = all_known c.args.kind (take c.loop-name.name-index c.entries-entries.result.now) c.loop-name.models c.loop-name.invariant.told
