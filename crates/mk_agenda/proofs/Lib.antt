@@ -1,0 +1,8 @@
+pub mod Queued
+pub mod Tabled
+pub mod Tidying
+pub mod Rows
+pub mod Begins
+pub mod Mirroring
+pub mod Ending
+pub mod Ended
