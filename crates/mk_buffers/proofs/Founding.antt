@@ -1,0 +1,203 @@
+-- The tables of new buffers are those of the plan.
+use Rattle.std.proofs.Common.{◌≡◌, ◌⊎◌, inl, inr, ℕ, zero, suc, ◌<◌, ◌≤◌, true, false, ◌&&◌, List, [], ◌∷◌, length, Option, Some, None, pos, unwrap_or, option_map, slice_get, refl, sym, ap, subst, ◌∙◌, arith, ◌==◌, ◌++◌}
+use Rattle.std.specs.Cmp.{IsTotalOrder}
+use Rattle.std.specs.List.Sorted.{IsStrictlySortedBy}
+use Rattle.std.specs.Ordering.{ordering_then, ordering_reverse, nat_cmp}
+use Rattle.std.specs.declared.alloc.Global.{Global}
+use Rattle.std.specs.declared.cmp.Ordering.{Ordering}
+use Rattle.std.specs.declared.cmp.Ordering.TheVariants.{Less, Greater}
+use Rattle.std.specs.declared.vec.Vec.{Vec}
+use Rattle.std.proofs.lemmas.Bool.Decides.{nat_tests}
+use Rattle.std.proofs.lemmas.Slice.Eq.{bytes_eq-Decides}
+use Rattle.mk_base.specs.declared.tier.Via.{Via}
+use Rattle.mk_base.specs.Lists.{IsIn, text_order, same_text}
+use Rattle.mk_base.proofs.Lists.{some_same, in_at, at_in, get_is, below_get, in_filter, filter_in, some_passes}
+use Rattle.mk_plan.specs.declared.Plan.{Plan}
+use Rattle.mk_plan.specs.declared.Conn.{Conn}
+use Rattle.mk_plan.specs.Asks.{gives_attr}
+use Rattle.mk_plan.specs.Plans.{owner, eid_of, HasDistinctNames}
+use Rattle.mk_buffers.specs.declared.buffers.Buffers.{Buffers}
+use Rattle.mk_buffers.specs.declared.buffers.Home.{Home}
+use Rattle.mk_buffers.specs.declared.inlets.Inlet.{Inlet}
+use Rattle.mk_buffers.specs.declared.inlets.Target.{Target}
+use Rattle.mk_buffers.specs.declared.outlets.Source.{Source}
+use Rattle.mk_buffers.specs.declared.outlets.Outlet.{Outlet}
+use Rattle.mk_buffers.specs.declared.outlets.Outlets.{Outlets}
+use Rattle.mk_buffers.specs.declared.sets.Slot.{Slot}
+use Rattle.mk_buffers.specs.Marking.{AreAsking, AreStarts, IsLeastMark}
+use Rattle.mk_base.specs.declared.tier.Tier.{Tier}
+use Rattle.mk_base.specs.Tiers.{moment}
+use Rattle.mk_plan.specs.Plans.{IsValidPlan}
+use Rattle.mk_buffers.specs.Held.{is_key, has_key}
+use Rattle.mk_buffers.specs.Building.{outlet_order, IsSource, HasSources, AreOutlets, AreParts}
+use Rattle.mk_buffers.specs.Listing.{IsTargetAt, AreTargets, IsInletOf, AreListed}
+use Rattle.mk_buffers.specs.Standing.{HasHome, mark_of, IsInlet, AreInlets, IsFound, IsNew, AreHomes, HasSizes, IsUnset, AreUnset}
+use Rattle.mk_buffers.proofs.Collecting.{outlets_total, key_of}
+use Rattle.mk_buffers.proofs.Aligning.{aligned}
+use Rattle.mk_buffers.proofs.Rising.{all_of, get_more}
+use Rattle.mk_buffers.proofs.Standing.{key_is, both_from}
+
+sorted_at : {X : Type 0} (order : X → X → Ordering) (xs : List X) (i j : ℕ) (x y : X) → IsStrictlySortedBy order xs → i < j → slice_get xs i ≡ Some x → slice_get xs j ≡ Some y → order x y ≡ Less
+unfolding IsStrictlySortedBy
+sorted_at order [] i j x y s l at to = cc
+sorted_at order (z ∷ zs) i zero x y s l at to = absurd (omega (arith, l))
+sorted_at order (z ∷ zs) zero (suc j) x y s l at to = subst (λ w. order w y ≡ Less) (some_same at) (all_of (λ w. order z w ≡ Less) zs y s.0 (at_in y zs j to))
+sorted_at order (z ∷ zs) (suc i) (suc j) x y s l at to = sorted_at order zs i j x y s.1 (omega (arith, l)) at to
+
+order_cases : (d e : ℕ) → (d ≡ e) ⊎ ((d < e) ⊎ (e < d))
+order_cases zero zero = inl refl
+order_cases zero (suc e) = inr (inl (omega arith))
+order_cases (suc d) zero = inr (inr (omega arith))
+order_cases (suc d) (suc e) = elim (order_cases d e) [ inl q ↦ inl (ap suc q) | inr r ↦ elim r [ inl l ↦ inr (inl (omega (arith, l))) | inr l ↦ inr (inr (omega (arith, l))) ] ]
+
+eq_to : (m n : ℕ) → (m == n) ≡ true → m ≡ n
+eq_to m n h = grind (arith, nat_tests)
+
+eq_of : (m n : ℕ) → m ≡ n → (m == n) ≡ true
+eq_of m n h = grind (arith, nat_tests)
+
+-- a connection's source, from the test
+conn_key : (c : Conn) (e : ℕ) (attr : List ℕ) → (c.from == e) && same_text c.from_attr attr ≡ true → (c.from ≡ e) × (c.from_attr ≡ attr)
+conn_key c e attr h = let both = both_from (c.from == e) (same_text c.from_attr attr) h in (eq_to c.from e both.0, (bytes_eq-Decides c.from_attr attr).0 both.1)
+
+not_less : {X : Type 0} (order : X → X → Ordering) → IsTotalOrder order → (x : X) → order x x ≡ Less → ⊥
+not_less order total x less = let wrong : Less ≡ Greater = sym less ∙ total.antisymm x x ∙ ap ordering_reverse less in cc
+
+-- no set values yet
+pub unset_more : (v w : List (List Slot)) (l : List Slot) → AreUnset (length v) v → l ≡ [] → w ≡ v ++ l ∷ [] → AreUnset (length w) w
+unset_more v w l unset none whole = record {
+  all = refl;
+  each = λ s k there. elim (get_more v l k s (sym (ap (λ x. slice_get x s) whole) ∙ there)) [ inl h ↦ unset.each s k h | inr h ↦ h.1 ∙ none ];
+}
+
+module _ (P : Plan) (names : HasDistinctNames P) (done : List Source) (sources : HasSources P (length P.conns) done) (m : Outlets) (are : AreOutlets P done done m) where
+  -- an outlet's simulator is its entity's
+  sim_is : (o : Outlet) → IsIn o m.all.items → o.sim ≡ owner P o.entity
+  sim_is o r = let t = are.each o r in let s = sources.each t.0 t.1 in t.2.sim ∙ s.sim ∙ sym (ap (owner P) (t.2.entity ∙ s.entity))
+
+  one_key : (i j : ℕ) (o q : Outlet) → slice_get m.all.items i ≡ Some o → slice_get m.all.items j ≡ Some q → is_key o.entity o.attr q ≡ true → i ≡ j
+  one_key i j o q at to key = elim (order_cases i j) [
+    | inl e ↦ e
+    | inr r ↦ elim r [
+      | inl l ↦ absurd (not_less (outlet_order P) (outlets_total P) o (sym (turned o q same.0 same.1 sims o) ∙ sorted_at (outlet_order P) m.all.items i j o q are.sorted l at to))
+      | inr l ↦ absurd (not_less (outlet_order P) (outlets_total P) o (sym (turned_back o q same.0 same.1 sims o) ∙ sorted_at (outlet_order P) m.all.items j i q o are.sorted l to at))
+    ]
+  ]
+    where
+      same : (q.entity ≡ o.entity) × (q.attr ≡ o.attr)
+      same = key_is o.entity o.attr q key
+
+      sims : q.sim ≡ o.sim
+      sims = sim_is q (at_in q m.all.items j to) ∙ ap (owner P) same.0 ∙ sym (sim_is o (at_in o m.all.items i at))
+
+      turned : (o q : Outlet) → q.entity ≡ o.entity → q.attr ≡ o.attr → q.sim ≡ o.sim → (x : Outlet) → outlet_order P x q ≡ outlet_order P x o
+      turned o q e a s x = λ k. ordering_then (nat_cmp x.sim (s k)) (ordering_then (text_order (eid_of P x.entity) (eid_of P (e k))) (text_order x.attr (a k)))
+
+      turned_back : (o q : Outlet) → q.entity ≡ o.entity → q.attr ≡ o.attr → q.sim ≡ o.sim → (x : Outlet) → outlet_order P q x ≡ outlet_order P o x
+      turned_back o q e a s x = λ k. ordering_then (nat_cmp (s k) x.sim) (ordering_then (text_order (eid_of P (e k)) (eid_of P x.entity)) (text_order (a k) x.attr))
+
+  -- an outlet is that of a connection
+  from_conn : (o : Outlet) → IsIn o m.all.items → (c : Conn) × IsIn c P.conns × (o.entity ≡ c.from) × (o.attr ≡ c.from_attr)
+  from_conn o r = let t = are.each o r in let s = sources.each t.0 t.1 in (s.conn, at_in s.conn P.conns t.0.place s.at_place, t.2.entity ∙ s.entity, t.2.attr ∙ s.attr)
+
+  -- a connection's outlet
+  outlet_for : (p : ℕ) (c : Conn) → slice_get P.conns p ≡ Some c → (i : ℕ) × (slice_get m.of_conn.items p ≡ Some i) × (o : Outlet) × (slice_get m.all.items i ≡ Some o) × (o.entity ≡ c.from) × (o.attr ≡ c.from_attr) × IsIn c.via o.vias.items
+  outlet_for p c at =
+      let s = sources.all p (get_is P.conns p c at).0 in
+      let is : IsSource P s.0 = sources.each s.0 s.1 in
+      let conn : is.conn ≡ c = some_same (sym is.at_place ∙ ap (slice_get P.conns) s.2 ∙ at) in
+      let h = are.conns s.0 s.1 in (
+        h.outlet,
+        sym (ap (slice_get m.of_conn.items) s.2) ∙ h.place,
+        h.is,
+        h.at_place,
+        h.entity ∙ is.entity ∙ ap (λ (c : Conn). c.from) conn,
+        h.attr ∙ is.attr ∙ ap (λ (c : Conn). c.from_attr) conn,
+        subst (λ (v : Via). IsIn v h.is.vias.items) (is.via ∙ ap (λ (c : Conn). c.via) conn) h.via,
+      )
+
+  in_outlets : (c : Conn) → IsIn c P.conns → (o : Outlet) × IsIn o m.all.items × (o.entity ≡ c.from) × (o.attr ≡ c.from_attr)
+  in_outlets c r = let p = in_at c P.conns r in let o = outlet_for p.0 c p.1 in (o.2, at_in o.2 m.all.items o.0 o.3, o.4, o.5)
+
+  module _ (homes : List Home) (lives : AreHomes P m.of_entity.items homes) (targets : List Target) (ends : AreTargets P m.of_conn.items targets) (b : Buffers) (outlets : b.outlets ≡ m.all) (housed : b.homes.items ≡ homes) (until : b.until ≡ P.until) (listed : AreListed (length P.sims) targets b.inlets.items) (feeds : b.feeds.items ≡ m.of_sim.items) (parts : AreParts (length P.sims) m.all.items m.of_sim.items) (sizes : HasSizes P b) (unset : IsUnset b) (valid : IsValidPlan P) (asking : AreAsking P b.marks.asks) (least : IsLeastMark b.marks) (starts : AreStarts b.marks.marks) where
+    home_of : (e : ℕ) → e < length P.entities → HasHome P b e
+    home_of e low = let h = below_get homes e (rw lives.count low) in let is = lives.each e h.0 h.1 in record { home = h.0; at_home = ap (λ (l : List Home). slice_get l e) housed ∙ h.1; sim = is.1; eid = is.2 }
+
+    start_of : (s : ℕ) → mark_of b s ≡ moment (pos 0)
+    start_of s = go (slice_get b.marks.marks s) refl
+      where
+        go : (o : Option Tier) → slice_get b.marks.marks s ≡ o → unwrap_or (slice_get b.marks.marks s) (moment (pos 0)) ≡ moment (pos 0)
+        go None e = ap (λ (o : Option Tier). unwrap_or o (moment (pos 0))) e
+        go (Some m) e = ap (λ (o : Option Tier). unwrap_or o (moment (pos 0))) e ∙ starts s m e
+
+    found : (e : ℕ) (attr : List ℕ) → gives_attr P e attr ≡ true → IsFound b e attr
+    found e attr given =
+        let c = some_passes (λ (c : Conn). (c.from == e) && same_text c.from_attr attr) P.conns given in
+        let p = in_at c.0 P.conns c.1 in
+        let o = outlet_for p.0 c.0 p.1 in
+        let own : (c.0.from ≡ e) × (c.0.from_attr ≡ attr) = conn_key c.0 e attr c.2 in
+        let part = are.entities o.0 o.2 o.3 in
+        let entity : o.2.entity ≡ e = o.4 ∙ own.0 in
+        let low : e < length homes = rw lives.count (rw (sym are.entity_count) ((get_is m.of_entity.items e part.0 (sym (ap (slice_get m.of_entity.items) entity) ∙ part.1)).0)) in
+        let h = below_get homes e low in
+        let is : part.0 ≡ h.0.outlets = some_same (sym part.1 ∙ ap (slice_get m.of_entity.items) entity ∙ (lives.each e h.0 h.1).0) in
+        record {
+          home = h.0;
+          at_home = ap (λ (l : List Home). slice_get l e) housed ∙ h.1;
+          place = o.0;
+          first = subst (λ q. q.first ≤ o.0) is part.2;
+          end = subst (λ q. o.0 < q.end) is part.3;
+          key = ap (λ v. has_key v.items e attr o.0) outlets ∙ ap (λ (x : Option Outlet). unwrap_or (option_map (is_key e attr) x) false) o.3 ∙ key_of o.2 e attr entity (o.5 ∙ own.1);
+        }
+
+    inlet_is : (t : Target) (p : ℕ) (i : Inlet) → IsInletOf t i → (at : IsTargetAt P m.of_conn.items p t) → IsInlet P b at.of i
+    inlet_is t p i f at =
+        let o = outlet_for p at.of at.at_place in
+        let place : i.outlet ≡ o.0 = f.outlet ∙ at.is.to ∙ some_same (sym at.outlet ∙ o.1) in
+        record {
+          eid = f.eid ∙ at.is.eid;
+          attr = f.attr ∙ ap (λ (c : Conn). c.to_attr) at.is.conn;
+          source = f.source ∙ at.is.source;
+          via = f.via ∙ ap (λ (c : Conn). c.via) at.is.conn;
+          persistent = f.persistent ∙ ap (λ (c : Conn). c.persistent) at.is.conn;
+          initial = f.initial ∙ ap (λ (c : Conn). c.initial) at.is.conn;
+          outlet = o.2;
+          at_place = ap (λ v. slice_get v.items i.outlet) outlets ∙ ap (slice_get m.all.items) place ∙ o.3;
+          entity = o.4;
+          from_attr = o.5;
+          delay = o.6;
+        }
+
+    inlets_are : (s : ℕ) (l : Vec Inlet Global) → slice_get b.inlets.items s ≡ Some l → AreInlets P b s l.items
+    inlets_are s l at = let a = listed.each s l at in record {
+      sorted = a.sorted;
+      each = λ i r. let t = a.each i r in let k = ends.each t.0 t.1 in
+          (k.1.of, filter_in (λ (c : Conn). owner P c.to == s) k.1.of P.conns (at_in k.1.of P.conns k.0 k.1.at_place) (eq_of (owner P k.1.of.to) s (sym k.1.is.sim ∙ t.2)), inlet_is t.0 k.0 i t.3 k.1);
+      all = λ c r.
+          let f = in_filter (λ (c : Conn). owner P c.to == s) c P.conns r in
+          let p = in_at c P.conns f.0 in
+          let t = ends.all p.0 (get_is P.conns p.0 c p.1).0 in
+          let conn : t.2.of ≡ c = some_same (sym t.2.at_place ∙ p.1) in
+          let i = a.all t.0 t.1 (t.2.is.sim ∙ ap (λ (d : Conn). owner P d.to) conn ∙ eq_to (owner P c.to) s f.1) in
+          (i.0, i.1, subst (λ (d : Conn). IsInlet P b d i.0) conn (inlet_is t.0 p.0 i.0 i.2 t.2));
+    }
+
+    pub founded : IsNew P b
+    founded = record {
+      unset = unset;
+      starts = start_of;
+      of_plan = record {
+        valid = valid;
+        homes = home_of;
+        home_count = ap length housed ∙ lives.count;
+        asking = asking;
+        least = least;
+        sizes = sizes;
+        until = until;
+        once = λ i j o q at to key. one_key i j o q (sym (ap (λ v. slice_get v.items i) outlets) ∙ at) (sym (ap (λ v. slice_get v.items j) outlets) ∙ to) key;
+        inlets = inlets_are;
+        found = found;
+        aligned = λ s part at i w want. aligned P b s part m.all.items (ap (λ v. v.items) outlets) are.sorted (λ o r. sim_is o r) (λ o r. from_conn o r) (λ c r. in_outlets c r) (parts.each s part (sym (ap (λ l. slice_get l s) feeds) ∙ at)).first i w want;
+      };
+      empty = λ i o at. (are.each o (at_in o m.all.items i (sym (ap (λ v. slice_get v.items i) outlets) ∙ at))).2.log;
+    }

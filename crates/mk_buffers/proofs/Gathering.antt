@@ -1,0 +1,216 @@
+-- What sorted inlets give one after the other is what the connections give, put in order.
+use Rattle.std.proofs.Common.{◌≡◌, ◌⊎◌, inl, inr, ℕ, ◌+◌, ◌<◌, ◌≤◌, List, [], ◌∷◌, ◌++◌, length, take, get_or, map, filter, flat_map, fold, Option, Some, None, option_map, refl, sym, ap, subst, ◌∙◌, ◌==◌}
+use Rattle.std.specs.Prelude.{option_to_list}
+use Rattle.std.specs.Cmp.{IsTotalOrder}
+use Rattle.std.specs.List.{AllByRecursion}
+use Rattle.std.specs.List.Sorted.{IsStrictlySortedBy}
+use Rattle.std.specs.Ordering.{ordering_reverse}
+use Rattle.std.specs.declared.cmp.Ordering.{Ordering}
+use Rattle.std.specs.declared.cmp.Ordering.TheVariants.{Less, Equal, Greater}
+use Rattle.std.proofs.lemmas.List.{take_all, take_more}
+use Rattle.mk_base.specs.declared.tier.Tier.{Tier}
+use Rattle.mk_base.specs.Lists.{IsIn, put, placed}
+use Rattle.std.specs.Prelude.{◌||◌, unwrap_or, pos, true, Bool}
+use Rattle.std.specs.List.{list_any}
+use Rattle.std.proofs.Common.{arith}
+use Rattle.mk_base.specs.Tiers.{IsUpTo, moment}
+use Rattle.mk_base.proofs.TierOrder.{up_to_trans}
+use Rattle.mk_base.proofs.Lists.{in_filter, passes_some, below_get}
+use Rattle.mk_buffers.specs.Marking.{asks_of}
+use Rattle.mk_base.proofs.Lists.{in_flat_map, flat_map_in, flat_map_append, append_nil, in_either}
+use Rattle.mk_plan.specs.declared.Plan.{Plan}
+use Rattle.mk_plan.specs.declared.Conn.{Conn}
+use Rattle.mk_plan.specs.declared.Input.{Input}
+use Rattle.mk_plan.specs.Plans.{owner}
+use Rattle.mk_plan.specs.Deliveries.{Gift, Supply}
+use Rattle.mk_plan.specs.Inputs.{input_order, put_all, pick, gift_input, connection_input, connections_to, inputs}
+use Rattle.mk_buffers.specs.declared.inlets.Inlet.{Inlet}
+use Rattle.mk_buffers.specs.declared.buffers.Buffers.{Buffers}
+use Rattle.mk_buffers.specs.Listing.{inlet_order}
+use Rattle.mk_buffers.specs.Held.{input_of}
+use Rattle.mk_confluence.proofs.Assembled.{last_with, puts_by_last}
+use Rattle.mk_confluence.proofs.GivenValues.{is_for, assemble_given}
+use Rattle.mk_buffers.specs.declared.sets.Slot.{Slot}
+use Rattle.mk_buffers.specs.Slots.{AnswerGifts, set_inputs}
+use Rattle.mk_buffers.proofs.Slots.{as_input, last_set, last_given}
+use Rattle.mk_buffers.specs.Standing.{AreInlets, AreGifts, Stands, mark_of, given, value_for, IsBegun, HasGathered}
+use Rattle.mk_buffers.proofs.Putting.{inputs_total}
+use Rattle.mk_buffers.proofs.Picking.{given_same}
+
+module _ {X : Type 0} where
+  all_on : (P Q : X → Type 0) → ((x : X) → P x → Q x) → (xs : List X) → AllByRecursion P xs → AllByRecursion Q xs
+  all_on P Q f [] all = tt
+  all_on P Q f (x ∷ xs) all = (f x all.0, all_on P Q f xs all.1)
+
+  all_has : (P : X → Type 0) (xs : List X) (x : X) → AllByRecursion P xs → IsIn x xs → P x
+  all_has P [] x all m = absurd m
+  all_has P (y ∷ ys) x all (inl q) = subst P (sym q) all.0
+  all_has P (y ∷ ys) x all (inr m) = all_has P ys x all.1 m
+
+  all_put : (order : X → X → Ordering) (P : X → Type 0) (x : X) (xs : List X) → P x → AllByRecursion P xs → AllByRecursion P (put order x xs)
+  all_put order P x [] here all = (here, tt)
+  all_put order P x (y ∷ ys) here all = elim (order x y) as (λ o. AllByRecursion P (placed o x y ys (put order x ys))) [
+    | Less ↦ (here, all)
+    | Equal ↦ (here, all.1)
+    | Greater ↦ (all.0, all_put order P x ys here all.1)
+  ]
+
+  module _ (order : X → X → Ordering) (total : IsTotalOrder order) where
+    turned : (x y : X) (o : Ordering) → order y x ≡ o → order x y ≡ ordering_reverse o
+    turned x y o e = total.antisymm x y ∙ ap ordering_reverse e
+
+    not_both : (x y : X) → order x y ≡ Less → order y x ≡ Less → ⊥
+    not_both x y h k = let e : Less ≡ Greater = sym h ∙ turned x y Less k in cc
+
+    put_sorted : (x : X) (xs : List X) → IsStrictlySortedBy order xs → IsStrictlySortedBy order (put order x xs)
+    unfolding IsStrictlySortedBy
+    put_sorted x [] sorted = (tt, tt)
+    put_sorted x (y ∷ ys) sorted = elim (order x y) as (λ o. order x y ≡ o → IsStrictlySortedBy order (placed o x y ys (put order x ys))) [
+      | Less ↦ λ e. ((e, all_on (λ z. order y z ≡ Less) (λ z. order x z ≡ Less) (λ z h. total.trans x y z e h) ys sorted.0), sorted)
+      | Equal ↦ λ e. (all_on (λ z. order y z ≡ Less) (λ z. order x z ≡ Less) (λ z h. total.congr x y z e ∙ h) ys sorted.0, sorted.1)
+      | Greater ↦ λ e. (all_put order (λ z. order y z ≡ Less) x ys (turned y x Greater e) sorted.0, put_sorted x ys sorted.1)
+    ] refl
+
+    pub puts_sorted : (news xs : List X) → IsStrictlySortedBy order xs → IsStrictlySortedBy order (fold (λ sorted new. put order new sorted) xs news)
+    puts_sorted [] xs sorted = sorted
+    puts_sorted (n ∷ ns) xs sorted = puts_sorted ns (put order n xs) (put_sorted n xs sorted)
+
+    put_from : (x n : X) (ys : List X) → IsIn x (put order n ys) → (x ≡ n) ⊎ IsIn x ys
+    put_from x n [] (inl q) = inl q
+    put_from x n [] (inr m) = absurd m
+    put_from x n (y ∷ ys) m = by (order n y) m (put_from x n ys)
+      where
+        by : (o : Ordering) → IsIn x (placed o n y ys (put order n ys)) → (IsIn x (put order n ys) → (x ≡ n) ⊎ IsIn x ys) → (x ≡ n) ⊎ IsIn x (y ∷ ys)
+        by Less (inl q) rest = inl q
+        by Less (inr r) rest = inr r
+        by Equal (inl q) rest = inl q
+        by Equal (inr r) rest = inr (inr r)
+        by Greater (inl q) rest = inr (inl q)
+        by Greater (inr r) rest = elim (rest r) [ inl q ↦ inl q | inr t ↦ inr (inr t) ]
+
+    put_new : (n : X) (ys : List X) → IsIn n (put order n ys)
+    put_new n [] = inl refl
+    put_new n (y ∷ ys) = elim (order n y) as (λ o. IsIn n (placed o n y ys (put order n ys))) [ Less ↦ inl refl | Equal ↦ inl refl | Greater ↦ inr (put_new n ys) ]
+
+    put_old : (x n : X) (ys : List X) → ((y : X) → IsIn y ys → order n y ≡ Equal → n ≡ y) → IsIn x ys → IsIn x (put order n ys)
+    put_old x n [] same m = absurd m
+    put_old x n (y ∷ ys) same m = by (order n y) refl m (put_old x n ys (λ z r. same z (inr r)))
+      where
+        by : (o : Ordering) → order n y ≡ o → IsIn x (y ∷ ys) → (IsIn x ys → IsIn x (put order n ys)) → IsIn x (placed o n y ys (put order n ys))
+        by Less e m rest = inr m
+        by Equal e (inl q) rest = inl (q ∙ sym (same y (inl refl) e))
+        by Equal e (inr r) rest = inr r
+        by Greater e (inl q) rest = inl q
+        by Greater e (inr r) rest = inr (rest r)
+
+    pub puts_from : (x : X) (news xs : List X) → IsIn x (fold (λ sorted new. put order new sorted) xs news) → IsIn x news ⊎ IsIn x xs
+    puts_from x [] xs m = inr m
+    puts_from x (n ∷ ns) xs m = elim (puts_from x ns (put order n xs) m) [ inl r ↦ inl (inr r) | inr r ↦ elim (put_from x n xs r) [ inl q ↦ inl (inl q) | inr t ↦ inr t ] ]
+
+    pub puts_in : (all : List X) → ((y z : X) → IsIn y all → IsIn z all → order y z ≡ Equal → y ≡ z) → (x : X) (news xs : List X) → ((y : X) → IsIn y news → IsIn y all) → ((y : X) → IsIn y xs → IsIn y all) → IsIn x news ⊎ IsIn x xs → IsIn x (fold (λ sorted new. put order new sorted) xs news)
+    puts_in all same x [] xs f g (inl m) = absurd m
+    puts_in all same x [] xs f g (inr m) = m
+    puts_in all same x (n ∷ ns) xs f g m = puts_in all same x ns (put order n xs) (λ y r. f y (inr r)) (λ y r. elim (put_from y n xs r) [ inl q ↦ subst (λ (z : X). IsIn z all) (sym q) (f n (inl refl)) | inr t ↦ g y t ])
+        (elim m [
+          | inl r ↦ elim r [ inl q ↦ inr (subst (λ (z : X). IsIn z (put order n xs)) (sym q) (put_new n xs)) | inr t ↦ inl t ]
+          | inr r ↦ inr (put_old x n xs (λ y t e. same n y (f n (inl refl)) (g y t) e) r)
+        ])
+
+    pub equal_in : (xs : List X) (y z : X) → IsStrictlySortedBy order xs → IsIn y xs → IsIn z xs → order y z ≡ Equal → y ≡ z
+    unfolding IsStrictlySortedBy
+    equal_in [] y z sorted m n e = absurd m
+    equal_in (x ∷ xs) y z sorted (inl q) (inl r) e = q ∙ sym r
+    equal_in (x ∷ xs) y z sorted (inl q) (inr n) e = let less : order y z ≡ Less = subst (λ (w : X). order w z ≡ Less) (sym q) (all_has (λ w. order x w ≡ Less) xs z sorted.0 n) in let k : Less ≡ Equal = sym less ∙ e in cc
+    equal_in (x ∷ xs) y z sorted (inr m) (inl r) e = let less : order z y ≡ Less = subst (λ (w : X). order w y ≡ Less) (sym r) (all_has (λ w. order x w ≡ Less) xs y sorted.0 m) in let k : Greater ≡ Equal = sym (turned y z Less less) ∙ e in cc
+    equal_in (x ∷ xs) y z sorted (inr m) (inr n) e = equal_in xs y z sorted.1 m n e
+
+    pub same_sorted : (xs ys : List X) → IsStrictlySortedBy order xs → IsStrictlySortedBy order ys → ((x : X) → IsIn x xs → IsIn x ys) → ((y : X) → IsIn y ys → IsIn y xs) → xs ≡ ys
+    unfolding IsStrictlySortedBy
+    same_sorted [] [] s t f g = refl
+    same_sorted [] (y ∷ ys) s t f g = absurd (g y (inl refl))
+    same_sorted (x ∷ xs) [] s t f g = absurd (f x (inl refl))
+    same_sorted (x ∷ xs) (y ∷ ys) s t f g =
+        let head : x ≡ y = heads (f x (inl refl)) (g y (inl refl)) in
+        ap (λ z. z ∷ xs) head ∙ ap (λ l. y ∷ l) (same_sorted xs ys s.1 t.1
+        (λ z m. elim (f z (inr m)) [ inl q ↦ absurd (let h : order x z ≡ Less = all_has (λ w. order x w ≡ Less) xs z s.0 m in let k : z ≡ x = q ∙ sym head in not_both x x (subst (λ (w : X). order x w ≡ Less) k h) (subst (λ (w : X). order x w ≡ Less) k h)) | inr n ↦ n ])
+        (λ z m. elim (g z (inr m)) [ inl q ↦ absurd (let h : order y z ≡ Less = all_has (λ w. order y w ≡ Less) ys z t.0 m in let k : z ≡ y = q ∙ head in not_both y y (subst (λ (w : X). order y w ≡ Less) k h) (subst (λ (w : X). order y w ≡ Less) k h)) | inr n ↦ n ]))
+      where
+        heads : IsIn x (y ∷ ys) → IsIn y (x ∷ xs) → x ≡ y
+        heads (inl q) n = q
+        heads (inr m) (inl q) = sym q
+        heads (inr m) (inr n) = absurd (not_both x y (all_has (λ w. order x w ≡ Less) xs y s.0 n) (all_has (λ w. order y w ≡ Less) ys x t.0 m))
+
+module _ (b : Buffers) (p : Option Tier) (x : Tier) where
+  abbrev gives : Inlet → List Input
+  gives i = given b i p x
+
+  given_after : (i : Inlet) (v : List ℕ) (l : List Inlet) → AllByRecursion (λ j. inlet_order i j ≡ Less) l → AllByRecursion (λ n. input_order (input_of i v) n ≡ Less) (flat_map gives l)
+  given_after i v [] all = tt
+  given_after i v (j ∷ js) all = elim (value_for b j p x) as (λ o. AllByRecursion (λ n. input_order (input_of i v) n ≡ Less) (option_to_list (option_map (input_of j) o) ++ flat_map gives js)) [
+    | None ↦ given_after i v js all.1
+    | Some w ↦ (all.0, given_after i v js all.1)
+  ]
+
+  given_sorted : (l : List Inlet) → IsStrictlySortedBy inlet_order l → IsStrictlySortedBy input_order (flat_map gives l)
+  unfolding IsStrictlySortedBy
+  given_sorted [] sorted = tt
+  given_sorted (i ∷ is) sorted = elim (value_for b i p x) as (λ o. IsStrictlySortedBy input_order (option_to_list (option_map (input_of i) o) ++ flat_map gives is)) [
+    | None ↦ given_sorted is sorted.1
+    | Some v ↦ (given_after i v is sorted.0, given_sorted is sorted.1)
+  ]
+
+module _ (P : Plan) (b : Buffers) (S : Supply) (s : ℕ) (l : List Inlet) (p : Option Tier) (x : Tier) (st : Stands P b S) (are : AreInlets P b s l) (from : (c : Conn) → IsIn c (connections_to P s) → IsUpTo b.marks.least x) (begun : (i : Inlet) → IsIn i l → IsBegun b i x) where
+  abbrev of_conn : Conn → List Input
+  of_conn c = option_to_list (option_map (connection_input P c) (pick P S c p x))
+
+  into : (n : Input) → IsIn n (flat_map (gives b p x) l) → IsIn n (flat_map of_conn (connections_to P s))
+  into n m = let i = in_flat_map (gives b p x) n l m in let c = are.each i.0 i.1 in
+      flat_map_in of_conn c.0 n (connections_to P s) c.1 (subst (IsIn n) (given_same P b S c.0 i.0 p x st c.2 (from c.0 c.1) (begun i.0 i.1)) i.2)
+
+  out_of : (n : Input) → IsIn n (flat_map of_conn (connections_to P s)) → IsIn n (flat_map (gives b p x) l)
+  out_of n m = let c = in_flat_map of_conn n (connections_to P s) m in let i = are.all c.0 c.1 in
+      flat_map_in (gives b p x) i.0 n l i.1 (subst (IsIn n) (sym (given_same P b S c.0 i.0 p x st i.2 (from c.0 c.1) (begun i.0 i.1))) c.2)
+
+  in_order : flat_map (gives b p x) l ≡ put_all (flat_map of_conn (connections_to P s)) []
+  unfolding IsStrictlySortedBy
+  in_order = let sorted = given_sorted b p x l are.sorted in
+      same_sorted input_order inputs_total (flat_map (gives b p x) l) (put_all (flat_map of_conn (connections_to P s)) []) sorted (puts_sorted input_order inputs_total (flat_map of_conn (connections_to P s)) [] tt)
+      (λ n m. puts_in input_order inputs_total (flat_map (gives b p x) l) (λ y z k h e. equal_in input_order inputs_total (flat_map (gives b p x) l) y z sorted k h e) n (flat_map of_conn (connections_to P s)) [] out_of (λ y r. absurd r) (inl (into n m)))
+      (λ n m. elim (puts_from input_order inputs_total n (flat_map of_conn (connections_to P s)) [] m) [ inl r ↦ out_of n r | inr r ↦ absurd r ])
+
+  pub gathered_sorted : (ins : List Input) → ins ≡ flat_map (gives b p x) l → IsStrictlySortedBy input_order ins
+  unfolding IsStrictlySortedBy
+  gathered_sorted ins is = subst (IsStrictlySortedBy input_order) (sym is) (given_sorted b p x l are.sorted)
+
+  each_given : (gs : List Gift) → map (gift_input P) (map (λ (g : Gift). g.given) gs) ≡ map (λ (g : Gift). gift_input P g.given) gs
+  each_given [] = refl
+  each_given (g ∷ gs) = ap (λ (r : List Input). gift_input P g.given ∷ r) (each_given gs)
+
+  -- the inputs, with what slots give put among them
+  pub inputs_are : (slots : List Slot) (all : List Gift) → AreGifts P S all → AnswerGifts P s (mark_of b s) slots all → IsUpTo (mark_of b s) x → (ins out : List Input) → ins ≡ flat_map (gives b p x) l → out ≡ put_all (set_inputs slots p x) ins → out ≡ inputs P S s p x
+  inputs_are slots all gifts answer up ins out is done = done ∙ ap (put_all (set_inputs slots p x)) (is ∙ in_order)
+      ∙ puts_by_last input_order inputs_total (set_inputs slots p x) (map (gift_input P) (map (λ (g : Gift). g.given) (filter (is_for P s p x) all))) (put_all (flat_map of_conn (connections_to P s)) []) (subst (IsStrictlySortedBy input_order) (is ∙ in_order) (gathered_sorted ins is))
+      (λ k. last_set p x k slots ∙ ap (option_map (as_input k)) (answer k p x up) ∙ sym (last_given p x k P s all) ∙ ap (last_with input_order k) (sym (each_given (filter (is_for P s p x) all))))
+      ∙ sym (assemble_given P S all (record { by_source = gifts.by_source; sourced = gifts.sourced }) s p x (λ c. pick P S c p x))
+
+-- one inlet after the other
+pub gathered_more : (b : Buffers) (l : List Inlet) (n : ℕ) (i : Inlet) (p : Option Tier) (x : Tier) (done new : List Input) → n < length l → i ≡ get_or l n i → HasGathered b (take n l) p x done → (new ≡ done ++ given b i p x) × IsBegun b i x → HasGathered b (take (n + 1) l) p x new
+gathered_more b l n i p x done new below is so more = record {
+  inputs = more.0 ∙ ap (λ (d : List Input). d ++ given b i p x) so.inputs ∙ ap (λ (d : List Input). flat_map (λ j. given b j p x) (take n l) ++ d) (sym (append_nil (given b i p x)))
+      ∙ sym (flat_map_append (λ j. given b j p x) (take n l) (i ∷ [])) ∙ ap (flat_map (λ j. given b j p x)) (sym whole);
+  begun = λ j m. elim (in_either j (take n l) (i ∷ []) (subst (IsIn j) whole m)) [ inl r ↦ so.begun j r | inr r ↦ elim r [ inl q ↦ subst (λ (k : Inlet). IsBegun b k x) (sym q) more.1 | inr t ↦ absurd t ] ];
+}
+  where
+    whole : take (n + 1) l ≡ take n l ++ i ∷ []
+    whole = take_more l n i below ∙ ap (λ (j : Inlet). take n l ++ j ∷ []) (sym is)
+
+pub gathered_whole : (b : Buffers) (l m : List Inlet) (n : ℕ) (p : Option Tier) (x : Tier) (ins : List Input) → length m ≤ n → m ≡ l → HasGathered b (take n m) p x ins → HasGathered b l p x ins
+gathered_whole b l m n p x ins all is so = subst (λ (k : List Inlet). HasGathered b k p x ins) (take_all n m all ∙ is) so
+
+-- a simulator with connections asks, so the least mark is up to its own
+pub from_mark : (P : Plan) (b : Buffers) (S : Supply) (s : ℕ) (x : Tier) → Stands P b S → s < length P.sims → IsUpTo (mark_of b s) x → (c : Conn) → IsIn c (connections_to P s) → IsUpTo b.marks.least x
+from_mark P b S s x st low up c m =
+    let k = in_filter (λ (c : Conn). owner P c.to == s) c P.conns m in
+    let asks : asks_of P s ≡ true = ap (λ (t : Bool). t || list_any (λ p. p.to.0 == s) P.asyncs) (passes_some (λ c. owner P c.to == s) c P.conns k.0 k.1) in
+    let mark = below_get b.marks.marks s (omega (arith, low, st.of_plan.sizes.marks)) in
+    up_to_trans b.marks.least (mark_of b s) x (subst (IsUpTo b.marks.least) (sym (ap (λ (o : Option Tier). unwrap_or o (moment (pos 0))) mark.1)) (st.of_plan.least.low s mark.0 (st.of_plan.asking.each s low ∙ ap Some asks) mark.1)) up

@@ -1,0 +1,19 @@
+use Rattle.std.proofs.Common.{◌∙◌, refl, sym, ap, subst, length}
+use Rattle.mk_base.specs.Tiers.{IsUpTo}
+use Rattle.mk_buffers.specs.Marking.{Marked, Raised, IsLeastMark}
+use Rattle.mk_buffers.proofs.Standing.{all_self, unchanged, thinned_again, stands_thinned, marks_rise}
+use Rattle.mk_buffers.proofs.buffers.Buffers.raise.Goals as goal
+
+pub loop-sim-init : goal.loop-sim-init
+loop-sim-init c = unchanged c.least-mark.result _
+
+pub loop-sim-preserved : goal.loop-sim-preserved
+loop-sim-preserved c = thinned_again c.least-mark.result _ c.loop-sim.self c.forget_feed.new.self c.loop-sim.invariant c.forget_feed.ensures
+
+pub returns-after-loop-sim-clause-stands : goal.returns-after-loop-sim-clause-stands
+returns-after-loop-sim-clause-stands c = λ P S s. stands_thinned P c.args.self.now c.loop-sim.self S c.least-mark.result c.loop-sim.invariant.outlets c.loop-sim.invariant.inlets c.loop-sim.invariant.homes c.loop-sim.invariant.feeds c.loop-sim.invariant.sets (ap (λ (m : Marked). length m.marks) c.loop-sim.invariant.marks ∙ c.raise.ensures.count) (ap (λ (m : Marked). m.asks) c.loop-sim.invariant.marks ∙ c.raise.ensures.asks)
+    (subst IsLeastMark (sym c.loop-sim.invariant.marks) c.raise.ensures.exact) (λ q low. marks_rise c.args.self.now.marks c.loop-sim.self.marks c.args.sim.0 c.args.at c.raise.result c.requires (subst (Raised c.args.sim.0 c.args.at c.raise.result c.args.self.now.marks) (sym c.loop-sim.invariant.marks) c.raise.ensures) q) c.loop-sim.invariant.until
+    (subst (IsUpTo c.args.self.now.marks.least) (sym c.least-mark.ensures) c.raise.ensures.up) (ap (λ (m : Marked). m.least) c.loop-sim.invariant.marks ∙ sym c.least-mark.ensures) s
+
+pub returns-else-raise-clause-stands : goal.returns-else-raise-clause-stands
+returns-else-raise-clause-stands c = λ P S s. stands_thinned P c.args.self.now _ S c.raise.new.self.least (all_self c.args.self.now.until c.raise.new.self.least c.args.self.now.outlets.items) refl refl refl refl c.raise.ensures.count c.raise.ensures.asks c.raise.ensures.exact (λ q low. marks_rise c.args.self.now.marks c.raise.new.self c.args.sim.0 c.args.at c.raise.result c.requires c.raise.ensures q) refl c.raise.ensures.up refl s

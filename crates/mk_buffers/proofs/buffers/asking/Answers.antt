@@ -1,0 +1,13 @@
+use Rattle.std.proofs.Common.{subst, sym, refl, length, ◌<◌}
+use Rattle.mk_buffers.proofs.Asking.{asked_more, paired_more, target_there, second_there, at_place}
+use Rattle.mk_buffers.proofs.buffers.asking.Goals as goal
+
+pub loop-conn-preserved : goal.loop-conn-preserved
+loop-conn-preserved c = asked_more c.args.plan.now c.as_slice-conn-items.result.now c.loop-conn.conn-index c.conn-item.result c.owner.result.0 c.loop-conn.asks.items c.ask.new.asks.items c.loop-conn.invariant c.loop-conn-test.true c.conn-item.is c.owner.ensures
+    (subst (λ n. n < length c.args.plan.now.sims) (sym c.owner.ensures) (target_there c.args.plan.now c.requires.references c.as_slice-conn-items.result.now c.loop-conn.conn-index c.conn-item.result c.as_slice-conn-items.ensures c.loop-conn-test.true c.conn-item.is)) c.ask.ensures.count c.ask.ensures.here
+
+pub loop-place-preserved : goal.loop-place-preserved
+loop-place-preserved c =
+    let there = at_place c.args.plan.now.asyncs c.loop-place.place c.at.result.now c.at.ensures in
+    paired_more c.args.plan.now c.args.plan.now.asyncs c.loop-place.place c.at.result.now c.loop-place.asks.items c.ask-in-loop-place.new.asks.items c.loop-place.invariant there.0 there.1
+    (second_there c.args.plan.now c.requires.references c.args.plan.now.asyncs c.loop-place.place c.at.result.now refl there.0 there.1) c.ask-in-loop-place.ensures.count c.ask-in-loop-place.ensures.here

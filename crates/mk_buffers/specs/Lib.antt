@@ -1,0 +1,7 @@
+pub mod Logs
+pub mod Marking
+pub mod Held
+pub mod Slots
+pub mod Building
+pub mod Listing
+pub mod Standing

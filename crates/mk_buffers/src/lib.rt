@@ -1,0 +1,21 @@
+//! The values that connections hold, the inputs of a step that are taken from them, and the giving up of values that no
+//! question can reach any more.
+#![tactic(auto)]
+
+mod buffers;
+mod delays;
+mod inlets;
+mod laws;
+mod log;
+mod made;
+mod marks;
+mod names;
+mod outlets;
+mod sets;
+mod sorted;
+#[cfg(test)]
+mod tests;
+
+pub use buffers::Buffers;
+pub use laws::buffers_stand;
+pub use names::full_id;

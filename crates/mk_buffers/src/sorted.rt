@@ -1,0 +1,43 @@
+//! Inputs are put among sorted ones.
+ghost use Rattle.std.specs.Prelude.{◌≡◌, OnOk, length};
+ghost use Rattle.std.specs.List.Sorted.{IsStrictlySortedBy, IsBinarySearchResult, IsSearchInRange};
+ghost use Rattle.mk_base.specs.Lists.{put};
+ghost use Rattle.mk_plan.specs.Inputs.{input_order};
+
+use mk_base::{List, Mem};
+use mk_plan::Input;
+use std::cmp::Ordering;
+
+// Puts an input at its place among sorted ones, in place of an equal one.
+pub fn put_input(inputs: &mut List<Input>, new: Input) -> Result<(), Mem>
+    ensures put { IsStrictlySortedBy input_order inputs.old → OnOk result (inputs.new ≡ put input_order new inputs.old) }
+    ensures sorted { IsStrictlySortedBy input_order inputs.old → OnOk result (IsStrictlySortedBy input_order inputs.new) }
+{
+    match place_of(inputs.as_slice(), &new) {
+        Ok(place) => {
+            inputs.set(place, new);
+            Ok(())
+        }
+        Err(place) => inputs.insert(place, new),
+    }
+}
+
+// Where an equal input stands, or else the place before which the new one belongs.
+fn place_of(inputs: &[Input], new: &Input) -> Result<usize, usize>
+    ensures within { IsSearchInRange result (length inputs.now) }
+    ensures found { IsBinarySearchResult (λ y. input_order y new.now) inputs.now result }
+{
+    inputs.binary_search_by(|input| input_order(input, new))
+}
+
+// By eid, then attribute, then source, each in byte order.
+fn input_order(first: &Input, second: &Input) -> Ordering
+    ensures { result ≡ input_order first.now second.now }
+{
+    first
+        .eid
+        .bytes()
+        .cmp(second.eid.bytes())
+        .then_with(|| first.attr.bytes().cmp(second.attr.bytes()))
+        .then_with(|| first.source.bytes().cmp(second.source.bytes()))
+}
