@@ -1,0 +1,6 @@
+use Rattle.std.proofs.Common.{◌≡◌, ◌++◌, take}
+use Rattle.mk_async.specs.Given.{values_to}
+use Rattle.mk_async.proofs.given.put_values.Given as goal
+
+abbrev pub invariant-loop-member : goal.invariant-loop-member
+invariant-loop-member l = (l.member-items ≡ l.members) × (l.sets ≡ l.fn.sets ++ values_to l.plan l.source l.id (take l.member-index l.member-items))

@@ -1,0 +1,17 @@
+//! The asynchronous requests of a step: why one is refused, or what it asks for, the values that it sets, and its answer where that needs no output.
+#![tactic(auto)]
+
+mod forms;
+mod given;
+mod judged;
+mod known;
+mod pairs;
+mod related;
+mod request;
+#[cfg(test)]
+mod tests;
+
+pub use given::given_values;
+pub use judged::judge;
+pub use related::plain_content;
+pub use request::Asked;
