@@ -1,0 +1,54 @@
+-- Lists written item by item, with commas between.
+use Rattle.std.proofs.Common.{◌≡◌, ℕ, zero, suc, ◌+◌, ◌<◌, ◌≤◌, List, [], ◌∷◌, ◌++◌, length, map, take, get_or, codes, refl, sym, ap, ◌∙◌, append_assoc, arith}
+use Rattle.std.specs.List.{join_with_byte}
+use Rattle.std.proofs.lemmas.List.{take_more, take_all}
+use Rattle.mk_base.specs.Texts.{list_text}
+use Rattle.mk_base.proofs.Lists.{map_append}
+use Rattle.mk_lines.specs.Commas.{comma_before}
+
+-- one more text behind others
+joined_more : (x y : List ℕ) (xs : List (List ℕ)) → join_with_byte 44 (x ∷ xs ++ y ∷ []) ≡ join_with_byte 44 (x ∷ xs) ++ (44 ∷ y)
+joined_more x y [] = refl
+joined_more x y (z ∷ zs) = ap (λ l. x ++ (44 ∷ l)) (joined_more z y zs) ∙ sym (append_assoc x (44 ∷ join_with_byte 44 (z ∷ zs)) (44 ∷ y))
+
+joined_push : (xs : List (List ℕ)) (y : List ℕ) → join_with_byte 44 (xs ++ y ∷ []) ≡ (join_with_byte 44 xs ++ comma_before (length xs)) ++ y
+joined_push [] y = refl
+joined_push (x ∷ xs) y = joined_more x y xs ∙ sym (append_assoc (join_with_byte 44 (x ∷ xs)) (44 ∷ []) y)
+
+length_taken : {X : Type 0} (k : ℕ) (xs : List X) → k < length xs → length (take k xs) ≡ k
+length_taken zero xs h = refl
+length_taken (suc k) [] h = absurd (omega arith)
+length_taken (suc k) (x ∷ xs) h = ap suc (length_taken k xs (omega (arith, h)))
+
+map_length : {X Y : Type 0} (f : X → Y) (xs : List X) → length (map f xs) ≡ length xs
+map_length f [] = refl
+map_length f (x ∷ xs) = ap suc (map_length f xs)
+
+module _ {X : Type 0} (f : X → List ℕ) (base : List ℕ) (xs : List X) (k : ℕ) where
+  -- the text of the first items
+  abbrev so_far : ℕ → List ℕ
+  so_far n = base ++ join_with_byte 44 (map f (take n xs))
+
+  -- one more item, and the comma before it
+  pub one_joined : (d : X) (out between new : List ℕ) → k < length xs → out ≡ so_far k → between ≡ out ++ comma_before k → new ≡ between ++ f (get_or xs k d) → new ≡ so_far (k + 1)
+  one_joined d out between new low before comma item =
+      let x : X = get_or xs k d in
+      let shown : List ℕ = join_with_byte 44 (map f (take k xs)) in
+      let count : length (map f (take k xs)) ≡ k = map_length f (take k xs) ∙ length_taken k xs low in
+      let texts : map f (take (k + 1) xs) ≡ map f (take k xs) ++ f x ∷ [] = ap (map f) (take_more xs k d low) ∙ map_append f (take k xs) (x ∷ []) in
+      let joined : join_with_byte 44 (map f (take (k + 1) xs)) ≡ (shown ++ comma_before k) ++ f x =
+      ap (join_with_byte 44) texts ∙ joined_push (map f (take k xs)) (f x) ∙ ap (λ n. (shown ++ comma_before n) ++ f x) count in
+      item ∙ ap (λ l. l ++ f x) (comma ∙ ap (λ l. l ++ comma_before k) before ∙ append_assoc base shown (comma_before k))
+      ∙ append_assoc base (shown ++ comma_before k) (f x) ∙ ap (λ l. base ++ l) (sym joined)
+
+  -- all items, between brackets
+  pub all_joined : (first out new : List ℕ) → base ≡ first ++ codes "[" → length xs ≤ k → out ≡ so_far k → new ≡ out ++ codes "]" → new ≡ first ++ list_text (map f xs)
+  all_joined first out new begun past before after =
+      let all : take k xs ≡ xs = take_all k xs past in
+      let shown : List ℕ = join_with_byte 44 (map f xs) in
+      after ∙ ap (λ l. l ++ codes "]") (before ∙ ap (λ (l : List X). base ++ join_with_byte 44 (map f l)) all ∙ ap (λ l. l ++ shown) begun ∙ append_assoc first (codes "[") shown)
+      ∙ append_assoc first (codes "[" ++ shown) (codes "]")
+
+-- the parts of a plan behind one another
+pub parts_in_a_row : (out h r s m e c a : List ℕ) → (((out ++ h) ++ r) ++ (s ++ (m ++ e))) ++ (c ++ a) ≡ out ++ ((((((h ++ r) ++ s) ++ m) ++ e) ++ c) ++ a)
+parts_in_a_row out h r s m e c a = simp append_assoc
