@@ -1,0 +1,5 @@
+pub mod Bytes
+pub mod Faulty
+pub mod Finishing
+pub mod Placing
+pub mod Progress
