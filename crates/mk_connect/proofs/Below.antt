@@ -1,6 +1,6 @@
 -- The ends of a scenario's edges are its simulators.
-use Rattle.std.proofs.Common.{◌≡◌, ℕ, zero, suc, ◌<◌, ◌≤◌, Bool, true, false, List, [], ◌∷◌, ◌++◌, length, refl, sym, ap, ◌∙◌, subst, arith, Option, Some, None, slice_get}
-use Rattle.std.specs.Prelude.{flat_map, option_map, unwrap_or, if◌then◌else◌, ⊤}
+use Rattle.std.proofs.Common.{ℕ, zero, suc, ◌<◌, Bool, true, false, List, [], ◌∷◌, ◌++◌, length, arith}
+use Rattle.std.specs.Prelude.{flat_map, if◌then◌else◌}
 use Rattle.mk_base.specs.Lists.{Each}
 use Rattle.mk_cycles.specs.declared.ranking.Edge.{Edge}
 use Rattle.mk_cycles.specs.Edges.{edge, EndsBelow}

@@ -1,1 +1,15 @@
-mod Below
+pub mod Below
+pub mod ByPlaces
+pub mod Going
+pub mod Initials
+pub mod Joins
+pub mod Membership
+pub mod Modelled
+pub mod Numbering
+pub mod OverLists
+pub mod Putting
+pub mod Sets
+pub mod Sound
+pub mod Usable
+pub mod Validity
+pub mod Ways

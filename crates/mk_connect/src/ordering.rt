@@ -1,4 +1,4 @@
-// Which simulators a scenario's connections put before which: what ranks rise along.
+//! Which simulators a scenario's connections put before which: what ranks rise along.
 ghost use Rattle.std.specs.Prelude.{◌≡◌, ◌++◌, ◌||◌, ◌&&◌, not, length, slice_get, option_map, unwrap_or, IfOk, OnOk, OnErr};
 ghost use Rattle.mk_cycles.specs.Edges.{EndsBelow};
 ghost use Rattle.mk_scenario.specs.Wellformed.{IsWellformed};
@@ -53,7 +53,7 @@ fn is_plain(via: Via) -> bool
 }
 
 // The simulator whose entities stand at this place.
-fn sim_at(groups: &[Group], place: &Place) -> SimNo
+pub fn sim_at(groups: &[Group], place: &Place) -> SimNo
     ensures { result.0 ≡ sim_at groups.now place.now }
 {
     match place {
