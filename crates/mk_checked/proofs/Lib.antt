@@ -1,2 +1,3 @@
 mod Ranges
 pub mod OneRanking
+pub mod Unprepared

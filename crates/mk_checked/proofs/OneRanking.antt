@@ -2,7 +2,7 @@
 use Rattle.std.proofs.Common.{◌≡◌, ℕ, zero, suc, ◌<◌, ◌≤◌, Bool, List, [], ◌∷◌, ◌++◌, length, take, slice_get, Some, Result, Ok, Err, ◌⊎◌, inl, inr, refl, sym, ap, ◌∙◌, subst, arith}
 use Rattle.std.proofs.lemmas.List.{take_all}
 use Rattle.std.proofs.lemmas.Bool.{cases_lt}
-use Rattle.mk_base.specs.Lists.{IsIn}
+use Rattle.mk_base.specs.Lists.{Each, IsIn}
 use Rattle.mk_base.proofs.Lists.{below_get, at_in}
 use Rattle.mk_cycles.specs.Cycles.{IsCycle, IsLeft, IsLoop}
 use Rattle.mk_cycles.specs.Edges.{has_edge}
@@ -15,9 +15,10 @@ use Rattle.mk_scenario.specs.declared.fault.ScenarioFault.{ScenarioFault}
 use Rattle.mk_scenario.specs.Scenarios.{scenario_of}
 use Rattle.mk_connect.specs.Edges.{edges_of}
 use Rattle.mk_endings.specs.declared.ending.Ending.{Ending}
-use Rattle.mk_endings.specs.declared.ending.Ending.TheVariants.{Usage, Missing, TooLong, Scenario, Cycle, Record, Refused, Wrong, Failed, LoopLimit, Short, Differs, Folder, Output, Entries, Mem}
+use Rattle.mk_endings.specs.declared.ending.Ending.TheVariants.{Usage, Missing, TooLong, Scenario, Cycle, Launch, Record, Refused, Wrong, Failed, LoopLimit, Short, Differs, Folder, Output, Entries, Mem}
 use Rattle.mk_endings.specs.Endings.{outcome_status, status_of}
-use Rattle.mk_checked.specs.Checks.{AreRanks, IsChecked, IsCircular, IsOutcome, IsUnchecked}
+use Rattle.mk_launch.specs.Ready.{CanBegin, IsPrepared}
+use Rattle.mk_checked.specs.Checks.{AreRanks, IsChecked, IsCircular, IsOutcome, IsUnchecked, IsUnprepared}
 
 module _ (before : ℕ → ℕ → Bool) (n : ℕ) where
   one_next : (placed : List ℕ) (s t : ℕ) → IsNext before n placed s → IsNext before n placed t → s ≡ t
@@ -68,52 +69,71 @@ same_scenario S T verdict a b = let same = sym a ∙ b in cc
 scenario_or_fault : (S : parts.Scenario) (fault : ScenarioFault) → (verdict : Result parts.Scenario ScenarioFault) → verdict ≡ Ok S → verdict ≡ Err fault → ⊥
 scenario_or_fault S fault verdict a b = let same = sym a ∙ b in cc
 
-checked_no_cycle : (bytes text : List ℕ) (ids : List (List ℕ)) → IsChecked bytes text → IsCircular bytes ids → ⊥
-checked_no_cycle bytes text ids a b =
+checked_no_cycle : (kinds : List (List ℕ)) (bytes text : List ℕ) (ids : List (List ℕ)) → IsChecked kinds bytes text → IsCircular bytes ids → ⊥
+checked_no_cycle kinds bytes text ids a b =
     let same = same_scenario a.scenario b.scenario (scenario_of bytes) a.read b.read in
     let ranked : AreRanks b.scenario a.ranks = subst (λ (S : parts.Scenario). AreRanks S a.ranks) same a.ranked in
     ranked_no_cycle (has_edge (edges_of b.scenario)) (length b.scenario.sims) a.ranks (numbers b.walk) ranked b.cycle
 
+-- each item passes
+each_at : {X : Type 0} (P : X → Type 0) (xs : List X) (i : ℕ) (x : X) → Each P xs → slice_get xs i ≡ Some x → P x
+each_at P [] i x all there = cc
+each_at P (y ∷ ys) zero x (first, others) there = let same : y ≡ x = cc in subst P same first
+each_at P (y ∷ ys) (suc i) x (first, others) there = each_at P ys i x others there
+
+-- simulators that can all be begun have none that can't
+prepared_no_fault : (kinds : List (List ℕ)) (bytes text : List ℕ) (e : Ending) → IsChecked kinds bytes text → IsUnprepared kinds bytes e → ⊥
+prepared_no_fault kinds bytes text e a b =
+    let same = same_scenario a.scenario b.scenario (scenario_of bytes) a.read b.read in
+    let prepared : IsPrepared b.scenario kinds = subst (λ (S : parts.Scenario). IsPrepared S kinds) same a.prepared in
+    let first = b.unbegun.first in
+    let none = each_at (CanBegin kinds) b.scenario.sims b.unbegun.unready.sim.0 first.sim prepared first.there in
+    let some = first.cause in
+    let both = sym none ∙ some in
+    cc
+
 -- what has a text has no fault
-text_or_fault : (bytes text : List ℕ) (e : Ending) → IsChecked bytes text → IsUnchecked bytes e → e ≡ Mem
-text_or_fault bytes text Usage a h = absurd h
-text_or_fault bytes text (Missing name) a h = absurd h
-text_or_fault bytes text (TooLong name count) a h = absurd h
-text_or_fault bytes text (Scenario fault) a h = absurd (scenario_or_fault a.scenario fault (scenario_of bytes) a.read h)
-text_or_fault bytes text (Cycle ids) a h = absurd (checked_no_cycle bytes text ids a h)
-text_or_fault bytes text (Record line fault) a h = absurd h
-text_or_fault bytes text Refused a h = absurd h
-text_or_fault bytes text (Wrong sim place cause) a h = absurd h
-text_or_fault bytes text (Failed sim said) a h = absurd h
-text_or_fault bytes text (LoopLimit sim time) a h = absurd h
-text_or_fault bytes text (Short outstanding) a h = absurd h
-text_or_fault bytes text (Differs entry) a h = absurd h
-text_or_fault bytes text Folder a h = absurd h
-text_or_fault bytes text Output a h = absurd h
-text_or_fault bytes text (Entries entries) a h = absurd h
-text_or_fault bytes text Mem a h = refl
+text_or_fault : (kinds : List (List ℕ)) (bytes text : List ℕ) (e : Ending) → IsChecked kinds bytes text → IsUnchecked kinds bytes e → e ≡ Mem
+text_or_fault kinds bytes text Usage a h = absurd h
+text_or_fault kinds bytes text (Missing name) a h = absurd h
+text_or_fault kinds bytes text (TooLong name count) a h = absurd h
+text_or_fault kinds bytes text (Scenario fault) a h = absurd (scenario_or_fault a.scenario fault (scenario_of bytes) a.read h)
+text_or_fault kinds bytes text (Cycle ids) a h = absurd (checked_no_cycle kinds bytes text ids a h)
+text_or_fault kinds bytes text (Launch sim fault) a h = absurd (prepared_no_fault kinds bytes text (Launch sim fault) a h)
+text_or_fault kinds bytes text (Record line fault) a h = absurd h
+text_or_fault kinds bytes text Refused a h = absurd h
+text_or_fault kinds bytes text (Wrong sim place cause) a h = absurd h
+text_or_fault kinds bytes text (Failed sim said) a h = absurd h
+text_or_fault kinds bytes text (LoopLimit sim time) a h = absurd h
+text_or_fault kinds bytes text (Short outstanding) a h = absurd h
+text_or_fault kinds bytes text (Differs entry) a h = absurd h
+text_or_fault kinds bytes text Folder a h = absurd h
+text_or_fault kinds bytes text Output a h = absurd h
+text_or_fault kinds bytes text (Entries entries) a h = absurd h
+text_or_fault kinds bytes text Mem a h = refl
 
 -- a file's fault has the status 3
-fault_status : (bytes : List ℕ) (e : Ending) → IsUnchecked bytes e → (e ≡ Mem) ⊎ (status_of e ≡ 3)
-fault_status bytes Usage h = absurd h
-fault_status bytes (Missing name) h = absurd h
-fault_status bytes (TooLong name count) h = absurd h
-fault_status bytes (Scenario fault) h = inr refl
-fault_status bytes (Cycle ids) h = inr refl
-fault_status bytes (Record line fault) h = absurd h
-fault_status bytes Refused h = absurd h
-fault_status bytes (Wrong sim place cause) h = absurd h
-fault_status bytes (Failed sim said) h = absurd h
-fault_status bytes (LoopLimit sim time) h = absurd h
-fault_status bytes (Short outstanding) h = absurd h
-fault_status bytes (Differs entry) h = absurd h
-fault_status bytes Folder h = absurd h
-fault_status bytes Output h = absurd h
-fault_status bytes (Entries entries) h = absurd h
-fault_status bytes Mem h = inl refl
+fault_status : (kinds : List (List ℕ)) (bytes : List ℕ) (e : Ending) → IsUnchecked kinds bytes e → (e ≡ Mem) ⊎ (status_of e ≡ 3)
+fault_status kinds bytes Usage h = absurd h
+fault_status kinds bytes (Missing name) h = absurd h
+fault_status kinds bytes (TooLong name count) h = absurd h
+fault_status kinds bytes (Scenario fault) h = inr refl
+fault_status kinds bytes (Cycle ids) h = inr refl
+fault_status kinds bytes (Launch sim fault) h = inr refl
+fault_status kinds bytes (Record line fault) h = absurd h
+fault_status kinds bytes Refused h = absurd h
+fault_status kinds bytes (Wrong sim place cause) h = absurd h
+fault_status kinds bytes (Failed sim said) h = absurd h
+fault_status kinds bytes (LoopLimit sim time) h = absurd h
+fault_status kinds bytes (Short outstanding) h = absurd h
+fault_status kinds bytes (Differs entry) h = absurd h
+fault_status kinds bytes Folder h = absurd h
+fault_status kinds bytes Output h = absurd h
+fault_status kinds bytes (Entries entries) h = absurd h
+fault_status kinds bytes Mem h = inl refl
 
-pub one_status : (bytes : List ℕ) (o p : Result (List ℕ) Ending) → IsOutcome bytes o → IsOutcome bytes p → (o ≡ Err Mem → ⊥) → (p ≡ Err Mem → ⊥) → outcome_status o ≡ outcome_status p
-one_status bytes (Ok t) (Ok u) a b m n = refl
-one_status bytes (Ok t) (Err f) a b m n = absurd (n (ap Err (text_or_fault bytes t f a b)))
-one_status bytes (Err e) (Ok u) a b m n = absurd (m (ap Err (text_or_fault bytes u e b a)))
-one_status bytes (Err e) (Err f) a b m n = elim (fault_status bytes e a) [ inl mem ↦ absurd (m (ap Err mem)) | inr three ↦ elim (fault_status bytes f b) [ inl mem ↦ absurd (n (ap Err mem)) | inr too ↦ three ∙ sym too ] ]
+pub one_status : (kinds : List (List ℕ)) (bytes : List ℕ) (o p : Result (List ℕ) Ending) → IsOutcome kinds bytes o → IsOutcome kinds bytes p → (o ≡ Err Mem → ⊥) → (p ≡ Err Mem → ⊥) → outcome_status o ≡ outcome_status p
+one_status kinds bytes (Ok t) (Ok u) a b m n = refl
+one_status kinds bytes (Ok t) (Err f) a b m n = absurd (n (ap Err (text_or_fault kinds bytes t f a b)))
+one_status kinds bytes (Err e) (Ok u) a b m n = absurd (m (ap Err (text_or_fault kinds bytes u e b a)))
+one_status kinds bytes (Err e) (Err f) a b m n = elim (fault_status kinds bytes e a) [ inl mem ↦ absurd (m (ap Err mem)) | inr three ↦ elim (fault_status kinds bytes f b) [ inl mem ↦ absurd (n (ap Err mem)) | inr too ↦ three ∙ sym too ] ]

@@ -1,7 +1,8 @@
 // From a scenario file's bytes to the text that is printed of it, or why there is none.
-ghost use Rattle.std.specs.Prelude.{◌≡◌, ℕ, List, Result, Err, IfOk, IfErr, map};
+ghost use Rattle.std.specs.Prelude.{◌≡◌, ℕ, ◌<◌, ◌^◌, ◌⊎◌, List, Result, Err, IfOk, IfErr, OnOk, length, map};
 ghost use Rattle.mk_base.specs.declared.SimNo.{SimNo};
-ghost use Rattle.mk_checked.specs.Checks.{IsChecked, IsOutcome, IsUnchecked};
+ghost use Rattle.mk_launch.specs.Ready.{IsPrepared};
+ghost use Rattle.mk_checked.specs.Checks.{IsChecked, IsOutcome, IsUnbegun, IsUnchecked};
 ghost use Rattle.mk_checked.specs.CheckText.{id_at};
 ghost use Rattle.mk_endings.specs.declared.ending.Ending.{Ending};
 ghost use Rattle.mk_endings.specs.declared.ending.Ending.TheVariants as ends;
@@ -12,14 +13,16 @@ use mk_base::{List, Mem, SimNo, Text};
 use mk_connect::edges;
 use mk_cycles::{CycleFault, ranks};
 use mk_endings::Ending;
+use mk_launch::{LaunchFault, Unready, prepare};
 use mk_scenario::{Scenario, ScenarioFault, read_scenario};
 use std::alloc::Global;
 
-/// What `check` prints of a scenario file with these bytes: how many simulators, groups and blocks it has, and the simulators'
-/// ids in rising rank. Else why it is no scenario, or the cycle that leaves no ranks.
-pub fn checked(alloc: Global, bytes: &[u8]) -> Result<Vec<u8>, Ending>
-    ensures checked { IfOk result (λ text. IsChecked bytes.now text.items) }
-    ensures unchecked { IfErr result (λ ending. IsUnchecked bytes.now ending) }
+/// What `check` prints of a scenario file with these bytes, the kinds within the program having these names: how many simulators,
+/// groups and blocks it has, and the simulators' ids in rising rank. Else why it is no scenario, the cycle that leaves no ranks,
+/// or the first simulator that can't be begun.
+pub fn checked(alloc: Global, kinds: &List<Text>, bytes: &[u8]) -> Result<Vec<u8>, Ending>
+    ensures checked { IfOk result (λ text. IsChecked kinds.now bytes.now text.items) }
+    ensures unchecked { IfErr result (λ ending. IsUnchecked kinds.now bytes.now ending) }
 {
     let scenario = match read_scenario(alloc, bytes) {
         Ok(scenario) => scenario,
@@ -28,11 +31,35 @@ pub fn checked(alloc: Global, bytes: &[u8]) -> Result<Vec<u8>, Ending>
     };
     let edges = edges(alloc, &scenario)?;
     match ranks(alloc, scenario.sims.len() as u32, edges.as_slice()) {
-        Ok(ranks) => Ok(check_text(alloc, &scenario, ranks.as_slice())?),
+        Ok(ranks) => match prepared(alloc, &scenario, kinds) {
+            Ok(()) => Ok(check_text(alloc, &scenario, ranks.as_slice())?),
+            Err(ending) => Err(ending),
+        },
         Err(CycleFault::Cycle(walk)) => Err(Ending::Cycle {
             sims: ids_of(alloc, &scenario, &walk)?,
         }),
         Err(CycleFault::Mem) => Err(Ending::Mem),
+    }
+}
+
+// Whether each simulator can be begun.
+fn prepared(alloc: Global, scenario: &Scenario, kinds: &List<Text>) -> Result<(), Ending>
+    requires { length scenario.now.sims < 2 ^ 32 }
+    ensures prepared { OnOk result (IsPrepared scenario.now kinds.now) }
+    ensures unprepared { IfErr result (λ ending. (ending ≡ ends.Mem) ⊎ IsUnbegun scenario.now kinds.now ending) }
+{
+    match prepare(alloc, scenario, kinds) {
+        Ok(()) => Ok(()),
+        Err(
+            Unready {
+                fault: LaunchFault::Mem,
+                ..
+            },
+        ) => Err(Ending::Mem),
+        Err(unready) => Err(Ending::Launch {
+            sim: Text::of(alloc, id_at(scenario, unready.sim.0 as usize))?,
+            fault: unready.fault,
+        }),
     }
 }
 
@@ -47,8 +74,9 @@ fn ids_of(alloc: Global, scenario: &Scenario, walk: &List<SimNo>) -> Result<List
     Ok(ids)
 }
 
-/// One file has one status: two texts or endings that `check` may answer of the same bytes have the same, want of memory aside.
+/// One file has one status: two texts or endings that `check` may answer of the same bytes, with the same kinds, have the same,
+/// want of memory aside.
 pub fn scenario_has_one_status()
-    ensures { (bytes : List ℕ) → (o : Result (List ℕ) Ending) → (p : Result (List ℕ) Ending)
-        → IsOutcome bytes o → IsOutcome bytes p → (o ≡ Err ends.Mem → ⊥) → (p ≡ Err ends.Mem → ⊥) → outcome_status o ≡ outcome_status p }
+    ensures { (kinds : List (List ℕ)) → (bytes : List ℕ) → (o : Result (List ℕ) Ending) → (p : Result (List ℕ) Ending)
+        → IsOutcome kinds bytes o → IsOutcome kinds bytes p → (o ≡ Err ends.Mem → ⊥) → (p ≡ Err ends.Mem → ⊥) → outcome_status o ≡ outcome_status p }
 {}

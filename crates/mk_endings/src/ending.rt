@@ -2,6 +2,7 @@
 ghost use Rattle.std.specs.Prelude.{◌≡◌};
 
 use mk_base::{List, Text};
+use mk_launch::LaunchFault;
 use mk_scenario::ScenarioFault;
 
 /// Why a command has no text to print. Each has one status and one line on the error output (`docs/messages.md`).
@@ -17,6 +18,8 @@ pub enum Ending {
     Scenario(ScenarioFault),
     /// Plain connections and asynchronous pairs lead in a circle, through these simulators.
     Cycle { sims: List<Text> },
+    /// A simulator of the scenario can't be begun.
+    Launch { sim: Text, fault: LaunchFault },
     /// The file is no record, by the first line, counted from 1, that has a fault, and the fault's number.
     Record { line: u64, fault: u8 },
     /// The record is of a form that can't be replayed yet.
@@ -61,7 +64,7 @@ impl Ending {
         match self {
             Ending::Usage => 2,
             Ending::Missing { .. } | Ending::TooLong { .. } => 3,
-            Ending::Scenario(_) | Ending::Cycle { .. } => 3,
+            Ending::Scenario(_) | Ending::Cycle { .. } | Ending::Launch { .. } => 3,
             Ending::Record { .. } | Ending::Refused => 3,
             Ending::Wrong { .. } | Ending::Failed { .. } => 5,
             Ending::LoopLimit { .. } | Ending::Short { .. } | Ending::Differs { .. } => 5,

@@ -2,6 +2,7 @@
 #![tactic(auto)]
 
 mod ending;
+mod launch;
 mod lines;
 mod scenario;
 

@@ -4,6 +4,7 @@ ghost use Rattle.std.specs.Fmt.{decimal};
 ghost use Rattle.mk_endings.specs.Endings.{line_of, text_of, unbroken};
 
 use crate::ending::Ending;
+use crate::launch::put_launch;
 use crate::scenario::put_scenario;
 use mk_base::{List, Text};
 use std::alloc::{AllocError, Global};
@@ -30,7 +31,7 @@ impl Ending {
         ensures { OnOk result (out.new.items ≡ text_of self.now) }
     {
         match self {
-            Ending::Usage => put(out, "usage: replay RECORD or check SCENARIO"),
+            Ending::Usage => put(out, "usage: replay RECORD [--order N] or check SCENARIO"),
             Ending::Missing { name } => {
                 put(out, name.as_str())?;
                 put(out, ": no such file")
@@ -43,6 +44,7 @@ impl Ending {
             }
             Ending::Scenario(fault) => put_scenario(alloc, out, fault),
             Ending::Cycle { sims } => put_cycle(out, sims),
+            Ending::Launch { sim, fault } => put_launch(alloc, out, sim, fault),
             Ending::Record { line, fault } => {
                 put(out, "record: line ")?;
                 put_number(alloc, out, *line)?;

@@ -87,12 +87,15 @@ filter_same : {X : Type 0} (p q : X → Bool) (xs : List X) → ((x : X) → p x
 filter_same p q [] h = refl
 filter_same p q (x ∷ xs) h = λ i. cond (h x i) (x ∷ filter_same p q xs h i) (filter_same p q xs h i)
 
+-- an id is open where a turn is
+pub id_of_turn : (core : CoreState) (i : ℕ) → is_some (open_id core i) ≡ is_some ((view core.plan core.entries).open_at i)
+id_of_turn core i = id_where_open ((view core.plan core.entries).open_at i) (after_entries core.plan empty_view core.entries (λ j. tt) i)
+
 -- the ids of all simulators count what is open
 pub all_ids : (core : CoreState) → open_ids core (sim_count core.plan) ≡ open_count core.plan (view core.plan core.entries)
-all_ids core = ap length (filter_same (λ i. is_some (open_id core i)) (λ i. is_some ((view core.plan core.entries).open_at i)) (range_with_len 0 (sim_count core.plan))
-    (λ i. id_where_open ((view core.plan core.entries).open_at i) (after_entries core.plan empty_view core.entries (λ j. tt) i)))
+all_ids core = ap length (filter_same (λ i. is_some (open_id core i)) (λ i. is_some ((view core.plan core.entries).open_at i)) (range_with_len 0 (sim_count core.plan)) (id_of_turn core))
 
-range_more : (a n : ℕ) → range_with_len a (suc n) ≡ range_with_len a n ++ (a + n) ∷ []
+pub range_more : (a n : ℕ) → range_with_len a (suc n) ≡ range_with_len a n ++ (a + n) ∷ []
 range_more a zero = ap (λ k. k ∷ []) (omega arith)
 range_more a (suc n) = ap (λ l. a ∷ l) (range_more (a + 1) n ∙ ap (λ k. range_with_len (a + 1) n ++ k ∷ []) (omega arith))
 

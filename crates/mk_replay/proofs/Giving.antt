@@ -30,17 +30,20 @@ use Rattle.mk_sched.specs.Answers.{NextOf, ArriveOf, IsAsked, IsWaiting, IsOver,
 use Rattle.mk_replay.specs.declared.replaying.ReplayEnd.TheVariants.{Done, Core, Short}
 use Rattle.mk_replay.specs.Replays.{messages_from, IsReplay, IsLastFaulty, IsTooLong}
 use Rattle.mk_replay.specs.Loops.{IsPatient, IsOnWay, GoesOn, IsUnready, IsSettled, IsStopped, GivenBy, IsRun}
-use Rattle.mk_replay.proofs.Pushing.{given_of, given_got, on_way_sent, on_way_got, patient_got, arrivals_after_got, got_is}
+use Rattle.mk_replay.proofs.Pushing.{given_of, given_got, on_way_sent, on_way_got, patient_got, arrivals_after_got, arrivals_after_sent, got_is}
 use Rattle.mk_replay.proofs.Counting.{some_are_open}
 
 -- ---- whoever is ready is asked
 
 pub goes_on_first : (core : CoreState) → GoesOn core core
-goes_on_first core = record { plan = refl; on_way = λ A h. h }
+goes_on_first core = record { plan = refl; more = []; longer = sym (append_nil core.entries); sent_only = refl; on_way = λ A h. h }
 
 pub goes_on_asked : (first old new : CoreState) (s : SimNo) → GoesOn first old → IsAsked old s new → GoesOn first new
 goes_on_asked first old new s g a = record {
   plan = ap (λ (c : CoreState). c.plan) a.moved ∙ g.plan;
+  more = g.more ++ Sent s (Step a.at a.inputs a.advance) ∷ [];
+  longer = ap (λ (c : CoreState). c.entries) a.moved ∙ ap (λ (J : List Entry). J ++ Sent s (Step a.at a.inputs a.advance) ∷ []) g.longer ∙ append_assoc first.entries g.more (Sent s (Step a.at a.inputs a.advance) ∷ []);
+  sent_only = arrivals_after_sent g.more s (Step a.at a.inputs a.advance) ∙ g.sent_only;
   on_way = λ A h. subst (λ (c : CoreState). IsOnWay first.plan A c.entries) (sym a.moved) (on_way_sent first.plan A old.entries s (Step a.at a.inputs a.advance) (given_of first.plan A old.entries (g.on_way A h)));
 }
 
@@ -75,7 +78,7 @@ not_before old new f going was = absurd (none_some (sym going ∙ was.0))
 pub settled_full : (first old new : CoreState) (f : CoreFault) → GoesOn first old → old.ended ≡ None → NextOf old (next.Fault f) new → Stands new.plan new.entries → IsSettled first (next.Fault f) new
 settled_full first old new f g going (inl was) stands = not_before old new f going was
 settled_full first old new f g going (inr full) stands = record {
-  goes = record { plan = ap (λ (c : CoreState). c.plan) full.ended ∙ g.plan; on_way = λ A h. subst (λ (c : CoreState). IsOnWay first.plan A c.entries) (sym full.ended) (g.on_way A h) };
+  goes = record { plan = ap (λ (c : CoreState). c.plan) full.ended ∙ g.plan; more = g.more; longer = ap (λ (c : CoreState). c.entries) full.ended ∙ g.longer; sent_only = g.sent_only; on_way = λ A h. subst (λ (c : CoreState). IsOnWay first.plan A c.entries) (sym full.ended) (g.on_way A h) };
   stands = stands;
   by = subst (λ (c : CoreState). (f ≡ TooLong c.plan.entries) × (length c.entries ≡ c.plan.entries) × SomeReady c.plan c.entries) (sym full.ended) (full.named, full.full, full.ready);
 }

@@ -1,5 +1,11 @@
 pub mod Counting
+pub mod Drawing
 pub mod Giving
 pub mod Known
 pub mod Pushing
+pub mod Growing
 pub mod OneEnd
+pub mod OneOrder
+pub mod RoundsGiven
+pub mod Waiting
+pub mod WholeOrders

@@ -29,7 +29,7 @@ some_of (Some x) h = (x, refl)
 
 -- ---- an end is one at which nothing goes on
 
-at_end : (P : Plan) (A : List Arrival) (J : List Entry) (e : ReplayEnd) → IsReplay P A J → EndsBy P A J e → IsAtEnd IsReady IsAdvance P A J
+pub at_end : (P : Plan) (A : List Arrival) (J : List Entry) (e : ReplayEnd) → IsReplay P A J → EndsBy P A J e → IsAtEnd IsReady IsAdvance P A J
 at_end P A J Done r w = done_is_end P A J r.eager w.given w.done
 at_end P A J (Core f) r (inl l) = let x = some_of (fault_in f) l.named in faulty x.0 (l.fault ∙ x.1)
 at_end P A J (Core f) r (inr t) = full t.full
@@ -90,7 +90,7 @@ one_fault P A J f g (inl l) (inr t) = absurd (faultless P J f t.no_fault l)
 one_fault P A J f g (inr t) (inl l) = absurd (faultless P J g t.no_fault l)
 one_fault P A J f g (inr t) (inr u) = t.named ∙ sym u.named
 
-one_end : (P : Plan) (A : List Arrival) (J : List Entry) (e f : ReplayEnd) → EndsBy P A J e → EndsBy P A J f → e ≡ f
+pub one_end : (P : Plan) (A : List Arrival) (J : List Entry) (e f : ReplayEnd) → EndsBy P A J e → EndsBy P A J f → e ≡ f
 one_end P A J (Other n) f a b = absurd a
 one_end P A J Done (Other n) a b = absurd b
 one_end P A J (Core f) (Other n) a b = absurd b

@@ -32,7 +32,7 @@ arrivals_after_sent J s item = filter_map_append arrival_of J (Sent s item ∷ [
 pub arrivals_after_got : (J : List Entry) (s : SimNo) (m : Message) → arrivals (J ++ Got s m ∷ []) ≡ arrivals J ++ record { sim = s.0; message = m } ∷ []
 arrivals_after_got J s m = filter_map_append arrival_of J (Got s m ∷ [])
 
-not_empty : (H more : List Entry) (d : Entry) → [] ≡ H ++ d ∷ more → ⊥
+pub not_empty : (H more : List Entry) (d : Entry) → [] ≡ H ++ d ∷ more → ⊥
 not_empty [] more d e = cc
 not_empty (h ∷ H) more d e = cc
 
@@ -40,7 +40,7 @@ heads : {X : Type 0} {x y : X} {xs ys : List X} → x ∷ xs ≡ y ∷ ys → (x
 heads e = (cc, cc)
 
 -- an entry of a longer journal is its last, or one of the shorter
-last_or_before : (J : List Entry) (e : Entry) (H : List Entry) (d : Entry) (more : List Entry) → J ++ e ∷ [] ≡ H ++ d ∷ more → ((J ≡ H) × (e ≡ d)) ⊎ ((less : List Entry) × (J ≡ H ++ d ∷ less))
+pub last_or_before : (J : List Entry) (e : Entry) (H : List Entry) (d : Entry) (more : List Entry) → J ++ e ∷ [] ≡ H ++ d ∷ more → ((J ≡ H) × (e ≡ d)) ⊎ ((less : List Entry) × (J ≡ H ++ d ∷ less))
 last_or_before [] e [] d more q = inl (refl, (heads q).0)
 last_or_before [] e (h ∷ H) d more q = absurd (not_empty H more d (heads q).1)
 last_or_before (j ∷ J) e [] d more q = inr (J, ap (λ (x : Entry). x ∷ J) (heads q).0)

@@ -1,2 +1,4 @@
 pub mod Loops
+pub mod Orders
 pub mod Replays
+pub mod Rounds

@@ -47,6 +47,9 @@ pub record IsOnWay (P : Plan) (A : List journals.Arrival) (J : List Entry) : Typ
 -- the core goes on with the same plan and without a message
 pub record GoesOn (old new : CoreState) : Type 0 where
   pub plan : new.plan ≡ old.plan
+  pub more : List Entry
+  pub longer : new.entries ≡ old.entries ++ more
+  pub sent_only : arrivals more ≡ []
   pub on_way : (A : List journals.Arrival) → IsOnWay old.plan A old.entries → IsOnWay old.plan A new.entries
 
 -- nobody is ready

@@ -2,6 +2,7 @@
 //! ready is asked before.
 #![tactic(auto)]
 
+mod ordering;
 mod replaying;
 #[cfg(test)]
 mod tests;

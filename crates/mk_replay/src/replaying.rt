@@ -1,4 +1,5 @@
-ghost use Rattle.std.specs.Prelude.{◌≡◌, ◌<◌, ◌^◌, List, [], Option, None, true, map, All, IfOk, is_some, if◌then◌else◌};
+// The replay of a record: whoever is ready is asked, and a message is given, until nothing is left to do.
+ghost use Rattle.std.specs.Prelude.{◌≡◌, ◌<◌, ◌^◌, ℕ, List, [], Option, None, true, map, All, IfOk, is_some, if◌then◌else◌};
 ghost use Rattle.mk_plan.specs.Plans.{IsValidPlan, sim_count};
 ghost use Rattle.mk_plan.specs.Journals as journals;
 ghost use Rattle.mk_plan.specs.Journals.{view, open_count};
@@ -11,8 +12,11 @@ ghost use Rattle.mk_record.specs.Seen.{came};
 ghost use Rattle.mk_record.specs.Steps.{IsKnown};
 ghost use Rattle.mk_sched.specs.Answers.{open_id};
 ghost use Rattle.mk_replay.specs.Replays.{IsReplay, IsEndOf, end_with};
+ghost use Rattle.mk_replay.specs.Orders.{IsReplayBy, IsReplayInOrder};
+ghost use Rattle.mk_replay.specs.Rounds.{GrownBy};
 ghost use Rattle.mk_replay.specs.Loops.{CanArrive, GivenBy, IsOnWay, IsRun, IsSettled, IsUnready};
 
+use crate::ordering::{run_in_order, split};
 use mk_base::{List, Mem, SimNo};
 use mk_differs::first_other;
 use mk_plan::{Journal, Plan};
@@ -39,9 +43,32 @@ pub struct Replayed {
 }
 
 /// Runs the plan of a record over the messages that came. Whoever is ready is asked first; then one message is given, and so
-/// on, up to the first fault, or until all were given and nobody is ready. Where no fault was met, the entries of a record
-/// of version 2 are then compared with the journal.
-pub fn replay(alloc: Global, saved: Saved) -> Result<Replayed, Mem>
+/// on, up to the first fault, or until all were given and nobody is ready.
+///
+/// Without an order the messages are given as they came; where no fault was met, the entries of a record of version 2 are then
+/// compared with the journal. With an order each simulator's messages are given as they came, and which simulator's is next is
+/// drawn by numbers that begin with the order; nothing is compared.
+pub fn replay(alloc: Global, saved: Saved, order: Option<u32>) -> Result<Replayed, Mem>
+    requires valid { IsValidPlan saved.plan }
+    requires built { is_built_record saved.plan (map came saved.arrivals) ≡ true }
+    requires known { All (IsKnown saved.plan) (map came saved.arrivals) }
+    ensures plan { IfOk result (λ r. r.plan ≡ saved.plan) }
+    ensures replay { IfOk result (λ r. IsReplayBy saved.plan (map came saved.arrivals) saved.asks order r.journal.entries r.end) }
+{
+    match order {
+        None => {
+            let replayed = as_recorded(alloc, saved)?;
+            Ok(replayed)
+        }
+        Some(number) => {
+            let replayed = in_order(alloc, saved, number)?;
+            Ok(replayed)
+        }
+    }
+}
+
+// Gives the messages as they came.
+fn as_recorded(alloc: Global, saved: Saved) -> Result<Replayed, Mem>
     requires valid { IsValidPlan saved.plan }
     requires built { is_built_record saved.plan (map came saved.arrivals) ≡ true }
     requires known { All (IsKnown saved.plan) (map came saved.arrivals) }
@@ -70,6 +97,26 @@ pub fn replay(alloc: Global, saved: Saved) -> Result<Replayed, Mem>
     })
 }
 
+// Gives the messages in the order of this number.
+fn in_order(alloc: Global, saved: Saved, order: u32) -> Result<Replayed, Mem>
+    requires valid { IsValidPlan saved.plan }
+    requires built { is_built_record saved.plan (map came saved.arrivals) ≡ true }
+    requires known { All (IsKnown saved.plan) (map came saved.arrivals) }
+    ensures plan { IfOk result (λ r. r.plan ≡ saved.plan) }
+    ensures replay { IfOk result (λ r. IsReplayInOrder saved.plan (map came saved.arrivals) order r.journal.entries r.end) }
+{
+    let Saved {
+        plan,
+        arrivals,
+        asks: _asks,
+    } = saved;
+    let mut waiting = split(alloc, plan.sims.len(), arrivals)?;
+    let mut core = Core::new(alloc, plan)?;
+    let end = run_in_order(alloc, &mut core, &mut waiting, order)?;
+    let (plan, journal) = core.into_parts();
+    Ok(Replayed { end, plan, journal })
+}
+
 // How the replay of a record ends, by how that of its messages ends and which of its entries is another.
 fn end_with(end: ReplayEnd, other: Option<u32>) -> ReplayEnd
     ensures { result ≡ end_with end other }
@@ -88,11 +135,11 @@ fn end_with(end: ReplayEnd, other: Option<u32>) -> ReplayEnd
     }
 }
 
-/// A record has one replay: two journals over its plan and its messages that have come to an end are the same, and so is
-/// their end.
+/// A record has one replay in each order: two journals over its plan and its messages that have come to an end are the same,
+/// and so is their end.
 pub fn replay_is_one()
-    ensures { (P : Plan) → (A : List journals.Arrival) → (steps : Option (List Asked)) → (J : List Entry) → (K : List Entry) → (e : ReplayEnd) → (f : ReplayEnd)
-        → IsReplay P A J → IsEndOf P A steps J e → IsReplay P A K → IsEndOf P A steps K f → (J ≡ K) × (e ≡ f) }
+    ensures { (P : Plan) → (A : List journals.Arrival) → (steps : Option (List Asked)) → (order : Option ℕ) → (J : List Entry) → (K : List Entry) → (e : ReplayEnd) → (f : ReplayEnd)
+        → IsReplayBy P A steps order J e → IsReplayBy P A steps order K f → (J ≡ K) × (e ≡ f) }
 {}
 
 // Gives these messages to a new core.
@@ -124,11 +171,12 @@ fn give(core: &mut Core, arrival: &Arrival) -> Result<Option<CoreFault>, Mem>
 }
 
 // Gives one message; the fault that it makes.
-fn take(core: &mut Core, arrival: &Arrival) -> Result<Option<CoreFault>, Mem>
+pub fn take(core: &mut Core, arrival: &Arrival) -> Result<Option<CoreFault>, Mem>
     requires going { core.old.ended ≡ None }
     requires known { CanArrive core.old.plan arrival.now }
     requires nobody { IsUnready core.old }
-    ensures { IfOk result (λ fault. GivenBy core.old (came arrival.now) fault core.new) }
+    ensures given { IfOk result (λ fault. GivenBy core.old (came arrival.now) fault core.new) }
+    ensures grown { IfOk result (λ fault. GrownBy core.old (came arrival.now) fault core.new) }
 {
     match core.arrive(arrival.sim, &arrival.message)? {
         Taken::Quiet => Ok(None),
@@ -151,7 +199,7 @@ fn finish(core: &mut Core) -> Result<ReplayEnd, Mem>
 }
 
 // Asks whoever is ready, until nobody is.
-fn settle(core: &mut Core) -> Result<Next, Mem>
+pub fn settle(core: &mut Core) -> Result<Next, Mem>
     requires going { core.old.ended ≡ None }
     ensures { IfOk result (λ next. IsSettled core.old next core.new) }
 {
@@ -166,7 +214,7 @@ fn settle(core: &mut Core) -> Result<Next, Mem>
 }
 
 // At how many simulators a request is open.
-fn open_count(core: &Core) -> u32
+pub fn open_count(core: &Core) -> u32
     requires going { core.now.ended ≡ None }
     requires few { sim_count core.now.plan < 2 ^ 32 }
     ensures { result ≡ open_count core.now.plan (view core.now.plan core.now.entries) }

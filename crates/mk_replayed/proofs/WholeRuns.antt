@@ -17,10 +17,15 @@ use Rattle.mk_record.specs.Reading.{reading, Said}
 use Rattle.mk_record.specs.Built.{is_built_record}
 use Rattle.mk_record.specs.declared.saved.Asked.{Asked}
 use Rattle.mk_differs.specs.Differences.{IsOther}
-use Rattle.mk_replay.specs.Replays.{EndsBy, IsEndOf, end_with, IsReplay, IsWhole, messages_from}
+use Rattle.mk_plan.specs.Agreement.{IsFinished}
+use Rattle.mk_replay.specs.Replays.{EndsBy, end_with, IsWhole, messages_from}
+use Rattle.mk_replay.specs.Orders.{IsReplayBy, IsReplayInOrder}
 use Rattle.mk_replay.specs.declared.replaying.ReplayEnd.{ReplayEnd}
 use Rattle.mk_replay.specs.declared.replaying.ReplayEnd.TheVariants.{Done, Core, Short, Other}
-use Rattle.mk_replayed.specs.Reports.{IsReportOf}
+use Rattle.mk_replayed.specs.Reports.{IsDoneBy, IsReportOf, IsStopped, Unreported, stop_of}
+use Rattle.mk_endings.specs.declared.ending.Ending.{Ending}
+use Rattle.mk_sched.specs.declared.faults.CoreFault.{CoreFault}
+use Rattle.mk_sched.specs.declared.faults.CoreFault.TheVariants as core
 
 -- one more message, if it is the simulator's
 one_more : (b : Bool) (a : Arrival) (ms : List Message) (came : List Arrival) → ms ≡ map (λ (x : Arrival). x.message) came
@@ -89,13 +94,37 @@ done_ends (Other k) other is = cc
 done_ends (Short k) None is = cc
 done_ends (Short k) (Some n) is = cc
 
+-- a replay that has come to its end with all done is done
+done_by : (P : Plan) (A : List Arrival) (steps : Option (List Asked)) (order : Option ℕ) (J : List Entry) (end : ReplayEnd) → IsReplayBy P A steps order J end → end ≡ Done → IsDoneBy P A steps order J
+done_by P A steps None J end r done =
+    let so = done_ends r.1.messages_end r.1.other (sym done ∙ r.1.is) in
+    (r.0, subst (λ (n : Option ℕ). IsOther A steps J n) so.1 r.1.compared, subst (λ e. EndsBy P A J e) so.0 r.1.ends)
+done_by P A steps (Some N) J end r done = subst (IsReplayInOrder P A N J) done r
+
+-- where all messages were given in some order, each simulator was sent what sequential execution over the messages sends it
+record IsAllSent (P : Plan) (A : List Arrival) (J : List Entry) : Type 0 where
+  heard : got J ≡ messages_from A
+  finished : IsFinished P J
+  sent : (i : ℕ) → i < sim_count P → map bare (sent J i) ≡ run_items P (messages_from A) i
+
+whole_sent : (P : Plan) (A B : List Arrival) (J : List Entry) → ((i : ℕ) → messages_from B i ≡ messages_from A i) → IsWhole P B J → IsAllSent P A J
+whole_sent P A B J same whole =
+    let one : messages_from B ≡ messages_from A = fun_ext same in record {
+      heard = fun_ext (got_is J) ∙ ap messages_from whole.given ∙ one;
+      finished = whole.finished;
+      sent = λ i within. whole.sent i within ∙ ap (λ (R : Messages). run_items P R i) one;
+    }
+
+all_sent : (P : Plan) (A : List Arrival) (steps : Option (List Asked)) (order : Option ℕ) (J : List Entry) → IsDoneBy P A steps order J → IsAllSent P A J
+all_sent P A steps None J done = whole_sent P A A J (λ i. refl) done.2
+all_sent P A steps (Some N) J done = whole_sent P A done.order J done.same done.ends
+
 -- the report of a replay that ends with all done is that of the sequential execution of its plan over the messages that came
-pub report_done : (bytes text : List ℕ) (P Q : Plan) (A : List Arrival) (steps : Option (List Asked)) (J : List Entry) (end : ReplayEnd)
-    → reading bytes ≡ Said P A steps → is_built_record P A ≡ true → IsValidPlan P → Q ≡ P → IsReplay P A J → IsEndOf P A steps J end → end ≡ Done → text ≡ report Q (sent J) → IsReportOf bytes text
-report_done bytes text P Q A steps J end read built valid same replayed ends done reported =
-    let so = done_ends ends.messages_end ends.other (sym done ∙ ends.is) in
-    let whole : IsWhole P A J = subst (λ e. EndsBy P A J e) so.0 ends.ends in
-    let heard : got J ≡ messages_from A = fun_ext (got_is J) ∙ ap messages_from whole.given in
+pub report_done : (bytes text : List ℕ) (P Q : Plan) (A : List Arrival) (steps : Option (List Asked)) (order : Option ℕ) (J : List Entry) (end : ReplayEnd)
+    → reading bytes ≡ Said P A steps → is_built_record P A ≡ true → IsValidPlan P → Q ≡ P → IsReplayBy P A steps order J end → end ≡ Done → text ≡ report Q (sent J) → IsReportOf bytes order text
+report_done bytes text P Q A steps order J end read built valid same replayed done reported =
+    let by : IsDoneBy P A steps order J = done_by P A steps order J end replayed done in
+    let all : IsAllSent P A J = all_sent P A steps order J by in
     record {
       plan = P;
       arrivals = A;
@@ -104,10 +133,32 @@ report_done bytes text P Q A steps J end read built valid same replayed ends don
       read = read;
       built = built;
       valid = valid;
-      replayed = replayed;
-      compared = subst (λ (n : Option ℕ). IsOther A steps J n) so.1 ends.compared;
-      whole = whole;
-      used = λ i within. subst (λ (R : Messages). messages_in (sequential P R i) ≡ R i) heard (whole.finished i within).used;
-      uncut = λ i within. subst (λ (R : Messages). all_ended (sequential P R i) ≡ true) heard (whole.finished i within).ended;
-      reported = reported ∙ ap (λ S. report S (sent J)) same ∙ report_bare P (sent J) (run_items P (messages_from A)) whole.sent;
+      done = by;
+      used = λ i within. subst (λ (R : Messages). messages_in (sequential P R i) ≡ R i) all.heard (all.finished i within).used;
+      uncut = λ i within. subst (λ (R : Messages). all_ended (sequential P R i) ≡ true) all.heard (all.finished i within).ended;
+      reported = reported ∙ ap (λ S. report S (sent J)) same ∙ report_bare P (sent J) (run_items P (messages_from A)) all.sent;
     }
+
+-- a replay that a fault of the core ends has no report
+as_stopped : (bytes : List ℕ) (order : Option ℕ) (P : Plan) (J : List Entry) (fault : CoreFault) → IsStopped bytes order (stop_of P J fault) → Unreported bytes order (stop_of P J fault)
+as_stopped bytes order P J (core.Wrong s place cause) h = h
+as_stopped bytes order P J (core.Failed s place) h = h
+as_stopped bytes order P J (core.LoopLimit s time) h = h
+as_stopped bytes order P J (core.TooLong count) h = h
+
+pub stopped_by : (bytes : List ℕ) (order : Option ℕ) (P Q : Plan) (A : List Arrival) (steps : Option (List Asked)) (J : List Entry) (end : ReplayEnd) (fault : CoreFault) (e : Ending)
+    → reading bytes ≡ Said P A steps → is_built_record P A ≡ true → IsValidPlan P → Q ≡ P → IsReplayBy P A steps order J end → end ≡ Core fault → e ≡ stop_of Q J fault → Unreported bytes order e
+stopped_by bytes order P Q A steps J end fault e read built valid same replayed ended said =
+    let named : e ≡ stop_of P J fault = said ∙ ap (λ (X : Plan). stop_of X J fault) same in
+    subst (Unreported bytes order) (sym named) (as_stopped bytes order P J fault (record {
+      plan = P;
+      arrivals = A;
+      journal = J;
+      end = Core fault;
+      steps = steps;
+      read = read;
+      built = built;
+      valid = valid;
+      replayed = subst (λ (x : ReplayEnd). IsReplayBy P A steps order J x) ended replayed;
+      said = refl;
+    }))

@@ -12,16 +12,22 @@ use Rattle.mk_record.specs.Reading.{reading, Said, Faulty}
 use Rattle.mk_record.specs.Built.{is_built_record}
 use Rattle.mk_record.specs.declared.saved.Asked.{Asked}
 use Rattle.mk_differs.specs.Differences.{IsOther}
-use Rattle.mk_replay.specs.Replays.{IsReplay, IsWhole, IsEndOf, messages_from}
+use Rattle.mk_replay.specs.Replays.{IsReplay, IsWhole, messages_from}
+use Rattle.mk_replay.specs.Orders.{IsReplayBy, IsReplayInOrder}
 use Rattle.mk_sched.specs.declared.faults.CoreFault.{CoreFault}
 use Rattle.mk_sched.specs.declared.faults.CoreFault.TheVariants as core
 use Rattle.mk_replay.specs.declared.replaying.ReplayEnd.{ReplayEnd}
 use Rattle.mk_replay.specs.declared.replaying.ReplayEnd.TheVariants as ends
 use Rattle.mk_endings.specs.declared.ending.Ending.{Ending}
-use Rattle.mk_endings.specs.declared.ending.Ending.TheVariants.{Usage, Missing, TooLong, Scenario, Cycle, Record, Refused, Wrong, Failed, LoopLimit, Short, Differs, Folder, Output, Entries, Mem}
+use Rattle.mk_endings.specs.declared.ending.Ending.TheVariants.{Usage, Missing, TooLong, Scenario, Cycle, Launch, Record, Refused, Wrong, Failed, LoopLimit, Short, Differs, Folder, Output, Entries, Mem}
 
--- the bytes are a record of a valid plan; its replay comes to a journal in which all is done, and which begins with the steps and messages of a record of version 2; and the text is the report of the sequential execution of the plan over the record's messages, in which each message is used and no turn is cut
-pub record IsReportOf (bytes text : List ℕ) : Type 0 where
+-- the replay in this order comes to a journal in which all is done; one of the messages as they came, which begins with the steps and messages of a record of version 2, or one of them in the order of a number
+abbrev pub IsDoneBy : Plan → List Arrival → Option (List Asked) → Option ℕ → List Entry → Type 0
+IsDoneBy P A steps None J = IsReplay P A J × IsOther A steps J None × IsWhole P A J
+IsDoneBy P A steps (Some N) J = IsReplayInOrder P A N J ends.Done
+
+-- the bytes are a record of a valid plan; its replay in this order comes to a journal in which all is done; and the text is the report of the sequential execution of the plan over the record's messages, in which each message is used and no turn is cut
+pub record IsReportOf (bytes : List ℕ) (order : Option ℕ) (text : List ℕ) : Type 0 where
   pub plan : Plan
   pub arrivals : List Arrival
   pub journal : List Entry
@@ -29,9 +35,7 @@ pub record IsReportOf (bytes text : List ℕ) : Type 0 where
   pub read : reading bytes ≡ Said plan arrivals steps
   pub built : is_built_record plan arrivals ≡ true
   pub valid : IsValidPlan plan
-  pub replayed : IsReplay plan arrivals journal
-  pub compared : IsOther arrivals steps journal None
-  pub whole : IsWhole plan arrivals journal
+  pub done : IsDoneBy plan arrivals steps order journal
   pub used : (i : ℕ) → i < sim_count plan → messages_in (sequential plan (messages_from arrivals) i) ≡ messages_from arrivals i
   pub uncut : (i : ℕ) → i < sim_count plan → all_ended (sequential plan (messages_from arrivals) i) ≡ true
   pub reported : text ≡ report plan (run_items plan (messages_from arrivals))
@@ -65,8 +69,8 @@ IsSaidOf P J (ends.Short n) e = e ≡ Short n
 IsSaidOf P J (ends.Other n) e = e ≡ Differs n
 IsSaidOf P J (ends.Core fault) e = e ≡ stop_of P J fault
 
--- the bytes are a record of a valid plan, whose replay ends as is said
-pub record IsStopped (bytes : List ℕ) (e : Ending) : Type 0 where
+-- the bytes are a record of a valid plan, whose replay in this order ends as is said
+pub record IsStopped (bytes : List ℕ) (order : Option ℕ) (e : Ending) : Type 0 where
   pub plan : Plan
   pub arrivals : List Arrival
   pub journal : List Entry
@@ -75,30 +79,30 @@ pub record IsStopped (bytes : List ℕ) (e : Ending) : Type 0 where
   pub read : reading bytes ≡ Said plan arrivals steps
   pub built : is_built_record plan arrivals ≡ true
   pub valid : IsValidPlan plan
-  pub replayed : IsReplay plan arrivals journal
-  pub stopped : IsEndOf plan arrivals steps journal end
+  pub replayed : IsReplayBy plan arrivals steps order journal end
   pub said : IsSaidOf plan journal end e
 
--- why these bytes give no report
-abbrev pub Unreported : List ℕ → Ending → Type 0
-Unreported bytes Usage = ⊥
-Unreported bytes (Missing name) = ⊥
-Unreported bytes (TooLong name count) = ⊥
-Unreported bytes (Scenario fault) = ⊥
-Unreported bytes (Cycle sims) = ⊥
-Unreported bytes (Record line fault) = reading bytes ≡ Faulty line fault
-Unreported bytes Refused = IsRefused bytes
-Unreported bytes (Wrong sim place cause) = IsStopped bytes (Wrong sim place cause)
-Unreported bytes (Failed sim text) = IsStopped bytes (Failed sim text)
-Unreported bytes (LoopLimit sim time) = IsStopped bytes (LoopLimit sim time)
-Unreported bytes (Short outstanding) = IsStopped bytes (Short outstanding)
-Unreported bytes (Differs entry) = IsStopped bytes (Differs entry)
-Unreported bytes Folder = ⊥
-Unreported bytes Output = ⊥
-Unreported bytes (Entries entries) = IsStopped bytes (Entries entries)
-Unreported bytes Mem = ⊤
+-- why these bytes give no report in this order
+abbrev pub Unreported : List ℕ → Option ℕ → Ending → Type 0
+Unreported bytes order Usage = ⊥
+Unreported bytes order (Missing name) = ⊥
+Unreported bytes order (TooLong name count) = ⊥
+Unreported bytes order (Scenario fault) = ⊥
+Unreported bytes order (Cycle sims) = ⊥
+Unreported bytes order (Launch sim fault) = ⊥
+Unreported bytes order (Record line fault) = reading bytes ≡ Faulty line fault
+Unreported bytes order Refused = IsRefused bytes
+Unreported bytes order (Wrong sim place cause) = IsStopped bytes order (Wrong sim place cause)
+Unreported bytes order (Failed sim text) = IsStopped bytes order (Failed sim text)
+Unreported bytes order (LoopLimit sim time) = IsStopped bytes order (LoopLimit sim time)
+Unreported bytes order (Short outstanding) = IsStopped bytes order (Short outstanding)
+Unreported bytes order (Differs entry) = IsStopped bytes order (Differs entry)
+Unreported bytes order Folder = ⊥
+Unreported bytes order Output = ⊥
+Unreported bytes order (Entries entries) = IsStopped bytes order (Entries entries)
+Unreported bytes order Mem = ⊤
 
--- what `replay` makes of these bytes: the text that it prints, or why there is none
-abbrev pub IsOutcome : List ℕ → Result (List ℕ) Ending → Type 0
-IsOutcome bytes (Ok text) = IsReportOf bytes text
-IsOutcome bytes (Err e) = Unreported bytes e
+-- what `replay` makes of these bytes in this order: the text that it prints, or why there is none
+abbrev pub IsOutcome : List ℕ → Option ℕ → Result (List ℕ) Ending → Type 0
+IsOutcome bytes order (Ok text) = IsReportOf bytes order text
+IsOutcome bytes order (Err e) = Unreported bytes order e

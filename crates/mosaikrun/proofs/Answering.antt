@@ -8,7 +8,7 @@ use Rattle.mk_words.specs.declared.request.Request.{Request}
 use Rattle.mk_words.specs.declared.request.Request.TheVariants.{Run, Replay, Check, Demo, Migrate}
 use Rattle.mk_words.proofs.Requested.{requested}
 use Rattle.mk_endings.specs.declared.ending.Ending.{Ending}
-use Rattle.mk_endings.specs.declared.ending.Ending.TheVariants.{Usage, Missing, TooLong, Scenario, Cycle, Record, Refused, Wrong, Failed, LoopLimit, Short, Differs, Folder, Output, Entries, Mem}
+use Rattle.mk_endings.specs.declared.ending.Ending.TheVariants.{Usage, Missing, TooLong, Scenario, Cycle, Launch, Record, Refused, Wrong, Failed, LoopLimit, Short, Differs, Folder, Output, Entries, Mem}
 use Rattle.mk_endings.specs.Endings.{outcome_status, status_of}
 use Rattle.mk_replayed.proofs.OneOutcome.{one_outcome}
 use Rattle.mk_checked.proofs.OneRanking.{one_status}
@@ -36,7 +36,7 @@ as_mem S e (inr (inr (inr cut))) = inr (inr (inr (record {
     why (inr short) = short.1
 
 -- the output has taken a beginning alone
-pub cut_short : (S : Around) (R : Request) (bytes text : List ℕ) (e : Ending) → IsRead S R bytes → IsOutcomeOf R bytes (Ok text) → TookBeginning text S.before S.after → IsCutBy S e → Ended S (Err e)
+pub cut_short : (S : Around) (R : Request) (bytes text : List ℕ) (e : Ending) → IsRead S R bytes → IsOutcomeOf S.kinds R bytes (Ok text) → TookBeginning text S.before S.after → IsCutBy S e → Ended S (Err e)
 cut_short S R bytes text e read outcome put cause = inr (inr (inr (record { request = R; bytes = bytes; text = text; read = read; outcome = outcome; put = put; cause = cause })))
 
 -- what is said holds, where it is the ending or want of memory
@@ -46,15 +46,15 @@ said_ended S e f ended (inr mem) = subst (λ (x : Ending). Ended S (Err x)) (sym
 
 -- words ask for one thing
 pub one_request : (words : List (List ℕ)) (R Q : Request) → IsAsked words R → IsAsked words Q → R ≡ Q
-one_request words R Q a b = let same = sym ((requested COMMANDS words R).1 a.0) ∙ (requested COMMANDS words Q).1 b.0 in cc
+one_request words R Q a b = let same = sym ((requested COMMANDS words R).1 a) ∙ (requested COMMANDS words Q).1 b in cc
 
 -- no command says that the words are none
-never_usage : (R : Request) (bytes : List ℕ) → IsOutcomeOf R bytes (Err Usage) → ⊥
-never_usage (Run scenario saved) bytes h = h
-never_usage (Replay saved order) bytes h = h
-never_usage (Check scenario) bytes h = h
-never_usage (Demo size) bytes h = h
-never_usage (Migrate old new) bytes h = h
+never_usage : (kinds : List (List ℕ)) (R : Request) (bytes : List ℕ) → IsOutcomeOf kinds R bytes (Err Usage) → ⊥
+never_usage kinds (Run scenario saved) bytes h = h
+never_usage kinds (Replay saved order) bytes h = h
+never_usage kinds (Check scenario) bytes h = h
+never_usage kinds (Demo size) bytes h = h
+never_usage kinds (Migrate old new) bytes h = h
 
 -- the status 2 is that of words that are no command
 only_usage : (e : Ending) → status_of e ≡ 2 → e ≡ Usage
@@ -63,6 +63,7 @@ only_usage (Missing name) two = absurd (omega (arith, two))
 only_usage (TooLong name count) two = absurd (omega (arith, two))
 only_usage (Scenario fault) two = absurd (omega (arith, two))
 only_usage (Cycle sims) two = absurd (omega (arith, two))
+only_usage (Launch sim fault) two = absurd (omega (arith, two))
 only_usage (Record line fault) two = absurd (omega (arith, two))
 only_usage Refused two = absurd (omega (arith, two))
 only_usage (Wrong sim place cause) two = absurd (omega (arith, two))
@@ -82,6 +83,7 @@ is_memory (Missing name) = inr (λ wrong. cc)
 is_memory (TooLong name count) = inr (λ wrong. cc)
 is_memory (Scenario fault) = inr (λ wrong. cc)
 is_memory (Cycle sims) = inr (λ wrong. cc)
+is_memory (Launch sim fault) = inr (λ wrong. cc)
 is_memory (Record line fault) = inr (λ wrong. cc)
 is_memory Refused = inr (λ wrong. cc)
 is_memory (Wrong sim place cause) = inr (λ wrong. cc)
@@ -103,12 +105,12 @@ cut_status S wanted e (inl failed) = inr (inl (ap status_of failed.0))
 cut_status S wanted e (inr short) = memory wanted e short.0
 
 -- of one command and file one status is said
-one_status_of : (R : Request) (bytes : List ℕ) (o p : Result (List ℕ) Ending) → IsOutcomeOf R bytes o → IsOutcomeOf R bytes p → (o ≡ Err Mem → ⊥) → (p ≡ Err Mem → ⊥) → outcome_status o ≡ outcome_status p
-one_status_of (Run scenario saved) bytes o p a b m n = absurd a
-one_status_of (Replay saved order) bytes o p a b m n = ap outcome_status (one_outcome bytes o p a b m n)
-one_status_of (Check scenario) bytes o p a b m n = one_status bytes o p a b m n
-one_status_of (Demo size) bytes o p a b m n = absurd a
-one_status_of (Migrate old new) bytes o p a b m n = absurd a
+one_status_of : (kinds : List (List ℕ)) (R : Request) (bytes : List ℕ) (o p : Result (List ℕ) Ending) → IsOutcomeOf kinds R bytes o → IsOutcomeOf kinds R bytes p → (o ≡ Err Mem → ⊥) → (p ≡ Err Mem → ⊥) → outcome_status o ≡ outcome_status p
+one_status_of kinds (Run scenario saved) bytes o p a b m n = absurd a
+one_status_of kinds (Replay saved order) bytes o p a b m n = ap outcome_status (one_outcome bytes order o p a b m n)
+one_status_of kinds (Check scenario) bytes o p a b m n = one_status kinds bytes o p a b m n
+one_status_of kinds (Demo size) bytes o p a b m n = absurd a
+one_status_of kinds (Migrate old new) bytes o p a b m n = absurd a
 
 -- words that ask for nothing are said to, but for want of memory
 unasked_status : (words : List (List ℕ)) (e : Ending) → IsUnasked words e → IsStatusOr 2 (status_of e)
@@ -139,7 +141,7 @@ pub usage_only : (S : Around) (r : Result (Unit {0}) Ending) → Ended S r → s
 usage_only S (Ok done) ended two R asked = absurd (omega (arith, two))
 usage_only S (Err e) (inl misused) two R asked = misused_two S.words e misused.cause (only_usage e two) R asked
 usage_only S (Err e) (inr (inl unread)) two R asked = unread_not_two _ _ _ e unread.cause (only_usage e two)
-usage_only S (Err e) (inr (inr (inl textless))) two R asked = never_usage textless.request textless.bytes (subst (λ (x : Ending). IsOutcomeOf textless.request textless.bytes (Err x)) (only_usage e two) textless.outcome)
+usage_only S (Err e) (inr (inr (inl textless))) two R asked = never_usage S.kinds textless.request textless.bytes (subst (λ (x : Ending). IsOutcomeOf S.kinds textless.request textless.bytes (Err x)) (only_usage e two) textless.outcome)
 usage_only S (Err e) (inr (inr (inr cut))) two R asked = cut_not_two S e cut.cause (only_usage e two)
 
 -- and there it comes, but for want of memory
@@ -164,10 +166,10 @@ module _ (S : Around) (held : Files) (told : S.files ≡ Some held) (R : Request
     same_bytes : (other : List ℕ) → held (file_of R) ≡ Some other → other ≡ bytes
     same_bytes other here = let same = sym here ∙ there in cc
 
-    outcome_here : (Q : Request) (other : List ℕ) (o : Result (List ℕ) Ending) → IsRead S Q other → IsOutcomeOf Q other o → IsOutcomeOf R bytes o
+    outcome_here : (Q : Request) (other : List ℕ) (o : Result (List ℕ) Ending) → IsRead S Q other → IsOutcomeOf S.kinds Q other o → IsOutcomeOf S.kinds R bytes o
     outcome_here Q other o read outcome =
         let here = read_here Q other read in
-        subst (λ (b : List ℕ). IsOutcomeOf R b o) (same_bytes other here.1) (subst (λ (X : Request). IsOutcomeOf X other o) here.0 outcome)
+        subst (λ (b : List ℕ). IsOutcomeOf S.kinds R b o) (same_bytes other here.1) (subst (λ (X : Request). IsOutcomeOf S.kinds X other o) here.0 outcome)
 
     -- a file that is there, and short enough, is read, but for a folder that failed and want of memory
     unread_status : (name : List ℕ) (e : Ending) (wanted : ℕ) → name ≡ file_of R → IsUnreadable S.files name (HasRisen S.folder_before S.folder_after) e → IsStatusOr wanted (status_of e)
@@ -183,14 +185,14 @@ module _ (S : Around) (held : Files) (told : S.files ≡ Some held) (R : Request
         let count = sym more.2 ∙ ap length here in
         absurd (omega (arith, count, more.3, short))
 
-    pub decided_status : (o : Result (List ℕ) Ending) → IsOutcomeOf R bytes o → (o ≡ Err Mem → ⊥) → (r : Result (Unit {0}) Ending) → Ended S r → IsStatusOr (outcome_status o) (status r)
-    decided_status o outcome named (Ok done) ended = inl (one_status_of R bytes (Ok ended.text) o (outcome_here ended.request ended.bytes (Ok ended.text) ended.read ended.outcome) outcome (λ wrong. cc) named)
+    pub decided_status : (o : Result (List ℕ) Ending) → IsOutcomeOf S.kinds R bytes o → (o ≡ Err Mem → ⊥) → (r : Result (Unit {0}) Ending) → Ended S r → IsStatusOr (outcome_status o) (status r)
+    decided_status o outcome named (Ok done) ended = inl (one_status_of S.kinds R bytes (Ok ended.text) o (outcome_here ended.request ended.bytes (Ok ended.text) ended.read ended.outcome) outcome (λ wrong. cc) named)
     decided_status o outcome named (Err e) (inl misused) = unasked_not S.words e misused.cause (outcome_status o) R asked
     decided_status o outcome named (Err e) (inr (inl unread)) =
         unread_status (file_of unread.request) e (outcome_status o) (ap file_of (one_request S.words unread.request R unread.asked asked)) unread.cause
     decided_status o outcome named (Err e) (inr (inr (inl textless))) = elim (is_memory e) [
       | inl mem ↦ memory (outcome_status o) e mem
-      | inr other ↦ inl (one_status_of R bytes (Err e) o (outcome_here textless.request textless.bytes (Err e) textless.read textless.outcome) outcome (λ wrong. other (let x : e ≡ Mem = cc in x)) named)
+      | inr other ↦ inl (one_status_of S.kinds R bytes (Err e) o (outcome_here textless.request textless.bytes (Err e) textless.read textless.outcome) outcome (λ wrong. other (let x : e ≡ Mem = cc in x)) named)
     ]
     decided_status o outcome named (Err e) (inr (inr (inr cut))) = cut_status S (outcome_status o) e cut.cause
 
@@ -217,7 +219,7 @@ module _ (S : Around) (held : Files) (told : S.files ≡ Some held) (R : Request
 
 -- the same where the folder may not tell
 pub told_decided : (S : Around) (files : Option Files) (r : Result (Unit {0}) Ending) (n : ℕ) → S.files ≡ files → n ≡ status r → Ended S r
-    → IfSome files (λ held. (R : Request) → (bytes : List ℕ) → (o : Result (List ℕ) Ending) → IsAsked S.words R → held (file_of R) ≡ Some bytes → length bytes ≤ file_limit → IsOutcomeOf R bytes o → (o ≡ Err Mem → ⊥) → IsStatusOr (outcome_status o) n)
+    → IfSome files (λ held. (R : Request) → (bytes : List ℕ) → (o : Result (List ℕ) Ending) → IsAsked S.words R → held (file_of R) ≡ Some bytes → length bytes ≤ file_limit → IsOutcomeOf S.kinds R bytes o → (o ≡ Err Mem → ⊥) → IsStatusOr (outcome_status o) n)
 told_decided S None r n told is ended = tt
 told_decided S (Some held) r n told is ended = λ R bytes o asked there short outcome named. subst (IsStatusOr (outcome_status o)) (sym is) (decided_status S held told R asked bytes there short o outcome named r ended)
 

@@ -10,18 +10,9 @@ use Rattle.mk_replayed.specs.Reports as reports
 use Rattle.mk_checked.specs.Checks as checks
 use Rattle.mosaikrun.specs.declared.commands.TheConstants.{COMMANDS}
 
--- the program can do it: a replay in another order isn't there yet
-abbrev pub IsServed : Request → Type 0
-IsServed (Replay name None) = ⊤
-IsServed (Replay name (Some order)) = ⊥
-IsServed (Run scenario saved) = ⊤
-IsServed (Check scenario) = ⊤
-IsServed (Demo size) = ⊤
-IsServed (Migrate old new) = ⊤
-
 -- the words ask for this, by a command that the program has
 abbrev pub IsAsked : List (List ℕ) → Request → Type 0
-IsAsked words R = IsRequestAmong COMMANDS words R × IsServed R
+IsAsked words R = IsRequestAmong COMMANDS words R
 
 -- the file that is read
 abbrev pub file_of : Request → List ℕ
@@ -31,13 +22,13 @@ file_of (Check scenario) = scenario
 file_of (Demo size) = []
 file_of (Migrate old new) = old
 
--- what a command makes of its file's bytes: the text that it prints, or why there is none
-abbrev pub IsOutcomeOf : Request → List ℕ → Result (List ℕ) Ending → Type 0
-IsOutcomeOf (Replay name order) bytes outcome = reports.IsOutcome bytes outcome
-IsOutcomeOf (Check scenario) bytes outcome = checks.IsOutcome bytes outcome
-IsOutcomeOf (Run scenario saved) bytes outcome = ⊥
-IsOutcomeOf (Demo size) bytes outcome = ⊥
-IsOutcomeOf (Migrate old new) bytes outcome = ⊥
+-- what a command makes of its file's bytes, the kinds within the program having these names: the text that it prints, or why there is none
+abbrev pub IsOutcomeOf : List (List ℕ) → Request → List ℕ → Result (List ℕ) Ending → Type 0
+IsOutcomeOf kinds (Replay name order) bytes outcome = reports.IsOutcome bytes order outcome
+IsOutcomeOf kinds (Check scenario) bytes outcome = checks.IsOutcome kinds bytes outcome
+IsOutcomeOf kinds (Run scenario saved) bytes outcome = ⊥
+IsOutcomeOf kinds (Demo size) bytes outcome = ⊥
+IsOutcomeOf kinds (Migrate old new) bytes outcome = ⊥
 
 -- the words ask for nothing
 abbrev pub IsUnasked : List (List ℕ) → Ending → Type 0

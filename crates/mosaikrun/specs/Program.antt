@@ -9,9 +9,10 @@ use Rattle.mk_endings.specs.declared.ending.Ending.TheVariants.{Output, Mem}
 use Rattle.mk_endings.specs.Endings.{line_of, status_of}
 use Rattle.mosaikrun.specs.Commands.{IsAsked, IsHeld, IsOutcomeOf, IsUnasked, IsUnreadable, file_of}
 
--- what lies around a call of the program: its words, the folder's files, the counts of faults of the folder and of the output before and after, the output's counts of wants of memory, and what the output has taken before and after
+-- what lies around a call of the program: its words, the names of the kinds within it, the folder's files, the counts of faults of the folder and of the output before and after, the output's counts of wants of memory, and what the output has taken before and after
 pub record Around : Type 0 where
   pub words : List (List ℕ)
+  pub kinds : List (List ℕ)
   pub files : Option Files
   pub folder_before : ℕ
   pub folder_after : ℕ
@@ -36,7 +37,7 @@ pub record IsPrinted (S : Around) : Type 0 where
   pub bytes : List ℕ
   pub text : List ℕ
   pub read : IsRead S request bytes
-  pub outcome : IsOutcomeOf request bytes (Ok text)
+  pub outcome : IsOutcomeOf S.kinds request bytes (Ok text)
   pub put : S.after ≡ appended text S.before
 
 -- the words ask for nothing
@@ -56,7 +57,7 @@ pub record IsTextless (S : Around) (e : Ending) : Type 0 where
   pub request : Request
   pub bytes : List ℕ
   pub read : IsRead S request bytes
-  pub outcome : IsOutcomeOf request bytes (Err e)
+  pub outcome : IsOutcomeOf S.kinds request bytes (Err e)
   pub unput : IsUnput S
 
 -- why the output has only a beginning of the text: it failed, or found no memory; that it failed may have to be said as want of memory
@@ -69,7 +70,7 @@ pub record IsCutShort (S : Around) (e : Ending) : Type 0 where
   pub bytes : List ℕ
   pub text : List ℕ
   pub read : IsRead S request bytes
-  pub outcome : IsOutcomeOf request bytes (Ok text)
+  pub outcome : IsOutcomeOf S.kinds request bytes (Ok text)
   pub put : TookBeginning text S.before S.after
   pub cause : IsCutBy S e
 

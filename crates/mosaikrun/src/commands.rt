@@ -3,12 +3,15 @@ ghost use Rattle.std.specs.Prelude.{◌≡◌, Ok, Err, IfOk, IfErr, map};
 ghost use Rattle.std.specs.String.{string_bytes};
 ghost use Rattle.mk_base.specs.Lists.{IsIn};
 ghost use Rattle.mk_words.specs.Requests.{command_of};
+ghost use Rattle.mk_local.specs.Kinds.{name_of};
+ghost use Rattle.mk_local.specs.Registries.{rows_in};
 ghost use Rattle.mk_endings.specs.declared.ending.Ending.TheVariants as ends;
-ghost use Rattle.mosaikrun.specs.Commands.{IsAsked, IsOutcomeOf, IsServed, IsUnasked, file_of};
+ghost use Rattle.mosaikrun.specs.Commands.{IsAsked, IsOutcomeOf, IsUnasked, file_of};
 
 use mk_base::Text;
 use mk_checked::checked;
 use mk_endings::Ending;
+use mk_local::Registry;
 use mk_replayed::reported;
 use mk_words::{Command, Request, read_words};
 use std::alloc::Global;
@@ -22,19 +25,8 @@ pub fn asked(alloc: Global, words: &[String]) -> Result<Request, Ending>
     ensures unasked { IfErr result (λ ending. IsUnasked (map string_bytes words.now) ending) }
 {
     match read_words(alloc, &COMMANDS, words)? {
-        Some(request) => served(request),
+        Some(request) => Ok(request),
         None => Err(Ending::Usage),
-    }
-}
-
-// The request, if the program can do it.
-fn served(request: Request) -> Result<Request, Ending>
-    ensures served { IfOk result (λ same. (same ≡ request) × IsServed request) }
-    ensures unserved { IfErr result (λ ending. (ending ≡ ends.Usage) × (IsServed request → ⊥)) }
-{
-    match request {
-        Request::Replay { order: Some(_), .. } => Err(Ending::Usage),
-        other => Ok(other),
     }
 }
 
@@ -52,14 +44,19 @@ pub fn file_of(request: &Request) -> &str
 }
 
 // What the command makes of its file's bytes.
-pub fn outcome(alloc: Global, request: &Request, bytes: &[u8]) -> Result<Vec<u8>, Ending>
+pub fn outcome(
+    alloc: Global,
+    kinds: &Registry,
+    request: &Request,
+    bytes: &[u8],
+) -> Result<Vec<u8>, Ending>
     requires { IsIn (command_of request.now) COMMANDS }
-    ensures text { IfOk result (λ text. IsOutcomeOf request.now bytes.now (Ok text.items)) }
-    ensures none { IfErr result (λ ending. IsOutcomeOf request.now bytes.now (Err ending)) }
+    ensures text { IfOk result (λ text. IsOutcomeOf (map name_of (rows_in kinds.now)) request.now bytes.now (Ok text.items)) }
+    ensures none { IfErr result (λ ending. IsOutcomeOf (map name_of (rows_in kinds.now)) request.now bytes.now (Err ending)) }
 {
     match request {
-        Request::Replay { .. } => reported(alloc, bytes),
-        Request::Check { .. } => checked(alloc, bytes),
+        Request::Replay { record: _, order } => reported(alloc, bytes, *order),
+        Request::Check { .. } => checked(alloc, &kinds.names(alloc)?, bytes),
         Request::Run { .. } | Request::Demo { .. } | Request::Migrate { .. } => unreachable!(),
     }
 }

@@ -1,8 +1,10 @@
+// The program over folders and sinks in memory.
 ghost use Rattle.std.specs.Prelude.{[], ◌∷◌, ◌≡◌, IfOk};
 
 use crate::top::program;
 use mk_base::{List, Mem};
 use mk_fakes::{MemFolder, MemSink, PlainFolder, PlainSink};
+use mk_local::{EntityStep, Kind, Registry, Turn, sum_turn};
 use mk_outside::{Sink, Wrote};
 use std::alloc::{AllocError, Global};
 use std::test::Fail;
@@ -63,6 +65,7 @@ impl Sink for BitingSink {
 
 #[test]
 fn a_record_is_replayed(rt: HostRuntime) -> Result<(), Fail> {
+    let kinds = Registry::new(rt.alloc());
     let words = words_of(rt.alloc(), "replay", "r")?;
     for (numbers, messages, report) in [
         ("[3,100,2000000]", THREE_GOTS, THREE_STEPS),
@@ -81,6 +84,7 @@ fn a_record_is_replayed(rt: HostRuntime) -> Result<(), Fail> {
                 rt.alloc(),
                 words.as_slice(),
                 &mut folder,
+                &kinds,
                 &mut out,
                 &mut err
             ),
@@ -93,7 +97,34 @@ fn a_record_is_replayed(rt: HostRuntime) -> Result<(), Fail> {
 }
 
 #[test]
+fn a_record_is_replayed_in_another_order(rt: HostRuntime) -> Result<(), Fail> {
+    let kinds = Registry::new(rt.alloc());
+    let mut words = words_of(rt.alloc(), "replay", "r")?;
+    words.push(String::from_str(rt.alloc(), "--order")?)?;
+    words.push(String::from_str(rt.alloc(), "5")?)?;
+    let mut folder = PlainFolder::new(rt.alloc());
+    folder.add(
+        "r",
+        record_of(rt.alloc(), "[3,100,2000000]", THREE_GOTS)?.as_slice(),
+    )?;
+    let mut out = PlainSink::new(rt.alloc());
+    let mut err = PlainSink::new(rt.alloc());
+    let status = program(
+        rt.alloc(),
+        words.as_slice(),
+        &mut folder,
+        &kinds,
+        &mut out,
+        &mut err,
+    );
+    assert_eq!(rt; status, 0);
+    assert_eq!(rt; out.bytes(), THREE_STEPS.as_bytes());
+    Ok(())
+}
+
+#[test]
 fn a_report_is_written_in_pieces_of_each_size(rt: HostRuntime) -> Result<(), Fail> {
+    let kinds = Registry::new(rt.alloc());
     let words = words_of(rt.alloc(), "replay", "r")?;
     let mut folder = PlainFolder::new(rt.alloc());
     folder.add(
@@ -110,6 +141,7 @@ fn a_report_is_written_in_pieces_of_each_size(rt: HostRuntime) -> Result<(), Fai
             rt.alloc(),
             words.as_slice(),
             &mut folder,
+            &kinds,
             &mut out,
             &mut err,
         );
@@ -121,6 +153,7 @@ fn a_report_is_written_in_pieces_of_each_size(rt: HostRuntime) -> Result<(), Fai
 
 #[test]
 fn a_record_without_a_report_gets_a_line(rt: HostRuntime) -> Result<(), Fail> {
+    let kinds = Registry::new(rt.alloc());
     let words = words_of(rt.alloc(), "replay", "r")?;
     for (numbers, messages, wanted, line) in [
         (
@@ -151,6 +184,7 @@ fn a_record_without_a_report_gets_a_line(rt: HostRuntime) -> Result<(), Fail> {
             rt.alloc(),
             words.as_slice(),
             &mut folder,
+            &kinds,
             &mut out,
             &mut err,
         );
@@ -163,24 +197,25 @@ fn a_record_without_a_report_gets_a_line(rt: HostRuntime) -> Result<(), Fail> {
 
 #[test]
 fn words_that_are_no_command_and_a_file_that_is_missing(rt: HostRuntime) -> Result<(), Fail> {
+    let kinds = Registry::new(rt.alloc());
     for (command, name, wanted, line) in [
         (
             "run",
             "r",
             2,
-            "mosaikrun: usage: replay RECORD or check SCENARIO\n",
+            "mosaikrun: usage: replay RECORD [--order N] or check SCENARIO\n",
         ),
         (
             "replay",
             "-r",
             2,
-            "mosaikrun: usage: replay RECORD or check SCENARIO\n",
+            "mosaikrun: usage: replay RECORD [--order N] or check SCENARIO\n",
         ),
         (
             "replay",
             "",
             2,
-            "mosaikrun: usage: replay RECORD or check SCENARIO\n",
+            "mosaikrun: usage: replay RECORD [--order N] or check SCENARIO\n",
         ),
         ("replay", "a\nb", 3, "mosaikrun: a b: no such file\n"),
         (
@@ -198,6 +233,7 @@ fn words_that_are_no_command_and_a_file_that_is_missing(rt: HostRuntime) -> Resu
             rt.alloc(),
             words.as_slice(),
             &mut folder,
+            &kinds,
             &mut out,
             &mut err,
         );
@@ -214,6 +250,11 @@ const TWO_SUMS: &str =
 
 #[test]
 fn a_scenario_is_checked(rt: HostRuntime) -> Result<(), Fail> {
+    let mut kinds = Registry::new(rt.alloc());
+    kinds.add(Kind::new(
+        Turn::Sum,
+        Box::new(rt.alloc(), |s: EntityStep| sum_turn(s))?,
+    ))?;
     let words = words_of(rt.alloc(), "check", "s")?;
     for (more, wanted, text, line) in [
         ("", 0, "sims 2\ngroups 2\nblocks 1\norder A-0 B-0\n", ""),
@@ -241,6 +282,36 @@ fn a_scenario_is_checked(rt: HostRuntime) -> Result<(), Fail> {
             "",
             "mosaikrun: scenario 5: out of range connect[1].time_shifted 0\n",
         ),
+        (
+            "[[sim]]\nname = \"B\"\nlocal = \"none\"\n",
+            3,
+            "",
+            "mosaikrun: launch 4: B-1 unknown kind\n",
+        ),
+        (
+            "[[sim]]\nname = \"C\"\ncommand = \"c 'd\"\n[[sim]]\nname = \"D\"\nlocal = \"none\"\n",
+            3,
+            "",
+            "mosaikrun: launch 2: C-0 bad quote at 2\n",
+        ),
+        (
+            "[[sim]]\nname = \"C\"\ncommand = \"c %(python)s\"\n",
+            3,
+            "",
+            "mosaikrun: launch 3: C-0 bad percent at 2\n",
+        ),
+        (
+            "[[sim]]\nname = \"C\"\ncommand = \"\"\n",
+            3,
+            "",
+            "mosaikrun: launch 1: C-0 empty command\n",
+        ),
+        (
+            "[[connect]]\nfrom = \"b\"\nto = \"a\"\nattrs = [[\"out\", \"in\"]]\n[[sim]]\nname = \"C\"\ncommand = \"\"\n",
+            3,
+            "",
+            "mosaikrun: connect 8: cycle A-0 B-0\n",
+        ),
     ] {
         let mut scenario = Vec::from_slice(rt.alloc(), TWO_SUMS.as_bytes())?;
         scenario.extend_from_slice(more.as_bytes())?;
@@ -252,6 +323,7 @@ fn a_scenario_is_checked(rt: HostRuntime) -> Result<(), Fail> {
             rt.alloc(),
             words.as_slice(),
             &mut folder,
+            &kinds,
             &mut out,
             &mut err,
         );
@@ -264,6 +336,7 @@ fn a_scenario_is_checked(rt: HostRuntime) -> Result<(), Fail> {
 
 #[test]
 fn a_folder_an_output_and_an_error_output_that_fail(rt: HostRuntime) -> Result<(), Fail> {
+    let kinds = Registry::new(rt.alloc());
     let words = words_of(rt.alloc(), "replay", "r")?;
     let mut folder = MemFolder::new(rt.alloc(), first_call(rt.alloc())?);
     folder.add(
@@ -278,6 +351,7 @@ fn a_folder_an_output_and_an_error_output_that_fail(rt: HostRuntime) -> Result<(
             rt.alloc(),
             words.as_slice(),
             &mut folder,
+            &kinds,
             &mut out,
             &mut err
         ),
@@ -289,6 +363,7 @@ fn a_folder_an_output_and_an_error_output_that_fail(rt: HostRuntime) -> Result<(
             rt.alloc(),
             words.as_slice(),
             &mut folder,
+            &kinds,
             &mut out,
             &mut failing_err
         ),

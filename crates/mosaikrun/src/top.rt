@@ -5,6 +5,8 @@ ghost use Rattle.mk_outside.specs.Counts.{HasRisen};
 ghost use Rattle.mk_outside.specs.Folders.{Files, file_limit};
 ghost use Rattle.mk_outside.specs.Sinks.{TookBeginning, appended};
 ghost use Rattle.mk_words.specs.declared.request.Request.{Request};
+ghost use Rattle.mk_local.specs.Kinds.{name_of};
+ghost use Rattle.mk_local.specs.Registries.{rows_in};
 ghost use Rattle.mk_endings.specs.declared.ending.Ending.{Ending};
 ghost use Rattle.mk_endings.specs.declared.ending.Ending.TheVariants as ends;
 ghost use Rattle.mk_endings.specs.Endings.{line_of, outcome_status, status_of};
@@ -14,10 +16,12 @@ ghost use Rattle.mosaikrun.specs.Program.{Ended, EndsWith, IsStatusOr, TookLine}
 use crate::commands::{asked, file_of, outcome};
 use mk_base::Text;
 use mk_endings::Ending;
+use mk_local::Registry;
 use mk_outside::{FileRead, Folder, PutAll, Sink, put_all};
 use std::alloc::Global;
 
 /// Does what the words ask: reads the file that they name, and puts what the command makes of it to `out`. Answers the status.
+/// A scenario's simulators within the program are of these kinds.
 ///
 /// At a status other than 0 `err` gets a line that says why, and `out` gets nothing, or a beginning of the text where it
 /// failed or found no memory. The folder stays as it is.
@@ -25,12 +29,14 @@ pub fn program<D: Folder, K: Sink, E: Sink>(
     alloc: Global,
     words: &[String],
     folder: &mut D,
+    kinds: &Registry,
     out: &mut K,
     err: &mut E,
 ) -> u8
     ensures ended { EndsWith
         (record {
           words = map string_bytes words.now;
+          kinds = map name_of (rows_in kinds.now);
           files = D.files folder.old;
           folder_before = D.faults folder.old;
           folder_after = D.faults folder.new;
@@ -46,7 +52,7 @@ pub fn program<D: Folder, K: Sink, E: Sink>(
     ensures usage { (result ≡ 2) → (R : Request) → IsAsked (map string_bytes words.now) R → ⊥ }
     ensures useless { ((R : Request) → IsAsked (map string_bytes words.now) R → ⊥) → IsStatusOr 2 result }
     ensures decided { IfSome (D.files folder.old) (λ held. (R : Request) → (bytes : List ℕ) → (o : Result (List ℕ) Ending) → IsAsked (map string_bytes words.now) R
-        → held (file_of R) ≡ Some bytes → length bytes ≤ file_limit → IsOutcomeOf R bytes o → (o ≡ Err ends.Mem → ⊥) → IsStatusOr (outcome_status o) result) }
+        → held (file_of R) ≡ Some bytes → length bytes ≤ file_limit → IsOutcomeOf (map name_of (rows_in kinds.now)) R bytes o → (o ≡ Err ends.Mem → ⊥) → IsStatusOr (outcome_status o) result) }
     ensures unreadable { IfSome (D.files folder.old) (λ held. (R : Request) → IsAsked (map string_bytes words.now) R
         → IsNoFile (held (file_of R)) → IsStatusOr 3 result) }
     ensures folder_kept { D.files folder.new ≡ D.files folder.old }
@@ -54,7 +60,7 @@ pub fn program<D: Folder, K: Sink, E: Sink>(
     ensures out_count { K.faults out.old ≤ K.faults out.new }
     ensures err_count { E.faults err.old ≤ E.faults err.new }
 {
-    match answer(alloc, words, folder, out) {
+    match answer(alloc, words, folder, kinds, out) {
         Ok(()) => 0,
         Err(ending) => tell(alloc, ending, err),
     }
@@ -65,10 +71,12 @@ fn answer<D: Folder, K: Sink>(
     alloc: Global,
     words: &[String],
     folder: &mut D,
+    kinds: &Registry,
     out: &mut K,
 ) -> Result<(), Ending>
     ensures ended { Ended (record {
       words = map string_bytes words.now;
+      kinds = map name_of (rows_in kinds.now);
       files = D.files folder.old;
       folder_before = D.faults folder.old;
       folder_after = D.faults folder.new;
@@ -85,7 +93,7 @@ fn answer<D: Folder, K: Sink>(
 {
     let request = asked(alloc, words)?;
     let bytes = file_bytes(alloc, folder, file_of(&request))?;
-    let text = outcome(alloc, &request, bytes.as_slice())?;
+    let text = outcome(alloc, kinds, &request, bytes.as_slice())?;
     match put_all(out, text.as_slice()) {
         PutAll::Done => Ok(()),
         PutAll::Failed => Err(Ending::Output),

@@ -1,5 +1,6 @@
-use Rattle.mk_replayed.proofs.OneOutcome.{one_outcome}
+-- proofs/replaying/record_has_one_outcome/Answers.antt
+use Rattle.mk_replayed.proofs.OneOutcome.{one_outcome, one_text}
 use Rattle.mk_replayed.proofs.replaying.record_has_one_outcome.Goals as goal
 
 pub returns : goal.returns
-returns c = one_outcome
+returns c = record { outcome = one_outcome; report = one_text }

@@ -1,5 +1,7 @@
 use Rattle.std.proofs.Common.{Ok, Err, refl, map}
 use Rattle.std.specs.String.{string_bytes}
+use Rattle.mk_local.specs.Kinds.{name_of}
+use Rattle.mk_local.specs.Registries.{rows_in}
 use Rattle.mosaikrun.specs.Program.{Around}
 use Rattle.mosaikrun.proofs.Answering.{said_ended, told_decided, told_no_file}
 use Rattle.mosaikrun.proofs.top.program.Goals as goal
@@ -8,6 +10,7 @@ pub returns-in-Ok-clause-decided : goal.returns-in-Ok-clause-decided
 returns-in-Ok-clause-decided g c =
     let S : Around = record {
       words = map string_bytes c.args.words.now;
+      kinds = map name_of (rows_in c.args.kinds.now);
       files = g.D.Folder.files c.args.folder.now;
       folder_before = g.D.Folder.faults c.args.folder.now;
       folder_after = g.D.Folder.faults c.answer.new.folder;
@@ -24,6 +27,7 @@ pub returns-in-Ok-clause-unreadable : goal.returns-in-Ok-clause-unreadable
 returns-in-Ok-clause-unreadable g c =
     let S : Around = record {
       words = map string_bytes c.args.words.now;
+      kinds = map name_of (rows_in c.args.kinds.now);
       files = g.D.Folder.files c.args.folder.now;
       folder_before = g.D.Folder.faults c.args.folder.now;
       folder_after = g.D.Folder.faults c.answer.new.folder;
@@ -40,6 +44,7 @@ pub returns-in-Err-clause-ended : goal.returns-in-Err-clause-ended
 returns-in-Err-clause-ended g c =
     let S : Around = record {
       words = map string_bytes c.args.words.now;
+      kinds = map name_of (rows_in c.args.kinds.now);
       files = g.D.Folder.files c.args.folder.now;
       folder_before = g.D.Folder.faults c.args.folder.now;
       folder_after = g.D.Folder.faults c.answer.new.folder;
@@ -58,6 +63,7 @@ pub returns-in-Err-clause-decided : goal.returns-in-Err-clause-decided
 returns-in-Err-clause-decided g c =
     let S : Around = record {
       words = map string_bytes c.args.words.now;
+      kinds = map name_of (rows_in c.args.kinds.now);
       files = g.D.Folder.files c.args.folder.now;
       folder_before = g.D.Folder.faults c.args.folder.now;
       folder_after = g.D.Folder.faults c.answer.new.folder;
@@ -76,6 +82,7 @@ pub returns-in-Err-clause-unreadable : goal.returns-in-Err-clause-unreadable
 returns-in-Err-clause-unreadable g c =
     let S : Around = record {
       words = map string_bytes c.args.words.now;
+      kinds = map name_of (rows_in c.args.kinds.now);
       files = g.D.Folder.files c.args.folder.now;
       folder_before = g.D.Folder.faults c.args.folder.now;
       folder_after = g.D.Folder.faults c.answer.new.folder;

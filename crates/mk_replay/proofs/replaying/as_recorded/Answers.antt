@@ -4,7 +4,7 @@ use Rattle.mk_record.specs.Seen.{came}
 use Rattle.mk_sched.specs.Cores.{CoreState}
 use Rattle.mk_replay.specs.Loops.{CanArrive}
 use Rattle.mk_replay.proofs.Known.{plan_of_record, messages_of_record}
-use Rattle.mk_replay.proofs.replaying.replay.Goals as goal
+use Rattle.mk_replay.proofs.replaying.as_recorded.Goals as goal
 
 pub new-requires-clause-built : goal.new-requires-clause-built
 new-requires-clause-built c = plan_of_record c.args.saved.plan (map came c.args.saved.arrivals) c.requires.built
