@@ -1,14 +1,18 @@
 #!/usr/bin/env python3
 """Runs a built program on the cases beside this file.
 
-`run_cases.py PROGRAM` runs each line of `cases.jsonl` in the folder `cases`: the words of a command, and the exit status,
-standard output and standard error that it must have. It prints what differs, and ends with 'N passed, M failed'.
+`run_cases.py PROGRAM` runs each line of `cases.jsonl`: the words of a command, and the exit status, standard output and
+standard error that it must have. A line with `files`, texts by their names, or `lengths`, how many bytes of 0 stand under
+a name, is run in a folder that holds just these; any other one in the folder `cases`. It prints what differs, and ends
+with 'N passed, M failed'.
 """
 
 import json
+import os
 import pathlib
 import subprocess
 import sys
+import tempfile
 
 
 def main() -> int:
@@ -18,7 +22,14 @@ def main() -> int:
     cases = [json.loads(line) for line in (checks / "cases.jsonl").read_text(encoding="utf-8").splitlines()]
     failed = 0
     for case in cases:
-        ran = subprocess.run([program, *case["words"]], cwd=folder, capture_output=True, timeout=60, check=False)
+        with tempfile.TemporaryDirectory() as room:
+            for name, text in case.get("files", {}).items():
+                (pathlib.Path(room) / name).write_text(text, encoding="utf-8")
+            for name, length in case.get("lengths", {}).items():
+                (pathlib.Path(room) / name).touch()
+                os.truncate(pathlib.Path(room) / name, length)
+            at = room if "files" in case or "lengths" in case else folder
+            ran = subprocess.run([program, *case["words"]], cwd=at, capture_output=True, timeout=60, check=False)
         got = (ran.returncode, ran.stdout.decode("utf-8", "replace"), ran.stderr.decode("utf-8", "replace"))
         want = (case["status"], case["out"], case["err"])
         if got != want:
