@@ -1,0 +1,3 @@
+pub mod OneSim
+pub mod Every
+pub mod Messages
