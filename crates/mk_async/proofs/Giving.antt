@@ -78,7 +78,7 @@ module _ {A B C : Type 0} (g : A → Option B) where
       ap (λ c. c ++ flat_map h xs) (same x m.0 m.2) ∙ ap (λ l. k m.0 ++ l) (flat_same h k same xs m.1 m.3) ∙ ap (flat_map k) (sym m.4)
 
 module _ {X C : Type 0} (f : Json → Option X) where
-  named_map : (h : List ℕ → Json → C) (k : Named X → C) → ((t : Json) (n : Named X) → f t ≡ Some n.value → h n.name t ≡ k n) → (ms : Members) (ns : List (Named X)) → named_by f ms ≡ Some ns → map (λ (m : List ℕ × Json). h m.0 m.1) ms ≡ map k ns
+  pub named_map : (h : List ℕ → Json → C) (k : Named X → C) → ((t : Json) (n : Named X) → f t ≡ Some n.value → h n.name t ≡ k n) → (ms : Members) (ns : List (Named X)) → named_by f ms ≡ Some ns → map (λ (m : List ℕ × Json). h m.0 m.1) ms ≡ map k ns
   named_map h k same ms ns e = map_same (read f) (λ (m : List ℕ × Json). h m.0 m.1) k (λ m n r. let p = parts f m n r in ap (λ i. h i m.1) p.0 ∙ same m.1 n p.1) ms ns e
 
   named_flat : (h : List ℕ → Json → List C) (k : Named X → List C) → ((t : Json) (n : Named X) → f t ≡ Some n.value → h n.name t ≡ k n) → (ms : Members) (ns : List (Named X)) → named_by f ms ≡ Some ns → flat_map (λ (m : List ℕ × Json). h m.0 m.1) ms ≡ flat_map k ns

@@ -1,10 +1,13 @@
 -- The four tests as they are made give the refusal of the definition.
-use Rattle.std.proofs.Common.{◌≡◌, ℕ, Bool, true, false, cond, not, List, Option, Some, None, IsSome, refl, sym, ap, subst, ◌∙◌}
+use Rattle.std.proofs.Common.{◌≡◌, ℕ, Bool, true, false, cond, not, List, Option, Some, None, IsSome, refl, sym, ap, subst, ◌∙◌, option_map, true≢false, Result, Ok, Err}
+use Rattle.std.specs.Prelude.{IfOk}
 use Rattle.mk_base.specs.declared.json.Json.{Json}
+use Rattle.mk_base.proofs.Lists.{none_some, some_same}
 use Rattle.mk_plan.specs.declared.Plan.{Plan}
 use Rattle.mk_plan.specs.Asks.{AskAnswer, Answered, Refused, Lookup, Request, answer, answer_request, content_text, sets_in, is_function, request_of, knows, permits, unknown_name, no_pair}
 use Rattle.mk_async.specs.Asked.{IsRequest, asked_in, refusal_in}
 use Rattle.mk_async.specs.Judged.{tested}
+use Rattle.mk_async.specs.Known.{knows_asked, permits_asked}
 use Rattle.mk_async.specs.declared.request.Asked.{Asked}
 use Rattle.mk_async.proofs.Testing.{both}
 
@@ -15,6 +18,49 @@ tested_last : (k p : Bool) (content : AskAnswer) → refusal_in content ≡ None
 tested_last true true content e = sym e
 tested_last true false content e = refl
 tested_last false p content e = refl
+
+-- a request that was read is there
+pub read_there : (name : List ℕ) (args : List Json) (named : Json) (read : Option Asked) (asked : Asked) → IsRequest read (request_of name args named) → read ≡ Some asked → IsSome (asked_in asked)
+read_there name args named read asked is so = let request = subst (λ (o : Option Asked). IsRequest o (request_of name args named)) so is in subst (λ (o : Option Request). IsSome o) (sym request.0) request.1
+
+-- the tests of a request that is there, by those of what is asked for
+module _ (P : Plan) (s : ℕ) where
+  pub asked_known : (asked : Asked) → IsSome (asked_in asked) → knows_asked P s asked ≡ true → option_map (knows P s) (asked_in asked) ≡ Some true
+  asked_known asked there h = by (asked_in asked) refl there
+    where
+      by : (o : Option Request) → asked_in asked ≡ o → IsSome o → option_map (knows P s) o ≡ Some true
+      by None is there = absurd (true≢false (sym there))
+      by (Some r) is there = ap Some (sym (both P s asked r is).0 ∙ h)
+
+  pub asked_permitted : (asked : Asked) → IsSome (asked_in asked) → permits_asked P s asked ≡ true → option_map (permits P s) (asked_in asked) ≡ Some true
+  asked_permitted asked there h = by (asked_in asked) refl there
+    where
+      by : (o : Option Request) → asked_in asked ≡ o → IsSome o → option_map (permits P s) o ≡ Some true
+      by None is there = absurd (true≢false (sym there))
+      by (Some r) is there = ap Some (sym (both P s asked r is).1 ∙ h)
+
+  pub known_asked : (asked : Asked) → option_map (knows P s) (asked_in asked) ≡ Some true → knows_asked P s asked ≡ true
+  known_asked asked h = by (asked_in asked) refl h
+    where
+      by : (o : Option Request) → asked_in asked ≡ o → option_map (knows P s) o ≡ Some true → knows_asked P s asked ≡ true
+      by None is h = absurd (none_some h)
+      by (Some r) is h = (both P s asked r is).0 ∙ some_same h
+
+  pub known_there : (asked : Asked) → option_map (knows P s) (asked_in asked) ≡ Some true → IsSome (asked_in asked)
+  known_there asked h = by (asked_in asked) h
+    where
+      by : (o : Option Request) → option_map (knows P s) o ≡ Some true → IsSome o
+      by None h = absurd (none_some h)
+      by (Some r) h = refl
+
+  -- a judgement's tests
+  pub passed_known : (r : Result Asked ℕ) (asked : Asked) → IsSome (asked_in asked) → IfOk r (λ a. a ≡ asked) → IfOk r (λ a. knows_asked P s a ≡ true) → IfOk r (λ a. option_map (knows P s) (asked_in a) ≡ Some true)
+  passed_known (Err n) asked there is h = tt
+  passed_known (Ok a) asked there is h = asked_known a (subst (λ b. IsSome (asked_in b)) (sym is) there) h
+
+  pub passed_permitted : (r : Result Asked ℕ) (asked : Asked) → IsSome (asked_in asked) → IfOk r (λ a. a ≡ asked) → IfOk r (λ a. permits_asked P s a ≡ true) → IfOk r (λ a. option_map (permits P s) (asked_in a) ≡ Some true)
+  passed_permitted (Err n) asked there is h = tt
+  passed_permitted (Ok a) asked there is h = asked_permitted a (subst (λ b. IsSome (asked_in b)) (sym is) there) h
 
 module _ (P : Plan) (look : Lookup) (s : ℕ) where
   last_two : (asked : Asked) (o : Option Request) → asked_in asked ≡ o → IsSome o → tested P s asked ≡ refusal_in (answer_request P look s o)

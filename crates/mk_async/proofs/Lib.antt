@@ -1,6 +1,9 @@
+pub mod Depths
 pub mod Entities
 pub mod Giving
 pub mod Judging
 pub mod Reading
 pub mod Relating
+pub mod Sourcing
 pub mod Testing
+pub mod Writing

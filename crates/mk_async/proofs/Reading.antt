@@ -5,8 +5,8 @@ use Rattle.mk_base.specs.declared.json.Json.{Json}
 use Rattle.mk_base.specs.Lists.{all_there}
 use Rattle.mk_base.specs.Trees.{text_in, items_in, members_in, is_datum}
 use Rattle.mk_plan.specs.Asks.{texts_in, members_by, datum_in, Get, Set, RelatedOfEach}
-use Rattle.mk_async.specs.Asked.{named_by}
-use Rattle.mk_async.specs.Forms.{are_texts, each_passes, get_of, is_destinations, is_object_of, is_such, is_texts, is_values, set_of, texts_of}
+use Rattle.mk_async.specs.Asked.{get_in, named_by}
+use Rattle.mk_async.specs.Forms.{are_texts, each_passes, is_destinations, is_object_of, is_such, is_texts, is_values, set_of, texts_of}
 
 module _ {A : Type 0} where
   pub none_there : (b : Bool) (o : Option A) → b ≡ false → is_some o ≡ b → o ≡ None
@@ -52,7 +52,7 @@ sources_form : (ms : List (List ℕ × Json)) → is_some (named_by (members_by 
 sources_form ms = named_form (members_by (members_by datum_in)) is_destinations (object_form (members_by datum_in) is_values (object_form datum_in is_datum datum_form)) ms
 
 -- the requests of each function: there exactly where the test passes
-pub get_there : (ms : List (List ℕ × Json)) → is_some (get_of ms) ≡ each_passes is_texts ms
+pub get_there : (ms : List (List ℕ × Json)) → is_some (get_in ms) ≡ each_passes is_texts ms
 get_there ms = map_there Get (named_by texts_in ms) ∙ named_form texts_in is_texts is_texts_form ms
 
 pub set_there : (ms : List (List ℕ × Json)) → is_some (set_of ms) ≡ each_passes is_destinations ms

@@ -1,6 +1,5 @@
 -- The trees of related entities have the texts of the answer, and are values.
-use Rattle.std.proofs.Common.{◌≡◌, ℕ, ◌-◌, Bool, true, false, ◌&&◌, nat_le, nat_lt, List, [], ◌∷◌, map, fold, Option, Some, None, IsSome, option_map, codes, refl, ap, ◌∙◌, sym, subst, arith, true≢false}
-use Rattle.std.specs.List.{list_all}
+use Rattle.std.proofs.Common.{◌≡◌, ℕ, ◌-◌, Bool, true, nat_le, nat_lt, List, [], ◌∷◌, map, fold, Option, Some, None, IsSome, option_map, codes, refl, ap, ◌∙◌, sym, arith, true≢false}
 use Rattle.std.specs.BTreeMap.{insert_entry}
 use Rattle.std.specs.Ordering.{match_ordering}
 use Rattle.std.specs.declared.cmp.Ordering.{Ordering}
@@ -8,9 +7,9 @@ use Rattle.std.specs.declared.cmp.Ordering.TheVariants.{Less, Equal, Greater}
 use Rattle.std.proofs.lemmas.Map.Lookups.{exact_bytes}
 use Rattle.mk_base.specs.declared.json.Json as tree
 use Rattle.mk_base.specs.Lists.{all_there, put, placed, text_order}
-use Rattle.mk_base.specs.Texts.{text_of, text_step, object_text, quoted}
+use Rattle.mk_base.specs.Texts.{text_of, text_step, object_text}
 use Rattle.mk_base.specs.Trees.{text_in, is_whole, is_in_range, nesting}
-use Rattle.mk_base.proofs.Levels.{whole_members, whole_text, whole_null, members_within, nesting_text, nesting_null}
+use Rattle.mk_base.proofs.Levels.{whole_members, members_within}
 use Rattle.mk_base.proofs.Lists.{some_same}
 use Rattle.mk_base.proofs.OnTrees.{trees_compute}
 use Rattle.mk_json.proofs.LevelTests.{range-Object}
@@ -27,13 +26,13 @@ use Rattle.mk_async.proofs.Testing.{made}
 
 -- ---- texts
 
-abbrev by_name : List ℕ × List ℕ → List ℕ × List ℕ → Ordering
+abbrev pub by_name : List ℕ × List ℕ → List ℕ × List ℕ → Ordering
 by_name a b = text_order a.0 b.0
 
-abbrev put_in : List (List ℕ × List ℕ) → List ℕ × List ℕ → List (List ℕ × List ℕ)
+abbrev pub put_in : List (List ℕ × List ℕ) → List ℕ × List ℕ → List (List ℕ × List ℕ)
 put_in done m = put by_name m done
 
-text_object : (ms : Members) → text_of (tree.Object ms) ≡ object_text (texts ms)
+pub text_object : (ms : Members) → text_of (tree.Object ms) ≡ object_text (texts ms)
 text_object ms = folded-Object (List ℕ) text_step ms
 
 pub text_null : text_of tree.Null ≡ codes "null"
@@ -85,7 +84,7 @@ passes_more p q f [] h = refl
 passes_more p q f (m ∷ ms) h = and_of (q m.1) (each_passes q ms) (f m.1 (first_of _ _ h)) (passes_more p q f ms (rest_of _ _ h))
 
 -- an object fits where its members fit within one less
-fits_object : (d : ℕ) → nat_lt 0 d ≡ true → (ms : Members) → each_passes (fits (d - 1)) ms ≡ true → fits d (tree.Object ms) ≡ true
+pub fits_object : (d : ℕ) → nat_lt 0 d ≡ true → (ms : Members) → each_passes (fits (d - 1)) ms ≡ true → fits d (tree.Object ms) ≡ true
 fits_object d above ms h = and_of _ _ (whole_members ms ∙ passes_more (fits (d - 1)) is_whole (λ t. first_of _ _) ms h)
     (and_of _ _ (members_within ms d above ∙ passes_more (fits (d - 1)) (λ t. nat_le (nesting t) (d - 1)) (λ t g. first_of _ _ (rest_of _ _ g)) ms h)
     (range-Object ms ∙ passes_more (fits (d - 1)) is_in_range (λ t g. rest_of _ _ (rest_of _ _ g)) ms h))

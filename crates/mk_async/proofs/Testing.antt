@@ -71,7 +71,7 @@ module _ (P : Plan) (s : ℕ) where
       by None r = absurd (none_some r)
       by (Some js) r = all_same text_in (λ t. is_such (gives_attr P e) (text_in t)) (gives_attr P e) (such_text (gives_attr P e)) js attrs r
 
-  wants_same : (ms : Members) (wants : List (Named (List (List ℕ)))) → named_by texts_in ms ≡ Some wants → knows_wants P ms ≡ knows P s (Get wants)
+  pub wants_same : (ms : Members) (wants : List (Named (List (List ℕ)))) → named_by texts_in ms ≡ Some wants → knows_wants P ms ≡ knows P s (Get wants)
   wants_same ms wants r = named_same texts_in (knows_want P) (λ w. of_entity P w.name (λ e. list_all (gives_attr P e) w.value)) (λ t w f. of_entity_same P w.name _ _ (λ e. gives_same e t w.value f)) ms wants r
 
   takes_same : (e : ℕ) (t : Json) (values : List (Named Json)) → members_by datum_in t ≡ Some values → is_such (takes_each P e) (members_in t) ≡ list_all (λ a. takes_attr P e a.name) values

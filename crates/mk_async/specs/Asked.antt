@@ -4,7 +4,11 @@ use Rattle.std.specs.List.{list_all}
 use Rattle.mk_base.specs.declared.json.Json.{Json}
 use Rattle.mk_base.specs.Lists.{all_there}
 use Rattle.mk_base.specs.Trees.{text_in, is_in_range}
+use Rattle.mk_plan.specs.declared.Plan.{Plan}
+use Rattle.mk_plan.specs.declared.SetValue.{SetValue}
+use Rattle.mk_plan.specs.Plans.{owner}
 use Rattle.mk_plan.specs.Asks.{Named, Request, Get, Set, Related, RelatedOfEach, AskAnswer, Answered, Refused, texts_in, members_by, datum_in}
+use Rattle.mk_buffers.specs.Standing.{IsSourced}
 use Rattle.mk_async.specs.declared.request.Asked.{Asked}
 use Rattle.mk_async.specs.declared.request.Asked.TheVariants as as_asked
 
@@ -12,9 +16,13 @@ use Rattle.mk_async.specs.declared.request.Asked.TheVariants as as_asked
 abbrev pub named_by : {X : Type 0} → (Json → Option X) → List (List ℕ × Json) → Option (List (Named X))
 named_by {X} f ms = all_there (map (λ (m : List ℕ × Json). option_map (λ x. let p : Named X = record { name = m.0; value = x } in p) (f m.1)) ms)
 
+-- the request for data that these members are
+abbrev pub get_in : List (List ℕ × Json) → Option Request
+get_in ms = option_map Get (named_by texts_in ms)
+
 -- the request, where each part of it has its form
 abbrev pub asked_in : Asked → Option Request
-asked_in (as_asked.Get ms) = option_map Get (named_by texts_in ms.now)
+asked_in (as_asked.Get ms) = get_in ms.now
 asked_in (as_asked.Set ms) = option_map Set (named_by (members_by (members_by datum_in)) ms.now)
 asked_in (as_asked.Related text) = Some (Related text.now)
 asked_in (as_asked.RelatedOfEach trees) = option_map RelatedOfEach (all_there (map text_in trees.now))
@@ -52,3 +60,9 @@ gets (as_asked.Get ms) = true
 gets (as_asked.Set ms) = false
 gets (as_asked.Related text) = false
 gets (as_asked.RelatedOfEach trees) = false
+
+-- the text of a value, set under the full id of an entity of s
+pub record IsGivenBy (P : Plan) (s : ℕ) (w : SetValue) : Type 0 where
+  pub entity : ℕ
+  pub owned : owner P entity ≡ s
+  pub sourced : IsSourced P entity w

@@ -1,4 +1,4 @@
--- The tests of a request's form, as they go through the argument; only proofs need them.
+-- The tests of a request's form, as they go through the argument. For proofs alone.
 use Rattle.std.specs.Prelude.{ℕ, Bool, false, List, [], ◌∷◌, map, Option, Some, None, is_some, option_map, unwrap_or, if◌then◌else◌}
 use Rattle.std.specs.List.{list_all}
 use Rattle.mk_base.specs.declared.json.Json.{Json}
@@ -39,9 +39,6 @@ is_destinations = is_object_of is_values
 -- the requests of each function, by the argument
 abbrev pub get_form : Json → Option Request
 get_form tree = option_map Get (members_by texts_in tree)
-
-abbrev pub get_of : List (List ℕ × Json) → Option Request
-get_of ms = option_map Get (named_by texts_in ms)
 
 abbrev pub set_form : Json → Option Request
 set_form tree = option_map Set (members_by (members_by (members_by datum_in)) tree)

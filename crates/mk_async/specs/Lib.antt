@@ -1,4 +1,5 @@
 pub mod Asked
+pub mod Content
 pub mod Forms
 pub mod Given
 pub mod Judged

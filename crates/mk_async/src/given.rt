@@ -1,10 +1,10 @@
 //! The values that a request sets.
-ghost use Rattle.std.specs.Prelude.{◌≡◌, ◌++◌, ◌∷◌, [], true, Some, IsSome, IfOk, OnOk, option_map, unwrap_or};
+ghost use Rattle.std.specs.Prelude.{◌≡◌, ℕ, All, ◌++◌, ◌∷◌, [], true, Some, IsSome, IfOk, OnOk, option_map, unwrap_or};
 ghost use Rattle.mk_base.specs.Texts.{text_of};
 ghost use Rattle.mk_base.specs.Trees.{is_datum, is_in_range};
-ghost use Rattle.mk_plan.specs.Asks.{entity_of, sets_in};
+ghost use Rattle.mk_plan.specs.Asks.{entity_of, knows, sets_in};
 ghost use Rattle.mk_names.specs.Names.{AreNamesOf};
-ghost use Rattle.mk_async.specs.Asked.{asked_in, is_asked_in_range};
+ghost use Rattle.mk_async.specs.Asked.{IsGivenBy, asked_in, is_asked_in_range};
 ghost use Rattle.mk_async.specs.Forms.{each_passes, is_object_of};
 ghost use Rattle.mk_async.specs.Given.{is_source, is_value, members_of, set_value, values_from, values_in, values_to};
 
@@ -16,7 +16,8 @@ use mk_names::Names;
 use mk_plan::{Plan, SetValue};
 use std::alloc::Global;
 
-/// The values that a request sets, in byte order of source, destination and attribute; none but of `set_data`.
+/// The values that a request sets, in byte order of source, destination and attribute; none but of `set_data`. Where the
+/// request was judged, each is set under the full id of an entity of the asking simulator.
 pub fn given_values(
     alloc: Global,
     plan: &Plan,
@@ -26,7 +27,8 @@ pub fn given_values(
     requires names { AreNamesOf plan.now names.now }
     requires form { IsSome (asked_in asked.now) }
     requires range { is_asked_in_range asked.now ≡ true }
-    ensures { IfOk result (λ sets. option_map (sets_in plan.now) (asked_in asked.now) ≡ Some sets) }
+    ensures sets { IfOk result (λ sets. option_map (sets_in plan.now) (asked_in asked.now) ≡ Some sets) }
+    ensures given { (s : ℕ) → option_map (knows plan.now s) (asked_in asked.now) ≡ Some true → IfOk result (λ sets. All (IsGivenBy plan.now s) sets) }
 {
     let mut sets = List::new(alloc);
     match asked {

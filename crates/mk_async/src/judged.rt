@@ -1,12 +1,13 @@
 //! The judgement of a request, by four tests in order.
-ghost use Rattle.std.specs.Prelude.{◌≡◌, true, IfOk, IsSome};
+ghost use Rattle.std.specs.Prelude.{◌≡◌, true, IfOk, IsSome, Some, option_map};
 ghost use Rattle.std.specs.List.{list_all};
 ghost use Rattle.mk_base.specs.Trees.{is_in_range};
 ghost use Rattle.mk_plan.specs.Plans.{RefersInside};
-ghost use Rattle.mk_plan.specs.Asks.{Lookup, answer, request_of};
+ghost use Rattle.mk_plan.specs.Asks.{Lookup, answer, knows, permits, request_of};
 ghost use Rattle.mk_names.specs.Names.{AreNamesOf};
 ghost use Rattle.mk_async.specs.Asked.{asked_in, is_asked_in_range, refusal_by, refusal_in};
 ghost use Rattle.mk_async.specs.Judged.{tested};
+ghost use Rattle.mk_async.specs.Known.{knows_asked, permits_asked};
 
 use crate::forms::{is_function, request_of};
 use crate::known::knows;
@@ -42,6 +43,8 @@ pub fn judge<'a>(
     ensures refusal { (look : Lookup) → refusal_by result ≡ refusal_in (answer plan.now look sim.0 name.now args.now named.now) }
     ensures request { IfOk result (λ asked. asked_in asked ≡ request_of name.now args.now named.now) }
     ensures there { IfOk result (λ asked. IsSome (asked_in asked)) }
+    ensures known { IfOk result (λ asked. option_map (knows plan.now sim.0) (asked_in asked) ≡ Some true) }
+    ensures permitted { IfOk result (λ asked. option_map (permits plan.now sim.0) (asked_in asked) ≡ Some true) }
     ensures range { list_all is_in_range args.now ≡ true → IfOk result (λ asked. is_asked_in_range asked ≡ true) }
 {
     if !is_function(name) {
@@ -59,6 +62,8 @@ fn test<'a>(plan: &Plan, names: &Names, sim: SimNo, asked: Asked<'a>) -> Result<
     requires names { AreNamesOf plan.now names.now }
     ensures refusal { refusal_by result ≡ tested plan.now sim.0 asked.entry }
     ensures request { IfOk result (λ a. a ≡ asked.entry) }
+    ensures known { IfOk result (λ a. knows_asked plan.now sim.0 a ≡ true) }
+    ensures permitted { IfOk result (λ a. permits_asked plan.now sim.0 a ≡ true) }
 {
     if !knows(plan, names, sim, &asked) {
         Err(UNKNOWN_NAME)

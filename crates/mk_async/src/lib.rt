@@ -1,6 +1,7 @@
-//! The asynchronous requests of a step: why one is refused, or what it asks for, the values that it sets, and its answer where that needs no output.
+//! The asynchronous requests of a step: why one is refused, or what it asks for, the values that it sets, and the content of its answer.
 #![tactic(auto)]
 
+mod data;
 mod forms;
 mod given;
 mod judged;
@@ -11,6 +12,7 @@ mod request;
 #[cfg(test)]
 mod tests;
 
+pub use data::data_content;
 pub use given::given_values;
 pub use judged::judge;
 pub use related::plain_content;

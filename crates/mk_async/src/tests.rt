@@ -162,114 +162,55 @@ fn content(alloc: Global, plan: &Plan, names: &Names, name: &str, arg: &str) -> 
     }
 }
 
-// A request of B to set this value nested so deep.
-fn nested(alloc: Global, depth: u32) -> Result<String, Fail> {
-    let mut text = String::from_str(alloc, r#"[{"B-0.0":{"A-0.0":{"in":"#)?;
-    for _ in 0..depth {
-        text.push_str("[")?;
+// Requests of B, and the numbers of their refusals.
+const REFUSALS: [(&str, &str, u8); 9] = [
+    ("get_progress", "[]", 1),
+    ("get_data", r#"[{"A-0.0":"out"}]"#, 2),
+    ("set_data", r#"[{"B-0.0":{"A-0.0":{"in":0.5}}}]"#, 2),
+    ("get_related_entities", r#"["A-0.0","B-0.0"]"#, 2),
+    ("get_data", r#"[{"A-0.0":["in"]}]"#, 3),
+    ("set_data", r#"[{"B-0.0":{"A-0.0":{"out":1}}}]"#, 3),
+    ("set_data", r#"[{"B-0.0":{"B-0.a.b":{"any":1}}}]"#, 4),
+    ("get_data", r#"[{"A-0.0":["out"]}]"#, 0),
+    ("get_data", "[{}]", 0),
+];
+
+// Which of these is refused by another number, if one is.
+fn other_refusal(alloc: Global, plan: &Plan, names: &Names) -> Result<Option<usize>, Fail>
+    requires references { RefersInside plan.now }
+    requires names { AreNamesOf plan.now names.now }
+{
+    for (place, row) in REFUSALS.iter().enumerate() {
+        if refusal(alloc, plan, names, SimNo(1), row.0, row.1, "{}")? != row.2 {
+            return Ok(Some(place));
+        }
     }
-    for _ in 0..depth {
-        text.push_str("]")?;
-    }
-    text.push_str("}}}]")?;
-    Ok(text)
+    Ok(None)
 }
 
 #[test]
-fn the_first_test_that_fails_refuses(rt: HostRuntime) -> Result<(), Fail> {
+fn requests_are_refused_or_answered(rt: HostRuntime) -> Result<(), Fail> {
     let alloc = rt.alloc();
     let plan = plan(alloc)?;
     check_plan(alloc, &plan)?;
     let names = Names::new(alloc, &plan)?;
-    let deep = nested(alloc, 101)?;
-    let less_deep = nested(alloc, 100)?;
-    for (sim, name, args, named, number) in [
-        (1, "get_progress", "[]", "{}", 1),
-        (1, "get_data", "[]", "{}", 2),
-        (1, "get_data", "[{}]", r#"{"a":1}"#, 2),
-        (1, "get_data", r#"[{"A-0.0":"out"}]"#, "{}", 2),
-        (
-            1,
-            "set_data",
-            r#"[{"B-0.0":{"A-0.0":{"in":0.5}}}]"#,
-            "{}",
-            2,
-        ),
-        (1, "set_data", deep.as_str(), "{}", 2),
-        (1, "get_related_entities", r#"["A-0.0","B-0.0"]"#, "{}", 2),
-        (1, "get_related_entities", r#"[["A-0.0",1]]"#, "{}", 2),
-        (1, "get_data", r#"[{"A-0":[]}]"#, "{}", 3),
-        (1, "get_data", r#"[{"A-0.0":["in"]}]"#, "{}", 3),
-        (1, "set_data", r#"[{"A-0.0":{}}]"#, "{}", 3),
-        (1, "set_data", r#"[{"B-0.0":{"A-0.0":{"out":1}}}]"#, "{}", 3),
-        (1, "get_related_entities", r#"["A-0.2"]"#, "{}", 3),
-        (0, "get_data", r#"[{"A-0.0":["out"]}]"#, "{}", 4),
-        (0, "set_data", r#"[{"A-0.0":{"B-0.0":{"any":1}}}]"#, "{}", 4),
-        (1, "get_data", r#"[{"A-0.0":["out"]}]"#, "{}", 0),
-        (1, "get_data", "[{}]", "{}", 0),
-        (1, "set_data", less_deep.as_str(), "{}", 0),
-        (
-            0,
-            "get_related_entities",
-            r#"[["A-0.0","B-0.a.b"]]"#,
-            "{}",
-            0,
-        ),
-    ] {
-        assert_eq!(rt;
-            refusal(alloc, &plan, &names, SimNo(sim), name, args, named)?,
-            number,
-            "{name} {args}"
-        );
-    }
-    Ok(())
-}
-
-#[test]
-fn values_are_set_in_byte_order(rt: HostRuntime) -> Result<(), Fail> {
-    let alloc = rt.alloc();
-    let plan = plan(alloc)?;
-    check_plan(alloc, &plan)?;
-    let names = Names::new(alloc, &plan)?;
-    let set = sets(
+    assert_eq!(rt; other_refusal(alloc, &plan, &names)?, None);
+    let text =
+        r#"{"B-0.a.b":{"A-0.1":{"in":[1,null]},"A-0.0":{"in":"x"}},"B-0.0":{"A-0.1":{"in":-7}}}"#;
+    assert_eq!(rt;
+        sets(alloc, &plan, &names, text)?.as_str(),
+        "B-0.0 1 in -7\nB-0.a.b 0 in \"x\"\nB-0.a.b 1 in [1,null]\n"
+    );
+    let related = content(
         alloc,
         &plan,
         &names,
-        r#"{"B-0.a.b":{"A-0.1":{"in":[1,null]},"A-0.0":{"in":"x"}},"B-0.0":{"A-0.1":{"in":-7}}}"#,
+        "get_related_entities",
+        r#"["B-0.a.b","A-0.1"]"#,
     )?;
     assert_eq!(rt;
-        set.as_str(),
-        "B-0.0 1 in -7\nB-0.a.b 0 in \"x\"\nB-0.a.b 1 in [1,null]\n"
+        related.as_str(),
+        r#"{"A-0.1":{"A-0.0":{"type":"M"},"B-0.0":{"type":"N"},"B-0.a.b":{"type":"N"}},"B-0.a.b":{}}"#
     );
-    Ok(())
-}
-
-#[test]
-fn related_entities_are_given_with_their_models(rt: HostRuntime) -> Result<(), Fail> {
-    let alloc = rt.alloc();
-    let plan = plan(alloc)?;
-    check_plan(alloc, &plan)?;
-    let names = Names::new(alloc, &plan)?;
-    for (name, arg, text) in [
-        (
-            "get_related_entities",
-            r#""A-0.0""#,
-            r#"{"B-0.0":{"type":"N"}}"#,
-        ),
-        (
-            "get_related_entities",
-            r#"["B-0.a.b","A-0.1"]"#,
-            r#"{"A-0.1":{"A-0.0":{"type":"M"},"B-0.0":{"type":"N"},"B-0.a.b":{"type":"N"}},"B-0.a.b":{}}"#,
-        ),
-        ("get_related_entities", "[]", "{}"),
-        ("set_data", "{}", "null"),
-        ("get_data", "{}", "none"),
-    ] {
-        assert_eq!(rt;
-            content(alloc, &plan, &names, name, arg)?.as_str(),
-            text,
-            "{arg}"
-        );
-    }
     Ok(())
 }

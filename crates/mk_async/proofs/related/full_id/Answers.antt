@@ -1,4 +1,4 @@
-use Rattle.std.proofs.Common.{◌<◌, length, arith}
+use Rattle.std.proofs.Common.{length, arith}
 use Rattle.mk_plan.specs.Plans.{full_id}
 use Rattle.mk_names.proofs.Indexing.{ids_count}
 use Rattle.mk_async.proofs.related.full_id.Goals as goal

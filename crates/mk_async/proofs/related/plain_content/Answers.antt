@@ -1,4 +1,4 @@
-use Rattle.std.proofs.Common.{◌≡◌, option_map, ap, ◌∙◌, subst}
+use Rattle.std.proofs.Common.{option_map, ap, ◌∙◌, subst}
 use Rattle.std.specs.Prelude.{IsSome}
 use Rattle.mk_plan.specs.Asks.{content_text}
 use Rattle.mk_async.specs.Asked.{asked_in}

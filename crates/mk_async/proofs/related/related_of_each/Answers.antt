@@ -1,4 +1,4 @@
-use Rattle.std.proofs.Common.{◌≡◌, ap, ◌∙◌}
+use Rattle.std.proofs.Common.{ap, ◌∙◌}
 use Rattle.mk_base.specs.declared.json.Json as tree
 use Rattle.mk_async.specs.Given.{is_value}
 use Rattle.mk_async.specs.Known.{Members}
