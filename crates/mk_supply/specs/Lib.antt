@@ -1,0 +1,5 @@
+pub mod Outputs
+pub mod Stock
+pub mod Making
+pub mod Asking
+pub mod Gifts
