@@ -1,5 +1,5 @@
 -- The core asks the first simulator that is ready, waits, is over, or has no room.
-use Rattle.std.proofs.Common.{◌≡◌, ◌≢◌, ℕ, ◌+◌, ◌<◌, ◌≤◌, pos, ◌≤ℤ◌, Bool, true, List, [], length, filter, Option, Some, None, Result, Ok, Err, unwrap_or, slice_set, refl, sym, ap, ◌∙◌, subst, inl, inr, arith, IfOk, IfErr, length-set, int_lt, nat_le, if◌then◌else◌}
+use Rattle.std.proofs.Common.{◌≡◌, ◌≢◌, ℕ, ◌+◌, ◌<◌, ◌≤◌, ℤ, pos, ◌≤ℤ◌, true, List, [], ◌∷◌, ◌++◌, length, Option, Some, None, Result, Ok, Err, refl, sym, ap, ◌∙◌, subst, inl, inr, arith, IfOk, is_some, int_lt, nat_le, MatchOption, unwrap_or, true≢false}
 use Rattle.std.proofs.lemmas.Int.{ints}
 use Rattle.std.proofs.lemmas.Bool.{leb-true}
 use Rattle.mk_base.specs.declared.Mem.{Mem}
@@ -7,140 +7,121 @@ use Rattle.mk_base.specs.declared.SimNo.{SimNo}
 use Rattle.mk_base.specs.declared.tier.Tier.{Tier}
 use Rattle.mk_base.proofs.Lists.{none_some}
 use Rattle.mk_plan.specs.declared.Plan.{Plan}
+use Rattle.mk_plan.specs.declared.Input.{Input}
 use Rattle.mk_plan.specs.declared.Entry.{Entry}
 use Rattle.mk_plan.specs.declared.Entry.TheVariants.{Sent}
 use Rattle.mk_plan.specs.declared.Item.TheVariants.{Step}
-use Rattle.mk_plan.specs.Plans.{sim_count}
+use Rattle.mk_plan.specs.Plans.{sim_count, IsValidPlan}
 use Rattle.mk_plan.specs.Deliveries.{supply}
-use Rattle.mk_plan.specs.Due.{due_times}
-use Rattle.mk_plan.specs.Inputs.{is_since, inputs}
-use Rattle.mk_plan.specs.Journals.{View, OpenTurn, Owed, begun, note, view}
+use Rattle.mk_plan.specs.Inputs.{inputs}
+use Rattle.mk_plan.specs.Sequential.{last_time}
+use Rattle.mk_plan.specs.Journals.{View, OpenTurn, Owed, note, note_sent, view}
 use Rattle.mk_plan.specs.Orderly.{IsAllowed, IsNext, IsFirstReady}
-use Rattle.mk_plan.specs.Ready.{pending, IsReady, IsDone}
+use Rattle.mk_plan.specs.Ready.{pending, start, last_step, step_at, IsReady, IsDone}
+use Rattle.mk_plan.specs.Walks.{Reach, nobody, IsEarliest}
 use Rattle.mk_plan.specs.Advance.{IsAdvance}
 use Rattle.mk_confluence.proofs.Headlines.{orderly_finished}
+use Rattle.mk_confluence.proofs.LaterQuestions.{IsMarkOf, earliest_is_mark, unreached_is_mark}
 use Rattle.mk_confluence.proofs.Orders.{somebody_is_ready}
 use Rattle.mk_confluence.proofs.Past.{pending_within}
-use Rattle.mk_confluence.proofs.Reasons.{pending_since, and_both}
-use Rattle.mk_confluence.proofs.Seen.{at_self, not_same}
-use Rattle.mk_sched.specs.declared.sims.Kept.{Kept}
-use Rattle.mk_sched.specs.declared.ready.ReadySim.{ReadySim}
-use Rattle.mk_sched.specs.declared.faults.Ended.{Ended}
+use Rattle.mk_confluence.proofs.Reasons.{and_both}
+use Rattle.mk_agenda.specs.Mirrors.{Mirrors}
+use Rattle.mk_sims.specs.Sims.{AreSimsOf}
+use Rattle.mk_sims.specs.Turns.{IsInRun}
+use Rattle.mk_supply.specs.Stock.{IsStockOf, MayCome}
+use Rattle.mk_sched.specs.declared.kept.Kept.{Kept}
 use Rattle.mk_sched.specs.declared.faults.Ended.TheVariants.{Faulty, OutOfMemory}
-use Rattle.mk_sched.specs.declared.faults.Next.{Next}
+use Rattle.mk_sched.specs.declared.faults.CoreFault.TheVariants.{TooLong}
 use Rattle.mk_sched.specs.declared.faults.Next.TheVariants as next
-use Rattle.mk_sched.specs.Cores.{CoreState}
-use Rattle.mk_sched.specs.Answers.{NextOf, IsOutOfMemory}
-use Rattle.mk_sched.specs.Steps.{IsFirst, dues_in}
-use Rattle.mk_sched.specs.Steps as steps
-use Rattle.mk_sched.specs.Moves.{AskedBy, AdvancedBy, IsInRun, end_after_next}
-use Rattle.mk_sched.specs.Mirrors.{Mirrors, IsSimOf, IsKept}
-use Rattle.mk_sched.proofs.LeftOut.{advance_is}
-use Rattle.mk_sched.proofs.OneSim.{sim_begun}
-use Rattle.mk_sched.proofs.Places.{set_same, set_other}
-use Rattle.mk_sched.proofs.Mirroring.{first_is, nobody_is, some_open, all_shut}
-use Rattle.mk_sched.proofs.Standing.{kept_push, each_set, dues_at}
+use Rattle.mk_sched.specs.Answers.{IsAsked, SomeReady, SomeOpen}
+use Rattle.mk_sched.specs.Kept.{IsCurrent, IsKept, HasAdvanced, core_of}
+use Rattle.mk_sched.proofs.Standing.{kept_push, ended_kept, same_kept}
 
-abbrev pub core_of : Plan → List Entry → Option Ended → CoreState
-core_of P J end = record { plan = P; entries = J; ended = end }
+-- a simulator's mark is the least tiered time at which it may still step, or any where nothing can make it step
+pub mark_of : (P : Plan) (V : View) (s : ℕ) (end : Tier) (o : Option Tier) → MatchOption o ((y : Tier) → Reach P (start P V) nobody s y → ⊥) (λ e. IsEarliest P (start P V) s e) → (m : Tier) → m ≡ unwrap_or o end → IsMarkOf P V s m
+mark_of P V s end None h m is = unreached_is_mark P V s m h
+mark_of P V s end (Some e) h m is = subst (IsMarkOf P V s) (sym is) (earliest_is_mark P V s e h)
 
 module _ (P : Plan) (J : List Entry) (K : Kept) (kept : IsKept P J K None) where
-  now : View
-  now = view P J
+  pub its : IsCurrent P (view P J) (length J) K
+  its = kept.current refl
 
-  its : Mirrors P (view P J) (length J) K
-  its = kept.mirrors refl
+  -- where nothing is open at a simulator its last Step is that of its last act
+  pub last_closed : (s : ℕ) (x : Tier) → IsReady P (view P J) s x → last_step (view P J) s ≡ last_time ((view P J).acts s)
+  last_closed s x ready = ap (λ (o : Option OpenTurn). step_at o (last_time ((view P J).acts s))) ready.closed
 
-  module _ (r : ReadySim) (L : Kept) (M : List Entry) (first : IsFirst P K.sims K.dues (Some r)) (a : AskedBy P K J r.sim r.at L M) where
-    low : r.sim.0 < sim_count P
-    low = (first_is P kept.valid kept.built (view P J) (length J) K its r first).0
+  pub ready_low : (s : ℕ) (x : Tier) → IsReady P (view P J) s x → s < sim_count P
+  ready_low s x ready = (pending_within IsReady IsAdvance P (λ V s x r. r) kept.valid J kept.orderly.0 s x ready.at_pending).2
 
-    ready : IsFirstReady IsReady IsAdvance P (view P J) r.sim.0 r.at
-    ready = (first_is P kept.valid kept.built (view P J) (length J) K its r first).1
+  pub in_run : (s : ℕ) (x : Tier) → IsReady P (view P J) s x → IsInRun x
+  in_run s x ready =
+      let w = pending_within IsReady IsAdvance P (λ V s x r. r) kept.valid J kept.orderly.0 s x ready.at_pending in
+      let u : P.until ≤ℤ pos 1000000000 = kept.valid.well_formed.limits.until.1 in
+      let l : P.loops ≤ 1000 = kept.valid.well_formed.limits.loops.1 in
+      let t = and_both (int_lt x.time P.until) (nat_le x.tier P.loops) w.1 in
+      let e : int_lt x.time P.until ≡ true = t.0 in
+      let k : x.tier ≤ P.loops = leb-true x.tier P.loops t.1 in
+      record { early = w.0; late = grind (arith, ints); low = omega arith }
 
-    was : IsSimOf P ((view P J).acts r.sim.0) ((view P J).open_at r.sim.0) (due_times P (view P J).acts r.sim.0) (length J) r.sim.0 a.state (dues_in K.dues r.sim.0)
-    was = its.each r.sim.0 a.state a.there
-
-    asked_allowed : IsAllowed IsReady IsAdvance P (view P J) (Sent r.sim (Step r.at a.ins P.until))
+  module _ (s : SimNo) (x : Tier) (first : IsFirstReady IsReady IsAdvance P (view P J) s.0 x) (ins : List Input) (given : ins ≡ inputs P (supply P (view P J).acts) s.0 (last_step (view P J) s.0) x) (advance : ℤ) (promise : IsAdvance P (view P J) s.0 x advance) where
+    asked_allowed : IsAllowed IsReady IsAdvance P (view P J) (Sent s (Step x ins advance))
     asked_allowed = (
       its.no_fault,
-      subst (λ (o : Option Owed). IsNext IsReady IsAdvance P (view P J) o (Sent r.sim (Step r.at a.ins P.until))) (sym its.none_owed)
-          (ready, a.inputs (supply P (view P J).acts) its.holds ∙ ap (λ (p : Option Tier). inputs P (supply P (view P J).acts) r.sim.0 p r.at) was.last, advance_is P kept.valid kept.built (view P J) r.sim.0 r.at),
+      subst (λ (o : Option Owed). IsNext IsReady IsAdvance P (view P J) o (Sent s (Step x ins advance))) (sym its.none_owed)
+          (first, given ∙ ap (λ (p : Option Tier). inputs P (supply P (view P J).acts) s.0 p x) (last_closed s.0 x first.0), promise),
     )
 
-    in_run : IsInRun r.at
-    in_run =
-        let w = pending_within IsReady IsAdvance P (λ V s x r. r) kept.valid J kept.orderly.0 r.sim.0 r.at ready.0.at_pending in
-        let u : P.until ≤ℤ pos 1000000000 = kept.valid.well_formed.limits.until.1 in
-        let l : P.loops ≤ 1000 = kept.valid.well_formed.limits.loops.1 in
-        let t = and_both (int_lt r.at.time P.until) (nat_le r.at.tier P.loops) w.1 in
-        let e : int_lt r.at.time P.until ≡ true = t.0 in
-        let k : r.at.tier ≤ P.loops = leb-true r.at.tier P.loops t.1 in
-        record { early = w.0; late = grind (arith, ints); low = omega arith }
+    pub asked_may : MayCome P J (Sent s (Step x ins advance))
+    asked_may = record { valid = kept.valid; orderly = kept.orderly.0; allowed = asked_allowed }
 
-    asked_mirrors : Mirrors P (note P (view P J) (Sent r.sim (Step r.at a.ins P.until))) (length J + 1) (steps.begun K r.sim.0 a.state r.at)
-    asked_mirrors = record {
-      sims = length-set K.sims r.sim.0 (steps.begun_sim a.state r.at) ∙ its.sims;
-      dues = length-set K.dues r.sim.0 (filter (is_since (Some r.at)) (dues_in K.dues r.sim.0)) ∙ its.dues;
-      each = each_set P kept.valid kept.built (view P J) (note P (view P J) (Sent r.sim (Step r.at a.ins P.until))) (length J) (length J + 1) K its (omega arith) r.sim.0 first.0 (steps.begun_sim a.state r.at)
-          (filter (is_since (Some r.at)) (dues_in K.dues r.sim.0)) (slice_set K.dues r.sim.0 (filter (is_since (Some r.at)) (dues_in K.dues r.sim.0)))
-          (dues_at (slice_set K.dues r.sim.0 (filter (is_since (Some r.at)) (dues_in K.dues r.sim.0))) r.sim.0 (filter (is_since (Some r.at)) (dues_in K.dues r.sim.0)) (set_same K.dues r.sim.0 (filter (is_since (Some r.at)) (dues_in K.dues r.sim.0)) (subst (λ (n : ℕ). r.sim.0 < n) (sym its.dues) low)))
-          (λ j other. ap (λ (o : Option (List Tier)). unwrap_or o []) (set_other K.dues r.sim.0 (filter (is_since (Some r.at)) (dues_in K.dues r.sim.0)) j other))
-          (subst (λ (o : Option OpenTurn). IsSimOf P ((view P J).acts r.sim.0) o (due_times P (view P J).acts r.sim.0) (length J + 1) r.sim.0 (steps.begun_sim a.state r.at) (filter (is_since (Some r.at)) (dues_in K.dues r.sim.0)))
-          (sym (at_self P (view P J) r.sim.0 (Some (begun P (view P J) r.sim.0 r.at (Step r.at a.ins P.until)))))
-          (sim_begun P ((view P J).acts r.sim.0) (due_times P (view P J).acts r.sim.0) (length J) r.sim.0 a.state (dues_in K.dues r.sim.0) r.at a.ins P.until
-          (subst (λ (o : Option OpenTurn). IsSimOf P ((view P J).acts r.sim.0) o (due_times P (view P J).acts r.sim.0) (length J) r.sim.0 a.state (dues_in K.dues r.sim.0)) ready.0.closed was) in_run (pending_since P (view P J).acts r.sim.0 r.at ready.0.at_pending)))
-          (λ j other. refl)
-          (λ j other. ap (λ (b : Bool). if b then Some (begun P (view P J) r.sim.0 r.at (Step r.at a.ins P.until)) else (view P J).open_at j) (not_same j r.sim.0 other));
-      wants = its.wants;
-      buffers = its.buffers;
-      holds = its.holds;
-      no_fault = its.no_fault;
-      none_owed = refl;
+    pub asked : (L : Kept) (M : List Entry) → length J ≢ P.entries → M ≡ J ++ Sent s (Step x ins advance) ∷ [] → AreSimsOf P (note_sent P (view P J) s.0 (Step x ins advance)) (length J + 1) L.sims → Mirrors P (note_sent P (view P J) s.0 (Step x ins advance)) L.agenda
+        → IsStockOf P (note_sent P (view P J) s.0 (Step x ins advance)) L.stock → IsKept P M L None × IsAsked (core_of P J None) s (core_of P M None)
+    asked L M room is sims agenda stock = (
+      subst (λ (N : List Entry). IsKept P N L None) (sym is) (kept_push P J K L None (Sent s (Step x ins advance)) kept room asked_allowed (inl refl)
+          (λ going. record { sims = sims; agenda = agenda; stock = stock; no_fault = its.no_fault; none_owed = refl })),
+      record { going = refl; at = x; inputs = ins; advance = advance; allowed = asked_allowed; moved = ap (λ (N : List Entry). core_of P N None) is },
+    )
+
+  -- ---- what is answered
+
+  pub next_asked : (s : SimNo) (L : Kept) (M : List Entry) → IsKept P M L None × IsAsked (core_of P J None) s (core_of P M None) → HasAdvanced P J (Ok (next.Ask s)) L M
+  next_asked s L M h = record { kept = h.0; ok = h.1; err = tt }
+
+  pub next_failed : (e : Mem) (L : Kept) (M : List Entry) → M ≡ J → HasAdvanced P J (Err e) L M
+  next_failed e L M same = record { kept = ended_kept P J K kept M L OutOfMemory same; ok = tt; err = same }
+
+  pub next_full : (s : ℕ) (x : Tier) → IsReady P (view P J) s x → length J ≡ P.entries → HasAdvanced P J (Ok (next.Fault (TooLong P.entries))) K J
+  next_full s x ready full = record {
+    kept = ended_kept P J K kept J K (Faulty (TooLong P.entries)) refl;
+    ok = inr (record { going = refl; named = refl; full = full; ready = (s, x, ready); ended = refl });
+    err = tt;
+  }
+
+  module _ (nobody_ready : (i : ℕ) (x : Tier) → IsReady P (view P J) i x → ⊥) (L : Kept) (sims : L.sims ≡ K.sims) (agenda : L.agenda ≡ K.agenda) (stock : IsStockOf P (view P J) L.stock) where
+    told : IsKept P J L None
+    told = same_kept P J K L kept (record { sims = subst (AreSimsOf P (view P J) (length J)) (sym sims) its.sims; agenda = subst (Mirrors P (view P J)) (sym agenda) its.agenda; stock = stock; no_fault = its.no_fault; none_owed = its.none_owed })
+
+    pub next_waits : (i : ℕ) × (i < sim_count P) × (is_some ((view P J).open_at i) ≡ true) → HasAdvanced P J (Ok next.Wait) L J
+    next_waits t = record {
+      kept = told;
+      ok = record { going = refl; nobody = λ r. nobody_ready r.0 r.1 r.2; waiting = (t.0, (t.1, λ none. true≢false (sym t.2 ∙ ap is_some none))); same = refl };
+      err = tt;
     }
 
-    pub asked_kept : length J ≢ P.entries → IsKept P M L None
-    asked_kept room = subst (λ (N : List Entry). IsKept P N L None) (sym a.entries)
-        (kept_push P J K L None (Sent r.sim (Step r.at a.ins P.until)) kept room asked_allowed (inl refl)
-        (λ going. subst (λ (X : Kept). Mirrors P (note P (view P J) (Sent r.sim (Step r.at a.ins P.until))) (length J + 1) X) (sym a.kept) asked_mirrors))
+    -- nothing is pending where nobody is ready and nothing is open
+    none_pending : ((i : ℕ) → i < sim_count P → (view P J).open_at i ≡ None) → (i : ℕ) → i < sim_count P → pending P (view P J).acts i ≡ None
+    none_pending shut i low = go (pending P (view P J).acts i) refl
+      where
+        go : (o : Option Tier) → pending P (view P J).acts i ≡ o → o ≡ None
+        go None e = refl
+        go (Some y) e = let t = somebody_is_ready IsReady IsAdvance P (λ V s x r. r) kept.valid J kept.orderly.0 shut i y e in absurd (nobody_ready t.0 t.1 t.2)
 
-    pub asked_answer : NextOf (core_of P J None) (next.Ask r.sim) (core_of P M None)
-    asked_answer = record { going = refl; at = r.at; inputs = a.ins; advance = P.until; allowed = asked_allowed; moved = ap (λ (N : List Entry). core_of P N None) a.entries }
+    is_over : ((i : ℕ) → i < sim_count P → (view P J).open_at i ≡ None) → IsDone P (view P J)
+    is_over shut = record { no_fault = its.no_fault; closed = shut; none_pending = none_pending shut }
 
-  -- nothing is pending where nobody is ready and nothing is open
-  none_pending : IsFirst P K.sims K.dues None → ((i : ℕ) → i < sim_count P → (view P J).open_at i ≡ None) → (i : ℕ) → i < sim_count P → pending P (view P J).acts i ≡ None
-  none_pending none shut i low = go (pending P (view P J).acts i) refl
-    where
-      go : (o : Option Tier) → pending P (view P J).acts i ≡ o → o ≡ None
-      go None e = refl
-      go (Some y) e = let t = somebody_is_ready IsReady IsAdvance P (λ V s x r. r) kept.valid J kept.orderly.0 shut i y e in absurd (nobody_is P kept.valid kept.built (view P J) (length J) K its none t.0 t.1 t.2)
-
-  is_over : IsFirst P K.sims K.dues None → ((i : ℕ) → i < sim_count P → (view P J).open_at i ≡ None) → IsDone P (view P J)
-  is_over none shut = record { no_fault = its.no_fault; closed = shut; none_pending = none_pending none shut }
-
-  -- the same journal, at its end
-  pub ended_kept : (M : List Entry) (L : Kept) (end : Ended) → M ≡ J → IsKept P M L (Some end)
-  ended_kept M L end same = subst (λ (N : List Entry). IsKept P N L (Some end)) (sym same) (record { valid = kept.valid; built = kept.built; orderly = kept.orderly; within = kept.within; mirrors = λ e. absurd (none_some (sym e)) })
-
-  pub next_kept : (answer : Result Next Mem) (L : Kept) (M : List Entry) → IfOk answer (λ n. AdvancedBy P K J n L M) → IfErr answer (λ _. M ≡ J) → IsKept P M L (end_after_next answer)
-  next_kept (Ok (next.Ask sim)) L M ok err = asked_kept ok.1.0 L M ok.1.1.0 (subst (λ (s : SimNo). AskedBy P K J s ok.1.0.at L M) (sym ok.1.1.1.0) ok.1.1.1.1) ok.0
-  next_kept (Ok next.Wait) L M ok err = subst (λ (N : List Entry). IsKept P N L None) (sym ok.1.1.1) (subst (λ (X : Kept). IsKept P J X None) (sym ok.1.1.0) kept)
-  next_kept (Ok next.Done) L M ok err = subst (λ (N : List Entry). IsKept P N L None) (sym ok.1.1.1) (subst (λ (X : Kept). IsKept P J X None) (sym ok.1.1.0) kept)
-  next_kept (Ok (next.Fault fault)) L M ok err = ended_kept M L (Faulty fault) ok.1.1.0
-  next_kept (Err e) L M ok err = ended_kept M L OutOfMemory err
-
-  pub next_ok : (answer : Result Next Mem) (L : Kept) (M : List Entry) → IfOk answer (λ n. AdvancedBy P K J n L M) → IfOk answer (λ n. NextOf (core_of P J None) n (core_of P M (end_after_next answer)))
-  next_ok (Ok (next.Ask sim)) L M ok = subst (λ (s : SimNo). NextOf (core_of P J None) (next.Ask s) (core_of P M None)) ok.1.1.1.0 (asked_answer ok.1.0 L M ok.1.1.0 (subst (λ (s : SimNo). AskedBy P K J s ok.1.0.at L M) (sym ok.1.1.1.0) ok.1.1.1.1))
-  next_ok (Ok next.Wait) L M ok = record { going = refl; nobody = λ t. nobody_is P kept.valid kept.built (view P J) (length J) K its ok.0 t.0 t.1 t.2; waiting = some_open P kept.valid kept.built (view P J) (length J) K its ok.1.0; same = ap (λ (N : List Entry). core_of P N None) ok.1.1.1 }
-  next_ok (Ok next.Done) L M ok =
-      let shut = all_shut P kept.valid kept.built (view P J) (length J) K its ok.1.0 in
-      record { going = refl; done = is_over ok.0 shut; finished = orderly_finished P kept.valid J kept.orderly (is_over ok.0 shut); same = ap (λ (N : List Entry). core_of P N None) ok.1.1.1 }
-  next_ok (Ok (next.Fault fault)) L M ok =
-      let r : ReadySim = ok.1.1.1.0 in
-      let t = first_is P kept.valid kept.built (view P J) (length J) K its r ok.1.1.1.1 in
-      inr (record { going = refl; named = ok.1.0; full = ok.0; ready = (r.sim.0, r.at, t.1.0); ended = ap (λ (N : List Entry). core_of P N (Some (Faulty fault))) ok.1.1.0 })
-  next_ok (Err e) L M ok = tt
-
-  pub next_err : (answer : Result Next Mem) (M : List Entry) → IfErr answer (λ _. M ≡ J) → IfErr answer (λ _. IsOutOfMemory (core_of P J None) (core_of P M (end_after_next answer)))
-  next_err (Ok n) M err = tt
-  next_err (Err e) M err = record { no_fault = λ fault e. none_some e; ended = ap (λ (N : List Entry). core_of P N (Some OutOfMemory)) err }
+    pub next_done : ((i : ℕ) → i < sim_count P → (view P J).open_at i ≡ None) → HasAdvanced P J (Ok next.Done) L J
+    next_done shut = record {
+      kept = told;
+      ok = record { going = refl; done = is_over shut; finished = orderly_finished P kept.valid J kept.orderly (is_over shut); same = refl };
+      err = tt;
+    }

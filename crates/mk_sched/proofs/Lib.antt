@@ -1,12 +1,5 @@
-pub mod LeftOut
-pub mod Readiness
-pub mod OneSim
-pub mod Places
-pub mod Mirroring
 pub mod Standing
 pub mod Asked
-pub mod Data
-pub mod Grown
+pub mod Judged
 pub mod Arrived
-pub mod Beginning
-pub mod Shapes
+pub mod TurnEnds

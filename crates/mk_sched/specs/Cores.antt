@@ -1,12 +1,15 @@
--- What a core is seen as, and what stands of every core.
-use Rattle.std.specs.Prelude.{◌≤◌, List, length, Option}
+-- What a core is seen as, what stands of every core, and which messages it takes.
+use Rattle.std.specs.Prelude.{◌≤◌, Bool, true, ◌&&◌, List, length, Option}
+use Rattle.std.specs.List.{list_all}
+use Rattle.mk_base.specs.Trees.{is_in_range}
 use Rattle.mk_plan.specs.declared.Plan.{Plan}
 use Rattle.mk_plan.specs.declared.Entry.{Entry}
+use Rattle.mk_plan.specs.declared.Message.{Message}
+use Rattle.mk_plan.specs.declared.Message.TheVariants.{Ask, Success, Failure}
 use Rattle.mk_plan.specs.Plans.{IsValidPlan}
 use Rattle.mk_plan.specs.Orderly.{IsOrderly}
 use Rattle.mk_plan.specs.Agreement.{Agrees}
 use Rattle.mk_sched.specs.declared.faults.Ended.{Ended}
-use Rattle.mk_sched.specs.Built.{IsBuiltPlan}
 
 -- its plan, the entries of its journal, and what it answers from now on, if it has ended
 pub record CoreState : Type 0 where
@@ -14,10 +17,15 @@ pub record CoreState : Type 0 where
   pub entries : List Entry
   pub ended : Option Ended
 
--- the plan is valid and of a built form; the journal is orderly, agrees with sequential execution, and keeps to the limit of entries
+-- the plan is valid; the journal is orderly, agrees with sequential execution, and keeps to the limit of entries
 pub record Stands (P : Plan) (J : List Entry) : Type 0 where
   pub valid : IsValidPlan P
-  pub built : IsBuiltPlan P
   pub orderly : IsOrderly P J
   pub agrees : Agrees P J
   pub within : length J ≤ P.entries
+
+-- each whole number in the message, in its content or its arguments, is one that a tree may have
+abbrev pub is_message_in_range : Message → Bool
+is_message_in_range (Ask id name args named) = list_all is_in_range args && is_in_range named
+is_message_in_range (Success id content) = is_in_range content
+is_message_in_range (Failure id text) = true

@@ -1,6 +1,3 @@
-pub mod Built
 pub mod Cores
 pub mod Answers
-pub mod Steps
-pub mod Moves
-pub mod Mirrors
+pub mod Kept

@@ -1,49 +1,39 @@
-// How a ready simulator is asked for its Step.
-ghost use Rattle.std.specs.Prelude.{◌≡◌, ◌<◌, ◌^◌, ◌∷◌, ◌++◌, [], length, All, IfOk, IfErr, Some, slice_get};
-ghost use Rattle.mk_base.specs.Tiers.{HasWidth};
-ghost use Rattle.mk_plan.specs.declared.Entry.TheVariants.{Sent};
-ghost use Rattle.mk_plan.specs.declared.Item.TheVariants.{Step};
-ghost use Rattle.mk_plan.specs.Deliveries.{Supply};
-ghost use Rattle.mk_plan.specs.Inputs.{inputs};
-ghost use Rattle.mk_plan.specs.Plans.{RefersInside};
-ghost use Rattle.mk_delivered.specs.Held.{Holds};
-ghost use Rattle.mk_sched.specs.Steps.{begun, begun_sim, IsFirst};
-ghost use Rattle.mk_sched.specs.Moves.{AskedBy, AdvancedBy};
+// How the first simulator that is ready is asked for its step.
+ghost use Rattle.std.specs.Prelude.{◌≡◌, ◌≢◌, ◌<◌, length, None, IfOk, IfErr};
+ghost use Rattle.mk_plan.specs.declared.Plan.{Plan};
+ghost use Rattle.mk_plan.specs.Journals.{view};
+ghost use Rattle.mk_plan.specs.Ready.{IsReady};
+ghost use Rattle.mk_plan.specs.Advance.{IsAdvance};
+ghost use Rattle.mk_plan.specs.Orderly.{IsFirstReady};
+ghost use Rattle.mk_sched.specs.Answers.{IsAsked};
+ghost use Rattle.mk_sched.specs.Kept.{IsKept, HasAdvanced, core_of};
 
+use crate::entries::{is_full, too_long};
 use crate::faults::Next;
-use crate::ready::{any_open, first_ready};
-use crate::sims::{Kept, Sim, since};
-use crate::taking::{is_full, too_long};
-use mk_base::{Mem, SimNo, Tier};
-use mk_plan::{Entry, Item, Journal, Place, Plan};
-use std::alloc::Global;
+use crate::kept::Kept;
+use crate::marks::forget;
+use mk_agenda::Ready;
+use mk_base::Mem;
+use mk_plan::{Entry, Item, Journal, Plan};
+use mk_supply::stock_stays;
 
 // Asks the first simulator that is ready, if the journal has room.
-pub fn advance(
-    alloc: Global,
-    plan: &Plan,
-    kept: &mut Kept,
-    journal: &mut Journal,
-) -> Result<Next, Mem>
-    requires few { length kept.old.sims < 2 ^ 32 }
-    requires dues { length kept.old.dues ≡ length kept.old.sims }
-    requires of_plan { length kept.old.buffers ≡ length plan.now.conns }
-    requires references { RefersInside plan.now }
-    requires widths { All (λ c. HasWidth c.via) plan.now.conns }
-    ensures ok { IfOk result (λ next. AdvancedBy plan.now kept.old journal.old.entries next kept.new journal.new.entries) }
-    ensures err { IfErr result (λ _. journal.new.entries ≡ journal.old.entries) }
+pub fn advance(plan: &Plan, kept: &mut Kept, journal: &mut Journal) -> Result<Next, Mem>
+    requires { IsKept plan.now journal.old.entries kept.old None }
+    ensures { HasAdvanced plan.now journal.old.entries result kept.new journal.new.entries }
 {
-    match first_ready(plan, &kept.sims, &kept.dues) {
+    match kept.agenda.first_ready() {
         Some(ready) => {
             if is_full(plan, journal) {
                 Ok(Next::Fault(too_long(plan)))
             } else {
-                ask(alloc, plan, kept, journal, ready.sim, ready.at)?;
+                ask(kept, journal, ready)?;
                 Ok(Next::Ask(ready.sim))
             }
         }
         None => {
-            if any_open(&kept.sims) {
+            forget(plan, &kept.agenda, &mut kept.stock);
+            if kept.agenda.is_any_open() {
                 Ok(Next::Wait)
             } else {
                 Ok(Next::Done)
@@ -52,50 +42,28 @@ pub fn advance(
     }
 }
 
-// Begins the simulator's step at `at`, and ends the journal with the Step.
-fn ask(
-    alloc: Global,
-    plan: &Plan,
-    kept: &mut Kept,
-    journal: &mut Journal,
-    sim: SimNo,
-    at: Tier,
-) -> Result<(), Mem>
-    requires sims { sim.0 < length kept.old.sims }
-    requires dues { length kept.old.dues ≡ length kept.old.sims }
-    requires of_plan { length kept.old.buffers ≡ length plan.now.conns }
-    requires references { RefersInside plan.now }
-    requires widths { All (λ c. HasWidth c.via) plan.now.conns }
-    ensures ok { IfOk result (λ _. AskedBy plan.now kept.old journal.old.entries sim at kept.new journal.new.entries) }
+// Begins a step of the simulator that is ready, and ends the journal with its Step.
+fn ask(kept: &mut Kept, journal: &mut Journal, ready: Ready) -> Result<(), Mem>
+    requires sims { ready.sim.0 < length kept.old.sims }
+    requires queues { ready.sim.0 < length kept.old.agenda.queues }
+    ensures ok { (P : Plan) → IsKept P journal.old.entries kept.old None → length journal.old.entries ≢ P.entries → IsFirstReady IsReady IsAdvance P (view P journal.old.entries) ready.sim.0 ready.at
+        → IfOk result (λ _. IsKept P journal.new.entries kept.new None × IsAsked (core_of P journal.old.entries None) ready.sim (core_of P journal.new.entries None)) }
     ensures err { IfErr result (λ _. journal.new.entries ≡ journal.old.entries) }
 {
-    let old = *kept.sims.at(sim.0 as usize);
-    let inputs = kept.buffers.inputs_at(alloc, plan, sim, old.last, at)?;
-    let times = since(alloc, kept.dues.at(sim.0 as usize), at)?;
-    let item = Item::Step {
-        at,
-        inputs,
-        max_advance: plan.until,
-    };
-    journal.entries.push(Entry::Sent(sim, item))?;
-    kept.dues.set(sim.0 as usize, times);
-    kept.sims.set(sim.0 as usize, begun_sim(&old, at));
-    Ok(())
-}
-
-// The simulator when its step begins.
-fn begun_sim(sim: &Sim, at: Tier) -> Sim
-    ensures { result ≡ begun_sim sim.now at }
-{
-    Sim {
-        place: Place::Stepping {
+    let Ready { sim, at } = ready;
+    let previous = kept.agenda.last_step(sim);
+    let inputs = kept.stock.inputs_at(sim, previous, at)?;
+    let max_advance = kept.agenda.max_advance(sim, at);
+    journal.entries.push(Entry::Sent(
+        sim,
+        Item::Step {
             at,
-            id: sim.next_id,
-            asks: 0,
+            inputs,
+            max_advance,
         },
-        last: sim.last,
-        next: sim.next,
-        next_id: sim.next_id,
-        heard: sim.heard,
-    }
+    ))?;
+    kept.agenda.step(sim);
+    kept.sims.begin(sim, at);
+    stock_stays();
+    Ok(())
 }

@@ -1,24 +1,16 @@
 // The core: a run of a plan, message by message.
-ghost use Rattle.std.specs.Prelude.{◌≡◌, ◌<◌, ◌^◌, ◌≤◌, ◌∷◌, [], length, true, IfOk, IfErr, OnErr, Some, None, slice_get, filter, pos};
-ghost use Rattle.mk_plan.specs.Due.{is_within};
+ghost use Rattle.std.specs.Prelude.{◌≡◌, ◌<◌, [], true, IfOk, IfErr, None};
 ghost use Rattle.mk_plan.specs.Plans.{IsValidPlan, sim_count};
-ghost use Rattle.mk_plan.specs.Turns.{wanted};
-ghost use Rattle.mk_base.specs.Tiers.{moment};
-ghost use Rattle.mk_sched.specs.Built.{IsBuiltPlan, is_built_message};
-ghost use Rattle.mk_sched.specs.Cores.{CoreState, Stands};
+ghost use Rattle.mk_sched.specs.Cores.{CoreState, Stands, is_message_in_range};
 ghost use Rattle.mk_sched.specs.Answers.{NextOf, ArriveOf, IsOutOfMemory, open_id, id_at};
-ghost use Rattle.mk_sched.specs.Mirrors.{IsNewKept, new_sim};
-ghost use Rattle.mk_sched.specs.Moves.{end_after_next, end_after_arrive};
+ghost use Rattle.mk_sched.specs.Kept.{end_after_next, end_after_arrive};
 
 use crate::asking::advance;
 use crate::faults::{Ended, Next, Taken};
-use crate::ready::place_in;
-use crate::sims::{Kept, Sim, is_within};
+use crate::kept::{Kept, new_kept};
 use crate::taking::take;
-use mk_base::{List, Mem, SimNo, Tier};
-use mk_delivered::Buffers;
+use mk_base::{List, Mem, SimNo};
 use mk_plan::{Journal, Message, Place, Plan};
-use mk_turns::wanted;
 use std::alloc::Global;
 use std::marker::Model;
 
@@ -38,7 +30,7 @@ pub struct Core {
 
 impl Model for Core {
     ghost use Rattle.mk_sched.specs.Cores.{CoreState};
-    ghost use Rattle.mk_sched.specs.Mirrors.{IsKept};
+    ghost use Rattle.mk_sched.specs.Kept.{IsKept};
     ghost use Rattle.mk_base.specs.contracts.json.Json as json;
     ghost use Rattle.std.specs.Coded.{codes};
 
@@ -54,8 +46,7 @@ impl Model for Core {
 impl Core {
     /// The core of a run that has not begun.
     pub fn new(alloc: Global, plan: Plan) -> Result<Core, Mem>
-        requires valid { IsValidPlan plan }
-        requires built { IsBuiltPlan plan }
+        requires { IsValidPlan plan }
         ensures { IfOk result (λ core. core ≡ record { plan = plan; entries = []; ended = None }) }
     {
         let kept = new_kept(alloc, &plan)?;
@@ -83,7 +74,7 @@ impl Core {
             Some(Ended::OutOfMemory) => return Err(Mem),
             None => {}
         }
-        let answer = advance(self.alloc, &self.plan, &mut self.kept, &mut self.journal);
+        let answer = advance(&self.plan, &mut self.kept, &mut self.journal);
         self.ended = end_after_next(&answer);
         answer
     }
@@ -92,7 +83,7 @@ impl Core {
     /// fault it is that fault, and nothing changes; after want of memory it is want of memory.
     pub fn arrive(&mut self, sim: SimNo, message: &Message) -> Result<Taken, Mem>
         requires there { sim.0 < sim_count self.old.plan }
-        requires form { is_built_message message.now ≡ true }
+        requires form { is_message_in_range message.now ≡ true }
         ensures ok { IfOk result (λ taken. ArriveOf self.old sim message.now taken self.new) }
         ensures err { IfErr result (λ _. IsOutOfMemory self.old self.new) }
         ensures stands { Stands self.new.plan self.new.entries }
@@ -119,7 +110,15 @@ impl Core {
         requires there { sim.0 < sim_count self.now.plan }
         ensures { self.now.ended ≡ None → result ≡ open_id self.now sim.0 }
     {
-        id_at(&place_in(&self.kept.sims, sim))
+        if self.ended.is_some() {
+            return None;
+        }
+        id_at(&self.kept.sims.place(sim))
+    }
+
+    /// How many outputs are held, since questions can still reach them.
+    pub fn kept(&self) -> usize {
+        self.kept.stock.kept()
     }
 
     pub fn plan(&self) -> &Plan
@@ -176,50 +175,4 @@ fn id_at(place: &Place) -> Option<u64>
         Place::Stepping { at: _, id, asks: _ } => Some(*id),
         Place::Fetching { at: _, id } => Some(*id),
     }
-}
-
-// What is kept before any entry.
-fn new_kept(alloc: Global, plan: &Plan) -> Result<Kept, Mem>
-    requires few { length plan.now.sims < 2 ^ 32 }
-    ensures { IfOk result (λ kept. IsNewKept plan.now kept) }
-{
-    let mut sims = List::new(alloc);
-    let mut dues = List::new(alloc);
-    let mut wants = List::new(alloc);
-    for (number, sim) in plan.sims.as_slice().iter().enumerate() {
-        sims.push(new_sim(sim.first_id))?;
-        dues.push(new_dues(alloc, plan)?)?;
-        wants.push(wanted(alloc, plan, SimNo(number as u32))?)?;
-    }
-    Ok(Kept {
-        sims,
-        dues,
-        wants,
-        buffers: Buffers::new(alloc, plan)?,
-    })
-}
-
-// A simulator before its first step.
-fn new_sim(first_id: u64) -> Sim
-    ensures { result ≡ new_sim first_id }
-{
-    Sim {
-        place: Place::Idle,
-        last: None,
-        next: None,
-        next_id: first_id,
-        heard: 0,
-    }
-}
-
-// The times at which a time-based simulator is due before its first step.
-fn new_dues(alloc: Global, plan: &Plan) -> Result<List<Tier>, Mem>
-    ensures { IfOk result (λ times. times ≡ filter (is_within plan.now) (moment (pos 0) ∷ [])) }
-{
-    let mut times = List::new(alloc);
-    let start = Tier { time: 0, tier: 0 };
-    if is_within(plan, start) {
-        times.push(start)?;
-    }
-    Ok(times)
 }

@@ -3,13 +3,14 @@
 
 mod asking;
 mod cores;
+mod ending;
+mod entries;
 mod faults;
-mod forms;
-mod outputs;
-mod ready;
-mod sims;
+mod kept;
+mod marks;
 mod taking;
+#[cfg(test)]
+mod tests;
 
 pub use cores::Core;
 pub use faults::{CoreFault, Ended, Next, Taken};
-pub use forms::is_built;

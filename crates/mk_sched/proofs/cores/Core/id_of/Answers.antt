@@ -1,7 +1,6 @@
-use Rattle.std.proofs.Common.{ap, ◌∙◌}
-use Rattle.mk_sched.proofs.cores.Core.id_of.Goals as goal
+use Rattle.std.proofs.Common.{◌∙◌, ap}
 use Rattle.mk_sched.specs.Answers.{id_at}
-use Rattle.mk_sched.proofs.Mirroring.{id_is}
+use Rattle.mk_sched.proofs.cores.Core.id_of.Goals as goal
 
 pub returns : goal.returns
-returns c = rw (← c.self.view_is) (λ going. c.id_at.ensures ∙ ap id_at c.place_in.ensures ∙ id_is _ _ _ _ c.self.invariant going _ (rw (← c.self.view_is) at c.requires.there))
+returns c = rw (← c.self.view_is) (λ going. c.id_at.ensures ∙ ap id_at (c.place.ensures.place _ _ _ (c.self.invariant.current going).sims))

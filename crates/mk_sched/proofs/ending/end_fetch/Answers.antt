@@ -1,0 +1,78 @@
+use Rattle.std.proofs.Common.{◌≡◌, ◌∙◌, [], Option, Ok, refl, sym, ap, subst}
+use Rattle.mk_plan.specs.Journals.{view, ended_turn}
+use Rattle.mk_agenda.specs.declared.outlets.Beyond.{Beyond}
+use Rattle.mk_agenda.specs.Endings.{EndOf}
+use Rattle.mk_sched.specs.declared.faults.CoreFault.{CoreFault}
+use Rattle.mk_sched.specs.declared.faults.Taken.TheVariants as taken
+use Rattle.mk_sched.specs.Kept.{HasTaken}
+use Rattle.mk_sched.proofs.ending.end_fetch.Goals as goal
+use Rattle.mk_sched.proofs.Arrived.{its, got_may, few_entries}
+use Rattle.mk_sched.proofs.TurnEnds.{given_all, next_not_negative, fetch_made, last, taken_limit, taken_ended}
+
+pub end_turn-requires-clause-next : goal.end_turn-requires-clause-next
+end_turn-requires-clause-next c =
+    let P = c.args.plan.now in
+    let J = c.args.journal.now.entries in
+    let K = c.args.kept.now in
+    let s = c.args.sim in
+    let m = c.args.message.now in
+    let judged = c.requires.ends.judged in
+    let now = its P J K s m c.requires.taking in
+    next_not_negative P J K s m c.requires.taking judged.turn judged.right c.next-next.result (c.next-next.ensures P (view P J) _ judged.turn c.args.at c.requires.ends.id m now.sims judged.right.opened judged.same)
+
+pub end_turn-requires-clause-given : goal.end_turn-requires-clause-given
+end_turn-requires-clause-given c =
+    let P = c.args.plan.now in
+    let J = c.args.journal.now.entries in
+    let K = c.args.kept.now in
+    let s = c.args.sim in
+    let m = c.args.message.now in
+    let taking = c.requires.taking in
+    let judged = c.requires.ends.judged in
+    let T = judged.turn in
+    let right = judged.right in
+    let now = its P J K s m taking in
+    let law = c.ends_of_turns.ensures.fetched P (view P J) _ K.sims s.0 T c.args.at c.requires.ends.id m c.args.content.now now.sims taking.there right.opened judged.same c.requires.content in
+    given_all P J K s m taking T right c.as_slice.result.now (c.as_slice.ensures.value ∙ (c.in_ok-outputs.ensures.outputs P now.stock.plan taking.there).given (ended_turn T m) law.0)
+
+pub returns-in-Some : goal.returns-in-Some
+returns-in-Some c =
+    let P = c.args.plan.now in
+    let J = c.args.journal.now.entries in
+    let K = c.args.kept.now in
+    let s = c.args.sim in
+    let m = c.args.message.now in
+    let taking = c.requires.taking in
+    let judged = c.requires.ends.judged in
+    let T = judged.turn in
+    let right = judged.right in
+    let now = its P J K s m taking in
+    let law = c.ends_of_turns.ensures.fetched P (view P J) _ K.sims s.0 T c.args.at c.requires.ends.id m c.args.content.now now.sims taking.there right.opened judged.same c.requires.content in
+    let end = c.in_ok-ended.ensures.ends P J T m (last P J K s m taking T right _ _ _ (c.made_at-made.ensures ∙ fetch_made P J K s m taking T right c.args.at c.args.content.now law) (c.next-next.ensures P (view P J) _ T c.args.at c.requires.ends.id m now.sims right.opened judged.same)
+    (c.as_slice.ensures.value ∙ (c.in_ok-outputs.ensures.outputs P now.stock.plan taking.there).given (ended_turn T m) law.0)) now.agenda in
+    let limit = subst (λ (o : Option Beyond). EndOf P J s T m K.agenda o c.end_turn.new.self) c.in-Some.is end in
+    subst (λ (f : CoreFault). HasTaken P J s m (Ok (taken.Fault f)) (record { sims = K.sims; agenda = c.end_turn.new.self; stock = K.stock }) c.push_message.new.journal.entries) (sym c.limit_by.ensures)
+    (taken_limit P J K s m taking T right c.in-Some.beyond limit.0 (record { sims = K.sims; agenda = c.end_turn.new.self; stock = K.stock }) c.push_message.new.journal.entries c.in_ok-push_message-in-Some.ensures.ok)
+
+pub returns : goal.returns
+returns c =
+    let P = c.args.plan.now in
+    let J = c.args.journal.now.entries in
+    let K = c.args.kept.now in
+    let s = c.args.sim in
+    let m = c.args.message.now in
+    let taking = c.requires.taking in
+    let judged = c.requires.ends.judged in
+    let T = judged.turn in
+    let right = judged.right in
+    let now = its P J K s m taking in
+    let law = c.ends_of_turns.ensures.fetched P (view P J) _ K.sims s.0 T c.args.at c.requires.ends.id m c.args.content.now now.sims taking.there right.opened judged.same c.requires.content in
+    let made_is = c.made_at-made.ensures ∙ fetch_made P J K s m taking T right c.args.at c.args.content.now law in
+    let outs = c.in_ok-outputs.ensures.outputs P now.stock.plan taking.there in
+    let end = c.in_ok-ended.ensures.ends P J T m (last P J K s m taking T right _ _ _ made_is (c.next-next.ensures P (view P J) _ T c.args.at c.requires.ends.id m now.sims right.opened judged.same)
+    (c.as_slice.ensures.value ∙ outs.given (ended_turn T m) law.0)) now.agenda in
+    let fine = subst (λ (o : Option Beyond). EndOf P J s T m K.agenda o c.end_turn.new.self) c.in-None.is end in
+    taken_ended P J K s m taking T right fine.0 (record { sims = c.end.new.self; agenda = c.end_turn.new.self; stock = c.take_outputs.new.self }) c.push_message-in-None.new.journal.entries c.in_ok-push_message-in-None.ensures.ok
+    (c.end.ensures.sims P (view P J) _ m T (few_entries P J K _ taking.kept) now.sims right)
+    fine.1
+    (c.in_ok-take_outputs-in-None.ensures P J m T c.args.content.now (got_may P J K s m taking) right law.0 made_is outs now.stock)
