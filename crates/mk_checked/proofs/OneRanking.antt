@@ -15,7 +15,7 @@ use Rattle.mk_scenario.specs.declared.fault.ScenarioFault.{ScenarioFault}
 use Rattle.mk_scenario.specs.Scenarios.{scenario_of}
 use Rattle.mk_connect.specs.Edges.{edges_of}
 use Rattle.mk_endings.specs.declared.ending.Ending.{Ending}
-use Rattle.mk_endings.specs.declared.ending.Ending.TheVariants.{Usage, Missing, TooLong, Scenario, Cycle, Launch, Record, Refused, Wrong, Failed, LoopLimit, Short, Differs, Folder, Output, Entries, Mem}
+use Rattle.mk_endings.specs.declared.ending.Ending.TheVariants.{Usage, Missing, TooLong, Scenario, Cycle, Launch, Record, Wrong, Failed, LoopLimit, Short, Differs, Folder, Output, Entries, Mem}
 use Rattle.mk_endings.specs.Endings.{outcome_status, status_of}
 use Rattle.mk_launch.specs.Ready.{CanBegin, IsPrepared}
 use Rattle.mk_checked.specs.Checks.{AreRanks, IsChecked, IsCircular, IsOutcome, IsUnchecked, IsUnprepared}
@@ -101,7 +101,6 @@ text_or_fault kinds bytes text (Scenario fault) a h = absurd (scenario_or_fault 
 text_or_fault kinds bytes text (Cycle ids) a h = absurd (checked_no_cycle kinds bytes text ids a h)
 text_or_fault kinds bytes text (Launch sim fault) a h = absurd (prepared_no_fault kinds bytes text (Launch sim fault) a h)
 text_or_fault kinds bytes text (Record line fault) a h = absurd h
-text_or_fault kinds bytes text Refused a h = absurd h
 text_or_fault kinds bytes text (Wrong sim place cause) a h = absurd h
 text_or_fault kinds bytes text (Failed sim said) a h = absurd h
 text_or_fault kinds bytes text (LoopLimit sim time) a h = absurd h
@@ -121,7 +120,6 @@ fault_status kinds bytes (Scenario fault) h = inr refl
 fault_status kinds bytes (Cycle ids) h = inr refl
 fault_status kinds bytes (Launch sim fault) h = inr refl
 fault_status kinds bytes (Record line fault) h = absurd h
-fault_status kinds bytes Refused h = absurd h
 fault_status kinds bytes (Wrong sim place cause) h = absurd h
 fault_status kinds bytes (Failed sim said) h = absurd h
 fault_status kinds bytes (LoopLimit sim time) h = absurd h

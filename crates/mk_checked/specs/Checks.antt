@@ -59,7 +59,6 @@ IsUnchecked kinds bytes ends.Usage = ⊥
 IsUnchecked kinds bytes (ends.Missing name) = ⊥
 IsUnchecked kinds bytes (ends.TooLong name count) = ⊥
 IsUnchecked kinds bytes (ends.Record line fault) = ⊥
-IsUnchecked kinds bytes ends.Refused = ⊥
 IsUnchecked kinds bytes (ends.Wrong sim place cause) = ⊥
 IsUnchecked kinds bytes (ends.Failed sim text) = ⊥
 IsUnchecked kinds bytes (ends.LoopLimit sim time) = ⊥

@@ -2,7 +2,7 @@
 use Rattle.std.specs.Prelude.{ℕ, ◌||◌, List, ◌∷◌, ◌++◌, map, flat_map, ◌==◌, if◌then◌else◌, codes, Result, Ok, Err}
 use Rattle.std.specs.Fmt.{decimal, signed_decimal}
 use Rattle.mk_endings.specs.declared.ending.Ending.{Ending}
-use Rattle.mk_endings.specs.declared.ending.Ending.TheVariants.{Usage, Missing, TooLong, Scenario, Cycle, Launch, Record, Refused, Wrong, Failed, LoopLimit, Short, Differs, Folder, Output, Entries, Mem}
+use Rattle.mk_endings.specs.declared.ending.Ending.TheVariants.{Usage, Missing, TooLong, Scenario, Cycle, Launch, Record, Wrong, Failed, LoopLimit, Short, Differs, Folder, Output, Entries, Mem}
 use Rattle.mk_endings.specs.Launches.{text_of_launch}
 use Rattle.mk_endings.specs.Scenarios.{text_of_scenario}
 
@@ -15,7 +15,6 @@ text_of (Scenario fault) = text_of_scenario fault
 text_of (Cycle sims) = codes "connect 8: cycle" ++ flat_map (λ id. 32 ∷ id) sims
 text_of (Launch sim fault) = text_of_launch sim fault
 text_of (Record line fault) = codes "record: line " ++ decimal line ++ codes " fault " ++ decimal fault
-text_of Refused = codes "record: refused"
 text_of (Wrong sim place cause) = codes "run 1: " ++ sim ++ codes " message " ++ decimal place ++ codes " cause " ++ decimal cause
 text_of (Failed sim text) = codes "run 2: " ++ sim ++ codes " failed: " ++ text
 text_of (LoopLimit sim time) = codes "run 3: " ++ sim ++ codes " loop limit at " ++ signed_decimal time
@@ -43,7 +42,6 @@ status_of (Scenario fault) = 3
 status_of (Cycle sims) = 3
 status_of (Launch sim fault) = 3
 status_of (Record line fault) = 3
-status_of Refused = 3
 status_of (Wrong sim place cause) = 5
 status_of (Failed sim text) = 5
 status_of (LoopLimit sim time) = 5

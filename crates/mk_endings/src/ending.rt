@@ -22,8 +22,6 @@ pub enum Ending {
     Launch { sim: Text, fault: LaunchFault },
     /// The file is no record, by the first line, counted from 1, that has a fault, and the fault's number.
     Record { line: u64, fault: u8 },
-    /// The record is of a form that can't be replayed yet.
-    Refused,
     /// A simulator's message, by its place among those of this simulator, counted from 0, is wrong.
     Wrong { sim: Text, place: u64, cause: u8 },
     /// A simulator sent a failure reply with this text.
@@ -65,7 +63,7 @@ impl Ending {
             Ending::Usage => 2,
             Ending::Missing { .. } | Ending::TooLong { .. } => 3,
             Ending::Scenario(_) | Ending::Cycle { .. } | Ending::Launch { .. } => 3,
-            Ending::Record { .. } | Ending::Refused => 3,
+            Ending::Record { .. } => 3,
             Ending::Wrong { .. } | Ending::Failed { .. } => 5,
             Ending::LoopLimit { .. } | Ending::Short { .. } | Ending::Differs { .. } => 5,
             Ending::Folder | Ending::Output => 6,

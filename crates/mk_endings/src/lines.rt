@@ -51,7 +51,6 @@ impl Ending {
                 put(out, " fault ")?;
                 put_number(alloc, out, *fault as u64)
             }
-            Ending::Refused => put(out, "record: refused"),
             Ending::Wrong { sim, place, cause } => put_wrong(alloc, out, sim, *place, *cause),
             Ending::Failed { sim, text } => {
                 put(out, "run 2: ")?;

@@ -1,12 +1,10 @@
 -- What the answers on a line mean.
-use Rattle.std.specs.Prelude.{◌≡◌, ℕ, ◌+◌, ◌<◌, length, ◌≤◌, Bool, true, false, List, [], map, All, Some, IsSome, ⊤}
+use Rattle.std.specs.Prelude.{◌≡◌, ℕ, ◌+◌, ◌<◌, length, ◌≤◌, Bool, true, false, List, [], map, All, IsSome, ⊤}
 use Rattle.mk_valid.specs.Tests.{first_bad}
-use Rattle.mk_base.specs.declared.json.Json.{Json}
-use Rattle.mk_base.specs.Trees.{is_in_range}
 use Rattle.mk_plan.specs.declared.Plan.{Plan}
-use Rattle.mk_plan.specs.Acts.{content_of}
 use Rattle.mk_plan.specs.Journals.{Arrival}
 use Rattle.mk_plan.specs.Plans.{sim_count, IsValidPlan}
+use Rattle.mk_message.specs.Written.{is_in_range}
 use Rattle.mk_record.specs.declared.faults.LineFault.{LineFault}
 use Rattle.mk_record.specs.declared.faults.LineFault.TheVariants as fault
 use Rattle.mk_record.specs.declared.faults.RecordFault.{RecordFault}
@@ -25,10 +23,10 @@ abbrev pub IsBadStep : Step → LineFault → Type 0
 IsBadStep step (fault.Bad n) = step ≡ Bad n
 IsBadStep step fault.Mem = ⊤
 
--- the message came from a simulator of the plan, and each whole number in its content is in range
+-- the message came from a simulator of the plan, and each whole number in its content or arguments is in range
 pub record IsKnown (P : Plan) (a : Arrival) : Type 0 where
   pub sim : a.sim < sim_count P
-  pub in_range : (content : Json) → content_of a.message ≡ Some content → is_in_range content ≡ true
+  pub in_range : is_in_range a.message ≡ true
 
 -- what holds of the lines so far: from the first `ask` or `got` line on the plan is valid, before it no message came, and each message is known
 pub record IsSound (p : Progress) : Type 0 where

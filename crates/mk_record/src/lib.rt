@@ -1,7 +1,6 @@
 //! Records: the plan of a run, the messages that came in it, and the steps that were asked for, as a text of lines.
 #![tactic(auto)]
 
-mod built;
 mod faults;
 mod fields;
 mod kinds;
@@ -10,7 +9,6 @@ mod parts;
 mod read;
 mod saved;
 
-pub use built::is_built;
 pub use faults::RecordFault;
 pub use read::read_record;
 pub use saved::{Arrival, Asked, Saved};

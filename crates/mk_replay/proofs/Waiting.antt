@@ -10,7 +10,7 @@ use Rattle.mk_plan.specs.declared.Message.{Message}
 use Rattle.mk_plan.specs.Journals.{Arrival}
 use Rattle.mk_record.specs.declared.saved.Arrival as saved
 use Rattle.mk_record.specs.Seen.{came}
-use Rattle.mk_sched.specs.Built.{is_built_message}
+use Rattle.mk_sched.specs.Cores.{is_message_in_range}
 use Rattle.mk_replay.specs.Replays.{messages_from}
 use Rattle.mk_replay.specs.Rounds.{AreWaiting, AreFit}
 
@@ -57,7 +57,7 @@ waiting_more n lists h = record {
 pub fit_more : (n : ℕ) (lists : List (List Message)) → AreFit n lists → AreFit (n + 1) (lists ++ [] ∷ [])
 fit_more n lists h = record {
   all = length-append lists ([] ∷ []) ∙ ap (λ k. k + 1) h.all;
-  each = λ i left e. elim (last_or_there lists [] left i e) [ inl there ↦ h.each i left there | inr last ↦ ap (list_all is_built_message) last ];
+  each = λ i left e. elim (last_or_there lists [] left i e) [ inl there ↦ h.each i left there | inr last ↦ ap (list_all is_message_in_range) last ];
 }
 
 -- ---- a message is put behind those of its simulator
@@ -70,10 +70,10 @@ module _ (n : ℕ) (lists : List (List Message)) (i : ℕ) (more : List Message)
     | inr apart ↦ inr (apart, sym (set_else lists i k more apart) ∙ e)
   ]
 
-  pub fit_changed : AreFit n lists → i < length lists → list_all is_built_message more ≡ true → AreFit n (slice_set lists i more)
-  fit_changed h low built = record {
+  pub fit_changed : AreFit n lists → i < length lists → list_all is_message_in_range more ≡ true → AreFit n (slice_set lists i more)
+  fit_changed h low ranged = record {
     all = length_set lists i more ∙ h.all;
-    each = λ k l e. elim (changed k l low e) [ inl t ↦ ap (list_all is_built_message) t.1 ∙ built | inr t ↦ h.each k l t.1 ];
+    each = λ k l e. elim (changed k l low e) [ inl t ↦ ap (list_all is_message_in_range) t.1 ∙ ranged | inr t ↦ h.each k l t.1 ];
   }
 
   -- the lists are those of A behind C, if this one is, and the others were those of B behind D with the same in them
@@ -97,22 +97,22 @@ waiting_put n a A lists left h there = waiting_changed n lists a.sim (left ++ a.
     (front_of a A a.sim ∙ ap (λ (l : List Message). l ++ messages_from A a.sim) (one_here a a.sim refl) ∙ ap (λ (l : List Message). a.message ∷ l) (h.each a.sim left there) ∙ sym (reversed left a.message))
     (λ k apart. (front_of a A k ∙ ap (λ (l : List Message). l ++ messages_from A k) (one_else a k apart), refl))
 
-pub fit_put : (n i : ℕ) (m : Message) (lists : List (List Message)) (left : List Message) → AreFit n lists → slice_get lists i ≡ Some left → is_built_message m ≡ true → AreFit n (slice_set lists i (left ++ m ∷ []))
-fit_put n i m lists left h there built = fit_changed n lists i (left ++ m ∷ []) h (get_is lists i left there).0 (list_all-append is_built_message left (m ∷ []) ∙ and_from _ _ (h.each i left there) (and_from _ _ built refl))
+pub fit_put : (n i : ℕ) (m : Message) (lists : List (List Message)) (left : List Message) → AreFit n lists → slice_get lists i ≡ Some left → is_message_in_range m ≡ true → AreFit n (slice_set lists i (left ++ m ∷ []))
+fit_put n i m lists left h there ranged = fit_changed n lists i (left ++ m ∷ []) h (get_is lists i left there).0 (list_all-append is_message_in_range left (m ∷ []) ∙ and_from _ _ (h.each i left there) (and_from _ _ ranged refl))
 
 -- ---- the last message of a simulator is given
 
 module _ (n : ℕ) (lists : List (List Message)) (i : ℕ) (left less : List Message) (m : Message) (there : slice_get lists i ≡ Some left) (parts : left ≡ less ++ m ∷ []) where
-  built_parts : AreFit n lists → (list_all is_built_message less ≡ true) × (is_built_message m ≡ true)
-  built_parts h =
-      let t = and_parts (list_all is_built_message less) (list_all is_built_message (m ∷ [])) (sym (list_all-append is_built_message less (m ∷ [])) ∙ ap (list_all is_built_message) (sym parts) ∙ h.each i left there) in
-      (t.0, (and_parts (is_built_message m) true t.1).0)
+  fit_parts : AreFit n lists → (list_all is_message_in_range less ≡ true) × (is_message_in_range m ≡ true)
+  fit_parts h =
+      let t = and_parts (list_all is_message_in_range less) (list_all is_message_in_range (m ∷ [])) (sym (list_all-append is_message_in_range less (m ∷ [])) ∙ ap (list_all is_message_in_range) (sym parts) ∙ h.each i left there) in
+      (t.0, (and_parts (is_message_in_range m) true t.1).0)
 
-  pub message_fits : AreFit n lists → is_built_message m ≡ true
-  message_fits h = (built_parts h).1
+  pub message_fits : AreFit n lists → is_message_in_range m ≡ true
+  message_fits h = (fit_parts h).1
 
   pub fit_given : AreFit n lists → AreFit n (slice_set lists i less)
-  fit_given h = fit_changed n lists i less h (get_is lists i left there).0 (built_parts h).0
+  fit_given h = fit_changed n lists i less h (get_is lists i left there).0 (fit_parts h).0
 
   pub waiting_given : (A C : List Arrival) → AreWaiting n A C lists → AreWaiting n A (C ++ record { sim = i; message = m } ∷ []) (slice_set lists i less)
   waiting_given A C h =
@@ -126,7 +126,7 @@ module _ (n : ℕ) (lists : List (List Message)) (i : ℕ) (left less : List Mes
 
 module _ (n : ℕ) (all left less done : List saved.Arrival) (a : saved.Arrival) (lists new : List (List Message)) where
   abbrev Fits : saved.Arrival → Type 0
-  Fits x = (x.sim.0 < n) × (is_built_message x.message ≡ true)
+  Fits x = (x.sim.0 < n) × (is_message_in_range x.message ≡ true)
 
   pub parts_put : all ≡ left ++ done → left ≡ less ++ a ∷ [] → all ≡ less ++ (a ∷ done)
   parts_put whole last = whole ∙ ap (λ (l : List saved.Arrival). l ++ done) last ∙ append_assoc less (a ∷ []) done

@@ -17,15 +17,14 @@ use Rattle.mk_sched.specs.declared.faults.CoreFault.{CoreFault}
 use Rattle.mk_sched.specs.declared.faults.CoreFault.TheVariants.{TooLong}
 use Rattle.mk_sched.specs.declared.faults.Next.{Next}
 use Rattle.mk_sched.specs.declared.faults.Next.TheVariants.{Ask, Wait, Done, Fault}
-use Rattle.mk_sched.specs.Built.{is_built_message}
-use Rattle.mk_sched.specs.Cores.{CoreState, Stands}
+use Rattle.mk_sched.specs.Cores.{CoreState, Stands, is_message_in_range}
 use Rattle.mk_sched.specs.Answers.{SomeReady, SomeOpen, open_id}
 use Rattle.mk_replay.specs.declared.replaying.ReplayEnd.{ReplayEnd}
 use Rattle.mk_replay.specs.Replays.{IsReplay, IsLastFaulty, IsTooLong, EndsBy}
 
 -- the core takes the message
 abbrev pub CanArrive : Plan → Arrival → Type 0
-CanArrive P a = (a.sim.0 < sim_count P) × (is_built_message a.message ≡ true)
+CanArrive P a = (a.sim.0 < sim_count P) × (is_message_in_range a.message ≡ true)
 
 -- no message came while a simulator was ready
 abbrev pub IsPatient : Plan → List Entry → Type 0

@@ -1,7 +1,6 @@
 -- What stands from one message to the next in a replay in another order.
-use Rattle.std.specs.Prelude.{◌≡◌, ℕ, ◌<◌, ◌≤◌, ◌⊎◌, Bool, true, false, ◌&&◌, ◌||◌, ◌==◌, not, List, [], ◌∷◌, ◌++◌, length, filter, map, reverse, Option, Some, None, is_some, slice_get, slice_set, ◌-◌}
+use Rattle.std.specs.Prelude.{◌≡◌, ℕ, ◌<◌, ◌≤◌, ◌⊎◌, Bool, true, false, ◌&&◌, ◌||◌, ◌==◌, not, List, [], ◌∷◌, ◌++◌, length, filter, reverse, Option, Some, None, is_some, slice_get, slice_set, ◌-◌}
 use Rattle.std.specs.List.{range_with_len, list_all}
-use Rattle.mk_base.specs.declared.SimNo.{SimNo}
 use Rattle.mk_plan.specs.declared.Message.{Message}
 use Rattle.mk_plan.specs.declared.Entry.{Entry}
 use Rattle.mk_plan.specs.declared.Entry.TheVariants.{Got}
@@ -9,8 +8,7 @@ use Rattle.mk_plan.specs.Plans.{sim_count}
 use Rattle.mk_plan.specs.Journals as journals
 use Rattle.mk_plan.specs.Journals.{arrivals}
 use Rattle.mk_sched.specs.declared.faults.CoreFault.{CoreFault}
-use Rattle.mk_sched.specs.Cores.{CoreState}
-use Rattle.mk_sched.specs.Built.{is_built_message}
+use Rattle.mk_sched.specs.Cores.{CoreState, is_message_in_range}
 use Rattle.mk_sched.specs.Answers.{open_id}
 use Rattle.mk_replay.specs.declared.replaying.ReplayEnd.{ReplayEnd}
 use Rattle.mk_replay.specs.declared.replaying.ReplayEnd.TheVariants.{Core}
@@ -29,7 +27,7 @@ pub record AreWaiting (count : ℕ) (A came : List journals.Arrival) (waiting : 
 -- the core takes each of them
 pub record AreFit (count : ℕ) (waiting : List (List Message)) : Type 0 where
   pub all : length waiting ≡ count
-  pub each : (i : ℕ) (left : List Message) → slice_get waiting i ≡ Some left → list_all is_built_message left ≡ true
+  pub each : (i : ℕ) (left : List Message) → slice_get waiting i ≡ Some left → list_all is_message_in_range left ≡ true
 
 abbrev pub is_some_left : Option (List Message) → Bool
 is_some_left None = false

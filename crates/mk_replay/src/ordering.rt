@@ -5,7 +5,7 @@ ghost use Rattle.mk_plan.specs.declared.Message.{Message};
 ghost use Rattle.mk_plan.specs.Plans.{sim_count};
 ghost use Rattle.mk_record.specs.Seen.{came};
 ghost use Rattle.mk_sched.specs.Answers.{open_id};
-ghost use Rattle.mk_sched.specs.Built.{is_built_message};
+ghost use Rattle.mk_sched.specs.Cores.{is_message_in_range};
 ghost use Rattle.mk_replay.specs.Loops.{IsUnready};
 ghost use Rattle.mk_replay.specs.Orders.{after_draw, chosen, drawn, next_number};
 ghost use Rattle.mk_replay.specs.Rounds.{AreFit, AreWaiting, CanGoOn, GivenMessage, GivenNext, HasEnded, HasMoved, IsBetween, IsPopped, RoundOf, next_among};
@@ -31,7 +31,7 @@ pub fn split(
     count: usize,
     arrivals: List<Arrival>,
 ) -> Result<Vec<List<Message>>, Mem>
-    requires { All (λ a. (a.sim.0 < count) × (is_built_message a.message ≡ true)) arrivals }
+    requires { All (λ a. (a.sim.0 < count) × (is_message_in_range a.message ≡ true)) arrivals }
     ensures waiting { IfOk result (λ waiting. AreWaiting count (map came arrivals) [] waiting.items) }
     ensures fit { IfOk result (λ waiting. AreFit count waiting.items) }
 {
@@ -151,7 +151,7 @@ fn give_next(
 fn give_message(core: &mut Core, sim: SimNo, message: Message) -> Result<Given, Mem>
     requires going { core.old.ended ≡ None }
     requires there { sim.0 < sim_count core.old.plan }
-    requires form { is_built_message message ≡ true }
+    requires form { is_message_in_range message ≡ true }
     requires nobody { IsUnready core.old }
     ensures { IfOk result (λ given. GivenMessage core.old (record { sim = sim.0; message = message }) given core.new) }
 {

@@ -7,7 +7,6 @@ ghost use Rattle.mk_plan.specs.declared.Entry.{Entry};
 ghost use Rattle.mk_plan.specs.declared.Plan.{Plan};
 ghost use Rattle.mk_record.specs.declared.saved.Asked.{Asked};
 ghost use Rattle.mk_replay.specs.declared.replaying.ReplayEnd.{ReplayEnd};
-ghost use Rattle.mk_record.specs.Built.{is_built_record};
 ghost use Rattle.mk_record.specs.Seen.{came};
 ghost use Rattle.mk_record.specs.Steps.{IsKnown};
 ghost use Rattle.mk_sched.specs.Answers.{open_id};
@@ -50,7 +49,6 @@ pub struct Replayed {
 /// drawn by numbers that begin with the order; nothing is compared.
 pub fn replay(alloc: Global, saved: Saved, order: Option<u32>) -> Result<Replayed, Mem>
     requires valid { IsValidPlan saved.plan }
-    requires built { is_built_record saved.plan (map came saved.arrivals) ≡ true }
     requires known { All (IsKnown saved.plan) (map came saved.arrivals) }
     ensures plan { IfOk result (λ r. r.plan ≡ saved.plan) }
     ensures replay { IfOk result (λ r. IsReplayBy saved.plan (map came saved.arrivals) saved.asks order r.journal.entries r.end) }
@@ -70,7 +68,6 @@ pub fn replay(alloc: Global, saved: Saved, order: Option<u32>) -> Result<Replaye
 // Gives the messages as they came.
 fn as_recorded(alloc: Global, saved: Saved) -> Result<Replayed, Mem>
     requires valid { IsValidPlan saved.plan }
-    requires built { is_built_record saved.plan (map came saved.arrivals) ≡ true }
     requires known { All (IsKnown saved.plan) (map came saved.arrivals) }
     ensures plan { IfOk result (λ r. r.plan ≡ saved.plan) }
     ensures replay { IfOk result (λ r. IsReplay saved.plan (map came saved.arrivals) r.journal.entries) }
@@ -100,7 +97,6 @@ fn as_recorded(alloc: Global, saved: Saved) -> Result<Replayed, Mem>
 // Gives the messages in the order of this number.
 fn in_order(alloc: Global, saved: Saved, order: u32) -> Result<Replayed, Mem>
     requires valid { IsValidPlan saved.plan }
-    requires built { is_built_record saved.plan (map came saved.arrivals) ≡ true }
     requires known { All (IsKnown saved.plan) (map came saved.arrivals) }
     ensures plan { IfOk result (λ r. r.plan ≡ saved.plan) }
     ensures replay { IfOk result (λ r. IsReplayInOrder saved.plan (map came saved.arrivals) order r.journal.entries r.end) }

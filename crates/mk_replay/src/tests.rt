@@ -3,7 +3,7 @@ use crate::ordering::{drawn, next_number};
 use crate::{ReplayEnd, replay};
 use mk_base::{Mem, SimNo};
 use mk_plan::Entry;
-use mk_record::{is_built, read_record};
+use mk_record::read_record;
 use mk_sched::{Core, CoreFault};
 use std::alloc::Global;
 use std::process::Abort;
@@ -24,7 +24,6 @@ fn ends(
         "mosaikrun {version}\nrun [3,100,2000000]\nsim [\"A-0\",\"time-based\",3,0,[]]\n{lines}"
     )?;
     let saved = read_record(alloc, text.as_bytes())?;
-    assert!(rt; is_built(&saved));
     let replayed = replay(alloc, saved, order)?;
     assert_eq!(rt; replayed.end, end);
     assert_eq!(rt; replayed.journal.entries.len(), entries);
@@ -124,7 +123,6 @@ fn steps_are_compared(rt: HostRuntime) -> Result<(), Fail> {
 fn a_core_begins_with_an_empty_journal(rt: HostRuntime) -> Result<(), Fail> {
     let text = b"mosaikrun 1\nrun [3,100,2000000]\nsim [\"A-0\",\"time-based\",3,0,[]]\nend 0\n";
     let saved = read_record(rt.alloc(), text)?;
-    assert!(rt; mk_sched::is_built(&saved.plan));
     let core = Core::new(rt.alloc(), saved.plan)?;
     assert_eq!(rt; core.plan().until, 3);
     assert_eq!(rt; core.journal().entries.len(), 0);
@@ -165,7 +163,6 @@ fn messages_come_in_the_order_that_is_drawn(rt: HostRuntime) -> Result<(), Fail>
         (Some(0), [1, 0, 1, 0, 1, 0]),
     ] {
         let saved = read_record(rt.alloc(), TWO_COUNTERS)?;
-        assert!(rt; is_built(&saved));
         let replayed = replay(rt.alloc(), saved, order)?;
         assert_eq!(rt; replayed.end, ReplayEnd::Done);
         let came = sims_of(rt.alloc(), replayed.journal.entries.as_slice())?;

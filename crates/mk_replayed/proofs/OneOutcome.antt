@@ -1,12 +1,11 @@
 -- One record has one outcome.
-use Rattle.std.proofs.Common.{◌≡◌, ℕ, List, Option, Some, None, Result, Ok, Err, ◌⊎◌, inl, inr, refl, sym, ap, ◌∙◌, subst, true, false, true≢false}
+use Rattle.std.proofs.Common.{◌≡◌, ℕ, List, Option, Some, None, Result, Ok, Err, ◌⊎◌, inl, inr, refl, sym, ap, ◌∙◌, subst}
 use Rattle.mk_plan.specs.declared.Plan.{Plan}
 use Rattle.mk_plan.specs.declared.Entry.{Entry}
 use Rattle.mk_plan.specs.Journals.{Arrival}
 use Rattle.mk_plan.specs.Sequential.{run_items}
 use Rattle.mk_plan.specs.Report.{report}
 use Rattle.mk_record.specs.Reading.{reading, Said, Faulty}
-use Rattle.mk_record.specs.Built.{is_built_record}
 use Rattle.mk_record.specs.declared.saved.Asked.{Asked}
 use Rattle.mk_replay.specs.Replays.{messages_from}
 use Rattle.mk_replay.specs.Orders.{IsReplayBy}
@@ -14,8 +13,8 @@ use Rattle.mk_replay.specs.declared.replaying.ReplayEnd.{ReplayEnd}
 use Rattle.mk_replay.specs.declared.replaying.ReplayEnd.TheVariants as ends
 use Rattle.mk_replay.proofs.OneOrder.{one_replay_by}
 use Rattle.mk_endings.specs.declared.ending.Ending.{Ending}
-use Rattle.mk_endings.specs.declared.ending.Ending.TheVariants.{Usage, Missing, TooLong, Scenario, Cycle, Launch, Record, Refused, Wrong, Failed, LoopLimit, Short, Differs, Folder, Output, Entries, Mem}
-use Rattle.mk_replayed.specs.Reports.{IsDoneBy, IsReportOf, IsRefused, IsStopped, IsSaidOf, IsOutcome, Unreported}
+use Rattle.mk_endings.specs.declared.ending.Ending.TheVariants.{Usage, Missing, TooLong, Scenario, Cycle, Launch, Record, Wrong, Failed, LoopLimit, Short, Differs, Folder, Output, Entries, Mem}
+use Rattle.mk_replayed.specs.Reports.{IsDoneBy, IsReportOf, IsStopped, IsSaidOf, IsOutcome, Unreported}
 
 -- the record of bytes that are read as two is one
 module _ (P Q : Plan) (A B : List Arrival) (s z : Option (List Asked)) (same : Said P A s ≡ Said Q B z) where
@@ -74,16 +73,9 @@ one_stop bytes order e f r q =
     let c = subst (λ (x : ReplayEnd). IsSaidOf q.plan q.journal x e) one.1 b in
     said_once q.plan q.journal q.end e f c q.said
 
--- what is of a built form isn't refused
-built_not : (P Q : Plan) (A B : List Arrival) (s z : Option (List Asked)) → Said P A s ≡ Said Q B z → is_built_record P A ≡ true → is_built_record Q B ≡ false → ⊥
-built_not P Q A B s z same built unbuilt =
-    let one = ap (λ (X : Plan). is_built_record X A) (same_plan P Q A B s z same) ∙ ap (λ (X : List Arrival). is_built_record Q X) (same_arrivals P Q A B s z same) in
-    true≢false (sym built ∙ one ∙ unbuilt)
-
--- why there is no report, in three kinds
+-- why there is no report, in two kinds
 data Cause (bytes : List ℕ) (order : Option ℕ) : Ending → Type 0 where
   faulty : (line fault : ℕ) → reading bytes ≡ Faulty line fault → Cause bytes order (Record line fault)
-  unbuilt : IsRefused bytes → Cause bytes order Refused
   stopped : (e : Ending) → IsStopped bytes order e → Cause bytes order e
 
 cause_of : (bytes : List ℕ) (order : Option ℕ) (e : Ending) → Unreported bytes order e → (e ≡ Mem) ⊎ Cause bytes order e
@@ -94,7 +86,6 @@ cause_of bytes order (Scenario fault) h = absurd h
 cause_of bytes order (Cycle sims) h = absurd h
 cause_of bytes order (Launch sim fault) h = absurd h
 cause_of bytes order (Record line fault) h = inr (faulty line fault h)
-cause_of bytes order Refused h = inr (unbuilt h)
 cause_of bytes order (Wrong sim place cause) h = inr (stopped (Wrong sim place cause) h)
 cause_of bytes order (Failed sim text) h = inr (stopped (Failed sim text) h)
 cause_of bytes order (LoopLimit sim time) h = inr (stopped (LoopLimit sim time) h)
@@ -117,18 +108,12 @@ same_fault line fault l f same =
 
 one_cause : (bytes : List ℕ) (order : Option ℕ) (e f : Ending) → Cause bytes order e → Cause bytes order f → e ≡ f
 one_cause bytes order _ _ (faulty line fault a) (faulty l f b) = same_fault line fault l f (sym a ∙ b)
-one_cause bytes order _ _ (faulty line fault a) (unbuilt b) = absurd (faulty_not b.0 b.1 b.2 line fault (sym b.3 ∙ a))
 one_cause bytes order _ _ (faulty line fault a) (stopped f b) = absurd (faulty_not b.plan b.arrivals b.steps line fault (sym b.read ∙ a))
-one_cause bytes order _ _ (unbuilt a) (faulty l f b) = absurd (faulty_not a.0 a.1 a.2 l f (sym a.3 ∙ b))
-one_cause bytes order _ _ (unbuilt a) (unbuilt b) = refl
-one_cause bytes order _ _ (unbuilt a) (stopped f b) = absurd (built_not b.plan a.0 b.arrivals a.1 b.steps a.2 (sym b.read ∙ a.3) b.built a.4)
 one_cause bytes order _ _ (stopped e a) (faulty l f b) = absurd (faulty_not a.plan a.arrivals a.steps l f (sym a.read ∙ b))
-one_cause bytes order _ _ (stopped e a) (unbuilt b) = absurd (built_not a.plan b.0 a.arrivals b.1 a.steps b.2 (sym a.read ∙ b.3) a.built b.4)
 one_cause bytes order _ _ (stopped e a) (stopped f b) = one_stop bytes order e f a b
 
 text_or_cause : (bytes : List ℕ) (order : Option ℕ) (t : List ℕ) (e : Ending) → IsReportOf bytes order t → Cause bytes order e → ⊥
 text_or_cause bytes order t _ r (faulty line fault b) = faulty_not r.plan r.arrivals r.steps line fault (sym r.read ∙ b)
-text_or_cause bytes order t _ r (unbuilt b) = built_not r.plan b.0 r.arrivals b.1 r.steps b.2 (sym r.read ∙ b.3) r.built b.4
 text_or_cause bytes order t _ r (stopped e b) = not_both bytes order t e r b
 
 -- want of memory aside, what comes of one record is one

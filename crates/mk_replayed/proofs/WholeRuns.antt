@@ -1,3 +1,4 @@
+-- A whole replay sends what sequential execution over the arrivals sends, line for line.
 use Rattle.std.proofs.Common.{◌≡◌, ℕ, suc, ◌+◌, ◌<◌, ◌≤◌, Bool, true, false, List, [], ◌∷◌, ◌++◌, length, map, filter, refl, sym, ap, ◌∙◌, subst, arith, Option, Some, None}
 use Rattle.std.proofs.Math.Path.{fun_ext}
 use Rattle.std.specs.Prelude.{flat_map, sum, codes, ◌==◌, if◌then◌else◌}
@@ -14,7 +15,6 @@ use Rattle.mk_plan.specs.Journals.{Arrival, arrivals, bare, got, sent}
 use Rattle.mk_plan.specs.Sequential.{Messages, run_items, sequential, all_ended, messages_in}
 use Rattle.mk_plan.specs.Report.{report, line_of, is_step}
 use Rattle.mk_record.specs.Reading.{reading, Said}
-use Rattle.mk_record.specs.Built.{is_built_record}
 use Rattle.mk_record.specs.declared.saved.Asked.{Asked}
 use Rattle.mk_differs.specs.Differences.{IsOther}
 use Rattle.mk_plan.specs.Agreement.{IsFinished}
@@ -121,8 +121,8 @@ all_sent P A steps (Some N) J done = whole_sent P A done.order J done.same done.
 
 -- the report of a replay that ends with all done is that of the sequential execution of its plan over the messages that came
 pub report_done : (bytes text : List ℕ) (P Q : Plan) (A : List Arrival) (steps : Option (List Asked)) (order : Option ℕ) (J : List Entry) (end : ReplayEnd)
-    → reading bytes ≡ Said P A steps → is_built_record P A ≡ true → IsValidPlan P → Q ≡ P → IsReplayBy P A steps order J end → end ≡ Done → text ≡ report Q (sent J) → IsReportOf bytes order text
-report_done bytes text P Q A steps order J end read built valid same replayed done reported =
+    → reading bytes ≡ Said P A steps → IsValidPlan P → Q ≡ P → IsReplayBy P A steps order J end → end ≡ Done → text ≡ report Q (sent J) → IsReportOf bytes order text
+report_done bytes text P Q A steps order J end read valid same replayed done reported =
     let by : IsDoneBy P A steps order J = done_by P A steps order J end replayed done in
     let all : IsAllSent P A J = all_sent P A steps order J by in
     record {
@@ -131,7 +131,6 @@ report_done bytes text P Q A steps order J end read built valid same replayed do
       journal = J;
       steps = steps;
       read = read;
-      built = built;
       valid = valid;
       done = by;
       used = λ i within. subst (λ (R : Messages). messages_in (sequential P R i) ≡ R i) all.heard (all.finished i within).used;
@@ -147,8 +146,8 @@ as_stopped bytes order P J (core.LoopLimit s time) h = h
 as_stopped bytes order P J (core.TooLong count) h = h
 
 pub stopped_by : (bytes : List ℕ) (order : Option ℕ) (P Q : Plan) (A : List Arrival) (steps : Option (List Asked)) (J : List Entry) (end : ReplayEnd) (fault : CoreFault) (e : Ending)
-    → reading bytes ≡ Said P A steps → is_built_record P A ≡ true → IsValidPlan P → Q ≡ P → IsReplayBy P A steps order J end → end ≡ Core fault → e ≡ stop_of Q J fault → Unreported bytes order e
-stopped_by bytes order P Q A steps J end fault e read built valid same replayed ended said =
+    → reading bytes ≡ Said P A steps → IsValidPlan P → Q ≡ P → IsReplayBy P A steps order J end → end ≡ Core fault → e ≡ stop_of Q J fault → Unreported bytes order e
+stopped_by bytes order P Q A steps J end fault e read valid same replayed ended said =
     let named : e ≡ stop_of P J fault = said ∙ ap (λ (X : Plan). stop_of X J fault) same in
     subst (Unreported bytes order) (sym named) (as_stopped bytes order P J fault (record {
       plan = P;
@@ -157,7 +156,6 @@ stopped_by bytes order P Q A steps J end fault e read built valid same replayed 
       end = Core fault;
       steps = steps;
       read = read;
-      built = built;
       valid = valid;
       replayed = subst (λ (x : ReplayEnd). IsReplayBy P A steps order J x) ended replayed;
       said = refl;

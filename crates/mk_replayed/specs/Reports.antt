@@ -1,5 +1,5 @@
 -- What `replay` makes of a record's bytes: a report, or why there is none.
-use Rattle.std.specs.Prelude.{◌≡◌, ℕ, ◌<◌, ◌≤◌, ◌⊎◌, ⊤, true, false, List, [], ◌-◌, length, slice_get, unwrap_or, option_map, Option, Some, None, Result, Ok, Err}
+use Rattle.std.specs.Prelude.{◌≡◌, ℕ, ◌<◌, ⊤, true, List, [], ◌-◌, length, slice_get, unwrap_or, option_map, Option, Some, None, Result, Ok, Err}
 use Rattle.mk_plan.specs.declared.Plan.{Plan}
 use Rattle.mk_plan.specs.declared.Message.TheVariants as messages
 use Rattle.mk_plan.specs.declared.Entry.{Entry}
@@ -9,7 +9,6 @@ use Rattle.mk_plan.specs.Journals.{Arrival}
 use Rattle.mk_plan.specs.Sequential.{run_items, sequential, all_ended, messages_in}
 use Rattle.mk_plan.specs.Report.{report}
 use Rattle.mk_record.specs.Reading.{reading, Said, Faulty}
-use Rattle.mk_record.specs.Built.{is_built_record}
 use Rattle.mk_record.specs.declared.saved.Asked.{Asked}
 use Rattle.mk_differs.specs.Differences.{IsOther}
 use Rattle.mk_replay.specs.Replays.{IsReplay, IsWhole, messages_from}
@@ -19,7 +18,7 @@ use Rattle.mk_sched.specs.declared.faults.CoreFault.TheVariants as core
 use Rattle.mk_replay.specs.declared.replaying.ReplayEnd.{ReplayEnd}
 use Rattle.mk_replay.specs.declared.replaying.ReplayEnd.TheVariants as ends
 use Rattle.mk_endings.specs.declared.ending.Ending.{Ending}
-use Rattle.mk_endings.specs.declared.ending.Ending.TheVariants.{Usage, Missing, TooLong, Scenario, Cycle, Launch, Record, Refused, Wrong, Failed, LoopLimit, Short, Differs, Folder, Output, Entries, Mem}
+use Rattle.mk_endings.specs.declared.ending.Ending.TheVariants.{Usage, Missing, TooLong, Scenario, Cycle, Launch, Record, Wrong, Failed, LoopLimit, Short, Differs, Folder, Output, Entries, Mem}
 
 -- the replay in this order comes to a journal in which all is done; one of the messages as they came, which begins with the steps and messages of a record of version 2, or one of them in the order of a number
 abbrev pub IsDoneBy : Plan → List Arrival → Option (List Asked) → Option ℕ → List Entry → Type 0
@@ -33,16 +32,11 @@ pub record IsReportOf (bytes : List ℕ) (order : Option ℕ) (text : List ℕ) 
   pub journal : List Entry
   pub steps : Option (List Asked)
   pub read : reading bytes ≡ Said plan arrivals steps
-  pub built : is_built_record plan arrivals ≡ true
   pub valid : IsValidPlan plan
   pub done : IsDoneBy plan arrivals steps order journal
   pub used : (i : ℕ) → i < sim_count plan → messages_in (sequential plan (messages_from arrivals) i) ≡ messages_from arrivals i
   pub uncut : (i : ℕ) → i < sim_count plan → all_ended (sequential plan (messages_from arrivals) i) ≡ true
   pub reported : text ≡ report plan (run_items plan (messages_from arrivals))
-
--- the bytes are a record of a form that can't be replayed yet
-abbrev pub IsRefused : List ℕ → Type 0
-IsRefused bytes = (P : Plan) × (A : List Arrival) × (steps : Option (List Asked)) × (reading bytes ≡ Said P A steps) × (is_built_record P A ≡ false)
 
 -- the text of a failure reply
 abbrev pub failure_in : Entry → List ℕ
@@ -77,7 +71,6 @@ pub record IsStopped (bytes : List ℕ) (order : Option ℕ) (e : Ending) : Type
   pub end : ReplayEnd
   pub steps : Option (List Asked)
   pub read : reading bytes ≡ Said plan arrivals steps
-  pub built : is_built_record plan arrivals ≡ true
   pub valid : IsValidPlan plan
   pub replayed : IsReplayBy plan arrivals steps order journal end
   pub said : IsSaidOf plan journal end e
@@ -91,7 +84,6 @@ Unreported bytes order (Scenario fault) = ⊥
 Unreported bytes order (Cycle sims) = ⊥
 Unreported bytes order (Launch sim fault) = ⊥
 Unreported bytes order (Record line fault) = reading bytes ≡ Faulty line fault
-Unreported bytes order Refused = IsRefused bytes
 Unreported bytes order (Wrong sim place cause) = IsStopped bytes order (Wrong sim place cause)
 Unreported bytes order (Failed sim text) = IsStopped bytes order (Failed sim text)
 Unreported bytes order (LoopLimit sim time) = IsStopped bytes order (LoopLimit sim time)

@@ -8,7 +8,7 @@ ghost use Rattle.mk_replayed.specs.Reports.{IsOutcome, IsReportOf, Unreported, f
 use mk_base::{Mem, SimNo, Text};
 use mk_endings::Ending;
 use mk_plan::{Entry, Journal, Message, Plan};
-use mk_record::{RecordFault, is_built, read_record};
+use mk_record::{RecordFault, read_record};
 use mk_replay::{ReplayEnd, replay};
 use mk_report::write_report;
 use mk_sched::CoreFault;
@@ -24,9 +24,6 @@ pub fn reported(alloc: Global, bytes: &[u8], order: Option<u32>) -> Result<Vec<u
         Err(RecordFault::Line(line, fault)) => return Err(Ending::Record { line, fault }),
         Err(RecordFault::Mem) => return Err(Ending::Mem),
     };
-    if !is_built(&saved) {
-        return Err(Ending::Refused);
-    }
     let replayed = replay(alloc, saved, order)?;
     match replayed.end {
         ReplayEnd::Done => Ok(write_report(alloc, &replayed.plan, &replayed.journal)?),

@@ -8,7 +8,7 @@ use Rattle.mk_words.specs.declared.request.Request.{Request}
 use Rattle.mk_words.specs.declared.request.Request.TheVariants.{Run, Replay, Check, Demo, Migrate}
 use Rattle.mk_words.proofs.Requested.{requested}
 use Rattle.mk_endings.specs.declared.ending.Ending.{Ending}
-use Rattle.mk_endings.specs.declared.ending.Ending.TheVariants.{Usage, Missing, TooLong, Scenario, Cycle, Launch, Record, Refused, Wrong, Failed, LoopLimit, Short, Differs, Folder, Output, Entries, Mem}
+use Rattle.mk_endings.specs.declared.ending.Ending.TheVariants.{Usage, Missing, TooLong, Scenario, Cycle, Launch, Record, Wrong, Failed, LoopLimit, Short, Differs, Folder, Output, Entries, Mem}
 use Rattle.mk_endings.specs.Endings.{outcome_status, status_of}
 use Rattle.mk_replayed.proofs.OneOutcome.{one_outcome}
 use Rattle.mk_checked.proofs.OneRanking.{one_status}
@@ -65,7 +65,6 @@ only_usage (Scenario fault) two = absurd (omega (arith, two))
 only_usage (Cycle sims) two = absurd (omega (arith, two))
 only_usage (Launch sim fault) two = absurd (omega (arith, two))
 only_usage (Record line fault) two = absurd (omega (arith, two))
-only_usage Refused two = absurd (omega (arith, two))
 only_usage (Wrong sim place cause) two = absurd (omega (arith, two))
 only_usage (Failed sim text) two = absurd (omega (arith, two))
 only_usage (LoopLimit sim time) two = absurd (omega (arith, two))
@@ -85,7 +84,6 @@ is_memory (Scenario fault) = inr (λ wrong. cc)
 is_memory (Cycle sims) = inr (λ wrong. cc)
 is_memory (Launch sim fault) = inr (λ wrong. cc)
 is_memory (Record line fault) = inr (λ wrong. cc)
-is_memory Refused = inr (λ wrong. cc)
 is_memory (Wrong sim place cause) = inr (λ wrong. cc)
 is_memory (Failed sim text) = inr (λ wrong. cc)
 is_memory (LoopLimit sim time) = inr (λ wrong. cc)

@@ -5,19 +5,15 @@ use Rattle.mk_plan.specs.declared.Entry.{Entry}
 use Rattle.mk_plan.specs.Plans.{sim_count}
 use Rattle.mk_record.specs.declared.saved.Arrival.{Arrival}
 use Rattle.mk_record.specs.Seen.{came}
-use Rattle.mk_sched.specs.Built.{is_built_message}
-use Rattle.mk_sched.specs.Cores.{CoreState}
+use Rattle.mk_sched.specs.Cores.{CoreState, is_message_in_range}
 use Rattle.mk_replay.specs.Orders.{IsReplayInOrder}
 use Rattle.mk_replay.specs.Rounds.{AreWaiting, HasEnded}
-use Rattle.mk_replay.proofs.Known.{plan_of_record, messages_of_record}
+use Rattle.mk_replay.proofs.Known.{messages_of_record}
 use Rattle.mk_replay.proofs.RoundsGiven.{between_first}
 use Rattle.mk_replay.proofs.replaying.in_order.Goals as goal
 
 pub split-requires : goal.split-requires
-split-requires c = subst (λ n. All (λ (a : Arrival). (a.sim.0 < n) × (is_built_message a.message ≡ true)) c.args.saved.arrivals) (sym c.len.ensures) (messages_of_record c.args.saved.plan c.args.saved.arrivals c.requires.built c.requires.known)
-
-pub new-requires-clause-built : goal.new-requires-clause-built
-new-requires-clause-built c = plan_of_record c.args.saved.plan (map came c.args.saved.arrivals) c.requires.built
+split-requires c = subst (λ n. All (λ (a : Arrival). (a.sim.0 < n) × (is_message_in_range a.message ≡ true)) c.args.saved.arrivals) (sym c.len.ensures) (messages_of_record c.args.saved.plan c.args.saved.arrivals c.requires.known)
 
 pub returns-clause-plan : goal.returns-clause-plan
 returns-clause-plan c =
