@@ -12,12 +12,12 @@ use Rattle.mk_scenario.specs.declared.parts.Scenario.{Scenario}
 use Rattle.mk_scenario.specs.Wellformed.{IsPlace, IsWellformed, IsWellformedBlock, IsWellformedGroup}
 use Rattle.mk_connect.specs.Edges.{edges_in, edges_of, is_ordering, sim_at, sim_of_group}
 
-group_below : (n : ℕ) (groups : List Group) (g : ℕ) → Each (IsWellformedGroup n) groups → g < length groups → sim_of_group groups g < n
+pub group_below : (n : ℕ) (groups : List Group) (g : ℕ) → Each (IsWellformedGroup n) groups → g < length groups → sim_of_group groups g < n
 group_below n [] g each within = absurd (omega (arith, within))
 group_below n (x ∷ xs) zero each within = each.0.sim
 group_below n (x ∷ xs) (suc g) each within = group_below n xs g each.1 (omega (arith, within))
 
-place_below : (n : ℕ) (groups : List Group) (place : Place) → Each (IsWellformedGroup n) groups → IsPlace n groups place → sim_at groups place < n
+pub place_below : (n : ℕ) (groups : List Group) (place : Place) → Each (IsWellformedGroup n) groups → IsPlace n groups place → sim_at groups place < n
 place_below n groups (Whole g) each there = group_below n groups g each there
 place_below n groups (One g i) each there = group_below n groups g each there.0
 place_below n groups (Full sim eid) each there = there

@@ -56,7 +56,7 @@ no_member tree name none = at (members_in tree) none
     at (Some []) none = refl
     at (Some (m ∷ ms)) none = cc
 
-value_text : (tree : Json) (name : List ℕ) → IsObjectOfData tree → IfSome (initial_text tree name) IsValueText
+pub value_text : (tree : Json) (name : List ℕ) → IsObjectOfData tree → IfSome (initial_text tree name) IsValueText
 value_text tree name fine = at (member name tree) refl
   where
     le_of : (m n : ℕ) → nat_le m n ≡ true → m ≤ n
@@ -119,7 +119,7 @@ pub record AreSoundConns (models : List SimModel) (es : List EntityInfo) (blocks
 itself : (n : ℕ) → nat_eq n n ≡ true
 itself n = grind arith
 
-same_itself : (a : List ℕ) → same_text a a ≡ true
+pub same_itself : (a : List ℕ) → same_text a a ≡ true
 same_itself [] = refl
 same_itself (x ∷ a) = let h : nat_eq x x ≡ true = itself x in rw h (same_itself a)
 

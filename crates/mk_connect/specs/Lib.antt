@@ -1,5 +1,6 @@
 pub mod Asyncs
 pub mod ByPlace
+pub mod Complete
 pub mod Connections
 pub mod Edges
 pub mod Ends

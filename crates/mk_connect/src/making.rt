@@ -1,9 +1,13 @@
 //! The plan that a scenario makes with what its simulators said.
-ghost use Rattle.std.specs.Prelude.{◌≡◌, Ok, length, IfOk, IfErr};
-ghost use Rattle.mk_plan.specs.Plans.{HasInitialValues, HasOneConnectionEach};
+ghost use Rattle.std.specs.Prelude.{◌≡◌, ◌≤◌, Ok, length, IfOk, IfErr};
+ghost use Rattle.mk_plan.specs.Plans.{HasInitialValues, HasOneConnectionEach, IsValidPlan};
+ghost use Rattle.mk_entities.specs.Creation.{most_entities};
+ghost use Rattle.mk_entities.specs.Sound.{AreSound};
+ghost use Rattle.mk_entities.specs.Tied.{IsFound};
 ghost use Rattle.mk_scenario.specs.Wellformed.{IsWellformed};
 ghost use Rattle.mk_base.specs.Lists.{Each};
 ghost use Rattle.mk_connect.specs.ByPlace.{by_place};
+ghost use Rattle.mk_connect.specs.Complete.{IsComplete};
 ghost use Rattle.mk_connect.specs.Connections.{conns_made};
 ghost use Rattle.mk_connect.specs.Faults.{IsFaultOf};
 ghost use Rattle.mk_connect.specs.Made.{plan_entity, plan_made, plan_of};
@@ -49,6 +53,9 @@ pub fn plan(
     ensures sources { IfOk result (λ P. SourcesAgree P) }
     ensures targets { IfOk result (λ P. TargetsAgree P) }
 
+    // The plan is valid, once all that it is made of is there.
+    ensures valid { IfOk result (λ P. IsComplete scenario.now ranks.now metas.now entities.now first_ids.now → IsValidPlan P) }
+
     // The plan is the one that the definition makes, and each fault is the first test that fails.
     ensures made { IfOk result (λ P. plan_made scenario.now ranks.now metas.now entities.now first_ids.now ≡ Ok P) }
     ensures refused { IfErr result (λ e. IsFaultOf (plan_made scenario.now ranks.now metas.now entities.now first_ids.now) e) }
@@ -80,6 +87,11 @@ fn connected_parts(
     ensures made { IfOk result (λ parts. conns_made scenario.now.sims models.now entities.now scenario.now.blocks ≡ Ok parts.conns) }
     ensures entities { IfOk result (λ parts. parts.entities ≡ by_place (plan_entity models.now (length entities.now) (pairs_of entities.now scenario.now.blocks)) 0 entities.now) }
     ensures refused { IfErr result (λ e. IsFaultOf (conns_made scenario.now.sims models.now entities.now scenario.now.blocks) e) }
+
+    // What is sure of all entities.
+    ensures few { length entities.now ≤ most_entities }
+    ensures distinct { IsFound entities.now }
+    ensures sound { AreSound entities.now }
 {
     let all = entities.as_slice();
     let numbers = numbers_of(alloc, models, all)?;
