@@ -1,0 +1,10 @@
+mod Asking
+mod Beginning
+mod SettingUp
+mod Hearing
+mod Linking
+mod Looking
+mod OnLines
+mod OnStops
+mod Sending
+mod Standing

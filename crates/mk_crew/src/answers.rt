@@ -1,0 +1,63 @@
+// What a crew answers.
+ghost use Rattle.std.specs.Prelude.{◌≡◌};
+
+use mk_base::{Mem, SimNo};
+use mk_plan::Message;
+use mk_session::{Heard, QueueFault};
+
+/// Why a crew hears nothing more.
+#[derive(Clone, Copy)]
+pub enum Halt {
+    /// The fleet failed.
+    Fleet,
+    /// The simulator's link has ended.
+    Gone(SimNo),
+    /// The next frame of the simulator's link has no message, by this test of `mk_message::read`.
+    Garbled(SimNo, u8),
+    /// The header of the next frame of the simulator's link gives this length, which is more than a frame may have.
+    LongFrame(SimNo, u32),
+    Mem,
+}
+
+impl From<Mem> for Halt {
+    ghost use Rattle.mk_crew.specs.declared.answers.Halt.TheVariants as halt;
+
+    ghost from_gives = { λ _ e. e ≡ halt.Mem };
+
+    fn from(_e: Mem) -> Halt {
+        Halt::Mem
+    }
+}
+
+// What came of a look at the link that has been ready for longest.
+#[derive(Drop)]
+pub enum Looked {
+    Heard(SimNo, Heard),
+    Parked,
+    // No link is ready: all are parked.
+    Quiet,
+}
+
+// What came of a look, or of a rest where all links are parked.
+#[derive(Drop)]
+pub enum Round {
+    Message(SimNo, Message),
+    Halted(Halt),
+    Again,
+}
+
+/// Why a request was not answered: it was not queued, or nothing was heard.
+#[derive(Drop)]
+pub enum AskFault {
+    Queue(QueueFault),
+    Halted(Halt),
+}
+
+/// Why a handshake was not finished.
+#[derive(Drop)]
+pub enum HandshakeFault {
+    Ask(AskFault),
+    /// A message came of this simulator, which wasn't asked.
+    Unasked(SimNo),
+    Mem,
+}
