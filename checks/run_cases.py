@@ -2,9 +2,9 @@
 """Runs a built program on the cases beside this file.
 
 `run_cases.py PROGRAM` runs each line of `cases.jsonl`: the words of a command, and the exit status, standard output and
-standard error that it must have. A line with `files`, texts by their names, or `lengths`, how many bytes of 0 stand under
-a name, is run in a folder that holds just these; any other one in the folder `cases`. It prints what differs, and ends
-with 'N passed, M failed'.
+standard error that it must have. A line with `files`, texts by their names, `pieces`, texts each with how often it stands
+there, by names, or `lengths`, how many bytes of 0 stand under a name, is run in a folder that holds just these; any other
+one in the folder `cases`. It prints what differs, and ends with 'N passed, M failed'.
 """
 
 import json
@@ -25,10 +25,12 @@ def main() -> int:
         with tempfile.TemporaryDirectory() as room:
             for name, text in case.get("files", {}).items():
                 (pathlib.Path(room) / name).write_text(text, encoding="utf-8")
+            for name, pieces in case.get("pieces", {}).items():
+                (pathlib.Path(room) / name).write_text("".join(text * count for text, count in pieces), encoding="utf-8")
             for name, length in case.get("lengths", {}).items():
                 (pathlib.Path(room) / name).touch()
                 os.truncate(pathlib.Path(room) / name, length)
-            at = room if "files" in case or "lengths" in case else folder
+            at = room if "files" in case or "pieces" in case or "lengths" in case else folder
             ran = subprocess.run([program, *case["words"]], cwd=at, capture_output=True, timeout=60, check=False)
         got = (ran.returncode, ran.stdout.decode("utf-8", "replace"), ran.stderr.decode("utf-8", "replace"))
         want = (case["status"], case["out"], case["err"])
