@@ -17,8 +17,6 @@ mod ordering;
 mod parts;
 mod relations;
 mod study;
-#[cfg(test)]
-mod tests;
 mod texts;
 
 pub use fault::ConnectFault;
