@@ -1,0 +1,11 @@
+mod Sequence
+mod Replied
+mod Reaching
+mod Planned
+mod Making
+mod Counting
+mod Creating
+mod Stepping
+mod Completing
+mod Asked
+mod Heard

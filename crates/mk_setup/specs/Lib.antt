@@ -1,0 +1,12 @@
+pub mod Answers
+pub mod Asking
+pub mod Counts
+pub mod Handshakes
+pub mod Kept
+pub mod Laws
+pub mod Ranked
+pub mod Replies
+pub mod Requests
+pub mod Seen
+pub mod Stages
+pub mod Standing

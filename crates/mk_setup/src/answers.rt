@@ -1,0 +1,14 @@
+// What a setup answers.
+use mk_base::SimNo;
+use mk_plan::{Call, Plan};
+
+/// What comes next in a handshake.
+#[derive(Drop)]
+pub enum SetupNext {
+    /// This request is to be made, with this id, which counts the requests to the simulator from 0.
+    Request { sim: SimNo, call: Call, id: u64 },
+    /// The reply to the request that was made last hasn't come.
+    Wait,
+    /// All have replied: the plan of the run.
+    Ready(Plan),
+}
