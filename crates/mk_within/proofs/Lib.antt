@@ -1,0 +1,5 @@
+mod Numbers
+mod Replying
+mod Following
+mod Placing
+mod Beginning
