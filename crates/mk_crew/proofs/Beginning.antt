@@ -1,4 +1,4 @@
--- A crew that begins, and links that are closed.
+-- Lines of links that begin, and links that are closed.
 use Rattle.std.proofs.Common.{◌≡◌, ℕ, zero, suc, ◌+◌, ◌<◌, ◌≤◌, ◌^◌, inl, inr, Bool, true, false, not, cond, ◌||◌, List, [], ◌∷◌, ◌++◌, length, take, map, filter, Option, Some, None, option_map, get_or, slice_get, refl, sym, ap, ◌∙◌, subst, arith, true≢false}
 use Rattle.std.specs.Prelude.{IfSome, option_to_list}
 use Rattle.std.specs.List.{list_any}
@@ -81,7 +81,7 @@ places_distinct n (s ∷ sims) (suc i) zero l a b =
     absurd (omega (arith, t.0, t.1, low))
 places_distinct n (s ∷ sims) (suc i) (suc j) l a b = ap suc (places_distinct (n + link_count (place_of n s.begin)) sims i j l a b)
 
--- ---- a crew that begins
+-- ---- lines that begin
 
 length_map : {X Y : Type 0} (f : X → Y) (xs : List X) → length (map f xs) ≡ length xs
 length_map f [] = refl

@@ -16,8 +16,8 @@ use Rattle.mk_links.specs.Crews.{CrewState, line_at, IsMovedAt, AreMoved, ArePar
 use Rattle.mk_links.proofs.Moving.{moved_twice, last_later}
 use Rattle.mk_links.proofs.Stepping.{first_or_second, not_empty}
 use Rattle.mk_links.proofs.Waiting.{moved_on, parked_rested}
-use Rattle.mk_crew.specs.declared.answers.Halt.{Halt}
-use Rattle.mk_crew.specs.declared.answers.Halt.TheVariants as halt
+use Rattle.mk_crew.specs.declared.answers.LinkHalt.{LinkHalt}
+use Rattle.mk_crew.specs.declared.answers.LinkHalt.TheVariants as halt
 use Rattle.mk_crew.specs.declared.answers.Looked.TheVariants as looked
 use Rattle.mk_crew.specs.declared.answers.Round.TheVariants as round
 use Rattle.mk_crew.specs.Crews.{HearsAs}
@@ -92,9 +92,9 @@ heard_on_link a b i m L M N one (on_link k l w there moved parked) =
     on_link refl refl o.0 o.1 (moved_on a b (λ j. []) (given_by i m) (crew L) (crew M) (crew N) one.moved moved) (parked_on a b (crew L) (crew M) one.parked one.moved parked)
 
 ended_later : (a b : List LogEntry) (i : ℕ) (N : Lines) → HeardOf i heard.Closed b N → HeardOf i heard.Closed (a ++ b) N
-ended_later a b i N h = (h.0, h.1, last_later (is_read (h.0).link) a b (Ended (h.0).link) h.2)
+ended_later a b i N h = (h.0, h.1, ((h.2).0, last_later (is_read (h.0).link) a b (Ended (h.0).link) (h.2).1))
 
-shows_later : (h : Halt) (a b : List LogEntry) (N : Lines) → ShowsHalt h b N → ShowsHalt h (a ++ b) N
+shows_later : (h : LinkHalt) (a b : List LogEntry) (N : Lines) → ShowsHalt h b N → ShowsHalt h (a ++ b) N
 shows_later halt.Fleet a b N s = tt
 shows_later (halt.Gone i) a b N s = ended_later a b i.0 N s
 shows_later (halt.Garbled i t) a b N s = s
@@ -114,7 +114,7 @@ pub silence_heard : (L M N : Lines) (old mid new : Option (List LogEntry)) (more
     → (entries : List LogEntry) × Adds entries old new × HearsAs (Ok (i, m)) entries L N
 silence_heard L M N old mid new more i m s adds g = (s.entries ++ more, adds_more s.entries more old mid new s.adds adds, heard_on_link s.entries more i.0 m L M N s.unheard g)
 
-pub silence_halted : (L M N : Lines) (old mid new : Option (List LogEntry)) (more : List LogEntry) (h : Halt) → Silence L M old mid → Adds more mid new → GoesAs (round.Halted h) more M N
+pub silence_halted : (L M N : Lines) (old mid new : Option (List LogEntry)) (more : List LogEntry) (h : LinkHalt) → Silence L M old mid → Adds more mid new → GoesAs (round.Halted h) more M N
     → (entries : List LogEntry) × Adds entries old new × HearsAs (Err h) entries L N
 silence_halted L M N old mid new more h s adds g = (s.entries ++ more, adds_more s.entries more old mid new s.adds adds, (unheard_on s.entries more L M N s.unheard g.0, shows_later h s.entries more N g.1))
 
@@ -131,7 +131,7 @@ rested_round L M N old mid new a b l adds r more = (
       (parked_rested [] (crew L) (crew L) (no_rest (crew L)) (left_alone (crew L)).0 l.2)),
 )
 
-pub unrested_round : (h : Halt) (L M N : Lines) (old mid new : Option (List LogEntry)) (a b : List LogEntry) → LooksAs looked.Quiet a L M → Adds a old mid → RestsAs (Err h) b M N → Adds b mid new
+pub unrested_round : (h : LinkHalt) (L M N : Lines) (old mid new : Option (List LogEntry)) (a b : List LogEntry) → LooksAs looked.Quiet a L M → Adds a old mid → RestsAs (Err h) b M N → Adds b mid new
     → (entries : List LogEntry) × Adds entries old new × GoesAs (round.Halted h) entries L N
 unrested_round h L M N old mid new a b l adds r more =
     let none : a ++ b ≡ [] = ap (λ (x : List LogEntry). x ++ b) l.1 ∙ r.0 in

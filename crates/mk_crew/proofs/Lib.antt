@@ -1,6 +1,4 @@
-mod Asking
 mod Beginning
-mod SettingUp
 mod Hearing
 mod Linking
 mod Looking

@@ -41,7 +41,7 @@ polls_line (polled.Ready heard.Closed) old new entries was next p = record {
   on_link = p.on_link;
   moved = nothing_moved entries (line_of old was next) (line_of new false next) p.same_link refl p.said p.found.0 refl;
   parked = refl;
-  shown = rw p.same_link p.found.2;
+  shown = (p.found.1, rw p.same_link p.found.2);
 }
 polls_line (polled.Ready heard.Failed) old new entries was next p = record {
   on_link = p.on_link;

@@ -2,7 +2,6 @@ pub mod Places
 pub mod Halts
 pub mod Seen
 pub mod Crews
-pub mod Handshakes
 pub mod OneLine
 pub mod Rounds
 pub mod Standing

@@ -8,8 +8,8 @@ use Rattle.mk_session.specs.declared.answers.Heard.{Heard}
 use Rattle.mk_session.specs.declared.answers.Heard.TheVariants as heard
 use Rattle.mk_links.specs.Lines.{Line}
 use Rattle.mk_links.specs.Crews.{AreMoved, IsRestless, IsHeard, IsUnheard}
-use Rattle.mk_crew.specs.declared.answers.Halt.{Halt}
-use Rattle.mk_crew.specs.declared.answers.Halt.TheVariants as halt
+use Rattle.mk_crew.specs.declared.answers.LinkHalt.{LinkHalt}
+use Rattle.mk_crew.specs.declared.answers.LinkHalt.TheVariants as halt
 use Rattle.mk_crew.specs.declared.answers.Looked.{Looked}
 use Rattle.mk_crew.specs.declared.answers.Looked.TheVariants as looked
 use Rattle.mk_crew.specs.declared.answers.Round.{Round}
@@ -38,7 +38,7 @@ round_of sim heard.Failed = round.Halted halt.Fleet
 round_of sim heard.Mem = round.Halted halt.Mem
 
 -- the fleet rested and all lines stand, but that some are no longer parked; or nothing was done
-abbrev pub RestsAs : Result (Unit {0}) Halt → List LogEntry → Lines → Lines → Type 0
+abbrev pub RestsAs : Result (Unit {0}) LinkHalt → List LogEntry → Lines → Lines → Type 0
 RestsAs (Ok done) entries old new = (entries ≡ Rest ∷ []) × AreMoved (Rest ∷ []) (λ i. []) (crew old) (crew new)
 RestsAs (Err h) entries old new = (entries ≡ []) × (new ≡ old) × ShowsHalt h [] new
 

@@ -1,13 +1,13 @@
-// What a crew answers.
+// What a run's links answer.
 ghost use Rattle.std.specs.Prelude.{◌≡◌};
 
 use mk_base::{Mem, SimNo};
 use mk_plan::Message;
 use mk_session::{Heard, QueueFault};
 
-/// Why a crew hears nothing more.
+/// Why nothing more is heard on a run's links.
 #[derive(Clone, Copy)]
-pub enum Halt {
+pub enum LinkHalt {
     /// The fleet failed.
     Fleet,
     /// The simulator's link has ended.
@@ -19,13 +19,13 @@ pub enum Halt {
     Mem,
 }
 
-impl From<Mem> for Halt {
-    ghost use Rattle.mk_crew.specs.declared.answers.Halt.TheVariants as halt;
+impl From<Mem> for LinkHalt {
+    ghost use Rattle.mk_crew.specs.declared.answers.LinkHalt.TheVariants as halt;
 
     ghost from_gives = { λ _ e. e ≡ halt.Mem };
 
-    fn from(_e: Mem) -> Halt {
-        Halt::Mem
+    fn from(_e: Mem) -> LinkHalt {
+        LinkHalt::Mem
     }
 }
 
@@ -42,22 +42,6 @@ pub enum Looked {
 #[derive(Drop)]
 pub enum Round {
     Message(SimNo, Message),
-    Halted(Halt),
+    Halted(LinkHalt),
     Again,
-}
-
-/// Why a request was not answered: it was not queued, or nothing was heard.
-#[derive(Drop)]
-pub enum AskFault {
-    Queue(QueueFault),
-    Halted(Halt),
-}
-
-/// Why a handshake was not finished.
-#[derive(Drop)]
-pub enum HandshakeFault {
-    Ask(AskFault),
-    /// A message came of this simulator, which wasn't asked.
-    Unasked(SimNo),
-    Mem,
 }

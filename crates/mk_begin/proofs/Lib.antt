@@ -1,0 +1,10 @@
+mod Asked
+mod Composing
+mod Ending
+mod Going
+mod Halting
+mod Looping
+mod Placing
+mod Requests
+mod Simulators
+mod Starting
