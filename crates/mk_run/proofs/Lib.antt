@@ -1,0 +1,16 @@
+pub mod Beginning
+pub mod Completing
+pub mod Endings
+pub mod Fitting
+pub mod Going
+pub mod Hearing
+pub mod InRange
+pub mod Inside
+pub mod Linked
+pub mod LoopSteps
+pub mod Pushed
+pub mod RunRight
+pub mod Times
+pub mod Turning
+pub mod Whole
+pub mod WholeRuns

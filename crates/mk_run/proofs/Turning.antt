@@ -1,0 +1,232 @@
+-- From the calls of a turn to what the turn comes to.
+use Rattle.std.proofs.Common.{◌≡◌, inl, inr, ℕ, ◌<◌, ◌≤◌, List, [], ◌∷◌, ◌++◌, Option, Result, Ok, Err, OnOk, OnErr, IfErr, refl, sym, ap, ◌∙◌, subst, arith, append_assoc}
+use Rattle.mk_base.specs.declared.LinkNo.{LinkNo}
+use Rattle.mk_base.specs.declared.SimNo.{SimNo}
+use Rattle.mk_base.specs.Lists.{IsIn}
+use Rattle.mk_base.proofs.Lists.{some_same, append_nil}
+use Rattle.mk_plan.specs.declared.Item.{Item}
+use Rattle.mk_plan.specs.declared.Item.TheVariants.{Step}
+use Rattle.mk_plan.specs.declared.Message.{Message}
+use Rattle.mk_plan.specs.declared.Entry.{Entry}
+use Rattle.mk_plan.specs.declared.Entry.TheVariants.{Sent, Got}
+use Rattle.mk_plan.specs.Plans.{sim_count, first_id}
+use Rattle.mk_plan.specs.Journals.{Arrival, sent}
+use Rattle.mk_outside.specs.Counts.{HasRisen}
+use Rattle.mk_outside.specs.declared.fleet.LogEntry.{LogEntry}
+use Rattle.mk_outside.specs.Logs.{Adds}
+use Rattle.mk_outside.proofs.OnLogs.{adds_none, adds_more}
+use Rattle.mk_sched.specs.Cores.{CoreState, Stands}
+use Rattle.mk_sched.specs.Answers.{SomeOpen, IsAsked, IsWaiting, IsAnswered}
+use Rattle.mk_links.specs.Payloads.{id_after}
+use Rattle.mk_links.specs.Lines.{Line}
+use Rattle.mk_links.specs.Crews.{IsHeard}
+use Rattle.mk_crew.specs.Places.{AreOpen}
+use Rattle.mk_within.specs.Calls.{IsFitSuccess}
+use Rattle.mk_within.specs.Laws.{RepliesAreKinds}
+use Rattle.mk_begin.specs.declared.halt.Halt.{Halt}
+use Rattle.mk_begin.specs.declared.halt.Halt.TheVariants as halt
+use Rattle.mk_begin.specs.Calls.{SendsAs, HearsNothing, CanHear, halt_of}
+use Rattle.mk_begin.specs.Seen.{CrewSeen, crew_of}
+use Rattle.mk_run.specs.declared.outcome.Outcome.{Outcome}
+use Rattle.mk_run.specs.declared.outcome.Outcome.TheVariants as outcome
+use Rattle.mk_run.specs.Underway.{Setting, reply_in, EndsBy, HasEnded, IsUnderway}
+use Rattle.mk_run.specs.Outcomes.{outcome_of}
+use Rattle.mk_run.specs.Sendings.{CanSend, EndsWithItem, IsUnsent}
+use Rattle.mk_run.specs.Turns.{AreLinksOpen, GoesOn, IsPast, IsStopping, TakesAs, TurnsAs, Waits}
+use Rattle.mk_run.proofs.LoopSteps.{can_hear}
+use Rattle.mk_run.proofs.Endings.{unsent_ends, unheard_ends}
+use Rattle.mk_run.proofs.Going.{asked_low, asked_opened, asked_replied, asked_linked, asked_goes}
+use Rattle.mk_run.proofs.Hearing.{heard_low, heard_fits, heard_running, heard_no_other, heard_setup_rests, answered_opened, answered_replied, answered_linked, answered_goes}
+use Rattle.mk_run.proofs.Pushed.{same_last, patient_got, range_got}
+
+-- ---- sending what the journal ends with
+
+-- what it is
+sent_same : (s t : SimNo) (item other : Item) → Sent s item ≡ Sent t other → item ≡ other
+sent_same s t item other e = cc
+
+-- the last entry of a list that ends so
+pub ends_so : (core : CoreState) (s : SimNo) (item : Item) (id : ℕ) (entries before : List Entry) (e : Entry) → EndsWithItem core s item id → core.entries ≡ entries → entries ≡ before ++ e ∷ [] → e ≡ Sent s item
+ends_so core s item id entries before e d same is = (same_last before d.before e (Sent s item) (sym is ∙ sym same ∙ d.last)).1
+
+-- ---- a Step was asked
+
+module _ (T : Setting) (old new : CoreState) (log : List LogEntry) (C : CrewSeen) (s : SimNo) (u : GoesOn T old log C) (stands : Stands new.plan new.entries) (a : IsAsked old s new) where
+  ends_with_step : EndsWithItem new s (Step a.at a.inputs a.advance) (id_after (first_id old.plan s.0) (sent old.entries s.0))
+  ends_with_step = record { before = old.entries; last = ap (λ (c : CoreState). c.entries) a.moved; opened = asked_opened T old new log C s u stands a }
+
+  pub can_ask : CanSend new s C
+  can_ask = (
+    Step a.at a.inputs a.advance,
+    id_after (first_id old.plan s.0) (sent old.entries s.0),
+    ends_with_step,
+    record { replied = asked_replied T old new log C s u stands a; linked = asked_linked T old new log C s u stands a },
+  )
+
+  pub asked_there : s.0 < sim_count new.plan
+  asked_there = subst (λ (c : CoreState). s.0 < sim_count c.plan) (sym a.moved) (asked_low T old new log C s u stands a)
+
+  pub asked_on : RepliesAreKinds → (D : CrewSeen) → ((item : Item) (id : ℕ) → EndsWithItem new s item id → SendsAs s.0 item id C D) → GoesOn T new log D
+  asked_on law D so = asked_goes T old new log C s u stands a law D (id_after (first_id old.plan s.0) (sent old.entries s.0)) (asked_opened T old new log C s u stands a) (so _ _ ends_with_step)
+
+  pub asked_not : (end : Outcome) → ((item : Item) (id : ℕ) → EndsWithItem new s item id → IsUnsent end s.0 item C) → IsStopping ⊥ T new log C end
+  asked_not end why = subst (λ (c : CoreState). HasEnded ⊥ T c.plan c.entries log (crew_of C) end) (sym a.moved)
+      (unsent_ends T ⊥ _ old.plan old.entries log C s (Step a.at a.inputs a.advance) u.suits (asked_low T old new log C s u stands a) (subst (λ (c : CoreState). Stands c.plan c.entries) a.moved stands) u.patient u.in_range u.running u.no_other u.setup_rests
+      end (why _ _ ends_with_step))
+
+-- ---- a message is waited for
+
+pub waiting_on : (T : Setting) (old new : CoreState) (log : List LogEntry) (C : CrewSeen) → IsWaiting old new → GoesOn T old log C → GoesOn T new log C
+waiting_on T old new log C w u = subst (λ (c : CoreState). GoesOn T c log C) (sym w.same) u
+
+pub waits_so : (old new : CoreState) → IsWaiting old new → Waits new
+waits_so old new w = subst Waits (sym w.same) (w.nobody, w.waiting)
+
+-- ---- links are open, and something can be heard
+
+pub are_open : (T : Setting) (core : CoreState) (log : List LogEntry) (C : CrewSeen) (open_links : List LinkNo) → GoesOn T core log C → AreLinksOpen T open_links → AreOpen C.lines open_links
+are_open T core log C open_links u links i w there =
+    let t = u.no_other i w there in
+    let g = u.running.lines i t.0 t.1 in
+    subst (λ (l : LinkNo). IsIn l open_links) (sym (ap (λ (v : Line). v.link) (some_same (sym there ∙ g.there)) ∙ g.link)) (links i t.0 t.1)
+
+pub ended_open : (risen : Type 0) (T : Setting) (core : CoreState) (log : List LogEntry) (C : CrewSeen) (end : Outcome) (open_links : List LinkNo) → IsStopping risen T core log C end → AreLinksOpen T open_links → AreOpen C.lines open_links
+ended_open risen T core log C end open_links u links i w there =
+    let t = u.no_other i w there in
+    let g = (u.lines i t.0 t.1).line in
+    subst (λ (l : LinkNo). IsIn l open_links) (sym (ap (λ (v : Line). v.link) (some_same (sym there ∙ g.there)) ∙ g.link)) (links i t.0 t.1)
+
+pub may_hear : (T : Setting) (core : CoreState) (log : List LogEntry) (C : CrewSeen) → GoesOn T core log C → SomeOpen core.plan core.entries → CanHear C
+may_hear T core log C u opened none = elim (can_hear T.started T.scenario T.replies (reply_in T) core.plan core.entries log (crew_of C) u.suits.sims u.running opened) [
+  | inl kept ↦ absurd (kept none)
+  | inr t ↦ let g = u.running.lines t.0 t.1 t.2 in (t.0, (g.line, g.there))
+]
+
+-- ---- a message was heard
+
+pub past_it : (T : Setting) (core : CoreState) (log entries : List LogEntry) (C D : CrewSeen) (s : SimNo) (m : Message) → GoesOn T core log C → Waits core → IsHeard entries s.0 m (crew_of C) (crew_of D) → D.sims ≡ C.sims
+    → ((k : Arrival) (more : List Arrival) → C.kept ≡ k ∷ more → IsFitSuccess m) → IsPast T core (log ++ entries) s m D
+past_it T core log entries C D s m u waits h sims fit = record {
+  before = log;
+  entries = entries;
+  parts = refl;
+  crew = crew_of C;
+  underway = subst (λ (l : _). IsUnderway T core.plan core.entries log (crew_of C) l) (sym sims) u;
+  nobody = waits.0;
+  heard = h;
+  fit = fit;
+}
+
+-- nothing was
+pub stopped_unheard : (T : Setting) (core : CoreState) (log entries : List LogEntry) (C D : CrewSeen) (h : Halt) (risen : Type 0) → GoesOn T core log C → Waits core → HearsNothing h entries C D → (h ≡ halt.Fleet → risen)
+    → IsStopping risen T core (log ++ entries) D (outcome_of h)
+stopped_unheard T core log entries C D h risen u waits un cause = subst (λ (g : Halt). IsStopping risen T core (log ++ entries) D (outcome_of g)) (sym un.is)
+    (unheard_ends T risen core.plan core.entries log entries C D u waits.0 un.unheard un.why (λ e. cause (un.is ∙ ap halt_of e)) un.shown)
+
+-- ---- an outcome stays, whatever rises besides
+
+ends_by : (some all : Type 0) (T : Setting) (core : CoreState) (log : List LogEntry) (C : CrewSeen) → (some → all) → (e : Outcome) → EndsBy some T core.plan core.entries log (crew_of C) e → EndsBy all T core.plan core.entries log (crew_of C) e
+ends_by some all T core log C more outcome.Done is = is
+ends_by some all T core log C more (outcome.Setup f) is = is
+ends_by some all T core log C more (outcome.Core f) is = is
+ends_by some all T core log C more outcome.Fleet is = more is
+ends_by some all T core log C more (outcome.Gone i) is = is
+ends_by some all T core log C more (outcome.Garbled i n) is = is
+ends_by some all T core log C more (outcome.LongFrame i n) is = is
+ends_by some all T core log C more (outcome.LongItem i n) is = is
+ends_by some all T core log C more outcome.Mem is = is
+
+pub stopping_by : (some all : Type 0) (T : Setting) (core : CoreState) (log : List LogEntry) (C : CrewSeen) (end : Outcome) → (some → all) → IsStopping some T core log C end → IsStopping all T core log C end
+stopping_by some all T core log C end more e = record {
+  suits = e.suits;
+  stands = e.stands;
+  patient = e.patient;
+  in_range = e.in_range;
+  kinds = e.kinds;
+  lines = e.lines;
+  no_other = e.no_other;
+  rests = e.rests;
+  setup_rests = e.setup_rests;
+  ends = ends_by some all T core log C more end e.ends;
+}
+
+-- ---- counts
+
+pub risen_on : (a b c : ℕ) → a ≤ b → HasRisen b c → HasRisen a c
+risen_on a b c ab (inl less) = inl (omega (arith, ab, less))
+risen_on a b c ab (inr last) = inr last
+
+pub risen_later : (a b c : ℕ) → b ≤ c → HasRisen a b → HasRisen a c
+risen_later a b c bc (inl less) = inl (omega (arith, bc, less))
+risen_later a b c bc (inr last) = inr (omega (arith, bc, last))
+
+-- ---- the core answered the message
+
+module _ (T : Setting) (core new : CoreState) (log : List LogEntry) (s : SimNo) (m : Message) (C : CrewSeen) (h : IsPast T core log s m C) (a : IsAnswered core s m new) (stands : Stands new.plan new.entries) where
+  ends_with_answer : EndsWithItem new s a.item (answered_opened T core new log s m C h a stands).0
+  ends_with_answer = record { before = core.entries ++ Got s m ∷ []; last = ap (λ (c : CoreState). c.entries) a.moved; opened = (answered_opened T core new log s m C h a stands).1 }
+
+  pub can_answer : CanSend new s C
+  can_answer =
+      let id = answered_opened T core new log s m C h a stands in
+      (a.item, id.0, ends_with_answer, record { replied = answered_replied T core new log s m C h a stands; linked = answered_linked T core new log s m C h a stands id.0 id.1 })
+
+  pub answered_on : RepliesAreKinds → (D : CrewSeen) → ((item : Item) (id : ℕ) → EndsWithItem new s item id → SendsAs s.0 item id C D) → GoesOn T new log D
+  answered_on law D so = let id = answered_opened T core new log s m C h a stands in answered_goes T core new log s m C h a stands law D id.0 id.1 (so a.item id.0 ends_with_answer)
+
+  pub answered_not : (end : Outcome) → ((item : Item) (id : ℕ) → EndsWithItem new s item id → IsUnsent end s.0 item C) → IsStopping ⊥ T new log C end
+  answered_not end why = subst (λ (c : CoreState). HasEnded ⊥ T c.plan c.entries log (crew_of C) end) (sym a.moved)
+      (unsent_ends T ⊥ _ core.plan (core.entries ++ Got s m ∷ []) log C s a.item h.underway.suits (heard_low T core.plan core.entries log s m (crew_of C) C.sims h)
+      (subst (λ (c : CoreState). Stands c.plan c.entries) a.moved stands) (patient_got core.plan core.entries s m h.underway.patient h.nobody)
+      (range_got core.entries s m h.underway.in_range (heard_fits T core.plan core.entries log s m (crew_of C) C.sims h)) (heard_running T core.plan core.entries log s m (crew_of C) C.sims h)
+      (heard_no_other T core.plan core.entries log s m (crew_of C) C.sims h) (heard_setup_rests T core.plan core.entries log s m (crew_of C) C.sims h) end (why a.item _ ends_with_answer))
+
+-- whether it was sent or not
+pub answered_so : (core new : CoreState) (s : SimNo) (m : Message) (C D : CrewSeen) (r : Result (Unit {0}) Outcome) → IsAnswered core s m new → Stands new.plan new.entries → RepliesAreKinds
+    → OnOk r ((item : Item) (id : ℕ) → EndsWithItem new s item id → SendsAs s.0 item id C D) → IfErr r (λ end. (item : Item) (id : ℕ) → EndsWithItem new s item id → IsUnsent end s.0 item C) → OnErr r (D ≡ C) → TakesAs r s m core C new D
+answered_so core new s m C D (Ok done) a stands law sent unsent same = (ap (λ (c : CoreState). c.ended) a.moved, λ T log h. answered_on T core new log s m C h a stands law D sent)
+answered_so core new s m C D (Err end) a stands law sent unsent same = λ T log h. subst (λ (E : CrewSeen). IsStopping ⊥ T new log E end) (sym same) (answered_not T core new log s m C h a stands end unsent)
+
+-- ---- a turn
+
+-- the core was given the message that was heard
+pub heard_turn : (risen : Type 0) (core new : CoreState) (entries : List LogEntry) (C D E : CrewSeen) (s : SimNo) (m : Message) (r : Result (Unit {0}) Outcome) → Waits core → IsHeard entries s.0 m (crew_of C) (crew_of D) → D.sims ≡ C.sims
+    → ((k : Arrival) (more : List Arrival) → C.kept ≡ k ∷ more → IsFitSuccess m) → TakesAs r s m core D new E → TurnsAs r entries risen core C new E
+heard_turn risen core new entries C D E s m (Ok done) waits h sims fit t = (t.0, λ T log u. t.1 T (log ++ entries) (past_it T core log entries C D s m u waits h sims fit))
+heard_turn risen core new entries C D E s m (Err end) waits h sims fit t = λ T log u. stopping_by ⊥ risen T new (log ++ entries) E end (λ e. absurd e) (t T (log ++ entries) (past_it T core log entries C D s m u waits h sims fit))
+
+-- whoever was ready was asked before
+pub settled_turn : (risen : Type 0) (old mid new : CoreState) (entries : List LogEntry) (C D E : CrewSeen) (r : Result (Unit {0}) Outcome) → ((T : Setting) (log : List LogEntry) → GoesOn T old log C → GoesOn T mid log D) → TurnsAs r entries risen mid D new E → TurnsAs r entries risen old C new E
+settled_turn risen old mid new entries C D E (Ok done) goes t = (t.0, λ T log u. t.1 T log (goes T log u))
+settled_turn risen old mid new entries C D E (Err end) goes t = λ T log u. t T log (goes T log u)
+
+-- the run ended while whoever was ready was asked
+pub settled_end : (risen : Type 0) (old new : CoreState) (C D : CrewSeen) (end : Outcome) → ((T : Setting) (log : List LogEntry) → GoesOn T old log C → IsStopping ⊥ T new log D end) → TurnsAs (Err end) [] risen old C new D
+settled_end risen old new C D end ends = λ T log u. subst (λ (l : List LogEntry). IsStopping risen T new l D end) (sym (append_nil log)) (stopping_by ⊥ risen T new log D end (λ e. absurd e) (ends T log u))
+
+-- ---- turns one after another
+
+-- by these entries the run has gone on
+pub record Gone (old new : CoreState) (C D : CrewSeen) (before after : Option (List LogEntry)) : Type 0 where
+  pub entries : List LogEntry
+  pub adds : Adds entries before after
+  pub goes : (T : Setting) (log : List LogEntry) → GoesOn T old log C → GoesOn T new (log ++ entries) D
+
+pub none_gone : (core : CoreState) (C : CrewSeen) (log : Option (List LogEntry)) → Gone core core C C log log
+none_gone core C log = record { entries = []; adds = adds_none log; goes = λ T l u. subst (λ (k : List LogEntry). GoesOn T core k C) (sym (append_nil l)) u }
+
+pub gone_on : (old mid new : CoreState) (C D E : CrewSeen) (first second third : Option (List LogEntry)) (more : List LogEntry) → Gone old mid C D first second → Adds more second third
+    → ((T : Setting) (log : List LogEntry) → GoesOn T mid log D → GoesOn T new (log ++ more) E) → Gone old new C E first third
+gone_on old mid new C D E first second third more one adds goes = record {
+  entries = one.entries ++ more;
+  adds = adds_more one.entries more first second third one.adds adds;
+  goes = λ T log u. subst (λ (k : List LogEntry). GoesOn T new k E) (append_assoc log one.entries more) (goes T (log ++ one.entries) (one.goes T log u));
+}
+
+pub gone_to_end : (some all : Type 0) (old mid new : CoreState) (C D E : CrewSeen) (first second third : Option (List LogEntry)) (more : List LogEntry) (end : Outcome) → (some → all) → Gone old mid C D first second → Adds more second third
+    → TurnsAs (Err end) more some mid D new E → (entries : List LogEntry) × Adds entries first third × TurnsAs (Err end) entries all old C new E
+gone_to_end some all old mid new C D E first second third more end rises one adds ends = (
+  one.entries ++ more,
+  adds_more one.entries more first second third one.adds adds,
+  (λ T log u. subst (λ (k : List LogEntry). IsStopping all T new k E end) (append_assoc log one.entries more) (stopping_by some all T new ((log ++ one.entries) ++ more) E end rises (ends T (log ++ one.entries) (one.goes T log u)))),
+)

@@ -1,0 +1,90 @@
+-- From the end of a run, and the stop of its crew, to what the whole run means.
+use Rattle.std.proofs.Common.{◌≡◌, inl, inr, ℕ, List, ◌∷◌, ◌++◌, Some, refl, sym, subst}
+use Rattle.mk_base.specs.declared.LinkNo.{LinkNo}
+use Rattle.mk_base.proofs.Lists.{in_front}
+use Rattle.mk_plan.specs.declared.Plan.{Plan}
+use Rattle.mk_plan.specs.declared.Entry.{Entry}
+use Rattle.mk_plan.specs.Journals.{sent, got}
+use Rattle.mk_plan.specs.Orderly.{IsEager}
+use Rattle.mk_frame.specs.Frames.{IsTooLong}
+use Rattle.mk_session.specs.Fronts.{BeginsGarbled}
+use Rattle.mk_scenario.specs.declared.parts.Scenario.{Scenario}
+use Rattle.mk_outside.specs.Counts.{HasRisen}
+use Rattle.mk_outside.specs.declared.fleet.LogEntry.{LogEntry}
+use Rattle.mk_outside.specs.declared.fleet.LogEntry.TheVariants.{Rest, Ended}
+use Rattle.mk_links.specs.Handshake.{sim_link}
+use Rattle.mk_links.specs.Crews.{CrewState, AreStopped, IsRestless}
+use Rattle.mk_links.specs.Rests.{run_messages}
+use Rattle.mk_links.specs.Runs.{IsLinkOfRun}
+use Rattle.mk_links.proofs.Stepping.{first_or_second}
+use Rattle.mk_links.proofs.Ending.{link_ended, all_given, rest_held, rests_stopped}
+use Rattle.mk_links.proofs.Resting.{rests_well}
+use Rattle.mk_run.specs.declared.outcome.Outcome.{Outcome}
+use Rattle.mk_run.specs.declared.outcome.Outcome.TheVariants as outcome
+use Rattle.mk_run.specs.Ends.{ShownBy, SetupRestsWell, IsRun}
+use Rattle.mk_run.specs.Underway.{Setting, reply_in, EndsBy, HasGiven, HasEnded, IsLastLine}
+
+stopped_by : (entries : List LogEntry) (some all : Type 0) (C : CrewState) → (some → all) → AreStopped entries some C → AreStopped entries all C
+stopped_by entries some all C more stopped i w there =
+    let s = stopped i w there in
+    record { unheard = s.unheard; said = s.said; whole = elim s.whole [ inl said ↦ inl said | inr why ↦ inr (elim why [ inl held ↦ inl held | inr risen ↦ inr (more risen) ]) ] }
+
+-- at the rests of the handshake, a stop adds none
+pub setup_rests_more : (started : ℕ) (S : Scenario) (log entries : List LogEntry) → ((before after : List LogEntry) → entries ≡ before ++ Rest ∷ after → ⊥) → SetupRestsWell started S log → SetupRestsWell started S (log ++ entries)
+setup_rests_more started S log entries restless rests before after is not_up = elim (first_or_second log entries before after Rest is) [
+  | inl t ↦ rests before t.0 t.1 not_up
+  | inr t ↦ absurd (restless t.0 after t.2)
+]
+
+module _ (T : Setting) (P : Plan) (J : List Entry) (log entries : List LogEntry) (C : CrewState) (end : Outcome) (faults new_faults : ℕ) (by_run by_stop : Type 0)
+    (risen : by_run → HasRisen faults new_faults) (rises : by_stop → HasRisen faults new_faults) (ended : HasEnded by_run T P J log C end) (stop : AreStopped entries by_stop C) (restless : IsRestless entries) where
+  stopped : AreStopped entries (HasRisen faults new_faults) C
+  stopped = stopped_by entries by_stop (HasRisen faults new_faults) C rises stop
+
+  linked_so : (i : ℕ) (l : LinkNo) (linked : sim_link T.started T.scenario i ≡ Some l) (t : IsLastLine T J log C end i l) → IsLinkOfRun T.scenario T.replies J (log ++ entries) (HasRisen faults new_faults) i l t.items
+  linked_so i l linked t = link_ended T.started T.scenario T.replies ended.suits.counts J log entries (HasRisen faults new_faults) C stopped i l linked t.messages t.items t.line t.given t.queued
+
+  -- all messages of a line that holds no further one were got, and behind them is what is held
+  all_got : (i : ℕ) (l : LinkNo) (g : HasGiven T J log C i l) → got J i ≡ run_messages T.scenario (log ++ entries) i l
+  all_got i l g = sym (all_given T.started T.scenario T.replies ended.suits.counts J log entries (HasRisen faults new_faults) C stopped i l g.linked (got J i) (sent J i) g.line g.none_held)
+
+  shown : (e : Outcome) → EndsBy by_run T P J log C e → ShownBy T.started T.scenario P J (log ++ entries) faults new_faults e
+  shown outcome.Done is = is
+  shown (outcome.Setup f) is = is
+  shown (outcome.Core f) is = is
+  shown outcome.Fleet is = risen is
+  shown (outcome.Gone i) is = (is.0, record { linked = is.1.linked; all = all_got i.0 is.0 is.1 }, in_front (Ended is.0) log entries is.2)
+  shown (outcome.Garbled i n) is = (
+    is.0,
+    record { linked = is.1.linked; all = all_got i.0 is.0 is.1 },
+    subst (λ (b : List ℕ). BeginsGarbled b n)
+        (sym (rest_held T.started T.scenario T.replies ended.suits.counts J log entries (HasRisen faults new_faults) C stopped i.0 is.0 is.1.linked (got J i.0) (sent J i.0) is.1.line is.1.none_held)) is.2,
+  )
+  shown (outcome.LongFrame i n) is = (
+    is.0,
+    record { linked = is.1.linked; all = all_got i.0 is.0 is.1 },
+    subst (IsTooLong n)
+        (sym (rest_held T.started T.scenario T.replies ended.suits.counts J log entries (HasRisen faults new_faults) C stopped i.0 is.0 is.1.linked (got J i.0) (sent J i.0) is.1.line is.1.none_held)) is.2,
+  )
+  shown (outcome.LongItem i n) is = is
+  shown outcome.Mem is = is
+
+  eager : IsEager P J
+  eager = (ended.stands.orderly, ended.patient)
+
+  pub whole : IsRun T.started T.scenario (reply_in T) P J (log ++ entries) faults new_faults end
+  whole = record {
+    replies = T.replies;
+    valid = ended.stands.valid;
+    journal = record { sims = ended.suits.sims; orderly = ended.stands.orderly.0; kinds = ended.kinds; links = λ i l linked. (linked_so i l linked (ended.lines i l linked)).got };
+    eager = eager;
+    in_range = ended.in_range;
+    links = λ i l linked. let t = ended.lines i l linked in (t.items, linked_so i l linked t, t.queued_all);
+    rests = rests_well T.started T.scenario T.replies ended.suits.counts P J (log ++ entries) (rests_stopped T.started T.scenario T.replies P J log entries restless ended.rests);
+    setup_rests = setup_rests_more T.started T.scenario log entries restless ended.setup_rests;
+    shown = shown end ended.ends;
+  }
+
+  pub whole_replies : whole.replies ≡ T.replies
+  unfolding whole
+  whole_replies = refl

@@ -1,0 +1,124 @@
+-- How a run ends that has a plan, what each end shows, and what a whole run means.
+use Rattle.std.specs.Prelude.{◌≡◌, ℕ, ◌<◌, ◌⊎◌, ⊤, List, [], ◌∷◌, ◌++◌, length, true, Some, None, IsSome}
+use Rattle.mk_base.specs.declared.LinkNo.{LinkNo}
+use Rattle.mk_base.specs.declared.SimNo.{SimNo}
+use Rattle.mk_base.specs.Lists.{IsIn}
+use Rattle.mk_plan.specs.declared.Plan.{Plan}
+use Rattle.mk_plan.specs.declared.Item.{Item}
+use Rattle.mk_plan.specs.declared.Message.{Message}
+use Rattle.mk_plan.specs.declared.Entry.{Entry}
+use Rattle.mk_plan.specs.declared.Entry.TheVariants.{Sent, Got}
+use Rattle.mk_plan.specs.Plans.{first_id, IsValidPlan}
+use Rattle.mk_plan.specs.Journals.{view, sent, got}
+use Rattle.mk_plan.specs.Ready.{IsDone}
+use Rattle.mk_plan.specs.Orderly.{IsEager}
+use Rattle.mk_frame.specs.Frames.{limit, IsTooLong}
+use Rattle.mk_message.specs.Written.{item_text, is_in_range}
+use Rattle.mk_scenario.specs.declared.parts.Scenario.{Scenario}
+use Rattle.mk_outside.specs.Counts.{HasRisen}
+use Rattle.mk_outside.specs.declared.fleet.LogEntry.{LogEntry}
+use Rattle.mk_outside.specs.declared.fleet.LogEntry.TheVariants.{Ended, Rest}
+use Rattle.mk_outside.specs.Logs.{heard_on}
+use Rattle.mk_session.specs.Fronts.{BeginsGarbled}
+use Rattle.mk_sched.specs.declared.faults.CoreFault.{CoreFault}
+use Rattle.mk_sched.specs.declared.faults.CoreFault.TheVariants.{TooLong}
+use Rattle.mk_sched.specs.Answers.{fault_in}
+use Rattle.mk_links.specs.Hearing.{rest_heard}
+use Rattle.mk_links.specs.Handshake.{sim_link}
+use Rattle.mk_links.specs.Payloads.{id_after}
+use Rattle.mk_links.specs.Kinds.{Replies}
+use Rattle.mk_links.specs.Rests.{run_messages, AllSetUp, IsWellInSetup, RestsWell}
+use Rattle.mk_links.specs.Running.{SetupReplies}
+use Rattle.mk_links.specs.Runs.{IsLinkOfRun}
+use Rattle.mk_links.specs.Laws.{IsJournalOf}
+use Rattle.mk_run.specs.declared.outcome.Outcome.{Outcome}
+use Rattle.mk_run.specs.declared.outcome.Outcome.TheVariants as outcome
+
+-- every item of the journal was queued; but for the last, where it was too long or there was no memory for it
+abbrev pub QueuedAll : Outcome → List Item → List Item → Type 0
+QueuedAll outcome.Done all queued = queued ≡ all
+QueuedAll (outcome.Setup f) all queued = queued ≡ all
+QueuedAll (outcome.Core f) all queued = queued ≡ all
+QueuedAll outcome.Fleet all queued = queued ≡ all
+QueuedAll (outcome.Gone i) all queued = queued ≡ all
+QueuedAll (outcome.Garbled i n) all queued = queued ≡ all
+QueuedAll (outcome.LongFrame i n) all queued = queued ≡ all
+QueuedAll (outcome.LongItem i n) all queued = ⊤
+QueuedAll outcome.Mem all queued = ⊤
+
+-- the last entry is a message that makes this fault, and there was none before
+pub record IsLastFaulty (P : Plan) (J : List Entry) (f : CoreFault) : Type 0 where
+  pub before : List Entry
+  pub sim : SimNo
+  pub message : Message
+  pub is : J ≡ before ++ Got sim message ∷ []
+  pub right_before : (view P before).fault ≡ None
+  pub named : IsSome (fault_in f)
+  pub fault : (view P J).fault ≡ fault_in f
+
+-- the journal is full, and there is no other fault
+pub record IsFull (P : Plan) (J : List Entry) (f : CoreFault) : Type 0 where
+  pub named : f ≡ TooLong P.entries
+  pub full : length J ≡ P.entries
+  pub no_fault : (view P J).fault ≡ None
+
+-- all messages of the run that were heard of simulator i were got
+pub record HasGotAll (started : ℕ) (S : Scenario) (log : List LogEntry) (J : List Entry) (i : ℕ) (l : LinkNo) : Type 0 where
+  pub linked : sim_link started S i ≡ Some l
+  pub all : got J i ≡ run_messages S log i l
+
+-- the journal's last item is one to i whose payload has n bytes, more than a frame may have
+pub record IsLongItem (P : Plan) (J : List Entry) (i n : ℕ) : Type 0 where
+  pub before : List Entry
+  pub sim : SimNo
+  pub item : Item
+  pub is : J ≡ before ++ Sent sim item ∷ []
+  pub to : sim.0 ≡ i
+  pub bytes : length (item_text (id_after (first_id P i) (sent before i)) item) ≡ n
+  pub beyond : limit < n
+
+-- what the outcome shows
+abbrev pub ShownBy : ℕ → Scenario → Plan → List Entry → List LogEntry → ℕ → ℕ → Outcome → Type 0
+ShownBy started S P J log faults new_faults outcome.Done = IsDone P (view P J)
+ShownBy started S P J log faults new_faults (outcome.Setup f) = ⊥
+ShownBy started S P J log faults new_faults (outcome.Core f) = IsLastFaulty P J f ⊎ IsFull P J f
+ShownBy started S P J log faults new_faults outcome.Fleet = HasRisen faults new_faults
+ShownBy started S P J log faults new_faults (outcome.Gone i) = (l : LinkNo) × HasGotAll started S log J i.0 l × IsIn (Ended l) log
+ShownBy started S P J log faults new_faults (outcome.Garbled i n) = (l : LinkNo) × HasGotAll started S log J i.0 l × BeginsGarbled (rest_heard (heard_on l log)) n
+ShownBy started S P J log faults new_faults (outcome.LongFrame i n) = (l : LinkNo) × HasGotAll started S log J i.0 l × IsTooLong n (rest_heard (heard_on l log))
+ShownBy started S P J log faults new_faults (outcome.LongItem i n) = IsLongItem P J i.0 n
+ShownBy started S P J log faults new_faults outcome.Mem = ⊤
+
+-- at each rest of the handshake its clause stands
+abbrev pub SetupRestsWell : ℕ → Scenario → List LogEntry → Type 0
+SetupRestsWell started S log = (before after : List LogEntry) → log ≡ before ++ Rest ∷ after → (AllSetUp started S before → ⊥) → IsWellInSetup started S before
+
+-- each message in the journal has whole numbers that may be written
+abbrev pub AreInRange : List Entry → Type 0
+AreInRange J = (H : List Entry) (s : SimNo) (m : Message) (more : List Entry) → J ≡ H ++ Got s m ∷ more → is_in_range m ≡ true
+
+-- a run with a plan and a journal, over the entries that it added to the log
+pub record IsRun (started : ℕ) (S : Scenario) (reply : Replies) (P : Plan) (J : List Entry) (log : List LogEntry) (faults new_faults : ℕ) (end : Outcome) : Type 0 where
+  pub replies : SetupReplies
+  pub valid : IsValidPlan P
+  pub journal : IsJournalOf started S reply P log J
+  pub eager : IsEager P J
+  pub in_range : AreInRange J
+  pub links : (i : ℕ) (l : LinkNo) → sim_link started S i ≡ Some l → (items : List Item) × IsLinkOfRun S replies J log (HasRisen faults new_faults) i l items × QueuedAll end (sent J i) items
+  pub rests : RestsWell started S P J log
+  pub setup_rests : SetupRestsWell started S log
+  pub shown : ShownBy started S P J log faults new_faults end
+
+-- nothing went wrong that a run can show
+pub record IsFaultless (started : ℕ) (S : Scenario) (P : Plan) (J : List Entry) (log : List LogEntry) (faults new_faults : ℕ) : Type 0 where
+  pub no_fault : (view P J).fault ≡ None
+  pub roomy : length J ≡ P.entries → ⊥
+  pub counts : HasRisen faults new_faults → ⊥
+  pub open_links : (i : ℕ) (l : LinkNo) → sim_link started S i ≡ Some l → IsIn (Ended l) log → ⊥
+  pub right_frames : (i : ℕ) (l : LinkNo) (n : ℕ) → sim_link started S i ≡ Some l → BeginsGarbled (rest_heard (heard_on l log)) n ⊎ IsTooLong n (rest_heard (heard_on l log)) → ⊥
+  pub short_items : (i n : ℕ) → IsLongItem P J i n → ⊥
+
+-- then it ended because nothing was left to do, or for want of memory
+abbrev pub Completes : Type 0
+Completes = (started : ℕ) (S : Scenario) (reply : Replies) (P : Plan) (J : List Entry) (log : List LogEntry) (faults new_faults : ℕ) (end : Outcome) → IsRun started S reply P J log faults new_faults end
+    → IsFaultless started S P J log faults new_faults → (end ≡ outcome.Done) ⊎ (end ≡ outcome.Mem)

@@ -1,0 +1,27 @@
+// What holds of every run.
+ghost use Rattle.mk_run.specs.Ends.{Completes};
+ghost use Rattle.mk_run.specs.Laws.{KindsFit, RunsAreRight};
+
+use mk_local::metadata_is_accepted;
+use mk_setup::replies_make;
+use mk_within::kinds_are_right;
+
+/// A run with a plan has said on its links what sequential execution sends over all messages that may come, and at its end all
+/// of it; the max_advance of each Step is a promise; and wherever it rested, nobody was ready and all was said.
+pub fn runs_are_right()
+    ensures { RunsAreRight }
+{}
+
+/// A run in which nothing went wrong ends because nothing is left to do, or for want of memory.
+pub fn runs_complete()
+    ensures { Completes }
+{}
+
+/// In the plan of a run no reply of a simulator within the program is wrong, whatever the other simulators send.
+pub fn kinds_fit()
+    ensures { KindsFit }
+{
+    metadata_is_accepted();
+    replies_make();
+    kinds_are_right();
+}

@@ -1,0 +1,13 @@
+//! A run of a scenario over a fleet: the simulators are started, the handshake is made, and then whoever is ready is asked
+//! and a message is heard, until nothing is left to do or something stands in the way.
+#![tactic(auto)]
+
+mod driving;
+mod laws;
+mod outcome;
+mod running;
+mod sending;
+
+pub use laws::{kinds_fit, runs_are_right, runs_complete};
+pub use outcome::{Outcome, Ran};
+pub use running::run;

@@ -1,0 +1,104 @@
+// A run over a fleet.
+ghost use Rattle.std.specs.Prelude.{◌≡◌, ◌≤◌, ◌<◌, ◌++◌, ℕ, List, [], None, Some, map};
+ghost use Rattle.mk_base.specs.Lists.{Each};
+ghost use Rattle.mk_outside.specs.declared.fleet.LogEntry.{LogEntry};
+ghost use Rattle.mk_outside.specs.Logs.{Adds};
+ghost use Rattle.mk_scenario.specs.Wellformed.{IsWellformed};
+ghost use Rattle.mk_launch.specs.Ready.{IsPrepared};
+ghost use Rattle.mk_launch.specs.Starts.{links_in};
+ghost use Rattle.mk_local.specs.Kinds.{name_of};
+ghost use Rattle.mk_local.specs.Registries.{rows_in};
+ghost use Rattle.mk_crew.specs.Places.{without_all};
+ghost use Rattle.mk_plan.specs.Plans.{IsValidPlan};
+ghost use Rattle.mk_setup.specs.Ranked.{AreRanksOf};
+ghost use Rattle.mk_within.specs.Seen.{AreOf};
+ghost use Rattle.mk_begin.specs.Seen.{crew_of, within_of};
+ghost use Rattle.mk_run.specs.Ran.{RunsAs};
+ghost use Rattle.mk_run.specs.Underway.{IsUnderway, Setting};
+ghost use Rattle.mk_run.specs.Turns.{AreLinksOpen, PlanRunsAs};
+
+use crate::driving::drive;
+use crate::outcome::{Outcome, Ran, outcome_of};
+use mk_base::List;
+use mk_begin::Crew;
+use mk_local::Registry;
+use mk_outside::Fleet;
+use mk_plan::Plan;
+use mk_scenario::Scenario;
+use mk_sched::Core;
+use std::alloc::Global;
+use std::sync::Wait;
+
+/// Runs a prepared scenario with its ranks over a fleet whose open links have the numbers of started ones. The simulators are started and the handshake is made with each;
+/// then whoever is ready is asked, and one message is heard, and so on until the first outcome. Simulators within the program
+/// are of these kinds. At the end each link that was started is stopped and closed, for which no memory is needed.
+///
+/// The plan and the journal are there wherever the handshake was made and there was memory for the run.
+pub fn run<F: Fleet, R: Wait>(
+    rt: &R,
+    alloc: Global,
+    scenario: Scenario,
+    ranks: List<u32>,
+    fleet: &mut F,
+    kinds: &Registry,
+) -> Ran
+    requires wellformed { IsWellformed scenario }
+    requires ranked { AreRanksOf scenario ranks }
+    requires prepared { IsPrepared scenario (map name_of (rows_in kinds.now)) }
+    requires numbered { Each (λ link. link.0 < F.started fleet.old) (F.open_links fleet.old) }
+    ensures count { F.faults fleet.old ≤ F.faults fleet.new }
+    ensures ran { (entries : List LogEntry) × Adds entries (F.log fleet.old) (F.log fleet.new)
+        × RunsAs (F.started fleet.old) scenario ranks (rows_in kinds.now) result.plan result.journal entries (F.faults fleet.old) (F.faults fleet.new) result.outcome }
+    ensures closed { F.open_links fleet.new ≡ F.open_links fleet.old }
+{
+    match Crew::begin(rt, alloc, scenario, ranks, fleet, kinds) {
+        Ok((crew, plan)) => run_plan(rt, alloc, plan, crew, fleet, kinds),
+        Err(halt) => Ran {
+            outcome: outcome_of(halt),
+            plan: None,
+            journal: None,
+        },
+    }
+}
+
+// Runs a plan over the crew that the handshake left, and stops it.
+fn run_plan<F: Fleet, R: Wait>(
+    rt: &R,
+    alloc: Global,
+    plan: Plan,
+    crew: Crew,
+    fleet: &mut F,
+    kinds: &Registry,
+) -> Ran
+    requires valid { IsValidPlan plan }
+    requires unhalted { crew.halt ≡ None }
+    requires known { AreOf (rows_in kinds.now) (within_of crew) }
+    requires underway { (T : Setting) × (log : List LogEntry) × IsUnderway T plan [] log (crew_of crew) crew.sims × AreLinksOpen T (F.open_links fleet.old) }
+    ensures count { F.faults fleet.old ≤ F.faults fleet.new }
+    ensures ran { (entries : List LogEntry) × Adds entries (F.log fleet.old) (F.log fleet.new)
+        × PlanRunsAs plan crew entries (F.faults fleet.old) (F.faults fleet.new) result.plan result.journal result.outcome }
+    ensures closed { F.open_links fleet.new ≡ without_all (links_in crew.places) (F.open_links fleet.old) }
+{
+    let mut crew = crew;
+    match Core::new(alloc, plan) {
+        Ok(core) => {
+            let mut core = core;
+            let outcome = drive(rt, &mut core, &mut crew, fleet, kinds);
+            crew.stop(fleet);
+            let (plan, journal) = core.into_parts();
+            Ran {
+                outcome,
+                plan: Some(plan),
+                journal: Some(journal),
+            }
+        }
+        Err(_) => {
+            crew.stop(fleet);
+            Ran {
+                outcome: Outcome::Mem,
+                plan: None,
+                journal: None,
+            }
+        }
+    }
+}

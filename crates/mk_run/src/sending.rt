@@ -1,0 +1,42 @@
+// The items that the core's answers leave to be sent.
+ghost use Rattle.std.specs.Prelude.{◌≡◌, ◌<◌, ℕ, List, IfErr, None, OnErr, OnOk};
+ghost use Rattle.mk_local.specs.declared.turn.Turn.{Turn};
+ghost use Rattle.mk_local.specs.Registries.{rows_in};
+ghost use Rattle.mk_plan.specs.declared.Item.{Item};
+ghost use Rattle.mk_plan.specs.Plans.{sim_count};
+ghost use Rattle.mk_within.specs.Seen.{AreOf};
+ghost use Rattle.mk_begin.specs.Calls.{SendsAs};
+ghost use Rattle.mk_begin.specs.Seen.{within_of};
+ghost use Rattle.mk_run.specs.Sendings.{CanSend, EndsWithItem, IsUnsent};
+
+use crate::outcome::{Outcome, outcome_of};
+use mk_base::SimNo;
+use mk_begin::Crew;
+use mk_local::Registry;
+use mk_plan::{Entry, Journal};
+use mk_sched::Core;
+
+// Sends the simulator the item that the journal ends with, with the id of the request that is open there.
+pub fn send_last(core: &Core, crew: &mut Crew, kinds: &Registry, sim: SimNo) -> Result<(), Outcome>
+    requires going { core.now.ended ≡ None }
+    requires there { sim.0 < sim_count core.now.plan }
+    requires known { AreOf (rows_in kinds.now) (within_of crew.old) }
+    requires due { CanSend core.now sim crew.old }
+    ensures sent { OnOk result ((item : Item) → (id : ℕ) → EndsWithItem core.now sim item id → SendsAs sim.0 item id crew.old crew.new) }
+    ensures unsent { IfErr result (λ end. (item : Item) → (id : ℕ) → EndsWithItem core.now sim item id → IsUnsent end sim.0 item crew.old) }
+    ensures err { OnErr result (crew.new ≡ crew.old) }
+    ensures same_places { crew.new.places ≡ crew.old.places }
+    ensures same_halt { crew.new.halt ≡ crew.old.halt }
+    ensures kinds { (rows : List Turn) → AreOf rows (within_of crew.old) → AreOf rows (within_of crew.new) }
+{
+    let Some(id) = core.id_of(sim) else {
+        unreachable!()
+    };
+    let Some(Entry::Sent(_, item)) = core.journal().entries.as_slice().last() else {
+        unreachable!()
+    };
+    match crew.send(kinds, sim, item, id) {
+        Ok(()) => Ok(()),
+        Err(halt) => Err(outcome_of(halt)),
+    }
+}
