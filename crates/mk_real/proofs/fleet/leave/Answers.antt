@@ -1,0 +1,7 @@
+use Rattle.std.proofs.Common.{rules, ◌≡◌, not, refl}
+use Rattle.mk_outside.specs.Logs.{same_link}
+use Rattle.mk_real.proofs.Filtering.{filtered}
+use Rattle.mk_real.proofs.fleet.leave.Goals as goal
+
+pub returns : goal.returns
+returns c = filtered _ (λ other. not (same_link other c.args.link)) (λ p. p.0.now ≡ c.args.link.0) (λ p x b q holds says. search rules) _ _ _ refl c.retain.ensures.filtered

@@ -1,0 +1,280 @@
+// Links to simulators over sockets on this machine.
+ghost use Rattle.std.specs.Prelude.{◌≡◌, ◌≢◌, ◌<◌, [], IfOk, length};
+ghost use Rattle.mk_outside.specs.Fleets.{ReadAs, without};
+
+use crate::desk::{Desk, mark};
+use crate::door::{Door, connect};
+use crate::socket::{Socket, end, spawn};
+use crate::ticks::Ticks;
+use mk_base::{LinkNo, List, Text};
+use mk_outside::{Fleet, Listened, Now, Paced, ReadLink, Slept, Start, Started, Waited, WriteLink};
+use std::alloc::Global;
+use std::io::{ErrorKind, Stderr};
+use std::net::Net;
+use std::process::{OpenProcess, Processes};
+use std::time::{Clock, Duration};
+use std::{io, thread};
+
+// How long a child has to connect, and a port to answer, in seconds.
+const PATIENCE: u64 = 60;
+
+// What a fleet opens links with. What children print goes to the output.
+#[derive(Drop)]
+pub struct Host<R> {
+    pub rt: R,
+    pub alloc: Global,
+    pub output: Stderr,
+}
+
+/// Links over sockets, to child programs and to ports on this machine, with the machine's clock. It opens nothing until
+/// a call needs it, tells no log, and counts each error of the system in its faults.
+#[derive(Drop)]
+pub struct MioFleet<R: Net + Processes + Clock> {
+    host: Host<R>,
+    door: Option<Door>,
+    desk: Option<Desk>,
+    // By the links' numbers; none where the link is closed.
+    sockets: Vec<Option<Socket<R::Started>>>,
+    links: Vec<LinkNo>,
+    ticks: Ticks,
+    faults: u64,
+}
+
+impl<'a> MioFleet<&'a HostRuntime> {
+    /// A fleet without links.
+    pub fn new(alloc: Global, rt: &'a HostRuntime) -> MioFleet<&'a HostRuntime>
+        ensures faults { result.faults ≡ 0 }
+        ensures started { result.sockets.items ≡ [] }
+        ensures links { result.links.items ≡ [] }
+    {
+        MioFleet {
+            host: Host {
+                rt,
+                alloc,
+                output: rt.stderr(),
+            },
+            door: None,
+            desk: None,
+            sockets: Vec::new(alloc),
+            links: Vec::new(alloc),
+            ticks: Ticks::new(),
+            faults: 0,
+        }
+    }
+}
+
+// Starts a child, and takes in its connection. A child that doesn't connect is ended.
+pub(crate) fn start_child<R: Net + Processes + Clock>(
+    host: &Host<R>,
+    door: Option<Door>,
+    words: &List<Text>,
+    patience: Duration,
+) -> io::Result<Socket<R::Started>> {
+    let Some(door) = door else {
+        return Err(io::Error::from(ErrorKind::NotConnected));
+    };
+    let child = spawn(&host.rt, host.alloc, words.as_slice(), host.output)?;
+    match door.admit(&host.rt, patience) {
+        Ok(stream) => Ok(Socket::new(stream, Some(child))),
+        Err(e) => {
+            end(child);
+            Err(e)
+        }
+    }
+}
+
+// The socket of a new link.
+fn begin<R: Net + Processes + Clock>(
+    host: &Host<R>,
+    door: &mut Option<Door>,
+    start: &Start,
+) -> io::Result<Socket<R::Started>> {
+    let patience = Duration::from_secs(PATIENCE);
+    match start {
+        Start::Command(words) => start_child(host, door.take(), words, patience),
+        Start::Connect(port) => {
+            let stream = connect(&host.rt, host.alloc, *port, patience)?;
+            Ok(Socket::new(stream, None))
+        }
+    }
+}
+
+// Opens the link of this number, and what all links share if it isn't there yet.
+fn open<R: Net + Processes + Clock>(
+    host: &Host<R>,
+    door: &mut Option<Door>,
+    desk: &mut Option<Desk>,
+    start: &Start,
+    number: usize,
+) -> io::Result<Socket<R::Started>> {
+    if desk.is_none() {
+        *desk = Some(Desk::new(&host.rt, host.alloc)?);
+    }
+    let mut socket = begin(host, door, start)?;
+    let registered = match desk {
+        Some(desk) => desk.register(&mut socket, number),
+        None => Err(io::Error::from(ErrorKind::NotFound)),
+    };
+    match registered {
+        Ok(()) => Ok(socket),
+        Err(e) => {
+            socket.give_up();
+            Err(e)
+        }
+    }
+}
+
+// Reads on the link of this number.
+fn read_on<P: OpenProcess + Drop>(
+    desk: &mut Option<Desk>,
+    sockets: &mut [Option<Socket<P>>],
+    number: usize,
+    into: &mut [u8],
+) -> ReadLink
+    requires { into.old ≢ [] }
+    ensures { ReadAs result into.old into.new }
+{
+    let Some(desk) = desk else {
+        return ReadLink::Failed;
+    };
+    match sockets.get_mut(number) {
+        Some(Some(socket)) => desk.read(socket, into),
+        _ => ReadLink::Failed,
+    }
+}
+
+// Waits until one of these links is ready, and gives its place.
+fn find_ready<P: OpenProcess + Drop>(
+    desk: &mut Option<Desk>,
+    sockets: &mut [Option<Socket<P>>],
+    links: &[LinkNo],
+) -> io::Result<usize>
+    ensures { IfOk result (λ place. place < length links.now) }
+{
+    match desk {
+        Some(desk) => desk.find_ready(sockets, links),
+        None => Err(io::Error::from(ErrorKind::NotFound)),
+    }
+}
+
+impl<R: Net + Processes + Clock> Fleet for MioFleet<R> {
+    ghost use Rattle.std.specs.Prelude.{None};
+
+    ghost faults = { λ f. f.faults };
+
+    ghost started = { λ f. length f.sockets.items };
+
+    ghost open_links = { λ f. f.links.items };
+
+    ghost log = { λ _. None };
+
+    fn listen(&mut self) -> Listened {
+        self.door = None;
+        match Door::open(&self.host.rt, self.host.alloc) {
+            Ok((door, port)) => {
+                self.door = Some(door);
+                Listened::At(port)
+            }
+            Err(e) if e.kind() == ErrorKind::OutOfMemory => Listened::Mem,
+            Err(_) => {
+                self.faults = self.faults.saturating_add(1);
+                Listened::Failed
+            }
+        }
+    }
+
+    fn start(&mut self, start: &Start) -> Started {
+        let number = self.sockets.len();
+        if number >= u32::MAX as usize {
+            return Started::Mem;
+        }
+        if self.sockets.reserve(1).is_err() || self.links.reserve(1).is_err() {
+            return Started::Mem;
+        }
+        match open(&self.host, &mut self.door, &mut self.desk, start, number) {
+            Ok(socket) => {
+                let link = LinkNo(number as u32);
+                self.sockets.push_reserved(Some(socket));
+                self.links.push_reserved(link);
+                Started::Link(link)
+            }
+            Err(e) if e.kind() == ErrorKind::OutOfMemory => Started::Mem,
+            Err(_) => {
+                self.faults = self.faults.saturating_add(1);
+                Started::Failed
+            }
+        }
+    }
+
+    fn read(&mut self, link: LinkNo, into: &mut [u8]) -> ReadLink {
+        let number = link.0 as usize;
+        let answer = read_on(&mut self.desk, self.sockets.as_mut_slice(), number, into);
+        if let ReadLink::Failed = answer {
+            self.faults = self.faults.saturating_add(1);
+        }
+        answer
+    }
+
+    fn write(&mut self, link: LinkNo, bytes: &[u8]) -> WriteLink {
+        let answer = match self.sockets.get_mut(link.0 as usize) {
+            Some(Some(socket)) => socket.write(bytes),
+            _ => WriteLink::Failed,
+        };
+        if let WriteLink::Failed = answer {
+            self.faults = self.faults.saturating_add(1);
+        }
+        answer
+    }
+
+    fn wait(&mut self, links: &[LinkNo], ready: &mut [bool]) -> Waited {
+        let found = find_ready(&mut self.desk, self.sockets.as_mut_slice(), links);
+        match found {
+            Ok(first) => {
+                mark(self.sockets.as_slice(), links, ready, first);
+                Waited::Marked
+            }
+            Err(e) if e.kind() == ErrorKind::OutOfMemory => Waited::Mem,
+            Err(_) => {
+                self.faults = self.faults.saturating_add(1);
+                Waited::Failed
+            }
+        }
+    }
+
+    fn close(&mut self, link: LinkNo) {
+        leave(&mut self.links, link);
+        let socket = match self.sockets.get_mut(link.0 as usize) {
+            Some(socket) => socket.take(),
+            None => None,
+        };
+        if let Some(socket) = socket {
+            if socket.close().is_err() {
+                self.faults = self.faults.saturating_add(1);
+            }
+        }
+    }
+}
+
+impl<R: Net + Processes + Clock> Paced for MioFleet<R> {
+    fn now(&mut self) -> Now {
+        match self.ticks.passed(&self.host.rt) {
+            Ok(moment) => Now::At(moment),
+            Err(_) => {
+                self.faults = self.faults.saturating_add(1);
+                Now::Failed
+            }
+        }
+    }
+
+    fn sleep(&mut self, ms: u64) -> Slept {
+        thread::sleep(&self.host.rt, Duration::from_millis(ms));
+        Slept::Woke
+    }
+}
+
+// Takes a link off.
+fn leave(links: &mut Vec<LinkNo>, link: LinkNo)
+    ensures { links.new.items ≡ without link links.old.items }
+{
+    links.retain(|other| other.0 != link.0);
+}

@@ -1,0 +1,78 @@
+// The system's files, by their paths.
+ghost use Rattle.std.specs.Prelude.{◌≡◌, ◌≢◌, IfOk};
+
+use mk_outside::{FileRead, FileSave, Folder};
+use std::fs::{self, Files, OpenFile};
+use std::io::{self, ErrorKind, Read};
+
+// The greatest length of a file that is read, in bytes.
+const FILE_LIMIT: u64 = 536_870_912;
+
+/// The system's files. It tells nothing of what they hold, and counts each error of the system in its faults.
+#[derive(Drop)]
+pub struct RealFolder<'a, R> {
+    rt: &'a R,
+    faults: u64,
+}
+
+impl<'a, R> RealFolder<'a, R> {
+    /// The files that the runtime reaches.
+    pub fn new(rt: &'a R) -> RealFolder<'a, R>
+        ensures { result.faults ≡ 0 }
+    {
+        RealFolder { rt, faults: 0 }
+    }
+}
+
+impl<'a, R: Files> Folder for RealFolder<'a, R> {
+    ghost use Rattle.std.specs.Prelude.{None};
+
+    ghost faults = { λ f. f.faults };
+
+    ghost files = { λ _. None };
+
+    fn read(&mut self, name: &str, into: &mut Vec<u8>) -> FileRead {
+        let answer = read_file(self.rt, name, into);
+        if let Ok(FileRead::Whole) = answer {
+            return FileRead::Whole;
+        }
+        into.clear();
+        match answer {
+            Ok(answer) => answer,
+            Err(e) if e.kind() == ErrorKind::NotFound => FileRead::Missing,
+            Err(e) if e.kind() == ErrorKind::OutOfMemory => FileRead::Mem,
+            Err(_) => {
+                self.faults = self.faults.saturating_add(1);
+                FileRead::Failed
+            }
+        }
+    }
+
+    fn save(&mut self, name: &str, bytes: &[u8]) -> FileSave {
+        match fs::write(self.rt, name, bytes) {
+            Ok(()) => FileSave::Kept,
+            Err(e) if e.kind() == ErrorKind::OutOfMemory => FileSave::Mem,
+            Err(_) => {
+                self.faults = self.faults.saturating_add(1);
+                FileSave::Failed
+            }
+        }
+    }
+}
+
+// Reads a file that isn't too long.
+fn read_file<R: Files>(rt: &R, name: &str, into: &mut Vec<u8>) -> io::Result<FileRead>
+    ensures { IfOk result (λ answer. answer ≢ FileRead.Failed) }
+{
+    let mut file = fs::open(rt, name)?;
+    let length = file.metadata()?.len();
+    if length > FILE_LIMIT {
+        return Ok(FileRead::TooLong(length));
+    }
+    file.take(FILE_LIMIT + 1).read_to_end(into)?;
+    let length = into.len() as u64;
+    if length > FILE_LIMIT {
+        return Ok(FileRead::TooLong(length));
+    }
+    Ok(FileRead::Whole)
+}

@@ -1,0 +1,17 @@
+// The outside itself: links over sockets and to child programs, the system's files, and its standard streams. No clause
+// says what they hold.
+#![tactic(auto)]
+
+mod desk;
+mod door;
+mod fleet;
+mod folder;
+mod sink;
+mod socket;
+#[cfg(test)]
+mod tests;
+mod ticks;
+
+pub use fleet::MioFleet;
+pub use folder::RealFolder;
+pub use sink::RealSink;

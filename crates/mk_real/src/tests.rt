@@ -1,0 +1,108 @@
+// The adapters over loopback sockets, child programs, a file, and a stream.
+use crate::door::Door;
+use crate::fleet::{Host, start_child};
+use crate::{MioFleet, RealFolder, RealSink};
+use mk_base::{List, Mem, Text};
+use mk_outside::{
+    FileRead, FileSave, Fleet, Folder, Listened, Now, Paced, ReadLink, Sink, Slept, Start, Started,
+    Waited, WriteLink, Wrote,
+};
+use std::alloc::Global;
+use std::fs;
+use std::test::Fail;
+use std::time::Duration;
+
+// A child that sends back what it hears until its link ends.
+const ECHO: &str = "import socket, sys
+link = socket.create_connection(('127.0.0.1', int(sys.argv[1])))
+piece = link.recv(100)
+while piece:
+    link.sendall(piece)
+    piece = link.recv(100)";
+
+fn words_of(alloc: Global, words: &[&str]) -> Result<List<Text>, Mem> {
+    let mut list = List::new(alloc);
+    for word in words {
+        list.push(Text::of(alloc, word)?)?;
+    }
+    Ok(list)
+}
+
+#[test]
+fn speaks_with_a_child(rt: HostRuntime) -> Result<(), Fail> {
+    let mut fleet = MioFleet::new(rt.alloc(), &rt);
+    let Listened::At(port) = fleet.listen() else {
+        return Err(Fail::new("no port"));
+    };
+    let port = format!(in rt.alloc(); "{port}")?;
+    let words = words_of(rt.alloc(), &["/usr/bin/python3", "-c", ECHO, port.as_str()])?;
+    let Started::Link(link) = fleet.start(&Start::Command(words)) else {
+        return Err(Fail::new("no link"));
+    };
+    assert_eq!(rt; link.0, 0);
+    let mut bytes = [0u8; 6];
+    assert_eq!(rt; fleet.read(link, &mut bytes), ReadLink::NotYet);
+    assert_eq!(rt; fleet.write(link, b"abc"), WriteLink::Put(3));
+    let mut ready = [false];
+    assert_eq!(rt; fleet.wait(&[link], &mut ready), Waited::Marked);
+    assert_eq!(rt; fleet.read(link, &mut bytes), ReadLink::Got(3));
+    assert_eq!(rt; bytes, *b"abc\0\0\0");
+    fleet.close(link);
+    Ok(())
+}
+
+#[test]
+fn hears_the_end_of_a_link(rt: HostRuntime) -> Result<(), Fail> {
+    let mut fleet = MioFleet::new(rt.alloc(), &rt);
+    let (door, port) = Door::open(&rt, rt.alloc())?;
+    let Started::Link(link) = fleet.start(&Start::Connect(port)) else {
+        return Err(Fail::new("no link"));
+    };
+    let stream = door.admit(&rt, Duration::from_secs(1))?;
+    let mut byte = [0u8];
+    assert_eq!(rt; fleet.read(link, &mut byte), ReadLink::NotYet);
+    drop(stream);
+    assert_eq!(rt; fleet.wait(&[link], &mut [false]), Waited::Marked);
+    assert_eq!(rt; fleet.read(link, &mut byte), ReadLink::Closed);
+    fleet.close(link);
+    assert_eq!(rt; fleet.start(&Start::Connect(port)), Started::Failed);
+    Ok(())
+}
+
+#[test]
+fn ends_a_child_that_is_late(rt: HostRuntime) -> Result<(), Fail> {
+    let (door, _) = Door::open(&rt, rt.alloc())?;
+    let words = words_of(rt.alloc(), &["/bin/sleep", "50"])?;
+    let patience = Duration::from_millis(20);
+    let host = Host {
+        rt: &rt,
+        alloc: rt.alloc(),
+        output: rt.stderr(),
+    };
+    let started = start_child(&host, Some(door), &words, patience);
+    assert!(rt; started.is_err());
+    Ok(())
+}
+
+#[test]
+fn tells_the_time(rt: HostRuntime) {
+    let mut fleet = MioFleet::new(rt.alloc(), &rt);
+    assert_eq!(rt; fleet.now(), Now::At(0));
+    assert_eq!(rt; fleet.sleep(5), Slept::Woke);
+    assert!(rt; matches!(fleet.now(), Now::At(5..=5_000)));
+}
+
+#[test]
+fn keeps_a_file_and_prints(rt: HostRuntime) -> Result<(), Fail> {
+    let name = "/tmp/mk_real-test";
+    let mut folder = RealFolder::new(&rt);
+    let mut bytes = Vec::new(rt.alloc());
+    assert_eq!(rt; folder.save(name, b"some\n"), FileSave::Kept);
+    assert_eq!(rt; folder.read(name, &mut bytes), FileRead::Whole);
+    fs::remove_file(&rt, name)?;
+    assert_eq!(rt; bytes.as_slice(), b"some\n".as_slice());
+    bytes.clear();
+    assert_eq!(rt; folder.read(name, &mut bytes), FileRead::Missing);
+    assert_eq!(rt; RealSink::new(&rt, true).put(b"some\n"), Wrote::Took(5));
+    Ok(())
+}

@@ -1,0 +1,43 @@
+// The machine's clock that never goes back, in milliseconds.
+ghost use Rattle.std.specs.Prelude.{◌≤◌, IfOk};
+ghost use Rattle.mk_outside.specs.Fleets.{last_moment};
+
+use std::io;
+use std::time::{Clock, Instant};
+
+// The greatest number that is told.
+const LAST: u64 = 1_000_000_000_000_000_000;
+
+/// Milliseconds since the clock was first asked.
+#[derive(Drop)]
+pub struct Ticks {
+    origin: Option<Instant>,
+    last: u64,
+    ghost range: { last ≤ last_moment },
+}
+
+impl Ticks {
+    pub fn new() -> Ticks {
+        Ticks {
+            origin: None,
+            last: 0,
+        }
+    }
+
+    /// How many have passed, never fewer than it gave before.
+    pub fn passed<R: Clock>(&mut self, rt: &R) -> io::Result<u64>
+        ensures rising { IfOk result (λ n. self.old.last ≤ n) }
+        ensures range { IfOk result (λ n. n ≤ last_moment) }
+    {
+        let now = Instant::now(rt)?;
+        let origin = match self.origin {
+            Some(origin) => origin,
+            None => now,
+        };
+        self.origin = Some(origin);
+        let passed = now.saturating_duration_since(origin).as_millis();
+        let passed = passed.min(LAST as u128) as u64;
+        self.last = self.last.max(passed);
+        Ok(self.last)
+    }
+}
