@@ -1,2 +1,5 @@
+mod Lasts
 mod Parting
+mod Summing
+mod Tallying
 mod Texts

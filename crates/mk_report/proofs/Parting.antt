@@ -1,11 +1,10 @@
 -- The parts of a report, entry by entry, and the report that they make.
-use Rattle.std.proofs.Common.{Result, Ok, Err, OnOk, ◌≡◌, ◌≢◌, ℕ, zero, suc, ◌+◌, ◌-◌, ◌^◌, ◌<◌, ◌≤◌, ◌==◌, Bool, true, false, cond, List, [], ◌∷◌, ◌++◌, length, flat_map, filter, filter_map, Option, Some, None, slice_get, slice_set, get_or, All, nat_eq, refl, sym, ap, ◌∙◌, subst, length-append, ◌⊎◌, inl, inr, arith}
+use Rattle.std.proofs.Common.{Result, Ok, Err, OnOk, ◌≡◌, ℕ, zero, suc, ◌+◌, ◌-◌, ◌^◌, ◌<◌, ◌≤◌, ◌==◌, true, false, cond, List, [], ◌∷◌, ◌++◌, length, flat_map, filter, filter_map, Option, Some, None, slice_get, slice_set, get_or, All, refl, sym, ap, ◌∙◌, subst, length-append, inl, inr, arith}
 use Rattle.std.specs.List.{cons_option}
 use Rattle.std.proofs.lemmas.Bool.{cases_eq, eqb-true, eq-eqb}
 use Rattle.mk_base.specs.declared.SimNo.{SimNo}
 use Rattle.mk_base.proofs.Lists.{some_same, get_is, below_get, append_nil, filter_append, flat_map_append, filter_map_append, length_set, set_here, set_else}
 use Rattle.mk_plan.specs.declared.Item.{Item}
-use Rattle.mk_plan.specs.declared.Item.TheVariants.{Step, GetData, Answer, Refuse}
 use Rattle.mk_plan.specs.declared.Message.{Message}
 use Rattle.mk_plan.specs.declared.Entry.{Entry}
 use Rattle.mk_plan.specs.declared.Entry.TheVariants.{Sent, Got}
@@ -14,7 +13,7 @@ use Rattle.mk_plan.specs.Report.{line_of, is_step, steps_in}
 use Rattle.mk_report.specs.declared.parts.Part.{Part}
 use Rattle.mk_report.specs.Parts.{IsPart, AreParts, step_count}
 
-sent_push : (J : List Entry) (e : Entry) (i : ℕ) → sent (J ++ e ∷ []) i ≡ sent J i ++ sent (e ∷ []) i
+pub sent_push : (J : List Entry) (e : Entry) (i : ℕ) → sent (J ++ e ∷ []) i ≡ sent J i ++ sent (e ∷ []) i
 sent_push J e i = filter_map_append (sent_to i) J (e ∷ [])
 
 -- an entry that sends nothing to the first simulators leaves their parts
@@ -27,7 +26,7 @@ left_alone count J e parts nothing are = record {
 pub left_by_message : (count : ℕ) (J : List Entry) (s : SimNo) (m : Message) (parts : List Part) → AreParts count J parts → AreParts count (J ++ Got s m ∷ []) parts
 left_by_message count J s m parts are = left_alone count J (Got s m) parts (λ i low. refl) are
 
-other_sim : (s : SimNo) (item : Item) (i : ℕ) → (i ≡ s.0 → ⊥) → sent (Sent s item ∷ []) i ≡ []
+pub other_sim : (s : SimNo) (item : Item) (i : ℕ) → (i ≡ s.0 → ⊥) → sent (Sent s item ∷ []) i ≡ []
 other_sim s item i apart = elim (s.0 == i) as (λ b. (s.0 == i) ≡ b → filter_map (sent_to i) (Sent s item ∷ []) ≡ []) [
   | true ↦ λ e. absurd (apart (sym (eqb-true s.0 i e)))
   | false ↦ λ e. rw e refl
@@ -36,10 +35,10 @@ other_sim s item i apart = elim (s.0 == i) as (λ b. (s.0 == i) ≡ b → filter
 pub left_by_stranger : (count : ℕ) (J : List Entry) (s : SimNo) (item : Item) (parts : List Part) → length parts ≤ s.0 → AreParts count J parts → AreParts count (J ++ Sent s item ∷ []) parts
 left_by_stranger count J s item parts past are = left_alone count J (Sent s item) parts (λ i low. other_sim s item i (λ e. absurd (omega (arith, past, low, are.all, e)))) are
 
-same_sim : (s : SimNo) (item : Item) → sent (Sent s item ∷ []) s.0 ≡ item ∷ []
+pub same_sim : (s : SimNo) (item : Item) → sent (Sent s item ∷ []) s.0 ≡ item ∷ []
 same_sim s item = let e : (s.0 == s.0) ≡ true = eq-eqb s.0 s.0 refl in rw e refl
 
-more_steps : (items : List Item) (item : Item) → length (steps_in (items ++ item ∷ [])) ≡ length (steps_in items) + step_count item
+pub more_steps : (items : List Item) (item : Item) → length (steps_in (items ++ item ∷ [])) ≡ length (steps_in items) + step_count item
 more_steps items item = ap length (filter_append is_step items (item ∷ [])) ∙ length-append (steps_in items) (filter is_step (item ∷ [])) ∙ ap (λ n. length (steps_in items) + n) (elim (is_step item) as (λ b. length (cond b (item ∷ []) []) ≡ cond b 1 0) [ true ↦ refl | false ↦ refl ])
 
 -- an item more makes the part of its simulator longer
@@ -65,12 +64,12 @@ put_in count J s item parts p q there lines steps are = record {
 }
 
 -- a place that was read holds what was read
-pub there : (parts : List Part) (i : ℕ) (p : Part) → i < length parts → p ≡ get_or parts i p → slice_get parts i ≡ Some p
+pub there : {X : Type 0} (parts : List X) (i : ℕ) (p : X) → i < length parts → p ≡ get_or parts i p → slice_get parts i ≡ Some p
 there [] i p low is = absurd (omega arith)
 there (q ∷ parts) zero p low is = ap Some (sym is)
 there (q ∷ parts) (suc i) p low is = there parts i p (omega arith) is
 
-few_steps : (J : List Entry) (i : ℕ) → length (steps_in (sent J i)) ≤ length J
+pub few_steps : (J : List Entry) (i : ℕ) → length (steps_in (sent J i)) ≤ length J
 few_steps [] i = omega arith
 few_steps (e ∷ J) i = go (sent_to i e) (few_steps J i)
   where

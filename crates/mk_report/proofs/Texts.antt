@@ -1,12 +1,11 @@
 -- The report, simulator by simulator.
-use Rattle.std.proofs.Common.{◌≡◌, ℕ, zero, suc, ◌+◌, ◌-◌, ◌*◌, ◌^◌, ◌<◌, ◌≤◌, List, [], ◌∷◌, ◌++◌, length, take, get_or, map, flat_map, sum, slice_get, Some, refl, sym, ap, ◌∙◌, subst, append_assoc, arith}
+use Rattle.std.proofs.Common.{◌≡◌, ℕ, zero, suc, ◌+◌, ◌<◌, ◌≤◌, List, [], ◌∷◌, ◌++◌, length, take, get_or, map, flat_map, sum, refl, sym, ap, ◌∙◌, subst, append_assoc, arith}
 use Rattle.std.specs.Prelude.{codes}
 use Rattle.std.specs.Fmt.{decimal}
 use Rattle.std.specs.List.{enumerate_from}
 use Rattle.std.proofs.lemmas.List.{take_more}
 use Rattle.std.proofs.lemmas.List.Sums.{sum_by-append}
 use Rattle.std.proofs.lemmas.List.FromFn.{length-enumerate_from, get_or-enumerate_from}
-use Rattle.std.proofs.Math.Seq.{take-length}
 use Rattle.mk_base.proofs.Lists.{append_nil, flat_map_append, map_append}
 use Rattle.mk_plan.specs.declared.Plan.{Plan}
 use Rattle.mk_plan.specs.declared.PlanSim.{PlanSim}
@@ -14,7 +13,7 @@ use Rattle.mk_plan.specs.declared.Entry.{Entry}
 use Rattle.mk_plan.specs.Journals.{sent}
 use Rattle.mk_plan.specs.Report.{report, part_of, line_of, steps_in}
 use Rattle.mk_report.specs.declared.parts.Part.{Part}
-use Rattle.mk_report.specs.Parts.{IsPart, AreParts}
+use Rattle.mk_report.specs.Parts.{IsPart}
 
 -- a simulator's part of the report, and the number of its Steps
 abbrev pub text_at : List Entry → ℕ × PlanSim → List ℕ
@@ -23,11 +22,11 @@ text_at J s = part_of s.1.id (sent J s.0)
 abbrev pub steps_at : List Entry → ℕ × PlanSim → ℕ
 steps_at J s = length (steps_in (sent J s.0))
 
-sum_last : (ns : List ℕ) (n : ℕ) → sum (ns ++ n ∷ []) ≡ sum ns + n
+pub sum_last : (ns : List ℕ) (n : ℕ) → sum (ns ++ n ∷ []) ≡ sum ns + n
 sum_last ns n = sum_by-append (λ (k : ℕ). k) ns (n ∷ []) ∙ ap (λ k. sum ns + k) (let z : 0 + n ≡ n = omega arith in z)
 
 -- all are taken
-all_taken : {X : Type 0} (xs : List X) (k : ℕ) → length xs ≤ k → take k xs ≡ xs
+pub all_taken : {X : Type 0} (xs : List X) (k : ℕ) → length xs ≤ k → take k xs ≡ xs
 all_taken [] zero h = refl
 all_taken [] (suc k) h = refl
 all_taken (x ∷ xs) zero h = absurd (omega (arith, h))
@@ -37,7 +36,7 @@ module _ (J : List Entry) (sims : List PlanSim) (k : ℕ) (s : PlanSim) (low : k
   numbered : ℕ × PlanSim
   numbered = (k, s)
 
-  one_more : take (k + 1) (enumerate_from 0 sims) ≡ take k (enumerate_from 0 sims) ++ (k, s) ∷ []
+  pub one_more : take (k + 1) (enumerate_from 0 sims) ≡ take k (enumerate_from 0 sims) ++ (k, s) ∷ []
   one_more = take_more (enumerate_from 0 sims) k (k, s) (subst (λ n. k < n) (sym (length-enumerate_from 0 sims)) low)
       ∙ ap (λ (e : ℕ × PlanSim). take k (enumerate_from 0 sims) ++ e ∷ []) (get_or-enumerate_from 0 sims k (k, s) low ∙ (let z : 0 + k ≡ k = omega arith in λ i. (z i, sym is i)))
 

@@ -1,5 +1,5 @@
 -- What is kept of each simulator's items while a report is made.
-use Rattle.std.specs.Prelude.{◌≡◌, ℕ, ◌+◌, List, length, flat_map, filter, slice_get, Some, if◌then◌else◌}
+use Rattle.std.specs.Prelude.{◌≡◌, ℕ, List, length, flat_map, slice_get, Some, if◌then◌else◌}
 use Rattle.mk_plan.specs.declared.Item.{Item}
 use Rattle.mk_plan.specs.declared.Entry.{Entry}
 use Rattle.mk_plan.specs.Journals.{sent}

@@ -68,6 +68,12 @@ fn put_number(alloc: Global, out: &mut Vec<u8>, n: u64) -> Result<(), Mem>
     put_bytes(out, n.to_string(alloc)?.as_bytes())
 }
 
+pub fn put_count(alloc: Global, out: &mut Vec<u8>, n: u128) -> Result<(), Mem>
+    ensures { OnOk result (out.new.items ≡ out.old.items ++ decimal n) }
+{
+    put_bytes(out, n.to_string(alloc)?.as_bytes())
+}
+
 // Appends the last line, with the number of all Steps.
 pub fn put_total(alloc: Global, out: &mut Vec<u8>, total: u128) -> Result<(), Mem>
     ensures { OnOk result (out.new.items ≡ out.old.items ++ (codes "end " ++ decimal total ++ codes "\n")) }

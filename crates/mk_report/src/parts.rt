@@ -71,7 +71,7 @@ fn add_item(alloc: Global, part: &mut Part, item: &Item) -> Result<(), Mem>
 }
 
 // How many Steps the item is.
-fn steps_in(item: &Item) -> u64
+pub fn steps_in(item: &Item) -> u64
     ensures { result ≡ step_count item.now }
 {
     match item {

@@ -1,5 +1,5 @@
-// The report of a small journal.
-use crate::write_report;
+// The report and the summary of a small journal.
+use crate::{write_report, write_summary};
 use mk_base::{List, Mem, SimKind, SimNo, Text, Tier};
 use mk_plan::{Entry, Item, Journal, Plan, PlanSim};
 use std::alloc::Global;
@@ -50,6 +50,18 @@ fn the_report_has_a_step_and_a_refusal(rt: HostRuntime) -> Result<(), Fail> {
     assert_eq!(rt;
         text.as_slice(),
         b"sim A-0\nstep 0:2 {}\nrefuse 9 4\nend 1\n".as_slice()
+    );
+    Ok(())
+}
+
+#[test]
+fn the_summary_has_counts_and_the_last_step(rt: HostRuntime) -> Result<(), Fail> {
+    let plan = plan(rt.alloc())?;
+    let journal = journal(rt.alloc())?;
+    let text = write_summary(rt.alloc(), &plan, &journal)?;
+    assert_eq!(rt;
+        text.as_slice(),
+        b"A-0 1 0\ntotal 1 0\nlast step 0:2 {}\n".as_slice()
     );
     Ok(())
 }

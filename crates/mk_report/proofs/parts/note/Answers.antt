@@ -1,4 +1,4 @@
-use Rattle.std.proofs.Common.{◌≡◌, ◌∷◌, [], ◌++◌, ◌<◌, ◌≤◌, List, subst, sym, ap, ◌∙◌, length, Some, Ok, Err, Result, slice_get, slice_set}
+use Rattle.std.proofs.Common.{◌∷◌, [], ◌++◌, ◌<◌, ◌≤◌, subst, sym, ap, length, slice_set}
 use Rattle.std.specs.Result.{OnOk}
 use Rattle.mk_plan.specs.declared.Entry.{Entry}
 use Rattle.mk_report.specs.Parts.{AreParts}

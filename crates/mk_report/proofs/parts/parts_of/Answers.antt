@@ -1,4 +1,4 @@
-use Rattle.std.proofs.Common.{◌≡◌, ◌∷◌, [], ◌++◌, ◌<◌, ◌≤◌, ◌+◌, List, subst, sym, ap, ◌∙◌, length, take, length-take-le, arith, rules}
+use Rattle.std.proofs.Common.{◌∷◌, [], ◌++◌, List, subst, sym, ap, ◌∙◌, take, length-take-le, arith, rules}
 use Rattle.std.proofs.lemmas.List.{take_more}
 use Rattle.mk_plan.specs.declared.Entry.{Entry}
 use Rattle.mk_report.specs.Parts.{AreParts}

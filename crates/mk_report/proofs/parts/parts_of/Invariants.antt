@@ -1,4 +1,4 @@
-use Rattle.std.proofs.Common.{◌≡◌, take}
+use Rattle.std.proofs.Common.{take}
 use Rattle.mk_report.specs.Parts.{AreParts}
 use Rattle.mk_report.proofs.parts.parts_of.Given as goal
 

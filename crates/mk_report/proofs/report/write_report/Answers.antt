@@ -1,7 +1,6 @@
-use Rattle.std.proofs.Common.{◌≡◌, ℕ, ◌<◌, ◌≤◌, ◌++◌, List, get_or, ap, sym, ◌∙◌, subst, length, arith, rules}
+use Rattle.std.proofs.Common.{◌≡◌, ℕ, ◌<◌, ◌≤◌, List, get_or, ap, sym, ◌∙◌, subst, length, arith, rules}
 use Rattle.mk_plan.specs.declared.PlanSim.{PlanSim}
 use Rattle.mk_plan.specs.Journals.{sent}
-use Rattle.mk_report.specs.declared.parts.Part.{Part}
 use Rattle.mk_report.specs.Parts.{IsPart}
 use Rattle.mk_report.proofs.Parting.{there}
 use Rattle.mk_report.proofs.Texts.{text_push, steps_push, report_is}

@@ -1,4 +1,4 @@
-use Rattle.std.proofs.Common.{◌≡◌, ◌≤◌, ◌*◌, ◌-◌, ◌^◌, take, flat_map, sum, map, filter, length}
+use Rattle.std.proofs.Common.{◌≡◌, ◌≤◌, ◌*◌, ◌-◌, ◌^◌, take, flat_map, sum, map, length}
 use Rattle.std.specs.List.{enumerate_from}
 use Rattle.mk_plan.specs.Journals.{sent}
 use Rattle.mk_plan.specs.Report.{part_of, steps_in}

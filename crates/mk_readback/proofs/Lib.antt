@@ -1,0 +1,5 @@
+pub mod Clean
+pub mod Entries
+pub mod Fields
+pub mod Lines
+pub mod Whole
