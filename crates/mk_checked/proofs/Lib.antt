@@ -1,3 +1,3 @@
 mod Ranges
 pub mod OneRanking
-pub mod Unprepared
+pub mod OfEdges

@@ -15,10 +15,11 @@ use Rattle.mk_scenario.specs.declared.fault.ScenarioFault.{ScenarioFault}
 use Rattle.mk_scenario.specs.Scenarios.{scenario_of}
 use Rattle.mk_connect.specs.Edges.{edges_of}
 use Rattle.mk_endings.specs.declared.ending.Ending.{Ending}
-use Rattle.mk_endings.specs.declared.ending.Ending.TheVariants.{Usage, Missing, TooLong, Scenario, Cycle, Launch, Record, Wrong, Failed, LoopLimit, Short, Differs, Folder, Output, Entries, Mem}
+use Rattle.mk_endings.specs.declared.ending.Ending.TheVariants.{Mem}
 use Rattle.mk_endings.specs.Endings.{outcome_status, status_of}
 use Rattle.mk_launch.specs.Ready.{CanBegin, IsPrepared}
-use Rattle.mk_checked.specs.Checks.{AreRanks, IsChecked, IsCircular, IsOutcome, IsUnchecked, IsUnprepared}
+use Rattle.mk_checked.specs.Checks.{IsChecked, IsOutcome, IsUnchecked}
+use Rattle.mk_checked.specs.Runnable.{AreRanks, IsUnrunnable}
 
 module _ (before : ℕ → ℕ → Bool) (n : ℕ) where
   one_next : (placed : List ℕ) (s t : ℕ) → IsNext before n placed s → IsNext before n placed t → s ≡ t
@@ -69,66 +70,42 @@ same_scenario S T verdict a b = let same = sym a ∙ b in cc
 scenario_or_fault : (S : parts.Scenario) (fault : ScenarioFault) → (verdict : Result parts.Scenario ScenarioFault) → verdict ≡ Ok S → verdict ≡ Err fault → ⊥
 scenario_or_fault S fault verdict a b = let same = sym a ∙ b in cc
 
-checked_no_cycle : (kinds : List (List ℕ)) (bytes text : List ℕ) (ids : List (List ℕ)) → IsChecked kinds bytes text → IsCircular bytes ids → ⊥
-checked_no_cycle kinds bytes text ids a b =
-    let same = same_scenario a.scenario b.scenario (scenario_of bytes) a.read b.read in
-    let ranked : AreRanks b.scenario a.ranks = subst (λ (S : parts.Scenario). AreRanks S a.ranks) same a.ranked in
-    ranked_no_cycle (has_edge (edges_of b.scenario)) (length b.scenario.sims) a.ranks (numbers b.walk) ranked b.cycle
-
 -- each item passes
 each_at : {X : Type 0} (P : X → Type 0) (xs : List X) (i : ℕ) (x : X) → Each P xs → slice_get xs i ≡ Some x → P x
 each_at P [] i x all there = cc
 each_at P (y ∷ ys) zero x (first, others) there = let same : y ≡ x = cc in subst P same first
 each_at P (y ∷ ys) (suc i) x (first, others) there = each_at P ys i x others there
 
--- simulators that can all be begun have none that can't
-prepared_no_fault : (kinds : List (List ℕ)) (bytes text : List ℕ) (e : Ending) → IsChecked kinds bytes text → IsUnprepared kinds bytes e → ⊥
-prepared_no_fault kinds bytes text e a b =
-    let same = same_scenario a.scenario b.scenario (scenario_of bytes) a.read b.read in
-    let prepared : IsPrepared b.scenario kinds = subst (λ (S : parts.Scenario). IsPrepared S kinds) same a.prepared in
-    let first = b.unbegun.first in
-    let none = each_at (CanBegin kinds) b.scenario.sims b.unbegun.unready.sim.0 first.sim prepared first.there in
+-- a scenario with ranks, whose simulators can all be begun, can be run
+runnable_or_not : (kinds : List (List ℕ)) (S : parts.Scenario) (ranks : List ℕ) (e : Ending) → AreRanks S ranks → IsPrepared S kinds → IsUnrunnable kinds S e → e ≡ Mem
+runnable_or_not kinds S ranks e ranked prepared (inl mem) = mem
+runnable_or_not kinds S ranks e ranked prepared (inr (inl circle)) = absurd (ranked_no_cycle (has_edge (edges_of S)) (length S.sims) ranks (numbers circle.walk) ranked circle.cycle)
+runnable_or_not kinds S ranks e ranked prepared (inr (inr unprepared)) =
+    let first = unprepared.unbegun.first in
+    let none = each_at (CanBegin kinds) S.sims unprepared.unbegun.unready.sim.0 first.sim prepared first.there in
     let some = first.cause in
     let both = sym none ∙ some in
-    cc
+    absurd cc
 
 -- what has a text has no fault
 text_or_fault : (kinds : List (List ℕ)) (bytes text : List ℕ) (e : Ending) → IsChecked kinds bytes text → IsUnchecked kinds bytes e → e ≡ Mem
-text_or_fault kinds bytes text Usage a h = absurd h
-text_or_fault kinds bytes text (Missing name) a h = absurd h
-text_or_fault kinds bytes text (TooLong name count) a h = absurd h
-text_or_fault kinds bytes text (Scenario fault) a h = absurd (scenario_or_fault a.scenario fault (scenario_of bytes) a.read h)
-text_or_fault kinds bytes text (Cycle ids) a h = absurd (checked_no_cycle kinds bytes text ids a h)
-text_or_fault kinds bytes text (Launch sim fault) a h = absurd (prepared_no_fault kinds bytes text (Launch sim fault) a h)
-text_or_fault kinds bytes text (Record line fault) a h = absurd h
-text_or_fault kinds bytes text (Wrong sim place cause) a h = absurd h
-text_or_fault kinds bytes text (Failed sim said) a h = absurd h
-text_or_fault kinds bytes text (LoopLimit sim time) a h = absurd h
-text_or_fault kinds bytes text (Short outstanding) a h = absurd h
-text_or_fault kinds bytes text (Differs entry) a h = absurd h
-text_or_fault kinds bytes text Folder a h = absurd h
-text_or_fault kinds bytes text Output a h = absurd h
-text_or_fault kinds bytes text (Entries entries) a h = absurd h
-text_or_fault kinds bytes text Mem a h = refl
+text_or_fault kinds bytes text e a (inl (inl mem)) = mem
+text_or_fault kinds bytes text e a (inl (inr fault)) = absurd (scenario_or_fault a.scenario fault.0 (scenario_of bytes) a.read fault.2)
+text_or_fault kinds bytes text e a (inr stuck) =
+    let same = same_scenario a.scenario stuck.scenario (scenario_of bytes) a.read stuck.read in
+    runnable_or_not kinds stuck.scenario a.ranks e (subst (λ (S : parts.Scenario). AreRanks S a.ranks) same a.ranked) (subst (λ (S : parts.Scenario). IsPrepared S kinds) same a.prepared) stuck.cause
 
--- a file's fault has the status 3
-fault_status : (kinds : List (List ℕ)) (bytes : List ℕ) (e : Ending) → IsUnchecked kinds bytes e → (e ≡ Mem) ⊎ (status_of e ≡ 3)
-fault_status kinds bytes Usage h = absurd h
-fault_status kinds bytes (Missing name) h = absurd h
-fault_status kinds bytes (TooLong name count) h = absurd h
-fault_status kinds bytes (Scenario fault) h = inr refl
-fault_status kinds bytes (Cycle ids) h = inr refl
-fault_status kinds bytes (Launch sim fault) h = inr refl
-fault_status kinds bytes (Record line fault) h = absurd h
-fault_status kinds bytes (Wrong sim place cause) h = absurd h
-fault_status kinds bytes (Failed sim said) h = absurd h
-fault_status kinds bytes (LoopLimit sim time) h = absurd h
-fault_status kinds bytes (Short outstanding) h = absurd h
-fault_status kinds bytes (Differs entry) h = absurd h
-fault_status kinds bytes Folder h = absurd h
-fault_status kinds bytes Output h = absurd h
-fault_status kinds bytes (Entries entries) h = absurd h
-fault_status kinds bytes Mem h = inl refl
+-- a scenario that can't be run has the status 3
+unrunnable_status : (kinds : List (List ℕ)) (S : parts.Scenario) (e : Ending) → IsUnrunnable kinds S e → (e ≡ Mem) ⊎ (status_of e ≡ 3)
+unrunnable_status kinds S e (inl mem) = inl mem
+unrunnable_status kinds S e (inr (inl circle)) = inr (ap status_of circle.is)
+unrunnable_status kinds S e (inr (inr unprepared)) = inr (ap status_of unprepared.unbegun.is)
+
+-- and so has a file's fault
+pub fault_status : (kinds : List (List ℕ)) (bytes : List ℕ) (e : Ending) → IsUnchecked kinds bytes e → (e ≡ Mem) ⊎ (status_of e ≡ 3)
+fault_status kinds bytes e (inl (inl mem)) = inl mem
+fault_status kinds bytes e (inl (inr fault)) = inr (ap status_of fault.1)
+fault_status kinds bytes e (inr stuck) = unrunnable_status kinds stuck.scenario e stuck.cause
 
 pub one_status : (kinds : List (List ℕ)) (bytes : List ℕ) (o p : Result (List ℕ) Ending) → IsOutcome kinds bytes o → IsOutcome kinds bytes p → (o ≡ Err Mem → ⊥) → (p ≡ Err Mem → ⊥) → outcome_status o ≡ outcome_status p
 one_status kinds bytes (Ok t) (Ok u) a b m n = refl

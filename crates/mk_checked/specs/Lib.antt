@@ -1,2 +1,3 @@
 pub mod CheckText
 pub mod Checks
+pub mod Runnable

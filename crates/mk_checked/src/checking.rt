@@ -1,8 +1,11 @@
 // From a scenario file's bytes to the text that is printed of it, or why there is none.
-ghost use Rattle.std.specs.Prelude.{◌≡◌, ℕ, ◌<◌, ◌^◌, ◌⊎◌, List, Result, Err, IfOk, IfErr, OnOk, length, map};
+ghost use Rattle.std.specs.Prelude.{◌≡◌, ℕ, ◌<◌, ◌^◌, ◌⊎◌, List, Result, Ok, Err, IfOk, IfErr, OnOk, length, map};
 ghost use Rattle.mk_base.specs.declared.SimNo.{SimNo};
 ghost use Rattle.mk_launch.specs.Ready.{IsPrepared};
-ghost use Rattle.mk_checked.specs.Checks.{IsChecked, IsOutcome, IsUnbegun, IsUnchecked};
+ghost use Rattle.mk_scenario.specs.Scenarios.{scenario_of};
+ghost use Rattle.mk_scenario.specs.Wellformed.{IsWellformed};
+ghost use Rattle.mk_checked.specs.Checks.{IsChecked, IsOutcome, IsUnchecked, IsUnread};
+ghost use Rattle.mk_checked.specs.Runnable.{IsRunnable, IsUnbegun, IsUnrunnable};
 ghost use Rattle.mk_checked.specs.CheckText.{id_at};
 ghost use Rattle.mk_endings.specs.declared.ending.Ending.{Ending};
 ghost use Rattle.mk_endings.specs.declared.ending.Ending.TheVariants as ends;
@@ -24,19 +27,41 @@ pub fn checked(alloc: Global, kinds: &List<Text>, bytes: &[u8]) -> Result<Vec<u8
     ensures checked { IfOk result (λ text. IsChecked kinds.now bytes.now text.items) }
     ensures unchecked { IfErr result (λ ending. IsUnchecked kinds.now bytes.now ending) }
 {
-    let scenario = match read_scenario(alloc, bytes) {
-        Ok(scenario) => scenario,
-        Err(ScenarioFault::Mem) => return Err(Ending::Mem),
-        Err(fault) => return Err(Ending::Scenario(fault)),
-    };
-    let edges = edges(alloc, &scenario)?;
+    let scenario = scenario_of(alloc, bytes)?;
+    match ranked(alloc, kinds, &scenario) {
+        Ok(ranks) => Ok(check_text(alloc, &scenario, ranks.as_slice())?),
+        Err(ending) => Err(ending),
+    }
+}
+
+/// The scenario of a file with these bytes, or why they are none.
+pub fn scenario_of(alloc: Global, bytes: &[u8]) -> Result<Scenario, Ending>
+    ensures read { IfOk result (λ s. scenario_of bytes.now ≡ Ok s) }
+    ensures wellformed { IfOk result (λ s. IsWellformed s) }
+    ensures unread { IfErr result (λ ending. IsUnread bytes.now ending) }
+{
+    match read_scenario(alloc, bytes) {
+        Ok(scenario) => Ok(scenario),
+        Err(ScenarioFault::Mem) => Err(Ending::Mem),
+        Err(fault) => Err(Ending::Scenario(fault)),
+    }
+}
+
+/// The ranks of a scenario's simulators, each of which can be begun, the kinds within the program having these names. Else the
+/// cycle that leaves no ranks, or the first simulator that can't be begun.
+pub fn ranked(alloc: Global, kinds: &List<Text>, scenario: &Scenario) -> Result<List<u32>, Ending>
+    requires { IsWellformed scenario.now }
+    ensures runnable { IfOk result (λ ranks. IsRunnable kinds.now scenario.now ranks) }
+    ensures unrunnable { IfErr result (λ ending. IsUnrunnable kinds.now scenario.now ending) }
+{
+    let edges = edges(alloc, scenario)?;
     match ranks(alloc, scenario.sims.len() as u32, edges.as_slice()) {
-        Ok(ranks) => match prepared(alloc, &scenario, kinds) {
-            Ok(()) => Ok(check_text(alloc, &scenario, ranks.as_slice())?),
+        Ok(ranks) => match prepared(alloc, scenario, kinds) {
+            Ok(()) => Ok(ranks),
             Err(ending) => Err(ending),
         },
         Err(CycleFault::Cycle(walk)) => Err(Ending::Cycle {
-            sims: ids_of(alloc, &scenario, &walk)?,
+            sims: ids_of(alloc, scenario, &walk)?,
         }),
         Err(CycleFault::Mem) => Err(Ending::Mem),
     }

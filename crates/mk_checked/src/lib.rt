@@ -4,4 +4,4 @@
 mod checking;
 mod text;
 
-pub use checking::{checked, scenario_has_one_status};
+pub use checking::{checked, ranked, scenario_has_one_status, scenario_of};

@@ -1,3 +1,5 @@
 pub mod Endings
 pub mod Launches
 pub mod Scenarios
+pub mod Links
+pub mod Setups

@@ -1,6 +1,8 @@
 // The endings, and the status of each.
 ghost use Rattle.std.specs.Prelude.{◌≡◌};
 
+use crate::links::LinkFault;
+use crate::setup::SetupEnding;
 use mk_base::{List, Text};
 use mk_launch::LaunchFault;
 use mk_scenario::ScenarioFault;
@@ -20,6 +22,8 @@ pub enum Ending {
     Cycle { sims: List<Text> },
     /// A simulator of the scenario can't be begun.
     Launch { sim: Text, fault: LaunchFault },
+    /// What the simulators said before the run, or what the scenario connects, makes no plan.
+    Setup(SetupEnding),
     /// The file is no record, by the first line, counted from 1, that has a fault, and the fault's number.
     Record { line: u64, fault: u8 },
     /// A simulator's message, by its place among those of this simulator, counted from 0, is wrong.
@@ -28,16 +32,22 @@ pub enum Ending {
     Failed { sim: Text, text: Text },
     /// A simulator is triggered beyond the loop limit at this time.
     LoopLimit { sim: Text, time: i64 },
+    /// A simulator's link has ended, or no message came on it.
+    Link { sim: Text, fault: LinkFault },
     /// The record's messages are at their end, and so many requests have no answer.
     Short { outstanding: u32 },
     /// The record's entry of this number, from 0, isn't the journal's.
     Differs { entry: u32 },
+    /// The links to the simulators failed.
+    Fleet,
     /// The folder failed.
     Folder,
     /// The output failed.
     Output,
     /// The journal has as many entries as it may have, and one more is needed.
     Entries { entries: u32 },
+    /// What a simulator is to be sent next has this many bytes, more than a message may have.
+    LongItem { sim: Text, length: u64 },
     /// Want of memory.
     Mem,
 }
@@ -64,10 +74,11 @@ impl Ending {
             Ending::Missing { .. } | Ending::TooLong { .. } => 3,
             Ending::Scenario(_) | Ending::Cycle { .. } | Ending::Launch { .. } => 3,
             Ending::Record { .. } => 3,
-            Ending::Wrong { .. } | Ending::Failed { .. } => 5,
-            Ending::LoopLimit { .. } | Ending::Short { .. } | Ending::Differs { .. } => 5,
-            Ending::Folder | Ending::Output => 6,
-            Ending::Entries { .. } => 7,
+            Ending::Setup(_) => 4,
+            Ending::Wrong { .. } | Ending::Failed { .. } | Ending::LoopLimit { .. } => 5,
+            Ending::Link { .. } | Ending::Short { .. } | Ending::Differs { .. } => 5,
+            Ending::Fleet | Ending::Folder | Ending::Output => 6,
+            Ending::Entries { .. } | Ending::LongItem { .. } => 7,
             Ending::Mem => 8,
         }
     }

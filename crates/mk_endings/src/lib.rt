@@ -4,6 +4,10 @@
 mod ending;
 mod launch;
 mod lines;
+mod links;
 mod scenario;
+mod setup;
 
 pub use ending::Ending;
+pub use links::LinkFault;
+pub use setup::SetupEnding;

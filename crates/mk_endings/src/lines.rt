@@ -5,7 +5,9 @@ ghost use Rattle.mk_endings.specs.Endings.{line_of, text_of, unbroken};
 
 use crate::ending::Ending;
 use crate::launch::put_launch;
+use crate::links::put_link;
 use crate::scenario::put_scenario;
+use crate::setup::put_setup;
 use mk_base::{List, Text};
 use std::alloc::{AllocError, Global};
 
@@ -31,7 +33,10 @@ impl Ending {
         ensures { OnOk result (out.new.items ≡ text_of self.now) }
     {
         match self {
-            Ending::Usage => put(out, "usage: replay RECORD [--order N] or check SCENARIO"),
+            Ending::Usage => put(
+                out,
+                "usage: run SCENARIO [--record FILE] or replay RECORD [--order N] or check SCENARIO",
+            ),
             Ending::Missing { name } => {
                 put(out, name.as_str())?;
                 put(out, ": no such file")
@@ -45,6 +50,7 @@ impl Ending {
             Ending::Scenario(fault) => put_scenario(alloc, out, fault),
             Ending::Cycle { sims } => put_cycle(out, sims),
             Ending::Launch { sim, fault } => put_launch(alloc, out, sim, fault),
+            Ending::Setup(setup) => put_setup(alloc, out, setup),
             Ending::Record { line, fault } => {
                 put(out, "record: line ")?;
                 put_number(alloc, out, *line)?;
@@ -64,6 +70,7 @@ impl Ending {
                 put(out, " loop limit at ")?;
                 put(out, time.to_string(alloc)?.as_str())
             }
+            Ending::Link { sim, fault } => put_link(alloc, out, sim, *fault),
             Ending::Short { outstanding } => {
                 put(out, "run 8: record ends with ")?;
                 put_number(alloc, out, *outstanding as u64)?;
@@ -74,12 +81,20 @@ impl Ending {
                 put_number(alloc, out, *entry as u64)?;
                 put(out, " differs")
             }
+            Ending::Fleet => put(out, "outside: fleet"),
             Ending::Folder => put(out, "outside: folder"),
             Ending::Output => put(out, "outside: output"),
             Ending::Entries { entries } => {
                 put(out, "limit: ")?;
                 put_number(alloc, out, *entries as u64)?;
                 put(out, " entries")
+            }
+            Ending::LongItem { sim, length } => {
+                put(out, "limit: ")?;
+                put(out, sim.as_str())?;
+                put(out, " message of ")?;
+                put_number(alloc, out, *length)?;
+                put(out, " bytes")
             }
             Ending::Mem => put(out, "out of memory"),
         }

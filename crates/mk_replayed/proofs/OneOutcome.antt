@@ -13,7 +13,7 @@ use Rattle.mk_replay.specs.declared.replaying.ReplayEnd.{ReplayEnd}
 use Rattle.mk_replay.specs.declared.replaying.ReplayEnd.TheVariants as ends
 use Rattle.mk_replay.proofs.OneOrder.{one_replay_by}
 use Rattle.mk_endings.specs.declared.ending.Ending.{Ending}
-use Rattle.mk_endings.specs.declared.ending.Ending.TheVariants.{Usage, Missing, TooLong, Scenario, Cycle, Launch, Record, Wrong, Failed, LoopLimit, Short, Differs, Folder, Output, Entries, Mem}
+use Rattle.mk_endings.specs.declared.ending.Ending.TheVariants.{Usage, Missing, TooLong, Scenario, Cycle, Launch, Setup, Record, Wrong, Failed, LoopLimit, Link, Short, Differs, Fleet, Folder, Output, Entries, LongItem, Mem}
 use Rattle.mk_replayed.specs.Reports.{IsDoneBy, IsReportOf, IsStopped, IsSaidOf, IsOutcome, Unreported}
 
 -- the record of bytes that are read as two is one
@@ -92,6 +92,10 @@ cause_of bytes order (LoopLimit sim time) h = inr (stopped (LoopLimit sim time) 
 cause_of bytes order (Short outstanding) h = inr (stopped (Short outstanding) h)
 cause_of bytes order (Differs entry) h = inr (stopped (Differs entry) h)
 cause_of bytes order Folder h = absurd h
+cause_of bytes order (Setup setup) h = absurd h
+cause_of bytes order (Link sim fault) h = absurd h
+cause_of bytes order (LongItem sim length) h = absurd h
+cause_of bytes order Fleet h = absurd h
 cause_of bytes order Output h = absurd h
 cause_of bytes order (Entries entries) h = inr (stopped (Entries entries) h)
 cause_of bytes order Mem h = inl refl

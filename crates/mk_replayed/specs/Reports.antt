@@ -18,7 +18,7 @@ use Rattle.mk_sched.specs.declared.faults.CoreFault.TheVariants as core
 use Rattle.mk_replay.specs.declared.replaying.ReplayEnd.{ReplayEnd}
 use Rattle.mk_replay.specs.declared.replaying.ReplayEnd.TheVariants as ends
 use Rattle.mk_endings.specs.declared.ending.Ending.{Ending}
-use Rattle.mk_endings.specs.declared.ending.Ending.TheVariants.{Usage, Missing, TooLong, Scenario, Cycle, Launch, Record, Wrong, Failed, LoopLimit, Short, Differs, Folder, Output, Entries, Mem}
+use Rattle.mk_endings.specs.declared.ending.Ending.TheVariants.{Usage, Missing, TooLong, Scenario, Cycle, Launch, Setup, Record, Wrong, Failed, LoopLimit, Link, Short, Differs, Fleet, Folder, Output, Entries, LongItem, Mem}
 
 -- the replay in this order comes to a journal in which all is done; one of the messages as they came, which begins with the steps and messages of a record of version 2, or one of them in the order of a number
 abbrev pub IsDoneBy : Plan → List Arrival → Option (List Asked) → Option ℕ → List Entry → Type 0
@@ -90,6 +90,10 @@ Unreported bytes order (LoopLimit sim time) = IsStopped bytes order (LoopLimit s
 Unreported bytes order (Short outstanding) = IsStopped bytes order (Short outstanding)
 Unreported bytes order (Differs entry) = IsStopped bytes order (Differs entry)
 Unreported bytes order Folder = ⊥
+Unreported bytes order (Setup setup) = ⊥
+Unreported bytes order (Link sim fault) = ⊥
+Unreported bytes order (LongItem sim length) = ⊥
+Unreported bytes order Fleet = ⊥
 Unreported bytes order Output = ⊥
 Unreported bytes order (Entries entries) = IsStopped bytes order (Entries entries)
 Unreported bytes order Mem = ⊤

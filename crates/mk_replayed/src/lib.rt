@@ -3,4 +3,4 @@
 
 mod replaying;
 
-pub use replaying::{record_has_one_outcome, reported};
+pub use replaying::{record_has_one_outcome, reported, stopped};

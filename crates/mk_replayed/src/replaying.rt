@@ -33,8 +33,13 @@ pub fn reported(alloc: Global, bytes: &[u8], order: Option<u32>) -> Result<Vec<u
     }
 }
 
-// What is said of a fault of the core.
-fn stopped(alloc: Global, plan: &Plan, journal: &Journal, fault: CoreFault) -> Result<Ending, Mem>
+/// What is said of a fault of the core, by which a replay or a run ended.
+pub fn stopped(
+    alloc: Global,
+    plan: &Plan,
+    journal: &Journal,
+    fault: CoreFault,
+) -> Result<Ending, Mem>
     ensures { IfOk result (λ e. e ≡ stop_of plan.now journal.now.entries fault) }
 {
     match fault {
