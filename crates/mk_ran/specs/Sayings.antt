@@ -1,0 +1,48 @@
+-- What is said of how a run ended.
+use Rattle.std.specs.Prelude.{◌≡◌, ℕ, Bool, true, false, List, Option, Some, None, Result, Ok, Err}
+use Rattle.mk_plan.specs.declared.Plan.{Plan}
+use Rattle.mk_plan.specs.declared.Entry.{Entry}
+use Rattle.mk_plan.specs.Journals.{sent}
+use Rattle.mk_plan.specs.Report.{report}
+use Rattle.mk_record.specs.Texts.{record_text}
+use Rattle.mk_replayed.specs.Reports.{stop_of}
+use Rattle.mk_sayings.specs.Sayings.{id_in, setup_ending}
+use Rattle.mk_begin.specs.declared.halt.Halt.{Halt}
+use Rattle.mk_begin.specs.declared.halt.Halt.TheVariants as halt
+use Rattle.mk_run.specs.declared.outcome.Outcome.{Outcome}
+use Rattle.mk_run.specs.declared.outcome.Outcome.TheVariants as outcome
+use Rattle.mk_run.specs.Outcomes.{outcome_of}
+use Rattle.mk_endings.specs.declared.links.LinkFault.TheVariants.{Closed, Garbled, LongFrame}
+use Rattle.mk_endings.specs.declared.ending.Ending.{Ending}
+use Rattle.mk_endings.specs.declared.ending.Ending.TheVariants as ends
+
+-- what is said of a halt, the simulators having these ids
+abbrev pub halt_ending : List (List ℕ) → Halt → Ending
+halt_ending ids (halt.Setup e) = setup_ending ids e
+halt_ending ids halt.Fleet = ends.Fleet
+halt_ending ids (halt.Gone sim) = ends.Link (id_in ids sim) Closed
+halt_ending ids (halt.Garbled sim test) = ends.Link (id_in ids sim) (Garbled test)
+halt_ending ids (halt.LongFrame sim n) = ends.Link (id_in ids sim) (LongFrame n)
+halt_ending ids (halt.LongItem sim n) = ends.LongItem (id_in ids sim) n
+halt_ending ids halt.Mem = ends.Mem
+
+-- the outcome is that of a halt
+abbrev pub IsHalt : Outcome → Type 0
+IsHalt end = (h : Halt) × (end ≡ outcome_of h)
+
+-- what is said of a run with this plan and journal: its report where all is done, or why there is none
+abbrev pub saying_of : List (List ℕ) → Plan → List Entry → Outcome → Result (List ℕ) Ending
+saying_of ids P J outcome.Done = Ok (report P (sent J))
+saying_of ids P J (outcome.Setup e) = Err (setup_ending ids e)
+saying_of ids P J (outcome.Core e) = Err (stop_of P J e)
+saying_of ids P J outcome.Fleet = Err ends.Fleet
+saying_of ids P J (outcome.Gone sim) = Err (ends.Link (id_in ids sim) Closed)
+saying_of ids P J (outcome.Garbled sim test) = Err (ends.Link (id_in ids sim) (Garbled test))
+saying_of ids P J (outcome.LongFrame sim n) = Err (ends.Link (id_in ids sim) (LongFrame n))
+saying_of ids P J (outcome.LongItem sim n) = Err (ends.LongItem (id_in ids sim) n)
+saying_of ids P J outcome.Mem = Err ends.Mem
+
+-- the record of the plan and the journal, where one is wanted
+abbrev pub record_of : Bool → Plan → List Entry → Option (List ℕ)
+record_of true P J = Some (record_text P J)
+record_of false P J = None

@@ -1,0 +1,199 @@
+// From a scenario file's bytes to the report and the record of its run.
+ghost use Rattle.std.specs.Prelude.{◌≡◌, ◌≤◌, ◌<◌, ◌⊎◌, ℕ, List, IfOk, IfErr, Some, None, Ok, Err, map, option_map, true};
+ghost use Rattle.std.specs.List.{list_all};
+ghost use Rattle.mk_base.specs.Lists.{Each};
+ghost use Rattle.mk_plan.specs.declared.Plan.{Plan};
+ghost use Rattle.mk_plan.specs.declared.Journal.{Journal};
+ghost use Rattle.mk_outside.specs.declared.fleet.LogEntry.{LogEntry};
+ghost use Rattle.mk_outside.specs.Logs.{Adds};
+ghost use Rattle.mk_scenario.specs.Wellformed.{IsWellformed};
+ghost use Rattle.mk_scenario.specs.Scenarios.{scenario_of};
+ghost use Rattle.mk_local.specs.Kinds.{name_of};
+ghost use Rattle.mk_local.specs.Registries.{rows_in};
+ghost use Rattle.mk_checked.specs.Checks.{IsUnchecked};
+ghost use Rattle.mk_checked.specs.Runnable.{IsRunnable};
+ghost use Rattle.mk_run.specs.Ran.{RunsAs};
+ghost use Rattle.mk_lines.specs.Entries.{is_writable};
+ghost use Rattle.mk_begin.specs.declared.halt.Halt.{Halt};
+ghost use Rattle.mk_run.specs.Outcomes.{outcome_of};
+ghost use Rattle.mk_sayings.specs.Sayings.{ids_of};
+ghost use Rattle.mk_ran.specs.Sayings.{IsHalt, halt_ending, record_of, saying_of};
+ghost use Rattle.mk_ran.specs.Outcomes.{IsRunOutcome, IsSaid};
+ghost use Rattle.mk_endings.specs.declared.ending.Ending.TheVariants as ends;
+
+use crate::sayings::{halt_ending, saying};
+use mk_base::{List, Mem, Text};
+use mk_checked::{ranked, scenario_of};
+use mk_endings::Ending;
+use mk_lines::write_record;
+use mk_local::Registry;
+use mk_outside::Fleet;
+use mk_plan::{Journal, Plan};
+use mk_run::{Outcome, Ran, run};
+use mk_sayings::ids_of;
+use mk_scenario::Scenario;
+use std::alloc::Global;
+use std::sync::Wait;
+
+/// What `run` comes to: the report, or why there is none; and the record, where one is wanted and the run has a journal.
+#[derive(Drop)]
+pub struct Told {
+    pub text: Result<Vec<u8>, Ending>,
+    pub record: Option<Vec<u8>>,
+}
+
+impl Told {
+    // Nothing is to be recorded.
+    fn unrecorded(ending: Ending) -> Told
+        ensures text { result.text ≡ Err ending }
+        ensures record { result.record ≡ None }
+    {
+        Told {
+            text: Err(ending),
+            record: None,
+        }
+    }
+}
+
+/// Reads a scenario file's bytes, and runs the scenario over a fleet, its simulators within the program being of these kinds. It
+/// may wait for others. Every link that it starts is closed at the end.
+pub fn ran<F: Fleet, R: Wait>(
+    rt: &R,
+    alloc: Global,
+    kinds: &Registry,
+    bytes: &[u8],
+    fleet: &mut F,
+    is_recorded: bool,
+) -> Told
+    requires numbered { Each (λ link. link.0 < F.started fleet.old) (F.open_links fleet.old) }
+    ensures count { F.faults fleet.old ≤ F.faults fleet.new }
+    ensures closed { F.open_links fleet.new ≡ F.open_links fleet.old }
+    ensures text { IfOk result.text (λ text. (entries : List LogEntry) × Adds entries (F.log fleet.old) (F.log fleet.new)
+        × IsRunOutcome (record { kinds = rows_in kinds.now; started = F.started fleet.old; log = entries; faults = F.faults fleet.old; new_faults = F.faults fleet.new })
+        is_recorded bytes.now (Ok text.items) (option_map (λ r. r.items) result.record)) }
+    ensures none { IfErr result.text (λ e. (entries : List LogEntry) × Adds entries (F.log fleet.old) (F.log fleet.new)
+        × IsRunOutcome (record { kinds = rows_in kinds.now; started = F.started fleet.old; log = entries; faults = F.faults fleet.old; new_faults = F.faults fleet.new })
+        is_recorded bytes.now (Err e) (option_map (λ r. r.items) result.record)) }
+{
+    match accept(alloc, kinds, bytes) {
+        Ok(accepted) => play(rt, alloc, kinds, accepted, fleet, is_recorded),
+        Err(ending) => Told::unrecorded(ending),
+    }
+}
+
+// A scenario that can be run, its ranks, and the ids of its simulators.
+#[derive(Drop)]
+struct Accepted {
+    scenario: Scenario,
+    ranks: List<u32>,
+    ids: List<Text>,
+}
+
+// The scenario of a file's bytes, or why it can't be run.
+fn accept(alloc: Global, kinds: &Registry, bytes: &[u8]) -> Result<Accepted, Ending>
+    ensures read { IfOk result (λ a. scenario_of bytes.now ≡ Ok a.scenario) }
+    ensures wellformed { IfOk result (λ a. IsWellformed a.scenario) }
+    ensures runnable { IfOk result (λ a. IsRunnable (map name_of (rows_in kinds.now)) a.scenario a.ranks) }
+    ensures ids { IfOk result (λ a. a.ids ≡ ids_of a.scenario) }
+    ensures unaccepted { IfErr result (λ e. IsUnchecked (map name_of (rows_in kinds.now)) bytes.now e) }
+{
+    let scenario = scenario_of(alloc, bytes)?;
+    let names = kinds.names(alloc)?;
+    let ranks = ranked(alloc, &names, &scenario)?;
+    let ids = ids_of(alloc, &scenario)?;
+    Ok(Accepted {
+        scenario,
+        ranks,
+        ids,
+    })
+}
+
+// Runs a scenario, and says how it ended.
+fn play<F: Fleet, R: Wait>(
+    rt: &R,
+    alloc: Global,
+    kinds: &Registry,
+    accepted: Accepted,
+    fleet: &mut F,
+    is_recorded: bool,
+) -> Told
+    requires numbered { Each (λ link. link.0 < F.started fleet.old) (F.open_links fleet.old) }
+    requires wellformed { IsWellformed accepted.scenario }
+    requires runnable { IsRunnable (map name_of (rows_in kinds.now)) accepted.scenario accepted.ranks }
+    requires ids { accepted.ids ≡ ids_of accepted.scenario }
+    ensures count { F.faults fleet.old ≤ F.faults fleet.new }
+    ensures closed { F.open_links fleet.new ≡ F.open_links fleet.old }
+    ensures text { (bytes : List ℕ) → scenario_of bytes ≡ Ok accepted.scenario → IfOk result.text (λ text. (entries : List LogEntry) × Adds entries (F.log fleet.old) (F.log fleet.new)
+        × IsRunOutcome (record { kinds = rows_in kinds.now; started = F.started fleet.old; log = entries; faults = F.faults fleet.old; new_faults = F.faults fleet.new })
+        is_recorded bytes (Ok text.items) (option_map (λ r. r.items) result.record)) }
+    ensures none { (bytes : List ℕ) → scenario_of bytes ≡ Ok accepted.scenario → IfErr result.text (λ e. (entries : List LogEntry) × Adds entries (F.log fleet.old) (F.log fleet.new)
+        × IsRunOutcome (record { kinds = rows_in kinds.now; started = F.started fleet.old; log = entries; faults = F.faults fleet.old; new_faults = F.faults fleet.new })
+        is_recorded bytes (Err e) (option_map (λ r. r.items) result.record)) }
+{
+    let Accepted {
+        scenario,
+        ranks,
+        ids,
+    } = accepted;
+    let Ran {
+        outcome,
+        plan,
+        journal,
+    } = run(rt, alloc, scenario, ranks, fleet, kinds);
+    match (plan, journal) {
+        (Some(plan), Some(journal)) => tell(alloc, &ids, outcome, &plan, &journal, is_recorded),
+        (None, None) => Told::unrecorded(unrun(alloc, &ids, outcome)),
+        (Some(_), None) | (None, Some(_)) => unreachable!(),
+    }
+}
+
+// What is said of a run that had no plan, or that memory is wanting.
+fn unrun(alloc: Global, ids: &List<Text>, outcome: Outcome) -> Ending
+    requires { IsHalt outcome }
+    ensures { (h : Halt) → outcome ≡ outcome_of h → IsSaid (Err (halt_ending ids.now h)) (Err result) }
+{
+    match halt_ending(alloc, ids, outcome) {
+        Ok(ending) => ending,
+        Err(_) => Ending::Mem,
+    }
+}
+
+// What is said of a run with a plan and a journal, and its record.
+fn tell(
+    alloc: Global,
+    ids: &List<Text>,
+    outcome: Outcome,
+    plan: &Plan,
+    journal: &Journal,
+    is_recorded: bool,
+) -> Told
+    requires { list_all is_writable journal.now.entries ≡ true }
+    ensures report { IfOk result.text (λ text. IsSaid (saying_of ids.now plan.now journal.now.entries outcome) (Ok text.items)) }
+    ensures none { IfErr result.text (λ e. IsSaid (saying_of ids.now plan.now journal.now.entries outcome) (Err e)) }
+    ensures recorded { (option_map (λ r. r.items) result.record ≡ record_of is_recorded plan.now journal.now.entries) ⊎ ((result.record ≡ None) × (result.text ≡ Err ends.Mem)) }
+{
+    match record_of(alloc, plan, journal, is_recorded) {
+        Ok(record) => Told {
+            text: saying(alloc, ids, outcome, plan, journal),
+            record,
+        },
+        Err(_) => Told::unrecorded(Ending::Mem),
+    }
+}
+
+// The record of the plan and the journal, where one is wanted.
+fn record_of(
+    alloc: Global,
+    plan: &Plan,
+    journal: &Journal,
+    is_recorded: bool,
+) -> Result<Option<Vec<u8>>, Mem>
+    requires { list_all is_writable journal.now.entries ≡ true }
+    ensures { IfOk result (λ record_. option_map (λ r. r.items) record_ ≡ record_of is_recorded plan.now journal.now.entries) }
+{
+    if is_recorded {
+        Ok(Some(write_record(alloc, plan, journal)?))
+    } else {
+        Ok(None)
+    }
+}
