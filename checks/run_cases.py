@@ -3,13 +3,15 @@
 
 `run_cases.py PROGRAM` runs each line of `cases.jsonl`: the words of a command, and the exit status, standard output and
 standard error that it must have. A line with `files`, texts by their names, `pieces`, texts each with how often it stands
-there, by names, or `lengths`, how many bytes of 0 stand under a name, is run in a folder that holds just these; any other
-one in the folder `cases`. It prints what differs, and ends with 'N passed, M failed'.
+there, by names, or `lengths`, how many bytes of 0 stand under a name, is run in a folder that holds just these; one with
+`saved`, the name of a file and the text that it must have (null: it must not be there), in a folder that holds copies of the
+files that its words name; any other one in the folder `cases`. It prints what differs, and ends with 'N passed, M failed'.
 """
 
 import json
 import os
 import pathlib
+import shutil
 import subprocess
 import sys
 import tempfile
@@ -30,10 +32,17 @@ def main() -> int:
             for name, length in case.get("lengths", {}).items():
                 (pathlib.Path(room) / name).touch()
                 os.truncate(pathlib.Path(room) / name, length)
-            at = room if "files" in case or "pieces" in case or "lengths" in case else folder
+            for word in case["words"] if "saved" in case else []:
+                if (folder / word).is_file():
+                    shutil.copy(folder / word, room)
+            at = room if any(key in case for key in ("files", "pieces", "lengths", "saved")) else folder
             ran = subprocess.run([program, *case["words"]], cwd=at, capture_output=True, timeout=60, check=False)
-        got = (ran.returncode, ran.stdout.decode("utf-8", "replace"), ran.stderr.decode("utf-8", "replace"))
-        want = (case["status"], case["out"], case["err"])
+            got = [ran.returncode, ran.stdout.decode("utf-8", "replace"), ran.stderr.decode("utf-8", "replace")]
+            want = [case["status"], case["out"], case["err"]]
+            if "saved" in case:
+                saved = pathlib.Path(room) / case["saved"]["name"]
+                got.append(saved.read_text(encoding="utf-8") if saved.exists() else None)
+                want.append(case["saved"]["text"])
         if got != want:
             failed += 1
             print(f"{' '.join(case['words'])}\n  want {want}\n  got  {got}")

@@ -1,9 +1,11 @@
 -- The commands of the program, and what each makes of the file that it names.
-use Rattle.std.specs.Prelude.{◌≡◌, ℕ, ◌<◌, ◌≤◌, ◌⊎◌, ⊤, length, List, [], Option, Some, None, IfSome, Result, Ok, Err}
+use Rattle.std.specs.Prelude.{◌≡◌, ℕ, ◌<◌, ◌≤◌, ◌⊎◌, ⊤, length, map, List, [], Option, Some, None, IfSome, Result}
 use Rattle.mk_outside.specs.Folders.{Files, file_limit}
 use Rattle.mk_words.specs.declared.request.Request.{Request}
 use Rattle.mk_words.specs.declared.request.Request.TheVariants.{Run, Replay, Check, Demo, Migrate}
 use Rattle.mk_words.specs.Requests.{IsRequestAmong}
+use Rattle.mk_local.specs.declared.turn.Turn.{Turn}
+use Rattle.mk_local.specs.Kinds.{name_of}
 use Rattle.mk_endings.specs.declared.ending.Ending.{Ending}
 use Rattle.mk_endings.specs.declared.ending.Ending.TheVariants as ends
 use Rattle.mk_replayed.specs.Reports as reports
@@ -22,10 +24,10 @@ file_of (Check scenario) = scenario
 file_of (Demo size) = []
 file_of (Migrate old new) = old
 
--- what a command makes of its file's bytes, the kinds within the program having these names: the text that it prints, or why there is none
-abbrev pub IsOutcomeOf : List (List ℕ) → Request → List ℕ → Result (List ℕ) Ending → Type 0
+-- what a command without a fleet makes of its file's bytes, the program having these kinds: the text that it prints, or why there is none
+abbrev pub IsOutcomeOf : List Turn → Request → List ℕ → Result (List ℕ) Ending → Type 0
 IsOutcomeOf kinds (Replay name order) bytes outcome = reports.IsOutcome bytes order outcome
-IsOutcomeOf kinds (Check scenario) bytes outcome = checks.IsOutcome kinds bytes outcome
+IsOutcomeOf kinds (Check scenario) bytes outcome = checks.IsOutcome (map name_of kinds) bytes outcome
 IsOutcomeOf kinds (Run scenario saved) bytes outcome = ⊥
 IsOutcomeOf kinds (Demo size) bytes outcome = ⊥
 IsOutcomeOf kinds (Migrate old new) bytes outcome = ⊥

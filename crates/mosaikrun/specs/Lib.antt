@@ -1,2 +1,4 @@
+pub mod Around
 pub mod Commands
 pub mod Program
+pub mod Running

@@ -1,11 +1,9 @@
-// The commands of the program, and what each makes of the file that it names.
+// The commands of the program, and what each but a run makes of the file that it names.
 ghost use Rattle.std.specs.Prelude.{◌≡◌, Ok, Err, IfOk, IfErr, map};
 ghost use Rattle.std.specs.String.{string_bytes};
 ghost use Rattle.mk_base.specs.Lists.{IsIn};
 ghost use Rattle.mk_words.specs.Requests.{command_of};
-ghost use Rattle.mk_local.specs.Kinds.{name_of};
 ghost use Rattle.mk_local.specs.Registries.{rows_in};
-ghost use Rattle.mk_endings.specs.declared.ending.Ending.TheVariants as ends;
 ghost use Rattle.mosaikrun.specs.Commands.{IsAsked, IsOutcomeOf, IsUnasked, file_of};
 
 use mk_base::Text;
@@ -17,7 +15,7 @@ use mk_words::{Command, Request, read_words};
 use std::alloc::Global;
 
 // The commands that the program has.
-pub const COMMANDS: [Command; 2] = [Command::Replay, Command::Check];
+pub const COMMANDS: [Command; 3] = [Command::Run, Command::Replay, Command::Check];
 
 // What the words ask for.
 pub fn asked(alloc: Global, words: &[String]) -> Result<Request, Ending>
@@ -43,16 +41,17 @@ pub fn file_of(request: &Request) -> &str
     }
 }
 
-// What the command makes of its file's bytes.
+// What a command without a fleet makes of its file's bytes.
 pub fn outcome(
     alloc: Global,
     kinds: &Registry,
     request: &Request,
     bytes: &[u8],
 ) -> Result<Vec<u8>, Ending>
-    requires { IsIn (command_of request.now) COMMANDS }
-    ensures text { IfOk result (λ text. IsOutcomeOf (map name_of (rows_in kinds.now)) request.now bytes.now (Ok text.items)) }
-    ensures none { IfErr result (λ ending. IsOutcomeOf (map name_of (rows_in kinds.now)) request.now bytes.now (Err ending)) }
+    requires there { IsIn (command_of request.now) COMMANDS }
+    requires still { command_of request.now ≡ Command.Run → ⊥ }
+    ensures text { IfOk result (λ text. IsOutcomeOf (rows_in kinds.now) request.now bytes.now (Ok text.items)) }
+    ensures none { IfErr result (λ ending. IsOutcomeOf (rows_in kinds.now) request.now bytes.now (Err ending)) }
 {
     match request {
         Request::Replay { record: _, order } => reported(alloc, bytes, *order),

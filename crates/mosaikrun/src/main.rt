@@ -1,25 +1,26 @@
-// Reads the words and does what they ask: replays a record, or checks a scenario.
+// Reads the words and does what they ask: runs a scenario over the system's sockets and child programs, replays a record, or
+// checks a scenario.
 #![tactic(auto)]
 
 mod commands;
-mod files;
 #[cfg(test)]
 mod tests;
 mod top;
 
-use files::{StreamSink, SystemFolder};
 use mk_base::Mem;
 use mk_local::{
     EntityStep, Kind, Registry, Turn, battery_turn, constant_turn, controller_turn, counter_turn,
     relay_turn, sum_turn,
 };
+use mk_real::{MioFleet, RealFolder, RealSink};
 use std::alloc::Global;
 use std::process::ExitCode;
+use std::sync::Wait;
 use std::{env, io};
 use top::program;
 
 fn main(rt: HostRuntime) -> ExitCode {
-    match run(&rt, rt.alloc()) {
+    match run(&rt, &rt, rt.alloc()) {
         Ok(status) => ExitCode::from(status),
         Err(_) => {
             let _ = rt.eprintln("mosaikrun: out of memory");
@@ -29,7 +30,7 @@ fn main(rt: HostRuntime) -> ExitCode {
 }
 
 // Makes the kinds of simulators within the program, and calls the program. Answers its status.
-fn run(rt: &HostRuntime, alloc: Global) -> Result<u8, Mem> {
+fn run<W: Wait>(rt: &HostRuntime, waits: &W, alloc: Global) -> Result<u8, Mem> {
     let mut kinds = Registry::new(alloc);
     kinds.add(Kind::new(
         Turn::Constant,
@@ -54,13 +55,16 @@ fn run(rt: &HostRuntime, alloc: Global) -> Result<u8, Mem> {
         Ok(words) => words,
         Err(_) => Vec::new(alloc),
     };
-    let mut folder = SystemFolder::new(rt);
-    let mut out = StreamSink::new(rt.stdout());
-    let mut err = StreamSink::new(rt.stderr());
+    let mut folder = RealFolder::new(rt);
+    let mut fleet = MioFleet::new(alloc, rt);
+    let mut out = RealSink::new(rt, false);
+    let mut err = RealSink::new(rt, true);
     Ok(program(
+        waits,
         alloc,
         words.as_slice(),
         &mut folder,
+        &mut fleet,
         &kinds,
         &mut out,
         &mut err,

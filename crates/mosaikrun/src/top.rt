@@ -1,43 +1,56 @@
-// The top call: all that the program does, over a folder and two sinks.
-ghost use Rattle.std.specs.Prelude.{◌≡◌, ℕ, ◌≤◌, ◌⊎◌, List, Some, Result, Err, IfSome, IfOk, IfErr, map, length};
+// The top call: all that the program does, over a folder, a fleet and two sinks.
+ghost use Rattle.std.specs.Prelude.{◌≡◌, [], ℕ, ◌≤◌, ◌<◌, ◌⊎◌, List, Some, Result, Err, IfSome, IfOk, IfErr, OnOk, OnErr, map, option_map, length};
 ghost use Rattle.std.specs.String.{string_bytes};
 ghost use Rattle.mk_outside.specs.Counts.{HasRisen};
-ghost use Rattle.mk_outside.specs.Folders.{Files, file_limit};
+ghost use Rattle.mk_outside.specs.Folders.{file_limit, with_file};
+ghost use Rattle.mk_base.specs.Lists.{Each, IsIn};
+ghost use Rattle.mk_outside.specs.declared.fleet.LogEntry.{LogEntry};
+ghost use Rattle.mk_outside.specs.Logs.{Adds};
 ghost use Rattle.mk_outside.specs.Sinks.{TookBeginning, appended};
 ghost use Rattle.mk_words.specs.declared.request.Request.{Request};
-ghost use Rattle.mk_local.specs.Kinds.{name_of};
+ghost use Rattle.mk_words.specs.declared.request.Request.TheVariants as requests;
+ghost use Rattle.mk_words.specs.Requests.{command_of};
 ghost use Rattle.mk_local.specs.Registries.{rows_in};
 ghost use Rattle.mk_endings.specs.declared.ending.Ending.{Ending};
 ghost use Rattle.mk_endings.specs.declared.ending.Ending.TheVariants as ends;
 ghost use Rattle.mk_endings.specs.Endings.{line_of, outcome_status, status_of};
 ghost use Rattle.mosaikrun.specs.Commands.{IsAsked, IsHeld, IsOutcomeOf, IsNoFile, IsUnreadable, file_of};
-ghost use Rattle.mosaikrun.specs.Program.{Ended, EndsWith, IsStatusOr, TookLine};
+ghost use Rattle.mosaikrun.specs.Running.{IsFolderAfter};
+ghost use Rattle.mosaikrun.specs.Program.{Ended, EndsWith, IsStatusOr, KeepsOthers, TookLine};
 
-use crate::commands::{asked, file_of, outcome};
+use crate::commands::{COMMANDS, asked, file_of, outcome};
 use mk_base::Text;
 use mk_endings::Ending;
 use mk_local::Registry;
-use mk_outside::{FileRead, Folder, PutAll, Sink, put_all};
+use mk_outside::{FileRead, FileSave, Fleet, Folder, PutAll, Sink, put_all};
+use mk_ran::ran;
+use mk_words::{Command, Request};
 use std::alloc::Global;
+use std::sync::Wait;
 
-/// Does what the words ask: reads the file that they name, and puts what the command makes of it to `out`. Answers the status.
-/// A scenario's simulators within the program are of these kinds.
+/// Does what the words ask: reads the file that they name, and puts what the command makes of it to `out`. A run is made over
+/// the fleet, and may wait for others; it saves its record, where the words give a name, however it ended. Answers the status. A
+/// scenario's simulators within the program are of these kinds.
 ///
-/// At a status other than 0 `err` gets a line that says why, and `out` gets nothing, or a beginning of the text where it
-/// failed or found no memory. The folder stays as it is.
-pub fn program<D: Folder, K: Sink, E: Sink>(
+/// At a status other than 0 `err` gets a line that says why, and `out` gets nothing, or a beginning of the text where it failed
+/// or found no memory.
+pub fn program<D: Folder, F: Fleet, K: Sink, E: Sink, R: Wait>(
+    rt: &R,
     alloc: Global,
     words: &[String],
     folder: &mut D,
+    fleet: &mut F,
     kinds: &Registry,
     out: &mut K,
     err: &mut E,
 ) -> u8
-    ensures ended { EndsWith
+    requires numbered { Each (λ link. link.0 < F.started fleet.old) (F.open_links fleet.old) }
+    ensures ended { (entries : List LogEntry) × Adds entries (F.log fleet.old) (F.log fleet.new) × EndsWith
         (record {
           words = map string_bytes words.now;
-          kinds = map name_of (rows_in kinds.now);
+          outside = record { kinds = rows_in kinds.now; started = F.started fleet.old; log = entries; faults = F.faults fleet.old; new_faults = F.faults fleet.new };
           files = D.files folder.old;
+          files_after = D.files folder.new;
           folder_before = D.faults folder.old;
           folder_after = D.faults folder.new;
           out_before = K.faults out.old;
@@ -49,35 +62,41 @@ pub fn program<D: Folder, K: Sink, E: Sink>(
         })
         (HasRisen (E.faults err.old) (E.faults err.new) ⊎ HasRisen (E.shortages err.old) (E.shortages err.new))
         (E.written err.old) (E.written err.new) result }
-    ensures usage { (result ≡ 2) → (R : Request) → IsAsked (map string_bytes words.now) R → ⊥ }
-    ensures useless { ((R : Request) → IsAsked (map string_bytes words.now) R → ⊥) → IsStatusOr 2 result }
-    ensures decided { IfSome (D.files folder.old) (λ held. (R : Request) → (bytes : List ℕ) → (o : Result (List ℕ) Ending) → IsAsked (map string_bytes words.now) R
-        → held (file_of R) ≡ Some bytes → length bytes ≤ file_limit → IsOutcomeOf (map name_of (rows_in kinds.now)) R bytes o → (o ≡ Err ends.Mem → ⊥) → IsStatusOr (outcome_status o) result) }
-    ensures unreadable { IfSome (D.files folder.old) (λ held. (R : Request) → IsAsked (map string_bytes words.now) R
-        → IsNoFile (held (file_of R)) → IsStatusOr 3 result) }
-    ensures folder_kept { D.files folder.new ≡ D.files folder.old }
+    ensures usage { (result ≡ 2) → (S : Request) → IsAsked (map string_bytes words.now) S → ⊥ }
+    ensures useless { ((S : Request) → IsAsked (map string_bytes words.now) S → ⊥) → IsStatusOr 2 result }
+    ensures decided { IfSome (D.files folder.old) (λ held. (S : Request) → (bytes : List ℕ) → (o : Result (List ℕ) Ending) → IsAsked (map string_bytes words.now) S
+        → held (file_of S) ≡ Some bytes → length bytes ≤ file_limit → IsOutcomeOf (rows_in kinds.now) S bytes o → (o ≡ Err ends.Mem → ⊥) → IsStatusOr (outcome_status o) result) }
+    ensures unreadable { IfSome (D.files folder.old) (λ held. (S : Request) → IsAsked (map string_bytes words.now) S
+        → IsNoFile (held (file_of S)) → IsStatusOr 3 result) }
+    ensures others_kept { KeepsOthers (map string_bytes words.now) (D.files folder.old) (D.files folder.new) }
+    ensures links_closed { F.open_links fleet.new ≡ F.open_links fleet.old }
     ensures folder_count { D.faults folder.old ≤ D.faults folder.new }
+    ensures fleet_count { F.faults fleet.old ≤ F.faults fleet.new }
     ensures out_count { K.faults out.old ≤ K.faults out.new }
     ensures err_count { E.faults err.old ≤ E.faults err.new }
 {
-    match answer(alloc, words, folder, kinds, out) {
+    match answer(rt, alloc, words, folder, fleet, kinds, out) {
         Ok(()) => 0,
-        Err(ending) => tell(alloc, ending, err),
+        Err(ending) => tell(alloc, &ending, err),
     }
 }
 
-// Reads the file that the words name, and puts what the command makes of it.
-fn answer<D: Folder, K: Sink>(
+// Reads the words, and does what they ask.
+fn answer<D: Folder, F: Fleet, K: Sink, R: Wait>(
+    rt: &R,
     alloc: Global,
     words: &[String],
     folder: &mut D,
+    fleet: &mut F,
     kinds: &Registry,
     out: &mut K,
 ) -> Result<(), Ending>
-    ensures ended { Ended (record {
+    requires numbered { Each (λ link. link.0 < F.started fleet.old) (F.open_links fleet.old) }
+    ensures ended { (entries : List LogEntry) × Adds entries (F.log fleet.old) (F.log fleet.new) × Ended (record {
       words = map string_bytes words.now;
-      kinds = map name_of (rows_in kinds.now);
+      outside = record { kinds = rows_in kinds.now; started = F.started fleet.old; log = entries; faults = F.faults fleet.old; new_faults = F.faults fleet.new };
       files = D.files folder.old;
+      files_after = D.files folder.new;
       folder_before = D.faults folder.old;
       folder_after = D.faults folder.new;
       out_before = K.faults out.old;
@@ -87,17 +106,113 @@ fn answer<D: Folder, K: Sink>(
       before = K.written out.old;
       after = K.written out.new;
     }) result }
-    ensures folder_kept { D.files folder.new ≡ D.files folder.old }
+    ensures links_closed { F.open_links fleet.new ≡ F.open_links fleet.old }
+    ensures folder_count { D.faults folder.old ≤ D.faults folder.new }
+    ensures fleet_count { F.faults fleet.old ≤ F.faults fleet.new }
+    ensures out_count { K.faults out.old ≤ K.faults out.new }
+{
+    match asked(alloc, words)? {
+        Request::Run { scenario, record } => {
+            play(
+                rt,
+                alloc,
+                scenario.as_str(),
+                &record,
+                folder,
+                fleet,
+                kinds,
+                out,
+            )
+        }
+        request => make(alloc, &request, folder, kinds, out),
+    }
+}
+
+// Reads the file that a command without a fleet names, and prints what the command makes of it.
+fn make<D: Folder, K: Sink>(
+    alloc: Global,
+    request: &Request,
+    folder: &mut D,
+    kinds: &Registry,
+    out: &mut K,
+) -> Result<(), Ending>
+    requires there { IsIn (command_of request.now) COMMANDS }
+    requires still { command_of request.now ≡ Command.Run → ⊥ }
+    ensures made { (words : List (List ℕ)) → (started : ℕ) → (faults : ℕ) → IsAsked words request.now → Ended (record {
+      words = words;
+      outside = record { kinds = rows_in kinds.now; started = started; log = []; faults = faults; new_faults = faults };
+      files = D.files folder.old;
+      files_after = D.files folder.new;
+      folder_before = D.faults folder.old;
+      folder_after = D.faults folder.new;
+      out_before = K.faults out.old;
+      out_after = K.faults out.new;
+      wants_before = K.shortages out.old;
+      wants_after = K.shortages out.new;
+      before = K.written out.old;
+      after = K.written out.new;
+    }) result }
     ensures folder_count { D.faults folder.old ≤ D.faults folder.new }
     ensures out_count { K.faults out.old ≤ K.faults out.new }
 {
-    let request = asked(alloc, words)?;
-    let bytes = file_bytes(alloc, folder, file_of(&request))?;
-    let text = outcome(alloc, kinds, &request, bytes.as_slice())?;
-    match put_all(out, text.as_slice()) {
-        PutAll::Done => Ok(()),
-        PutAll::Failed => Err(Ending::Output),
-        PutAll::Mem => Err(Ending::Mem),
+    let bytes = file_bytes(alloc, folder, file_of(request))?;
+    let text = outcome(alloc, kinds, request, bytes.as_slice())?;
+    print(out, text.as_slice())
+}
+
+// Reads a scenario's file and runs it over the fleet, saves the record under the name, if there is one, and prints the report.
+fn play<D: Folder, F: Fleet, K: Sink, R: Wait>(
+    rt: &R,
+    alloc: Global,
+    scenario: &str,
+    name: &Option<Text>,
+    folder: &mut D,
+    fleet: &mut F,
+    kinds: &Registry,
+    out: &mut K,
+) -> Result<(), Ending>
+    requires numbered { Each (λ link. link.0 < F.started fleet.old) (F.open_links fleet.old) }
+    ensures played { (words : List (List ℕ)) → IsAsked words (requests.Run scenario.now name.now) → (entries : List LogEntry) × Adds entries (F.log fleet.old) (F.log fleet.new) × Ended (record {
+      words = words;
+      outside = record { kinds = rows_in kinds.now; started = F.started fleet.old; log = entries; faults = F.faults fleet.old; new_faults = F.faults fleet.new };
+      files = D.files folder.old;
+      files_after = D.files folder.new;
+      folder_before = D.faults folder.old;
+      folder_after = D.faults folder.new;
+      out_before = K.faults out.old;
+      out_after = K.faults out.new;
+      wants_before = K.shortages out.old;
+      wants_after = K.shortages out.new;
+      before = K.written out.old;
+      after = K.written out.new;
+    }) result }
+    ensures links_closed { F.open_links fleet.new ≡ F.open_links fleet.old }
+    ensures folder_count { D.faults folder.old ≤ D.faults folder.new }
+    ensures fleet_count { F.faults fleet.old ≤ F.faults fleet.new }
+    ensures out_count { K.faults out.old ≤ K.faults out.new }
+{
+    let bytes = file_bytes(alloc, folder, scenario)?;
+    let told = ran(rt, alloc, kinds, bytes.as_slice(), fleet, name.is_some());
+    match keep(folder, name, &told.record) {
+        FileSave::Kept => print(out, told.text?.as_slice()),
+        FileSave::Failed => {
+            told.text?;
+            Err(Ending::Folder)
+        }
+        FileSave::Mem => Err(Ending::Mem),
+    }
+}
+
+// Saves the record of a run, if there is one, under the name, if one is given.
+fn keep<D: Folder>(folder: &mut D, name: &Option<Text>, bytes: &Option<Vec<u8>>) -> FileSave
+    ensures kept { result ≡ FileSave.Kept → IsFolderAfter name.now (option_map (λ b. b.items) bytes.now) (D.files folder.old) (D.files folder.new) }
+    ensures failed { result ≡ FileSave.Failed → (D.files folder.new ≡ D.files folder.old) × HasRisen (D.faults folder.old) (D.faults folder.new) }
+    ensures wanting { result ≡ FileSave.Mem → D.files folder.new ≡ D.files folder.old }
+    ensures count { D.faults folder.old ≤ D.faults folder.new }
+{
+    match (name, bytes) {
+        (Some(name), Some(bytes)) => folder.save(name.as_str(), bytes.as_slice()),
+        _ => FileSave::Kept,
     }
 }
 
@@ -123,9 +238,23 @@ fn file_bytes<D: Folder>(alloc: Global, folder: &mut D, name: &str) -> Result<Ve
     }
 }
 
+// Puts a text, or says why only a beginning of it was taken.
+fn print<K: Sink>(out: &mut K, text: &[u8]) -> Result<(), Ending>
+    ensures put { OnOk result (K.written out.new ≡ appended text.now (K.written out.old)) }
+    ensures cut { OnErr result (TookBeginning text.now (K.written out.old) (K.written out.new)) }
+    ensures cause { IfErr result (λ e. ((e ≡ ends.Output) × HasRisen (K.faults out.old) (K.faults out.new)) ⊎ ((e ≡ ends.Mem) × HasRisen (K.shortages out.old) (K.shortages out.new))) }
+    ensures count { K.faults out.old ≤ K.faults out.new }
+{
+    match put_all(out, text) {
+        PutAll::Done => Ok(()),
+        PutAll::Failed => Err(Ending::Output),
+        PutAll::Mem => Err(Ending::Mem),
+    }
+}
+
 // Says why there is no text, and answers the status. Where there is no memory for the line it says that.
-fn tell<E: Sink>(alloc: Global, ending: Ending, err: &mut E) -> u8
-    ensures told { (e : Ending) × ((e ≡ ending) ⊎ (e ≡ ends.Mem)) × (result ≡ status_of e)
+fn tell<E: Sink>(alloc: Global, ending: &Ending, err: &mut E) -> u8
+    ensures told { (e : Ending) × ((e ≡ ending.now) ⊎ (e ≡ ends.Mem)) × (result ≡ status_of e)
         × TookLine (line_of e) (HasRisen (E.faults err.old) (E.faults err.new) ⊎ HasRisen (E.shortages err.old) (E.shortages err.new)) (E.written err.old) (E.written err.new) }
     ensures count { E.faults err.old ≤ E.faults err.new }
 {
