@@ -5,7 +5,8 @@
 standard error that it must have. A line with `files`, texts by their names, `pieces`, texts each with how often it stands
 there, by names, or `lengths`, how many bytes of 0 stand under a name, is run in a folder that holds just these; one with
 `saved`, the name of a file and the text that it must have (null: it must not be there), in a folder that holds copies of the
-files that its words name; any other one in the folder `cases`. It prints what differs, and ends with 'N passed, M failed'.
+files that its words name; one with `at` in that folder of the repository; any other one in the folder `cases`. It prints
+what differs, and ends with 'N passed, M failed'.
 """
 
 import json
@@ -36,6 +37,7 @@ def main() -> int:
                 if (folder / word).is_file():
                     shutil.copy(folder / word, room)
             at = room if any(key in case for key in ("files", "pieces", "lengths", "saved")) else folder
+            at = checks.parent / case["at"] if "at" in case else at
             ran = subprocess.run([program, *case["words"]], cwd=at, capture_output=True, timeout=60, check=False)
             got = [ran.returncode, ran.stdout.decode("utf-8", "replace"), ran.stderr.decode("utf-8", "replace")]
             want = [case["status"], case["out"], case["err"]]
