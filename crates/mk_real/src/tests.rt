@@ -94,7 +94,7 @@ fn tells_the_time(rt: HostRuntime) {
 
 #[test]
 fn keeps_a_file_and_prints(rt: HostRuntime) -> Result<(), Fail> {
-    let name = "/tmp/mk_real-test";
+    let name = "kept-by-a-test";
     let mut folder = RealFolder::new(&rt);
     let mut bytes = Vec::new(rt.alloc());
     assert_eq!(rt; folder.save(name, b"some\n"), FileSave::Kept);
