@@ -1,4 +1,5 @@
 mod Asked
+mod Completing
 mod Composing
 mod Ending
 mod Going
@@ -8,3 +9,4 @@ mod Placing
 mod Requests
 mod Simulators
 mod Starting
+pub mod Unlinked

@@ -4,14 +4,17 @@ use Rattle.std.specs.Prelude.{option_to_list, filter}
 use Rattle.std.specs.List.{list_any}
 use Rattle.mk_base.specs.declared.LinkNo.{LinkNo}
 use Rattle.mk_base.specs.Lists.{IsIn, Each}
-use Rattle.mk_base.proofs.Lists.{each_in, in_back, in_each, in_at, in_flat_map, filter_append, none_some, some_passes, some_same, filter_none, append_nil}
+use Rattle.mk_base.proofs.Lists.{each_in, in_back, in_each, in_at, in_flat_map, filter_in, filter_append, none_some, some_passes, some_same, filter_none, append_nil}
+use Rattle.mk_outside.specs.Fleets.{without}
 use Rattle.mk_outside.specs.Logs.{same_link}
+use Rattle.mk_outside.proofs.OnLogs.{each-append}
 use Rattle.mk_scenario.specs.declared.parts.SimPart.{SimPart}
 use Rattle.mk_scenario.specs.declared.parts.Begin.{Begin}
 use Rattle.mk_scenario.specs.declared.parts.Begin.TheVariants.{Command, Connect, Local}
 use Rattle.mk_launch.specs.declared.faults.StartFault.{StartFault}
 use Rattle.mk_launch.specs.declared.faults.StartFault.TheVariants.{Failed, Mem}
-use Rattle.mk_launch.specs.Starts.{AllStarted, AreStarted, AreStartedAndOneClosed, Links, link_count, links_in, place_of, places}
+use Rattle.mk_launch.specs.Starts.{AllStarted, AreNumbered, AreStarted, AreStartedAndOneClosed, Links, link_count, link_of, links_in, place_of, places}
+use Rattle.mk_launch.proofs.Placing.{higher, numbered, without_lower}
 use Rattle.mk_links.proofs.Stepping.{same_or_not, same_is, apart_is}
 use Rattle.mk_crew.specs.Places.{without_all}
 
@@ -76,10 +79,10 @@ old_apart n sims l less = go (list_any (same_link l) (links_in (places n sims)))
         absurd (not_low n sims t.0 t.1 (let same = same_number l t.0 t.2 in omega (arith, same, less)))
 
 -- the links that were started are closed, and the others stay
-pub others_stay : (n : ℕ) (sims : List SimPart) (put : List (Option LinkNo)) (old open_links : List LinkNo) → put ≡ places n sims → Each (λ (link : LinkNo). link.0 < n) old → open_links ≡ old ++ links_in put → without_all (links_in put) open_links ≡ old
-others_stay n sims put old open_links is numbered all =
+pub others_stay : (n : ℕ) (sims : List SimPart) (put : List (Option LinkNo)) (old open_links : List LinkNo) → put ≡ places n sims → AreNumbered n old → open_links ≡ old ++ links_in put → without_all (links_in put) open_links ≡ old
+others_stay n sims put old open_links is low_ones all =
     ap (without_all (links_in put)) all ∙ filter_append (λ (l : LinkNo). not (list_any (same_link l) (links_in put))) old (links_in put)
-    ∙ ap (λ (xs : List LinkNo). xs ++ without_all (links_in put) (links_in put)) (keep_old (links_in put) old (λ l there. ap (λ (ps : List (Option LinkNo)). list_any (same_link l) (links_in ps)) is ∙ old_apart n sims l (in_each (λ (link : LinkNo). link.0 < n) l old numbered there)))
+    ∙ ap (λ (xs : List LinkNo). xs ++ without_all (links_in put) (links_in put)) (keep_old (links_in put) old (λ l there. ap (λ (ps : List (Option LinkNo)). list_any (same_link l) (links_in ps)) is ∙ old_apart n sims l (in_each (λ (link : LinkNo). link.0 < n) l old low_ones there)))
     ∙ ap (λ (xs : List LinkNo). old ++ xs) (drop_new (links_in put) (links_in put) (λ l there. there)) ∙ append_nil old
 
 -- and they are open before
@@ -92,11 +95,35 @@ put_open put old open_links all = each_in (λ (link : LinkNo). IsIn link open_li
 pub record Leaves (sims : List SimPart) (old new : Links) (put : List (Option LinkNo)) : Type 0 where
   pub first : List SimPart
   pub places : put ≡ places old.started first
-  pub links : new.links ≡ old.links ++ links_in put
+  pub links : AreNumbered old.started old.links → new.links ≡ old.links ++ links_in put
+  pub open_ones : Each (λ (link : LinkNo). IsIn link new.links) (links_in put)
 
-pub leaves : (fault : StartFault) (sims : List SimPart) (old new : Links) (put : List (Option LinkNo)) → AllStarted (Err fault) sims old new put → Each (λ (link : LinkNo). link.0 < old.started) old.links → Leaves sims old new put
-leaves (Failed sim) sims old new put all numbered = record { first = take sim.0 sims; places = (all.1).places; links = (all.1).links }
-leaves Mem sims old new put all numbered = elim all.2 [
-  | inl t ↦ record { first = take all.0 sims; places = t.places; links = t.links }
-  | inr t ↦ record { first = take all.0 sims; places = t.places; links = t.links numbered }
+-- the links of these places have lower numbers than the next one
+placed_below : (n : ℕ) (sims : List SimPart) (put : List (Option LinkNo)) → put ≡ places n sims → Each (λ (link : LinkNo). link.0 < n + length (links_in put)) (links_in put)
+placed_below n sims put is = subst (λ (ps : List (Option LinkNo)). Each (λ (link : LinkNo). link.0 < n + length (links_in ps)) (links_in ps)) (sym is) (numbered n sims)
+
+-- where one more was closed, the others stay open
+others_open : (n : ℕ) (sims : List SimPart) (put : List (Option LinkNo)) (old new_links : List LinkNo) → put ≡ places n sims → new_links ≡ without (link_of (n + length (links_in put))) (old ++ links_in put) → Each (λ (link : LinkNo). IsIn link new_links) (links_in put)
+others_open n sims put old new_links is left =
+    let last = link_of (n + length (links_in put)) in
+    each_in (λ (link : LinkNo). IsIn link new_links) (links_in put) (λ l there.
+    let below = in_each (λ (link : LinkNo). link.0 < n + length (links_in put)) l (links_in put) (placed_below n sims put is) there in
+    subst (IsIn l) (sym left) (filter_in (λ (other : LinkNo). not (same_link other last)) l (old ++ links_in put) (in_back l old (links_in put) there) (ap not (apart_is l.0 last.0 (λ (same : l.0 ≡ last.0). omega (arith, below, same))))))
+
+-- and those from before too, where they are numbered
+all_stay : (n : ℕ) (sims : List SimPart) (put : List (Option LinkNo)) (old : List LinkNo) → put ≡ places n sims → AreNumbered n old → without (link_of (n + length (links_in put))) (old ++ links_in put) ≡ old ++ links_in put
+all_stay n sims put old is low_ones =
+    without_lower (link_of (n + length (links_in put))) (old ++ links_in put)
+    (each-append (λ (link : LinkNo). link.0 < n + length (links_in put)) old (links_in put) (higher n (n + length (links_in put)) (omega arith) old low_ones) (placed_below n sims put is))
+
+pub leaves : (fault : StartFault) (sims : List SimPart) (old new : Links) (put : List (Option LinkNo)) → AllStarted (Err fault) sims old new put → Leaves sims old new put
+leaves (Failed sim) sims old new put all = record { first = take sim.0 sims; places = (all.1).places; links = λ low_ones. (all.1).links; open_ones = put_open put old.links new.links (all.1).links }
+leaves Mem sims old new put all = elim all.2 [
+  | inl t ↦ record { first = take all.0 sims; places = t.places; links = λ low_ones. t.links; open_ones = put_open put old.links new.links t.links }
+  | inr t ↦ record {
+    first = take all.0 sims;
+    places = t.places;
+    links = λ low_ones. t.links ∙ all_stay old.started (take all.0 sims) put old.links t.places low_ones;
+    open_ones = others_open old.started (take all.0 sims) put old.links new.links t.places t.links;
+  }
 ]

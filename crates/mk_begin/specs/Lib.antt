@@ -2,6 +2,8 @@ pub mod Seen
 pub mod Calls
 pub mod Answers
 pub mod Begun
+pub mod Completing
 pub mod Halted
 pub mod Placed
 pub mod Asking
+pub mod Wholly

@@ -1,13 +1,12 @@
 // The begin of a crew: the start of the simulators, and the handshake.
 ghost use Rattle.std.specs.Prelude.{◌≡◌, ◌≤◌, ◌<◌, ◌+◌, ◌⊎◌, ◌^◌, ℕ, List, [], true, false, Some, None, length, map, IfOk, IfErr, OnOk, OnErr};
-ghost use Rattle.mk_base.specs.Lists.{Each};
 ghost use Rattle.mk_message.specs.Written.{is_call_in_range};
 ghost use Rattle.mk_outside.specs.declared.fleet.LogEntry.{LogEntry};
 ghost use Rattle.mk_outside.specs.Counts.{HasRisen};
 ghost use Rattle.mk_outside.specs.Logs.{Adds};
 ghost use Rattle.mk_scenario.specs.Wellformed.{IsWellformed};
 ghost use Rattle.mk_launch.specs.Ready.{IsPrepared};
-ghost use Rattle.mk_launch.specs.Starts.{AreStarted, links_in};
+ghost use Rattle.mk_launch.specs.Starts.{AreNumbered, AreStarted, links_in};
 ghost use Rattle.mk_local.specs.Calls.{IsCallReplied};
 ghost use Rattle.mk_local.specs.Kinds.{name_of};
 ghost use Rattle.mk_local.specs.Registries.{rows_in};
@@ -39,14 +38,14 @@ use std::sync::Wait;
 
 // What a crew is made of, and its setup.
 #[derive(Drop)]
-struct Parts {
-    links: Links,
-    within: Within,
-    setup: Setup,
+pub struct Parts {
+    pub links: Links,
+    pub within: Within,
+    pub setup: Setup,
 }
 
 // The halt that a fault of the handshake is.
-fn setup_halt(fault: SetupFault) -> Halt
+pub fn setup_halt(fault: SetupFault) -> Halt
     ensures { result ≡ setup_halt fault }
 {
     match fault {
@@ -67,12 +66,11 @@ fn start<F: Fleet>(
 ) -> Result<List<Option<LinkNo>>, Halt>
     requires few { length scenario.now.sims < 2 ^ 32 }
     requires prepared { (kinds : List (List ℕ)) × IsPrepared scenario.now kinds }
-    requires numbered { Each (λ link. link.0 < F.started fleet.old) (F.open_links fleet.old) }
     ensures started { IfOk result (λ places. AreStarted scenario.now.sims
         (record { started = F.started fleet.old; links = F.open_links fleet.old })
         (record { started = F.started fleet.new; links = F.open_links fleet.new }) places) }
     ensures cause { IfErr result (λ h. (h ≡ halts.Mem) ⊎ ((h ≡ halts.Fleet) × HasRisen (F.faults fleet.old) (F.faults fleet.new))) }
-    ensures closed { OnErr result (F.open_links fleet.new ≡ F.open_links fleet.old) }
+    ensures closed { OnErr result (AreNumbered (F.started fleet.old) (F.open_links fleet.old) → F.open_links fleet.new ≡ F.open_links fleet.old) }
     ensures count { F.faults fleet.old ≤ F.faults fleet.new }
     ensures logged { Adds [] (F.log fleet.old) (F.log fleet.new) }
 {
@@ -92,7 +90,7 @@ fn start<F: Fleet>(
 }
 
 // The lines of links at these places, the simulators within the program, and the setup, before any request.
-fn make_parts(
+pub fn make_parts(
     alloc: Global,
     scenario: Scenario,
     ranks: List<u32>,
@@ -257,8 +255,7 @@ impl Crew {
     /// Starts the simulators of a prepared scenario with these ranks, and makes the handshake with each: `init`, `create` for
     /// each group, `setup_done`. The plan is made of their replies.
     ///
-    /// At a halt each link that was started has been stopped, if its line was there, and closed. Each link that is open before has
-    /// a number below that of the next one, as fleets number their links.
+    /// At a halt each link that was started has been stopped, if its line was there, and closed.
     pub fn begin<F: Fleet, R: Wait>(
         rt: &R,
         alloc: Global,
@@ -270,18 +267,17 @@ impl Crew {
         requires wellformed { IsWellformed scenario }
         requires ranked { AreRanksOf scenario ranks }
         requires prepared { IsPrepared scenario (map name_of (rows_in kinds.now)) }
-        requires numbered { Each (λ link. link.0 < F.started fleet.old) (F.open_links fleet.old) }
         ensures count { F.faults fleet.old ≤ F.faults fleet.new }
         ensures begun { IfOk result (λ r. (entries : List LogEntry) × Adds entries (F.log fleet.old) (F.log fleet.new)
             × HasBegun (F.started fleet.old) scenario ranks (rows_in kinds.now) entries r.0 r.1) }
         ensures started { IfOk result (λ r. AreStarted scenario.sims
             (record { started = F.started fleet.old; links = F.open_links fleet.old })
             (record { started = F.started fleet.new; links = F.open_links fleet.new }) r.0.places) }
-        ensures others { IfOk result (λ r. without_all (links_in r.0.places) (F.open_links fleet.new) ≡ F.open_links fleet.old) }
+        ensures others { IfOk result (λ r. AreNumbered (F.started fleet.old) (F.open_links fleet.old) → without_all (links_in r.0.places) (F.open_links fleet.new) ≡ F.open_links fleet.old) }
         ensures open { IfOk result (λ r. AreOpen r.0.lines (F.open_links fleet.new)) }
         ensures halted { IfErr result (λ h. (entries : List LogEntry) × Adds entries (F.log fleet.old) (F.log fleet.new)
             × HasHalted (F.started fleet.old) scenario ranks (rows_in kinds.now) entries (HasRisen (F.faults fleet.old) (F.faults fleet.new)) h) }
-        ensures closed { OnErr result (F.open_links fleet.new ≡ F.open_links fleet.old) }
+        ensures closed { OnErr result (AreNumbered (F.started fleet.old) (F.open_links fleet.old) → F.open_links fleet.new ≡ F.open_links fleet.old) }
     {
         places_are_distinct();
         let places = match start(alloc, &scenario, fleet) {

@@ -1,5 +1,5 @@
 // A crew in a run: items sent, messages heard, and the stop.
-ghost use Rattle.std.specs.Prelude.{◌≡◌, ◌∷◌, ℕ, ◌≤◌, List, true, false, None, Some, Err, IfOk, OnOk, OnErr};
+ghost use Rattle.std.specs.Prelude.{◌≡◌, [], ◌∷◌, ℕ, ◌≤◌, List, true, false, None, Some, Err, IfOk, IfSome, MatchOption, OnOk, OnErr};
 ghost use Rattle.mk_outside.specs.declared.fleet.LogEntry.{LogEntry};
 ghost use Rattle.mk_outside.specs.Counts.{HasRisen};
 ghost use Rattle.mk_outside.specs.Logs.{Adds};
@@ -7,7 +7,7 @@ ghost use Rattle.mk_launch.specs.Starts.{links_in};
 ghost use Rattle.mk_local.specs.declared.turn.Turn.{Turn};
 ghost use Rattle.mk_local.specs.Registries.{rows_in};
 ghost use Rattle.mk_local.specs.Replies.{IsItemReplied};
-ghost use Rattle.mk_links.specs.Crews.{AreStopped, IsRestless};
+ghost use Rattle.mk_links.specs.Crews.{AreStopped, IsHeard, IsRestless};
 ghost use Rattle.mk_crew.specs.declared.answers.LinkHalt.{LinkHalt};
 ghost use Rattle.mk_crew.specs.Places.{AreOpen, without_all};
 ghost use Rattle.mk_plan.specs.Journals.{Arrival};
@@ -123,6 +123,20 @@ impl Crew {
             Ok(heard) => Ok(heard),
             Err(why) => Err(halt_of(why)),
         }
+    }
+
+    /// Takes the oldest reply that is kept of a simulator within the program; `None` exactly where none is. It takes no memory,
+    /// and waits for nobody.
+    pub fn take_kept(&mut self) -> Option<(SimNo, Message)>
+        ensures taken { MatchOption result ((self.old.kept ≡ []) × (self.new ≡ self.old)) (λ r. IsHeard [] r.0.0 r.1 (crew_of self.old) (crew_of self.new)) }
+        ensures fit { IfSome result (λ r. IsFitSuccess r.1) }
+        ensures same_lines { self.new.lines ≡ self.old.lines }
+        ensures same_places { self.new.places ≡ self.old.places }
+        ensures same_sims { self.new.sims ≡ self.old.sims }
+        ensures same_halt { self.new.halt ≡ self.old.halt }
+        ensures kinds { (rows : List Turn) → AreOf rows (within_of self.old) → AreOf rows (within_of self.new) }
+    {
+        self.within.take()
     }
 
     /// Says what is unsent and then a stop on each link, until all is said or a write takes nothing, and closes the links. It

@@ -4,6 +4,10 @@
 mod beginning;
 mod crew;
 mod halt;
+mod laws;
+mod wholly;
 
 pub use crew::Crew;
 pub use halt::Halt;
+pub use laws::handshakes_complete;
+pub use wholly::is_wholly_within;

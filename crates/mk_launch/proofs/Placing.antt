@@ -9,7 +9,6 @@ use Rattle.mk_base.specs.declared.LinkNo.{LinkNo}
 use Rattle.mk_base.specs.Lists.{Each, IsIn}
 use Rattle.mk_outside.specs.Fleets.{without}
 use Rattle.mk_outside.specs.Logs.{same_link}
-use Rattle.mk_outside.proofs.OnLogs.{each-append}
 use Rattle.mk_scenario.specs.declared.parts.Begin.{Begin}
 use Rattle.mk_scenario.specs.declared.parts.Begin.TheVariants.{Command, Connect, Local}
 use Rattle.mk_scenario.specs.declared.parts.SimPart.{SimPart}
@@ -53,12 +52,12 @@ one_more sims sim place old mid new last put after so_far is given grown count l
           ∙ ap (λ t. old.links ++ t) (sym added ∙ ap links_in (sym grown));
     }
 
-higher : (a b : ℕ) → a ≤ b → (xs : List LinkNo) → Each (λ (l : LinkNo). l.0 < a) xs → Each (λ (l : LinkNo). l.0 < b) xs
+pub higher : (a b : ℕ) → a ≤ b → (xs : List LinkNo) → Each (λ (l : LinkNo). l.0 < a) xs → Each (λ (l : LinkNo). l.0 < b) xs
 higher a b le [] all = tt
 higher a b le (x ∷ xs) (first, others) = (omega (arith, le, first), higher a b le xs others)
 
 -- the links that have places are numbered from n on, and there are as many of them
-abbrev AreBelow : ℕ → List LinkNo → Type 0
+abbrev pub AreBelow : ℕ → List LinkNo → Type 0
 AreBelow n xs = Each (λ (l : LinkNo). l.0 < n + length xs) xs
 
 linked : (n : ℕ) (xs : List LinkNo) → AreBelow (n + 1) xs → AreBelow n (link_of n ∷ xs)
@@ -70,12 +69,12 @@ numbered_by n (Command t) sims all = linked n (links_in (places (n + 1) sims)) (
 numbered_by n (Connect p) sims all = linked n (links_in (places (n + 1) sims)) (all (n + 1))
 numbered_by n (Local k) sims all = let none : n ≡ n + 0 = omega arith in subst (λ m. AreBelow n (links_in (places m sims))) none (all n)
 
-numbered : (n : ℕ) (sims : List SimPart) → AreBelow n (links_in (places n sims))
+pub numbered : (n : ℕ) (sims : List SimPart) → AreBelow n (links_in (places n sims))
 numbered n [] = tt
 numbered n (sim ∷ sims) = numbered_by n sim.begin sims (λ m. numbered m sims)
 
 -- a link isn't among those of lower numbers
-without_lower : (link : LinkNo) (xs : List LinkNo) → Each (λ (l : LinkNo). l.0 < link.0) xs → without link xs ≡ xs
+pub without_lower : (link : LinkNo) (xs : List LinkNo) → Each (λ (l : LinkNo). l.0 < link.0) xs → without link xs ≡ xs
 without_lower link [] all = refl
 without_lower link (x ∷ xs) (first, others) =
     let other : same_link x link ≡ false = grind (arith, nat_tests) in
@@ -101,19 +100,14 @@ one_dropped sims b None old mid new last put after so_far is given same count li
     })
 one_dropped sims b (Some link) old mid new last put after so_far is given same count links =
     let number = given_number mid.started link b is in
-    let put_all = numbered old.started sims in
     let counted = ap (λ a. length (links_in a)) same in
-    let put_is = ap (λ a. length (links_in a)) so_far.places in
+    let next : link.0 ≡ old.started + length (links_in after) = omega (arith, number, so_far.started, counted) in
     inr (record {
       places = same ∙ so_far.places;
       started = omega (arith, count, given.0, so_far.started, counted);
-      links = λ low.
-          let below : Each (λ (l : LinkNo). l.0 < link.0) (old.links ++ links_in put) =
-          each-append (λ (l : LinkNo). l.0 < link.0) old.links (links_in put) (higher old.started link.0 (omega (arith, number, so_far.started)) old.links low)
-          (subst (λ p. Each (λ (l : LinkNo). l.0 < link.0) (links_in p)) (sym so_far.places) (higher (old.started + length (links_in (places old.started sims))) link.0 (omega (arith, number, so_far.started, put_is)) (links_in (places old.started sims)) put_all))
-          in
-          links ∙ ap (without link) (given.1 ∙ ap (λ t. t ++ link ∷ []) so_far.links) ∙ filter-append (λ other. not (same_link other link)) (old.links ++ links_in put) (link ∷ [])
-          ∙ ap (λ t. without link (old.links ++ links_in put) ++ t) (without_itself link) ∙ append-nil _ ∙ without_lower link (old.links ++ links_in put) below ∙ ap (λ a. old.links ++ links_in a) (sym same);
+      links = links ∙ ap (without link) (given.1 ∙ ap (λ t. t ++ link ∷ []) so_far.links) ∙ filter-append (λ other. not (same_link other link)) (old.links ++ links_in put) (link ∷ [])
+          ∙ ap (λ t. without link (old.links ++ links_in put) ++ t) (without_itself link) ∙ append-nil _ ∙ ap (λ a. without link (old.links ++ links_in a)) (sym same)
+          ∙ ap (λ n. without (link_of n) (old.links ++ links_in after)) next;
     })
 
 -- the link that was given is open

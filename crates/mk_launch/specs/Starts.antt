@@ -2,6 +2,7 @@
 use Rattle.std.specs.Prelude.{◌≡◌, ℕ, ◌+◌, ◌<◌, ◌⊎◌, List, [], ◌∷◌, ◌++◌, length, take, flat_map, Option, Some, None, option_to_list, Result, Ok, Err}
 use Rattle.mk_base.specs.declared.LinkNo.{LinkNo}
 use Rattle.mk_base.specs.Lists.{Each}
+use Rattle.mk_outside.specs.Fleets.{without}
 use Rattle.mk_outside.specs.declared.fleet.Start.{Start}
 use Rattle.mk_outside.specs.declared.fleet.Start.TheVariants as start
 use Rattle.mk_scenario.specs.declared.parts.Begin.{Begin}
@@ -45,11 +46,15 @@ pub record AreStarted (sims : List SimPart) (old new : Links) (put : List (Optio
   pub started : new.started ≡ old.started + length (links_in put)
   pub links : new.links ≡ old.links ++ links_in put
 
--- one link more was started, found no memory for its place, and has been closed: where the links that were open before have lower numbers, as a fleet numbers them, the open ones are these and those that have a place
+-- one link more was started, found no memory for its place, and has been closed
 pub record AreStartedAndOneClosed (sims : List SimPart) (old new : Links) (put : List (Option LinkNo)) : Type 0 where
   pub places : put ≡ places old.started sims
   pub started : new.started ≡ old.started + length (links_in put) + 1
-  pub links : Each (λ (link : LinkNo). link.0 < old.started) old.links → new.links ≡ old.links ++ links_in put
+  pub links : new.links ≡ without (link_of (old.started + length (links_in put))) (old.links ++ links_in put)
+
+-- the links have numbers below that of the next one, so many having been started, as fleets number them
+abbrev pub AreNumbered : ℕ → List LinkNo → Type 0
+AreNumbered started links = Each (λ (link : LinkNo). link.0 < started) links
 
 -- what an answer says: all simulators were started; or those before the one at which the fleet failed; or so many of the first ones, and memory was wanting
 abbrev pub AllStarted : Result (Unit {0}) StartFault → List SimPart → Links → Links → List (Option LinkNo) → Type 0

@@ -1,5 +1,5 @@
 -- The laws of a run: what it said, what it promised, and where it waited.
-use Rattle.std.specs.Prelude.{◌≡◌, ℕ, ◌<◌, ℤ, true, List, ◌∷◌, ◌++◌, map, Some}
+use Rattle.std.specs.Prelude.{◌≡◌, ℕ, ◌<◌, ℤ, true, List, ◌∷◌, ◌++◌, map, Some, ⊤}
 use Rattle.mk_base.specs.declared.LinkNo.{LinkNo}
 use Rattle.mk_base.specs.declared.SimNo.{SimNo}
 use Rattle.mk_base.specs.declared.tier.Tier.{Tier}
@@ -24,7 +24,10 @@ use Rattle.mk_links.specs.Runs.{IsPossible, IsPossibleUpTo, SaysRight, SaidWhole
 use Rattle.mk_launch.specs.Ready.{IsPrepared}
 use Rattle.mk_local.specs.declared.turn.Turn.{Turn}
 use Rattle.mk_local.specs.Kinds.{name_of}
+use Rattle.mk_sched.specs.declared.faults.CoreFault.{CoreFault}
+use Rattle.mk_sched.specs.declared.faults.CoreFault.TheVariants.{Failed, LoopLimit, TooLong, Wrong}
 use Rattle.mk_within.specs.Made.{kind_reply_of}
+use Rattle.mk_begin.specs.Wholly.{is_wholly_within}
 use Rattle.mk_run.specs.declared.outcome.Outcome.{Outcome}
 use Rattle.mk_run.specs.declared.outcome.Outcome.TheVariants as outcome
 use Rattle.mk_run.specs.Ends.{QueuedAll, IsRun}
@@ -65,3 +68,15 @@ RunsAreRight = (started : ℕ) (S : Scenario) (reply : Replies) (P : Plan) (J : 
 abbrev pub KindsFit : Type 0
 KindsFit = (started : ℕ) (S : Scenario) (ranks : List ℕ) (rows : List Turn) (P : Plan) (J : List Entry) (log : List LogEntry) (faults new_faults : ℕ) (end : Outcome) → IsPrepared S (map name_of rows) → HasRun started S ranks rows P J log faults new_faults end
     → RepliesAreRight (kind_reply_of rows S) (is_within S) P
+
+-- a limit of the plan: that of loops within a time, or that of entries
+abbrev pub IsLimit : CoreFault → Type 0
+IsLimit (Wrong sim place cause) = ⊥
+IsLimit (Failed sim place) = ⊥
+IsLimit (LoopLimit sim time) = ⊤
+IsLimit (TooLong entries) = ⊤
+
+-- where all simulators are within the program, the core meets no fault but a limit
+abbrev pub WithinRunsEnd : Type 0
+WithinRunsEnd = (started : ℕ) (S : Scenario) (ranks : List ℕ) (rows : List Turn) (P : Plan) (J : List Entry) (log : List LogEntry) (faults new_faults : ℕ) (f : CoreFault) → IsPrepared S (map name_of rows) → is_wholly_within S ≡ true
+    → HasRun started S ranks rows P J log faults new_faults (outcome.Core f) → IsLimit f

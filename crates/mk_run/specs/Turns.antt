@@ -1,5 +1,5 @@
 -- What the turns of a run's loop come to. For proofs alone.
-use Rattle.std.specs.Prelude.{◌≡◌, ℕ, ◌≤◌, List, [], ◌++◌, Option, Some, None, Result, Ok, Err}
+use Rattle.std.specs.Prelude.{◌≡◌, ℕ, ◌<◌, ◌≤◌, List, [], ◌++◌, length, Option, Some, None, Result, Ok, Err}
 use Rattle.mk_base.specs.declared.LinkNo.{LinkNo}
 use Rattle.mk_base.specs.declared.SimNo.{SimNo}
 use Rattle.mk_base.specs.Lists.{IsIn}
@@ -13,6 +13,7 @@ use Rattle.mk_sched.specs.Cores.{CoreState}
 use Rattle.mk_sched.specs.Answers.{SomeReady, SomeOpen}
 use Rattle.mk_links.specs.Handshake.{sim_link}
 use Rattle.mk_links.specs.Crews.{AreStopped, IsRestless}
+use Rattle.mk_crew.specs.Places.{IsLinked}
 use Rattle.mk_within.specs.Seen.{AreOf}
 use Rattle.mk_begin.specs.Seen.{CrewSeen, crew_of, within_of}
 use Rattle.mk_run.specs.declared.outcome.Outcome.{Outcome}
@@ -44,6 +45,20 @@ AreLinksOpen T open_links = (i : ℕ) (l : LinkNo) → sim_link T.started T.scen
 pub record IsStill (old new : CrewSeen) : Type 0 where
   pub places : new.places ≡ old.places
   pub kinds : (rows : List Turn) → AreOf rows (within_of old) → AreOf rows (within_of new)
+
+-- the core has its plan still, and no entry less
+pub record IsNoShorter (old new : CoreState) : Type 0 where
+  pub plan : new.plan ≡ old.plan
+  pub count : length old.entries ≤ length new.entries
+
+-- the core has its plan still, and more entries
+pub record IsLonger (old new : CoreState) : Type 0 where
+  pub plan : new.plan ≡ old.plan
+  pub count : length old.entries < length new.entries
+
+-- where an item was too long, it was one for a link
+abbrev pub IsLinkedIfLong : CrewSeen → Outcome → Type 0
+IsLinkedIfLong C end = (i : SimNo) (n : ℕ) → end ≡ outcome.LongItem i n → IsLinked i.0 C.lines
 
 -- whoever was ready was asked, and now a message is waited for; or the run came to an outcome
 abbrev pub SettlesAs : Result (Unit {0}) Outcome → CoreState → CrewSeen → CoreState → CrewSeen → Type 0

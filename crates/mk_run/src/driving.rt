@@ -1,5 +1,5 @@
 // The loop of a run: whoever is ready is asked, and one message is heard and taken, until the first outcome.
-ghost use Rattle.std.specs.Prelude.{◌≡◌, ◌≤◌, ◌<◌, ◌++◌, ℕ, List, None, Err, OnOk, true};
+ghost use Rattle.std.specs.Prelude.{◌≡◌, ◌≤◌, ◌<◌, ◌++◌, ℕ, List, None, Err, IfErr, OnOk, true};
 ghost use Rattle.mk_outside.specs.declared.fleet.LogEntry.{LogEntry};
 ghost use Rattle.mk_outside.specs.Counts.{HasRisen};
 ghost use Rattle.mk_outside.specs.Logs.{Adds};
@@ -10,7 +10,7 @@ ghost use Rattle.mk_crew.specs.Places.{AreOpen};
 ghost use Rattle.mk_within.specs.Seen.{AreOf};
 ghost use Rattle.mk_begin.specs.Seen.{within_of};
 ghost use Rattle.mk_run.specs.Underway.{Setting};
-ghost use Rattle.mk_run.specs.Turns.{AreLinksOpen, GoesOn, IsPast, IsStill, IsStopping, SettlesAs, TakesAs, TurnsAs, Waits};
+ghost use Rattle.mk_run.specs.Turns.{AreLinksOpen, GoesOn, IsLinkedIfLong, IsLonger, IsNoShorter, IsPast, IsStill, IsStopping, SettlesAs, TakesAs, TurnsAs, Waits};
 
 use crate::outcome::{Outcome, outcome_of};
 use crate::sending::send_last;
@@ -24,11 +24,13 @@ use mk_within::replies_are_kinds;
 use std::sync::Wait;
 
 // Asks whoever is ready, until nobody is.
-fn settle(core: &mut Core, crew: &mut Crew, kinds: &Registry) -> Result<(), Outcome>
+pub fn settle(core: &mut Core, crew: &mut Crew, kinds: &Registry) -> Result<(), Outcome>
     requires going { core.old.ended ≡ None }
     requires known { AreOf (rows_in kinds.now) (within_of crew.old) }
     requires underway { (T : Setting) × (log : List LogEntry) × GoesOn T core.old log crew.old }
     ensures settled { SettlesAs result core.old crew.old core.new crew.new }
+    ensures grown { IsNoShorter core.old core.new }
+    ensures long { IfErr result (IsLinkedIfLong crew.new) }
     ensures still { IsStill crew.old crew.new }
     ensures same_halt { crew.new.halt ≡ crew.old.halt }
 {
@@ -44,7 +46,7 @@ fn settle(core: &mut Core, crew: &mut Crew, kinds: &Registry) -> Result<(), Outc
 }
 
 // Gives the core a message that was heard, and sends what it owes then.
-fn take(
+pub fn take(
     core: &mut Core,
     crew: &mut Crew,
     kinds: &Registry,
@@ -57,6 +59,8 @@ fn take(
     requires known { AreOf (rows_in kinds.now) (within_of crew.old) }
     requires heard { (T : Setting) × (log : List LogEntry) × IsPast T core.old log sim message.now crew.old }
     ensures taken { TakesAs result sim message.now core.old crew.old core.new crew.new }
+    ensures grown { OnOk result (IsLonger core.old core.new) }
+    ensures long { IfErr result (IsLinkedIfLong crew.new) }
     ensures still { IsStill crew.old crew.new }
     ensures same_halt { crew.new.halt ≡ crew.old.halt }
 {

@@ -1,6 +1,6 @@
 // What holds of every run.
 ghost use Rattle.mk_run.specs.Ends.{Completes};
-ghost use Rattle.mk_run.specs.Laws.{KindsFit, RunsAreRight};
+ghost use Rattle.mk_run.specs.Laws.{KindsFit, RunsAreRight, WithinRunsEnd};
 
 use mk_local::metadata_is_accepted;
 use mk_setup::replies_make;
@@ -24,4 +24,12 @@ pub fn kinds_fit()
     metadata_is_accepted();
     replies_make();
     kinds_are_right();
+}
+
+/// A run with a plan whose simulators are all within the program meets no fault of the core but a limit: that of loops within a
+/// time, or that of entries.
+pub fn within_runs_end()
+    ensures { WithinRunsEnd }
+{
+    kinds_fit();
 }

@@ -7,7 +7,9 @@ mod laws;
 mod outcome;
 mod running;
 mod sending;
+mod wholly;
 
-pub use laws::{kinds_fit, runs_are_right, runs_complete};
+pub use laws::{kinds_fit, runs_are_right, runs_complete, within_runs_end};
 pub use outcome::{Outcome, Ran};
 pub use running::run;
+pub use wholly::run_local;

@@ -1,11 +1,10 @@
 // A run over a fleet.
-ghost use Rattle.std.specs.Prelude.{◌≡◌, ◌≤◌, ◌<◌, ◌++◌, ℕ, List, [], None, Some, map};
-ghost use Rattle.mk_base.specs.Lists.{Each};
+ghost use Rattle.std.specs.Prelude.{◌≡◌, ◌≤◌, ◌<◌, ◌++◌, ℕ, List, [], None, Some, map, true};
 ghost use Rattle.mk_outside.specs.declared.fleet.LogEntry.{LogEntry};
 ghost use Rattle.mk_outside.specs.Logs.{Adds};
 ghost use Rattle.mk_scenario.specs.Wellformed.{IsWellformed};
 ghost use Rattle.mk_launch.specs.Ready.{IsPrepared};
-ghost use Rattle.mk_launch.specs.Starts.{links_in};
+ghost use Rattle.mk_launch.specs.Starts.{AreNumbered, links_in};
 ghost use Rattle.mk_local.specs.Kinds.{name_of};
 ghost use Rattle.mk_local.specs.Registries.{rows_in};
 ghost use Rattle.mk_crew.specs.Places.{without_all};
@@ -13,14 +12,17 @@ ghost use Rattle.mk_plan.specs.Plans.{IsValidPlan};
 ghost use Rattle.mk_setup.specs.Ranked.{AreRanksOf};
 ghost use Rattle.mk_within.specs.Seen.{AreOf};
 ghost use Rattle.mk_begin.specs.Seen.{crew_of, within_of};
+ghost use Rattle.mk_begin.specs.Wholly.{is_wholly_within};
+ghost use Rattle.mk_run.specs.Outcomes.{IsWithinOutcome};
 ghost use Rattle.mk_run.specs.Ran.{RunsAs};
 ghost use Rattle.mk_run.specs.Underway.{IsUnderway, Setting};
 ghost use Rattle.mk_run.specs.Turns.{AreLinksOpen, PlanRunsAs};
 
 use crate::driving::drive;
 use crate::outcome::{Outcome, Ran, outcome_of};
+use crate::wholly::run_local;
 use mk_base::List;
-use mk_begin::Crew;
+use mk_begin::{Crew, is_wholly_within};
 use mk_local::Registry;
 use mk_outside::Fleet;
 use mk_plan::Plan;
@@ -33,7 +35,8 @@ use std::sync::Wait;
 /// then whoever is ready is asked, and one message is heard, and so on until the first outcome. Simulators within the program
 /// are of these kinds. At the end each link that was started is stopped and closed, for which no memory is needed.
 ///
-/// The plan and the journal are there wherever the handshake was made and there was memory for the run.
+/// The plan and the journal are there wherever the handshake was made and there was memory for the run. Where all simulators are
+/// within the program the fleet isn't used: it is `run_local`.
 pub fn run<F: Fleet, R: Wait>(
     rt: &R,
     alloc: Global,
@@ -45,12 +48,15 @@ pub fn run<F: Fleet, R: Wait>(
     requires wellformed { IsWellformed scenario }
     requires ranked { AreRanksOf scenario ranks }
     requires prepared { IsPrepared scenario (map name_of (rows_in kinds.now)) }
-    requires numbered { Each (λ link. link.0 < F.started fleet.old) (F.open_links fleet.old) }
     ensures count { F.faults fleet.old ≤ F.faults fleet.new }
     ensures ran { (entries : List LogEntry) × Adds entries (F.log fleet.old) (F.log fleet.new)
         × RunsAs (F.started fleet.old) scenario ranks (rows_in kinds.now) result.plan result.journal entries (F.faults fleet.old) (F.faults fleet.new) result.outcome }
-    ensures closed { F.open_links fleet.new ≡ F.open_links fleet.old }
+    ensures closed { AreNumbered (F.started fleet.old) (F.open_links fleet.old) → F.open_links fleet.new ≡ F.open_links fleet.old }
+    ensures within { is_wholly_within scenario ≡ true → (fleet.new ≡ fleet.old) × IsWithinOutcome result.outcome }
 {
+    if is_wholly_within(&scenario) {
+        return run_local(alloc, scenario, ranks, kinds);
+    }
     match Crew::begin(rt, alloc, scenario, ranks, fleet, kinds) {
         Ok((crew, plan)) => run_plan(rt, alloc, plan, crew, fleet, kinds),
         Err(halt) => Ran {

@@ -1,4 +1,4 @@
-use Rattle.std.proofs.Common.{sym, ap, ◌∙◌, subst, Result, Err}
+use Rattle.std.proofs.Common.{sym, ap, ◌∙◌, subst, Result, Err, IfErr}
 use Rattle.std.proofs.lemmas.Result.{err_from_is_err_and}
 use Rattle.mk_local.specs.Registries.{rows_in}
 use Rattle.mk_sched.specs.declared.faults.Next.{Next}
@@ -6,9 +6,10 @@ use Rattle.mk_sched.specs.Cores.{CoreState}
 use Rattle.mk_sched.specs.Answers.{NextOf, IsAsked, IsWaiting, IsOver}
 use Rattle.mk_begin.specs.Seen.{CrewSeen}
 use Rattle.mk_run.specs.declared.outcome.Outcome.{Outcome}
-use Rattle.mk_run.specs.Turns.{IsStopping, SettlesAs}
+use Rattle.mk_run.specs.Turns.{IsLinkedIfLong, IsStopping, SettlesAs}
 use Rattle.mk_run.proofs.Endings.{done_ends, full_ends, mem_ends}
 use Rattle.mk_run.proofs.Turning.{can_ask, asked_there, asked_on, asked_not, waiting_on, waits_so}
+use Rattle.mk_run.proofs.Growing.{asked_more, unsent_linked}
 use Rattle.mk_run.proofs.driving.settle.Goals as goal
 
 pub returns-in_err-sim-clause-settled : goal.returns-in_err-sim-clause-settled
@@ -36,6 +37,7 @@ asking-preserved g c =
     let sent = c.in_ok-send_last-in-Ask.ensures in
     record {
       going = ap (λ (k : CoreState). k.ended) a.moved;
+      grown = asked_more c.args.core.now c.asking.core c.next.new.self c.in-Ask.sim so_far.grown a;
       known = sent.kinds (rows_in c.args.kinds.now) so_far.known;
       still = record { places = sent.same_places ∙ so_far.still.places; kinds = λ rows known. sent.kinds rows (so_far.still.kinds rows known) };
       same_halt = sent.same_halt ∙ so_far.same_halt;
@@ -66,3 +68,18 @@ returns-in-Done-clause-settled g c =
 
 pub returns-in-Fault-clause-settled : goal.returns-in-Fault-clause-settled
 returns-in-Fault-clause-settled g c = λ T log u. full_ends T ⊥ c.asking.core c.next.new.self c.in-Fault.fault log _ _ c.asking.invariant.going (c.asking.invariant.goes T log u) (subst (λ (n : Next). NextOf c.asking.core n c.next.new.self) c.in-Fault.is c.in_ok-sim.ensures.ok)
+
+pub returns-in_err-send_last-in-Ask-clause-grown : goal.returns-in_err-send_last-in-Ask-clause-grown
+returns-in_err-send_last-in-Ask-clause-grown g c =
+    let a : IsAsked c.asking.core c.in-Ask.sim c.next.new.self = subst (λ (n : Next). NextOf c.asking.core n c.next.new.self) c.in-Ask.is c.in_ok-sim.ensures.ok in
+    asked_more c.args.core.now c.asking.core c.next.new.self c.in-Ask.sim c.asking.invariant.grown a
+
+pub returns-in_err-send_last-in-Ask-clause-long : goal.returns-in_err-send_last-in-Ask-clause-long
+returns-in_err-send_last-in-Ask-clause-long g c =
+    let a : IsAsked c.asking.core c.in-Ask.sim c.next.new.self = subst (λ (n : Next). NextOf c.asking.core n c.next.new.self) c.in-Ask.is c.in_ok-sim.ensures.ok in
+    let t = c.requires.underway in
+    let e = err_from_is_err_and c.from_residual-in_err-send_last-in-Ask.result c.from_residual-in_err-send_last-in-Ask.ensures.1 in
+    let unsent = c.in_err-send_last-in-Ask.ensures in
+    subst (λ (r : Result (Unit {0}) Outcome). IfErr r (IsLinkedIfLong c.send_last.new.crew)) (sym (e.1 ∙ ap (λ (end : Outcome). Err end) e.2))
+    (subst (λ (D : CrewSeen). IsLinkedIfLong D c.in_err-send_last-in-Ask.field-0.0) (sym unsent.err)
+    (unsent_linked c.next.new.self c.in-Ask.sim c.asking.crew c.in_err-send_last-in-Ask.field-0.0 (can_ask t.0 c.asking.core c.next.new.self t.1 c.asking.crew c.in-Ask.sim (c.asking.invariant.goes t.0 t.1 t.2) c.next.ensures.stands a) unsent.unsent))

@@ -5,8 +5,9 @@ use Rattle.mk_sched.specs.Cores.{CoreState}
 use Rattle.mk_sched.specs.Answers.{ArriveOf, IsQuiet}
 use Rattle.mk_begin.specs.Seen.{crew_of}
 use Rattle.mk_run.specs.declared.outcome.Outcome.{Outcome}
-use Rattle.mk_run.specs.Turns.{TakesAs}
+use Rattle.mk_run.specs.Turns.{IsLonger, TakesAs}
 use Rattle.mk_run.proofs.Endings.{fault_ends, untaken_for_memory}
+use Rattle.mk_run.proofs.Growing.{answered_more, quiet_more, unsent_long, whatever}
 use Rattle.mk_run.proofs.Hearing.{quiet_goes}
 use Rattle.mk_run.proofs.Turning.{can_answer, answered_so}
 use Rattle.mk_run.proofs.driving.take.Goals as goal
@@ -38,3 +39,21 @@ returns-in-Send-clause-taken g c =
 pub returns-in-Fault-clause-taken : goal.returns-in-Fault-clause-taken
 returns-in-Fault-clause-taken g c = λ T log h. fault_ends T ⊥ c.args.core.now c.arrive.new.self log c.args.sim c.args.message.now (crew_of c.args.crew.now) c.args.crew.now.sims h c.in-Fault.fault c.requires.going c.arrive.ensures.stands
     (subst (λ (n : Taken). ArriveOf c.args.core.now c.args.sim c.args.message.now n c.arrive.new.self) c.in-Fault.is c.in_ok-arrive.ensures.ok)
+
+pub returns-in-Quiet-clause-grown : goal.returns-in-Quiet-clause-grown
+returns-in-Quiet-clause-grown g c =
+    quiet_more c.args.core.now c.arrive.new.self c.args.sim c.args.message.now
+    (subst (λ (n : Taken). ArriveOf c.args.core.now c.args.sim c.args.message.now n c.arrive.new.self) c.in-Quiet.is c.in_ok-arrive.ensures.ok)
+
+pub returns-in-Send-clause-grown : goal.returns-in-Send-clause-grown
+returns-in-Send-clause-grown g c =
+    whatever c.send_last.result (IsLonger c.args.core.now c.arrive.new.self)
+    (answered_more c.args.core.now c.arrive.new.self c.args.sim c.args.message.now (subst (λ (n : Taken). ArriveOf c.args.core.now c.args.sim c.args.message.now n c.arrive.new.self) c.in-Send.is c.in_ok-arrive.ensures.ok))
+
+pub returns-in-Send-clause-long : goal.returns-in-Send-clause-long
+returns-in-Send-clause-long g c =
+    let t = c.requires.heard in
+    unsent_long c.arrive.new.self c.args.sim c.args.crew.now c.send_last.new.crew c.send_last.result
+    (can_answer t.0 c.args.core.now c.arrive.new.self t.1 c.args.sim c.args.message.now c.args.crew.now t.2
+    (subst (λ (n : Taken). ArriveOf c.args.core.now c.args.sim c.args.message.now n c.arrive.new.self) c.in-Send.is c.in_ok-arrive.ensures.ok) c.arrive.ensures.stands)
+    c.send_last.ensures.unsent c.send_last.ensures.err

@@ -1,4 +1,5 @@
-use Rattle.std.proofs.Common.{◌++◌}
+use Rattle.std.proofs.Common.{[], ◌++◌, sym, ◌∙◌, true≢false}
+use Rattle.mk_outside.proofs.OnLogs.{adds_none}
 use Rattle.mk_local.specs.Registries.{rows_in}
 use Rattle.mk_outside.proofs.OnLogs.{adds_more}
 use Rattle.mk_run.proofs.Beginning.{setting_of, run_begins, links_open, runs_so}
@@ -22,3 +23,8 @@ returns-in-Ok-clause-ran g c =
       runs_so (g.F.Fleet.started c.args.fleet.now) c.args.scenario c.args.ranks (rows_in c.args.kinds.now) b.0 c.in-Ok.crew c.in-Ok.plan b.2 c.requires.prepared r.0 (g.F.Fleet.faults c.args.fleet.now) (g.F.Fleet.faults c.begin.new.fleet)
           (g.F.Fleet.faults c.run_plan.new.fleet) c.in-Ok.ensures.count c.run_plan.result.plan c.run_plan.result.journal c.run_plan.result.outcome r.2,
     )
+
+-- where all simulators are within the program
+
+pub returns-then-is_wholly_within-clause-ran : goal.returns-then-is_wholly_within-clause-ran
+returns-then-is_wholly_within-clause-ran g c = ([], adds_none _, c.run_local.ensures.ran (g.F.Fleet.started c.args.fleet.now) (g.F.Fleet.faults c.args.fleet.now))

@@ -39,9 +39,9 @@ returns-in-Err-make_parts-clause-halted g c = (
 )
 
 pub returns-in-Err-make_parts-clause-closed : goal.returns-in-Err-make_parts-clause-closed
-returns-in-Err-make_parts-clause-closed g c =
+returns-in-Err-make_parts-clause-closed g c = λ low_ones.
     c.close_all.ensures.closed ∙ ap (λ (ps : List _). without_all (links_in ps) (g.F.Fleet.open_links c.start.new.fleet)) c.as_slice-in-Err-make_parts.ensures
-    ∙ others_stay (g.F.Fleet.started c.args.fleet.now) c.args.scenario.sims c.in-Ok.places (g.F.Fleet.open_links c.args.fleet.now) _ c.in-Ok.ensures.started.places c.requires.numbered c.in-Ok.ensures.started.links
+    ∙ others_stay (g.F.Fleet.started c.args.fleet.now) c.args.scenario.sims c.in-Ok.places (g.F.Fleet.open_links c.args.fleet.now) _ c.in-Ok.ensures.started.places low_ones c.in-Ok.ensures.started.links
 
 pub invariant_of-crew : goal.invariant_of-crew
 invariant_of-crew g c = places_lined (g.F.Fleet.started c.args.fleet.now) c.args.scenario.sims c.in-Ok.places c.as_slice.result.now c.in-Ok-make_parts.parts.links c.places_are_distinct.ensures c.in-Ok.ensures.started.places c.as_slice.ensures c.in-Ok-make_parts.ensures.links
@@ -66,9 +66,9 @@ returns-in-Ok-set_up-clause-begun g c =
     )
 
 pub returns-in-Ok-set_up-clause-others : goal.returns-in-Ok-set_up-clause-others
-returns-in-Ok-set_up-clause-others g c =
+returns-in-Ok-set_up-clause-others g c = λ low_ones.
     ap (λ (ps : List _). without_all (links_in ps) (g.F.Fleet.open_links c.set_up.new.fleet)) c.in-Ok-set_up.ensures.same_places
-    ∙ others_stay (g.F.Fleet.started c.args.fleet.now) c.args.scenario.sims c.in-Ok.places (g.F.Fleet.open_links c.args.fleet.now) _ c.in-Ok.ensures.started.places c.requires.numbered (c.in-Ok-set_up.ensures.same_links ∙ c.in-Ok.ensures.started.links)
+    ∙ others_stay (g.F.Fleet.started c.args.fleet.now) c.args.scenario.sims c.in-Ok.places (g.F.Fleet.open_links c.args.fleet.now) _ c.in-Ok.ensures.started.places low_ones (c.in-Ok-set_up.ensures.same_links ∙ c.in-Ok.ensures.started.links)
 
 pub returns-clause-halted : goal.returns-clause-halted
 returns-clause-halted g c =
@@ -90,6 +90,6 @@ returns-clause-halted g c =
     )
 
 pub returns-clause-closed : goal.returns-clause-closed
-returns-clause-closed g c =
+returns-clause-closed g c = λ low_ones.
     c.stop.ensures.closed ∙ ap (λ (ps : List _). without_all (links_in ps) (g.F.Fleet.open_links c.set_up.new.fleet)) c.in-Err-set_up.ensures.same_places
-    ∙ others_stay (g.F.Fleet.started c.args.fleet.now) c.args.scenario.sims c.in-Ok.places (g.F.Fleet.open_links c.args.fleet.now) _ c.in-Ok.ensures.started.places c.requires.numbered (c.in-Err-set_up.ensures.same_links ∙ c.in-Ok.ensures.started.links)
+    ∙ others_stay (g.F.Fleet.started c.args.fleet.now) c.args.scenario.sims c.in-Ok.places (g.F.Fleet.open_links c.args.fleet.now) _ c.in-Ok.ensures.started.places low_ones (c.in-Err-set_up.ensures.same_links ∙ c.in-Ok.ensures.started.links)

@@ -1,0 +1,120 @@
+-- In an orderly journal the next message of a simulator is right, where sequential execution over a family that goes on with it cuts no turn of that simulator.
+use Rattle.std.proofs.Common.{◌≡◌, inl, ℕ, ◌<◌, Bool, true, false, cond, List, [], ◌∷◌, ◌++◌, Option, Some, None, option_map, refl, ap, sym, ◌∙◌, subst, append_assoc}
+use Rattle.mk_base.specs.declared.SimNo.{SimNo}
+use Rattle.mk_base.specs.Lists.{BeginsWith}
+use Rattle.mk_base.proofs.Lists.{append_nil}
+use Rattle.mk_plan.specs.declared.Plan.{Plan}
+use Rattle.mk_plan.specs.declared.Message as message
+use Rattle.mk_plan.specs.declared.Entry.{Entry}
+use Rattle.mk_plan.specs.declared.Entry.TheVariants.{Got}
+use Rattle.mk_plan.specs.Plans.{sim_count, IsValidPlan}
+use Rattle.mk_plan.specs.Acts.{Family}
+use Rattle.mk_plan.specs.Sequential.{Messages, sequential, all_ended}
+use Rattle.mk_plan.specs.Journals as journals
+use Rattle.mk_plan.specs.Journals.{OpenTurn, view, got}
+use Rattle.mk_plan.specs.Ready.{IsReady}
+use Rattle.mk_plan.specs.Advance.{IsAdvance}
+use Rattle.mk_plan.specs.Orderly.{IsAllowed, IsOrderlySoFar}
+use Rattle.mk_plan.specs.Agreement.{Continues}
+use Rattle.mk_plan.specs.Turns.{is_wrong}
+use Rattle.mk_theory.specs.Parts as theory
+use Rattle.mk_theory.specs.Parts.{Parts, In, Every, Prefix, act, seq, View, Turn, case_of, Reached, heard_in, heard_of, rest, used, whole, talk_of}
+use Rattle.mk_theory.specs.Laws.{Laws}
+use Rattle.mk_theory.proofs.Lists.{true_false, found, in_right}
+use Rattle.mk_theory.proofs.Reading.{whole_on}
+use Rattle.mk_theory.proofs.ActLists.{rest_whole, each_ended}
+use Rattle.mk_theory.proofs.Folding.{made_by}
+use Rattle.mk_theory.proofs.Invariant.{Opened, Agreeing, Invariant, invariant_holds, heard_open}
+use Rattle.mk_theory.proofs.Talks.{everywhere}
+use Rattle.mk_confluence.proofs.Theory.{parts, laws, seq_is}
+use Rattle.mk_confluence.proofs.Seen.{seen, turn_of, reached, same_self}
+use Rattle.mk_confluence.proofs.Told.{heard_seen, got_is}
+use Rattle.mk_confluence.proofs.Agreeing.{goes_on}
+use Rattle.mk_confluence.proofs.Pushing.{got_push}
+
+-- what is behind the same beginning is the same
+same_behind : {X : Type 0} (xs ys zs : List X) → xs ++ ys ≡ xs ++ zs → ys ≡ zs
+same_behind [] ys zs e = e
+same_behind (x ∷ xs) ys zs e = same_behind xs ys zs (let t : xs ++ ys ≡ xs ++ zs = cc in t)
+
+module _ (P : Parts) (L : Laws P) where
+  open P use {Tier, Message, Place, Act, ended, wrong, on, begin, step, told}
+
+  module _ (R : ℕ → List Message) (V : View P) (reached : Reached P V) (cont : (i : ℕ) → i < P.count → Prefix (heard_of P V i) (R i)) (i : ℕ) (T : Turn P) (is : V.open_at i ≡ Some T)
+      (all : Every (λ a. ended a ≡ true) (seq P R i)) where
+    every : (j : ℕ) → Prefix (heard_of P V j) (R j)
+    every = everywhere P L V reached R cont
+
+    inv : Invariant P L V
+    inv = invariant_holds P L V reached
+
+    a : Agreeing P L (seq P R) V.acts V.open_at
+    a = inv.agreeing R every
+
+    o : Opened P L (seq P R) (V.acts i) i T
+    o = a.opened i T is
+
+    b : Place
+    b = begin i T.when (V.acts i)
+
+    r : List Message
+    r = rest P (V.acts i) (R i)
+
+    r_is : r ≡ T.messages ++ (every i).0
+    unfolding r
+    r_is = ap (λ l. rest P (V.acts i) l) ((every i).1 ∙ ap (λ l. l ++ (every i).0) (heard_open P L V i T is) ∙ append_assoc (heard_in P (V.acts i)) T.messages (every i).0)
+        ∙ rest_whole P (V.acts i) (T.messages ++ (every i).0) (inv.shape.whole_acts i)
+
+    made : o.first ≡ act P (seq P R) i T.when (V.acts i) (R i)
+    made = (made_by P L R i (V.acts i) o.first o.back o.parts).1 ∙ ap (λ (x : Tier). act P (seq P R) i x (V.acts i) (R i)) o.begun
+
+    whole_first : whole P i b r ≡ true
+    unfolding b r
+    whole_first = sym (ap ended made ∙ L.ended_mk T.when (used P i b r) (whole P i b r) (told (step (seq P R) i T.when (V.acts i)) ∷ talk_of P (seq P R) i T.when b (used P i b r)))
+        ∙ found (λ u. ended u ≡ true) o.first (seq P R i) all (subst (λ (l : List Act). In o.first l) (sym o.parts) (in_right o.first (V.acts i) (o.first ∷ o.back) (inl refl)))
+
+    whole_left : whole P i T.place (every i).0 ≡ true
+    unfolding b
+    whole_left = sym (whole_on P i b T.place T.messages (every i).0 (inv.shape.reads i T is)) ∙ sym (ap (λ l. whole P i b l) r_is) ∙ whole_first
+
+    -- the next message is right
+    pub next_right : (m : Message) (later : List Message) → R i ≡ heard_of P V i ++ m ∷ later → wrong i T.place m ≡ false
+    next_right m later e = go (wrong i T.place m) refl (ap (λ l. whole P i T.place l) (same_behind (heard_of P V i) (m ∷ later) (every i).0 (sym e ∙ (every i).1)) ∙ whole_left)
+      where
+        go : (c : Bool) → wrong i T.place m ≡ c → cond c false (case_of (on i T.place m) true (λ p. whole P i p later)) ≡ true → c ≡ false
+        go true q w = absurd (true_false (sym w))
+        go false q w = refl
+
+module _ (P : Plan) (valid : IsValidPlan P) where
+  its : (V : journals.View) (s : ℕ) (x : _) → IsReady P V s x → IsReady P V s x
+  its V s x ready = ready
+
+  -- a message that comes after an orderly journal
+  pub message_right : (R : Messages) (H : List Entry) (s : SimNo) (m : message.Message) (T : OpenTurn) → IsOrderlySoFar IsReady IsAdvance P H → (view P H).fault ≡ None → Continues P (H ++ Got s m ∷ []) R → s.0 < sim_count P
+      → (view P H).open_at s.0 ≡ Some T → all_ended (sequential P R s.0) ≡ true → is_wrong P s.0 T.place m ≡ false
+  message_right R H s m T orderly fine cont low is uncut =
+      next_right (parts P) (laws P valid) R (seen P V) (reached IsReady IsAdvance P its H orderly) (goes_on IsReady IsAdvance P its valid H orderly R before) i (turn_of P V.owed i T)
+      (ap (λ (o : Option OpenTurn). option_map (turn_of P V.owed i) o) is) all m later.0 later.1
+    where
+      V : journals.View
+      V = view P H
+
+      i : ℕ
+      i = s.0
+
+      all : theory.Every (λ (a : theory.Parts.Act (parts P)). theory.Parts.ended (parts P) a ≡ true) (theory.seq (parts P) R i)
+      all = each_ended (parts P) (theory.seq (parts P) R i) (ap (λ (F : Family). all_ended (F i)) (seq_is P R) ∙ uncut)
+
+      before : Continues P H R
+      before j lower = let t = cont j lower in
+          (got (Got s m ∷ []) j ++ t.0, t.1 ∙ ap (λ l. l ++ t.0) (got_push H (Got s m) j) ∙ append_assoc (got H j) (got (Got s m ∷ []) j) t.0)
+
+      own : got (Got s m ∷ []) i ≡ m ∷ []
+      own = rw (same_self i) refl
+
+      later : (l : List message.Message) × (R i ≡ theory.heard_of (parts P) (seen P V) i ++ m ∷ l)
+      later = let t = cont i low in (
+        t.0,
+        t.1 ∙ ap (λ l. l ++ t.0) (got_push H (Got s m) i ∙ ap (λ l. got H i ++ l) own) ∙ append_assoc (got H i) (m ∷ []) t.0
+            ∙ ap (λ l. l ++ m ∷ t.0) (got_is IsReady IsAdvance P its H orderly fine i ∙ sym (heard_seen P V i)),
+      )

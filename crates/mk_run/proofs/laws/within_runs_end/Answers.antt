@@ -1,0 +1,15 @@
+use Rattle.std.proofs.Common.{◌<◌, ℕ, inl, inr, sym, subst}
+use Rattle.mk_begin.proofs.Unlinked.{within_low}
+use Rattle.mk_links.specs.Handshake.{is_within}
+use Rattle.mk_within.specs.Made.{kind_reply_of}
+use Rattle.mk_run.specs.Laws.{IsLimit}
+use Rattle.mk_run.specs.declared.outcome.Outcome.TheVariants as outcome
+use Rattle.mk_run.proofs.WithinRuns.{only_limits}
+use Rattle.mk_run.proofs.laws.within_runs_end.Goals as goal
+
+pub returns : goal.returns
+returns c started S ranks rows P J log faults new_faults f prepared all h = elim h.run.shown [
+  | inl last ↦ only_limits P h.run.valid (kind_reply_of rows S) (is_within S) (c.kinds_fit.ensures started S ranks rows P J log faults new_faults (outcome.Core f) prepared h)
+      (λ i low. within_low S all i (subst (λ (n : ℕ). i < n) h.run.journal.sims low)) J h.run.journal.orderly h.run.journal.kinds f last
+  | inr full ↦ subst IsLimit (sym full.named) tt
+]
