@@ -1,0 +1,4 @@
+mod Characters
+mod Tokens
+mod Values
+pub mod Sound

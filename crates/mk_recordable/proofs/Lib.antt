@@ -1,0 +1,6 @@
+mod Counting
+mod Messages
+mod Steps
+mod Texts
+mod Trees
+pub mod Whole
