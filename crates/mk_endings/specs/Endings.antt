@@ -10,7 +10,7 @@ use Rattle.mk_endings.specs.Setups.{text_of_setup}
 
 -- what is said of it
 abbrev pub text_of : Ending → List ℕ
-text_of Usage = codes "usage: run SCENARIO [--record FILE] or replay RECORD [--order N] or check SCENARIO"
+text_of Usage = codes "usage: run SCENARIO [--record FILE] or replay RECORD [--order N] or check SCENARIO or demo N or migrate OLD NEW"
 text_of (Missing name) = name ++ codes ": no such file"
 text_of (TooLong name count) = name ++ codes ": " ++ decimal count ++ codes " bytes, limit 536870912"
 text_of (Scenario fault) = text_of_scenario fault

@@ -35,7 +35,7 @@ impl Ending {
         match self {
             Ending::Usage => put(
                 out,
-                "usage: run SCENARIO [--record FILE] or replay RECORD [--order N] or check SCENARIO",
+                "usage: run SCENARIO [--record FILE] or replay RECORD [--order N] or check SCENARIO or demo N or migrate OLD NEW",
             ),
             Ending::Missing { name } => {
                 put(out, name.as_str())?;

@@ -1,1 +1,3 @@
+mod Reporting
+mod Summarizing
 mod Telling

@@ -10,8 +10,8 @@ use Rattle.mk_outside.specs.Counts.{HasRisen}
 use Rattle.mk_scenario.specs.declared.parts.Scenario.{Scenario}
 use Rattle.mk_scenario.specs.Scenarios.{scenario_of}
 use Rattle.mk_local.specs.Kinds.{name_of}
-use Rattle.mk_checked.specs.Runnable.{IsRunnable}
-use Rattle.mk_checked.specs.Checks.{IsUnchecked}
+use Rattle.mk_checked.specs.Runnable.{IsRunnable, IsUnrunnable}
+use Rattle.mk_checked.specs.Checks.{IsUnread}
 use Rattle.mk_lines.specs.Entries.{is_writable}
 use Rattle.mk_run.specs.declared.outcome.Outcome.{Outcome}
 use Rattle.mk_begin.specs.declared.halt.Halt.{Halt}
@@ -22,7 +22,9 @@ use Rattle.mk_endings.specs.declared.ending.Ending.{Ending}
 use Rattle.mk_endings.specs.declared.ending.Ending.TheVariants as ends
 use Rattle.mk_sayings.specs.Sayings.{ids_of}
 use Rattle.mk_ran.specs.Sayings.{IsHalt, halt_ending, record_of, saying_of}
-use Rattle.mk_ran.specs.Outcomes.{IsRunOutcome, IsSaid, Outside}
+use Rattle.mk_ran.specs.declared.sayings.Form.{Form}
+use Rattle.mk_ran.specs.declared.sayings.Form.TheVariants.{Report}
+use Rattle.mk_ran.specs.Outcomes.{IsIdle, IsRunOutcome, IsSaid, IsScenarioOutcome, Outside}
 
 -- what is in range may be written
 pub writable : (J : List Entry) → AreInRange J → list_all is_writable J ≡ true
@@ -67,29 +69,27 @@ module _ (O : Outside) (S : Scenario) (ranks : List ℕ) (end : Outcome) where
   pub is_halt : (plan : Option Plan) (journal : Option Journal) → plan ≡ None → journal ≡ None → Runs plan journal → IsHalt end
   is_halt plan journal is also run = let not = subst (λ (j : Option Journal). Runs None j) also (subst (λ (p : Option Plan). Runs p journal) is run) in (not.halt, not.is)
 
-  module _ (wanted : Bool) (bytes : List ℕ) (read : scenario_of bytes ≡ Ok S) (runnable : IsRunnable (map name_of O.kinds) S ranks) where
+  module _ (form : Form) (wanted : Bool) (runnable : IsRunnable (map name_of O.kinds) S ranks) where
     pub played : (plan : Option Plan) (journal : Option Journal) (P : Plan) (J : Journal) → plan ≡ Some P → journal ≡ Some J → Runs plan journal → (ids : List (List ℕ)) → ids ≡ ids_of S → (text : Result (List ℕ) Ending) (kept : Option (List ℕ))
-        → IsSaid (saying_of ids P J.entries end) text → (kept ≡ record_of wanted P J.entries) ⊎ ((kept ≡ None) × (text ≡ Err ends.Mem)) → IsRunOutcome O wanted bytes text kept
+        → IsSaid (saying_of form ids P J.entries end) text → (kept ≡ record_of wanted P J.entries) ⊎ ((kept ≡ None) × (text ≡ Err ends.Mem)) → IsScenarioOutcome O form wanted S text kept
     played plan journal P J is also run ids are text kept said recorded = inr (inr (record {
-      scenario = S;
       ranks = ranks;
-      accepted = record { read = read; runnable = runnable };
+      runnable = runnable;
       plan = P;
       journal = J.entries;
       outcome = end;
       run = has_run plan journal P J is also run;
-      said = subst (λ (i : List (List ℕ)). IsSaid (saying_of i P J.entries end) text) are said;
+      said = subst (λ (i : List (List ℕ)). IsSaid (saying_of form i P J.entries end) text) are said;
       recorded = recorded;
     }))
 
     pub unplayed : (plan : Option Plan) (journal : Option Journal) → plan ≡ None → journal ≡ None → Runs plan journal → (ids : List (List ℕ)) → ids ≡ ids_of S → (text : Result (List ℕ) Ending) (kept : Option (List ℕ))
-        → ((h : Halt) → end ≡ outcome_of h → IsSaid (Err (halt_ending ids h)) text) → kept ≡ None → IsRunOutcome O wanted bytes text kept
+        → ((h : Halt) → end ≡ outcome_of h → IsSaid (Err (halt_ending ids h)) text) → kept ≡ None → IsScenarioOutcome O form wanted S text kept
     unplayed plan journal is also run ids are text kept said none =
         let not = subst (λ (j : Option Journal). Runs None j) also (subst (λ (p : Option Plan). Runs p journal) is run) in
         inr (inl (record {
-          scenario = S;
           ranks = ranks;
-          accepted = record { read = read; runnable = runnable };
+          runnable = runnable;
           halt = not.halt;
           halted = not.halted;
           said = subst (λ (i : List (List ℕ)). IsSaid (Err (halt_ending i not.halt)) text) are (said not.halt not.is);
@@ -97,5 +97,15 @@ module _ (O : Outside) (S : Scenario) (ranks : List ℕ) (end : Outcome) where
         }))
 
 -- or nothing was done
-pub unaccepted : (O : Outside) (wanted : Bool) (bytes : List ℕ) (e : Ending) (text : Result (List ℕ) Ending) (kept : Option (List ℕ)) → text ≡ Err e → kept ≡ None → O.log ≡ [] → O.new_faults ≡ O.faults → IsUnchecked (map name_of O.kinds) bytes e → IsRunOutcome O wanted bytes text kept
-unaccepted O wanted bytes e text kept is none quiet same cause = inl (record { ending = e; is = is; cause = cause; quiet = quiet; same_faults = same; unrecorded = none })
+idle : (O : Outside) (kept : Option (List ℕ)) → kept ≡ None → O.log ≡ [] → O.new_faults ≡ O.faults → IsIdle O kept
+idle O kept none quiet same = record { quiet = quiet; same_faults = same; unrecorded = none }
+
+pub unready : (O : Outside) (form : Form) (wanted : Bool) (S : Scenario) (e : Ending) (text : Result (List ℕ) Ending) (kept : Option (List ℕ)) → text ≡ Err e → kept ≡ None → O.log ≡ [] → O.new_faults ≡ O.faults → IsUnrunnable (map name_of O.kinds) S e → IsScenarioOutcome O form wanted S text kept
+unready O form wanted S e text kept is none quiet same cause = inl (record { ending = e; is = is; cause = cause; idle = idle O kept none quiet same })
+
+pub no_scenario : (O : Outside) (wanted : Bool) (bytes : List ℕ) (e : Ending) (text : Result (List ℕ) Ending) (kept : Option (List ℕ)) → text ≡ Err e → kept ≡ None → O.log ≡ [] → O.new_faults ≡ O.faults → IsUnread bytes e → IsRunOutcome O wanted bytes text kept
+no_scenario O wanted bytes e text kept is none quiet same cause = inl (record { ending = e; is = is; cause = cause; idle = idle O kept none quiet same })
+
+-- what comes of a scenario comes of the bytes that are it
+pub of_bytes : (O : Outside) (wanted : Bool) (bytes : List ℕ) (S : Scenario) (text : Result (List ℕ) Ending) (kept : Option (List ℕ)) → scenario_of bytes ≡ Ok S → IsScenarioOutcome O Report wanted S text kept → IsRunOutcome O wanted bytes text kept
+of_bytes O wanted bytes S text kept read outcome = inr (record { scenario = S; read = read; outcome = outcome })

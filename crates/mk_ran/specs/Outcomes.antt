@@ -1,4 +1,4 @@
--- What `run` makes of a scenario file's bytes over a fleet.
+-- What comes of a scenario, and of a scenario file's bytes, over a fleet.
 use Rattle.std.specs.Prelude.{◌≡◌, ◌⊎◌, ℕ, Bool, List, [], map, Option, Some, None, Result, Ok, Err}
 use Rattle.mk_plan.specs.declared.Plan.{Plan}
 use Rattle.mk_plan.specs.declared.Entry.{Entry}
@@ -8,8 +8,8 @@ use Rattle.mk_scenario.specs.declared.parts.Scenario.{Scenario}
 use Rattle.mk_scenario.specs.Scenarios.{scenario_of}
 use Rattle.mk_local.specs.declared.turn.Turn.{Turn}
 use Rattle.mk_local.specs.Kinds.{name_of}
-use Rattle.mk_checked.specs.Checks.{IsUnchecked}
-use Rattle.mk_checked.specs.Runnable.{IsRunnable}
+use Rattle.mk_checked.specs.Checks.{IsUnread}
+use Rattle.mk_checked.specs.Runnable.{IsRunnable, IsUnrunnable}
 use Rattle.mk_run.specs.declared.outcome.Outcome.{Outcome}
 use Rattle.mk_begin.specs.declared.halt.Halt.{Halt}
 use Rattle.mk_begin.specs.Halted.{HasHalted}
@@ -17,6 +17,8 @@ use Rattle.mk_run.specs.Ran.{HasRun}
 use Rattle.mk_endings.specs.declared.ending.Ending.{Ending}
 use Rattle.mk_endings.specs.declared.ending.Ending.TheVariants as ends
 use Rattle.mk_sayings.specs.Sayings.{ids_of}
+use Rattle.mk_ran.specs.declared.sayings.Form.{Form}
+use Rattle.mk_ran.specs.declared.sayings.Form.TheVariants.{Report}
 use Rattle.mk_ran.specs.Sayings.{halt_ending, record_of, saying_of}
 
 -- what lies around a run: the kinds within the program, how many links the fleet had started, the entries by which its log grew, and its counts of faults before and after
@@ -27,16 +29,12 @@ pub record Outside : Type 0 where
   pub faults : ℕ
   pub new_faults : ℕ
 
--- the bytes are this scenario, which can be run with these ranks
-pub record IsAccepted (O : Outside) (bytes : List ℕ) (S : Scenario) (ranks : List ℕ) : Type 0 where
-  pub read : scenario_of bytes ≡ Ok S
-  pub runnable : IsRunnable (map name_of O.kinds) S ranks
+-- that of a call with these kinds over a fleet, by what it tells before and after the call, and these entries
+abbrev pub outside : {F : Type 0} → (F → ℕ) → (F → ℕ) → List Turn → F → F → List LogEntry → Outside
+outside started faults kinds old new entries = record { kinds = kinds; started = started old; log = entries; faults = faults old; new_faults = faults new }
 
--- the bytes are no scenario that can be run, and nothing was done
-pub record IsUnaccepted (O : Outside) (bytes : List ℕ) (text : Result (List ℕ) Ending) (record_ : Option (List ℕ)) : Type 0 where
-  pub ending : Ending
-  pub is : text ≡ Err ending
-  pub cause : IsUnchecked (map name_of O.kinds) bytes ending
+-- nothing was done with the fleet, and there is no record
+pub record IsIdle (O : Outside) (record_ : Option (List ℕ)) : Type 0 where
   pub quiet : O.log ≡ []
   pub same_faults : O.new_faults ≡ O.faults
   pub unrecorded : record_ ≡ None
@@ -45,28 +43,50 @@ pub record IsUnaccepted (O : Outside) (bytes : List ℕ) (text : Result (List �
 abbrev pub IsSaid : Result (List ℕ) Ending → Result (List ℕ) Ending → Type 0
 IsSaid wanted text = (text ≡ wanted) ⊎ (text ≡ Err ends.Mem)
 
--- the scenario wasn't run: the handshake ended early, or memory was wanting
-pub record IsUnrun (O : Outside) (bytes : List ℕ) (text : Result (List ℕ) Ending) (record_ : Option (List ℕ)) : Type 0 where
-  pub scenario : Scenario
+-- the scenario can't be run, and nothing was done
+pub record IsUnready (O : Outside) (S : Scenario) (text : Result (List ℕ) Ending) (record_ : Option (List ℕ)) : Type 0 where
+  pub ending : Ending
+  pub is : text ≡ Err ending
+  pub cause : IsUnrunnable (map name_of O.kinds) S ending
+  pub idle : IsIdle O record_
+
+-- the scenario can be run, but wasn't: the handshake ended early, or memory was wanting
+pub record IsUnrun (O : Outside) (S : Scenario) (text : Result (List ℕ) Ending) (record_ : Option (List ℕ)) : Type 0 where
   pub ranks : List ℕ
-  pub accepted : IsAccepted O bytes scenario ranks
+  pub runnable : IsRunnable (map name_of O.kinds) S ranks
   pub halt : Halt
-  pub halted : HasHalted O.started scenario ranks O.kinds O.log (HasRisen O.faults O.new_faults) halt
-  pub said : IsSaid (Err (halt_ending (ids_of scenario) halt)) text
+  pub halted : HasHalted O.started S ranks O.kinds O.log (HasRisen O.faults O.new_faults) halt
+  pub said : IsSaid (Err (halt_ending (ids_of S) halt)) text
   pub unrecorded : record_ ≡ None
 
--- the scenario was run, by this plan, with this journal and this outcome; what is said is its report, or why there is none; and the record is made where it is wanted, but for want of memory, which is then said
-pub record IsPlayed (O : Outside) (wanted : Bool) (bytes : List ℕ) (text : Result (List ℕ) Ending) (record_ : Option (List ℕ)) : Type 0 where
-  pub scenario : Scenario
+-- the scenario was run, by this plan, with this journal and this outcome; what is said is its text in this form, or why there is none; and the record is made where it is wanted, but for want of memory, which is then said
+pub record IsPlayed (O : Outside) (form : Form) (wanted : Bool) (S : Scenario) (text : Result (List ℕ) Ending) (record_ : Option (List ℕ)) : Type 0 where
   pub ranks : List ℕ
-  pub accepted : IsAccepted O bytes scenario ranks
+  pub runnable : IsRunnable (map name_of O.kinds) S ranks
   pub plan : Plan
   pub journal : List Entry
   pub outcome : Outcome
-  pub run : HasRun O.started scenario ranks O.kinds plan journal O.log O.faults O.new_faults outcome
-  pub said : IsSaid (saying_of (ids_of scenario) plan journal outcome) text
+  pub run : HasRun O.started S ranks O.kinds plan journal O.log O.faults O.new_faults outcome
+  pub said : IsSaid (saying_of form (ids_of S) plan journal outcome) text
   pub recorded : (record_ ≡ record_of wanted plan journal) ⊎ ((record_ ≡ None) × (text ≡ Err ends.Mem))
 
--- what `run` makes of the bytes, a record being wanted or not: a text or why there is none, and the record
+-- what comes of a scenario whose text is wanted in this form, a record being wanted or not: the text or why there is none, and the record
+abbrev pub IsScenarioOutcome : Outside → Form → Bool → Scenario → Result (List ℕ) Ending → Option (List ℕ) → Type 0
+IsScenarioOutcome O form wanted S text record_ = IsUnready O S text record_ ⊎ (IsUnrun O S text record_ ⊎ IsPlayed O form wanted S text record_)
+
+-- the bytes are no scenario, and nothing was done
+pub record IsNoScenario (O : Outside) (bytes : List ℕ) (text : Result (List ℕ) Ending) (record_ : Option (List ℕ)) : Type 0 where
+  pub ending : Ending
+  pub is : text ≡ Err ending
+  pub cause : IsUnread bytes ending
+  pub idle : IsIdle O record_
+
+-- the bytes are a scenario, and this comes of it
+pub record HasScenario (O : Outside) (wanted : Bool) (bytes : List ℕ) (text : Result (List ℕ) Ending) (record_ : Option (List ℕ)) : Type 0 where
+  pub scenario : Scenario
+  pub read : scenario_of bytes ≡ Ok scenario
+  pub outcome : IsScenarioOutcome O Report wanted scenario text record_
+
+-- what `run` makes of the bytes, a record being wanted or not
 abbrev pub IsRunOutcome : Outside → Bool → List ℕ → Result (List ℕ) Ending → Option (List ℕ) → Type 0
-IsRunOutcome O wanted bytes text record_ = IsUnaccepted O bytes text record_ ⊎ (IsUnrun O bytes text record_ ⊎ IsPlayed O wanted bytes text record_)
+IsRunOutcome O wanted bytes text record_ = IsNoScenario O bytes text record_ ⊎ HasScenario O wanted bytes text record_

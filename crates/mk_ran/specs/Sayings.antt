@@ -3,7 +3,8 @@ use Rattle.std.specs.Prelude.{◌≡◌, ℕ, Bool, true, false, List, Option, S
 use Rattle.mk_plan.specs.declared.Plan.{Plan}
 use Rattle.mk_plan.specs.declared.Entry.{Entry}
 use Rattle.mk_plan.specs.Journals.{sent}
-use Rattle.mk_plan.specs.Report.{report}
+use Rattle.mk_plan.specs.declared.Item.{Item}
+use Rattle.mk_plan.specs.Report.{report, summary}
 use Rattle.mk_record.specs.Texts.{record_text}
 use Rattle.mk_replayed.specs.Reports.{stop_of}
 use Rattle.mk_sayings.specs.Sayings.{id_in, setup_ending}
@@ -15,6 +16,8 @@ use Rattle.mk_run.specs.Outcomes.{outcome_of}
 use Rattle.mk_endings.specs.declared.links.LinkFault.TheVariants.{Closed, Garbled, LongFrame}
 use Rattle.mk_endings.specs.declared.ending.Ending.{Ending}
 use Rattle.mk_endings.specs.declared.ending.Ending.TheVariants as ends
+use Rattle.mk_ran.specs.declared.sayings.Form.{Form}
+use Rattle.mk_ran.specs.declared.sayings.Form.TheVariants.{Report, Summary}
 
 -- what is said of a halt, the simulators having these ids
 abbrev pub halt_ending : List (List ℕ) → Halt → Ending
@@ -30,17 +33,22 @@ halt_ending ids halt.Mem = ends.Mem
 abbrev pub IsHalt : Outcome → Type 0
 IsHalt end = (h : Halt) × (end ≡ outcome_of h)
 
--- what is said of a run with this plan and journal: its report where all is done, or why there is none
-abbrev pub saying_of : List (List ℕ) → Plan → List Entry → Outcome → Result (List ℕ) Ending
-saying_of ids P J outcome.Done = Ok (report P (sent J))
-saying_of ids P J (outcome.Setup e) = Err (setup_ending ids e)
-saying_of ids P J (outcome.Core e) = Err (stop_of P J e)
-saying_of ids P J outcome.Fleet = Err ends.Fleet
-saying_of ids P J (outcome.Gone sim) = Err (ends.Link (id_in ids sim) Closed)
-saying_of ids P J (outcome.Garbled sim test) = Err (ends.Link (id_in ids sim) (Garbled test))
-saying_of ids P J (outcome.LongFrame sim n) = Err (ends.Link (id_in ids sim) (LongFrame n))
-saying_of ids P J (outcome.LongItem sim n) = Err (ends.LongItem (id_in ids sim) n)
-saying_of ids P J outcome.Mem = Err ends.Mem
+-- the text of what each simulator was sent, in this form
+abbrev pub text_of : Form → Plan → (ℕ → List Item) → List ℕ
+text_of Report P items = report P items
+text_of Summary P items = summary P items
+
+-- what is said of a run with this plan and journal: its text in this form where all is done, or why there is none
+abbrev pub saying_of : Form → List (List ℕ) → Plan → List Entry → Outcome → Result (List ℕ) Ending
+saying_of form ids P J outcome.Done = Ok (text_of form P (sent J))
+saying_of form ids P J (outcome.Setup e) = Err (setup_ending ids e)
+saying_of form ids P J (outcome.Core e) = Err (stop_of P J e)
+saying_of form ids P J outcome.Fleet = Err ends.Fleet
+saying_of form ids P J (outcome.Gone sim) = Err (ends.Link (id_in ids sim) Closed)
+saying_of form ids P J (outcome.Garbled sim test) = Err (ends.Link (id_in ids sim) (Garbled test))
+saying_of form ids P J (outcome.LongFrame sim n) = Err (ends.Link (id_in ids sim) (LongFrame n))
+saying_of form ids P J (outcome.LongItem sim n) = Err (ends.LongItem (id_in ids sim) n)
+saying_of form ids P J outcome.Mem = Err ends.Mem
 
 -- the record of the plan and the journal, where one is wanted
 abbrev pub record_of : Bool → Plan → List Entry → Option (List ℕ)

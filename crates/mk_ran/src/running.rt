@@ -1,27 +1,25 @@
-// From a scenario file's bytes to the report and the record of its run.
+// From a scenario, or a file's bytes, to the text and the record of its run.
 ghost use Rattle.std.specs.Prelude.{◌≡◌, ◌≤◌, ◌<◌, ◌⊎◌, ℕ, List, IfOk, IfErr, Some, None, Ok, Err, map, option_map, true};
 ghost use Rattle.std.specs.List.{list_all};
-ghost use Rattle.mk_base.specs.Lists.{Each};
 ghost use Rattle.mk_plan.specs.declared.Plan.{Plan};
 ghost use Rattle.mk_plan.specs.declared.Journal.{Journal};
 ghost use Rattle.mk_outside.specs.declared.fleet.LogEntry.{LogEntry};
 ghost use Rattle.mk_outside.specs.Logs.{Adds};
 ghost use Rattle.mk_scenario.specs.Wellformed.{IsWellformed};
-ghost use Rattle.mk_scenario.specs.Scenarios.{scenario_of};
+ghost use Rattle.mk_launch.specs.Starts.{AreNumbered};
 ghost use Rattle.mk_local.specs.Kinds.{name_of};
 ghost use Rattle.mk_local.specs.Registries.{rows_in};
-ghost use Rattle.mk_checked.specs.Checks.{IsUnchecked};
-ghost use Rattle.mk_checked.specs.Runnable.{IsRunnable};
+ghost use Rattle.mk_checked.specs.Runnable.{IsRunnable, IsUnrunnable};
 ghost use Rattle.mk_run.specs.Ran.{RunsAs};
 ghost use Rattle.mk_lines.specs.Entries.{is_writable};
 ghost use Rattle.mk_begin.specs.declared.halt.Halt.{Halt};
 ghost use Rattle.mk_run.specs.Outcomes.{outcome_of};
 ghost use Rattle.mk_sayings.specs.Sayings.{ids_of};
 ghost use Rattle.mk_ran.specs.Sayings.{IsHalt, halt_ending, record_of, saying_of};
-ghost use Rattle.mk_ran.specs.Outcomes.{IsRunOutcome, IsSaid};
+ghost use Rattle.mk_ran.specs.Outcomes.{IsScenarioOutcome, IsRunOutcome, IsSaid, outside};
 ghost use Rattle.mk_endings.specs.declared.ending.Ending.TheVariants as ends;
 
-use crate::sayings::{halt_ending, saying};
+use crate::sayings::{Form, halt_ending, saying};
 use mk_base::{List, Mem, Text};
 use mk_checked::{ranked, scenario_of};
 use mk_endings::Ending;
@@ -35,7 +33,7 @@ use mk_scenario::Scenario;
 use std::alloc::Global;
 use std::sync::Wait;
 
-/// What `run` comes to: the report, or why there is none; and the record, where one is wanted and the run has a journal.
+/// What a run comes to: its text, or why there is none; and the record, where one is wanted and the run has a journal.
 #[derive(Drop)]
 pub struct Told {
     pub text: Result<Vec<u8>, Ending>,
@@ -65,47 +63,71 @@ pub fn ran<F: Fleet, R: Wait>(
     fleet: &mut F,
     is_recorded: bool,
 ) -> Told
-    requires numbered { Each (λ link. link.0 < F.started fleet.old) (F.open_links fleet.old) }
     ensures count { F.faults fleet.old ≤ F.faults fleet.new }
-    ensures closed { F.open_links fleet.new ≡ F.open_links fleet.old }
+    ensures closed { AreNumbered (F.started fleet.old) (F.open_links fleet.old) → F.open_links fleet.new ≡ F.open_links fleet.old }
     ensures text { IfOk result.text (λ text. (entries : List LogEntry) × Adds entries (F.log fleet.old) (F.log fleet.new)
-        × IsRunOutcome (record { kinds = rows_in kinds.now; started = F.started fleet.old; log = entries; faults = F.faults fleet.old; new_faults = F.faults fleet.new })
-        is_recorded bytes.now (Ok text.items) (option_map (λ r. r.items) result.record)) }
+        × IsRunOutcome (outside F.started F.faults (rows_in kinds.now) fleet.old fleet.new entries) is_recorded bytes.now (Ok text.items) (option_map (λ r. r.items) result.record)) }
     ensures none { IfErr result.text (λ e. (entries : List LogEntry) × Adds entries (F.log fleet.old) (F.log fleet.new)
-        × IsRunOutcome (record { kinds = rows_in kinds.now; started = F.started fleet.old; log = entries; faults = F.faults fleet.old; new_faults = F.faults fleet.new })
-        is_recorded bytes.now (Err e) (option_map (λ r. r.items) result.record)) }
+        × IsRunOutcome (outside F.started F.faults (rows_in kinds.now) fleet.old fleet.new entries) is_recorded bytes.now (Err e) (option_map (λ r. r.items) result.record)) }
 {
-    match accept(alloc, kinds, bytes) {
-        Ok(accepted) => play(rt, alloc, kinds, accepted, fleet, is_recorded),
+    match scenario_of(alloc, bytes) {
+        Ok(scenario) => played(rt, alloc, kinds, scenario, fleet, Form::Report, is_recorded),
         Err(ending) => Told::unrecorded(ending),
     }
 }
 
-// A scenario that can be run, its ranks, and the ids of its simulators.
+/// Runs a scenario over a fleet, its simulators within the program being of these kinds, and writes its text in this form. It may
+/// wait for others. Every link that it starts is closed at the end.
+pub fn played<F: Fleet, R: Wait>(
+    rt: &R,
+    alloc: Global,
+    kinds: &Registry,
+    scenario: Scenario,
+    fleet: &mut F,
+    form: Form,
+    is_recorded: bool,
+) -> Told
+    requires wellformed { IsWellformed scenario }
+    ensures count { F.faults fleet.old ≤ F.faults fleet.new }
+    ensures closed { AreNumbered (F.started fleet.old) (F.open_links fleet.old) → F.open_links fleet.new ≡ F.open_links fleet.old }
+    ensures text { IfOk result.text (λ text. (entries : List LogEntry) × Adds entries (F.log fleet.old) (F.log fleet.new)
+        × IsScenarioOutcome (outside F.started F.faults (rows_in kinds.now) fleet.old fleet.new entries) form is_recorded scenario (Ok text.items) (option_map (λ r. r.items) result.record)) }
+    ensures none { IfErr result.text (λ e. (entries : List LogEntry) × Adds entries (F.log fleet.old) (F.log fleet.new)
+        × IsScenarioOutcome (outside F.started F.faults (rows_in kinds.now) fleet.old fleet.new entries) form is_recorded scenario (Err e) (option_map (λ r. r.items) result.record)) }
+{
+    match accept(alloc, kinds, &scenario) {
+        Ok(accepted) => play(
+            rt,
+            alloc,
+            kinds,
+            scenario,
+            accepted,
+            fleet,
+            form,
+            is_recorded,
+        ),
+        Err(ending) => Told::unrecorded(ending),
+    }
+}
+
+// The ranks of a scenario that can be run, and the ids of its simulators.
 #[derive(Drop)]
 struct Accepted {
-    scenario: Scenario,
     ranks: List<u32>,
     ids: List<Text>,
 }
 
-// The scenario of a file's bytes, or why it can't be run.
-fn accept(alloc: Global, kinds: &Registry, bytes: &[u8]) -> Result<Accepted, Ending>
-    ensures read { IfOk result (λ a. scenario_of bytes.now ≡ Ok a.scenario) }
-    ensures wellformed { IfOk result (λ a. IsWellformed a.scenario) }
-    ensures runnable { IfOk result (λ a. IsRunnable (map name_of (rows_in kinds.now)) a.scenario a.ranks) }
-    ensures ids { IfOk result (λ a. a.ids ≡ ids_of a.scenario) }
-    ensures unaccepted { IfErr result (λ e. IsUnchecked (map name_of (rows_in kinds.now)) bytes.now e) }
+// The ranks and ids of a scenario's simulators, or why it can't be run.
+fn accept(alloc: Global, kinds: &Registry, scenario: &Scenario) -> Result<Accepted, Ending>
+    requires { IsWellformed scenario.now }
+    ensures runnable { IfOk result (λ a. IsRunnable (map name_of (rows_in kinds.now)) scenario.now a.ranks) }
+    ensures ids { IfOk result (λ a. a.ids ≡ ids_of scenario.now) }
+    ensures unready { IfErr result (λ e. IsUnrunnable (map name_of (rows_in kinds.now)) scenario.now e) }
 {
-    let scenario = scenario_of(alloc, bytes)?;
     let names = kinds.names(alloc)?;
-    let ranks = ranked(alloc, &names, &scenario)?;
-    let ids = ids_of(alloc, &scenario)?;
-    Ok(Accepted {
-        scenario,
-        ranks,
-        ids,
-    })
+    let ranks = ranked(alloc, &names, scenario)?;
+    let ids = ids_of(alloc, scenario)?;
+    Ok(Accepted { ranks, ids })
 }
 
 // Runs a scenario, and says how it ended.
@@ -113,35 +135,32 @@ fn play<F: Fleet, R: Wait>(
     rt: &R,
     alloc: Global,
     kinds: &Registry,
+    scenario: Scenario,
     accepted: Accepted,
     fleet: &mut F,
+    form: Form,
     is_recorded: bool,
 ) -> Told
-    requires numbered { Each (λ link. link.0 < F.started fleet.old) (F.open_links fleet.old) }
-    requires wellformed { IsWellformed accepted.scenario }
-    requires runnable { IsRunnable (map name_of (rows_in kinds.now)) accepted.scenario accepted.ranks }
-    requires ids { accepted.ids ≡ ids_of accepted.scenario }
+    requires wellformed { IsWellformed scenario }
+    requires runnable { IsRunnable (map name_of (rows_in kinds.now)) scenario accepted.ranks }
+    requires ids { accepted.ids ≡ ids_of scenario }
     ensures count { F.faults fleet.old ≤ F.faults fleet.new }
-    ensures closed { F.open_links fleet.new ≡ F.open_links fleet.old }
-    ensures text { (bytes : List ℕ) → scenario_of bytes ≡ Ok accepted.scenario → IfOk result.text (λ text. (entries : List LogEntry) × Adds entries (F.log fleet.old) (F.log fleet.new)
-        × IsRunOutcome (record { kinds = rows_in kinds.now; started = F.started fleet.old; log = entries; faults = F.faults fleet.old; new_faults = F.faults fleet.new })
-        is_recorded bytes (Ok text.items) (option_map (λ r. r.items) result.record)) }
-    ensures none { (bytes : List ℕ) → scenario_of bytes ≡ Ok accepted.scenario → IfErr result.text (λ e. (entries : List LogEntry) × Adds entries (F.log fleet.old) (F.log fleet.new)
-        × IsRunOutcome (record { kinds = rows_in kinds.now; started = F.started fleet.old; log = entries; faults = F.faults fleet.old; new_faults = F.faults fleet.new })
-        is_recorded bytes (Err e) (option_map (λ r. r.items) result.record)) }
+    ensures closed { AreNumbered (F.started fleet.old) (F.open_links fleet.old) → F.open_links fleet.new ≡ F.open_links fleet.old }
+    ensures text { IfOk result.text (λ text. (entries : List LogEntry) × Adds entries (F.log fleet.old) (F.log fleet.new)
+        × IsScenarioOutcome (outside F.started F.faults (rows_in kinds.now) fleet.old fleet.new entries) form is_recorded scenario (Ok text.items) (option_map (λ r. r.items) result.record)) }
+    ensures none { IfErr result.text (λ e. (entries : List LogEntry) × Adds entries (F.log fleet.old) (F.log fleet.new)
+        × IsScenarioOutcome (outside F.started F.faults (rows_in kinds.now) fleet.old fleet.new entries) form is_recorded scenario (Err e) (option_map (λ r. r.items) result.record)) }
 {
-    let Accepted {
-        scenario,
-        ranks,
-        ids,
-    } = accepted;
+    let Accepted { ranks, ids } = accepted;
     let Ran {
         outcome,
         plan,
         journal,
     } = run(rt, alloc, scenario, ranks, fleet, kinds);
     match (plan, journal) {
-        (Some(plan), Some(journal)) => tell(alloc, &ids, outcome, &plan, &journal, is_recorded),
+        (Some(plan), Some(journal)) => {
+            tell(alloc, form, &ids, outcome, &plan, &journal, is_recorded)
+        }
         (None, None) => Told::unrecorded(unrun(alloc, &ids, outcome)),
         (Some(_), None) | (None, Some(_)) => unreachable!(),
     }
@@ -161,6 +180,7 @@ fn unrun(alloc: Global, ids: &List<Text>, outcome: Outcome) -> Ending
 // What is said of a run with a plan and a journal, and its record.
 fn tell(
     alloc: Global,
+    form: Form,
     ids: &List<Text>,
     outcome: Outcome,
     plan: &Plan,
@@ -168,13 +188,13 @@ fn tell(
     is_recorded: bool,
 ) -> Told
     requires { list_all is_writable journal.now.entries ≡ true }
-    ensures report { IfOk result.text (λ text. IsSaid (saying_of ids.now plan.now journal.now.entries outcome) (Ok text.items)) }
-    ensures none { IfErr result.text (λ e. IsSaid (saying_of ids.now plan.now journal.now.entries outcome) (Err e)) }
+    ensures text { IfOk result.text (λ text. IsSaid (saying_of form ids.now plan.now journal.now.entries outcome) (Ok text.items)) }
+    ensures none { IfErr result.text (λ e. IsSaid (saying_of form ids.now plan.now journal.now.entries outcome) (Err e)) }
     ensures recorded { (option_map (λ r. r.items) result.record ≡ record_of is_recorded plan.now journal.now.entries) ⊎ ((result.record ≡ None) × (result.text ≡ Err ends.Mem)) }
 {
     match record_of(alloc, plan, journal, is_recorded) {
         Ok(record) => Told {
-            text: saying(alloc, ids, outcome, plan, journal),
+            text: saying(alloc, form, ids, outcome, plan, journal),
             record,
         },
         Err(_) => Told::unrecorded(Ending::Mem),

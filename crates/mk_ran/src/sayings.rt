@@ -1,19 +1,29 @@
 // What is said of how a run ended.
 ghost use Rattle.std.specs.Prelude.{◌≡◌, IfOk, IfErr, Ok, Err};
+ghost use Rattle.mk_plan.specs.Journals.{sent};
 ghost use Rattle.mk_begin.specs.declared.halt.Halt.{Halt};
 ghost use Rattle.mk_run.specs.Outcomes.{outcome_of};
 ghost use Rattle.mk_sayings.specs.Sayings.{id_in};
-ghost use Rattle.mk_ran.specs.Sayings.{IsHalt, halt_ending, saying_of};
+ghost use Rattle.mk_ran.specs.Sayings.{IsHalt, halt_ending, saying_of, text_of};
 ghost use Rattle.mk_ran.specs.Outcomes.{IsSaid};
 
 use mk_base::{List, Mem, SimNo, Text};
 use mk_endings::{Ending, LinkFault};
 use mk_plan::{Journal, Plan};
 use mk_replayed::stopped;
-use mk_report::write_report;
+use mk_report::{write_report, write_summary};
 use mk_run::Outcome;
 use mk_sayings::{id_in, setup_ending};
 use std::alloc::Global;
+
+/// What is printed of a run in which all is done.
+#[derive(Clone, Copy, Debug, PartialEq, Eq)]
+pub enum Form {
+    /// What each simulator was sent.
+    Report,
+    /// How many steps each simulator had and how many input values, and the last step of the last simulator with one.
+    Summary,
+}
 
 // What is said of a link of a simulator.
 fn link_ending(alloc: Global, ids: &List<Text>, sim: SimNo, fault: LinkFault) -> Result<Ending, Mem>
@@ -52,19 +62,30 @@ fn long_ending(alloc: Global, ids: &List<Text>, sim: SimNo, n: usize) -> Result<
     })
 }
 
-// What is said of a run with a plan and a journal: its report, or why there is none.
+// The text of what a run sent, in this form.
+fn text_of(alloc: Global, form: Form, plan: &Plan, journal: &Journal) -> Result<Vec<u8>, Mem>
+    ensures { IfOk result (λ text. text.items ≡ text_of form plan.now (sent journal.now.entries)) }
+{
+    match form {
+        Form::Report => write_report(alloc, plan, journal),
+        Form::Summary => write_summary(alloc, plan, journal),
+    }
+}
+
+// What is said of a run with a plan and a journal: its text in this form, or why there is none.
 pub fn saying(
     alloc: Global,
+    form: Form,
     ids: &List<Text>,
     outcome: Outcome,
     plan: &Plan,
     journal: &Journal,
 ) -> Result<Vec<u8>, Ending>
-    ensures report { IfOk result (λ text. saying_of ids.now plan.now journal.now.entries outcome ≡ Ok text.items) }
-    ensures none { IfErr result (λ e. IsSaid (saying_of ids.now plan.now journal.now.entries outcome) (Err e)) }
+    ensures text { IfOk result (λ text. saying_of form ids.now plan.now journal.now.entries outcome ≡ Ok text.items) }
+    ensures none { IfErr result (λ e. IsSaid (saying_of form ids.now plan.now journal.now.entries outcome) (Err e)) }
 {
     match outcome {
-        Outcome::Done => Ok(write_report(alloc, plan, journal)?),
+        Outcome::Done => Ok(text_of(alloc, form, plan, journal)?),
         Outcome::Core(fault) => Err(stopped(alloc, plan, journal, fault)?),
         Outcome::Setup(fault) => Err(setup_ending(alloc, ids, fault)?),
         Outcome::Fleet => Err(Ending::Fleet),

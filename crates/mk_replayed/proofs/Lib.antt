@@ -1,2 +1,2 @@
-mod WholeRuns
+pub mod WholeRuns
 pub mod OneOutcome

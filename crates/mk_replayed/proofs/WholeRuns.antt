@@ -40,7 +40,7 @@ got_is (Sent s item ∷ J) i = got_is J i
 got_is (Got s m ∷ J) i = one_more (s.0 == i) (record { sim = s.0; message = m }) _ _ (got_is J i)
 
 -- a line doesn't show max_advance
-line_bare : (item : Item) → line_of (bare item) ≡ line_of item
+pub line_bare : (item : Item) → line_of (bare item) ≡ line_of item
 line_bare (Step x ins advance) = refl
 line_bare (GetData wants) = refl
 line_bare (Answer id content) = refl
@@ -52,7 +52,7 @@ lines_bare [] = refl
 lines_bare (item ∷ items) = ap (λ line. line ++ flat_map line_of (map bare items)) (line_bare item) ∙ ap (λ lines. line_of item ++ lines) (lines_bare items)
 
 -- a Step stays one without its max_advance
-steps_bare : (items : List Item) → length (filter is_step (map bare items)) ≡ length (filter is_step items)
+pub steps_bare : (items : List Item) → length (filter is_step (map bare items)) ≡ length (filter is_step items)
 steps_bare [] = refl
 steps_bare (Step x ins advance ∷ items) = ap suc (steps_bare items)
 steps_bare (GetData wants ∷ items) = steps_bare items
@@ -60,14 +60,14 @@ steps_bare (Answer id content ∷ items) = steps_bare items
 steps_bare (Refuse id reason ∷ items) = steps_bare items
 
 -- a map over numbered items depends on what it is at their numbers
-map_numbered : {X Y : Type 0} (f g : ℕ × X → Y) (n : ℕ) (xs : List X) → ((k : ℕ) (x : X) → n ≤ k → k < n + length xs → f (k, x) ≡ g (k, x)) → map f (enumerate_from n xs) ≡ map g (enumerate_from n xs)
+pub map_numbered : {X Y : Type 0} (f g : ℕ × X → Y) (n : ℕ) (xs : List X) → ((k : ℕ) (x : X) → n ≤ k → k < n + length xs → f (k, x) ≡ g (k, x)) → map f (enumerate_from n xs) ≡ map g (enumerate_from n xs)
 map_numbered f g n [] same = refl
 map_numbered f g n (x ∷ xs) same =
     ap (λ first. first ∷ map f (enumerate_from (n + 1) xs)) (same n x (omega arith) (omega arith))
     ∙ ap (λ more. g (n, x) ∷ more) (map_numbered f g (n + 1) xs (λ k y low high. same k y (omega arith) (omega arith)))
 
 -- and so do lists that are joined
-joined_numbered : {X Y : Type 0} (f g : ℕ × X → List Y) (n : ℕ) (xs : List X) → ((k : ℕ) (x : X) → n ≤ k → k < n + length xs → f (k, x) ≡ g (k, x)) → flat_map f (enumerate_from n xs) ≡ flat_map g (enumerate_from n xs)
+pub joined_numbered : {X Y : Type 0} (f g : ℕ × X → List Y) (n : ℕ) (xs : List X) → ((k : ℕ) (x : X) → n ≤ k → k < n + length xs → f (k, x) ≡ g (k, x)) → flat_map f (enumerate_from n xs) ≡ flat_map g (enumerate_from n xs)
 joined_numbered f g n [] same = refl
 joined_numbered f g n (x ∷ xs) same =
     ap (λ first. first ++ flat_map f (enumerate_from (n + 1) xs)) (same n x (omega arith) (omega arith))

@@ -1,0 +1,2 @@
+mod NoLinks
+mod OfDemo

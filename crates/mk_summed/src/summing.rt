@@ -1,0 +1,39 @@
+// From a size to the summary of a run of the demo scenario.
+ghost use Rattle.std.specs.Prelude.{◌≡◌, ◌≤◌, ◌<◌, List, IfOk, IfErr, Ok, Err};
+ghost use Rattle.mk_outside.specs.declared.fleet.LogEntry.{LogEntry};
+ghost use Rattle.mk_outside.specs.Logs.{Adds};
+ghost use Rattle.mk_launch.specs.Starts.{AreNumbered};
+ghost use Rattle.mk_local.specs.Registries.{rows_in};
+ghost use Rattle.mk_ran.specs.Outcomes.{outside};
+ghost use Rattle.mk_summed.specs.Outcomes.{IsDemoOutcome};
+
+use mk_demo::demo_scenario;
+use mk_endings::Ending;
+use mk_local::Registry;
+use mk_outside::Fleet;
+use mk_ran::{Form, played};
+use std::alloc::Global;
+use std::sync::Wait;
+
+/// Runs the demo scenario of this size, 1 to 100, its simulators being of these kinds, and answers the summary of what each was
+/// sent, or why there is none. All its simulators are within the program; it may wait for others all the same, as each run. The
+/// links that were open before are open after it, and no others.
+pub fn summed<F: Fleet, R: Wait>(
+    rt: &R,
+    alloc: Global,
+    kinds: &Registry,
+    size: u32,
+    fleet: &mut F,
+) -> Result<Vec<u8>, Ending>
+    requires low { 1 ≤ size }
+    requires high { size ≤ 100 }
+    ensures count { F.faults fleet.old ≤ F.faults fleet.new }
+    ensures closed { AreNumbered (F.started fleet.old) (F.open_links fleet.old) → F.open_links fleet.new ≡ F.open_links fleet.old }
+    ensures text { IfOk result (λ text. (entries : List LogEntry) × Adds entries (F.log fleet.old) (F.log fleet.new)
+        × IsDemoOutcome (outside F.started F.faults (rows_in kinds.now) fleet.old fleet.new entries) size (Ok text.items)) }
+    ensures none { IfErr result (λ e. (entries : List LogEntry) × Adds entries (F.log fleet.old) (F.log fleet.new)
+        × IsDemoOutcome (outside F.started F.faults (rows_in kinds.now) fleet.old fleet.new entries) size (Err e)) }
+{
+    let scenario = demo_scenario(alloc, size)?;
+    played(rt, alloc, kinds, scenario, fleet, Form::Summary, false).text
+}
