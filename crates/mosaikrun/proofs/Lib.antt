@@ -1,2 +1,5 @@
 mod Answering
+mod Migrating
+mod NeverUsage
 mod Playing
+mod Summing

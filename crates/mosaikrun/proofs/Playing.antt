@@ -10,13 +10,18 @@ use Rattle.mk_ran.specs.Outcomes.{IsRunOutcome}
 use Rattle.mosaikrun.specs.Around.{Around}
 use Rattle.mosaikrun.specs.Commands.{IsAsked, IsHeld}
 use Rattle.mosaikrun.specs.Running.{HasRunAs, IsSaved, RunAnswer}
-use Rattle.mosaikrun.specs.Program.{Ended}
+use Rattle.mosaikrun.specs.Program.{Ended, HasPerformed}
+
+-- a command with a part of its own was done, whatever the answer
+pub performed : (S : Around) (answer : Result (Unit {0}) Ending) → HasPerformed S answer → Ended S answer
+performed S (Ok done) h = inr h
+performed S (Err e) h = inr (inr (inr (inr h)))
 
 -- a run was asked for, and its scenario's file read
 pub record Played (S : Around) (scenario : List ℕ) (name : Option (List ℕ)) (text : Result (List ℕ) Ending) (kept : Option (List ℕ)) : Type 0 where
   pub asked : IsAsked S.words (Run scenario name)
   pub bytes : List ℕ
-  pub held : IsHeld S.files scenario bytes
+  pub held : IsHeld S.folder.files scenario bytes
   pub outcome : IsRunOutcome S.outside (is_some name) bytes text kept
 
 pub as_run : (S : Around) (scenario : List ℕ) (name : Option (List ℕ)) (text : Result (List ℕ) Ending) (kept : Option (List ℕ)) (answer : Result (Unit {0}) Ending) → Played S scenario name text kept → RunAnswer S name text kept answer → HasRunAs S answer
@@ -34,13 +39,13 @@ as_run S scenario name text kept answer played ended = record {
 
 -- the output has taken the report, or a beginning of it
 pub reported : (S : Around) (scenario : List ℕ) (name : Option (List ℕ)) (text : List ℕ) (kept : Option (List ℕ)) (answer : Result (Unit {0}) Ending) → Played S scenario name (Ok text) kept → IsSaved S name kept
-    → OnOk answer (S.after ≡ appended text S.before) → OnErr answer (TookBeginning text S.before S.after)
-    → IfErr answer (λ e. ((e ≡ Output) × HasRisen S.out_before S.out_after) ⊎ ((e ≡ Mem) × HasRisen S.wants_before S.wants_after)) → Ended S answer
-reported S scenario name text kept (Ok done) played saved put cut cause = inr (as_run S scenario name (Ok text) kept (Ok done) played (put, saved))
-reported S scenario name text kept (Err e) played saved put cut cause = inr (inr (inr (inr (as_run S scenario name (Ok text) kept (Err e) played (inr (cut, saved, elim cause [ inl failed ↦ inl failed | inr short ↦ inr (short.0, inr short.1) ]))))))
+    → OnOk answer (S.output.after ≡ appended text S.output.before) → OnErr answer (TookBeginning text S.output.before S.output.after)
+    → IfErr answer (λ e. ((e ≡ Output) × HasRisen S.output.faults S.output.new_faults) ⊎ ((e ≡ Mem) × HasRisen S.output.wants S.output.new_wants)) → Ended S answer
+reported S scenario name text kept (Ok done) played saved put cut cause = inr (inl (as_run S scenario name (Ok text) kept (Ok done) played (put, saved)))
+reported S scenario name text kept (Err e) played saved put cut cause = inr (inr (inr (inr (inl (as_run S scenario name (Ok text) kept (Err e) played (inr (cut, saved, elim cause [ inl failed ↦ inl failed | inr short ↦ inr (short.0, inr short.1) ])))))))
 
 -- memory was wanting for the record
-pub wanting : (S : Around) (scenario : List ℕ) (name : Option (List ℕ)) (text : Result (List ℕ) Ending) (kept : Option (List ℕ)) → Played S scenario name text kept → S.after ≡ S.before → S.files_after ≡ S.files → HasRunAs S (Err Mem)
+pub wanting : (S : Around) (scenario : List ℕ) (name : Option (List ℕ)) (text : Result (List ℕ) Ending) (kept : Option (List ℕ)) → Played S scenario name text kept → S.output.after ≡ S.output.before → S.folder.files_after ≡ S.folder.files → HasRunAs S (Err Mem)
 wanting S scenario name (Ok text) kept played unput unsaved = as_run S scenario name (Ok text) kept (Err Mem) played (inl (unput, (unsaved, inr refl), inr refl))
 wanting S scenario name (Err why) kept played unput unsaved = as_run S scenario name (Err why) kept (Err Mem) played (unput, inr refl, inr (unsaved, inr refl))
 

@@ -2,36 +2,61 @@
 use Rattle.std.specs.Prelude.{◌≡◌, ℕ, ◌⊎◌, List, [], Option}
 use Rattle.mk_outside.specs.Counts.{HasRisen}
 use Rattle.mk_outside.specs.Folders.{Files}
+use Rattle.mk_local.specs.declared.turn.Turn.{Turn}
 use Rattle.mk_endings.specs.declared.ending.Ending.{Ending}
 use Rattle.mk_endings.specs.declared.ending.Ending.TheVariants.{Output, Mem}
 use Rattle.mk_ran.specs.Outcomes.{Outside}
 
--- the words of a call; the kinds within the program, and what happened at its fleet; the folder's files before and after, and the counts of faults of the folder and of the output before and after; the output's counts of wants of memory, and what the output has taken before and after
+-- a folder around a call: its files, and its count of faults, before and after
+pub record FolderSeen : Type 0 where
+  pub files : Option Files
+  pub files_after : Option Files
+  pub faults : ℕ
+  pub new_faults : ℕ
+
+-- that of a folder before and after, by what is told of it
+abbrev pub folder_seen : {D : Type 0} → (D → Option Files) → (D → ℕ) → D → D → FolderSeen
+folder_seen files faults old new = record { files = files old; files_after = files new; faults = faults old; new_faults = faults new }
+
+-- an output around a call: what it has taken, and its counts of faults and of wants of memory, before and after
+pub record OutputSeen : Type 0 where
+  pub before : Option (List ℕ)
+  pub after : Option (List ℕ)
+  pub faults : ℕ
+  pub new_faults : ℕ
+  pub wants : ℕ
+  pub new_wants : ℕ
+
+-- that of an output before and after, by what is told of it
+abbrev pub output_seen : {K : Type 0} → (K → Option (List ℕ)) → (K → ℕ) → (K → ℕ) → K → K → OutputSeen
+output_seen written faults wants old new = record { before = written old; after = written new; faults = faults old; new_faults = faults new; wants = wants old; new_wants = wants new }
+
+-- the words of a call, the kinds within the program and what happened at its fleet, its folder and its output
 pub record Around : Type 0 where
   pub words : List (List ℕ)
   pub outside : Outside
-  pub files : Option Files
-  pub files_after : Option Files
-  pub folder_before : ℕ
-  pub folder_after : ℕ
-  pub out_before : ℕ
-  pub out_after : ℕ
-  pub wants_before : ℕ
-  pub wants_after : ℕ
-  pub before : Option (List ℕ)
-  pub after : Option (List ℕ)
+  pub folder : FolderSeen
+  pub output : OutputSeen
+
+-- where nothing is done with the fleet: the kinds, how many links it had started, and its count of faults
+abbrev pub unused : List Turn → ℕ → ℕ → Outside
+unused kinds started faults = record { kinds = kinds; started = started; log = []; faults = faults; new_faults = faults }
 
 -- nothing was saved, and nothing done with the fleet
 pub record IsAside (S : Around) : Type 0 where
-  pub unsaved : S.files_after ≡ S.files
+  pub unsaved : S.folder.files_after ≡ S.folder.files
   pub log : S.outside.log ≡ []
   pub faults : S.outside.new_faults ≡ S.outside.faults
 
 -- besides, nothing was put to the output
 pub record IsUntouched (S : Around) : Type 0 where
-  pub unput : S.after ≡ S.before
+  pub unput : S.output.after ≡ S.output.before
   pub aside : IsAside S
 
 -- why the output has only a beginning of the text: it failed, or found no memory; that it failed may have to be said as want of memory
-abbrev pub IsCutBy : Around → Ending → Type 0
-IsCutBy S e = ((e ≡ Output) × HasRisen S.out_before S.out_after) ⊎ ((e ≡ Mem) × (HasRisen S.out_before S.out_after ⊎ HasRisen S.wants_before S.wants_after))
+abbrev pub IsCutBy : OutputSeen → Ending → Type 0
+IsCutBy out e = ((e ≡ Output) × HasRisen out.faults out.new_faults) ⊎ ((e ≡ Mem) × (HasRisen out.faults out.new_faults ⊎ HasRisen out.wants out.new_wants))
+
+-- this ending is said, or that memory is wanting
+abbrev pub IsSaidAs : Ending → Ending → Type 0
+IsSaidAs wanted e = (e ≡ wanted) ⊎ (e ≡ Mem)

@@ -16,15 +16,15 @@ use Rattle.mosaikrun.specs.declared.commands.TheConstants.{COMMANDS}
 abbrev pub IsAsked : List (List ℕ) → Request → Type 0
 IsAsked words R = IsRequestAmong COMMANDS words R
 
--- the file that is read
-abbrev pub file_of : Request → List ℕ
-file_of (Run scenario saved) = scenario
-file_of (Replay name order) = name
-file_of (Check scenario) = scenario
-file_of (Demo size) = []
-file_of (Migrate old new) = old
+-- the file that is read, where one is
+abbrev pub file_of : Request → Option (List ℕ)
+file_of (Run scenario saved) = Some scenario
+file_of (Replay name order) = Some name
+file_of (Check scenario) = Some scenario
+file_of (Demo size) = None
+file_of (Migrate old new) = Some old
 
--- what a command without a fleet makes of its file's bytes, the program having these kinds: the text that it prints, or why there is none
+-- what a command that prints something of its file makes of the file's bytes, the program having these kinds: the text that it prints, or why there is none
 abbrev pub IsOutcomeOf : List Turn → Request → List ℕ → Result (List ℕ) Ending → Type 0
 IsOutcomeOf kinds (Replay name order) bytes outcome = reports.IsOutcome bytes order outcome
 IsOutcomeOf kinds (Check scenario) bytes outcome = checks.IsOutcome (map name_of kinds) bytes outcome

@@ -1,4 +1,6 @@
 pub mod Around
 pub mod Commands
+pub mod Migrating
 pub mod Program
 pub mod Running
+pub mod Summing

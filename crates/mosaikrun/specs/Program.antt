@@ -4,16 +4,21 @@ use Rattle.mk_outside.specs.Counts.{HasRisen}
 use Rattle.mk_outside.specs.Folders.{Files, with_file}
 use Rattle.mk_outside.specs.Sinks.{TookBeginning, appended}
 use Rattle.mk_words.specs.declared.request.Request.{Request}
-use Rattle.mk_words.specs.declared.request.Request.TheVariants.{Run}
+use Rattle.mk_words.specs.declared.request.Request.TheVariants.{Run, Migrate}
 use Rattle.mk_endings.specs.declared.ending.Ending.{Ending}
 use Rattle.mk_endings.specs.Endings.{line_of, status_of}
 use Rattle.mosaikrun.specs.Around.{Around, IsAside, IsCutBy, IsUntouched}
 use Rattle.mosaikrun.specs.Commands.{IsAsked, IsHeld, IsOutcomeOf, IsUnasked, IsUnreadable, file_of}
+use Rattle.mosaikrun.specs.Migrating.{HasMigrated}
 use Rattle.mosaikrun.specs.Running.{HasRunAs}
+use Rattle.mosaikrun.specs.Summing.{HasSummed}
 
--- the words ask for something, and these are the bytes of its file, if the folder tells
-abbrev pub IsRead : Around → Request → List ℕ → Type 0
-IsRead S R bytes = IsAsked S.words R × IsHeld S.files (file_of R) bytes
+-- the words ask for something whose file is read, and these are its bytes, if the folder tells
+pub record IsRead (S : Around) (R : Request) (bytes : List ℕ) : Type 0 where
+  pub asked : IsAsked S.words R
+  pub name : List ℕ
+  pub named : file_of R ≡ Some name
+  pub held : IsHeld S.folder.files name bytes
 
 -- the command has a text, and the output has taken the whole of it
 pub record IsPrinted (S : Around) : Type 0 where
@@ -22,7 +27,7 @@ pub record IsPrinted (S : Around) : Type 0 where
   pub text : List ℕ
   pub read : IsRead S request bytes
   pub outcome : IsOutcomeOf S.outside.kinds request bytes (Ok text)
-  pub put : S.after ≡ appended text S.before
+  pub put : S.output.after ≡ appended text S.output.before
   pub aside : IsAside S
 
 -- the words ask for nothing
@@ -34,7 +39,9 @@ pub record IsMisused (S : Around) (e : Ending) : Type 0 where
 pub record IsUnread (S : Around) (e : Ending) : Type 0 where
   pub request : Request
   pub asked : IsAsked S.words request
-  pub cause : IsUnreadable S.files (file_of request) (HasRisen S.folder_before S.folder_after) e
+  pub name : List ℕ
+  pub named : file_of request ≡ Some name
+  pub cause : IsUnreadable S.folder.files name (HasRisen S.folder.faults S.folder.new_faults) e
   pub untouched : IsUntouched S
 
 -- the command has no text
@@ -52,18 +59,26 @@ pub record IsCutShort (S : Around) (e : Ending) : Type 0 where
   pub text : List ℕ
   pub read : IsRead S request bytes
   pub outcome : IsOutcomeOf S.outside.kinds request bytes (Ok text)
-  pub put : TookBeginning text S.before S.after
+  pub put : TookBeginning text S.output.before S.output.after
   pub aside : IsAside S
-  pub cause : IsCutBy S e
+  pub cause : IsCutBy S.output e
+
+-- a command with a part of its own was done: a run, the demo, or a migration
+abbrev pub HasPerformed : Around → Result (Unit {0}) Ending → Type 0
+HasPerformed S answer = HasRunAs S answer ⊎ (HasSummed S answer ⊎ HasMigrated S answer)
 
 -- what an answer says
 abbrev pub Ended : Around → Result (Unit {0}) Ending → Type 0
-Ended S (Ok done) = IsPrinted S ⊎ HasRunAs S (Ok done)
-Ended S (Err e) = IsMisused S e ⊎ (IsUnread S e ⊎ (IsTextless S e ⊎ (IsCutShort S e ⊎ HasRunAs S (Err e))))
+Ended S (Ok done) = IsPrinted S ⊎ HasPerformed S (Ok done)
+Ended S (Err e) = IsMisused S e ⊎ (IsUnread S e ⊎ (IsTextless S e ⊎ (IsCutShort S e ⊎ HasPerformed S (Err e))))
 
--- the folder is as before, or a run was asked for and its record saved under the name that the words give
+-- the words ask for a run that saves its record under this name, or for a migration to it
+abbrev pub IsNamed : List (List ℕ) → List ℕ → Type 0
+IsNamed words name = ((scenario : List ℕ) × IsAsked words (Run scenario (Some name))) ⊎ ((source : List ℕ) × IsAsked words (Migrate source name))
+
+-- the folder is as before, or one file was saved, under a name that the words give for it
 abbrev pub KeepsOthers : List (List ℕ) → Option Files → Option Files → Type 0
-KeepsOthers words old new = (new ≡ old) ⊎ ((scenario name bytes : List ℕ) × IsAsked words (Run scenario (Some name)) × (new ≡ option_map (with_file name bytes) old))
+KeepsOthers words old new = (new ≡ old) ⊎ ((name bytes : List ℕ) × IsNamed words name × (new ≡ option_map (with_file name bytes) old))
 
 -- the status of an answer
 abbrev pub status : Result (Unit {0}) Ending → ℕ

@@ -1,5 +1,5 @@
-// The commands of the program, and what each but a run makes of the file that it names.
-ghost use Rattle.std.specs.Prelude.{◌≡◌, Ok, Err, IfOk, IfErr, map};
+// The commands of the program, and what each that prints something of a file makes of it.
+ghost use Rattle.std.specs.Prelude.{◌≡◌, Some, Ok, Err, IfOk, IfErr, map};
 ghost use Rattle.std.specs.String.{string_bytes};
 ghost use Rattle.mk_base.specs.Lists.{IsIn};
 ghost use Rattle.mk_words.specs.Requests.{command_of};
@@ -15,7 +15,13 @@ use mk_words::{Command, Request, read_words};
 use std::alloc::Global;
 
 // The commands that the program has.
-pub const COMMANDS: [Command; 3] = [Command::Run, Command::Replay, Command::Check];
+pub const COMMANDS: [Command; 5] = [
+    Command::Run,
+    Command::Replay,
+    Command::Check,
+    Command::Demo,
+    Command::Migrate,
+];
 
 // What the words ask for.
 pub fn asked(alloc: Global, words: &[String]) -> Result<Request, Ending>
@@ -28,20 +34,21 @@ pub fn asked(alloc: Global, words: &[String]) -> Result<Request, Ending>
     }
 }
 
-// The name of the file that is read.
+// The name of the file that is read; the demo reads none.
 pub fn file_of(request: &Request) -> &str
-    ensures { result.now ≡ file_of request.now }
+    requires { command_of request.now ≡ Command.Demo → ⊥ }
+    ensures { file_of request.now ≡ Some result.now }
 {
     match request {
         Request::Run { scenario, .. } => scenario.as_str(),
         Request::Replay { record, .. } => record.as_str(),
         Request::Check { scenario } => scenario.as_str(),
-        Request::Demo { .. } => "",
+        Request::Demo { .. } => unreachable!(),
         Request::Migrate { old, .. } => old.as_str(),
     }
 }
 
-// What a command without a fleet makes of its file's bytes.
+// What a command that prints something of its file makes of the file's bytes.
 pub fn outcome(
     alloc: Global,
     kinds: &Registry,
@@ -49,7 +56,9 @@ pub fn outcome(
     bytes: &[u8],
 ) -> Result<Vec<u8>, Ending>
     requires there { IsIn (command_of request.now) COMMANDS }
-    requires still { command_of request.now ≡ Command.Run → ⊥ }
+    requires no_run { command_of request.now ≡ Command.Run → ⊥ }
+    requires no_demo { command_of request.now ≡ Command.Demo → ⊥ }
+    requires no_migration { command_of request.now ≡ Command.Migrate → ⊥ }
     ensures text { IfOk result (λ text. IsOutcomeOf (rows_in kinds.now) request.now bytes.now (Ok text.items)) }
     ensures none { IfErr result (λ ending. IsOutcomeOf (rows_in kinds.now) request.now bytes.now (Err ending)) }
 {

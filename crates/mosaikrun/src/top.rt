@@ -3,10 +3,11 @@ ghost use Rattle.std.specs.Prelude.{◌≡◌, [], ℕ, ◌≤◌, ◌<◌, ◌�
 ghost use Rattle.std.specs.String.{string_bytes};
 ghost use Rattle.mk_outside.specs.Counts.{HasRisen};
 ghost use Rattle.mk_outside.specs.Folders.{file_limit, with_file};
-ghost use Rattle.mk_base.specs.Lists.{Each, IsIn};
+ghost use Rattle.mk_base.specs.Lists.{IsIn};
 ghost use Rattle.mk_outside.specs.declared.fleet.LogEntry.{LogEntry};
 ghost use Rattle.mk_outside.specs.Logs.{Adds};
 ghost use Rattle.mk_outside.specs.Sinks.{TookBeginning, appended};
+ghost use Rattle.mk_launch.specs.Starts.{AreNumbered};
 ghost use Rattle.mk_words.specs.declared.request.Request.{Request};
 ghost use Rattle.mk_words.specs.declared.request.Request.TheVariants as requests;
 ghost use Rattle.mk_words.specs.Requests.{command_of};
@@ -14,23 +15,30 @@ ghost use Rattle.mk_local.specs.Registries.{rows_in};
 ghost use Rattle.mk_endings.specs.declared.ending.Ending.{Ending};
 ghost use Rattle.mk_endings.specs.declared.ending.Ending.TheVariants as ends;
 ghost use Rattle.mk_endings.specs.Endings.{line_of, outcome_status, status_of};
+ghost use Rattle.mk_ran.specs.Outcomes.{Outside, outside};
+ghost use Rattle.mk_migrated.specs.Migrations.{IsMigration};
+ghost use Rattle.mosaikrun.specs.Around.{FolderSeen, OutputSeen, folder_seen, output_seen, unused};
 ghost use Rattle.mosaikrun.specs.Commands.{IsAsked, IsHeld, IsOutcomeOf, IsNoFile, IsUnreadable, file_of};
 ghost use Rattle.mosaikrun.specs.Running.{IsFolderAfter};
+ghost use Rattle.mosaikrun.specs.Summing.{HasSummed};
 ghost use Rattle.mosaikrun.specs.Program.{Ended, EndsWith, IsStatusOr, KeepsOthers, TookLine};
 
 use crate::commands::{COMMANDS, asked, file_of, outcome};
 use mk_base::Text;
 use mk_endings::Ending;
 use mk_local::Registry;
+use mk_migrated::migrated;
 use mk_outside::{FileRead, FileSave, Fleet, Folder, PutAll, Sink, put_all};
 use mk_ran::ran;
+use mk_summed::summed;
 use mk_words::{Command, Request};
 use std::alloc::Global;
 use std::sync::Wait;
 
 /// Does what the words ask: reads the file that they name, and puts what the command makes of it to `out`. A run is made over
-/// the fleet, and may wait for others; it saves its record, where the words give a name, however it ended. Answers the status. A
-/// scenario's simulators within the program are of these kinds.
+/// the fleet, and may wait for others; it saves its record, where the words give a name, however it ended. The demo is a run
+/// too, of a scenario that is no file. A migration puts nothing to `out`, and saves a record. Answers the status. A scenario's
+/// simulators within the program are of these kinds.
 ///
 /// At a status other than 0 `err` gets a line that says why, and `out` gets nothing, or a beginning of the text where it failed
 /// or found no memory.
@@ -44,32 +52,25 @@ pub fn program<D: Folder, F: Fleet, K: Sink, E: Sink, R: Wait>(
     out: &mut K,
     err: &mut E,
 ) -> u8
-    requires numbered { Each (λ link. link.0 < F.started fleet.old) (F.open_links fleet.old) }
     ensures ended { (entries : List LogEntry) × Adds entries (F.log fleet.old) (F.log fleet.new) × EndsWith
         (record {
           words = map string_bytes words.now;
-          outside = record { kinds = rows_in kinds.now; started = F.started fleet.old; log = entries; faults = F.faults fleet.old; new_faults = F.faults fleet.new };
-          files = D.files folder.old;
-          files_after = D.files folder.new;
-          folder_before = D.faults folder.old;
-          folder_after = D.faults folder.new;
-          out_before = K.faults out.old;
-          out_after = K.faults out.new;
-          wants_before = K.shortages out.old;
-          wants_after = K.shortages out.new;
-          before = K.written out.old;
-          after = K.written out.new;
+          outside = outside F.started F.faults (rows_in kinds.now) fleet.old fleet.new entries;
+          folder = folder_seen D.files D.faults folder.old folder.new;
+          output = output_seen K.written K.faults K.shortages out.old out.new;
         })
         (HasRisen (E.faults err.old) (E.faults err.new) ⊎ HasRisen (E.shortages err.old) (E.shortages err.new))
         (E.written err.old) (E.written err.new) result }
-    ensures usage { (result ≡ 2) → (S : Request) → IsAsked (map string_bytes words.now) S → ⊥ }
-    ensures useless { ((S : Request) → IsAsked (map string_bytes words.now) S → ⊥) → IsStatusOr 2 result }
-    ensures decided { IfSome (D.files folder.old) (λ held. (S : Request) → (bytes : List ℕ) → (o : Result (List ℕ) Ending) → IsAsked (map string_bytes words.now) S
-        → held (file_of S) ≡ Some bytes → length bytes ≤ file_limit → IsOutcomeOf (rows_in kinds.now) S bytes o → (o ≡ Err ends.Mem → ⊥) → IsStatusOr (outcome_status o) result) }
-    ensures unreadable { IfSome (D.files folder.old) (λ held. (S : Request) → IsAsked (map string_bytes words.now) S
-        → IsNoFile (held (file_of S)) → IsStatusOr 3 result) }
+    ensures usage { (result ≡ 2) → (R : Request) → IsAsked (map string_bytes words.now) R → ⊥ }
+    ensures useless { ((R : Request) → IsAsked (map string_bytes words.now) R → ⊥) → IsStatusOr 2 result }
+    ensures decided { IfSome (D.files folder.old) (λ held. (R : Request) → (name : List ℕ) → (bytes : List ℕ) → (o : Result (List ℕ) Ending) → IsAsked (map string_bytes words.now) R
+        → file_of R ≡ Some name → held name ≡ Some bytes → length bytes ≤ file_limit → IsOutcomeOf (rows_in kinds.now) R bytes o → (o ≡ Err ends.Mem → ⊥) → IsStatusOr (outcome_status o) result) }
+    ensures unreadable { IfSome (D.files folder.old) (λ held. (R : Request) → (name : List ℕ) → IsAsked (map string_bytes words.now) R
+        → file_of R ≡ Some name → IsNoFile (held name) → IsStatusOr 3 result) }
+    ensures migrated { IfSome (D.files folder.old) (λ held. (source : List ℕ) → (name : List ℕ) → (bytes : List ℕ) → (o : Result (List ℕ) Ending) → IsAsked (map string_bytes words.now) (requests.Migrate source name)
+        → held source ≡ Some bytes → length bytes ≤ file_limit → IsMigration bytes o → (o ≡ Err ends.Mem → ⊥) → IsStatusOr (outcome_status o) result) }
     ensures others_kept { KeepsOthers (map string_bytes words.now) (D.files folder.old) (D.files folder.new) }
-    ensures links_closed { F.open_links fleet.new ≡ F.open_links fleet.old }
+    ensures links_closed { AreNumbered (F.started fleet.old) (F.open_links fleet.old) → F.open_links fleet.new ≡ F.open_links fleet.old }
     ensures folder_count { D.faults folder.old ≤ D.faults folder.new }
     ensures fleet_count { F.faults fleet.old ≤ F.faults fleet.new }
     ensures out_count { K.faults out.old ≤ K.faults out.new }
@@ -91,22 +92,13 @@ fn answer<D: Folder, F: Fleet, K: Sink, R: Wait>(
     kinds: &Registry,
     out: &mut K,
 ) -> Result<(), Ending>
-    requires numbered { Each (λ link. link.0 < F.started fleet.old) (F.open_links fleet.old) }
     ensures ended { (entries : List LogEntry) × Adds entries (F.log fleet.old) (F.log fleet.new) × Ended (record {
       words = map string_bytes words.now;
-      outside = record { kinds = rows_in kinds.now; started = F.started fleet.old; log = entries; faults = F.faults fleet.old; new_faults = F.faults fleet.new };
-      files = D.files folder.old;
-      files_after = D.files folder.new;
-      folder_before = D.faults folder.old;
-      folder_after = D.faults folder.new;
-      out_before = K.faults out.old;
-      out_after = K.faults out.new;
-      wants_before = K.shortages out.old;
-      wants_after = K.shortages out.new;
-      before = K.written out.old;
-      after = K.written out.new;
+      outside = outside F.started F.faults (rows_in kinds.now) fleet.old fleet.new entries;
+      folder = folder_seen D.files D.faults folder.old folder.new;
+      output = output_seen K.written K.faults K.shortages out.old out.new;
     }) result }
-    ensures links_closed { F.open_links fleet.new ≡ F.open_links fleet.old }
+    ensures links_closed { AreNumbered (F.started fleet.old) (F.open_links fleet.old) → F.open_links fleet.new ≡ F.open_links fleet.old }
     ensures folder_count { D.faults folder.old ≤ D.faults folder.new }
     ensures fleet_count { F.faults fleet.old ≤ F.faults fleet.new }
     ensures out_count { K.faults out.old ≤ K.faults out.new }
@@ -124,6 +116,8 @@ fn answer<D: Folder, F: Fleet, K: Sink, R: Wait>(
                 out,
             )
         }
+        Request::Demo { size } => sum_up(rt, alloc, size, fleet, kinds, out),
+        Request::Migrate { old, new } => migrate(alloc, old.as_str(), new.as_str(), folder),
         request => make(alloc, &request, folder, kinds, out),
     }
 }
@@ -137,20 +131,14 @@ fn make<D: Folder, K: Sink>(
     out: &mut K,
 ) -> Result<(), Ending>
     requires there { IsIn (command_of request.now) COMMANDS }
-    requires still { command_of request.now ≡ Command.Run → ⊥ }
+    requires no_run { command_of request.now ≡ Command.Run → ⊥ }
+    requires no_demo { command_of request.now ≡ Command.Demo → ⊥ }
+    requires no_migration { command_of request.now ≡ Command.Migrate → ⊥ }
     ensures made { (words : List (List ℕ)) → (started : ℕ) → (faults : ℕ) → IsAsked words request.now → Ended (record {
       words = words;
-      outside = record { kinds = rows_in kinds.now; started = started; log = []; faults = faults; new_faults = faults };
-      files = D.files folder.old;
-      files_after = D.files folder.new;
-      folder_before = D.faults folder.old;
-      folder_after = D.faults folder.new;
-      out_before = K.faults out.old;
-      out_after = K.faults out.new;
-      wants_before = K.shortages out.old;
-      wants_after = K.shortages out.new;
-      before = K.written out.old;
-      after = K.written out.new;
+      outside = unused (rows_in kinds.now) started faults;
+      folder = folder_seen D.files D.faults folder.old folder.new;
+      output = output_seen K.written K.faults K.shortages out.old out.new;
     }) result }
     ensures folder_count { D.faults folder.old ≤ D.faults folder.new }
     ensures out_count { K.faults out.old ≤ K.faults out.new }
@@ -171,22 +159,13 @@ fn play<D: Folder, F: Fleet, K: Sink, R: Wait>(
     kinds: &Registry,
     out: &mut K,
 ) -> Result<(), Ending>
-    requires numbered { Each (λ link. link.0 < F.started fleet.old) (F.open_links fleet.old) }
     ensures played { (words : List (List ℕ)) → IsAsked words (requests.Run scenario.now name.now) → (entries : List LogEntry) × Adds entries (F.log fleet.old) (F.log fleet.new) × Ended (record {
       words = words;
-      outside = record { kinds = rows_in kinds.now; started = F.started fleet.old; log = entries; faults = F.faults fleet.old; new_faults = F.faults fleet.new };
-      files = D.files folder.old;
-      files_after = D.files folder.new;
-      folder_before = D.faults folder.old;
-      folder_after = D.faults folder.new;
-      out_before = K.faults out.old;
-      out_after = K.faults out.new;
-      wants_before = K.shortages out.old;
-      wants_after = K.shortages out.new;
-      before = K.written out.old;
-      after = K.written out.new;
+      outside = outside F.started F.faults (rows_in kinds.now) fleet.old fleet.new entries;
+      folder = folder_seen D.files D.faults folder.old folder.new;
+      output = output_seen K.written K.faults K.shortages out.old out.new;
     }) result }
-    ensures links_closed { F.open_links fleet.new ≡ F.open_links fleet.old }
+    ensures links_closed { AreNumbered (F.started fleet.old) (F.open_links fleet.old) → F.open_links fleet.new ≡ F.open_links fleet.old }
     ensures folder_count { D.faults folder.old ≤ D.faults folder.new }
     ensures fleet_count { F.faults fleet.old ≤ F.faults fleet.new }
     ensures out_count { K.faults out.old ≤ K.faults out.new }
@@ -199,6 +178,61 @@ fn play<D: Folder, F: Fleet, K: Sink, R: Wait>(
             told.text?;
             Err(Ending::Folder)
         }
+        FileSave::Mem => Err(Ending::Mem),
+    }
+}
+
+// Runs the demo scenario of this size over the fleet, and prints its summary.
+fn sum_up<F: Fleet, K: Sink, R: Wait>(
+    rt: &R,
+    alloc: Global,
+    size: u32,
+    fleet: &mut F,
+    kinds: &Registry,
+    out: &mut K,
+) -> Result<(), Ending>
+    requires low { 1 ≤ size }
+    requires high { size ≤ 100 }
+    ensures summed { (words : List (List ℕ)) → (folder : FolderSeen) → folder.files_after ≡ folder.files → IsAsked words (requests.Demo size) → (entries : List LogEntry) × Adds entries (F.log fleet.old) (F.log fleet.new) × HasSummed (record {
+      words = words;
+      outside = outside F.started F.faults (rows_in kinds.now) fleet.old fleet.new entries;
+      folder = folder;
+      output = output_seen K.written K.faults K.shortages out.old out.new;
+    }) result }
+    ensures links_closed { AreNumbered (F.started fleet.old) (F.open_links fleet.old) → F.open_links fleet.new ≡ F.open_links fleet.old }
+    ensures fleet_count { F.faults fleet.old ≤ F.faults fleet.new }
+    ensures out_count { K.faults out.old ≤ K.faults out.new }
+{
+    let text = summed(rt, alloc, kinds, size, fleet)?;
+    print(out, text.as_slice())
+}
+
+// Reads a record's file, and saves the record of its replay under this name.
+fn migrate<D: Folder>(alloc: Global, source: &str, name: &str, folder: &mut D) -> Result<(), Ending>
+    ensures migrated { (words : List (List ℕ)) → (outside : Outside) → (output : OutputSeen) → outside.log ≡ [] → outside.new_faults ≡ outside.faults → output.after ≡ output.before
+        → IsAsked words (requests.Migrate source.now name.now) → Ended (record {
+          words = words;
+          outside = outside;
+          folder = folder_seen D.files D.faults folder.old folder.new;
+          output = output;
+        }) result }
+    ensures folder_count { D.faults folder.old ≤ D.faults folder.new }
+{
+    let bytes = file_bytes(alloc, folder, source)?;
+    let text = migrated(alloc, bytes.as_slice())?;
+    save(folder, name, text.as_slice())
+}
+
+// Saves a file, or says why it isn't saved.
+fn save<D: Folder>(folder: &mut D, name: &str, bytes: &[u8]) -> Result<(), Ending>
+    ensures kept { OnOk result (D.files folder.new ≡ option_map (with_file name.now bytes.now) (D.files folder.old)) }
+    ensures unsaved { OnErr result (D.files folder.new ≡ D.files folder.old) }
+    ensures cause { IfErr result (λ e. ((e ≡ ends.Folder) × HasRisen (D.faults folder.old) (D.faults folder.new)) ⊎ (e ≡ ends.Mem)) }
+    ensures count { D.faults folder.old ≤ D.faults folder.new }
+{
+    match folder.save(name, bytes) {
+        FileSave::Kept => Ok(()),
+        FileSave::Failed => Err(Ending::Folder),
         FileSave::Mem => Err(Ending::Mem),
     }
 }

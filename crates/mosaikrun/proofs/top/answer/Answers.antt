@@ -1,11 +1,16 @@
-use Rattle.std.proofs.Common.{[], inl, arith, refl, sym, ap, ◌∙◌, subst, map, Result, Err}
+use Rattle.std.proofs.Common.{◌≡◌, [], inl, inr, arith, refl, sym, ap, ◌∙◌, subst, map, Result, Err}
 use Rattle.std.specs.String.{string_bytes}
 use Rattle.std.proofs.lemmas.Result.{err_from_is_err_and}
 use Rattle.mk_outside.proofs.OnLogs.{adds_none}
 use Rattle.mk_local.specs.Registries.{rows_in}
+use Rattle.mk_words.specs.declared.request.Request.{Request}
+use Rattle.mk_words.specs.declared.request.Request.TheVariants.{Migrate}
 use Rattle.mk_endings.specs.declared.ending.Ending.{Ending}
-use Rattle.mosaikrun.specs.Around.{Around}
+use Rattle.mk_ran.specs.Outcomes.{outside}
+use Rattle.mosaikrun.specs.Around.{Around, folder_seen, output_seen}
+use Rattle.mosaikrun.specs.Commands.{IsAsked}
 use Rattle.mosaikrun.specs.Program.{Ended}
+use Rattle.mosaikrun.proofs.Playing.{performed}
 use Rattle.mosaikrun.proofs.top.answer.Goals as goal
 
 -- the words ask for nothing
@@ -13,17 +18,9 @@ pub returns-in_err-request-clause-ended : goal.returns-in_err-request-clause-end
 returns-in_err-request-clause-ended g c =
     let S : Around = record {
       words = map string_bytes c.args.words.now;
-      outside = record { kinds = rows_in c.args.kinds.now; started = g.F.Fleet.started c.args.fleet.now; log = []; faults = g.F.Fleet.faults c.args.fleet.now; new_faults = g.F.Fleet.faults c.args.fleet.now };
-      files = g.D.Folder.files c.args.folder.now;
-      files_after = g.D.Folder.files c.args.folder.now;
-      folder_before = g.D.Folder.faults c.args.folder.now;
-      folder_after = g.D.Folder.faults c.args.folder.now;
-      out_before = g.K.Sink.faults c.args.out.now;
-      out_after = g.K.Sink.faults c.args.out.now;
-      wants_before = g.K.Sink.shortages c.args.out.now;
-      wants_after = g.K.Sink.shortages c.args.out.now;
-      before = g.K.Sink.written c.args.out.now;
-      after = g.K.Sink.written c.args.out.now;
+      outside = outside g.F.Fleet.started g.F.Fleet.faults (rows_in c.args.kinds.now) c.args.fleet.now c.args.fleet.now [];
+      folder = folder_seen g.D.Folder.files g.D.Folder.faults c.args.folder.now c.args.folder.now;
+      output = output_seen g.K.Sink.written g.K.Sink.faults g.K.Sink.shortages c.args.out.now c.args.out.now;
     } in
     let e = err_from_is_err_and c.from_residual.result c.from_residual.ensures.1 in (
       [],
@@ -34,6 +31,23 @@ returns-in_err-request-clause-ended g c =
       })),
     )
 
+-- the demo is run
+pub returns-in-Demo-clause-ended : goal.returns-in-Demo-clause-ended
+returns-in-Demo-clause-ended g c =
+    let seen = folder_seen g.D.Folder.files g.D.Folder.faults c.args.folder.now c.args.folder.now in
+    let asked = subst (λ (R : Request). IsAsked (map string_bytes c.args.words.now) R) c.in-Demo.is c.in_ok-request.ensures.asked in
+    let came = c.sum_up.ensures.summed (map string_bytes c.args.words.now) seen refl asked in
+    (came.0, came.1, performed _ _ (inr (inl came.2)))
+
+-- a migration is made
+pub returns-in-Migrate-clause-ended : goal.returns-in-Migrate-clause-ended
+returns-in-Migrate-clause-ended g c =
+    let unused = outside g.F.Fleet.started g.F.Fleet.faults (rows_in c.args.kinds.now) c.args.fleet.now c.args.fleet.now [] in
+    let seen = output_seen g.K.Sink.written g.K.Sink.faults g.K.Sink.shortages c.args.out.now c.args.out.now in
+    let same : c.in_ok-request.request ≡ Migrate c.as_str-in-Migrate.result.now c.as_str-in-Migrate-2.result.now = cc (c.in-Migrate.is, c.as_str-in-Migrate.ensures, c.as_str-in-Migrate-2.ensures) in
+    let asked = subst (λ (R : Request). IsAsked (map string_bytes c.args.words.now) R) same c.in_ok-request.ensures.asked in
+    ([], adds_none (g.F.Fleet.log c.args.fleet.now), c.migrate.ensures.migrated (map string_bytes c.args.words.now) unused seen refl refl refl asked)
+
 -- a command without a fleet is made
 pub returns-in_default : goal.returns-in_default
 returns-in_default g c = record {
@@ -43,7 +57,7 @@ returns-in_default g c = record {
     c.make.ensures.made (map string_bytes c.args.words.now) (g.F.Fleet.started c.args.fleet.now) (g.F.Fleet.faults c.args.fleet.now)
         c.in_ok-request.ensures.asked,
   );
-  links_closed = refl;
+  links_closed = λ low_ones. refl;
   folder_count = c.make.ensures.folder_count;
   fleet_count = omega (arith);
   out_count = c.make.ensures.out_count;

@@ -8,8 +8,8 @@ use Rattle.mk_outside.proofs.OnLogs.{adds_none}
 use Rattle.mk_local.specs.Registries.{rows_in}
 use Rattle.mk_words.specs.declared.request.Request.TheVariants.{Run}
 use Rattle.mk_endings.specs.declared.ending.Ending.{Ending}
-use Rattle.mk_ran.specs.Outcomes.{IsRunOutcome}
-use Rattle.mosaikrun.specs.Around.{Around}
+use Rattle.mk_ran.specs.Outcomes.{IsRunOutcome, outside}
+use Rattle.mosaikrun.specs.Around.{Around, folder_seen, output_seen}
 use Rattle.mosaikrun.specs.Running.{IsFolderAfter}
 use Rattle.mosaikrun.specs.Program.{Ended}
 use Rattle.mosaikrun.proofs.Playing.{Played, as_run, either, reported, risen_after, wanting}
@@ -20,17 +20,9 @@ pub returns-in_err-bytes-clause-played : goal.returns-in_err-bytes-clause-played
 returns-in_err-bytes-clause-played g c = λ words asked.
     let S : Around = record {
       words = words;
-      outside = record { kinds = rows_in c.args.kinds.now; started = g.F.Fleet.started c.args.fleet.now; log = []; faults = g.F.Fleet.faults c.args.fleet.now; new_faults = g.F.Fleet.faults c.args.fleet.now };
-      files = g.D.Folder.files c.args.folder.now;
-      files_after = g.D.Folder.files c.file_bytes.new.folder;
-      folder_before = g.D.Folder.faults c.args.folder.now;
-      folder_after = g.D.Folder.faults c.file_bytes.new.folder;
-      out_before = g.K.Sink.faults c.args.out.now;
-      out_after = g.K.Sink.faults c.args.out.now;
-      wants_before = g.K.Sink.shortages c.args.out.now;
-      wants_after = g.K.Sink.shortages c.args.out.now;
-      before = g.K.Sink.written c.args.out.now;
-      after = g.K.Sink.written c.args.out.now;
+      outside = outside g.F.Fleet.started g.F.Fleet.faults (rows_in c.args.kinds.now) c.args.fleet.now c.args.fleet.now [];
+      folder = folder_seen g.D.Folder.files g.D.Folder.faults c.args.folder.now c.file_bytes.new.folder;
+      output = output_seen g.K.Sink.written g.K.Sink.faults g.K.Sink.shortages c.args.out.now c.args.out.now;
     } in
     let e = err_from_is_err_and c.from_residual.result c.from_residual.ensures.1 in (
       [],
@@ -38,6 +30,8 @@ returns-in_err-bytes-clause-played g c = λ words asked.
       subst (λ (r : Result (Unit {0}) Ending). Ended S r) (sym (e.1 ∙ ap (λ x. Err x) e.2)) (inr (inl (record {
         request = Run c.args.scenario.now c.args.name.now;
         asked = asked;
+        name = c.args.scenario.now;
+        named = refl;
         cause = c.in_err-bytes.ensures.unread;
         untouched = record { unput = refl; aside = record { unsaved = c.file_bytes.ensures.kept; log = refl; faults = refl } };
       }))),
@@ -47,23 +41,15 @@ returns-in_err-bytes-clause-played g c = λ words asked.
 pub returns-in_err-told-in-Kept-clause-played : goal.returns-in_err-told-in-Kept-clause-played
 returns-in_err-told-in-Kept-clause-played g c = λ words asked.
     let Q : Result (List ℕ) Ending → Type 0 = λ text. (entries : List LogEntry) × Adds entries (g.F.Fleet.log c.args.fleet.now) (g.F.Fleet.log c.ran-told.new.fleet)
-    × IsRunOutcome (record { kinds = rows_in c.args.kinds.now; started = g.F.Fleet.started c.args.fleet.now; log = entries; faults = g.F.Fleet.faults c.args.fleet.now; new_faults = g.F.Fleet.faults c.ran-told.new.fleet })
+    × IsRunOutcome (outside g.F.Fleet.started g.F.Fleet.faults (rows_in c.args.kinds.now) c.args.fleet.now c.ran-told.new.fleet entries)
     c.is_some.result c.as_slice.result.now text (option_map (λ r. r.items) c.ran-told.result.record) in
     let text : Result (List ℕ) Ending = Err c.in_err-told-in-Kept.field-0.0 in
     let came : Q text = subst (λ t. IfErr t (λ e. Q (Err e))) c.in_err-told-in-Kept.was c.ran-told.ensures.none in
     let S : Around = record {
       words = words;
-      outside = record { kinds = rows_in c.args.kinds.now; started = g.F.Fleet.started c.args.fleet.now; log = came.0; faults = g.F.Fleet.faults c.args.fleet.now; new_faults = g.F.Fleet.faults c.ran-told.new.fleet };
-      files = g.D.Folder.files c.args.folder.now;
-      files_after = g.D.Folder.files c.keep.new.folder;
-      folder_before = g.D.Folder.faults c.args.folder.now;
-      folder_after = g.D.Folder.faults c.keep.new.folder;
-      out_before = g.K.Sink.faults c.args.out.now;
-      out_after = g.K.Sink.faults c.args.out.now;
-      wants_before = g.K.Sink.shortages c.args.out.now;
-      wants_after = g.K.Sink.shortages c.args.out.now;
-      before = g.K.Sink.written c.args.out.now;
-      after = g.K.Sink.written c.args.out.now;
+      outside = outside g.F.Fleet.started g.F.Fleet.faults (rows_in c.args.kinds.now) c.args.fleet.now c.ran-told.new.fleet came.0;
+      folder = folder_seen g.D.Folder.files g.D.Folder.faults c.args.folder.now c.keep.new.folder;
+      output = output_seen g.K.Sink.written g.K.Sink.faults g.K.Sink.shortages c.args.out.now c.args.out.now;
     } in
     let kept = option_map (λ r. r.items) c.ran-told.result.record in
     let played : Played S c.args.scenario.now c.args.name.now text kept = record {
@@ -73,29 +59,21 @@ returns-in_err-told-in-Kept-clause-played g c = λ words asked.
       outcome = subst (λ w. IsRunOutcome S.outside w c.in_ok-bytes.bytes.items text kept) c.is_some.ensures (subst (λ b. IsRunOutcome S.outside c.is_some.result b text kept) c.as_slice.ensures.value came.2);
     } in
     let e = err_from_is_err_and c.from_residual-in_err-told-in-Kept.result c.from_residual-in_err-told-in-Kept.ensures.1 in
-    (came.0, came.1, subst (λ (r : Result (Unit {0}) Ending). Ended S r) (sym (e.1 ∙ ap (λ x. Err x) e.2)) (inr (inr (inr (inr (as_run S _ _ text kept (Err c.in_err-told-in-Kept.field-0.0) played (refl, inl refl, inl (subst (λ old. IsFolderAfter c.args.name.now kept old (g.D.Folder.files c.keep.new.folder)) c.file_bytes.ensures.kept (c.keep.ensures.kept c.in-Kept.is)))))))))
+    (came.0, came.1, subst (λ (r : Result (Unit {0}) Ending). Ended S r) (sym (e.1 ∙ ap (λ x. Err x) e.2)) (inr (inr (inr (inr (inl (as_run S _ _ text kept (Err c.in_err-told-in-Kept.field-0.0) played (refl, inl refl, inl (subst (λ old. IsFolderAfter c.args.name.now kept old (g.D.Folder.files c.keep.new.folder)) c.file_bytes.ensures.kept (c.keep.ensures.kept c.in-Kept.is))))))))))
 
 -- the report is put
 pub returns-in-Kept-clause-played : goal.returns-in-Kept-clause-played
 returns-in-Kept-clause-played g c = λ words asked.
     let Q : Result (List ℕ) Ending → Type 0 = λ text. (entries : List LogEntry) × Adds entries (g.F.Fleet.log c.args.fleet.now) (g.F.Fleet.log c.ran-told.new.fleet)
-    × IsRunOutcome (record { kinds = rows_in c.args.kinds.now; started = g.F.Fleet.started c.args.fleet.now; log = entries; faults = g.F.Fleet.faults c.args.fleet.now; new_faults = g.F.Fleet.faults c.ran-told.new.fleet })
+    × IsRunOutcome (outside g.F.Fleet.started g.F.Fleet.faults (rows_in c.args.kinds.now) c.args.fleet.now c.ran-told.new.fleet entries)
     c.is_some.result c.as_slice.result.now text (option_map (λ r. r.items) c.ran-told.result.record) in
     let text : Result (List ℕ) Ending = Ok c.in_ok-told-in-Kept.field-0.items in
     let came : Q text = subst (λ t. IfOk t (λ v. Q (Ok v.items))) c.in_ok-told-in-Kept.was c.ran-told.ensures.text in
     let S : Around = record {
       words = words;
-      outside = record { kinds = rows_in c.args.kinds.now; started = g.F.Fleet.started c.args.fleet.now; log = came.0; faults = g.F.Fleet.faults c.args.fleet.now; new_faults = g.F.Fleet.faults c.ran-told.new.fleet };
-      files = g.D.Folder.files c.args.folder.now;
-      files_after = g.D.Folder.files c.keep.new.folder;
-      folder_before = g.D.Folder.faults c.args.folder.now;
-      folder_after = g.D.Folder.faults c.keep.new.folder;
-      out_before = g.K.Sink.faults c.args.out.now;
-      out_after = g.K.Sink.faults c.print.new.out;
-      wants_before = g.K.Sink.shortages c.args.out.now;
-      wants_after = g.K.Sink.shortages c.print.new.out;
-      before = g.K.Sink.written c.args.out.now;
-      after = g.K.Sink.written c.print.new.out;
+      outside = outside g.F.Fleet.started g.F.Fleet.faults (rows_in c.args.kinds.now) c.args.fleet.now c.ran-told.new.fleet came.0;
+      folder = folder_seen g.D.Folder.files g.D.Folder.faults c.args.folder.now c.keep.new.folder;
+      output = output_seen g.K.Sink.written g.K.Sink.faults g.K.Sink.shortages c.args.out.now c.print.new.out;
     } in
     let kept = option_map (λ r. r.items) c.ran-told.result.record in
     let played : Played S c.args.scenario.now c.args.name.now text kept = record {
@@ -108,8 +86,8 @@ returns-in-Kept-clause-played g c = λ words asked.
       came.0,
       came.1,
       reported S _ _ c.in_ok-told-in-Kept.field-0.items kept c.print.result played saved
-          (subst (λ t. OnOk c.print.result (S.after ≡ appended t S.before)) c.as_slice-in-Kept.ensures.value c.print.ensures.put)
-          (subst (λ t. OnErr c.print.result (TookBeginning t S.before S.after)) c.as_slice-in-Kept.ensures.value c.print.ensures.cut)
+          (subst (λ t. OnOk c.print.result (S.output.after ≡ appended t S.output.before)) c.as_slice-in-Kept.ensures.value c.print.ensures.put)
+          (subst (λ t. OnErr c.print.result (TookBeginning t S.output.before S.output.after)) c.as_slice-in-Kept.ensures.value c.print.ensures.cut)
           c.print.ensures.cause,
     )
 
@@ -117,24 +95,16 @@ returns-in-Kept-clause-played g c = λ words asked.
 pub returns-in_err-told-in-Failed-clause-played : goal.returns-in_err-told-in-Failed-clause-played
 returns-in_err-told-in-Failed-clause-played g c = λ words asked.
     let Q : Result (List ℕ) Ending → Type 0 = λ text. (entries : List LogEntry) × Adds entries (g.F.Fleet.log c.args.fleet.now) (g.F.Fleet.log c.ran-told.new.fleet)
-    × IsRunOutcome (record { kinds = rows_in c.args.kinds.now; started = g.F.Fleet.started c.args.fleet.now; log = entries; faults = g.F.Fleet.faults c.args.fleet.now; new_faults = g.F.Fleet.faults c.ran-told.new.fleet })
+    × IsRunOutcome (outside g.F.Fleet.started g.F.Fleet.faults (rows_in c.args.kinds.now) c.args.fleet.now c.ran-told.new.fleet entries)
     c.is_some.result c.as_slice.result.now text (option_map (λ r. r.items) c.ran-told.result.record) in
     let text : Result (List ℕ) Ending = Err c.in_err-told-in-Failed.field-0.0 in
     let came : Q text = subst (λ t. IfErr t (λ e. Q (Err e))) c.in_err-told-in-Failed.was c.ran-told.ensures.none in
     let failed = c.keep.ensures.failed c.in-Failed.is in
     let S : Around = record {
       words = words;
-      outside = record { kinds = rows_in c.args.kinds.now; started = g.F.Fleet.started c.args.fleet.now; log = came.0; faults = g.F.Fleet.faults c.args.fleet.now; new_faults = g.F.Fleet.faults c.ran-told.new.fleet };
-      files = g.D.Folder.files c.args.folder.now;
-      files_after = g.D.Folder.files c.keep.new.folder;
-      folder_before = g.D.Folder.faults c.args.folder.now;
-      folder_after = g.D.Folder.faults c.keep.new.folder;
-      out_before = g.K.Sink.faults c.args.out.now;
-      out_after = g.K.Sink.faults c.args.out.now;
-      wants_before = g.K.Sink.shortages c.args.out.now;
-      wants_after = g.K.Sink.shortages c.args.out.now;
-      before = g.K.Sink.written c.args.out.now;
-      after = g.K.Sink.written c.args.out.now;
+      outside = outside g.F.Fleet.started g.F.Fleet.faults (rows_in c.args.kinds.now) c.args.fleet.now c.ran-told.new.fleet came.0;
+      folder = folder_seen g.D.Folder.files g.D.Folder.faults c.args.folder.now c.keep.new.folder;
+      output = output_seen g.K.Sink.written g.K.Sink.faults g.K.Sink.shortages c.args.out.now c.args.out.now;
     } in
     let kept = option_map (λ r. r.items) c.ran-told.result.record in
     let played : Played S c.args.scenario.now c.args.name.now text kept = record {
@@ -144,30 +114,22 @@ returns-in_err-told-in-Failed-clause-played g c = λ words asked.
       outcome = subst (λ w. IsRunOutcome S.outside w c.in_ok-bytes.bytes.items text kept) c.is_some.ensures (subst (λ b. IsRunOutcome S.outside c.is_some.result b text kept) c.as_slice.ensures.value came.2);
     } in
     let e = err_from_is_err_and c.from_residual-in_err-told-in-Failed.result c.from_residual-in_err-told-in-Failed.ensures.1 in
-    (came.0, came.1, subst (λ (r : Result (Unit {0}) Ending). Ended S r) (sym (e.1 ∙ ap (λ x. Err x) e.2)) (inr (inr (inr (inr (as_run S _ _ text kept (Err c.in_err-told-in-Failed.field-0.0) played (refl, inl refl, inr (failed.0 ∙ c.file_bytes.ensures.kept, inl (risen_after _ _ _ c.file_bytes.ensures.count failed.1)))))))))
+    (came.0, came.1, subst (λ (r : Result (Unit {0}) Ending). Ended S r) (sym (e.1 ∙ ap (λ x. Err x) e.2)) (inr (inr (inr (inr (inl (as_run S _ _ text kept (Err c.in_err-told-in-Failed.field-0.0) played (refl, inl refl, inr (failed.0 ∙ c.file_bytes.ensures.kept, inl (risen_after _ _ _ c.file_bytes.ensures.count failed.1))))))))))
 
 -- there is a report, and the folder failed
 pub returns-in-Failed-clause-played : goal.returns-in-Failed-clause-played
 returns-in-Failed-clause-played g c = λ words asked.
     let Q : Result (List ℕ) Ending → Type 0 = λ text. (entries : List LogEntry) × Adds entries (g.F.Fleet.log c.args.fleet.now) (g.F.Fleet.log c.ran-told.new.fleet)
-    × IsRunOutcome (record { kinds = rows_in c.args.kinds.now; started = g.F.Fleet.started c.args.fleet.now; log = entries; faults = g.F.Fleet.faults c.args.fleet.now; new_faults = g.F.Fleet.faults c.ran-told.new.fleet })
+    × IsRunOutcome (outside g.F.Fleet.started g.F.Fleet.faults (rows_in c.args.kinds.now) c.args.fleet.now c.ran-told.new.fleet entries)
     c.is_some.result c.as_slice.result.now text (option_map (λ r. r.items) c.ran-told.result.record) in
     let text : Result (List ℕ) Ending = Ok c.in_ok-told-in-Failed.field-0.items in
     let came : Q text = subst (λ t. IfOk t (λ v. Q (Ok v.items))) c.in_ok-told-in-Failed.was c.ran-told.ensures.text in
     let failed = c.keep.ensures.failed c.in-Failed.is in
     let S : Around = record {
       words = words;
-      outside = record { kinds = rows_in c.args.kinds.now; started = g.F.Fleet.started c.args.fleet.now; log = came.0; faults = g.F.Fleet.faults c.args.fleet.now; new_faults = g.F.Fleet.faults c.ran-told.new.fleet };
-      files = g.D.Folder.files c.args.folder.now;
-      files_after = g.D.Folder.files c.keep.new.folder;
-      folder_before = g.D.Folder.faults c.args.folder.now;
-      folder_after = g.D.Folder.faults c.keep.new.folder;
-      out_before = g.K.Sink.faults c.args.out.now;
-      out_after = g.K.Sink.faults c.args.out.now;
-      wants_before = g.K.Sink.shortages c.args.out.now;
-      wants_after = g.K.Sink.shortages c.args.out.now;
-      before = g.K.Sink.written c.args.out.now;
-      after = g.K.Sink.written c.args.out.now;
+      outside = outside g.F.Fleet.started g.F.Fleet.faults (rows_in c.args.kinds.now) c.args.fleet.now c.ran-told.new.fleet came.0;
+      folder = folder_seen g.D.Folder.files g.D.Folder.faults c.args.folder.now c.keep.new.folder;
+      output = output_seen g.K.Sink.written g.K.Sink.faults g.K.Sink.shortages c.args.out.now c.args.out.now;
     } in
     let kept = option_map (λ r. r.items) c.ran-told.result.record in
     let played : Played S c.args.scenario.now c.args.name.now text kept = record {
@@ -176,30 +138,22 @@ returns-in-Failed-clause-played g c = λ words asked.
       held = c.in_ok-bytes.ensures.read;
       outcome = subst (λ w. IsRunOutcome S.outside w c.in_ok-bytes.bytes.items text kept) c.is_some.ensures (subst (λ b. IsRunOutcome S.outside c.is_some.result b text kept) c.as_slice.ensures.value came.2);
     } in
-    (came.0, came.1, inr (inr (inr (inr (as_run S _ _ text kept _ played (inl (refl, (failed.0 ∙ c.file_bytes.ensures.kept, inl (risen_after _ _ _ c.file_bytes.ensures.count failed.1)), inl refl)))))))
+    (came.0, came.1, inr (inr (inr (inr (inl (as_run S _ _ text kept _ played (inl (refl, (failed.0 ∙ c.file_bytes.ensures.kept, inl (risen_after _ _ _ c.file_bytes.ensures.count failed.1)), inl refl))))))))
 
 -- memory was wanting for the record
 pub returns-clause-played : goal.returns-clause-played
 returns-clause-played g c = λ words asked.
     let Q : Result (List ℕ) Ending → Type 0 = λ text. (entries : List LogEntry) × Adds entries (g.F.Fleet.log c.args.fleet.now) (g.F.Fleet.log c.ran-told.new.fleet)
-    × IsRunOutcome (record { kinds = rows_in c.args.kinds.now; started = g.F.Fleet.started c.args.fleet.now; log = entries; faults = g.F.Fleet.faults c.args.fleet.now; new_faults = g.F.Fleet.faults c.ran-told.new.fleet })
+    × IsRunOutcome (outside g.F.Fleet.started g.F.Fleet.faults (rows_in c.args.kinds.now) c.args.fleet.now c.ran-told.new.fleet entries)
     c.is_some.result c.as_slice.result.now text (option_map (λ r. r.items) c.ran-told.result.record) in
     let both = either (λ v. v.items) Q c.ran-told.result.text c.ran-told.ensures.text c.ran-told.ensures.none in
     let text : Result (List ℕ) Ending = both.0 in
     let came : Q text = both.1 in
     let S : Around = record {
       words = words;
-      outside = record { kinds = rows_in c.args.kinds.now; started = g.F.Fleet.started c.args.fleet.now; log = came.0; faults = g.F.Fleet.faults c.args.fleet.now; new_faults = g.F.Fleet.faults c.ran-told.new.fleet };
-      files = g.D.Folder.files c.args.folder.now;
-      files_after = g.D.Folder.files c.keep.new.folder;
-      folder_before = g.D.Folder.faults c.args.folder.now;
-      folder_after = g.D.Folder.faults c.keep.new.folder;
-      out_before = g.K.Sink.faults c.args.out.now;
-      out_after = g.K.Sink.faults c.args.out.now;
-      wants_before = g.K.Sink.shortages c.args.out.now;
-      wants_after = g.K.Sink.shortages c.args.out.now;
-      before = g.K.Sink.written c.args.out.now;
-      after = g.K.Sink.written c.args.out.now;
+      outside = outside g.F.Fleet.started g.F.Fleet.faults (rows_in c.args.kinds.now) c.args.fleet.now c.ran-told.new.fleet came.0;
+      folder = folder_seen g.D.Folder.files g.D.Folder.faults c.args.folder.now c.keep.new.folder;
+      output = output_seen g.K.Sink.written g.K.Sink.faults g.K.Sink.shortages c.args.out.now c.args.out.now;
     } in
     let kept = option_map (λ r. r.items) c.ran-told.result.record in
     let played : Played S c.args.scenario.now c.args.name.now text kept = record {
@@ -208,4 +162,4 @@ returns-clause-played g c = λ words asked.
       held = c.in_ok-bytes.ensures.read;
       outcome = subst (λ w. IsRunOutcome S.outside w c.in_ok-bytes.bytes.items text kept) c.is_some.ensures (subst (λ b. IsRunOutcome S.outside c.is_some.result b text kept) c.as_slice.ensures.value came.2);
     } in
-    (came.0, came.1, inr (inr (inr (inr (wanting S _ _ text kept played refl (c.keep.ensures.wanting c.in-Mem.is ∙ c.file_bytes.ensures.kept))))))
+    (came.0, came.1, inr (inr (inr (inr (inl (wanting S _ _ text kept played refl (c.keep.ensures.wanting c.in-Mem.is ∙ c.file_bytes.ensures.kept)))))))

@@ -1,247 +1,58 @@
-use Rattle.std.proofs.Common.{Ok, Err, refl, sym, ◌∙◌, map, subst}
+use Rattle.std.proofs.Common.{Ok, Err, arith, refl, sym, ◌∙◌, map, subst}
 use Rattle.std.specs.String.{string_bytes}
 use Rattle.mk_local.specs.Registries.{rows_in}
-use Rattle.mosaikrun.specs.Around.{Around}
+use Rattle.mk_ran.specs.Outcomes.{outside}
+use Rattle.mosaikrun.specs.Around.{Around, folder_seen, output_seen}
 use Rattle.mosaikrun.specs.Program.{IsStatusOr}
-use Rattle.mosaikrun.proofs.Answering.{keeps_others, said_ended, told_decided, told_no_file, usage_only, useless_words}
+use Rattle.mosaikrun.proofs.Answering.{keeps_others, said_ended, told_decided, told_migrated, told_no_file, usage_only, useless_words}
 use Rattle.mosaikrun.proofs.top.program.Goals as goal
 
-pub returns-in-Ok-clause-ended : goal.returns-in-Ok-clause-ended
-returns-in-Ok-clause-ended g c =
+pub returns-in-Ok : goal.returns-in-Ok
+returns-in-Ok g c =
     let ended = c.in-Ok.ensures.ended in
     let S : Around = record {
       words = map string_bytes c.args.words.now;
-      outside = record { kinds = rows_in c.args.kinds.now; started = g.F.Fleet.started c.args.fleet.now; log = ended.0; faults = g.F.Fleet.faults c.args.fleet.now; new_faults = g.F.Fleet.faults c.answer.new.fleet };
-      files = g.D.Folder.files c.args.folder.now;
-      files_after = g.D.Folder.files c.answer.new.folder;
-      folder_before = g.D.Folder.faults c.args.folder.now;
-      folder_after = g.D.Folder.faults c.answer.new.folder;
-      out_before = g.K.Sink.faults c.args.out.now;
-      out_after = g.K.Sink.faults c.answer.new.out;
-      wants_before = g.K.Sink.shortages c.args.out.now;
-      wants_after = g.K.Sink.shortages c.answer.new.out;
-      before = g.K.Sink.written c.args.out.now;
-      after = g.K.Sink.written c.answer.new.out;
+      outside = outside g.F.Fleet.started g.F.Fleet.faults (rows_in c.args.kinds.now) c.args.fleet.now c.answer.new.fleet ended.0;
+      folder = folder_seen g.D.Folder.files g.D.Folder.faults c.args.folder.now c.answer.new.folder;
+      output = output_seen g.K.Sink.written g.K.Sink.faults g.K.Sink.shortages c.args.out.now c.answer.new.out;
     } in
-    (ended.0, ended.1, record { answer = Ok tt; is = refl; ended = ended.2; told = refl })
+    record {
+      ended = (ended.0, ended.1, record { answer = Ok tt; is = refl; ended = ended.2; told = refl });
+      usage = λ two. usage_only S (Ok tt) ended.2 two;
+      useless = useless_words S (Ok tt) ended.2;
+      decided = told_decided S S.folder.files (Ok tt) 0 refl refl ended.2;
+      unreadable = told_no_file S S.folder.files (Ok tt) 0 refl refl ended.2;
+      migrated = told_migrated S S.folder.files (Ok tt) 0 refl refl ended.2;
+      others_kept = keeps_others S (Ok tt) ended.2;
+      links_closed = c.in-Ok.ensures.links_closed;
+      folder_count = c.in-Ok.ensures.folder_count;
+      fleet_count = c.in-Ok.ensures.fleet_count;
+      out_count = c.in-Ok.ensures.out_count;
+      err_count = omega (arith);
+    }
 
-pub returns-in-Ok-clause-usage : goal.returns-in-Ok-clause-usage
-returns-in-Ok-clause-usage g c =
-    let ended = c.in-Ok.ensures.ended in
-    let S : Around = record {
-      words = map string_bytes c.args.words.now;
-      outside = record { kinds = rows_in c.args.kinds.now; started = g.F.Fleet.started c.args.fleet.now; log = ended.0; faults = g.F.Fleet.faults c.args.fleet.now; new_faults = g.F.Fleet.faults c.answer.new.fleet };
-      files = g.D.Folder.files c.args.folder.now;
-      files_after = g.D.Folder.files c.answer.new.folder;
-      folder_before = g.D.Folder.faults c.args.folder.now;
-      folder_after = g.D.Folder.faults c.answer.new.folder;
-      out_before = g.K.Sink.faults c.args.out.now;
-      out_after = g.K.Sink.faults c.answer.new.out;
-      wants_before = g.K.Sink.shortages c.args.out.now;
-      wants_after = g.K.Sink.shortages c.answer.new.out;
-      before = g.K.Sink.written c.args.out.now;
-      after = g.K.Sink.written c.answer.new.out;
-    } in
-    λ two. usage_only S (Ok tt) ended.2 two
-
-pub returns-in-Ok-clause-useless : goal.returns-in-Ok-clause-useless
-returns-in-Ok-clause-useless g c =
-    let ended = c.in-Ok.ensures.ended in
-    let S : Around = record {
-      words = map string_bytes c.args.words.now;
-      outside = record { kinds = rows_in c.args.kinds.now; started = g.F.Fleet.started c.args.fleet.now; log = ended.0; faults = g.F.Fleet.faults c.args.fleet.now; new_faults = g.F.Fleet.faults c.answer.new.fleet };
-      files = g.D.Folder.files c.args.folder.now;
-      files_after = g.D.Folder.files c.answer.new.folder;
-      folder_before = g.D.Folder.faults c.args.folder.now;
-      folder_after = g.D.Folder.faults c.answer.new.folder;
-      out_before = g.K.Sink.faults c.args.out.now;
-      out_after = g.K.Sink.faults c.answer.new.out;
-      wants_before = g.K.Sink.shortages c.args.out.now;
-      wants_after = g.K.Sink.shortages c.answer.new.out;
-      before = g.K.Sink.written c.args.out.now;
-      after = g.K.Sink.written c.answer.new.out;
-    } in
-    useless_words S (Ok tt) ended.2
-
-pub returns-in-Ok-clause-decided : goal.returns-in-Ok-clause-decided
-returns-in-Ok-clause-decided g c =
-    let ended = c.in-Ok.ensures.ended in
-    let S : Around = record {
-      words = map string_bytes c.args.words.now;
-      outside = record { kinds = rows_in c.args.kinds.now; started = g.F.Fleet.started c.args.fleet.now; log = ended.0; faults = g.F.Fleet.faults c.args.fleet.now; new_faults = g.F.Fleet.faults c.answer.new.fleet };
-      files = g.D.Folder.files c.args.folder.now;
-      files_after = g.D.Folder.files c.answer.new.folder;
-      folder_before = g.D.Folder.faults c.args.folder.now;
-      folder_after = g.D.Folder.faults c.answer.new.folder;
-      out_before = g.K.Sink.faults c.args.out.now;
-      out_after = g.K.Sink.faults c.answer.new.out;
-      wants_before = g.K.Sink.shortages c.args.out.now;
-      wants_after = g.K.Sink.shortages c.answer.new.out;
-      before = g.K.Sink.written c.args.out.now;
-      after = g.K.Sink.written c.answer.new.out;
-    } in
-    told_decided S S.files (Ok tt) 0 refl refl ended.2
-
-pub returns-in-Ok-clause-unreadable : goal.returns-in-Ok-clause-unreadable
-returns-in-Ok-clause-unreadable g c =
-    let ended = c.in-Ok.ensures.ended in
-    let S : Around = record {
-      words = map string_bytes c.args.words.now;
-      outside = record { kinds = rows_in c.args.kinds.now; started = g.F.Fleet.started c.args.fleet.now; log = ended.0; faults = g.F.Fleet.faults c.args.fleet.now; new_faults = g.F.Fleet.faults c.answer.new.fleet };
-      files = g.D.Folder.files c.args.folder.now;
-      files_after = g.D.Folder.files c.answer.new.folder;
-      folder_before = g.D.Folder.faults c.args.folder.now;
-      folder_after = g.D.Folder.faults c.answer.new.folder;
-      out_before = g.K.Sink.faults c.args.out.now;
-      out_after = g.K.Sink.faults c.answer.new.out;
-      wants_before = g.K.Sink.shortages c.args.out.now;
-      wants_after = g.K.Sink.shortages c.answer.new.out;
-      before = g.K.Sink.written c.args.out.now;
-      after = g.K.Sink.written c.answer.new.out;
-    } in
-    told_no_file S S.files (Ok tt) 0 refl refl ended.2
-
-pub returns-in-Ok-clause-others_kept : goal.returns-in-Ok-clause-others_kept
-returns-in-Ok-clause-others_kept g c =
-    let ended = c.in-Ok.ensures.ended in
-    let S : Around = record {
-      words = map string_bytes c.args.words.now;
-      outside = record { kinds = rows_in c.args.kinds.now; started = g.F.Fleet.started c.args.fleet.now; log = ended.0; faults = g.F.Fleet.faults c.args.fleet.now; new_faults = g.F.Fleet.faults c.answer.new.fleet };
-      files = g.D.Folder.files c.args.folder.now;
-      files_after = g.D.Folder.files c.answer.new.folder;
-      folder_before = g.D.Folder.faults c.args.folder.now;
-      folder_after = g.D.Folder.faults c.answer.new.folder;
-      out_before = g.K.Sink.faults c.args.out.now;
-      out_after = g.K.Sink.faults c.answer.new.out;
-      wants_before = g.K.Sink.shortages c.args.out.now;
-      wants_after = g.K.Sink.shortages c.answer.new.out;
-      before = g.K.Sink.written c.args.out.now;
-      after = g.K.Sink.written c.answer.new.out;
-    } in
-    keeps_others S (Ok tt) ended.2
-
-pub returns-in-Err-clause-ended : goal.returns-in-Err-clause-ended
-returns-in-Err-clause-ended g c =
+pub returns-in-Err : goal.returns-in-Err
+returns-in-Err g c =
     let ended = c.in-Err.ensures.ended in
     let S : Around = record {
       words = map string_bytes c.args.words.now;
-      outside = record { kinds = rows_in c.args.kinds.now; started = g.F.Fleet.started c.args.fleet.now; log = ended.0; faults = g.F.Fleet.faults c.args.fleet.now; new_faults = g.F.Fleet.faults c.answer.new.fleet };
-      files = g.D.Folder.files c.args.folder.now;
-      files_after = g.D.Folder.files c.answer.new.folder;
-      folder_before = g.D.Folder.faults c.args.folder.now;
-      folder_after = g.D.Folder.faults c.answer.new.folder;
-      out_before = g.K.Sink.faults c.args.out.now;
-      out_after = g.K.Sink.faults c.answer.new.out;
-      wants_before = g.K.Sink.shortages c.args.out.now;
-      wants_after = g.K.Sink.shortages c.answer.new.out;
-      before = g.K.Sink.written c.args.out.now;
-      after = g.K.Sink.written c.answer.new.out;
+      outside = outside g.F.Fleet.started g.F.Fleet.faults (rows_in c.args.kinds.now) c.args.fleet.now c.answer.new.fleet ended.0;
+      folder = folder_seen g.D.Folder.files g.D.Folder.faults c.args.folder.now c.answer.new.folder;
+      output = output_seen g.K.Sink.written g.K.Sink.faults g.K.Sink.shortages c.args.out.now c.answer.new.out;
     } in
     let told = c.tell.ensures.told in
     let said = said_ended S told.0 c.in-Err.ending ended.2 told.1 in
-    (ended.0, ended.1, record { answer = Err told.0; is = told.2; ended = said; told = told.3 })
-
-pub returns-in-Err-clause-usage : goal.returns-in-Err-clause-usage
-returns-in-Err-clause-usage g c =
-    let ended = c.in-Err.ensures.ended in
-    let S : Around = record {
-      words = map string_bytes c.args.words.now;
-      outside = record { kinds = rows_in c.args.kinds.now; started = g.F.Fleet.started c.args.fleet.now; log = ended.0; faults = g.F.Fleet.faults c.args.fleet.now; new_faults = g.F.Fleet.faults c.answer.new.fleet };
-      files = g.D.Folder.files c.args.folder.now;
-      files_after = g.D.Folder.files c.answer.new.folder;
-      folder_before = g.D.Folder.faults c.args.folder.now;
-      folder_after = g.D.Folder.faults c.answer.new.folder;
-      out_before = g.K.Sink.faults c.args.out.now;
-      out_after = g.K.Sink.faults c.answer.new.out;
-      wants_before = g.K.Sink.shortages c.args.out.now;
-      wants_after = g.K.Sink.shortages c.answer.new.out;
-      before = g.K.Sink.written c.args.out.now;
-      after = g.K.Sink.written c.answer.new.out;
-    } in
-    let told = c.tell.ensures.told in
-    let said = said_ended S told.0 c.in-Err.ending ended.2 told.1 in
-    λ two. usage_only S (Err told.0) said (sym told.2 ∙ two)
-
-pub returns-in-Err-clause-useless : goal.returns-in-Err-clause-useless
-returns-in-Err-clause-useless g c =
-    let ended = c.in-Err.ensures.ended in
-    let S : Around = record {
-      words = map string_bytes c.args.words.now;
-      outside = record { kinds = rows_in c.args.kinds.now; started = g.F.Fleet.started c.args.fleet.now; log = ended.0; faults = g.F.Fleet.faults c.args.fleet.now; new_faults = g.F.Fleet.faults c.answer.new.fleet };
-      files = g.D.Folder.files c.args.folder.now;
-      files_after = g.D.Folder.files c.answer.new.folder;
-      folder_before = g.D.Folder.faults c.args.folder.now;
-      folder_after = g.D.Folder.faults c.answer.new.folder;
-      out_before = g.K.Sink.faults c.args.out.now;
-      out_after = g.K.Sink.faults c.answer.new.out;
-      wants_before = g.K.Sink.shortages c.args.out.now;
-      wants_after = g.K.Sink.shortages c.answer.new.out;
-      before = g.K.Sink.written c.args.out.now;
-      after = g.K.Sink.written c.answer.new.out;
-    } in
-    let told = c.tell.ensures.told in
-    let said = said_ended S told.0 c.in-Err.ending ended.2 told.1 in
-    λ none. subst (IsStatusOr 2) (sym told.2) (useless_words S (Err told.0) said none)
-
-pub returns-in-Err-clause-decided : goal.returns-in-Err-clause-decided
-returns-in-Err-clause-decided g c =
-    let ended = c.in-Err.ensures.ended in
-    let S : Around = record {
-      words = map string_bytes c.args.words.now;
-      outside = record { kinds = rows_in c.args.kinds.now; started = g.F.Fleet.started c.args.fleet.now; log = ended.0; faults = g.F.Fleet.faults c.args.fleet.now; new_faults = g.F.Fleet.faults c.answer.new.fleet };
-      files = g.D.Folder.files c.args.folder.now;
-      files_after = g.D.Folder.files c.answer.new.folder;
-      folder_before = g.D.Folder.faults c.args.folder.now;
-      folder_after = g.D.Folder.faults c.answer.new.folder;
-      out_before = g.K.Sink.faults c.args.out.now;
-      out_after = g.K.Sink.faults c.answer.new.out;
-      wants_before = g.K.Sink.shortages c.args.out.now;
-      wants_after = g.K.Sink.shortages c.answer.new.out;
-      before = g.K.Sink.written c.args.out.now;
-      after = g.K.Sink.written c.answer.new.out;
-    } in
-    let told = c.tell.ensures.told in
-    let said = said_ended S told.0 c.in-Err.ending ended.2 told.1 in
-    told_decided S S.files (Err told.0) c.tell.result refl told.2 said
-
-pub returns-in-Err-clause-unreadable : goal.returns-in-Err-clause-unreadable
-returns-in-Err-clause-unreadable g c =
-    let ended = c.in-Err.ensures.ended in
-    let S : Around = record {
-      words = map string_bytes c.args.words.now;
-      outside = record { kinds = rows_in c.args.kinds.now; started = g.F.Fleet.started c.args.fleet.now; log = ended.0; faults = g.F.Fleet.faults c.args.fleet.now; new_faults = g.F.Fleet.faults c.answer.new.fleet };
-      files = g.D.Folder.files c.args.folder.now;
-      files_after = g.D.Folder.files c.answer.new.folder;
-      folder_before = g.D.Folder.faults c.args.folder.now;
-      folder_after = g.D.Folder.faults c.answer.new.folder;
-      out_before = g.K.Sink.faults c.args.out.now;
-      out_after = g.K.Sink.faults c.answer.new.out;
-      wants_before = g.K.Sink.shortages c.args.out.now;
-      wants_after = g.K.Sink.shortages c.answer.new.out;
-      before = g.K.Sink.written c.args.out.now;
-      after = g.K.Sink.written c.answer.new.out;
-    } in
-    let told = c.tell.ensures.told in
-    let said = said_ended S told.0 c.in-Err.ending ended.2 told.1 in
-    told_no_file S S.files (Err told.0) c.tell.result refl told.2 said
-
-pub returns-in-Err-clause-others_kept : goal.returns-in-Err-clause-others_kept
-returns-in-Err-clause-others_kept g c =
-    let ended = c.in-Err.ensures.ended in
-    let S : Around = record {
-      words = map string_bytes c.args.words.now;
-      outside = record { kinds = rows_in c.args.kinds.now; started = g.F.Fleet.started c.args.fleet.now; log = ended.0; faults = g.F.Fleet.faults c.args.fleet.now; new_faults = g.F.Fleet.faults c.answer.new.fleet };
-      files = g.D.Folder.files c.args.folder.now;
-      files_after = g.D.Folder.files c.answer.new.folder;
-      folder_before = g.D.Folder.faults c.args.folder.now;
-      folder_after = g.D.Folder.faults c.answer.new.folder;
-      out_before = g.K.Sink.faults c.args.out.now;
-      out_after = g.K.Sink.faults c.answer.new.out;
-      wants_before = g.K.Sink.shortages c.args.out.now;
-      wants_after = g.K.Sink.shortages c.answer.new.out;
-      before = g.K.Sink.written c.args.out.now;
-      after = g.K.Sink.written c.answer.new.out;
-    } in
-    let told = c.tell.ensures.told in
-    let said = said_ended S told.0 c.in-Err.ending ended.2 told.1 in
-    keeps_others S (Err told.0) said
+    record {
+      ended = (ended.0, ended.1, record { answer = Err told.0; is = told.2; ended = said; told = told.3 });
+      usage = λ two. usage_only S (Err told.0) said (sym told.2 ∙ two);
+      useless = λ none. subst (IsStatusOr 2) (sym told.2) (useless_words S (Err told.0) said none);
+      decided = told_decided S S.folder.files (Err told.0) c.tell.result refl told.2 said;
+      unreadable = told_no_file S S.folder.files (Err told.0) c.tell.result refl told.2 said;
+      migrated = told_migrated S S.folder.files (Err told.0) c.tell.result refl told.2 said;
+      others_kept = keeps_others S (Err told.0) said;
+      links_closed = c.in-Err.ensures.links_closed;
+      folder_count = c.in-Err.ensures.folder_count;
+      fleet_count = c.in-Err.ensures.fleet_count;
+      out_count = c.in-Err.ensures.out_count;
+      err_count = c.tell.ensures.count;
+    }
