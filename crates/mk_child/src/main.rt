@@ -1,0 +1,60 @@
+// A simulator of one kind as a program of its own: reads the words KIND ADDRESS, connects to the address and is served there.
+#![tactic(auto)]
+
+use mk_base::Mem;
+use mk_local::{
+    EntityStep, Kind, Registry, Turn, battery_turn, constant_turn, controller_turn, counter_turn,
+    relay_turn, sum_turn,
+};
+use mk_real::MioFleet;
+use mk_simapi::child;
+use std::alloc::Global;
+use std::process::ExitCode;
+use std::sync::Wait;
+use std::{env, io};
+
+fn main(rt: HostRuntime) -> ExitCode {
+    match run(&rt, &rt, rt.alloc()) {
+        Ok(status) => ExitCode::from(status),
+        Err(_) => ExitCode::from(8),
+    }
+}
+
+// Makes the kinds, and serves one of them as the words say. Answers the program's status.
+fn run<W: Wait>(rt: &HostRuntime, waits: &W, alloc: Global) -> Result<u8, Mem> {
+    let mut kinds = Registry::new(alloc);
+    kinds.add(Kind::new(
+        Turn::Constant,
+        Box::new(alloc, |s: EntityStep| constant_turn(s))?,
+    ))?;
+    kinds.add(Kind::new(
+        Turn::Counter,
+        Box::new(alloc, |s: EntityStep| counter_turn(s))?,
+    ))?;
+    kinds.add(Kind::new(Turn::Sum, Box::new(alloc, |s: EntityStep| sum_turn(s))?))?;
+    kinds.add(Kind::new(Turn::Relay, Box::new(alloc, |s: EntityStep| relay_turn(s))?))?;
+    kinds.add(Kind::new(
+        Turn::Battery,
+        Box::new(alloc, |s: EntityStep| battery_turn(s))?,
+    ))?;
+    kinds.add(Kind::new(
+        Turn::Controller,
+        Box::new(alloc, |s: EntityStep| controller_turn(s))?,
+    ))?;
+    // Words that can't be read are no kind and address.
+    let words = match words_of(rt) {
+        Ok(words) => words,
+        Err(_) => Vec::new(alloc),
+    };
+    let mut fleet = MioFleet::new(alloc, rt);
+    Ok(child(waits, alloc, words.as_slice(), &mut fleet, &kinds))
+}
+
+// The program's words, without its own name.
+fn words_of(rt: &HostRuntime) -> io::Result<Vec<String>> {
+    let mut words = Vec::new(rt.alloc());
+    for word in env::args(rt)?.skip(1) {
+        words.push(word)?;
+    }
+    Ok(words)
+}

@@ -1,0 +1,53 @@
+-- What is answered to a request, by the call or the item that it is.
+use Rattle.std.proofs.Common.{◌≡◌, ℕ, Bool, true, false, List, Option, Some, None, codes, if◌then◌else◌, refl, sym, ap, ◌∙◌}
+use Rattle.std.specs.Global.{Vec}
+use Rattle.mk_base.specs.declared.json.Json.{Json}
+use Rattle.mk_plan.specs.declared.Call.{Call}
+use Rattle.mk_plan.specs.declared.Call.TheVariants.{Init, Create, SetupDone, Stop}
+use Rattle.mk_plan.specs.declared.Item.{Item}
+use Rattle.mk_plan.specs.declared.Message.TheVariants.{Ask}
+use Rattle.mk_local.specs.Calls.{IsCallReplied, after_call}
+use Rattle.mk_local.specs.Simulators.{Simulator}
+use Rattle.mk_simapi.specs.declared.servant.Answer.{Answer}
+use Rattle.mk_simapi.specs.declared.servant.Answer.TheVariants as answer
+use Rattle.mk_simapi.specs.Answers.{AnswersAs, CallsAs, IsItemPayload}
+use Rattle.mk_simapi.specs.Replies.{after_asked, after_called, after_message, call_answer, is_stop_call, stops_by}
+use Rattle.mk_base.specs.Lists.{same_text}
+use Rattle.mk_confluence.proofs.GivenValues.{text_is}
+use Rattle.mk_simapi.specs.Requests.{call_in, data_in, item_in, step_in}
+
+-- a call that isn't a stop gets a reply
+pub is_replied : (call : Call) → is_stop_call call ≡ false → IsCallReplied call
+is_replied (Init sim params) e = tt
+is_replied (Create num model params) e = tt
+is_replied SetupDone e = tt
+is_replied Stop e = cc
+
+-- a stop leaves the simulator as it is
+pub stop_leaves : (L : Simulator) (call : Call) → is_stop_call call ≡ true → after_call L call ≡ L
+stop_leaves L (Init sim params) e = cc
+stop_leaves L (Create num model params) e = cc
+stop_leaves L SetupDone e = cc
+stop_leaves L Stop e = refl
+
+module _ (L : Simulator) (id : ℕ) (name : List ℕ) (args : List Json) (named : Json) where
+  pub called : (a : Answer) (call : Call) → Some call ≡ call_in name args named → CallsAs a L id call → AnswersAs a L (Ask id name args named)
+  called (answer.Reply payload) call e c = (ap stops_by (sym e) ∙ c.0, c.1, ap (call_answer L id (item_in name args named)) (sym e) ∙ c.2, c.3)
+  called answer.Nothing call e c = absurd c
+  called answer.Stop call e c = ap stops_by (sym e) ∙ c
+
+  pub called_after : (M : Simulator) (call : Call) → Some call ≡ call_in name args named → M ≡ after_call L call → M ≡ after_message L (Ask id name args named)
+  called_after M call e is = is ∙ ap (after_called L (item_in name args named)) e
+
+  pub uncalled : (o : Option Item) (payload : Vec ℕ) → None ≡ call_in name args named → o ≡ item_in name args named → IsItemPayload payload.items L id o → AnswersAs (answer.Reply payload) L (Ask id name args named)
+  uncalled o payload e is p = (ap stops_by (sym e), p.0, ap (call_answer L id (item_in name args named)) (sym e) ∙ ap (λ (i : Option Item). call_answer L id i None) (sym is) ∙ p.1, p.2)
+
+  pub uncalled_after : (M : Simulator) (o : Option Item) → None ≡ call_in name args named → o ≡ item_in name args named → M ≡ after_asked L o → M ≡ after_message L (Ask id name args named)
+  uncalled_after M o e is so = so ∙ ap (after_asked L) is ∙ ap (after_called L (item_in name args named)) e
+
+-- a request of another function asks for no item
+pub neither : (name : List ℕ) (args : List Json) (named : Json) → same_text name (codes "step") ≡ false → same_text name (codes "get_data") ≡ false → None ≡ item_in name args named
+neither name args named a b = sym (ap (λ (x : Bool). if x then step_in args named else if same_text name (codes "get_data") then data_in args named else None) a ∙ ap (λ (x : Bool). if x then data_in args named else None) b)
+
+pub differs : (a b : List ℕ) → (a ≡ b → ⊥) → same_text a b ≡ false
+differs a b n = elim (same_text a b) as (λ x. same_text a b ≡ x → x ≡ false) [ true ↦ λ e. absurd (n (text_is a b e)) | false ↦ λ e. refl ] refl

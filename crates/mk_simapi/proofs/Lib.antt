@@ -1,0 +1,9 @@
+mod Forming
+mod Numbers
+mod Replying
+mod Ranges
+mod Answering
+mod Logs
+mod Going
+mod Steps
+mod Starting

@@ -1,0 +1,221 @@
+// The inputs of a step and what is wanted, gathered from an argument.
+ghost use Rattle.std.specs.Prelude.{◌≡◌, ◌++◌, ◌∷◌, [], true, IfOk, OnOk};
+ghost use Rattle.mk_base.specs.Texts.{text_of};
+ghost use Rattle.mk_base.specs.Trees.{is_in_range};
+ghost use Rattle.mk_async.specs.Forms.{each_passes, is_object_of};
+ghost use Rattle.mk_async.specs.Given.{is_source, is_value, members_of};
+ghost use Rattle.mk_simapi.specs.Requests.{inputs_in, wants_in};
+ghost use Rattle.mk_simapi.specs.Inputs.{inputs_among, inputs_at, inputs_by, inputs_to, items_of, text_or_empty, wants_among, wants_at, wants_by};
+
+use crate::forms::{are_inputs, are_wants};
+use mk_base::{Datum, Json, List, Mem, Members, Text};
+use mk_json::datum;
+use mk_plan::{Input, Want};
+use std::alloc::Global;
+
+// The inputs that the argument has; `None` exactly where it hasn't their form.
+pub fn inputs_in(alloc: Global, tree: &Json) -> Result<Option<List<Input>>, Mem>
+    requires { is_in_range tree.now ≡ true }
+    ensures { IfOk result (λ inputs. inputs ≡ inputs_in tree.now) }
+{
+    match tree.as_object() {
+        Some(entities) => inputs_by(alloc, entities),
+        None => Ok(None),
+    }
+}
+
+// The same, of an object's members.
+fn inputs_by(alloc: Global, entities: &Members<Json>) -> Result<Option<List<Input>>, Mem>
+    requires { each_passes is_in_range entities.now ≡ true }
+    ensures { IfOk result (λ inputs. inputs ≡ inputs_by entities.now) }
+{
+    if !are_inputs(entities) {
+        return Ok(None);
+    }
+    let mut inputs = List::new(alloc);
+    put_entities(alloc, &mut inputs, entities)?;
+    Ok(Some(inputs))
+}
+
+// Appends the inputs of all entities.
+fn put_entities(
+    alloc: Global,
+    inputs: &mut List<Input>,
+    entities: &Members<Json>,
+) -> Result<(), Mem>
+    requires { each_passes is_source entities.now ≡ true }
+    ensures { OnOk result (inputs.new ≡ inputs.old ++ inputs_among entities.now) }
+{
+    for entity in entities.entries() {
+        put_entity(alloc, inputs, &entity.0, &entity.1)?;
+    }
+    Ok(())
+}
+
+// Appends the inputs of one entity.
+fn put_entity(alloc: Global, inputs: &mut List<Input>, eid: &Text, tree: &Json) -> Result<(), Mem>
+    requires { is_source tree.now ≡ true }
+    ensures { OnOk result (inputs.new ≡ inputs.old ++ inputs_to eid.now (members_of tree.now)) }
+{
+    match tree.as_object() {
+        Some(members) => put_attributes(alloc, inputs, eid, members),
+        None => Ok(()),
+    }
+}
+
+fn put_attributes(
+    alloc: Global,
+    inputs: &mut List<Input>,
+    eid: &Text,
+    members: &Members<Json>,
+) -> Result<(), Mem>
+    requires { each_passes (is_object_of is_value) members.now ≡ true }
+    ensures { OnOk result (inputs.new ≡ inputs.old ++ inputs_to eid.now members.now) }
+{
+    for member in members.entries() {
+        put_attribute(alloc, inputs, eid, &member.0, &member.1)?;
+    }
+    Ok(())
+}
+
+// Appends the inputs of one attribute.
+fn put_attribute(
+    alloc: Global,
+    inputs: &mut List<Input>,
+    eid: &Text,
+    attr: &Text,
+    tree: &Json,
+) -> Result<(), Mem>
+    requires { is_object_of is_value tree.now ≡ true }
+    ensures { OnOk result (inputs.new ≡ inputs.old ++ inputs_at eid.now attr.now (members_of tree.now)) }
+{
+    match tree.as_object() {
+        Some(members) => put_sources(alloc, inputs, eid, attr, members),
+        None => Ok(()),
+    }
+}
+
+fn put_sources(
+    alloc: Global,
+    inputs: &mut List<Input>,
+    eid: &Text,
+    attr: &Text,
+    members: &Members<Json>,
+) -> Result<(), Mem>
+    requires { each_passes is_value members.now ≡ true }
+    ensures { OnOk result (inputs.new ≡ inputs.old ++ inputs_at eid.now attr.now members.now) }
+{
+    for member in members.entries() {
+        put_source(alloc, inputs, eid, attr, &member.0, &member.1)?;
+    }
+    Ok(())
+}
+
+// Appends one input.
+fn put_source(
+    alloc: Global,
+    inputs: &mut List<Input>,
+    eid: &Text,
+    attr: &Text,
+    source: &Text,
+    value: &Json,
+) -> Result<(), Mem>
+    requires { is_value value.now ≡ true }
+    ensures { OnOk result (inputs.new ≡ inputs.old ++ record { eid = eid.now; attr = attr.now; source = source.now; value = text_of value.now } ∷ []) }
+{
+    let input = Input {
+        eid: eid.copy()?,
+        attr: attr.copy()?,
+        source: source.copy()?,
+        value: datum_of(alloc, value)?,
+    };
+    inputs.push(input)
+}
+
+// The text of a value that a simulator may get.
+fn datum_of(alloc: Global, value: &Json) -> Result<Datum, Mem>
+    requires { is_value value.now ≡ true }
+    ensures { IfOk result (λ text. text ≡ text_of value.now) }
+{
+    match datum(alloc, value) {
+        Ok(text) => Ok(text),
+        Err(_) => Err(Mem),
+    }
+}
+
+// What the argument wants; `None` exactly where it hasn't that form.
+pub fn wants_in(alloc: Global, tree: &Json) -> Result<Option<List<Want>>, Mem>
+    ensures { IfOk result (λ wants. wants ≡ wants_in tree.now) }
+{
+    match tree.as_object() {
+        Some(entities) => wants_by(alloc, entities),
+        None => Ok(None),
+    }
+}
+
+// The same, of an object's members.
+fn wants_by(alloc: Global, entities: &Members<Json>) -> Result<Option<List<Want>>, Mem>
+    ensures { IfOk result (λ wants. wants ≡ wants_by entities.now) }
+{
+    if !are_wants(entities) {
+        return Ok(None);
+    }
+    let mut wants = List::new(alloc);
+    put_wanted(alloc, &mut wants, entities)?;
+    Ok(Some(wants))
+}
+
+// Appends what is wanted of all entities.
+fn put_wanted(alloc: Global, wants: &mut List<Want>, entities: &Members<Json>) -> Result<(), Mem>
+    ensures { OnOk result (wants.new ≡ wants.old ++ wants_among entities.now) }
+{
+    for entity in entities.entries() {
+        put_wants_of(alloc, wants, &entity.0, &entity.1)?;
+    }
+    Ok(())
+}
+
+// Appends what is wanted of one entity.
+fn put_wants_of(alloc: Global, wants: &mut List<Want>, eid: &Text, tree: &Json) -> Result<(), Mem>
+    ensures { OnOk result (wants.new ≡ wants.old ++ wants_at eid.now (items_of tree.now)) }
+{
+    match tree.as_list() {
+        Some(attrs) => put_wants(alloc, wants, eid, attrs),
+        None => Ok(()),
+    }
+}
+
+fn put_wants(
+    alloc: Global,
+    wants: &mut List<Want>,
+    eid: &Text,
+    attrs: &List<Json>,
+) -> Result<(), Mem>
+    ensures { OnOk result (wants.new ≡ wants.old ++ wants_at eid.now attrs.now) }
+{
+    for attr in attrs.as_slice() {
+        put_want(alloc, wants, eid, attr)?;
+    }
+    Ok(())
+}
+
+// Appends one attribute of an entity.
+fn put_want(alloc: Global, wants: &mut List<Want>, eid: &Text, attr: &Json) -> Result<(), Mem>
+    ensures { OnOk result (wants.new ≡ wants.old ++ record { eid = eid.now; attr = text_or_empty attr.now } ∷ []) }
+{
+    let want = Want {
+        eid: eid.copy()?,
+        attr: text_or_empty(alloc, attr)?,
+    };
+    wants.push(want)
+}
+
+// The text that a tree is, or an empty one.
+fn text_or_empty(alloc: Global, tree: &Json) -> Result<Text, Mem>
+    ensures { IfOk result (λ text. text ≡ text_or_empty tree.now) }
+{
+    match tree.as_text() {
+        Some(text) => text.copy(),
+        None => Text::of(alloc, ""),
+    }
+}
