@@ -3,10 +3,12 @@
 
 `run_cases.py PROGRAM` runs each line of `cases.jsonl`: the words of a command, and the exit status, standard output and
 standard error that it must have. A line with `files`, texts by their names, `pieces`, texts each with how often it stands
-there, by names, or `lengths`, how many bytes of 0 stand under a name, is run in a folder that holds just these; one with
+there, by names, or `lengths`, how many bytes of 0 stand under a name, is run in a folder that holds just these, and
+`scripted.py` beside a text whose name ends with `.script`; one with
 `saved`, the name of a file and the text that it must have (null: it must not be there), in a folder that holds copies of the
-files that its words name; one with `at` in that folder of the repository; any other one in the folder `cases`. It prints
-what differs, and ends with 'N passed, M failed'.
+files that its words name; one with `at` in that folder of the repository; any other one in the folder `cases`. With `child`
+the program `mk_child`, which the gate makes beside the other, lies in that folder too. It prints what differs, and ends with
+'N passed, M failed'.
 """
 
 import json
@@ -28,6 +30,8 @@ def main() -> int:
         with tempfile.TemporaryDirectory() as room:
             for name, text in case.get("files", {}).items():
                 (pathlib.Path(room) / name).write_text(text, encoding="utf-8")
+                if name.endswith(".script"):
+                    shutil.copy(folder / "scripted.py", room)
             for name, pieces in case.get("pieces", {}).items():
                 (pathlib.Path(room) / name).write_text("".join(text * count for text, count in pieces), encoding="utf-8")
             for name, length in case.get("lengths", {}).items():
@@ -36,6 +40,8 @@ def main() -> int:
             for word in case["words"] if "saved" in case else []:
                 if (folder / word).is_file():
                     shutil.copy(folder / word, room)
+            if "child" in case:
+                shutil.copy(pathlib.Path(program).parents[2] / "mk_child" / "out" / "mk_child", room)
             at = room if any(key in case for key in ("files", "pieces", "lengths", "saved")) else folder
             at = checks.parent / case["at"] if "at" in case else at
             ran = subprocess.run([program, *case["words"]], cwd=at, capture_output=True, timeout=60, check=False)
