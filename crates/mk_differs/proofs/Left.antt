@@ -1,11 +1,11 @@
 -- The entries of a record that are left, and the first of them.
 use Rattle.std.proofs.Common.{◌≡◌, ℕ, zero, suc, ◌+◌, ◌-◌, ◌<◌, ◌≤◌, max, List, [], ◌∷◌, ◌++◌, length, map, take, drop, slice_index_or, refl, ap, ◌∙◌, sym, arith}
 use Rattle.mk_plan.specs.Journals.{Arrival}
-use Rattle.mk_record.specs.declared.saved.Arrival as saved
-use Rattle.mk_record.specs.Seen.{came}
+use Rattle.mk_saved.specs.declared.saved.Arrival as saved
+use Rattle.mk_saved.specs.Seen.{came}
 use Rattle.mk_differs.specs.Matches.{left, IsMessageNext}
-use Rattle.mk_record.specs.declared.saved.Asked.{Asked}
-use Rattle.mk_record.specs.Entries.{RecordEntry, MessageOf, step_of, entries_after}
+use Rattle.mk_saved.specs.declared.saved.Asked.{Asked}
+use Rattle.mk_saved.specs.Entries.{RecordEntry, MessageOf, step_of, entries_after}
 
 -- a step before which enough messages came is the next entry
 pub left_due : (n : ℕ) (A : List Arrival) (a : Asked) (steps : List Asked) → a.before ≤ n → entries_after n A (a ∷ steps) ≡ step_of a ∷ entries_after n A steps

@@ -7,10 +7,10 @@ use Rattle.mk_plan.specs.declared.Message.{Message}
 use Rattle.mk_plan.specs.declared.Entry.TheVariants.{Sent, Got}
 use Rattle.mk_plan.specs.declared.Item.TheVariants.{Step}
 use Rattle.mk_plan.specs.Journals as journals
-use Rattle.mk_record.specs.declared.saved.Arrival.{Arrival}
-use Rattle.mk_record.specs.declared.saved.Asked.{Asked}
-use Rattle.mk_record.specs.Seen.{came}
-use Rattle.mk_record.specs.Entries.{RecordEntry, StepOf, MessageOf, step_of}
+use Rattle.mk_saved.specs.declared.saved.Arrival.{Arrival}
+use Rattle.mk_saved.specs.declared.saved.Asked.{Asked}
+use Rattle.mk_saved.specs.Seen.{came}
+use Rattle.mk_saved.specs.Entries.{RecordEntry, StepOf, MessageOf, step_of}
 use Rattle.mk_differs.specs.Matches.{left, IsMatch, IsMessageNext}
 use Rattle.mk_differs.specs.declared.first.Match.TheVariants.{NextMessage, Another, Behind}
 use Rattle.mk_differs.proofs.Left.{IsStepNext}

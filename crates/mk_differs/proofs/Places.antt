@@ -4,8 +4,8 @@ use Rattle.mk_base.specs.Lists.{BeginsWith}
 use Rattle.mk_base.proofs.Lists.{append_nil, none_some}
 use Rattle.mk_plan.specs.declared.Entry.{Entry}
 use Rattle.mk_plan.specs.Journals.{Arrival}
-use Rattle.mk_record.specs.declared.saved.Asked.{Asked}
-use Rattle.mk_record.specs.Entries.{RecordEntry, entries_of}
+use Rattle.mk_saved.specs.declared.saved.Asked.{Asked}
+use Rattle.mk_saved.specs.Entries.{RecordEntry, entries_of}
 use Rattle.mk_differs.specs.Differences.{IsFirstOther, IsFirstOtherOf, IsOther, entries_compared}
 
 abbrev Entries : Type 0

@@ -5,10 +5,10 @@ use Rattle.std.proofs.Math.Seq.{drop-cons}
 use Rattle.std.proofs.lemmas.List.{take_more, take-append-drop, take_all}
 use Rattle.mk_base.proofs.Lists.{append_nil, filter_map_append, none_some}
 use Rattle.mk_plan.specs.declared.Entry.{Entry}
-use Rattle.mk_record.specs.declared.saved.Arrival.{Arrival}
-use Rattle.mk_record.specs.declared.saved.Asked.{Asked}
-use Rattle.mk_record.specs.Seen.{came}
-use Rattle.mk_record.specs.Entries.{RecordEntry, MessageOf, step_of, entries_after, entries_of, entry_of}
+use Rattle.mk_saved.specs.declared.saved.Arrival.{Arrival}
+use Rattle.mk_saved.specs.declared.saved.Asked.{Asked}
+use Rattle.mk_saved.specs.Seen.{came}
+use Rattle.mk_saved.specs.Entries.{RecordEntry, MessageOf, step_of, entries_after, entries_of, entry_of}
 use Rattle.mk_differs.specs.Differences.{IsFirstOther}
 use Rattle.mk_differs.specs.Matches.{left, IsMatch}
 use Rattle.mk_differs.specs.declared.first.Match.TheVariants.{Neither, NextStep, NextMessage, Another, Behind}

@@ -3,8 +3,8 @@ use Rattle.std.specs.Prelude.{◌≡◌, ℕ, ◌<◌, List, length, take, slice
 use Rattle.mk_base.specs.Lists.{BeginsWith}
 use Rattle.mk_plan.specs.declared.Entry.{Entry}
 use Rattle.mk_plan.specs.Journals.{Arrival}
-use Rattle.mk_record.specs.declared.saved.Asked.{Asked}
-use Rattle.mk_record.specs.Entries.{RecordEntry, entries_in, entries_of}
+use Rattle.mk_saved.specs.declared.saved.Asked.{Asked}
+use Rattle.mk_saved.specs.Entries.{RecordEntry, entries_in, entries_of}
 
 -- n is the first place, from 0, whose entry in the record isn't the journal's entry there, or where the journal has none; without such a place the journal begins with the record's entries
 abbrev pub IsFirstOther : List RecordEntry → List RecordEntry → Option ℕ → Type 0

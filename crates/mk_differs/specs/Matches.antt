@@ -1,10 +1,10 @@
 -- What the comparison has found out about one entry of the journal: a help for its proof alone.
 use Rattle.std.specs.Prelude.{◌≡◌, ℕ, ◌+◌, ◌≤◌, List, [], ◌∷◌, length, map, drop, Some, None}
 use Rattle.mk_plan.specs.declared.Entry.{Entry}
-use Rattle.mk_record.specs.declared.saved.Arrival.{Arrival}
-use Rattle.mk_record.specs.declared.saved.Asked.{Asked}
-use Rattle.mk_record.specs.Seen.{came}
-use Rattle.mk_record.specs.Entries.{RecordEntry, MessageOf, entries_after, entry_of}
+use Rattle.mk_saved.specs.declared.saved.Arrival.{Arrival}
+use Rattle.mk_saved.specs.declared.saved.Asked.{Asked}
+use Rattle.mk_saved.specs.Seen.{came}
+use Rattle.mk_saved.specs.Entries.{RecordEntry, MessageOf, entries_after, entry_of}
 use Rattle.mk_differs.specs.declared.first.Match.{Match}
 use Rattle.mk_differs.specs.declared.first.Match.TheVariants.{Neither, NextStep, NextMessage, Another, Behind}
 

@@ -3,8 +3,8 @@ ghost use Rattle.std.specs.Prelude.{◌≡◌, ◌≤◌, ◌∷◌, List, lengt
 ghost use Rattle.mk_plan.specs.declared.Input.{Input};
 ghost use Rattle.mk_plan.specs.declared.Entry.TheVariants.{Sent, Got};
 ghost use Rattle.mk_plan.specs.declared.Item.TheVariants.{Step};
-ghost use Rattle.mk_record.specs.Entries.{entries_after, entries_of, step_of, StepOf, MessageOf};
-ghost use Rattle.mk_record.specs.Seen.{came};
+ghost use Rattle.mk_saved.specs.Entries.{entries_after, entries_of, step_of, StepOf, MessageOf};
+ghost use Rattle.mk_saved.specs.Seen.{came};
 ghost use Rattle.mk_differs.specs.Decisions.{Decides};
 ghost use Rattle.mk_differs.specs.Differences.{IsFirstOther, IsOther};
 ghost use Rattle.mk_differs.specs.Matches.{IsMatch, IsMessageNext, left};
@@ -12,7 +12,7 @@ ghost use Rattle.mk_differs.specs.Matches.{IsMatch, IsMessageNext, left};
 use crate::messages::same_message;
 use mk_base::{SimNo, Tier};
 use mk_plan::{Entry, Item, Journal, Message};
-use mk_record::{Arrival, Asked, Saved};
+use mk_saved::{Arrival, Asked, Saved};
 
 /// The first entry of a record, from 0, that isn't the journal's entry at that place among its Steps and messages, or for
 /// which the journal has none. A record of version 1 has no such entry. The journal has at most 20,000,000 entries.

@@ -2,7 +2,7 @@
 use crate::first_other;
 use mk_base::{Json, List, SimNo, Tier};
 use mk_plan::{Entry, Item, Journal, Message};
-use mk_record::read_record;
+use mk_saved::read_record;
 use std::alloc::Global;
 use std::process::Abort;
 use std::test::Fail;

@@ -5,9 +5,9 @@ use Rattle.mk_base.proofs.Lists.{append_nil, flat_map_append, filter_map_append}
 use Rattle.mk_plan.specs.declared.Item.TheVariants.{Step, GetData, Answer, Refuse}
 use Rattle.mk_plan.specs.declared.Entry.{Entry}
 use Rattle.mk_plan.specs.declared.Entry.TheVariants.{Sent, Got}
-use Rattle.mk_record.specs.Entries.{entry_of, entries_of}
-use Rattle.mk_record.specs.Texts.{ask_line, got_line, entry_line}
-use Rattle.mk_lines.specs.Entries.{is_line, line_in}
+use Rattle.mk_saved.specs.Entries.{entry_of, entries_of}
+use Rattle.mk_saved.specs.Texts.{ask_line, got_line, entry_line}
+use Rattle.mk_lines.specs.Writable.{is_line, line_in}
 
 pub lines_are : (J : List Entry) → flat_map line_in J ≡ flat_map entry_line (entries_of J)
 lines_are [] = refl

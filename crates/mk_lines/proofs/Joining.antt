@@ -1,6 +1,7 @@
 -- Lists written item by item, with commas between.
-use Rattle.std.proofs.Common.{◌≡◌, ℕ, zero, suc, ◌+◌, ◌<◌, ◌≤◌, List, [], ◌∷◌, ◌++◌, length, map, take, get_or, codes, refl, sym, ap, ◌∙◌, append_assoc, arith}
-use Rattle.std.specs.List.{join_with_byte}
+use Rattle.std.proofs.Common.{◌≡◌, ℕ, zero, suc, ◌+◌, ◌<◌, ◌≤◌, Bool, true, List, [], ◌∷◌, ◌++◌, length, map, take, get_or, codes, refl, sym, ap, ◌∙◌, subst, append_assoc, arith}
+use Rattle.std.specs.List.{join_with_byte, list_all}
+use Rattle.std.proofs.lemmas.Bool.{and_parts, and_from}
 use Rattle.std.proofs.lemmas.List.{take_more, take_all}
 use Rattle.mk_base.specs.Texts.{list_text}
 use Rattle.mk_base.proofs.Lists.{map_append}
@@ -48,6 +49,21 @@ module _ {X : Type 0} (f : X → List ℕ) (base : List ℕ) (xs : List X) (k : 
       let shown : List ℕ = join_with_byte 44 (map f xs) in
       after ∙ ap (λ l. l ++ codes "]") (before ∙ ap (λ (l : List X). base ++ join_with_byte 44 (map f l)) all ∙ ap (λ l. l ++ shown) begun ∙ append_assoc first (codes "[") shown)
       ∙ append_assoc first (codes "[" ++ shown) (codes "]")
+
+-- what each item passes
+module _ {X : Type 0} (p : X → Bool) where
+  all_push : (xs : List X) (x : X) → list_all p xs ≡ true → p x ≡ true → list_all p (xs ++ x ∷ []) ≡ true
+  all_push [] x h q = and_from _ _ q refl
+  all_push (y ∷ ys) x h q = let t = and_parts (p y) (list_all p ys) h in and_from _ _ t.0 (all_push ys x t.1 q)
+
+  -- one more item
+  pub all_more : (xs : List X) (k : ℕ) (x : X) → k < length xs → x ≡ get_or xs k x → list_all p (take k xs) ≡ true → p x ≡ true → list_all p (take (k + 1) xs) ≡ true
+  all_more xs k x low is before here =
+      subst (λ (l : List X). list_all p l ≡ true) (sym (take_more xs k x low ∙ ap (λ (y : X). take k xs ++ y ∷ []) (sym is))) (all_push (take k xs) x before here)
+
+  -- all items
+  pub all_passed : (xs : List X) (k : ℕ) → length xs ≤ k → list_all p (take k xs) ≡ true → list_all p xs ≡ true
+  all_passed xs k past h = subst (λ (l : List X). list_all p l ≡ true) (take_all k xs past) h
 
 -- the parts of a plan behind one another
 pub parts_in_a_row : (out h r s m e c a : List ℕ) → (((out ++ h) ++ r) ++ (s ++ (m ++ e))) ++ (c ++ a) ≡ out ++ ((((((h ++ r) ++ s) ++ m) ++ e) ++ c) ++ a)

@@ -1,2 +1,2 @@
 pub mod Commas
-pub mod Entries
+pub mod Writable

@@ -3,10 +3,10 @@ ghost use Rattle.std.specs.Prelude.{◌≡◌, ◌++◌, ◌∷◌, [], true, le
 ghost use Rattle.std.specs.List.{join_with_byte, list_all};
 ghost use Rattle.std.specs.Fmt.{decimal, signed_decimal};
 ghost use Rattle.mk_message.specs.Written.{is_in_range};
-ghost use Rattle.mk_record.specs.Entries.{entries_of};
-ghost use Rattle.mk_record.specs.Texts.{ask_line, entry_line, got_line};
+ghost use Rattle.mk_saved.specs.Entries.{entries_of};
+ghost use Rattle.mk_saved.specs.Texts.{ask_line, entry_line, got_line};
 ghost use Rattle.mk_plan.specs.Report.{is_step};
-ghost use Rattle.mk_lines.specs.Entries.{is_line, is_writable, item_line, line_in};
+ghost use Rattle.mk_lines.specs.Writable.{is_line, is_writable, item_line, line_in};
 
 use crate::fields::{put, put_signed, put_unsigned};
 use mk_base::{Mem, SimNo, Tier};

@@ -1,8 +1,10 @@
 //! The fields of a record's line, each put behind what was written.
-ghost use Rattle.std.specs.Prelude.{◌≡◌, ◌++◌, map, OnOk};
+ghost use Rattle.std.specs.Prelude.{◌≡◌, ◌++◌, map, true, OnOk};
 ghost use Rattle.std.specs.Fmt.{decimal, signed_decimal};
+ghost use Rattle.std.specs.List.{list_all};
+ghost use Rattle.std.specs.Str.{is_utf8};
 ghost use Rattle.mk_base.specs.Texts.{list_text, quoted};
-ghost use Rattle.mk_record.specs.Texts.{bool_text, initial_text, kind_name, via_text};
+ghost use Rattle.mk_saved.specs.Texts.{bool_text, initial_text, kind_name, via_text};
 ghost use Rattle.mk_lines.specs.Commas.{comma_before};
 
 use itoa::Buffer;
@@ -112,13 +114,23 @@ pub fn put_numbers(out: &mut Vec<u8>, numbers: &[u32]) -> Result<(), Mem>
     put(out, "]")
 }
 
+// A text in quotes, which is UTF-8 by its type.
+pub fn put_quoted(alloc: Global, out: &mut Vec<u8>, text: &Text) -> Result<(), Mem>
+    ensures written { OnOk result (out.new.items ≡ out.old.items ++ quoted text.now) }
+    ensures utf8 { is_utf8 text.now ≡ true }
+{
+    let _ = text.bytes();
+    put_text(alloc, out, text)
+}
+
 pub fn put_texts(alloc: Global, out: &mut Vec<u8>, texts: &[Text]) -> Result<(), Mem>
-    ensures { OnOk result (out.new.items ≡ out.old.items ++ list_text (map quoted texts.now)) }
+    ensures written { OnOk result (out.new.items ≡ out.old.items ++ list_text (map quoted texts.now)) }
+    ensures utf8 { OnOk result (list_all is_utf8 texts.now ≡ true) }
 {
     put(out, "[")?;
     for (place, text) in texts.iter().enumerate() {
         put_comma(out, place)?;
-        put_text(alloc, out, text)?;
+        put_quoted(alloc, out, text)?;
     }
     put(out, "]")
 }

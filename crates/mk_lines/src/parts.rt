@@ -1,22 +1,25 @@
 //! The lines of a plan: its limits, and a line for each of its parts.
-ghost use Rattle.std.specs.Prelude.{◌≡◌, ◌++◌, ◌∷◌, [], codes, map, flat_map, OnOk};
+ghost use Rattle.std.specs.Prelude.{◌≡◌, ◌++◌, ◌∷◌, [], ◌&&◌, true, codes, map, flat_map, OnOk};
 ghost use Rattle.std.specs.Fmt.{decimal, signed_decimal};
-ghost use Rattle.std.specs.List.{join_with_byte};
+ghost use Rattle.std.specs.List.{join_with_byte, list_all};
+ghost use Rattle.std.specs.Str.{is_utf8};
 ghost use Rattle.mk_base.specs.Texts.{list_text, quoted};
-ghost use Rattle.mk_record.specs.Texts.{bool_text, initial_text, kind_name, via_text, run_line, sim_line, model_line, entity_line, conn_line, async_line, plan_text};
+ghost use Rattle.mk_saved.specs.Texts.{bool_text, initial_text, kind_name, via_text, run_line, sim_line, model_line, entity_line, conn_line, async_line, plan_text};
+ghost use Rattle.mk_readback.specs.Again.{conn_is_text, model_is_text};
+ghost use Rattle.mk_recordable.specs.Readable.{HasNames};
 
 use crate::fields::{
-    put, put_bool, put_initial, put_kind, put_numbers, put_signed, put_texts, put_times,
-    put_unsigned, put_via,
+    put, put_bool, put_initial, put_kind, put_numbers, put_quoted, put_signed, put_texts,
+    put_times, put_unsigned, put_via,
 };
 use mk_base::Mem;
-use mk_json::put_text;
 use mk_plan::{AsyncPair, Conn, Plan, PlanEntity, PlanModel, PlanSim};
 use std::alloc::Global;
 
 /// The lines of a plan, its parts in their order.
 pub fn put_plan(alloc: Global, out: &mut Vec<u8>, plan: &Plan) -> Result<(), Mem>
-    ensures { OnOk result (out.new.items ≡ out.old.items ++ plan_text plan.now) }
+    ensures written { OnOk result (out.new.items ≡ out.old.items ++ plan_text plan.now) }
+    ensures utf8 { OnOk result (HasNames plan.now) }
 {
     put(out, "mosaikrun 2\n")?;
     put_run(out, plan)?;
@@ -26,8 +29,11 @@ pub fn put_plan(alloc: Global, out: &mut Vec<u8>, plan: &Plan) -> Result<(), Mem
 
 // The lines of simulators, models and entities.
 fn put_things(alloc: Global, out: &mut Vec<u8>, plan: &Plan) -> Result<(), Mem>
-    ensures { OnOk result (out.new.items ≡ out.old.items ++ (flat_map sim_line plan.now.sims
+    ensures written { OnOk result (out.new.items ≡ out.old.items ++ (flat_map sim_line plan.now.sims
         ++ (flat_map model_line plan.now.models ++ flat_map entity_line plan.now.entities))) }
+    ensures sims { OnOk result (list_all (λ s. is_utf8 s.id) plan.now.sims ≡ true) }
+    ensures models { OnOk result (list_all model_is_text plan.now.models ≡ true) }
+    ensures entities { OnOk result (list_all (λ e. is_utf8 e.eid) plan.now.entities ≡ true) }
 {
     put_sims(alloc, out, plan.sims.as_slice())?;
     put_models(alloc, out, plan.models.as_slice())?;
@@ -36,8 +42,9 @@ fn put_things(alloc: Global, out: &mut Vec<u8>, plan: &Plan) -> Result<(), Mem>
 
 // The lines of connections and asynchronous pairs.
 fn put_ties(alloc: Global, out: &mut Vec<u8>, plan: &Plan) -> Result<(), Mem>
-    ensures { OnOk result (out.new.items ≡ out.old.items
+    ensures written { OnOk result (out.new.items ≡ out.old.items
         ++ (flat_map conn_line plan.now.conns ++ flat_map async_line plan.now.asyncs)) }
+    ensures utf8 { OnOk result (list_all conn_is_text plan.now.conns ≡ true) }
 {
     put_conns(alloc, out, plan.conns.as_slice())?;
     put_asyncs(out, plan.asyncs.as_slice())
@@ -56,7 +63,8 @@ fn put_run(out: &mut Vec<u8>, plan: &Plan) -> Result<(), Mem>
 }
 
 fn put_sims(alloc: Global, out: &mut Vec<u8>, sims: &[PlanSim]) -> Result<(), Mem>
-    ensures { OnOk result (out.new.items ≡ out.old.items ++ flat_map sim_line sims.now) }
+    ensures written { OnOk result (out.new.items ≡ out.old.items ++ flat_map sim_line sims.now) }
+    ensures utf8 { OnOk result (list_all (λ s. is_utf8 s.id) sims.now ≡ true) }
 {
     for sim in sims {
         put_sim(alloc, out, sim)?;
@@ -65,10 +73,11 @@ fn put_sims(alloc: Global, out: &mut Vec<u8>, sims: &[PlanSim]) -> Result<(), Me
 }
 
 fn put_sim(alloc: Global, out: &mut Vec<u8>, sim: &PlanSim) -> Result<(), Mem>
-    ensures { OnOk result (out.new.items ≡ out.old.items ++ sim_line sim.now) }
+    ensures written { OnOk result (out.new.items ≡ out.old.items ++ sim_line sim.now) }
+    ensures utf8 { OnOk result (is_utf8 sim.now.id ≡ true) }
 {
     put(out, "sim [")?;
-    put_text(alloc, out, &sim.id)?;
+    put_quoted(alloc, out, &sim.id)?;
     put(out, ",")?;
     put_kind(out, sim.kind)?;
     put_numbers_of_sim(out, sim)?;
@@ -89,7 +98,8 @@ fn put_numbers_of_sim(out: &mut Vec<u8>, sim: &PlanSim) -> Result<(), Mem>
 }
 
 fn put_models(alloc: Global, out: &mut Vec<u8>, models: &[PlanModel]) -> Result<(), Mem>
-    ensures { OnOk result (out.new.items ≡ out.old.items ++ flat_map model_line models.now) }
+    ensures written { OnOk result (out.new.items ≡ out.old.items ++ flat_map model_line models.now) }
+    ensures utf8 { OnOk result (list_all model_is_text models.now ≡ true) }
 {
     for model in models {
         put_model(alloc, out, model)?;
@@ -98,12 +108,13 @@ fn put_models(alloc: Global, out: &mut Vec<u8>, models: &[PlanModel]) -> Result<
 }
 
 fn put_model(alloc: Global, out: &mut Vec<u8>, model: &PlanModel) -> Result<(), Mem>
-    ensures { OnOk result (out.new.items ≡ out.old.items ++ model_line model.now) }
+    ensures written { OnOk result (out.new.items ≡ out.old.items ++ model_line model.now) }
+    ensures utf8 { OnOk result (model_is_text model.now ≡ true) }
 {
     put(out, "model [")?;
     put_unsigned(out, model.sim.0 as u64)?;
     put(out, ",")?;
-    put_text(alloc, out, &model.name)?;
+    put_quoted(alloc, out, &model.name)?;
     put(out, ",")?;
     put_attributes(alloc, out, model)?;
     put(out, "]\n")
@@ -111,8 +122,9 @@ fn put_model(alloc: Global, out: &mut Vec<u8>, model: &PlanModel) -> Result<(), 
 
 // The attributes of a model, and whether it takes any input.
 fn put_attributes(alloc: Global, out: &mut Vec<u8>, model: &PlanModel) -> Result<(), Mem>
-    ensures { OnOk result (out.new.items ≡ out.old.items ++ join_with_byte 44 (
+    ensures written { OnOk result (out.new.items ≡ out.old.items ++ join_with_byte 44 (
         list_text (map quoted model.now.attrs) ∷ bool_text model.now.any_inputs ∷ [])) }
+    ensures utf8 { OnOk result (list_all is_utf8 model.now.attrs ≡ true) }
 {
     put_texts(alloc, out, model.attrs.as_slice())?;
     put(out, ",")?;
@@ -120,7 +132,8 @@ fn put_attributes(alloc: Global, out: &mut Vec<u8>, model: &PlanModel) -> Result
 }
 
 fn put_entities(alloc: Global, out: &mut Vec<u8>, entities: &[PlanEntity]) -> Result<(), Mem>
-    ensures { OnOk result (out.new.items ≡ out.old.items ++ flat_map entity_line entities.now) }
+    ensures written { OnOk result (out.new.items ≡ out.old.items ++ flat_map entity_line entities.now) }
+    ensures utf8 { OnOk result (list_all (λ e. is_utf8 e.eid) entities.now ≡ true) }
 {
     for entity in entities {
         put_entity(alloc, out, entity)?;
@@ -129,19 +142,21 @@ fn put_entities(alloc: Global, out: &mut Vec<u8>, entities: &[PlanEntity]) -> Re
 }
 
 fn put_entity(alloc: Global, out: &mut Vec<u8>, entity: &PlanEntity) -> Result<(), Mem>
-    ensures { OnOk result (out.new.items ≡ out.old.items ++ entity_line entity.now) }
+    ensures written { OnOk result (out.new.items ≡ out.old.items ++ entity_line entity.now) }
+    ensures utf8 { OnOk result (is_utf8 entity.now.eid ≡ true) }
 {
     put(out, "entity [")?;
     put_unsigned(out, entity.model as u64)?;
     put(out, ",")?;
-    put_text(alloc, out, &entity.eid)?;
+    put_quoted(alloc, out, &entity.eid)?;
     put(out, ",")?;
     put_numbers(out, entity.related.as_slice())?;
     put(out, "]\n")
 }
 
 fn put_conns(alloc: Global, out: &mut Vec<u8>, conns: &[Conn]) -> Result<(), Mem>
-    ensures { OnOk result (out.new.items ≡ out.old.items ++ flat_map conn_line conns.now) }
+    ensures written { OnOk result (out.new.items ≡ out.old.items ++ flat_map conn_line conns.now) }
+    ensures utf8 { OnOk result (list_all conn_is_text conns.now ≡ true) }
 {
     for conn in conns {
         put_conn(alloc, out, conn)?;
@@ -150,7 +165,8 @@ fn put_conns(alloc: Global, out: &mut Vec<u8>, conns: &[Conn]) -> Result<(), Mem
 }
 
 fn put_conn(alloc: Global, out: &mut Vec<u8>, conn: &Conn) -> Result<(), Mem>
-    ensures { OnOk result (out.new.items ≡ out.old.items ++ conn_line conn.now) }
+    ensures written { OnOk result (out.new.items ≡ out.old.items ++ conn_line conn.now) }
+    ensures utf8 { OnOk result (conn_is_text conn.now ≡ true) }
 {
     put(out, "conn [")?;
     put_ends(alloc, out, conn)?;
@@ -161,17 +177,18 @@ fn put_conn(alloc: Global, out: &mut Vec<u8>, conn: &Conn) -> Result<(), Mem>
 
 // Where a connection leads from, and where to.
 fn put_ends(alloc: Global, out: &mut Vec<u8>, conn: &Conn) -> Result<(), Mem>
-    ensures { OnOk result (out.new.items ≡ out.old.items ++ join_with_byte 44 (
+    ensures written { OnOk result (out.new.items ≡ out.old.items ++ join_with_byte 44 (
         decimal conn.now.from ∷ quoted conn.now.from_attr
         ∷ decimal conn.now.to ∷ quoted conn.now.to_attr ∷ [])) }
+    ensures utf8 { OnOk result (conn_is_text conn.now ≡ true) }
 {
     put_unsigned(out, conn.from as u64)?;
     put(out, ",")?;
-    put_text(alloc, out, &conn.from_attr)?;
+    put_quoted(alloc, out, &conn.from_attr)?;
     put(out, ",")?;
     put_unsigned(out, conn.to as u64)?;
     put(out, ",")?;
-    put_text(alloc, out, &conn.to_attr)?;
+    put_quoted(alloc, out, &conn.to_attr)?;
     Ok(())
 }
 

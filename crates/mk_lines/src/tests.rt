@@ -1,13 +1,13 @@
 ghost use Rattle.std.specs.Prelude.{◌≡◌, ◌++◌, ◌∷◌, [], true, IfOk, OnOk};
 ghost use Rattle.std.specs.List.{list_all};
-ghost use Rattle.mk_lines.specs.Entries.{is_writable};
+ghost use Rattle.mk_lines.specs.Writable.{is_writable};
 
 use crate::write_record;
 use mk_base::{Datum, List, Mem, SimKind, SimNo, Text, Tier, Via};
 use mk_json::{datum, read_json};
 use mk_message::read;
 use mk_plan::{AsyncPair, Conn, Entry, Item, Journal, Plan, PlanEntity, PlanModel, PlanSim};
-use mk_record::read_record;
+use mk_saved::read_record;
 use std::alloc::Global;
 use std::test::Fail;
 

@@ -15,18 +15,18 @@ use Rattle.mk_record.specs.Reading.{reading, Said}
 use Rattle.mk_record.specs.Steps.{IsKnown}
 use Rattle.mk_record.specs.Texts.{record_text}
 use Rattle.mk_record.specs.Seen.{came}
-use Rattle.mk_record.specs.declared.saved.Arrival as saved
-use Rattle.mk_record.specs.declared.saved.Asked.{Asked}
-use Rattle.mk_lines.specs.Entries.{is_writable}
-use Rattle.mk_readback.specs.Again.{steps_of}
+use Rattle.mk_record.specs.Arrival as saved
+use Rattle.mk_record.specs.Asked.{Asked}
+use Rattle.mk_record.specs.Writable.{is_writable}
+use Rattle.mk_record.specs.Again.{steps_of}
 use Rattle.mk_readback.proofs.Whole.{read_again}
 use Rattle.mk_recordable.proofs.Whole.{recordable}
 use Rattle.mk_sched.specs.declared.faults.CoreFault.{CoreFault}
 use Rattle.mk_sched.specs.declared.faults.CoreFault.TheVariants as core
-use Rattle.mk_replay.specs.Replays.{EndsBy, IsEndOf, IsLeft, end_with}
-use Rattle.mk_replay.specs.Orders.{IsReplayBy}
-use Rattle.mk_replay.specs.declared.replaying.ReplayEnd.{ReplayEnd}
-use Rattle.mk_replay.specs.declared.replaying.ReplayEnd.TheVariants.{Done, Core, Short, Other}
+use Rattle.mk_record.specs.Replays.{EndsBy, IsEndOf, IsLeft, end_with}
+use Rattle.mk_record.specs.Orders.{IsReplayBy}
+use Rattle.mk_record.specs.ReplayEnd.{ReplayEnd}
+use Rattle.mk_record.specs.ReplayEnd.TheVariants.{Done, Core, Short, Other}
 use Rattle.mk_replayed.specs.Reports.{IsSaidOf, stop_of}
 use Rattle.mk_endings.specs.declared.ending.Ending.{Ending}
 use Rattle.mk_endings.specs.declared.ending.Ending.TheVariants.{Differs}

@@ -5,10 +5,10 @@ use Rattle.mk_plan.specs.declared.Entry.{Entry}
 use Rattle.mk_plan.specs.Journals.{Arrival, arrivals}
 use Rattle.mk_record.specs.Reading.{reading, Said, Faulty}
 use Rattle.mk_record.specs.Texts.{record_text}
-use Rattle.mk_record.specs.declared.saved.Asked.{Asked}
-use Rattle.mk_replay.specs.Replays.{IsLeft}
-use Rattle.mk_replay.specs.declared.replaying.ReplayEnd.{ReplayEnd}
-use Rattle.mk_replay.specs.declared.replaying.ReplayEnd.TheVariants as ends
+use Rattle.mk_record.specs.Asked.{Asked}
+use Rattle.mk_record.specs.Replays.{IsLeft}
+use Rattle.mk_record.specs.ReplayEnd.{ReplayEnd}
+use Rattle.mk_record.specs.ReplayEnd.TheVariants as ends
 use Rattle.mk_replayed.specs.Reports.{IsSaidOf}
 use Rattle.mk_replayed.proofs.OneOutcome.{same_plan, same_arrivals, same_end}
 use Rattle.mk_endings.specs.declared.ending.Ending.{Ending}

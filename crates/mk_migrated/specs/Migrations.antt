@@ -7,12 +7,12 @@ use Rattle.mk_plan.specs.Plans.{IsValidPlan}
 use Rattle.mk_plan.specs.Journals.{Arrival, arrivals}
 use Rattle.mk_record.specs.Reading.{reading, Said, Faulty}
 use Rattle.mk_record.specs.Texts.{record_text}
-use Rattle.mk_record.specs.declared.saved.Asked.{Asked}
-use Rattle.mk_readback.specs.Again.{steps_of}
-use Rattle.mk_replay.specs.Replays.{IsLeft}
-use Rattle.mk_replay.specs.Orders.{IsReplayBy}
-use Rattle.mk_replay.specs.declared.replaying.ReplayEnd.{ReplayEnd}
-use Rattle.mk_replay.specs.declared.replaying.ReplayEnd.TheVariants as ends
+use Rattle.mk_record.specs.Asked.{Asked}
+use Rattle.mk_record.specs.Again.{steps_of}
+use Rattle.mk_record.specs.Replays.{IsLeft}
+use Rattle.mk_record.specs.Orders.{IsReplayBy}
+use Rattle.mk_record.specs.ReplayEnd.{ReplayEnd}
+use Rattle.mk_record.specs.ReplayEnd.TheVariants as ends
 use Rattle.mk_replayed.specs.Reports.{IsSaidOf}
 use Rattle.mk_endings.specs.declared.ending.Ending.{Ending}
 use Rattle.mk_endings.specs.declared.ending.Ending.TheVariants.{Usage, Missing, TooLong, Scenario, Cycle, Launch, Setup, Record, Wrong, Failed, LoopLimit, Link, Short, Differs, Fleet, Folder, Output, Entries, LongItem, Mem}

@@ -3,17 +3,15 @@ ghost use Rattle.std.specs.Prelude.{◌≡◌, ◌==◌, ℕ, List, Result, true
 ghost use Rattle.std.specs.List.{list_all};
 ghost use Rattle.mk_plan.specs.Journals.{arrivals};
 ghost use Rattle.mk_record.specs.Texts.{record_text};
-ghost use Rattle.mk_lines.specs.Entries.{is_writable};
+ghost use Rattle.mk_record.specs.Writable.{is_writable};
 ghost use Rattle.mk_endings.specs.declared.ending.Ending.{Ending};
 ghost use Rattle.mk_endings.specs.declared.ending.Ending.TheVariants as ends;
 ghost use Rattle.mk_migrated.specs.Migrations.{IsMigration, IsRecordOf, Unmigrated, is_message};
 
 use mk_base::Mem;
 use mk_endings::Ending;
-use mk_lines::write_record;
 use mk_plan::{Entry, Journal};
-use mk_record::{RecordFault, read_record};
-use mk_replay::{ReplayEnd, Replayed, replay};
+use mk_record::{RecordFault, ReplayEnd, Replayed, read_record, replay, write_record};
 use mk_replayed::stopped;
 use std::alloc::Global;
 

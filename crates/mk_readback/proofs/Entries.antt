@@ -31,13 +31,13 @@ use Rattle.mk_message.specs.Written.{message_tree, message_text, is_in_range, is
 use Rattle.mk_message.proofs.ReadBack.{message_of-written, range-framed, range-request}
 use Rattle.mk_valid.specs.Tests.{first_bad}
 use Rattle.mk_valid.proofs.Meaning.{is_same}
-use Rattle.mk_record.specs.declared.kinds.LineKind.TheVariants as kinds
-use Rattle.mk_record.specs.declared.saved.Asked.{Asked}
-use Rattle.mk_record.specs.Entries.{RecordEntry, StepOf, MessageOf, entries_of, entry_of}
-use Rattle.mk_record.specs.Fields.{misformed, found, limited, is_between, is_below}
-use Rattle.mk_record.specs.Lines.{arrival_in, asked_in, step_fits}
-use Rattle.mk_record.specs.Reading.{State, Step, Going, Ended, Bad, line_step, kind_step, part_step, arrived, asked, end_step, is_number, miscounted, may_stand, items_read}
-use Rattle.mk_record.specs.Texts.{got_line, ask_line, entry_line}
+use Rattle.mk_saved.specs.declared.kinds.LineKind.TheVariants as kinds
+use Rattle.mk_saved.specs.declared.saved.Asked.{Asked}
+use Rattle.mk_saved.specs.Entries.{RecordEntry, StepOf, MessageOf, entries_of, entry_of}
+use Rattle.mk_saved.specs.Fields.{misformed, found, limited, is_between, is_below}
+use Rattle.mk_saved.specs.Lines.{arrival_in, asked_in, step_fits}
+use Rattle.mk_saved.specs.Reading.{State, Step, Going, Ended, Bad, line_step, kind_step, part_step, arrived, asked, end_step, is_number, miscounted, may_stand, items_read}
+use Rattle.mk_saved.specs.Texts.{got_line, ask_line, entry_line}
 use Rattle.mk_readback.specs.Again.{steps_after, is_sayable, entry_fits}
 use Rattle.mk_readback.proofs.Clean.{all_clean, clean-append, clean-decimal}
 use Rattle.mk_readback.proofs.Fields.{Field, deeper, whole_field, natural_field, whole_of, read_items, cons_same, signed_is, decimal_is}

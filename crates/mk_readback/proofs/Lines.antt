@@ -26,15 +26,15 @@ use Rattle.mk_plan.specs.Journals.{Arrival}
 use Rattle.mk_json.proofs.Layers.{folded-Bool}
 use Rattle.mk_valid.specs.Tests as tests
 use Rattle.mk_valid.specs.Tests.{first_bad}
-use Rattle.mk_record.specs.declared.kinds.LineKind.{LineKind}
-use Rattle.mk_record.specs.declared.kinds.LineKind.TheVariants as kinds
-use Rattle.mk_record.specs.declared.saved.Asked.{Asked}
-use Rattle.mk_record.specs.Fields.{misformed, found, is_between, is_below, kind_named, way_in, via_of, initial_in, wholes_in, texts_in}
-use Rattle.mk_record.specs.Lines as lines
-use Rattle.mk_record.specs.Lines.{with_run, with_sim, with_model, with_entity, with_conn, with_async}
-use Rattle.mk_record.specs.Reading.{State, Step, Going, Ended, Bad, invalid, is_feed, line_step, kind_step, part_step, plan_step, planned, with_part, place, may_stand, ends_plan, items_read, reading_from, start}
-use Rattle.mk_record.specs.Texts.{kind_name, via_text, bool_text, initial_text, run_line, sim_line, model_line, entity_line, conn_line, async_line}
-use Rattle.mk_record.proofs.Splitting.{reads_on}
+use Rattle.mk_saved.specs.declared.kinds.LineKind.{LineKind}
+use Rattle.mk_saved.specs.declared.kinds.LineKind.TheVariants as kinds
+use Rattle.mk_saved.specs.declared.saved.Asked.{Asked}
+use Rattle.mk_saved.specs.Fields.{misformed, found, is_between, is_below, kind_named, way_in, via_of, initial_in, wholes_in, texts_in}
+use Rattle.mk_saved.specs.Lines as lines
+use Rattle.mk_saved.specs.Lines.{with_run, with_sim, with_model, with_entity, with_conn, with_async}
+use Rattle.mk_saved.specs.Reading.{State, Step, Going, Ended, Bad, invalid, is_feed, line_step, kind_step, part_step, plan_step, planned, with_part, place, may_stand, ends_plan, items_read, reading_from, start}
+use Rattle.mk_saved.specs.Texts.{kind_name, via_text, bool_text, initial_text, run_line, sim_line, model_line, entity_line, conn_line, async_line}
+use Rattle.mk_saved.proofs.Splitting.{reads_on}
 use Rattle.mk_readback.specs.Again.{model_is_text, conn_is_text, IsDatumText}
 use Rattle.mk_readback.proofs.Clean.{clean, all_clean, clean-append, clean-text}
 use Rattle.mk_readback.proofs.Fields.{Field, deeper, text_field, whole_field, bool_field, list_field, natural_field, text_fields, items_of_list, whole_of, text_of_text, text_of_list, bool_of, read_items, cons_same, quoted_is, signed_is, decimal_is, list_is, wholes, naturals, texts, signed_each, decimal_each, quoted_each, wholes_there, naturals_there, texts_there, same_naturals}

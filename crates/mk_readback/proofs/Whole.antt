@@ -18,11 +18,11 @@ use Rattle.mk_plan.specs.Journals.{Arrival, arrivals}
 use Rattle.mk_valid.specs.Tests as tests
 use Rattle.mk_valid.specs.Tests.{first_bad}
 use Rattle.mk_valid.proofs.Meaning.{is_valid, from_well_formed}
-use Rattle.mk_record.specs.declared.saved.Asked.{Asked}
-use Rattle.mk_record.specs.Entries.{RecordEntry, entries_of}
-use Rattle.mk_record.specs.Reading.{State, Said, is_feed, reading, reading_from, start}
-use Rattle.mk_record.specs.Texts.{record_text, plan_text, run_line, sim_line, model_line, entity_line, conn_line, async_line, entry_line}
-use Rattle.mk_record.proofs.Splitting.{reads_end}
+use Rattle.mk_saved.specs.declared.saved.Asked.{Asked}
+use Rattle.mk_saved.specs.Entries.{RecordEntry, entries_of}
+use Rattle.mk_saved.specs.Reading.{State, Said, is_feed, reading, reading_from, start}
+use Rattle.mk_saved.specs.Texts.{record_text, plan_text, run_line, sim_line, model_line, entity_line, conn_line, async_line, entry_line}
+use Rattle.mk_saved.proofs.Splitting.{reads_end}
 use Rattle.mk_readback.specs.Again.{IsRecordable, IsDatumText, model_is_text, conn_is_text, steps_of, steps_after}
 use Rattle.mk_readback.proofs.Clean.{clean-append, clean-decimal}
 use Rattle.mk_readback.proofs.Lines.{state, Reads, joined, cut_line, a_line, begun, no_plan, run_read, SimFits, with_sims, sim_read, ModelFits, with_models, model_read, EntityFits, with_entities, entity_read, ConnFits, with_conns, conn_read, PairFits, with_asyncs, async_read, reads_parts, stands}
@@ -193,9 +193,8 @@ read_again P J ok =
     let number : List ℕ = decimal (length es) in
     let end : List ℕ = codes "end " ++ number in
     let last = whole 1 ((end ++ codes "\n") ++ []) in
-    let low : length es < 2 ^ 64 = (let h = ok.count in omega arith) in
     ap (λ l. reading_from start 1 (slice_split is_feed l)) (behind text (codes "end ") number (codes "\n"))
     ∙ last.1
-    ∙ ap (reading_from U last.0) (cut_line end [] (clean-append (codes "end ") number refl (clean-decimal (length es) low)))
+    ∙ ap (reading_from U last.0) (cut_line end [] (clean-append (codes "end ") number refl (clean-decimal (length es) ok.count)))
     ∙ reads_end U last.0 end [] (end_read P valid entries.0 (said es) (steps_after 0 es) (length es) entries.1 entries.2 (counted 0 es)) refl
     ∙ ap (λ (A : List Arrival). Said P A (Some (steps_of J))) (sym (arrivals_said J))

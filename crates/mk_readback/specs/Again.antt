@@ -1,5 +1,5 @@
 -- A plan and a journal whose record is read again as they are, and what of the journal is read.
-use Rattle.std.specs.Prelude.{◌≡◌, ℕ, ◌+◌, ◌≤◌, Bool, true, ◌&&◌, nat_le, nat_lt, pos, List, [], ◌∷◌, length, IfSome}
+use Rattle.std.specs.Prelude.{◌≡◌, ℕ, ◌+◌, ◌^◌, ◌<◌, ◌≤◌, Bool, true, ◌&&◌, nat_le, nat_lt, pos, List, [], ◌∷◌, length, IfSome}
 use Rattle.std.specs.List.{list_all}
 use Rattle.std.specs.Str.{is_utf8}
 use Rattle.mk_base.specs.declared.json.Json.{Json}
@@ -17,9 +17,9 @@ use Rattle.mk_plan.specs.declared.Message.{Message}
 use Rattle.mk_plan.specs.Plans.{IsValidPlan, sim_count}
 use Rattle.mk_json.specs.Proper.{is_proper}
 use Rattle.mk_message.specs.Written.{is_in_range, is_readable, message_tree}
-use Rattle.mk_record.specs.Entries.{RecordEntry, StepOf, MessageOf, entries_of}
-use Rattle.mk_record.specs.Lines.{step_fits}
-use Rattle.mk_record.specs.declared.saved.Asked.{Asked}
+use Rattle.mk_saved.specs.Entries.{RecordEntry, StepOf, MessageOf, entries_of}
+use Rattle.mk_saved.specs.Lines.{step_fits}
+use Rattle.mk_saved.specs.declared.saved.Asked.{Asked}
 
 -- the steps among these entries of a record, in order, each with the number of messages before it, n of which came earlier
 abbrev pub steps_after : ℕ → List RecordEntry → List Asked
@@ -68,4 +68,4 @@ pub record IsRecordable (P : Plan) (J : List Entry) : Type 0 where
   pub texts : HasTexts P
   pub models : length P.models ≤ 2000000
   pub entries : list_all (entry_fits P) (entries_of J) ≡ true
-  pub count : length (entries_of J) ≤ 20000000
+  pub count : length (entries_of J) < 2 ^ 64

@@ -3,8 +3,8 @@ ghost use Rattle.std.specs.Prelude.{◌≡◌, List, Some};
 ghost use Rattle.mk_plan.specs.declared.Plan.{Plan};
 ghost use Rattle.mk_plan.specs.declared.Entry.{Entry};
 ghost use Rattle.mk_plan.specs.Journals.{arrivals};
-ghost use Rattle.mk_record.specs.Reading.{reading, Said};
-ghost use Rattle.mk_record.specs.Texts.{record_text};
+ghost use Rattle.mk_saved.specs.Reading.{reading, Said};
+ghost use Rattle.mk_saved.specs.Texts.{record_text};
 ghost use Rattle.mk_readback.specs.Again.{IsRecordable, steps_of};
 
 /// The record of a plan and of a journal, read again, gives the plan, the messages of the journal in order, and its Steps with

@@ -1,17 +1,26 @@
-//! Records: the plan of a run, the messages that came in it, and the steps that were asked for, as a text of lines.
+//! Records, whole: what a record says is read, written, compared with a journal and replayed, and the texts of a journal are
+//! written. The form of records, reports and summaries is in `docs/formats.md`, "Record", "Report" and "Summary". The work is
+//! done in the crates below, one for each of these calls.
+//!
+//! | Call | Gives | Else |
+//! |---|---|---|
+//! | `read_record` | what a record's bytes say, in version 1 or 2: a `Saved` | `RecordFault`: the line and the number of its first fault, or want of memory |
+//! | `write_record` | the bytes of a record, version 2, which read again say the same | want of memory |
+//! | `first_other` | the first entry of a record that isn't the journal's, if there is one | |
+//! | `replay` | a `Replayed`: how the replay of a record ends, its plan and its journal | want of memory |
+//! | `write_report` | the report of a journal | want of memory |
+//! | `write_summary` | its summary | want of memory |
 #![tactic(auto)]
 
-mod faults;
-mod fields;
-mod kinds;
-mod lines;
-mod parts;
-mod read;
-mod saved;
+// Records read.
+pub use mk_saved::{Arrival, Asked, RecordFault, Saved, read_record};
 
-pub use faults::RecordFault;
-pub use read::read_record;
-pub use saved::{Arrival, Asked, Saved};
+// Records written.
+pub use mk_lines::write_record;
 
-#[cfg(test)]
-mod tests;
+// A record and a journal.
+pub use mk_differs::first_other;
+pub use mk_replay::{ReplayEnd, Replayed, replay, replay_is_one};
+
+// The texts of a journal.
+pub use mk_report::{write_report, write_summary};

@@ -1,4 +1,5 @@
 mod Counting
+pub mod Heard
 mod Messages
 mod Steps
 mod Texts

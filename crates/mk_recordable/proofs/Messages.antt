@@ -116,7 +116,7 @@ content_is kind.Request id t m low e = request_is id t m low e
 content_is kind.Success id t m low e = subst (IsOf (framed kind.Success id t)) (some_same e) (record { is = refl; readable = low })
 content_is kind.Failure id t m low e = failure_is id t m low e
 
-passed : {A : Type 0} (n : ℕ) (o : Option A) (next : A → Result Message ℕ) (m : Message) → tested n o next ≡ Ok m → (x : A) × (o ≡ Some x) × (next x ≡ Ok m)
+pub passed : {A : Type 0} (n : ℕ) (o : Option A) (next : A → Result Message ℕ) (m : Message) → tested n o next ≡ Ok m → (x : A) × (o ≡ Some x) × (next x ≡ Ok m)
 passed n None next m e = cc
 passed n (Some x) next m e = (x, refl, e)
 

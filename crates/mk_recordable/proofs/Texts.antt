@@ -22,12 +22,12 @@ use Rattle.mk_json.specs.Proper.{is_proper}
 use Rattle.mk_json.proofs.LevelTests.{range-List, proper-List}
 use Rattle.mk_message.specs.Messages.{message_in}
 use Rattle.mk_valid.specs.Tests.{first_bad}
-use Rattle.mk_record.specs.declared.kinds.LineKind.{LineKind}
-use Rattle.mk_record.specs.declared.kinds.LineKind.TheVariants.{Head, Run, Sim, Model, Entity, Conn as ConnLine, Async, Ask, Got, End}
-use Rattle.mk_record.specs.declared.saved.Asked.{Asked}
-use Rattle.mk_record.specs.Fields.{misformed, out_of_limits, found, limited, is_below, wholes_in, texts_in, initial_in, kind_named, way_in, via_of}
-use Rattle.mk_record.specs.Lines.{with_run, run_fits, with_sim, sim_fits, with_model, with_entity, entity_fits, with_way, with_conn, with_async, arrival_in, asked_in}
-use Rattle.mk_record.specs.Reading.{State, start, Step, Going, Ended, Bad, Reading, Said, Faulty, planned, arrived, asked, items_read, end_step, with_part, is_second, steps_in, plan_step, head_step, part_step, kind_step, known_step, line_step, kind_of_word, word_of, rest_of, ends_plan, may_stand, invalid, closed, overlong, reading_from, reading, is_feed, is_number, miscounted}
+use Rattle.mk_saved.specs.declared.kinds.LineKind.{LineKind}
+use Rattle.mk_saved.specs.declared.kinds.LineKind.TheVariants.{Head, Run, Sim, Model, Entity, Conn as ConnLine, Async, Ask, Got, End}
+use Rattle.mk_saved.specs.declared.saved.Asked.{Asked}
+use Rattle.mk_saved.specs.Fields.{misformed, out_of_limits, found, limited, is_below, wholes_in, texts_in, initial_in, kind_named, way_in, via_of}
+use Rattle.mk_saved.specs.Lines.{with_run, run_fits, with_sim, sim_fits, with_model, with_entity, entity_fits, with_way, with_conn, with_async, arrival_in, asked_in}
+use Rattle.mk_saved.specs.Reading.{State, start, Step, Going, Ended, Bad, Reading, Said, Faulty, planned, arrived, asked, items_read, end_step, with_part, is_second, steps_in, plan_step, head_step, part_step, kind_step, known_step, line_step, kind_of_word, word_of, rest_of, ends_plan, may_stand, invalid, closed, overlong, reading_from, reading, is_feed, is_number, miscounted}
 use Rattle.std.specs.Fmt.{decimal}
 use Rattle.mk_readback.specs.Again.{HasTexts, IsDatumText, is_sayable, model_is_text, conn_is_text}
 use Rattle.mk_recordable.proofs.Trees.{IsSoundField, read_sound, items_are, text_utf8, texts_utf8}

@@ -16,10 +16,10 @@ use Rattle.mk_plan.specs.Orderly.{IsEager}
 use Rattle.mk_base.specs.declared.tier.Tier.{Tier}
 use Rattle.mk_valid.specs.Tests as tests
 use Rattle.mk_valid.proofs.Meaning.{from_well_formed}
-use Rattle.mk_record.specs.declared.saved.Asked.{Asked}
-use Rattle.mk_record.specs.Entries.{RecordEntry, StepOf, MessageOf, entries_of}
-use Rattle.mk_record.specs.Lines.{step_fits}
-use Rattle.mk_record.specs.Reading.{reading, Said}
+use Rattle.mk_saved.specs.declared.saved.Asked.{Asked}
+use Rattle.mk_saved.specs.Entries.{RecordEntry, StepOf, MessageOf, entries_of}
+use Rattle.mk_saved.specs.Lines.{step_fits}
+use Rattle.mk_saved.specs.Reading.{reading, Said}
 use Rattle.mk_readback.specs.Again.{IsRecordable, entry_fits}
 use Rattle.mk_recordable.proofs.Counting.{all_counted}
 use Rattle.mk_recordable.proofs.Steps.{StepFits, EntryFits, steps_fit}
@@ -63,7 +63,7 @@ models_of_sims P valid =
     let e = and_parts models entities d.0 in
     e.0
 
-models_few : (P : Plan) → IsValidPlan P → length P.models ≤ 2000000
+pub models_few : (P : Plan) → IsValidPlan P → length P.models ≤ 2000000
 models_few P valid =
     let few = valid.well_formed.limits.sims.1 in
     let all = all_counted (λ (m : PlanModel). m.sim.0) (length P.sims) P.models (models_of_sims P valid) (λ i. subst (λ (n : ℕ). n ≤ 10000) (sym (length-filter (λ (m : PlanModel). m.sim.0 == i) P.models)) (valid.well_formed.limits.models i)) in

@@ -5,8 +5,8 @@ ghost use Rattle.mk_plan.specs.declared.Entry.{Entry};
 ghost use Rattle.mk_plan.specs.Plans.{IsValidPlan};
 ghost use Rattle.mk_plan.specs.Journals.{Arrival, arrivals};
 ghost use Rattle.mk_plan.specs.Orderly.{IsEager};
-ghost use Rattle.mk_record.specs.Reading.{reading, Said};
-ghost use Rattle.mk_record.specs.declared.saved.Asked.{Asked};
+ghost use Rattle.mk_saved.specs.Reading.{reading, Said};
+ghost use Rattle.mk_saved.specs.declared.saved.Asked.{Asked};
 ghost use Rattle.mk_readback.specs.Again.{IsRecordable};
 
 /// Where bytes are a record of a valid plan, an eager journal of that plan in which the record's messages came, and no others,

@@ -4,8 +4,8 @@ use Rattle.std.proofs.lemmas.List.{take_more}
 use Rattle.mk_base.specs.declared.SimNo.{SimNo}
 use Rattle.mk_base.specs.declared.tier.Tier.{Tier}
 use Rattle.mk_base.specs.Lists.{BeginsWith}
-use Rattle.mk_record.specs.declared.saved.Arrival as saved
-use Rattle.mk_record.specs.Seen.{came}
+use Rattle.mk_saved.specs.declared.saved.Arrival as saved
+use Rattle.mk_saved.specs.Seen.{came}
 use Rattle.mk_base.proofs.Lists.{append_nil, map_append, none_some, get_is}
 use Rattle.mk_plan.specs.declared.Plan.{Plan}
 use Rattle.mk_plan.specs.declared.PlanSim.{PlanSim}

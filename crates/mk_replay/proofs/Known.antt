@@ -4,9 +4,9 @@ use Rattle.mk_plan.specs.declared.Plan.{Plan}
 use Rattle.mk_plan.specs.declared.Message.{Message}
 use Rattle.mk_plan.specs.declared.Message.TheVariants.{Ask, Success, Failure}
 use Rattle.mk_message.specs.Written.{is_in_range}
-use Rattle.mk_record.specs.declared.saved.Arrival.{Arrival}
-use Rattle.mk_record.specs.Seen.{came}
-use Rattle.mk_record.specs.Steps.{IsKnown}
+use Rattle.mk_saved.specs.declared.saved.Arrival.{Arrival}
+use Rattle.mk_saved.specs.Seen.{came}
+use Rattle.mk_saved.specs.Steps.{IsKnown}
 use Rattle.mk_sched.specs.Cores.{is_message_in_range}
 use Rattle.mk_replay.specs.Loops.{CanArrive}
 

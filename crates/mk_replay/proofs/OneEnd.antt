@@ -15,7 +15,7 @@ use Rattle.mk_confluence.proofs.Settled.{IsAtEnd, faulty, full, waits_is_end, do
 use Rattle.mk_sched.specs.declared.faults.CoreFault.{CoreFault}
 use Rattle.mk_sched.specs.declared.faults.CoreFault.TheVariants.{Wrong, Failed, LoopLimit, TooLong}
 use Rattle.mk_sched.specs.Answers.{fault_in, SomeReady}
-use Rattle.mk_record.specs.declared.saved.Asked.{Asked}
+use Rattle.mk_saved.specs.declared.saved.Asked.{Asked}
 use Rattle.mk_differs.specs.Differences.{IsOther}
 use Rattle.mk_differs.proofs.Places.{one_other}
 use Rattle.mk_replay.specs.declared.replaying.ReplayEnd.{ReplayEnd}

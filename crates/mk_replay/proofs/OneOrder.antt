@@ -23,7 +23,7 @@ use Rattle.mk_replay.specs.declared.replaying.ReplayEnd.TheVariants.{Done, Core,
 use Rattle.mk_replay.specs.Replays.{EndsBy, IsLeft, messages_from}
 use Rattle.mk_replay.specs.Orders.{IsReplayBy, IsReplayInOrder, SameMessages, next_sim}
 use Rattle.mk_sched.specs.Answers.{SomeReady}
-use Rattle.mk_record.specs.declared.saved.Asked.{Asked}
+use Rattle.mk_saved.specs.declared.saved.Asked.{Asked}
 use Rattle.mk_replay.proofs.Drawing.{compared}
 use Rattle.mk_replay.proofs.OneEnd.{at_end, one_end, one_record}
 use Rattle.mk_replay.proofs.Waiting.{messages_append, front_of, one_here}

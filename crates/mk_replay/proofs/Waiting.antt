@@ -8,8 +8,8 @@ use Rattle.mk_base.specs.Lists.{IsIn}
 use Rattle.mk_base.proofs.Lists.{some_same, none_some, get_is, below_get, append_nil, filter_append, map_append, length_set, set_here, set_else, all_in, in_back}
 use Rattle.mk_plan.specs.declared.Message.{Message}
 use Rattle.mk_plan.specs.Journals.{Arrival}
-use Rattle.mk_record.specs.declared.saved.Arrival as saved
-use Rattle.mk_record.specs.Seen.{came}
+use Rattle.mk_saved.specs.declared.saved.Arrival as saved
+use Rattle.mk_saved.specs.Seen.{came}
 use Rattle.mk_sched.specs.Cores.{is_message_in_range}
 use Rattle.mk_replay.specs.Replays.{messages_from}
 use Rattle.mk_replay.specs.Rounds.{AreWaiting, AreFit}

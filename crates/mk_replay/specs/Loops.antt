@@ -12,7 +12,7 @@ use Rattle.mk_plan.specs.Journals as journals
 use Rattle.mk_plan.specs.Journals.{view, arrivals}
 use Rattle.mk_plan.specs.Ready.{IsReady, IsDone}
 use Rattle.mk_plan.specs.Agreement.{IsFinished}
-use Rattle.mk_record.specs.declared.saved.Arrival.{Arrival}
+use Rattle.mk_saved.specs.declared.saved.Arrival.{Arrival}
 use Rattle.mk_sched.specs.declared.faults.CoreFault.{CoreFault}
 use Rattle.mk_sched.specs.declared.faults.CoreFault.TheVariants.{TooLong}
 use Rattle.mk_sched.specs.declared.faults.Next.{Next}

@@ -8,7 +8,7 @@ use Rattle.mk_plan.specs.declared.Entry.{Entry}
 use Rattle.mk_plan.specs.declared.Entry.TheVariants.{Sent, Got}
 use Rattle.mk_plan.specs.Plans.{sim_count}
 use Rattle.mk_plan.specs.Journals.{Arrival, view, got}
-use Rattle.mk_record.specs.declared.saved.Asked.{Asked}
+use Rattle.mk_saved.specs.declared.saved.Asked.{Asked}
 use Rattle.mk_replay.specs.declared.replaying.ReplayEnd.{ReplayEnd}
 use Rattle.mk_replay.specs.Replays.{IsReplay, IsEndOf, EndsBy, messages_from}
 

@@ -15,7 +15,7 @@ use Rattle.mk_plan.specs.Agreement.{Agrees, IsFinished}
 use Rattle.mk_sched.specs.declared.faults.CoreFault.{CoreFault}
 use Rattle.mk_sched.specs.declared.faults.CoreFault.TheVariants.{TooLong}
 use Rattle.mk_sched.specs.Answers.{fault_in, SomeReady}
-use Rattle.mk_record.specs.declared.saved.Asked.{Asked}
+use Rattle.mk_saved.specs.declared.saved.Asked.{Asked}
 use Rattle.mk_differs.specs.Differences.{IsOther}
 use Rattle.mk_replay.specs.declared.replaying.ReplayEnd.{ReplayEnd}
 use Rattle.mk_replay.specs.declared.replaying.ReplayEnd.TheVariants.{Done, Core, Short, Other}

@@ -3,7 +3,7 @@ ghost use Rattle.std.specs.Prelude.{◌≡◌, ◌<◌, ◌^◌, ◌%◌, ◌==�
 ghost use Rattle.mk_plan.specs.Journals as journals;
 ghost use Rattle.mk_plan.specs.declared.Message.{Message};
 ghost use Rattle.mk_plan.specs.Plans.{sim_count};
-ghost use Rattle.mk_record.specs.Seen.{came};
+ghost use Rattle.mk_saved.specs.Seen.{came};
 ghost use Rattle.mk_sched.specs.Answers.{open_id};
 ghost use Rattle.mk_sched.specs.Cores.{is_message_in_range};
 ghost use Rattle.mk_replay.specs.Loops.{IsUnready};
@@ -13,7 +13,7 @@ ghost use Rattle.mk_replay.specs.Rounds.{AreFit, AreWaiting, CanGoOn, GivenMessa
 use crate::replaying::{ReplayEnd, open_count, settle, take};
 use mk_base::{List, Mem, SimNo};
 use mk_plan::Message;
-use mk_record::Arrival;
+use mk_saved::Arrival;
 use mk_sched::{Core, CoreFault, Next};
 use std::alloc::Global;
 

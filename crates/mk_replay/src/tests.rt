@@ -3,7 +3,7 @@ use crate::ordering::{drawn, next_number};
 use crate::{ReplayEnd, replay};
 use mk_base::{Mem, SimNo};
 use mk_plan::Entry;
-use mk_record::read_record;
+use mk_saved::read_record;
 use mk_sched::{Core, CoreFault};
 use std::alloc::Global;
 use std::process::Abort;

@@ -6,11 +6,11 @@ use Rattle.mk_plan.specs.Journals.{Arrival}
 use Rattle.mk_plan.specs.Sequential.{run_items}
 use Rattle.mk_plan.specs.Report.{report}
 use Rattle.mk_record.specs.Reading.{reading, Said, Faulty}
-use Rattle.mk_record.specs.declared.saved.Asked.{Asked}
-use Rattle.mk_replay.specs.Replays.{messages_from}
-use Rattle.mk_replay.specs.Orders.{IsReplayBy}
-use Rattle.mk_replay.specs.declared.replaying.ReplayEnd.{ReplayEnd}
-use Rattle.mk_replay.specs.declared.replaying.ReplayEnd.TheVariants as ends
+use Rattle.mk_record.specs.Asked.{Asked}
+use Rattle.mk_record.specs.Replays.{messages_from}
+use Rattle.mk_record.specs.Orders.{IsReplayBy}
+use Rattle.mk_record.specs.ReplayEnd.{ReplayEnd}
+use Rattle.mk_record.specs.ReplayEnd.TheVariants as ends
 use Rattle.mk_replay.proofs.OneOrder.{one_replay_by}
 use Rattle.mk_endings.specs.declared.ending.Ending.{Ending}
 use Rattle.mk_endings.specs.declared.ending.Ending.TheVariants.{Usage, Missing, TooLong, Scenario, Cycle, Launch, Setup, Record, Wrong, Failed, LoopLimit, Link, Short, Differs, Fleet, Folder, Output, Entries, LongItem, Mem}

@@ -15,13 +15,13 @@ use Rattle.mk_plan.specs.Journals.{Arrival, arrivals, bare, got, sent}
 use Rattle.mk_plan.specs.Sequential.{Messages, run_items, sequential, all_ended, messages_in}
 use Rattle.mk_plan.specs.Report.{report, line_of, is_step}
 use Rattle.mk_record.specs.Reading.{reading, Said}
-use Rattle.mk_record.specs.declared.saved.Asked.{Asked}
-use Rattle.mk_differs.specs.Differences.{IsOther}
+use Rattle.mk_record.specs.Asked.{Asked}
+use Rattle.mk_record.specs.Differences.{IsOther}
 use Rattle.mk_plan.specs.Agreement.{IsFinished}
-use Rattle.mk_replay.specs.Replays.{EndsBy, end_with, IsWhole, messages_from}
-use Rattle.mk_replay.specs.Orders.{IsReplayBy, IsReplayInOrder}
-use Rattle.mk_replay.specs.declared.replaying.ReplayEnd.{ReplayEnd}
-use Rattle.mk_replay.specs.declared.replaying.ReplayEnd.TheVariants.{Done, Core, Short, Other}
+use Rattle.mk_record.specs.Replays.{EndsBy, end_with, IsWhole, messages_from}
+use Rattle.mk_record.specs.Orders.{IsReplayBy, IsReplayInOrder}
+use Rattle.mk_record.specs.ReplayEnd.{ReplayEnd}
+use Rattle.mk_record.specs.ReplayEnd.TheVariants.{Done, Core, Short, Other}
 use Rattle.mk_replayed.specs.Reports.{IsDoneBy, IsReportOf, IsStopped, Unreported, stop_of}
 use Rattle.mk_endings.specs.declared.ending.Ending.{Ending}
 use Rattle.mk_sched.specs.declared.faults.CoreFault.{CoreFault}

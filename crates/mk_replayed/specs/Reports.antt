@@ -9,14 +9,14 @@ use Rattle.mk_plan.specs.Journals.{Arrival}
 use Rattle.mk_plan.specs.Sequential.{run_items, sequential, all_ended, messages_in}
 use Rattle.mk_plan.specs.Report.{report}
 use Rattle.mk_record.specs.Reading.{reading, Said, Faulty}
-use Rattle.mk_record.specs.declared.saved.Asked.{Asked}
-use Rattle.mk_differs.specs.Differences.{IsOther}
-use Rattle.mk_replay.specs.Replays.{IsReplay, IsWhole, messages_from}
-use Rattle.mk_replay.specs.Orders.{IsReplayBy, IsReplayInOrder}
+use Rattle.mk_record.specs.Asked.{Asked}
+use Rattle.mk_record.specs.Differences.{IsOther}
+use Rattle.mk_record.specs.Replays.{IsReplay, IsWhole, messages_from}
+use Rattle.mk_record.specs.Orders.{IsReplayBy, IsReplayInOrder}
 use Rattle.mk_sched.specs.declared.faults.CoreFault.{CoreFault}
 use Rattle.mk_sched.specs.declared.faults.CoreFault.TheVariants as core
-use Rattle.mk_replay.specs.declared.replaying.ReplayEnd.{ReplayEnd}
-use Rattle.mk_replay.specs.declared.replaying.ReplayEnd.TheVariants as ends
+use Rattle.mk_record.specs.ReplayEnd.{ReplayEnd}
+use Rattle.mk_record.specs.ReplayEnd.TheVariants as ends
 use Rattle.mk_endings.specs.declared.ending.Ending.{Ending}
 use Rattle.mk_endings.specs.declared.ending.Ending.TheVariants.{Usage, Missing, TooLong, Scenario, Cycle, Launch, Setup, Record, Wrong, Failed, LoopLimit, Link, Short, Differs, Fleet, Folder, Output, Entries, LongItem, Mem}
 

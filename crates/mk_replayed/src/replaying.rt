@@ -8,9 +8,7 @@ ghost use Rattle.mk_replayed.specs.Reports.{IsOutcome, IsReportOf, Unreported, f
 use mk_base::{Mem, SimNo, Text};
 use mk_endings::Ending;
 use mk_plan::{Entry, Journal, Message, Plan};
-use mk_record::{RecordFault, read_record};
-use mk_replay::{ReplayEnd, replay};
-use mk_report::write_report;
+use mk_record::{RecordFault, ReplayEnd, read_record, replay, write_report};
 use mk_sched::CoreFault;
 use std::alloc::Global;
 

@@ -1,6 +1,6 @@
 use Rattle.std.proofs.Common.{◌≡◌, ℕ, ◌+◌, ◌<◌, ◌≤◌, length, map, refl, ap, ◌∙◌, inl, inr, arith}
-use Rattle.mk_record.specs.Entries.{entries_after}
-use Rattle.mk_record.specs.Seen.{came}
+use Rattle.mk_saved.specs.Entries.{entries_after}
+use Rattle.mk_saved.specs.Seen.{came}
 use Rattle.mk_differs.proofs.Walking.{on_neither, on_step, on_message, on_another, on_behind, all_but_first, compared_now, compared_short, some_left}
 use Rattle.mk_differs.proofs.first.other_among.Goals as goal
 use Rattle.mk_differs.proofs.first.other_among.Goals.{in-Neither, in-NextStep, in-NextMessage, else-is_empty-via-then-is_empty+else-is_empty-2, else-is_empty-via-else-is_empty}

@@ -1,6 +1,6 @@
 use Rattle.std.proofs.Common.{◌≤◌, map}
-use Rattle.mk_record.specs.Entries.{entries_after}
-use Rattle.mk_record.specs.Seen.{came}
+use Rattle.mk_saved.specs.Entries.{entries_after}
+use Rattle.mk_saved.specs.Seen.{came}
 use Rattle.mk_differs.proofs.Walking.{IsCompared}
 use Rattle.mk_differs.proofs.first.other_among.Given as goal
 

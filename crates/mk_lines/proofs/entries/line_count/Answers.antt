@@ -2,7 +2,7 @@
 use Rattle.std.proofs.Common.{List, length, ap, ◌∙◌, arith}
 use Rattle.std.proofs.lemmas.List.{take_all}
 use Rattle.mk_plan.specs.declared.Entry.{Entry}
-use Rattle.mk_record.specs.Entries.{entries_of}
+use Rattle.mk_saved.specs.Entries.{entries_of}
 use Rattle.mk_lines.proofs.EntryLines.{count_push, one_at_most}
 use Rattle.mk_lines.proofs.entries.line_count.Goals as goal
 

@@ -1,6 +1,6 @@
 -- proofs/entries/line_count/Invariants.antt
 use Rattle.std.proofs.Common.{◌≡◌, ◌≤◌, length, take}
-use Rattle.mk_record.specs.Entries.{entries_of}
+use Rattle.mk_saved.specs.Entries.{entries_of}
 use Rattle.mk_lines.proofs.entries.line_count.Given as goal
 
 abbrev pub invariant-loop-entry : goal.invariant-loop-entry

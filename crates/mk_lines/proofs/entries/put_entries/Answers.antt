@@ -3,7 +3,7 @@ use Rattle.std.proofs.Common.{◌+◌, ◌++◌, drop, flat_map, List, ◌∙◌
 use Rattle.std.proofs.lemmas.List.{take_all}
 use Rattle.mk_plan.specs.declared.Entry.{Entry}
 use Rattle.mk_json.proofs.OfOutlines.{left_is, next_passes}
-use Rattle.mk_lines.specs.Entries.{is_writable, line_in}
+use Rattle.mk_lines.specs.Writable.{is_writable, line_in}
 use Rattle.mk_lines.proofs.EntryLines.{lines_are, line_push}
 use Rattle.mk_lines.proofs.entries.put_entries.Goals as goal
 

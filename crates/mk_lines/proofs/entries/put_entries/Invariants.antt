@@ -1,7 +1,7 @@
 -- proofs/entries/put_entries/Invariants.antt
 use Rattle.std.proofs.Common.{◌≡◌, ◌++◌, true, flat_map, take, drop}
 use Rattle.std.specs.List.{list_all}
-use Rattle.mk_lines.specs.Entries.{is_writable, line_in}
+use Rattle.mk_lines.specs.Writable.{is_writable, line_in}
 use Rattle.mk_lines.proofs.entries.put_entries.Given as goal
 
 abbrev pub invariant-loop-entry : goal.invariant-loop-entry

@@ -1,6 +1,6 @@
 -- proofs/parts/put_asyncs/Invariants.antt
 use Rattle.std.proofs.Common.{◌≡◌, ◌++◌, flat_map, take}
-use Rattle.mk_record.specs.Texts.{async_line}
+use Rattle.mk_saved.specs.Texts.{async_line}
 use Rattle.mk_lines.proofs.parts.put_asyncs.Given as goal
 
 abbrev pub invariant-loop-pair : goal.invariant-loop-pair

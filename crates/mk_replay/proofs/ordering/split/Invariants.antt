@@ -1,7 +1,7 @@
 -- proofs/ordering/split/Invariants.antt
 use Rattle.std.proofs.Common.{◌≡◌, ◌++◌, [], List, map, length}
-use Rattle.mk_record.specs.declared.saved.Arrival.{Arrival}
-use Rattle.mk_record.specs.Seen.{came}
+use Rattle.mk_saved.specs.declared.saved.Arrival.{Arrival}
+use Rattle.mk_saved.specs.Seen.{came}
 use Rattle.mk_replay.specs.Rounds.{AreWaiting, AreFit}
 use Rattle.mk_replay.proofs.ordering.split.Given as goal
 

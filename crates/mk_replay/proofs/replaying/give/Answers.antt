@@ -1,6 +1,6 @@
 use Rattle.std.proofs.Common.{◌∷◌, subst}
 use Rattle.mk_sched.specs.declared.faults.Next.{Next}
-use Rattle.mk_record.specs.Seen.{came}
+use Rattle.mk_saved.specs.Seen.{came}
 use Rattle.mk_replay.specs.Loops.{IsSettled}
 use Rattle.mk_replay.proofs.Giving.{stopped_before, given_after, on_ok}
 use Rattle.mk_replay.proofs.replaying.give.Goals as goal

@@ -3,8 +3,8 @@ use Rattle.std.proofs.Common.{◌≡◌, ◌<◌, true, All, map, sym, ap, ◌�
 use Rattle.mk_plan.specs.declared.Plan.{Plan}
 use Rattle.mk_plan.specs.declared.Entry.{Entry}
 use Rattle.mk_plan.specs.Plans.{sim_count}
-use Rattle.mk_record.specs.declared.saved.Arrival.{Arrival}
-use Rattle.mk_record.specs.Seen.{came}
+use Rattle.mk_saved.specs.declared.saved.Arrival.{Arrival}
+use Rattle.mk_saved.specs.Seen.{came}
 use Rattle.mk_sched.specs.Cores.{CoreState, is_message_in_range}
 use Rattle.mk_replay.specs.Orders.{IsReplayInOrder}
 use Rattle.mk_replay.specs.Rounds.{AreWaiting, HasEnded}

@@ -1,5 +1,5 @@
 use Rattle.std.proofs.Common.{◌≡◌, None, map, take}
-use Rattle.mk_record.specs.Seen.{came}
+use Rattle.mk_saved.specs.Seen.{came}
 use Rattle.mk_replay.specs.Loops.{IsOnWay}
 use Rattle.mk_replay.proofs.replaying.run.Given as goal
 
