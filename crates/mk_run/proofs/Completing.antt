@@ -11,7 +11,7 @@ completes started S reply P J log faults new_faults end run fine = go end run.sh
     go : (e : Outcome) → ShownBy started S P J log faults new_faults e → (e ≡ Done) ⊎ (e ≡ Mem)
     go Done shown = inl refl
     go (Core f) (inl wrong) = absurd (true≢false (sym wrong.named ∙ ap (λ (o : Option journals.Fault). is_some o) (sym wrong.fault) ∙ ap (λ (o : Option journals.Fault). is_some o) fine.no_fault))
-    go (Core f) (inr full) = absurd (fine.roomy full.full)
+    go (Core f) (inr full) = absurd (fine.roomy full.full full.more)
     go (Setup f) shown = absurd shown
     go Fleet shown = absurd (fine.counts shown)
     go (Gone i) shown = absurd (fine.open_links i.0 shown.0 shown.1.linked shown.2)

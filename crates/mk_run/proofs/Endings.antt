@@ -41,12 +41,12 @@ use Rattle.mk_begin.specs.Seen.{CrewSeen, crew_of}
 use Rattle.mk_begin.specs.Calls.{ShowsUnsent, halt_of}
 use Rattle.mk_run.specs.declared.outcome.Outcome.{Outcome}
 use Rattle.mk_run.specs.declared.outcome.Outcome.TheVariants as outcome
-use Rattle.mk_run.specs.Ends.{AreInRange, QueuedAll, IsLongItem, SetupRestsWell}
+use Rattle.mk_run.specs.Ends.{AreInRange, QueuedAll, IsBrokenOff, IsLongItem, SetupRestsWell}
 use Rattle.mk_run.specs.Underway.{Setting, reply_in, Suits, HasNoOther, IsPatient, IsUnderway, HasHeard, IsLastLine, HasGiven, EndsBy, HasEnded}
 use Rattle.mk_run.specs.Outcomes.{outcome_of}
 use Rattle.mk_run.specs.Sendings.{IsUnsent}
 use Rattle.mk_run.proofs.Going.{setup_rests_on}
-use Rattle.mk_run.proofs.Hearing.{heard_fits, heard_running, heard_no_other, heard_setup_rests}
+use Rattle.mk_run.proofs.Hearing.{heard_fits, heard_left, heard_running, heard_no_other, heard_setup_rests}
 use Rattle.mk_run.proofs.Linked.{no_other_moved}
 use Rattle.mk_run.proofs.Pushed.{kinds_sent, patient_sent, patient_got, range_sent, range_got, sent_front, got_front, got_sent, sent_got, rests_longer}
 
@@ -88,8 +88,8 @@ module _ (T : Setting) where
   }
 
   -- the run ends where it is
-  pub ends_here : (risen : Type 0) (P : Plan) (J : List Entry) (log : List LogEntry) (C : CrewState) (sims : _) (end : Outcome) → IsUnderway T P J log C sims → EndsBy risen T P J log C end → HasEnded risen T P J log C end
-  ends_here risen P J log C sims end u ends = record {
+  pub ends_here : (risen : Type 0) (P : Plan) (J : List Entry) (log : List LogEntry) (C : CrewState) (sims : _) (end : Outcome) → IsUnderway T P J log C sims → (IsBrokenOff end → SomeOpen P J) → EndsBy risen T P J log C end → HasEnded risen T P J log C end
+  ends_here risen P J log C sims end u unfinished ends = record {
     suits = u.suits;
     stands = u.stands;
     patient = u.patient;
@@ -100,22 +100,23 @@ module _ (T : Setting) where
     rests = over_ends T.started T.scenario T.replies (reply_in T) P J log u.running.rests;
     setup_rests = u.setup_rests;
     ends = ends;
+    unfinished = unfinished;
   }
 
   -- nothing is left to do
   pub done_ends : (risen : Type 0) (old new : CoreState) (log : List LogEntry) (C : CrewState) (sims : _) → IsUnderway T old.plan old.entries log C sims → IsOver old new → HasEnded risen T new.plan new.entries log C outcome.Done
-  done_ends risen old new log C sims u o = subst (λ (c : CoreState). HasEnded risen T c.plan c.entries log C outcome.Done) (sym o.same) (ends_here risen old.plan old.entries log C sims outcome.Done u o.done)
+  done_ends risen old new log C sims u o = subst (λ (c : CoreState). HasEnded risen T c.plan c.entries log C outcome.Done) (sym o.same) (ends_here risen old.plan old.entries log C sims outcome.Done u (λ broken. absurd broken) o.done)
 
   -- there is no room for a Step
   pub full_ends : (risen : Type 0) (old new : CoreState) (f : CoreFault) (log : List LogEntry) (C : CrewState) (sims : _) → old.ended ≡ None → IsUnderway T old.plan old.entries log C sims → WasFaulty old f new ⊎ sched.IsFull old f new
       → HasEnded risen T new.plan new.entries log C (outcome.Core f)
   full_ends risen old new f log C sims going u (inl was) = absurd (none_some (sym going ∙ was.0))
   full_ends risen old new f log C sims going u (inr full) = subst (λ (c : CoreState). HasEnded risen T c.plan c.entries log C (outcome.Core f)) (sym full.ended)
-      (ends_here risen old.plan old.entries log C sims (outcome.Core f) u (inr (record { named = full.named; full = full.full; no_fault = u.no_fault })))
+      (ends_here risen old.plan old.entries log C sims (outcome.Core f) u (λ broken. absurd broken) (inr (record { named = full.named; full = full.full; no_fault = u.no_fault; more = inr (inl full.ready) })))
 
   -- the core wants memory for what is next
   pub mem_ends : (risen : Type 0) (old new : CoreState) (log : List LogEntry) (C : CrewState) (sims : _) → IsUnderway T old.plan old.entries log C sims → IsOutOfMemory old new → HasEnded risen T new.plan new.entries log C outcome.Mem
-  mem_ends risen old new log C sims u o = subst (λ (c : CoreState). HasEnded risen T c.plan c.entries log C outcome.Mem) (sym o.ended) (ends_here risen old.plan old.entries log C sims outcome.Mem u tt)
+  mem_ends risen old new log C sims u o = subst (λ (c : CoreState). HasEnded risen T c.plan c.entries log C outcome.Mem) (sym o.ended) (ends_here risen old.plan old.entries log C sims outcome.Mem u (λ broken. absurd broken) tt)
 
   -- ---- an item wasn't sent
 
@@ -143,14 +144,15 @@ module _ (T : Setting) where
           beyond = beyond;
         }
 
-    by_halt : (h : Halt) → ShowsUnsent h s.0 item C → ((i : ℕ) → QueuedAll (outcome_of h) (sent (K ++ Sent s item ∷ []) i) (sent K i)) × EndsBy risen T P (K ++ Sent s item ∷ []) log (crew_of C) (outcome_of h)
+    by_halt : (h : Halt) → ShowsUnsent h s.0 item C
+        → ((i : ℕ) → QueuedAll (outcome_of h) (sent (K ++ Sent s item ∷ []) i) (sent K i)) × (IsBrokenOff (outcome_of h) → SomeOpen P (K ++ Sent s item ∷ [])) × EndsBy risen T P (K ++ Sent s item ∷ []) log (crew_of C) (outcome_of h)
     by_halt (halt.Setup fault) shown = absurd shown
     by_halt halt.Fleet shown = absurd shown
     by_halt (halt.Gone sim) shown = absurd shown
     by_halt (halt.Garbled sim test) shown = absurd shown
     by_halt (halt.LongFrame sim n) shown = absurd shown
-    by_halt (halt.LongItem sim n) shown = ((λ i. tt), subst (λ (i : ℕ). IsLongItem P (K ++ Sent s item ∷ []) i n) (sym shown.0) (long_item n shown.2 shown.3))
-    by_halt halt.Mem shown = ((λ i. tt), tt)
+    by_halt (halt.LongItem sim n) shown = ((λ i. tt), (λ broken. absurd broken), subst (λ (i : ℕ). IsLongItem P (K ++ Sent s item ∷ []) i n) (sym shown.0) (long_item n shown.2 shown.3))
+    by_halt halt.Mem shown = ((λ i. tt), (λ broken. absurd broken), tt)
 
     pub unsent_ends : (end : Outcome) → IsUnsent end s.0 item C → HasEnded risen T P (K ++ Sent s item ∷ []) log (crew_of C) end
     unsent_ends end why = subst (HasEnded risen T P (K ++ Sent s item ∷ []) log (crew_of C)) (sym why.1) (record {
@@ -170,7 +172,8 @@ module _ (T : Setting) where
       no_other = no_other;
       rests = rests_longer T.started T.scenario T.replies P K (Sent s item) log run.rests;
       setup_rests = setup_rests;
-      ends = (by_halt why.0 why.2).1;
+      ends = (by_halt why.0 why.2).2;
+      unfinished = (by_halt why.0 why.2).1;
     })
 
   -- ---- a message wasn't taken, or made a fault
@@ -188,8 +191,8 @@ module _ (T : Setting) where
         go (IsHeard.on_link none after w there moved parked) = rests_at_end T.started T.scenario T.replies (reply_in T) core.plan core.entries h.before h.entries h.crew u.running (λ i x ready. h.nobody (i, x, ready)) parked
 
     -- the core hasn't taken it
-    pub untaken_ends : (end : Outcome) → EndsBy risen T core.plan core.entries log D end → HasEnded risen T core.plan core.entries log D end
-    untaken_ends end ends = record {
+    pub untaken_ends : (end : Outcome) → (IsBrokenOff end → SomeOpen core.plan core.entries) → EndsBy risen T core.plan core.entries log D end → HasEnded risen T core.plan core.entries log D end
+    untaken_ends end unfinished ends = record {
       suits = u.suits;
       stands = u.stands;
       patient = u.patient;
@@ -207,11 +210,12 @@ module _ (T : Setting) where
       rests = rests_before;
       setup_rests = heard_setup_rests T core.plan core.entries log s m D sims h;
       ends = ends;
+      unfinished = unfinished;
     }
 
     -- it is the journal's last entry
-    pub faulty_ends : (end : Outcome) → Stands core.plan (core.entries ++ Got s m ∷ []) → EndsBy risen T core.plan (core.entries ++ Got s m ∷ []) log D end → HasEnded risen T core.plan (core.entries ++ Got s m ∷ []) log D end
-    faulty_ends end stands ends = record {
+    pub faulty_ends : (end : Outcome) → Stands core.plan (core.entries ++ Got s m ∷ []) → (IsBrokenOff end → SomeOpen core.plan (core.entries ++ Got s m ∷ [])) → EndsBy risen T core.plan (core.entries ++ Got s m ∷ []) log D end → HasEnded risen T core.plan (core.entries ++ Got s m ∷ []) log D end
+    faulty_ends end stands unfinished ends = record {
       suits = u.suits;
       stands = stands;
       patient = patient_got core.plan core.entries s m u.patient h.nobody;
@@ -222,23 +226,25 @@ module _ (T : Setting) where
       rests = over_ends T.started T.scenario T.replies (reply_in T) core.plan (core.entries ++ Got s m ∷ []) log (heard_running T core.plan core.entries log s m D sims h).rests;
       setup_rests = heard_setup_rests T core.plan core.entries log s m D sims h;
       ends = ends;
+      unfinished = unfinished;
     }
 
     pub fault_ends : (f : CoreFault) → core.ended ≡ None → Stands new.plan new.entries → WasFaulty core f new ⊎ (IsUntaken core f new ⊎ (IsFaulty core s m f new ⊎ IsUnanswered core s m f new)) → HasEnded risen T new.plan new.entries log D (outcome.Core f)
     fault_ends f going stands (inl was) = absurd (none_some (sym going ∙ was.0))
-    fault_ends f going stands (inr (inl un)) = subst (λ (c : CoreState). HasEnded risen T c.plan c.entries log D (outcome.Core f)) (sym un.ended) (untaken_ends (outcome.Core f) (inr (record { named = un.named; full = un.full; no_fault = u.no_fault })))
+    fault_ends f going stands (inr (inl un)) = subst (λ (c : CoreState). HasEnded risen T c.plan c.entries log D (outcome.Core f)) (sym un.ended) (untaken_ends (outcome.Core f) (λ broken. absurd broken)
+        (inr (record { named = un.named; full = un.full; no_fault = u.no_fault; more = inr (inr (heard_left T core.plan core.entries log s m D sims h)) })))
     fault_ends f going stands (inr (inr (inl bad))) = subst (λ (c : CoreState). HasEnded risen T c.plan c.entries log D (outcome.Core f)) (sym bad.ended)
-        (faulty_ends (outcome.Core f) (subst (λ (c : CoreState). Stands c.plan c.entries) bad.ended stands)
+        (faulty_ends (outcome.Core f) (subst (λ (c : CoreState). Stands c.plan c.entries) bad.ended stands) (λ broken. absurd broken)
         (inl (record { before = core.entries; sim = s; message = m; is = refl; right_before = u.no_fault; named = bad.named; fault = bad.made })))
     fault_ends f going stands (inr (inr (inr un))) = subst (λ (c : CoreState). HasEnded risen T c.plan c.entries log D (outcome.Core f)) (sym un.ended)
-        (faulty_ends (outcome.Core f) (subst (λ (c : CoreState). Stands c.plan c.entries) un.ended stands) (inr (record { named = un.named; full = un.full; no_fault = un.no_fault })))
+        (faulty_ends (outcome.Core f) (subst (λ (c : CoreState). Stands c.plan c.entries) un.ended stands) (λ broken. absurd broken) (inr (record { named = un.named; full = un.full; no_fault = un.no_fault; more = inl un.owed })))
 
     pub untaken_for_memory : IsOutOfMemory core new → HasEnded risen T new.plan new.entries log D outcome.Mem
-    untaken_for_memory o = subst (λ (c : CoreState). HasEnded risen T c.plan c.entries log D outcome.Mem) (sym o.ended) (untaken_ends outcome.Mem tt)
+    untaken_for_memory o = subst (λ (c : CoreState). HasEnded risen T c.plan c.entries log D outcome.Mem) (sym o.ended) (untaken_ends outcome.Mem (λ broken. absurd broken) tt)
 
   -- ---- nothing was heard
 
-  module _ (risen : Type 0) (P : Plan) (J : List Entry) (log entries : List LogEntry) (C D : CrewSeen) (u : IsUnderway T P J log (crew_of C) C.sims) (nobody : SomeReady P J → ⊥) (un : IsUnheard entries (crew_of C) (crew_of D)) where
+  module _ (risen : Type 0) (P : Plan) (J : List Entry) (log entries : List LogEntry) (C D : CrewSeen) (u : IsUnderway T P J log (crew_of C) C.sims) (nobody : SomeReady P J → ⊥) (opened : SomeOpen P J) (un : IsUnheard entries (crew_of C) (crew_of D)) where
     still_there : (o p : Option Line) (w : Line) → o ≡ Some w → IsMovedAt entries [] o p → (v : Line) × (p ≡ Some v) × IsMoved entries [] w v
     still_there None p w e moved = absurd (none_some e)
     still_there (Some x) None w e moved = absurd moved
@@ -296,4 +302,5 @@ module _ (T : Setting) where
       rests = rests_at_end T.started T.scenario T.replies (reply_in T) P J log entries (crew_of C) u.running (λ i x ready. nobody (i, x, ready)) un.parked;
       setup_rests = setup_rests_on T P J log entries (crew_of C) u.suits u.running u.setup_rests;
       ends = by_link why cause shown;
+      unfinished = λ broken. opened;
     }

@@ -1,5 +1,5 @@
 -- What a message that was heard makes of a run.
-use Rattle.std.proofs.Common.{◌≡◌, inl, inr, ℕ, ◌<◌, Bool, true, false, ◌&&◌, List, [], ◌∷◌, ◌++◌, length, map, Option, Some, None, is_some, refl, sym, ap, ◌∙◌, subst, if◌then◌else◌}
+use Rattle.std.proofs.Common.{◌≡◌, ◌⊎◌, inl, inr, ℕ, ◌<◌, Bool, true, false, ◌&&◌, List, [], ◌∷◌, ◌++◌, length, map, Option, Some, None, is_some, refl, sym, ap, ◌∙◌, subst, if◌then◌else◌, true≢false}
 use Rattle.std.specs.List.{cons_option}
 use Rattle.mk_base.specs.declared.LinkNo.{LinkNo}
 use Rattle.mk_base.specs.declared.SimNo.{SimNo}
@@ -16,7 +16,7 @@ use Rattle.mk_plan.specs.Advance.{IsAdvance}
 use Rattle.mk_plan.specs.Orderly.{IsOrderlySoFar}
 use Rattle.mk_confluence.proofs.Pushing.{orderly_front}
 use Rattle.mk_plan.specs.Turns.{wanted}
-use Rattle.mk_plan.specs.Journals.{Arrival, view, sent, bare}
+use Rattle.mk_plan.specs.Journals.{Arrival, OpenTurn, view, sent, bare}
 use Rattle.mk_scenario.specs.declared.parts.Scenario.{Scenario}
 use Rattle.mk_outside.specs.declared.fleet.LogEntry.{LogEntry}
 use Rattle.mk_message.specs.Written.{is_in_range}
@@ -37,25 +37,27 @@ use Rattle.mk_within.specs.Calls.{IsFitSuccess}
 use Rattle.mk_within.specs.Laws.{HasCome, RepliesAreKinds}
 use Rattle.mk_begin.specs.Seen.{CrewSeen, crew_of, is_here}
 use Rattle.mk_begin.specs.Calls.{HasNext, SendsAs}
-use Rattle.mk_run.specs.Ends.{AreInRange, SetupRestsWell}
-use Rattle.mk_run.specs.Underway.{Setting, reply_in, Suits, HasNoOther, HaveCome, IsPatient, IsUnderway, HasHeard}
+use Rattle.mk_run.specs.Ends.{AreInRange, IsOpenWithin, SetupRestsWell}
+use Rattle.mk_run.specs.Underway.{Setting, reply_in, Suits, HasNoOther, HaveCome, IsPatient, IsUnderway, HasHeard, IsAhead}
 use Rattle.mk_run.proofs.LoopSteps.{none_owed, owed_after, answered_opens, answered_id, taken_quietly, taken_on_link, taken_inside}
 use Rattle.mk_run.proofs.Going.{bool_or_not, here_is_within, not_here_is_outside, kept_so, come_sent, only_sent, no_other_after, setup_rests_on}
 use Rattle.mk_run.proofs.InRange.{same_test, read_in_range, success_in_range}
 use Rattle.mk_run.proofs.Linked.{linked_outside, within_below, no_other_heard}
 use Rattle.mk_run.proofs.Pushed.{sent_got, patient_sent, patient_got, range_sent, range_got, fault_after_sent}
 
--- a reply that is kept is awaited of a simulator within the program
-kept_within : (S : Scenario) (reply : Replies) (P : Plan) (J : List Entry) (s : ℕ) (m : Message) (kept more : List Arrival) → kept_of s kept ≡ awaited S reply P J s → kept ≡ record { sim = s; message = m } ∷ more → is_within S s ≡ true
-kept_within S reply P J s m kept more is front = by_cases (is_within S s) (is_some ((view P J).open_at s)) refl
+-- a reply that is kept is awaited of a simulator within the program, at which a request is open
+kept_awaited : (S : Scenario) (reply : Replies) (P : Plan) (J : List Entry) (s : ℕ) (m : Message) (kept more : List Arrival) → kept_of s kept ≡ awaited S reply P J s → kept ≡ record { sim = s; message = m } ∷ more
+    → (is_within S s ≡ true) × (is_some ((view P J).open_at s) ≡ true)
+kept_awaited S reply P J s m kept more is front = by_cases (is_within S s) (is_some ((view P J).open_at s)) refl refl
     (ap (λ (b : Bool). cons_option (if b then Some m else None) (kept_of s more)) (sym (same_is s)) ∙ ap (kept_of s) (sym front) ∙ is)
   where
-    by_cases : (a b : Bool) → is_within S s ≡ a → m ∷ kept_of s more ≡ (if a && b then reply s (map bare (sent J s)) ∷ [] else []) → is_within S s ≡ true
-    by_cases true b e h = e
-    by_cases false b e h = absurd (apart h)
-      where
-        apart : {X : Type 0} {x : X} {xs : List X} → x ∷ xs ≡ [] → ⊥
-        apart e = cc
+    apart : {X : Type 0} {x : X} {xs : List X} → x ∷ xs ≡ [] → ⊥
+    apart e = cc
+
+    by_cases : (a b : Bool) → is_within S s ≡ a → is_some ((view P J).open_at s) ≡ b → m ∷ kept_of s more ≡ (if a && b then reply s (map bare (sent J s)) ∷ [] else []) → (is_within S s ≡ true) × (is_some ((view P J).open_at s) ≡ true)
+    by_cases true true e f h = (e, f)
+    by_cases true false e f h = absurd (apart h)
+    by_cases false b e f h = absurd (apart h)
 
 -- the one message that was taken off a line was read from a payload
 taken_read : (held : List ℕ) (ms : List Message) (left : List ℕ) (m : Message) → Takes held ms left → ms ≡ m ∷ [] → is_in_range m ≡ true
@@ -80,7 +82,7 @@ module _ (T : Setting) (P : Plan) (J : List Entry) (log : List LogEntry) (s : Si
       in_plan low = subst (λ (n : ℕ). s.0 < n) (sym u.suits.sims) low
 
       go : IsHeard h.entries s.0 m h.crew D → s.0 < sim_count P
-      go (IsHeard.kept is lines none) = in_plan (within_below T.scenario s.0 (kept_within T.scenario (reply_in T) P J s.0 m h.crew.kept D.kept (u.running.kept s.0) is))
+      go (IsHeard.kept is lines none) = in_plan (within_below T.scenario s.0 (kept_awaited T.scenario (reply_in T) P J s.0 m h.crew.kept D.kept (u.running.kept s.0) is).0)
       go (IsHeard.on_link none after w there moved parked) = let t = u.no_other s.0 w there in in_plan (linked_outside T.started T.scenario s.0 t.0 t.1).1
 
   -- its numbers are in range
@@ -114,6 +116,18 @@ module _ (T : Setting) (P : Plan) (J : List Entry) (log : List LogEntry) (s : Si
   pub heard_running : IsRunningWith (but T.started T.scenario T.replies (reply_in T) P s.0 (awaited T.scenario (reply_in T) P J)) T.started T.scenario T.replies (reply_in T) P (J ++ Got s m ∷ []) log D
   heard_running = subst (λ (l : List LogEntry). IsRunningWith (but T.started T.scenario T.replies (reply_in T) P s.0 (awaited T.scenario (reply_in T) P J)) T.started T.scenario T.replies (reply_in T) P (J ++ Got s m ∷ []) l D) (sym h.parts)
       (heard T.started T.scenario T.replies (reply_in T) P J h.before h.entries h.crew D s m u.running (λ i x ready. h.nobody (i, x, ready)) h.heard back)
+
+  -- it is left, where the journal doesn't get it
+  pub heard_left : IsAhead T J log D ⊎ IsOpenWithin T.scenario P J
+  heard_left = go h.heard
+    where
+      go : IsHeard h.entries s.0 m h.crew D → IsAhead T J log D ⊎ IsOpenWithin T.scenario P J
+      go (IsHeard.kept is lines none) =
+          let t = kept_awaited T.scenario (reply_in T) P J s.0 m h.crew.kept D.kept (u.running.kept s.0) is in
+          inr (record { sim = s.0; within = t.0; opened = λ shut. true≢false (sym t.1 ∙ ap (λ (o : Option OpenTurn). is_some o) shut) })
+      go (IsHeard.on_link none after w there moved parked) =
+          let t = back w there in
+          inl (record { sim = s; message = m; link = t.0; linked = t.1; line = heard_running.lines s.0 t.0 t.1 })
 
   pub heard_no_other : HasNoOther T D
   heard_no_other = no_other_heard T h.entries s.0 m h.crew D h.heard u.no_other

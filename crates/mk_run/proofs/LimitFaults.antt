@@ -1,5 +1,5 @@
 -- A right message makes no fault but that of the loop limit.
-use Rattle.std.proofs.Common.{◌≡◌, ℕ, ◌+◌, ◌==◌, ◌&&◌, ℤ, List, [], ◌∷◌, ◌++◌, filter, find, Option, Some, None, is_some, false, refl, ap, sym, ◌∙◌, true≢false}
+use Rattle.std.proofs.Common.{◌≡◌, ℕ, ◌+◌, ◌==◌, ℤ, List, [], ◌∷◌, ◌++◌, find, Option, Some, None, is_some, false, ap, sym, ◌∙◌, true≢false}
 use Rattle.mk_base.specs.declared.SimNo.{SimNo}
 use Rattle.mk_base.proofs.Lists.{none_some, some_same}
 use Rattle.mk_plan.specs.declared.Plan.{Plan}

@@ -1,13 +1,10 @@
 -- A run whose simulators are all within the program: it has no links, and nothing is added to a log.
-use Rattle.std.proofs.Common.{◌≡◌, ℕ, ◌≤◌, true, List, [], ◌++◌, Option, Some, None, Err, refl, sym, ap, ◌∙◌, subst, arith}
-use Rattle.mk_base.specs.declared.SimNo.{SimNo}
+use Rattle.std.proofs.Common.{◌≡◌, ℕ, ◌≤◌, true, List, [], ◌++◌, Option, Some, None, Err, refl, sym, ◌∙◌, subst, arith}
 use Rattle.mk_base.proofs.Lists.{append_nil, none_some}
 use Rattle.mk_plan.specs.declared.Plan.{Plan}
-use Rattle.mk_plan.specs.declared.Entry.{Entry}
 use Rattle.mk_outside.specs.Counts.{HasRisen}
 use Rattle.mk_outside.specs.declared.fleet.LogEntry.{LogEntry}
 use Rattle.mk_links.specs.Lines.{Line}
-use Rattle.mk_links.specs.Crews.{AreStopped, IsRestless}
 use Rattle.mk_sched.specs.Cores.{CoreState}
 use Rattle.mk_crew.specs.Places.{at}
 use Rattle.mk_begin.specs.declared.halt.Halt.{Halt}

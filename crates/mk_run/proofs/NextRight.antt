@@ -1,8 +1,6 @@
 -- In an orderly journal the next message of a simulator is right, where sequential execution over a family that goes on with it cuts no turn of that simulator.
 use Rattle.std.proofs.Common.{◌≡◌, inl, ℕ, ◌<◌, Bool, true, false, cond, List, [], ◌∷◌, ◌++◌, Option, Some, None, option_map, refl, ap, sym, ◌∙◌, subst, append_assoc}
 use Rattle.mk_base.specs.declared.SimNo.{SimNo}
-use Rattle.mk_base.specs.Lists.{BeginsWith}
-use Rattle.mk_base.proofs.Lists.{append_nil}
 use Rattle.mk_plan.specs.declared.Plan.{Plan}
 use Rattle.mk_plan.specs.declared.Message as message
 use Rattle.mk_plan.specs.declared.Entry.{Entry}
@@ -14,7 +12,7 @@ use Rattle.mk_plan.specs.Journals as journals
 use Rattle.mk_plan.specs.Journals.{OpenTurn, view, got}
 use Rattle.mk_plan.specs.Ready.{IsReady}
 use Rattle.mk_plan.specs.Advance.{IsAdvance}
-use Rattle.mk_plan.specs.Orderly.{IsAllowed, IsOrderlySoFar}
+use Rattle.mk_plan.specs.Orderly.{IsOrderlySoFar}
 use Rattle.mk_plan.specs.Agreement.{Continues}
 use Rattle.mk_plan.specs.Turns.{is_wrong}
 use Rattle.mk_theory.specs.Parts as theory

@@ -1,5 +1,6 @@
 -- What one more entry of the journal keeps.
-use Rattle.std.proofs.Common.{◌≡◌, ℕ, true, List, [], ◌∷◌, ◌++◌, None, refl, sym, ap, ◌∙◌, subst, ◌⊎◌, inl, inr, append_assoc}
+use Rattle.std.proofs.Common.{◌≡◌, ℕ, Bool, true, List, [], ◌∷◌, ◌++◌, Some, None, if◌then◌else◌, refl, sym, ap, ◌∙◌, subst, ◌⊎◌, inl, inr, append_assoc}
+use Rattle.std.specs.List.{cons_option}
 use Rattle.mk_base.specs.declared.SimNo.{SimNo}
 use Rattle.mk_base.specs.Lists.{BeginsWith}
 use Rattle.mk_base.proofs.Lists.{append_nil, filter_map_append}
@@ -16,6 +17,7 @@ use Rattle.mk_outside.specs.declared.fleet.LogEntry.{LogEntry}
 use Rattle.mk_sched.specs.Answers.{SomeReady}
 use Rattle.mk_links.specs.Kinds.{Replies, KeepsToKinds}
 use Rattle.mk_links.specs.Running.{SetupReplies, RestsOver, RestsEnd}
+use Rattle.mk_links.proofs.Stepping.{same_is}
 use Rattle.mk_message.specs.Written.{is_in_range}
 use Rattle.mk_run.specs.Ends.{AreInRange}
 use Rattle.mk_run.specs.Underway.{IsPatient}
@@ -90,6 +92,10 @@ sent_front J e i = (sent (e ∷ []) i, filter_map_append (sent_to i) J (e ∷ []
 
 pub got_front : (J : List Entry) (e : Entry) (i : ℕ) → BeginsWith (got (J ++ e ∷ []) i) (got J i)
 got_front J e i = (got (e ∷ []) i, filter_map_append (got_from i) J (e ∷ []))
+
+-- a message is the last that was got of its simulator
+pub got_last : (J : List Entry) (s : SimNo) (m : Message) → got (J ++ Got s m ∷ []) s.0 ≡ got J s.0 ++ m ∷ []
+got_last J s m = got_push J (Got s m) s.0 ∙ ap (λ (b : Bool). got J s.0 ++ cons_option (if b then Some m else None) []) (same_is s.0)
 
 -- an item is no message, and a message no item
 pub got_sent : (J : List Entry) (s : SimNo) (item : Item) (i : ℕ) → got (J ++ Sent s item ∷ []) i ≡ got J i

@@ -121,7 +121,7 @@ past_it T core log entries C D s m u waits h sims fit = record {
 pub stopped_unheard : (T : Setting) (core : CoreState) (log entries : List LogEntry) (C D : CrewSeen) (h : Halt) (risen : Type 0) → GoesOn T core log C → Waits core → HearsNothing h entries C D → (h ≡ halt.Fleet → risen)
     → IsStopping risen T core (log ++ entries) D (outcome_of h)
 stopped_unheard T core log entries C D h risen u waits un cause = subst (λ (g : Halt). IsStopping risen T core (log ++ entries) D (outcome_of g)) (sym un.is)
-    (unheard_ends T risen core.plan core.entries log entries C D u waits.0 un.unheard un.why (λ e. cause (un.is ∙ ap halt_of e)) un.shown)
+    (unheard_ends T risen core.plan core.entries log entries C D u waits.0 waits.1 un.unheard un.why (λ e. cause (un.is ∙ ap halt_of e)) un.shown)
 
 -- ---- an outcome stays, whatever rises besides
 
@@ -148,6 +148,7 @@ stopping_by some all T core log C end more e = record {
   rests = e.rests;
   setup_rests = e.setup_rests;
   ends = ends_by some all T core log C more end e.ends;
+  unfinished = e.unfinished;
 }
 
 -- ---- counts

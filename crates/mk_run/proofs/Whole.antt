@@ -1,9 +1,12 @@
 -- From the end of a run, and the stop of its crew, to what the whole run means.
-use Rattle.std.proofs.Common.{◌≡◌, inl, inr, ℕ, List, ◌∷◌, ◌++◌, Some, refl, sym, subst}
+use Rattle.std.proofs.Common.{◌≡◌, ◌⊎◌, inl, inr, ℕ, List, [], ◌∷◌, ◌++◌, Some, refl, sym, ap, ◌∙◌, subst, append_assoc}
 use Rattle.mk_base.specs.declared.LinkNo.{LinkNo}
-use Rattle.mk_base.proofs.Lists.{in_front}
+use Rattle.mk_base.specs.Lists.{BeginsWith}
+use Rattle.mk_base.proofs.Lists.{append_nil, in_front}
 use Rattle.mk_plan.specs.declared.Plan.{Plan}
+use Rattle.mk_plan.specs.declared.Message.{Message}
 use Rattle.mk_plan.specs.declared.Entry.{Entry}
+use Rattle.mk_plan.specs.declared.Entry.TheVariants.{Got}
 use Rattle.mk_plan.specs.Journals.{sent, got}
 use Rattle.mk_plan.specs.Orderly.{IsEager}
 use Rattle.mk_frame.specs.Frames.{IsTooLong}
@@ -21,8 +24,12 @@ use Rattle.mk_links.proofs.Ending.{link_ended, all_given, rest_held, rests_stopp
 use Rattle.mk_links.proofs.Resting.{rests_well}
 use Rattle.mk_run.specs.declared.outcome.Outcome.{Outcome}
 use Rattle.mk_run.specs.declared.outcome.Outcome.TheVariants as outcome
-use Rattle.mk_run.specs.Ends.{ShownBy, SetupRestsWell, IsRun}
-use Rattle.mk_run.specs.Underway.{Setting, reply_in, EndsBy, HasGiven, HasEnded, IsLastLine}
+use Rattle.mk_run.specs.Ends.{ShownBy, SetupRestsWell, IsMessageLeft, IsOpenWithin, IsRun, IsUngot, NeedsMore}
+use Rattle.mk_run.specs.Underway.{Setting, reply_in, EndsBy, HasGiven, HasEnded, IsAhead, IsLastLine}
+use Rattle.mk_run.proofs.Pushed.{got_last}
+
+begins_itself : {X : Type 0} (xs : List X) → BeginsWith xs xs
+begins_itself xs = ([], sym (append_nil xs))
 
 stopped_by : (entries : List LogEntry) (some all : Type 0) (C : CrewState) → (some → all) → AreStopped entries some C → AreStopped entries all C
 stopped_by entries some all C more stopped i w there =
@@ -48,10 +55,31 @@ module _ (T : Setting) (P : Plan) (J : List Entry) (log entries : List LogEntry)
   all_got : (i : ℕ) (l : LinkNo) (g : HasGiven T J log C i l) → got J i ≡ run_messages T.scenario (log ++ entries) i l
   all_got i l g = sym (all_given T.started T.scenario T.replies ended.suits.counts J log entries (HasRisen faults new_faults) C stopped i l g.linked (got J i) (sent J i) g.line g.none_held)
 
+  -- a message that a line gave behind those that the journal got was heard, and isn't got
+  ungot : IsAhead T J log C → IsUngot T.started T.scenario J (log ++ entries)
+  ungot a =
+      let more = (link_ended T.started T.scenario T.replies ended.suits.counts (J ++ Got a.sim a.message ∷ []) log entries (HasRisen faults new_faults) C stopped a.sim.0 a.link a.linked (got (J ++ Got a.sim a.message ∷ []) a.sim.0)
+      (sent (J ++ Got a.sim a.message ∷ []) a.sim.0) a.line (begins_itself _) (begins_itself _)).got in
+      record {
+        sim = a.sim.0;
+        link = a.link;
+        linked = a.linked;
+        message = a.message;
+        later = more.0;
+        heard = more.1 ∙ ap (λ (ms : List Message). ms ++ more.0) (got_last J a.sim a.message) ∙ append_assoc (got J a.sim.0) (a.message ∷ []) more.0;
+      }
+
+  still_more : NeedsMore P J (IsAhead T J log C ⊎ IsOpenWithin T.scenario P J) → NeedsMore P J (IsMessageLeft T.started T.scenario P J (log ++ entries))
+  still_more (inl owed) = inl owed
+  still_more (inr (inl ready)) = inr (inl ready)
+  still_more (inr (inr (inl ahead))) = inr (inr (inl (ungot ahead)))
+  still_more (inr (inr (inr opened))) = inr (inr (inr opened))
+
   shown : (e : Outcome) → EndsBy by_run T P J log C e → ShownBy T.started T.scenario P J (log ++ entries) faults new_faults e
   shown outcome.Done is = is
   shown (outcome.Setup f) is = is
-  shown (outcome.Core f) is = is
+  shown (outcome.Core f) (inl last) = inl last
+  shown (outcome.Core f) (inr full) = inr (record { named = full.named; full = full.full; no_fault = full.no_fault; more = still_more full.more })
   shown outcome.Fleet is = risen is
   shown (outcome.Gone i) is = (is.0, record { linked = is.1.linked; all = all_got i.0 is.0 is.1 }, in_front (Ended is.0) log entries is.2)
   shown (outcome.Garbled i n) is = (
@@ -83,6 +111,7 @@ module _ (T : Setting) (P : Plan) (J : List Entry) (log entries : List LogEntry)
     rests = rests_well T.started T.scenario T.replies ended.suits.counts P J (log ++ entries) (rests_stopped T.started T.scenario T.replies P J log entries restless ended.rests);
     setup_rests = setup_rests_more T.started T.scenario log entries restless ended.setup_rests;
     shown = shown end ended.ends;
+    unfinished = ended.unfinished;
   }
 
   pub whole_replies : whole.replies ≡ T.replies

@@ -22,9 +22,9 @@ use Rattle.mk_outside.specs.Logs.{heard_on}
 use Rattle.mk_session.specs.Fronts.{BeginsGarbled}
 use Rattle.mk_sched.specs.declared.faults.CoreFault.{CoreFault}
 use Rattle.mk_sched.specs.declared.faults.CoreFault.TheVariants.{TooLong}
-use Rattle.mk_sched.specs.Answers.{fault_in}
+use Rattle.mk_sched.specs.Answers.{fault_in, SomeReady, SomeOpen}
 use Rattle.mk_links.specs.Hearing.{rest_heard}
-use Rattle.mk_links.specs.Handshake.{sim_link}
+use Rattle.mk_links.specs.Handshake.{sim_link, is_within}
 use Rattle.mk_links.specs.Payloads.{id_after}
 use Rattle.mk_links.specs.Kinds.{Replies}
 use Rattle.mk_links.specs.Rests.{run_messages, AllSetUp, IsWellInSetup, RestsWell}
@@ -56,11 +56,35 @@ pub record IsLastFaulty (P : Plan) (J : List Entry) (f : CoreFault) : Type 0 whe
   pub named : IsSome (fault_in f)
   pub fault : (view P J).fault ≡ fault_in f
 
--- the journal is full, and there is no other fault
-pub record IsFull (P : Plan) (J : List Entry) (f : CoreFault) : Type 0 where
+-- a message of the run was heard on a link that the journal hasn't got
+pub record IsUngot (started : ℕ) (S : Scenario) (J : List Entry) (log : List LogEntry) : Type 0 where
+  pub sim : ℕ
+  pub link : LinkNo
+  pub linked : sim_link started S sim ≡ Some link
+  pub message : Message
+  pub later : List Message
+  pub heard : run_messages S log sim link ≡ got J sim ++ message ∷ later
+
+-- a request is open at a simulator within the program, which replies to each
+pub record IsOpenWithin (S : Scenario) (P : Plan) (J : List Entry) : Type 0 where
+  pub sim : ℕ
+  pub within : is_within S sim ≡ true
+  pub opened : (view P J).open_at sim ≡ None → ⊥
+
+-- a message came that the journal hasn't got
+abbrev pub IsMessageLeft : ℕ → Scenario → Plan → List Entry → List LogEntry → Type 0
+IsMessageLeft started S P J log = IsUngot started S J log ⊎ IsOpenWithin S P J
+
+-- one entry more is needed: what is owed, a Step, or a message that is left
+abbrev pub NeedsMore : Plan → List Entry → Type 0 → Type 0
+NeedsMore P J left = IsSome (view P J).owed ⊎ (SomeReady P J ⊎ left)
+
+-- the journal is full, there is no other fault, and one entry more is needed
+pub record IsFull (P : Plan) (J : List Entry) (f : CoreFault) (left : Type 0) : Type 0 where
   pub named : f ≡ TooLong P.entries
   pub full : length J ≡ P.entries
   pub no_fault : (view P J).fault ≡ None
+  pub more : NeedsMore P J left
 
 -- all messages of the run that were heard of simulator i were got
 pub record HasGotAll (started : ℕ) (S : Scenario) (log : List LogEntry) (J : List Entry) (i : ℕ) (l : LinkNo) : Type 0 where
@@ -81,13 +105,25 @@ pub record IsLongItem (P : Plan) (J : List Entry) (i n : ℕ) : Type 0 where
 abbrev pub ShownBy : ℕ → Scenario → Plan → List Entry → List LogEntry → ℕ → ℕ → Outcome → Type 0
 ShownBy started S P J log faults new_faults outcome.Done = IsDone P (view P J)
 ShownBy started S P J log faults new_faults (outcome.Setup f) = ⊥
-ShownBy started S P J log faults new_faults (outcome.Core f) = IsLastFaulty P J f ⊎ IsFull P J f
+ShownBy started S P J log faults new_faults (outcome.Core f) = IsLastFaulty P J f ⊎ IsFull P J f (IsMessageLeft started S P J log)
 ShownBy started S P J log faults new_faults outcome.Fleet = HasRisen faults new_faults
 ShownBy started S P J log faults new_faults (outcome.Gone i) = (l : LinkNo) × HasGotAll started S log J i.0 l × IsIn (Ended l) log
 ShownBy started S P J log faults new_faults (outcome.Garbled i n) = (l : LinkNo) × HasGotAll started S log J i.0 l × BeginsGarbled (rest_heard (heard_on l log)) n
 ShownBy started S P J log faults new_faults (outcome.LongFrame i n) = (l : LinkNo) × HasGotAll started S log J i.0 l × IsTooLong n (rest_heard (heard_on l log))
 ShownBy started S P J log faults new_faults (outcome.LongItem i n) = IsLongItem P J i.0 n
 ShownBy started S P J log faults new_faults outcome.Mem = ⊤
+
+-- the run was broken off: the fleet failed, or a link ended or brought no message
+abbrev pub IsBrokenOff : Outcome → Type 0
+IsBrokenOff outcome.Done = ⊥
+IsBrokenOff (outcome.Setup f) = ⊥
+IsBrokenOff (outcome.Core f) = ⊥
+IsBrokenOff outcome.Fleet = ⊤
+IsBrokenOff (outcome.Gone i) = ⊤
+IsBrokenOff (outcome.Garbled i n) = ⊤
+IsBrokenOff (outcome.LongFrame i n) = ⊤
+IsBrokenOff (outcome.LongItem i n) = ⊥
+IsBrokenOff outcome.Mem = ⊥
 
 -- at each rest of the handshake its clause stands
 abbrev pub SetupRestsWell : ℕ → Scenario → List LogEntry → Type 0
@@ -97,7 +133,7 @@ SetupRestsWell started S log = (before after : List LogEntry) → log ≡ before
 abbrev pub AreInRange : List Entry → Type 0
 AreInRange J = (H : List Entry) (s : SimNo) (m : Message) (more : List Entry) → J ≡ H ++ Got s m ∷ more → is_in_range m ≡ true
 
--- a run with a plan and a journal, over the entries that it added to the log
+-- a run with a plan and a journal, over the entries that it added to the log; where it was broken off some request was open
 pub record IsRun (started : ℕ) (S : Scenario) (reply : Replies) (P : Plan) (J : List Entry) (log : List LogEntry) (faults new_faults : ℕ) (end : Outcome) : Type 0 where
   pub replies : SetupReplies
   pub valid : IsValidPlan P
@@ -108,11 +144,12 @@ pub record IsRun (started : ℕ) (S : Scenario) (reply : Replies) (P : Plan) (J 
   pub rests : RestsWell started S P J log
   pub setup_rests : SetupRestsWell started S log
   pub shown : ShownBy started S P J log faults new_faults end
+  pub unfinished : IsBrokenOff end → SomeOpen P J
 
 -- nothing went wrong that a run can show
 pub record IsFaultless (started : ℕ) (S : Scenario) (P : Plan) (J : List Entry) (log : List LogEntry) (faults new_faults : ℕ) : Type 0 where
   pub no_fault : (view P J).fault ≡ None
-  pub roomy : length J ≡ P.entries → ⊥
+  pub roomy : length J ≡ P.entries → NeedsMore P J (IsMessageLeft started S P J log) → ⊥
   pub counts : HasRisen faults new_faults → ⊥
   pub open_links : (i : ℕ) (l : LinkNo) → sim_link started S i ≡ Some l → IsIn (Ended l) log → ⊥
   pub right_frames : (i : ℕ) (l : LinkNo) (n : ℕ) → sim_link started S i ≡ Some l → BeginsGarbled (rest_heard (heard_on l log)) n ⊎ IsTooLong n (rest_heard (heard_on l log)) → ⊥

@@ -1,5 +1,5 @@
 -- What stands of a run from the end of its handshake on, and when it has ended. For proofs alone.
-use Rattle.std.specs.Prelude.{◌≡◌, ℕ, ◌<◌, ◌⊎◌, ⊤, true, false, List, ◌∷◌, ◌++◌, length, Option, Some, None, option_and_then, slice_get}
+use Rattle.std.specs.Prelude.{◌≡◌, ℕ, ◌<◌, ◌⊎◌, ⊤, true, false, List, [], ◌∷◌, ◌++◌, length, Option, Some, None, option_and_then, slice_get}
 use Rattle.mk_base.specs.declared.LinkNo.{LinkNo}
 use Rattle.mk_base.specs.declared.SimNo.{SimNo}
 use Rattle.mk_base.specs.declared.tier.Tier.{Tier}
@@ -18,7 +18,7 @@ use Rattle.mk_outside.specs.declared.fleet.LogEntry.{LogEntry}
 use Rattle.mk_outside.specs.declared.fleet.LogEntry.TheVariants.{Ended}
 use Rattle.mk_session.specs.Fronts.{BeginsGarbled}
 use Rattle.mk_sched.specs.Cores.{Stands}
-use Rattle.mk_sched.specs.Answers.{SomeReady}
+use Rattle.mk_sched.specs.Answers.{SomeReady, SomeOpen}
 use Rattle.mk_local.specs.declared.turn.Turn.{Turn}
 use Rattle.mk_local.specs.Simulators.{Simulator}
 use Rattle.mk_links.specs.Hearing.{first_message}
@@ -32,7 +32,7 @@ use Rattle.mk_within.specs.Laws.{HasCome}
 use Rattle.mk_within.specs.Made.{kind_reply_of}
 use Rattle.mk_run.specs.declared.outcome.Outcome.{Outcome}
 use Rattle.mk_run.specs.declared.outcome.Outcome.TheVariants as outcome
-use Rattle.mk_run.specs.Ends.{AreInRange, QueuedAll, IsLastFaulty, IsFull, IsLongItem, SetupRestsWell}
+use Rattle.mk_run.specs.Ends.{AreInRange, QueuedAll, IsBrokenOff, IsLastFaulty, IsOpenWithin, IsFull, IsLongItem, SetupRestsWell}
 
 -- how many links were started before the run, its scenario, the kinds at hand, the replies of each simulator to its handshake, and the plan that these make
 pub record Setting : Type 0 where
@@ -108,11 +108,19 @@ pub record HasGiven (T : Setting) (J : List Entry) (log : List LogEntry) (C : Cr
   pub line : HasLine T.scenario T.replies log i l (got J i) (sent J i) C
   pub none_held : first_message line.line.held ≡ None
 
+-- a message was heard on a link that the journal hasn't got: the line gave it behind those that the journal got
+pub record IsAhead (T : Setting) (J : List Entry) (log : List LogEntry) (C : CrewState) : Type 0 where
+  pub sim : SimNo
+  pub message : Message
+  pub link : LinkNo
+  pub linked : sim_link T.started T.scenario sim.0 ≡ Some link
+  pub line : HasLine T.scenario T.replies log sim.0 link (got (J ++ Got sim message ∷ []) sim.0) (sent (J ++ Got sim message ∷ []) sim.0) C
+
 -- what the outcome shows before the run is stopped
 abbrev pub EndsBy : Type 0 → Setting → Plan → List Entry → List LogEntry → CrewState → Outcome → Type 0
 EndsBy risen T P J log C outcome.Done = IsDone P (view P J)
 EndsBy risen T P J log C (outcome.Setup f) = ⊥
-EndsBy risen T P J log C (outcome.Core f) = IsLastFaulty P J f ⊎ IsFull P J f
+EndsBy risen T P J log C (outcome.Core f) = IsLastFaulty P J f ⊎ IsFull P J f (IsAhead T J log C ⊎ IsOpenWithin T.scenario P J)
 EndsBy risen T P J log C outcome.Fleet = risen
 EndsBy risen T P J log C (outcome.Gone i) = (l : LinkNo) × HasGiven T J log C i.0 l × IsIn (Ended l) log
 EndsBy risen T P J log C (outcome.Garbled i n) = (l : LinkNo) × (g : HasGiven T J log C i.0 l) × BeginsGarbled g.line.line.held n
@@ -132,3 +140,4 @@ pub record HasEnded (risen : Type 0) (T : Setting) (P : Plan) (J : List Entry) (
   pub rests : RestsEnd T.started T.scenario T.replies P J log
   pub setup_rests : SetupRestsWell T.started T.scenario log
   pub ends : EndsBy risen T P J log C end
+  pub unfinished : IsBrokenOff end → SomeOpen P J

@@ -1,4 +1,4 @@
-use Rattle.std.proofs.Common.{[], ◌++◌, subst, arith}
+use Rattle.std.proofs.Common.{[]}
 use Rattle.mk_local.specs.Registries.{rows_in}
 use Rattle.mk_run.proofs.Growing.{less_room}
 use Rattle.mk_run.proofs.Linkless.{ends_after, goes_after}

@@ -1,4 +1,4 @@
-use Rattle.std.proofs.Common.{[], ◌++◌}
+use Rattle.std.proofs.Common.{[]}
 use Rattle.mk_begin.specs.Seen.{crew_of}
 use Rattle.mk_run.proofs.Hearing.{heard_low, heard_in_range}
 use Rattle.mk_run.proofs.Turning.{heard_turn, past_it}
