@@ -1,11 +1,10 @@
 -- The text of a run is sequential execution's.
-use Rattle.std.proofs.Common.{◌≡◌, ℕ, ◌<◌, Bool, true, List, Option, Result, Ok, Err, inl, inr, map, refl, sym, ap, ◌∙◌, subst}
+use Rattle.std.proofs.Common.{◌≡◌, ℕ, ◌<◌, List, Ok, inl, inr, map, refl, ◌∙◌}
 use Rattle.mk_plan.specs.declared.Plan.{Plan}
 use Rattle.mk_plan.specs.declared.Item.{Item}
 use Rattle.mk_plan.specs.declared.Entry.{Entry}
 use Rattle.mk_plan.specs.Plans.{sim_count}
 use Rattle.mk_plan.specs.Journals.{bare, sent}
-use Rattle.mk_scenario.specs.declared.parts.Scenario.{Scenario}
 use Rattle.mk_run.specs.declared.outcome.Outcome.{Outcome}
 use Rattle.mk_run.specs.declared.outcome.Outcome.TheVariants as outcome
 use Rattle.mk_run.proofs.RunRight.{runs_right}
@@ -31,7 +30,7 @@ text_is_done form ids P J (outcome.LongFrame sim n) text is = cc
 text_is_done form ids P J (outcome.LongItem sim n) text is = cc
 text_is_done form ids P J outcome.Mem text is = cc
 
-said_is_done : (form : Form) (ids : List (List ℕ)) (P : Plan) (J : List Entry) (end : Outcome) (text : List ℕ) → IsSaid (saying_of form ids P J end) (Ok text) → (end ≡ outcome.Done) × (text ≡ text_of form P (sent J))
+pub said_is_done : (form : Form) (ids : List (List ℕ)) (P : Plan) (J : List Entry) (end : Outcome) (text : List ℕ) → IsSaid (saying_of form ids P J end) (Ok text) → (end ≡ outcome.Done) × (text ≡ text_of form P (sent J))
 said_is_done form ids P J end text (inl is) = text_is_done form ids P J end text is
 said_is_done form ids P J end text (inr wanting) = cc
 

@@ -1,5 +1,5 @@
 -- The summary of items doesn't show their max_advance.
-use Rattle.std.proofs.Common.{◌≡◌, ℕ, suc, ◌+◌, ◌<◌, ◌≤◌, Bool, true, false, List, [], ◌∷◌, ◌++◌, length, map, filter, refl, sym, ap, ◌∙◌, subst, arith}
+use Rattle.std.proofs.Common.{◌≡◌, ℕ, ◌+◌, ◌<◌, ◌≤◌, Bool, true, List, [], ◌∷◌, ◌++◌, length, map, refl, sym, ap, ◌∙◌, arith}
 use Rattle.std.specs.Prelude.{flat_map, sum, codes, nat_lt, if◌then◌else◌}
 use Rattle.std.specs.List.{enumerate_from}
 use Rattle.std.proofs.lemmas.Bool.Decides.{nat_tests}
@@ -10,8 +10,8 @@ use Rattle.mk_plan.specs.declared.Item.{Item}
 use Rattle.mk_plan.specs.declared.Item.TheVariants.{Step, GetData, Answer, Refuse}
 use Rattle.mk_plan.specs.Plans.{sim_count}
 use Rattle.mk_plan.specs.Journals.{bare}
-use Rattle.mk_plan.specs.Report.{is_step, line_of, steps_in, summary}
-use Rattle.mk_report.specs.Summary.{counts, inputs_of, last_line, last_stepped, values_in}
+use Rattle.mk_plan.specs.Report.{steps_in, summary}
+use Rattle.mk_record.specs.Summary.{counts, inputs_of, last_line, last_stepped, values_in}
 use Rattle.mk_replayed.proofs.WholeRuns.{joined_numbered, line_bare, map_numbered, steps_bare}
 
 -- the inputs stay

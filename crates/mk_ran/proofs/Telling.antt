@@ -1,20 +1,21 @@
 -- From what a run has come to, to what is said of it.
-use Rattle.std.proofs.Common.{◌≡◌, ◌⊎◌, inl, inr, ℕ, Bool, true, false, ◌&&◌, List, [], ◌∷◌, ◌++◌, map, Option, Some, None, Result, Ok, Err, refl, sym, ap, ◌∙◌, subst}
+use Rattle.std.proofs.Common.{◌≡◌, ◌⊎◌, inl, inr, ℕ, Bool, true, ◌&&◌, List, [], ◌∷◌, map, Option, Some, None, Result, Ok, Err, refl, sym, ap, ◌∙◌, subst}
 use Rattle.std.specs.Prelude.{IfOk, IfErr, option_map}
 use Rattle.std.specs.List.{list_all}
 use Rattle.mk_plan.specs.declared.Plan.{Plan}
 use Rattle.mk_plan.specs.declared.Journal.{Journal}
 use Rattle.mk_plan.specs.declared.Entry.{Entry}
 use Rattle.mk_plan.specs.declared.Entry.TheVariants.{Sent, Got}
-use Rattle.mk_outside.specs.Counts.{HasRisen}
 use Rattle.mk_scenario.specs.declared.parts.Scenario.{Scenario}
 use Rattle.mk_scenario.specs.Scenarios.{scenario_of}
+use Rattle.mk_scenario.specs.Wellformed.{IsWellformed}
 use Rattle.mk_local.specs.Kinds.{name_of}
 use Rattle.mk_checked.specs.Runnable.{IsRunnable, IsUnrunnable}
 use Rattle.mk_checked.specs.Checks.{IsUnread}
-use Rattle.mk_lines.specs.Entries.{is_writable}
+use Rattle.mk_record.specs.Writable.{is_writable}
 use Rattle.mk_run.specs.declared.outcome.Outcome.{Outcome}
 use Rattle.mk_begin.specs.declared.halt.Halt.{Halt}
+use Rattle.mk_begin.specs.Wholly.{is_wholly_within}
 use Rattle.mk_run.specs.Outcomes.{outcome_of}
 use Rattle.mk_run.specs.Ends.{AreInRange}
 use Rattle.mk_run.specs.Ran.{RunsAs, HasRun}
@@ -25,6 +26,10 @@ use Rattle.mk_ran.specs.Sayings.{IsHalt, halt_ending, record_of, saying_of}
 use Rattle.mk_ran.specs.declared.sayings.Form.{Form}
 use Rattle.mk_ran.specs.declared.sayings.Form.TheVariants.{Report}
 use Rattle.mk_ran.specs.Outcomes.{IsIdle, IsRunOutcome, IsSaid, IsScenarioOutcome, Outside}
+
+-- bytes are one scenario
+pub one_scenario : (bytes : List ℕ) (S T : Scenario) → scenario_of bytes ≡ Ok S → scenario_of bytes ≡ Ok T → S ≡ T
+one_scenario bytes S T one two = let both = sym one ∙ two in cc
 
 -- what is in range may be written
 pub writable : (J : List Entry) → AreInRange J → list_all is_writable J ≡ true
@@ -107,5 +112,9 @@ pub no_scenario : (O : Outside) (wanted : Bool) (bytes : List ℕ) (e : Ending) 
 no_scenario O wanted bytes e text kept is none quiet same cause = inl (record { ending = e; is = is; cause = cause; idle = idle O kept none quiet same })
 
 -- what comes of a scenario comes of the bytes that are it
-pub of_bytes : (O : Outside) (wanted : Bool) (bytes : List ℕ) (S : Scenario) (text : Result (List ℕ) Ending) (kept : Option (List ℕ)) → scenario_of bytes ≡ Ok S → IsScenarioOutcome O Report wanted S text kept → IsRunOutcome O wanted bytes text kept
-of_bytes O wanted bytes S text kept read outcome = inr (record { scenario = S; read = read; outcome = outcome })
+pub of_bytes : (O : Outside) (wanted : Bool) (bytes : List ℕ) (S : Scenario) (text : Result (List ℕ) Ending) (kept : Option (List ℕ)) → scenario_of bytes ≡ Ok S → IsWellformed S → IsScenarioOutcome O Report wanted S text kept → IsRunOutcome O wanted bytes text kept
+of_bytes O wanted bytes S text kept read wellformed outcome = inr (record { scenario = S; read = read; wellformed = wellformed; outcome = outcome })
+
+-- the bytes are one scenario
+pub within_also : (S T : Scenario) (bytes : List ℕ) → scenario_of bytes ≡ Ok S → scenario_of bytes ≡ Ok T → is_wholly_within S ≡ true → is_wholly_within T ≡ true
+within_also S T bytes one other all = subst (λ (X : Scenario). is_wholly_within X ≡ true) (one_scenario bytes S T one other) all

@@ -1,11 +1,12 @@
 -- What comes of a scenario, and of a scenario file's bytes, over a fleet.
-use Rattle.std.specs.Prelude.{◌≡◌, ◌⊎◌, ℕ, Bool, List, [], map, Option, Some, None, Result, Ok, Err}
+use Rattle.std.specs.Prelude.{◌≡◌, ◌⊎◌, ℕ, Bool, List, [], map, Option, None, Result, Ok, Err}
 use Rattle.mk_plan.specs.declared.Plan.{Plan}
 use Rattle.mk_plan.specs.declared.Entry.{Entry}
 use Rattle.mk_outside.specs.Counts.{HasRisen}
 use Rattle.mk_outside.specs.declared.fleet.LogEntry.{LogEntry}
 use Rattle.mk_scenario.specs.declared.parts.Scenario.{Scenario}
 use Rattle.mk_scenario.specs.Scenarios.{scenario_of}
+use Rattle.mk_scenario.specs.Wellformed.{IsWellformed}
 use Rattle.mk_local.specs.declared.turn.Turn.{Turn}
 use Rattle.mk_local.specs.Kinds.{name_of}
 use Rattle.mk_checked.specs.Checks.{IsUnread}
@@ -81,10 +82,11 @@ pub record IsNoScenario (O : Outside) (bytes : List ℕ) (text : Result (List �
   pub cause : IsUnread bytes ending
   pub idle : IsIdle O record_
 
--- the bytes are a scenario, and this comes of it
+-- the bytes are a scenario, which is well-formed, and this comes of it
 pub record HasScenario (O : Outside) (wanted : Bool) (bytes : List ℕ) (text : Result (List ℕ) Ending) (record_ : Option (List ℕ)) : Type 0 where
   pub scenario : Scenario
   pub read : scenario_of bytes ≡ Ok scenario
+  pub wellformed : IsWellformed scenario
   pub outcome : IsScenarioOutcome O Report wanted scenario text record_
 
 -- what `run` makes of the bytes, a record being wanted or not

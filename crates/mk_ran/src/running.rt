@@ -5,13 +5,16 @@ ghost use Rattle.mk_plan.specs.declared.Plan.{Plan};
 ghost use Rattle.mk_plan.specs.declared.Journal.{Journal};
 ghost use Rattle.mk_outside.specs.declared.fleet.LogEntry.{LogEntry};
 ghost use Rattle.mk_outside.specs.Logs.{Adds};
+ghost use Rattle.mk_scenario.specs.declared.parts.Scenario.{Scenario};
+ghost use Rattle.mk_scenario.specs.Scenarios.{scenario_of};
 ghost use Rattle.mk_scenario.specs.Wellformed.{IsWellformed};
+ghost use Rattle.mk_begin.specs.Wholly.{is_wholly_within};
 ghost use Rattle.mk_launch.specs.Starts.{AreNumbered};
 ghost use Rattle.mk_local.specs.Kinds.{name_of};
 ghost use Rattle.mk_local.specs.Registries.{rows_in};
 ghost use Rattle.mk_checked.specs.Runnable.{IsRunnable, IsUnrunnable};
 ghost use Rattle.mk_run.specs.Ran.{RunsAs};
-ghost use Rattle.mk_lines.specs.Entries.{is_writable};
+ghost use Rattle.mk_record.specs.Writable.{is_writable};
 ghost use Rattle.mk_begin.specs.declared.halt.Halt.{Halt};
 ghost use Rattle.mk_run.specs.Outcomes.{outcome_of};
 ghost use Rattle.mk_sayings.specs.Sayings.{ids_of};
@@ -23,10 +26,10 @@ use crate::sayings::{Form, halt_ending, saying};
 use mk_base::{List, Mem, Text};
 use mk_checked::{ranked, scenario_of};
 use mk_endings::Ending;
-use mk_lines::write_record;
 use mk_local::Registry;
 use mk_outside::Fleet;
 use mk_plan::{Journal, Plan};
+use mk_record::write_record;
 use mk_run::{Outcome, Ran, run};
 use mk_sayings::ids_of;
 use mk_scenario::Scenario;
@@ -54,7 +57,8 @@ impl Told {
 }
 
 /// Reads a scenario file's bytes, and runs the scenario over a fleet, its simulators within the program being of these kinds. It
-/// may wait for others. Every link that it starts is closed at the end.
+/// may wait for others. Every link that it starts is closed at the end; where all simulators are within the program the fleet
+/// is as before.
 pub fn ran<F: Fleet, R: Wait>(
     rt: &R,
     alloc: Global,
@@ -65,6 +69,7 @@ pub fn ran<F: Fleet, R: Wait>(
 ) -> Told
     ensures count { F.faults fleet.old ≤ F.faults fleet.new }
     ensures closed { AreNumbered (F.started fleet.old) (F.open_links fleet.old) → F.open_links fleet.new ≡ F.open_links fleet.old }
+    ensures within { (S : Scenario) → scenario_of bytes.now ≡ Ok S → is_wholly_within S ≡ true → fleet.new ≡ fleet.old }
     ensures text { IfOk result.text (λ text. (entries : List LogEntry) × Adds entries (F.log fleet.old) (F.log fleet.new)
         × IsRunOutcome (outside F.started F.faults (rows_in kinds.now) fleet.old fleet.new entries) is_recorded bytes.now (Ok text.items) (option_map (λ r. r.items) result.record)) }
     ensures none { IfErr result.text (λ e. (entries : List LogEntry) × Adds entries (F.log fleet.old) (F.log fleet.new)
@@ -77,7 +82,8 @@ pub fn ran<F: Fleet, R: Wait>(
 }
 
 /// Runs a scenario over a fleet, its simulators within the program being of these kinds, and writes its text in this form. It may
-/// wait for others. Every link that it starts is closed at the end.
+/// wait for others. Every link that it starts is closed at the end; where all simulators are within the program the fleet is as
+/// before.
 pub fn played<F: Fleet, R: Wait>(
     rt: &R,
     alloc: Global,
@@ -90,6 +96,7 @@ pub fn played<F: Fleet, R: Wait>(
     requires wellformed { IsWellformed scenario }
     ensures count { F.faults fleet.old ≤ F.faults fleet.new }
     ensures closed { AreNumbered (F.started fleet.old) (F.open_links fleet.old) → F.open_links fleet.new ≡ F.open_links fleet.old }
+    ensures within { is_wholly_within scenario ≡ true → fleet.new ≡ fleet.old }
     ensures text { IfOk result.text (λ text. (entries : List LogEntry) × Adds entries (F.log fleet.old) (F.log fleet.new)
         × IsScenarioOutcome (outside F.started F.faults (rows_in kinds.now) fleet.old fleet.new entries) form is_recorded scenario (Ok text.items) (option_map (λ r. r.items) result.record)) }
     ensures none { IfErr result.text (λ e. (entries : List LogEntry) × Adds entries (F.log fleet.old) (F.log fleet.new)
@@ -146,6 +153,7 @@ fn play<F: Fleet, R: Wait>(
     requires ids { accepted.ids ≡ ids_of scenario }
     ensures count { F.faults fleet.old ≤ F.faults fleet.new }
     ensures closed { AreNumbered (F.started fleet.old) (F.open_links fleet.old) → F.open_links fleet.new ≡ F.open_links fleet.old }
+    ensures within { is_wholly_within scenario ≡ true → fleet.new ≡ fleet.old }
     ensures text { IfOk result.text (λ text. (entries : List LogEntry) × Adds entries (F.log fleet.old) (F.log fleet.new)
         × IsScenarioOutcome (outside F.started F.faults (rows_in kinds.now) fleet.old fleet.new entries) form is_recorded scenario (Ok text.items) (option_map (λ r. r.items) result.record)) }
     ensures none { IfErr result.text (λ e. (entries : List LogEntry) × Adds entries (F.log fleet.old) (F.log fleet.new)

@@ -1,8 +1,9 @@
 -- From what comes of a scenario to what comes of the demo scenario.
-use Rattle.std.proofs.Common.{◌≡◌, ◌⊎◌, inl, inr, ℕ, false, List, [], Option, None, Result, Ok, Err, refl, subst, ◌∙◌}
+use Rattle.std.proofs.Common.{◌≡◌, ◌⊎◌, inl, inr, ℕ, true, false, List, [], Option, None, Result, Ok, Err, refl, ap, subst, ◌∙◌}
 use Rattle.std.specs.Prelude.{IfOk, IfErr}
 use Rattle.mk_outside.specs.declared.fleet.LogEntry.{LogEntry}
 use Rattle.mk_scenario.specs.declared.parts.Scenario.{Scenario}
+use Rattle.mk_begin.specs.Wholly.{is_wholly_within}
 use Rattle.mk_demo.specs.Demo.{demo_scenario}
 use Rattle.mk_endings.specs.declared.ending.Ending.{Ending}
 use Rattle.mk_endings.specs.declared.ending.Ending.TheVariants.{Mem}
@@ -20,6 +21,10 @@ pub of_demo : (O : Outside) (size : ℕ) (S : Scenario) (text : Result (List ℕ
 of_demo O size S text kept is outcome =
     subst (λ (X : Scenario). IsScenarioOutcome O Summary false X text None) is
     (subst (λ (k : Option (List ℕ)). IsScenarioOutcome O Summary false S text k) (unkept O S text kept outcome) outcome)
+
+-- its simulators are all within the program
+pub all_within : (size : ℕ) (S : Scenario) → S ≡ demo_scenario size → is_wholly_within S ≡ true
+all_within size S is = ap is_wholly_within is
 
 -- or there was no memory for the scenario
 pub no_memory : (O : Outside) (size : ℕ) → O.log ≡ [] → O.new_faults ≡ O.faults → IsDemoOutcome O size (Err Mem)

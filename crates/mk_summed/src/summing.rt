@@ -16,8 +16,8 @@ use std::alloc::Global;
 use std::sync::Wait;
 
 /// Runs the demo scenario of this size, 1 to 100, its simulators being of these kinds, and answers the summary of what each was
-/// sent, or why there is none. All its simulators are within the program; it may wait for others all the same, as each run. The
-/// links that were open before are open after it, and no others.
+/// sent, or why there is none. All its simulators are within the program, so the fleet is as before: its log has no new entry,
+/// none of its counts rises, and the links that were open before are open after it, and no others.
 pub fn summed<F: Fleet, R: Wait>(
     rt: &R,
     alloc: Global,
@@ -29,6 +29,7 @@ pub fn summed<F: Fleet, R: Wait>(
     requires high { size ≤ 100 }
     ensures count { F.faults fleet.old ≤ F.faults fleet.new }
     ensures closed { AreNumbered (F.started fleet.old) (F.open_links fleet.old) → F.open_links fleet.new ≡ F.open_links fleet.old }
+    ensures unused { fleet.new ≡ fleet.old }
     ensures text { IfOk result (λ text. (entries : List LogEntry) × Adds entries (F.log fleet.old) (F.log fleet.new)
         × IsDemoOutcome (outside F.started F.faults (rows_in kinds.now) fleet.old fleet.new entries) size (Ok text.items)) }
     ensures none { IfErr result (λ e. (entries : List LogEntry) × Adds entries (F.log fleet.old) (F.log fleet.new)

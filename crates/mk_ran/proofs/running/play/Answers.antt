@@ -1,9 +1,8 @@
-use Rattle.std.proofs.Common.{◌≡◌, ℕ, List, Option, Some, None, Result, Ok, Err, refl, ap, subst}
-use Rattle.std.specs.Prelude.{IfErr, option_map}
+use Rattle.std.proofs.Common.{None, Ok, Err, refl}
+use Rattle.std.specs.Prelude.{option_map}
 use Rattle.mk_local.specs.Registries.{rows_in}
-use Rattle.mk_endings.specs.declared.ending.Ending.{Ending}
 use Rattle.mk_ran.specs.Sayings.{record_of}
-use Rattle.mk_ran.specs.Outcomes.{Outside, outside}
+use Rattle.mk_ran.specs.Outcomes.{outside}
 use Rattle.mk_ran.proofs.Telling.{has_run, if_err, if_ok, made_with_ending, made_with_text, played, unplayed, writable}
 use Rattle.mk_ran.proofs.running.play.Goals as goal
 
@@ -47,3 +46,10 @@ returns-in-None-None-clause-none g c =
     let O = outside g.F.Fleet.started g.F.Fleet.faults (rows_in c.args.kinds.now) c.args.fleet.now c.run-outcome.new.fleet r.0 in
     rw (c.unrecorded.ensures.text, c.unrecorded.ensures.record)
     (r.0, r.1, unplayed O c.args.scenario c.args.accepted.ranks c.run-outcome.result.outcome c.args.form c.args.is_recorded c.requires.runnable c.run-outcome.result.plan c.run-outcome.result.journal c.in-None-None.is-0 c.in-None-None.is-1 r.2 c.args.accepted.ids c.requires.ids (Err c.unrun.result) None c.unrun.ensures refl)
+
+-- where all simulators are within the program the fleet is as before
+pub returns-in-Some-Some-clause-within : goal.returns-in-Some-Some-clause-within
+returns-in-Some-Some-clause-within g c = λ all. (c.run-outcome.ensures.within all).0
+
+pub returns-in-None-None-clause-within : goal.returns-in-None-None-clause-within
+returns-in-None-None-clause-within g c = λ all. (c.run-outcome.ensures.within all).0

@@ -1,5 +1,4 @@
-use Rattle.std.proofs.Common.{[], Some, None, Err, refl, ap, option_map, subst}
-use Rattle.std.specs.Prelude.{IfErr}
+use Rattle.std.proofs.Common.{[], refl}
 use Rattle.mk_local.specs.Registries.{rows_in}
 use Rattle.mk_outside.proofs.OnLogs.{adds_none}
 use Rattle.mk_ran.specs.Outcomes.{outside}

@@ -7,7 +7,7 @@ use Rattle.mk_outside.specs.Logs.{Adds}
 use Rattle.mk_outside.proofs.OnLogs.{adds_none}
 use Rattle.mk_ran.specs.Outcomes.{outside}
 use Rattle.mk_summed.specs.Outcomes.{IsDemoOutcome}
-use Rattle.mk_summed.proofs.OfDemo.{if_err, if_ok, no_memory, of_demo}
+use Rattle.mk_summed.proofs.OfDemo.{all_within, if_err, if_ok, no_memory, of_demo}
 use Rattle.mk_summed.proofs.summing.summed.Goals as goal
 
 pub returns-clause-text : goal.returns-clause-text
@@ -21,6 +21,10 @@ returns-clause-none g c =
     if_err c.played.result.text
     (λ e h. (h.0, h.1, of_demo (outside g.F.Fleet.started g.F.Fleet.faults (rows_in c.args.kinds.now) c.args.fleet.now c.played.new.fleet h.0) c.args.size c.in_ok-scenario.scenario (Err e) (option_map (λ v. v.items) c.played.result.record) c.in_ok-scenario.ensures.made h.2))
     c.played.ensures.none
+
+-- all simulators are within the program
+pub returns-clause-unused : goal.returns-clause-unused
+returns-clause-unused g c = c.played.ensures.within (all_within c.args.size c.in_ok-scenario.scenario c.in_ok-scenario.ensures.made)
 
 -- there was no memory for the scenario
 pub returns-in_err-scenario-clause-none : goal.returns-in_err-scenario-clause-none
