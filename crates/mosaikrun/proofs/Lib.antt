@@ -2,4 +2,5 @@ mod Answering
 mod Migrating
 mod NeverUsage
 mod Playing
+mod Recording
 mod Summing

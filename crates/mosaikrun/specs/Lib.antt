@@ -2,5 +2,6 @@ pub mod Around
 pub mod Commands
 pub mod Migrating
 pub mod Program
+pub mod Recording
 pub mod Running
 pub mod Summing

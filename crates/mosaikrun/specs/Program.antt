@@ -10,6 +10,7 @@ use Rattle.mk_endings.specs.Endings.{line_of, status_of}
 use Rattle.mosaikrun.specs.Around.{Around, IsAside, IsCutBy, IsUntouched}
 use Rattle.mosaikrun.specs.Commands.{IsAsked, IsHeld, IsOutcomeOf, IsUnasked, IsUnreadable, file_of}
 use Rattle.mosaikrun.specs.Migrating.{HasMigrated}
+use Rattle.mosaikrun.specs.Recording.{IsRecordKept}
 use Rattle.mosaikrun.specs.Running.{HasRunAs}
 use Rattle.mosaikrun.specs.Summing.{HasSummed}
 
@@ -94,12 +95,13 @@ abbrev pub Told : Result (Unit {0}) Ending → Type 0 → Option (List ℕ) → 
 Told (Ok done) failed old new = new ≡ old
 Told (Err e) failed old new = TookLine (line_of e) failed old new
 
--- the program has ended with this status: by some answer, which holds and was told at the error output
+-- the program has ended with this status: by some answer, which holds and was told at the error output; and the record of a run is kept
 pub record EndsWith (S : Around) (failed : Type 0) (err_before err_after : Option (List ℕ)) (n : ℕ) : Type 0 where
   pub answer : Result (Unit {0}) Ending
   pub is : n ≡ status answer
   pub ended : Ended S answer
   pub told : Told answer failed err_before err_after
+  pub recorded : IsRecordKept S answer n
 
 -- the status that goes with an outcome, or that of a folder or an output that failed, or of want of memory
 abbrev pub IsStatusOr : ℕ → ℕ → Type 0

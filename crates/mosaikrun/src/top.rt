@@ -37,8 +37,8 @@ use std::sync::Wait;
 
 /// Does what the words ask: reads the file that they name, and puts what the command makes of it to `out`. A run is made over
 /// the fleet, and may wait for others; it saves its record, where the words give a name, however it ended. The demo is a run
-/// too, of a scenario that is no file. A migration puts nothing to `out`, and saves a record. Answers the status. A scenario's
-/// simulators within the program are of these kinds.
+/// too, of a scenario that is no file, and leaves the fleet as it was. A migration puts nothing to `out`, and saves a record.
+/// Answers the status. A scenario's simulators within the program are of these kinds.
 ///
 /// At a status other than 0 `err` gets a line that says why, and `out` gets nothing, or a beginning of the text where it failed
 /// or found no memory.
@@ -71,6 +71,7 @@ pub fn program<D: Folder, F: Fleet, K: Sink, E: Sink, R: Wait>(
         → held source ≡ Some bytes → length bytes ≤ file_limit → IsMigration bytes o → (o ≡ Err ends.Mem → ⊥) → IsStatusOr (outcome_status o) result) }
     ensures others_kept { KeepsOthers (map string_bytes words.now) (D.files folder.old) (D.files folder.new) }
     ensures links_closed { AreNumbered (F.started fleet.old) (F.open_links fleet.old) → F.open_links fleet.new ≡ F.open_links fleet.old }
+    ensures alone { (size : ℕ) → IsAsked (map string_bytes words.now) (requests.Demo size) → fleet.new ≡ fleet.old }
     ensures folder_count { D.faults folder.old ≤ D.faults folder.new }
     ensures fleet_count { F.faults fleet.old ≤ F.faults fleet.new }
     ensures out_count { K.faults out.old ≤ K.faults out.new }
@@ -99,6 +100,7 @@ fn answer<D: Folder, F: Fleet, K: Sink, R: Wait>(
       output = output_seen K.written K.faults K.shortages out.old out.new;
     }) result }
     ensures links_closed { AreNumbered (F.started fleet.old) (F.open_links fleet.old) → F.open_links fleet.new ≡ F.open_links fleet.old }
+    ensures alone { (size : ℕ) → IsAsked (map string_bytes words.now) (requests.Demo size) → fleet.new ≡ fleet.old }
     ensures folder_count { D.faults folder.old ≤ D.faults folder.new }
     ensures fleet_count { F.faults fleet.old ≤ F.faults fleet.new }
     ensures out_count { K.faults out.old ≤ K.faults out.new }
@@ -200,6 +202,7 @@ fn sum_up<F: Fleet, K: Sink, R: Wait>(
       output = output_seen K.written K.faults K.shortages out.old out.new;
     }) result }
     ensures links_closed { AreNumbered (F.started fleet.old) (F.open_links fleet.old) → F.open_links fleet.new ≡ F.open_links fleet.old }
+    ensures alone { fleet.new ≡ fleet.old }
     ensures fleet_count { F.faults fleet.old ≤ F.faults fleet.new }
     ensures out_count { K.faults out.old ≤ K.faults out.new }
 {

@@ -10,6 +10,7 @@ use Rattle.mk_ran.specs.Outcomes.{outside}
 use Rattle.mosaikrun.specs.Around.{Around, folder_seen, output_seen}
 use Rattle.mosaikrun.specs.Commands.{IsAsked}
 use Rattle.mosaikrun.specs.Program.{Ended}
+use Rattle.mosaikrun.proofs.Answering.{one_request}
 use Rattle.mosaikrun.proofs.Playing.{performed}
 use Rattle.mosaikrun.proofs.top.answer.Goals as goal
 
@@ -48,6 +49,13 @@ returns-in-Migrate-clause-ended g c =
     let asked = subst (λ (R : Request). IsAsked (map string_bytes c.args.words.now) R) same c.in_ok-request.ensures.asked in
     ([], adds_none (g.F.Fleet.log c.args.fleet.now), c.migrate.ensures.migrated (map string_bytes c.args.words.now) unused seen refl refl refl asked)
 
+-- a run isn't the demo
+pub returns-in-Run-clause-alone : goal.returns-in-Run-clause-alone
+returns-in-Run-clause-alone g c = λ size asked.
+    let ran = subst (λ (R : Request). IsAsked (map string_bytes c.args.words.now) R) c.in-Run.is c.in_ok-request.ensures.asked in
+    let wrong = one_request (map string_bytes c.args.words.now) _ _ ran asked in
+    absurd cc
+
 -- a command without a fleet is made
 pub returns-in_default : goal.returns-in_default
 returns-in_default g c = record {
@@ -58,6 +66,7 @@ returns-in_default g c = record {
         c.in_ok-request.ensures.asked,
   );
   links_closed = λ low_ones. refl;
+  alone = λ size asked. refl;
   folder_count = c.make.ensures.folder_count;
   fleet_count = omega (arith);
   out_count = c.make.ensures.out_count;

@@ -5,6 +5,7 @@ use Rattle.mk_ran.specs.Outcomes.{outside}
 use Rattle.mosaikrun.specs.Around.{Around, folder_seen, output_seen}
 use Rattle.mosaikrun.specs.Program.{IsStatusOr}
 use Rattle.mosaikrun.proofs.Answering.{keeps_others, said_ended, told_decided, told_migrated, told_no_file, usage_only, useless_words}
+use Rattle.mosaikrun.proofs.Recording.{record_kept}
 use Rattle.mosaikrun.proofs.top.program.Goals as goal
 
 pub returns-in-Ok : goal.returns-in-Ok
@@ -17,7 +18,7 @@ returns-in-Ok g c =
       output = output_seen g.K.Sink.written g.K.Sink.faults g.K.Sink.shortages c.args.out.now c.answer.new.out;
     } in
     record {
-      ended = (ended.0, ended.1, record { answer = Ok tt; is = refl; ended = ended.2; told = refl });
+      ended = (ended.0, ended.1, record { answer = Ok tt; is = refl; ended = ended.2; told = refl; recorded = record_kept S (Ok tt) 0 refl ended.2 });
       usage = λ two. usage_only S (Ok tt) ended.2 two;
       useless = useless_words S (Ok tt) ended.2;
       decided = told_decided S S.folder.files (Ok tt) 0 refl refl ended.2;
@@ -25,6 +26,7 @@ returns-in-Ok g c =
       migrated = told_migrated S S.folder.files (Ok tt) 0 refl refl ended.2;
       others_kept = keeps_others S (Ok tt) ended.2;
       links_closed = c.in-Ok.ensures.links_closed;
+      alone = c.in-Ok.ensures.alone;
       folder_count = c.in-Ok.ensures.folder_count;
       fleet_count = c.in-Ok.ensures.fleet_count;
       out_count = c.in-Ok.ensures.out_count;
@@ -43,7 +45,7 @@ returns-in-Err g c =
     let told = c.tell.ensures.told in
     let said = said_ended S told.0 c.in-Err.ending ended.2 told.1 in
     record {
-      ended = (ended.0, ended.1, record { answer = Err told.0; is = told.2; ended = said; told = told.3 });
+      ended = (ended.0, ended.1, record { answer = Err told.0; is = told.2; ended = said; told = told.3; recorded = record_kept S (Err told.0) c.tell.result told.2 said });
       usage = λ two. usage_only S (Err told.0) said (sym told.2 ∙ two);
       useless = λ none. subst (IsStatusOr 2) (sym told.2) (useless_words S (Err told.0) said none);
       decided = told_decided S S.folder.files (Err told.0) c.tell.result refl told.2 said;
@@ -51,6 +53,7 @@ returns-in-Err g c =
       migrated = told_migrated S S.folder.files (Err told.0) c.tell.result refl told.2 said;
       others_kept = keeps_others S (Err told.0) said;
       links_closed = c.in-Err.ensures.links_closed;
+      alone = c.in-Err.ensures.alone;
       folder_count = c.in-Err.ensures.folder_count;
       fleet_count = c.in-Err.ensures.fleet_count;
       out_count = c.in-Err.ensures.out_count;
