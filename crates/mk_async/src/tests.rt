@@ -1,15 +1,18 @@
 //! Requests that each test refuses, and what the others ask for.
+ghost use Rattle.std.specs.Prelude.{◌≡◌, true, IfOk, IsSome};
+ghost use Rattle.std.specs.List.{list_all};
+ghost use Rattle.mk_base.specs.Trees.{is_in_range};
 ghost use Rattle.mk_plan.specs.Plans.{RefersInside};
 ghost use Rattle.mk_names.specs.Names.{AreNamesOf};
+ghost use Rattle.mk_async.specs.Asked.{asked_in, is_asked_in_range};
 
-use crate::{given_values, judge, plain_content};
-use mk_base::{List, Mem, SimKind, SimNo, Text, Via};
-use mk_json::read_json;
+use crate::{Asked, given_values, judge, plain_content};
+use mk_base::{Json, List, Mem, SimKind, SimNo, Text, Via};
+use mk_json::{JsonFault, read_json};
 use mk_names::Names;
-use mk_plan::{AsyncPair, Conn, Plan, PlanEntity, PlanModel, PlanSim};
+use mk_plan::{AsyncPair, Conn, Plan, PlanEntity, PlanModel, PlanSim, SetValue};
 use mk_valid::check_plan;
 use std::alloc::Global;
-use std::process::Abort;
 use std::test::Fail;
 
 fn simulator(alloc: Global, id: &str, rank: u32) -> Result<PlanSim, Mem> {
@@ -54,16 +57,25 @@ fn models(alloc: Global) -> Result<List<PlanModel>, Mem> {
     Ok(models)
 }
 
-// A with entities `0` and `1`, B with `0` and `a.b`; `out` of A's first goes to `in` of B's first; A lends to B.
-fn plan(alloc: Global) -> Result<Plan, Mem> {
+fn simulators(alloc: Global) -> Result<List<PlanSim>, Mem> {
     let mut sims = List::new(alloc);
     sims.push(simulator(alloc, "A-0", 0)?)?;
     sims.push(simulator(alloc, "B-0", 1)?)?;
+    Ok(sims)
+}
+
+// Of A the entities `0` and `1`, of B `0` and `a.b`.
+fn entities(alloc: Global) -> Result<List<PlanEntity>, Mem> {
     let mut entities = List::new(alloc);
     entities.push(entity(alloc, 0, "0", &[2])?)?;
     entities.push(entity(alloc, 0, "1", &[2, 3, 0])?)?;
     entities.push(entity(alloc, 1, "0", &[0, 1])?)?;
     entities.push(entity(alloc, 1, "a.b", &[])?)?;
+    Ok(entities)
+}
+
+// `out` of A's first goes to `in` of B's first.
+fn connections(alloc: Global) -> Result<List<Conn>, Mem> {
     let mut conns = List::new(alloc);
     conns.push(Conn {
         from: 0,
@@ -75,91 +87,141 @@ fn plan(alloc: Global) -> Result<Plan, Mem> {
         triggering: false,
         initial: None,
     })?;
+    Ok(conns)
+}
+
+// A lends to B.
+fn lenders(alloc: Global) -> Result<List<AsyncPair>, Mem> {
     let mut asyncs = List::new(alloc);
     asyncs.push(AsyncPair {
         from: SimNo(0),
         to: SimNo(1),
     })?;
+    Ok(asyncs)
+}
+
+fn plan(alloc: Global) -> Result<Plan, Mem> {
     Ok(Plan {
         until: 3,
         loops: 100,
         entries: 1000,
-        sims,
+        sims: simulators(alloc)?,
         models: models(alloc)?,
-        entities,
-        conns,
-        asyncs,
+        entities: entities(alloc)?,
+        conns: connections(alloc)?,
+        asyncs: lenders(alloc)?,
     })
 }
 
-// The number of the refusal of a request, 0 where it isn't refused.
-fn refusal(
-    alloc: Global,
+fn read(alloc: Global, text: &str) -> Result<Json, JsonFault>
+    ensures { IfOk result (λ tree. is_in_range tree ≡ true) }
+{
+    read_json(alloc, text.as_bytes())
+}
+
+// A list of one argument.
+fn one(alloc: Global, text: &str) -> Result<List<Json>, Fail>
+    ensures { IfOk result (λ args. list_all is_in_range args ≡ true) }
+{
+    let mut args = List::new(alloc);
+    args.push(read(alloc, text)?)?;
+    Ok(args)
+}
+
+// What a request of B asks for, or the number of its refusal.
+fn judged<'a>(
     plan: &Plan,
     names: &Names,
-    sim: SimNo,
-    name: &str,
-    args: &str,
-    named: &str,
-) -> Result<u8, Fail>
+    name: &Text,
+    args: &'a List<Json>,
+    named: &Json,
+) -> Result<Asked<'a>, u8>
+    requires references { RefersInside plan.now }
+    requires names { AreNamesOf plan.now names.now }
+    ensures form { IfOk result (λ asked. IsSome (asked_in asked)) }
+    ensures range { list_all is_in_range args.now ≡ true → IfOk result (λ asked. is_asked_in_range asked ≡ true) }
+{
+    judge(plan, names, SimNo(1), name, args, named)
+}
+
+// The number of its refusal, 0 where it isn't refused.
+fn refused(plan: &Plan, names: &Names, name: &Text, args: &Json, named: &Json) -> u8
     requires references { RefersInside plan.now }
     requires names { AreNamesOf plan.now names.now }
 {
-    let args = read_json(alloc, args.as_bytes())?;
-    let named = read_json(alloc, named.as_bytes())?;
-    let name = Text::of(alloc, name)?;
     let Some(list) = args.as_list() else {
-        return Ok(9);
+        return 9;
     };
-    match judge(plan, names, sim, &name, list, &named) {
-        Ok(_) => Ok(0),
-        Err(number) => Ok(number),
+    match judged(plan, names, name, list, named) {
+        Ok(_) => 0,
+        Err(number) => number,
     }
 }
 
-// The values that a request of B to set data sets, a line each.
-fn sets(alloc: Global, plan: &Plan, names: &Names, arg: &str) -> Result<String, Fail>
+fn refusal(alloc: Global, plan: &Plan, names: &Names, name: &str, args: &str) -> Result<u8, Fail>
     requires references { RefersInside plan.now }
     requires names { AreNamesOf plan.now names.now }
 {
-    let mut args = List::new(alloc);
-    args.push(read_json(alloc, arg.as_bytes())?)?;
-    let named = read_json(alloc, b"{}")?;
-    let name = Text::of(alloc, "set_data")?;
+    let args = read(alloc, args)?;
+    let named = read(alloc, "{}")?;
+    let name = Text::of(alloc, name)?;
+    Ok(refused(plan, names, &name, &args, &named))
+}
+
+// Values that are set, a line each.
+fn lines(alloc: Global, sets: &[SetValue]) -> Result<String, Mem> {
     let mut lines = String::new(alloc);
-    let Ok(asked) = judge(plan, names, SimNo(1), &name, &args, &named) else {
-        return Ok(lines);
-    };
-    for set in given_values(alloc, plan, names, &asked)?.as_slice() {
-        let value = String::from_utf8_lossy(alloc, set.value.bytes())?;
+    for set in sets {
+        let value = std::str::from_utf8(set.value.bytes()).unwrap_or("");
         let line = format!(in alloc;
-            "{} {} {} {}\n",
+            "{} {} {} {value}\n",
             set.source.as_str(),
             set.entity,
-            set.attr.as_str(),
-            value.as_str()
+            set.attr.as_str()
         )?;
         lines.push_str(line.as_str())?;
     }
     Ok(lines)
 }
 
-// The content of the answer to a request of B, where it needs no output.
-fn content(alloc: Global, plan: &Plan, names: &Names, name: &str, arg: &str) -> Result<String, Fail>
+// The values that a request of B to set data sets.
+fn sets(alloc: Global, plan: &Plan, names: &Names, arg: &str) -> Result<String, Fail>
     requires references { RefersInside plan.now }
     requires names { AreNamesOf plan.now names.now }
 {
-    let mut args = List::new(alloc);
-    args.push(read_json(alloc, arg.as_bytes())?)?;
-    let named = read_json(alloc, b"{}")?;
-    let name = Text::of(alloc, name)?;
-    let Ok(asked) = judge(plan, names, SimNo(1), &name, &args, &named) else {
+    let args = one(alloc, arg)?;
+    let named = read(alloc, "{}")?;
+    let name = Text::of(alloc, "set_data")?;
+    let Ok(asked) = judged(plan, names, &name, &args, &named) else {
         return Ok(String::from_str(alloc, "refused")?);
     };
-    match plain_content(alloc, plan, names, &asked)? {
+    let given = given_values(alloc, plan, names, &asked)?;
+    Ok(lines(alloc, given.as_slice())?)
+}
+
+fn content_of(alloc: Global, plan: &Plan, names: &Names, asked: &Asked) -> Result<String, Mem>
+    requires references { RefersInside plan.now }
+    requires names { AreNamesOf plan.now names.now }
+    requires form { IsSome (asked_in asked.now) }
+{
+    match plain_content(alloc, plan, names, asked)? {
         Some(text) => Ok(String::from_utf8_lossy(alloc, text.bytes())?),
         None => Ok(String::from_str(alloc, "none")?),
     }
+}
+
+// The content of the answer to a request of B for related entities.
+fn related(alloc: Global, plan: &Plan, names: &Names, arg: &str) -> Result<String, Fail>
+    requires references { RefersInside plan.now }
+    requires names { AreNamesOf plan.now names.now }
+{
+    let args = one(alloc, arg)?;
+    let named = read(alloc, "{}")?;
+    let name = Text::of(alloc, "get_related_entities")?;
+    let Ok(asked) = judged(plan, names, &name, &args, &named) else {
+        return Ok(String::from_str(alloc, "refused")?);
+    };
+    Ok(content_of(alloc, plan, names, &asked)?)
 }
 
 // Requests of B, and the numbers of their refusals.
@@ -181,12 +243,18 @@ fn other_refusal(alloc: Global, plan: &Plan, names: &Names) -> Result<Option<usi
     requires names { AreNamesOf plan.now names.now }
 {
     for (place, row) in REFUSALS.iter().enumerate() {
-        if refusal(alloc, plan, names, SimNo(1), row.0, row.1, "{}")? != row.2 {
+        if refusal(alloc, plan, names, row.0, row.1)? != row.2 {
             return Ok(Some(place));
         }
     }
     Ok(None)
 }
+
+const SETS: &str =
+    r#"{"B-0.a.b":{"A-0.1":{"in":[1,null]},"A-0.0":{"in":"x"}},"B-0.0":{"A-0.1":{"in":-7}}}"#;
+
+const RELATED: &str =
+    r#"{"A-0.1":{"A-0.0":{"type":"M"},"B-0.0":{"type":"N"},"B-0.a.b":{"type":"N"}},"B-0.a.b":{}}"#;
 
 #[test]
 fn requests_are_refused_or_answered(rt: HostRuntime) -> Result<(), Fail> {
@@ -195,22 +263,13 @@ fn requests_are_refused_or_answered(rt: HostRuntime) -> Result<(), Fail> {
     check_plan(alloc, &plan)?;
     let names = Names::new(alloc, &plan)?;
     assert_eq!(rt; other_refusal(alloc, &plan, &names)?, None);
-    let text =
-        r#"{"B-0.a.b":{"A-0.1":{"in":[1,null]},"A-0.0":{"in":"x"}},"B-0.0":{"A-0.1":{"in":-7}}}"#;
     assert_eq!(rt;
-        sets(alloc, &plan, &names, text)?.as_str(),
+        sets(alloc, &plan, &names, SETS)?.as_str(),
         "B-0.0 1 in -7\nB-0.a.b 0 in \"x\"\nB-0.a.b 1 in [1,null]\n"
     );
-    let related = content(
-        alloc,
-        &plan,
-        &names,
-        "get_related_entities",
-        r#"["B-0.a.b","A-0.1"]"#,
-    )?;
     assert_eq!(rt;
-        related.as_str(),
-        r#"{"A-0.1":{"A-0.0":{"type":"M"},"B-0.0":{"type":"N"},"B-0.a.b":{"type":"N"}},"B-0.a.b":{}}"#
+        related(alloc, &plan, &names, r#"["B-0.a.b","A-0.1"]"#)?.as_str(),
+        RELATED
     );
     Ok(())
 }

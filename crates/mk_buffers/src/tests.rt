@@ -49,27 +49,47 @@ fn connection(alloc: Global, persistent: bool) -> Result<Conn, Mem> {
     })
 }
 
-// The counter A-0 and the sum B-0, until 5.
-fn plan_of(alloc: Global, persistent: bool) -> Result<Plan, Mem> {
+// The counter A-0 and the sum B-0.
+fn simulators(alloc: Global) -> Result<List<PlanSim>, Mem> {
     let mut sims = List::new(alloc);
     sims.push(simulator(alloc, "A-0", 0)?)?;
     sims.push(simulator(alloc, "B-0", 1)?)?;
+    Ok(sims)
+}
+
+// A model of each.
+fn models(alloc: Global) -> Result<List<PlanModel>, Mem> {
     let mut models = List::new(alloc);
     models.push(model(alloc, 0)?)?;
     models.push(model(alloc, 1)?)?;
+    Ok(models)
+}
+
+// An entity of each model.
+fn entities(alloc: Global) -> Result<List<PlanEntity>, Mem> {
     let mut entities = List::new(alloc);
     entities.push(entity(alloc, 0)?)?;
     entities.push(entity(alloc, 1)?)?;
+    Ok(entities)
+}
+
+// Their one connection.
+fn connections(alloc: Global, persistent: bool) -> Result<List<Conn>, Mem> {
     let mut conns = List::new(alloc);
     conns.push(connection(alloc, persistent)?)?;
+    Ok(conns)
+}
+
+// The two, until 5.
+fn plan_of(alloc: Global, persistent: bool) -> Result<Plan, Mem> {
     Ok(Plan {
         until: 5,
         loops: 3,
         entries: 1000,
-        sims,
-        models,
-        entities,
-        conns,
+        sims: simulators(alloc)?,
+        models: models(alloc)?,
+        entities: entities(alloc)?,
+        conns: connections(alloc, persistent)?,
         asyncs: List::new(alloc),
     })
 }
@@ -108,15 +128,6 @@ fn set_value(alloc: Global, source: &str, value: u8) -> Result<SetValue, Mem> {
     })
 }
 
-// Delivers the counter's values 0 to 4, made at the times 0 to 4.
-fn count(alloc: Global, buffers: &mut Buffers) -> Result<(), Mem> {
-    let out = Text::of(alloc, "out")?;
-    for time in 0..5u8 {
-        buffers.deliver(0, &out, at(time), number(alloc, time)?)?;
-    }
-    Ok(())
-}
-
 fn text(value: Option<&Datum>) -> &str {
     match value {
         Some(value) => std::str::from_utf8(value.bytes()).unwrap_or(""),
@@ -151,46 +162,156 @@ fn given(
     Ok(lines)
 }
 
+// What a row does to the buffers, or what is asked of them, with the answer that it must get.
+#[derive(Clone, Copy)]
+enum Row {
+    // the counter's value, made at a time, by the name of its attribute
+    Deliver(u8, u8),
+    // the same by the first outlet
+    Feed(u8, u8),
+    // a value for `in` of the sum at a time, under a source
+    Give(u8, &'static str, u8),
+    // the sum asks for nothing before a time
+    Forget(u8),
+    // the inputs of a step of the sum, after an earlier one
+    Step(Option<u8>, u8, &'static str),
+    // the counter's value that counts at a time
+    Value(u8, &'static str),
+    // how many values are kept
+    Kept(usize),
+    // how many are kept at most
+    AtMost(usize),
+    // how many simulators there are
+    Sims(usize),
+}
+
+fn deliver(alloc: Global, buffers: &mut Buffers, time: u8, value: u8) -> Result<(), Mem> {
+    let out = Text::of(alloc, "out")?;
+    buffers.deliver(0, &out, at(time), number(alloc, value)?)
+}
+
+fn feed(alloc: Global, buffers: &mut Buffers, time: u8, value: u8) -> Result<(), Mem> {
+    let outlet = buffers.first_outlet(SimNo(0));
+    buffers.deliver_to(outlet, at(time), number(alloc, value)?)
+}
+
+fn give(
+    alloc: Global,
+    buffers: &mut Buffers,
+    time: u8,
+    source: &str,
+    value: u8,
+) -> Result<(), Mem> {
+    buffers.give(at(time), set_value(alloc, source, value)?)
+}
+
+fn forget(buffers: &mut Buffers, time: u8) {
+    buffers.forget_before(SimNo(1), at(time));
+}
+
+fn is_given(
+    alloc: Global,
+    buffers: &Buffers,
+    previous: Option<u8>,
+    time: u8,
+    want: &str,
+) -> Result<bool, Mem> {
+    let previous = match previous {
+        Some(time) => Some(at(time)),
+        None => None,
+    };
+    let lines = given(alloc, buffers, previous, time)?;
+    Ok(lines.as_str() == want)
+}
+
+fn is_value(alloc: Global, buffers: &Buffers, time: u8, want: &str) -> Result<bool, Mem> {
+    let out = Text::of(alloc, "out")?;
+    Ok(text(buffers.value_at(0, &out, at(time))) == want)
+}
+
+fn kept(buffers: &Buffers) -> usize {
+    buffers.kept()
+}
+
+fn sims(buffers: &Buffers) -> usize {
+    buffers.sims()
+}
+
+// Does what the row says, and tells whether the answer is its own.
+fn is_so(alloc: Global, buffers: &mut Buffers, row: Row) -> Result<bool, Mem> {
+    match row {
+        Row::Deliver(time, value) => {
+            deliver(alloc, buffers, time, value)?;
+            Ok(true)
+        }
+        Row::Feed(time, value) => {
+            feed(alloc, buffers, time, value)?;
+            Ok(true)
+        }
+        Row::Give(time, source, value) => {
+            give(alloc, buffers, time, source, value)?;
+            Ok(true)
+        }
+        Row::Forget(time) => {
+            forget(buffers, time);
+            Ok(true)
+        }
+        Row::Step(previous, time, want) => is_given(alloc, buffers, previous, time, want),
+        Row::Value(time, want) => is_value(alloc, buffers, time, want),
+        Row::Kept(count) => Ok(kept(buffers) == count),
+        Row::AtMost(count) => Ok(kept(buffers) <= count),
+        Row::Sims(count) => Ok(sims(buffers) == count),
+    }
+}
+
+// How many rows come true of a plan's buffers, up to the first that doesn't.
+fn count_so(alloc: Global, plan: &Plan, rows: &[Row]) -> Result<usize, PlanFault> {
+    let mut buffers = buffers_of(alloc, plan)?;
+    for (place, row) in rows.iter().enumerate() {
+        if !is_so(alloc, &mut buffers, *row)? {
+            return Ok(place);
+        }
+    }
+    Ok(rows.len())
+}
+
 #[test]
 fn a_step_gets_the_value_of_its_time(rt: HostRuntime) -> Result<(), Fail> {
-    let alloc = rt.alloc();
-    let plan = plan_of(alloc, true)?;
-    let mut buffers = buffers_of(alloc, &plan)?;
-    count(alloc, &mut buffers)?;
-    let third = given(alloc, &buffers, Some(at(0)), 3)?;
-    assert_eq!(rt; third.as_str(), "0.in A-0.0=3;");
-    let out = Text::of(alloc, "out")?;
-    assert_eq!(rt; text(buffers.value_at(0, &out, at(2))), "2");
-    assert_eq!(rt; buffers.kept(), 5);
-    buffers.forget_before(SimNo(1), at(3));
-    assert!(rt; buffers.kept() <= 3);
-    let again = given(alloc, &buffers, Some(at(0)), 3)?;
-    assert_eq!(rt; again.as_str(), "0.in A-0.0=3;");
-    let fourth = given(alloc, &buffers, Some(at(3)), 4)?;
-    assert_eq!(rt; fourth.as_str(), "0.in A-0.0=4;");
+    let plan = plan_of(rt.alloc(), true)?;
+    let rows = [
+        Row::Deliver(0, 0),
+        Row::Deliver(1, 1),
+        Row::Deliver(2, 2),
+        Row::Deliver(3, 3),
+        Row::Deliver(4, 4),
+        Row::Step(Some(0), 3, "0.in A-0.0=3;"),
+        Row::Value(2, "2"),
+        Row::Kept(5),
+        Row::Forget(3),
+        Row::AtMost(3),
+        Row::Step(Some(0), 3, "0.in A-0.0=3;"),
+        Row::Step(Some(3), 4, "0.in A-0.0=4;"),
+    ];
+    assert_eq!(rt; count_so(rt.alloc(), &plan, &rows)?, rows.len());
     Ok(())
 }
 
 #[test]
 fn an_event_is_given_once_and_a_set_value_replaces_it(rt: HostRuntime) -> Result<(), Fail> {
-    let alloc = rt.alloc();
-    let plan = plan_of(alloc, false)?;
-    let mut buffers = buffers_of(alloc, &plan)?;
-    assert_eq!(rt; buffers.sims(), 2);
-    let outlet = buffers.first_outlet(SimNo(0));
-    buffers.deliver_to(outlet, at(0), number(alloc, 4)?)?;
-    buffers.deliver_to(outlet, at(1), number(alloc, 5)?)?;
-    buffers.deliver_to(outlet, at(2), number(alloc, 6)?)?;
-    let first = given(alloc, &buffers, None, 0)?;
-    assert_eq!(rt; first.as_str(), "0.in A-0.0=4;");
-    let third = given(alloc, &buffers, Some(at(0)), 3)?;
-    assert_eq!(rt; third.as_str(), "0.in A-0.0=6;");
-    let none = given(alloc, &buffers, Some(at(3)), 4)?;
-    assert_eq!(rt; none.as_str(), "");
-    buffers.give(at(3), set_value(alloc, "A-0.0", 8)?)?;
-    buffers.give(at(3), set_value(alloc, "A-0.0", 9)?)?;
-    buffers.give(at(3), set_value(alloc, "B-0.0", 1)?)?;
-    let set = given(alloc, &buffers, Some(at(0)), 3)?;
-    assert_eq!(rt; set.as_str(), "0.in A-0.0=9;0.in B-0.0=1;");
+    let plan = plan_of(rt.alloc(), false)?;
+    let rows = [
+        Row::Sims(2),
+        Row::Feed(0, 4),
+        Row::Feed(1, 5),
+        Row::Feed(2, 6),
+        Row::Step(None, 0, "0.in A-0.0=4;"),
+        Row::Step(Some(0), 3, "0.in A-0.0=6;"),
+        Row::Step(Some(3), 4, ""),
+        Row::Give(3, "A-0.0", 8),
+        Row::Give(3, "A-0.0", 9),
+        Row::Give(3, "B-0.0", 1),
+        Row::Step(Some(0), 3, "0.in A-0.0=9;0.in B-0.0=1;"),
+    ];
+    assert_eq!(rt; count_so(rt.alloc(), &plan, &rows)?, rows.len());
     Ok(())
 }

@@ -1,10 +1,10 @@
 //! Simulators of some kinds over kinds that a test makes, as a program's `main` does.
 
-ghost use Rattle.std.specs.Prelude.{◌≡◌, true, IfOk, codes};
+ghost use Rattle.std.specs.Prelude.{◌≡◌, IfOk, IfSome};
 ghost use Rattle.mk_base.specs.Lists.{IsIn};
-ghost use Rattle.mk_local.specs.Kinds.{has_kind};
+ghost use Rattle.mk_local.specs.Calls.{IsCallReplied};
 ghost use Rattle.mk_local.specs.Registries.{rows_in};
-ghost use Rattle.mk_local.specs.Rows.{IsStepTime};
+ghost use Rattle.mk_local.specs.Replies.{IsItemReplied};
 
 use crate::{
     EntityStep, EntityTurn, Kind, LocalSim, Registry, Turn, battery_turn, constant_turn,
@@ -15,7 +15,6 @@ use mk_base::{Datum, Json, List, Mem, Members, Text, Tier};
 use mk_meta::read_meta;
 use mk_plan::{Call, Input, Item, Message, Want};
 use std::alloc::Global;
-use std::process::Abort;
 use std::test::Fail;
 
 // Parameters of one member.
@@ -25,32 +24,49 @@ fn params(alloc: Global, name: &str, value: i128) -> Result<Json, Mem> {
     Ok(Json::Object(members))
 }
 
-// The text of the failure of an `init` with this parameter; empty where it isn't refused.
-fn refusal(
+// The reply to a call.
+fn called(alloc: Global, kinds: &Registry, sim: &mut LocalSim, call: &Call) -> Result<Message, Mem>
+    requires { IsCallReplied call.now }
+    ensures { sim.new.kind ≡ sim.old.kind }
+{
+    sim.answer_call(alloc, kinds, call, 1)
+}
+
+// The reply to an item.
+fn asked(alloc: Global, kinds: &Registry, sim: &mut LocalSim, item: &Item) -> Result<Message, Mem>
+    requires there { IsIn sim.old.kind (rows_in kinds.now) }
+    requires replied { IsItemReplied item.now }
+    ensures { sim.new.kind ≡ sim.old.kind }
+{
+    sim.answer_item(alloc, kinds, item, 3)
+}
+
+// The reply to an `init` with this parameter.
+fn init(
     alloc: Global,
     kinds: &Registry,
     sim: &mut LocalSim,
     name: &str,
     value: i128,
-) -> Result<Text, Mem>
+) -> Result<Message, Mem>
     ensures { sim.new.kind ≡ sim.old.kind }
 {
     let call = Call::Init {
         sim: Text::of(alloc, "A-0")?,
         params: params(alloc, name, value)?,
     };
-    failure_in(alloc, sim.answer_call(alloc, kinds, &call, 0)?)
+    called(alloc, kinds, sim, &call)
 }
 
-// The text of the failure of a `create`; empty where it isn't refused.
-fn creation(
+// The reply to a `create` of two entities with this parameter.
+fn create(
     alloc: Global,
     kinds: &Registry,
     sim: &mut LocalSim,
     model: &str,
     name: &str,
     value: i128,
-) -> Result<Text, Mem>
+) -> Result<Message, Mem>
     ensures { sim.new.kind ≡ sim.old.kind }
 {
     let call = Call::Create {
@@ -58,34 +74,40 @@ fn creation(
         model: Text::of(alloc, model)?,
         params: params(alloc, name, value)?,
     };
-    failure_in(alloc, sim.answer_call(alloc, kinds, &call, 1)?)
+    called(alloc, kinds, sim, &call)
 }
 
-fn failure_in(alloc: Global, message: Message) -> Result<Text, Mem> {
-    match message {
-        Message::Failure { id: _, text } => Ok(text),
-        Message::Success { id: _, content: _ } => Text::of(alloc, ""),
-        Message::Ask {
-            id: _,
-            name: _,
-            args: _,
-            named: _,
-        } => Text::of(alloc, ""),
-    }
+// The reply to the end of the setup.
+fn set_up(alloc: Global, kinds: &Registry, sim: &mut LocalSim) -> Result<Message, Mem>
+    ensures { sim.new.kind ≡ sim.old.kind }
+{
+    called(alloc, kinds, sim, &Call::SetupDone)
 }
 
-// The next time that the reply to a Step with one input of the entity 0 gives; -1 for null.
-fn next(
+// The reply to a step with one input of the entity 0.
+fn step(
     alloc: Global,
     kinds: &Registry,
     sim: &mut LocalSim,
-    time: i64,
+    time: u8,
     attr: &str,
-) -> Result<i128, Mem>
-    requires there { IsIn sim.old.kind (rows_in kinds.now) }
-    requires time { IsStepTime time }
+) -> Result<Message, Mem>
+    requires { IsIn sim.old.kind (rows_in kinds.now) }
     ensures { sim.new.kind ≡ sim.old.kind }
 {
+    let item = Item::Step {
+        at: Tier {
+            time: i64::from(time),
+            tier: 0,
+        },
+        inputs: one_input(alloc, attr)?,
+        max_advance: i64::from(time),
+    };
+    asked(alloc, kinds, sim, &item)
+}
+
+// The value 7 for an attribute of the entity 0.
+fn one_input(alloc: Global, attr: &str) -> Result<List<Input>, Mem> {
     let mut inputs = List::new(alloc);
     inputs.push(Input {
         eid: Text::of(alloc, "0")?,
@@ -93,22 +115,17 @@ fn next(
         source: Text::of(alloc, "B-0.0")?,
         value: seven(alloc)?,
     })?;
-    let item = Item::Step {
-        at: Tier { time, tier: 0 },
-        inputs,
-        max_advance: time,
-    };
-    Ok(number_of(&sim.answer_item(alloc, kinds, &item, 3)?))
+    Ok(inputs)
 }
 
-// The output of an entity; -1 where it gave none.
-fn output(
+// The reply to a question for one output.
+fn give(
     alloc: Global,
     kinds: &Registry,
     sim: &mut LocalSim,
     eid: &str,
     attr: &str,
-) -> Result<i128, Mem>
+) -> Result<Message, Mem>
     requires { IsIn sim.old.kind (rows_in kinds.now) }
     ensures { sim.new.kind ≡ sim.old.kind }
 {
@@ -117,41 +134,48 @@ fn output(
         eid: Text::of(alloc, eid)?,
         attr: Text::of(alloc, attr)?,
     })?;
-    let item = Item::GetData { wanted };
-    Ok(number_of(&sim.answer_item(alloc, kinds, &item, 4)?))
+    asked(alloc, kinds, sim, &Item::GetData { wanted })
 }
 
-// Whether a success reply's content is null.
-fn is_null(message: &Message) -> bool {
+// The text of a failure; empty for a success.
+fn failure_in(message: &Message) -> &str {
     match message {
-        Message::Success { id: _, content } => content.is_null(),
-        Message::Failure { id: _, text: _ } => false,
-        Message::Ask {
-            id: _,
-            name: _,
-            args: _,
-            named: _,
-        } => false,
+        Message::Failure { id: _, text } => text.as_str(),
+        _ => "",
     }
 }
 
-// The name of the only model of which the reply to `init` tells; empty where there is none.
-fn model_in(alloc: Global, message: &Message) -> Result<Text, Mem> {
+// The content of a success.
+fn content_in(message: &Message) -> Option<&Json> {
     match message {
-        Message::Success { id: _, content } => match read_meta(alloc, content) {
-            Ok(meta) => match meta.models.as_slice() {
-                [model] => model.name.copy(),
-                _ => Text::of(alloc, ""),
-            },
-            Err(_) => Text::of(alloc, ""),
+        Message::Success { id: _, content } => Some(content),
+        _ => None,
+    }
+}
+
+// Whether a reply is a success without a value.
+fn is_null(message: &Message) -> bool {
+    match content_in(message) {
+        Some(content) => content.is_null(),
+        None => false,
+    }
+}
+
+// Whether the only model of which the reply to `init` tells has this name.
+fn tells_of(alloc: Global, message: &Message, model: &str) -> bool {
+    match content_in(message) {
+        Some(content) => has_model(alloc, content, model),
+        None => false,
+    }
+}
+
+fn has_model(alloc: Global, content: &Json, name: &str) -> bool {
+    match read_meta(alloc, content) {
+        Ok(meta) => match meta.models.as_slice() {
+            [model] => model.name.as_str() == name,
+            _ => false,
         },
-        Message::Failure { id: _, text: _ } => Text::of(alloc, ""),
-        Message::Ask {
-            id: _,
-            name: _,
-            args: _,
-            named: _,
-        } => Text::of(alloc, ""),
+        Err(_) => false,
     }
 }
 
@@ -163,17 +187,11 @@ fn seven(alloc: Global) -> Result<Datum, Mem> {
     }
 }
 
-// What a success reply has: a whole number, or that of the only member of the only member; -1 for anything else.
+// What a success has: a whole number, or that of the only member of the only member; -1 for anything else.
 fn number_of(message: &Message) -> i128 {
-    match message {
-        Message::Success { id: _, content } => number_in(content),
-        Message::Failure { id: _, text: _ } => -1,
-        Message::Ask {
-            id: _,
-            name: _,
-            args: _,
-            named: _,
-        } => -1,
+    match content_in(message) {
+        Some(content) => number_in(content),
+        None => -1,
     }
 }
 
@@ -198,77 +216,107 @@ fn leaf_in(tree: &Json) -> i128 {
     }
 }
 
-// Two entities of a counter, with a setting of 5.
-fn counter(alloc: Global, kinds: &Registry) -> Result<LocalSim, Mem>
-    requires { has_kind (codes "counter") (rows_in kinds.now) ≡ true }
-    ensures { IfOk result (λ s. IsIn s.kind (rows_in kinds.now)) }
-{
-    let name = Text::of(alloc, "counter")?;
-    let mut sim = LocalSim::new(alloc, kinds, &name)?;
-    creation(alloc, kinds, &mut sim, "Count", "start", 5)?;
-    Ok(sim)
+// What a row asks of a simulator, and the answer that it must give.
+#[derive(Clone, Copy)]
+enum Row {
+    // an `init` with one parameter, and its failure; empty where it isn't refused
+    Init(&'static str, i128, &'static str),
+    // the only model of which the reply to an `init` tells
+    Says(&'static str, i128, &'static str),
+    // a `create` of a model with one parameter, and its failure
+    Create(&'static str, &'static str, i128, &'static str),
+    // the end of the setup, after which nothing is told
+    SetUp,
+    // the next time that the reply to a step with one input gives
+    Step(u8, &'static str, i128),
+    // the output of an entity; -1 where it gives none
+    Output(&'static str, &'static str, i128),
 }
 
-// Two entities of a sum, with a setting of 5.
-fn sum(alloc: Global, kinds: &Registry) -> Result<LocalSim, Mem>
-    requires { has_kind (codes "sum") (rows_in kinds.now) ≡ true }
-    ensures { IfOk result (λ s. IsIn s.kind (rows_in kinds.now)) }
+// Asks for what the row says, and tells whether the answer is its own.
+fn is_so(alloc: Global, kinds: &Registry, sim: &mut LocalSim, row: Row) -> Result<bool, Mem>
+    requires { IsIn sim.old.kind (rows_in kinds.now) }
+    ensures { sim.new.kind ≡ sim.old.kind }
 {
-    let name = Text::of(alloc, "sum")?;
-    let mut sim = LocalSim::new(alloc, kinds, &name)?;
-    creation(alloc, kinds, &mut sim, "Sum", "bias", 5)?;
-    Ok(sim)
+    match row {
+        Row::Init(name, value, failure) => {
+            Ok(failure_in(&init(alloc, kinds, sim, name, value)?) == failure)
+        }
+        Row::Says(name, value, model) => {
+            Ok(tells_of(alloc, &init(alloc, kinds, sim, name, value)?, model))
+        }
+        Row::Create(model, name, value, failure) => {
+            Ok(failure_in(&create(alloc, kinds, sim, model, name, value)?) == failure)
+        }
+        Row::SetUp => Ok(is_null(&set_up(alloc, kinds, sim)?)),
+        Row::Step(time, attr, next) => {
+            Ok(number_of(&step(alloc, kinds, sim, time, attr)?) == next)
+        }
+        Row::Output(eid, attr, value) => {
+            Ok(number_of(&give(alloc, kinds, sim, eid, attr)?) == value)
+        }
+    }
 }
 
-// What a counter refuses, and what its entities give.
-fn count(rt: &impl Abort, alloc: Global, kinds: &Registry) -> Result<(), Mem>
-    requires { has_kind (codes "counter") (rows_in kinds.now) ≡ true }
+// A simulator of this kind, if it is stored.
+fn made(alloc: Global, kinds: &Registry, name: &str) -> Result<Option<LocalSim>, Mem>
+    ensures { IfOk result (λ made. IfSome made (λ s. IsIn s.kind (rows_in kinds.now))) }
 {
-    let mut sim = counter(alloc, kinds)?;
-    assert_eq!(rt;
-        refusal(alloc, kinds, &mut sim, "speed", 1)?.as_str(),
-        "bad parameter speed"
-    );
-    assert_eq!(rt;
-        refusal(alloc, kinds, &mut sim, "step", 0)?.as_str(),
-        "bad parameter step"
-    );
-    assert_eq!(rt; refusal(alloc, kinds, &mut sim, "step", 3)?.as_str(), "");
-    assert_eq!(rt;
-        creation(alloc, kinds, &mut sim, "Sum", "start", 0)?.as_str(),
-        "unknown model"
-    );
-    assert_eq!(rt; next(alloc, kinds, &mut sim, 7, "in")?, 10);
-    assert_eq!(rt; output(alloc, kinds, &mut sim, "1", "out")?, 12);
-    assert_eq!(rt; output(alloc, kinds, &mut sim, "2", "out")?, -1);
-    Ok(())
+    if !kinds.has(name) {
+        return Ok(None);
+    }
+    let name = Text::of(alloc, name)?;
+    Ok(Some(LocalSim::new(alloc, kinds, &name)?))
 }
 
-// What a counter says of itself, and when the setup is done.
-fn begin(rt: &impl Abort, alloc: Global, kinds: &Registry) -> Result<(), Mem>
-    requires { has_kind (codes "counter") (rows_in kinds.now) ≡ true }
-{
-    let mut sim = counter(alloc, kinds)?;
-    let init = Call::Init {
-        sim: Text::of(alloc, "A-0")?,
-        params: params(alloc, "step", 3)?,
+// How many rows come true of a simulator of this kind, up to the first that doesn't.
+fn count_so(alloc: Global, kinds: &Registry, name: &str, rows: &[Row]) -> Result<usize, Mem> {
+    let Some(mut sim) = made(alloc, kinds, name)? else {
+        return Ok(0);
     };
-    let said = sim.answer_call(alloc, kinds, &init, 0)?;
-    assert_eq!(rt; model_in(alloc, &said)?.as_str(), "Count");
-    let done = sim.answer_call(alloc, kinds, &Call::SetupDone, 2)?;
-    assert!(rt; is_null(&done));
-    Ok(())
+    for (place, row) in rows.iter().enumerate() {
+        if !is_so(alloc, kinds, &mut sim, *row)? {
+            return Ok(place);
+        }
+    }
+    Ok(rows.len())
 }
+
+// What a counter says of itself, what it refuses, and what its entities give.
+const COUNTER: [Row; 10] = [
+    Row::Create("Count", "start", 5, ""),
+    Row::Says("step", 3, "Count"),
+    Row::SetUp,
+    Row::Init("speed", 1, "bad parameter speed"),
+    Row::Init("step", 0, "bad parameter step"),
+    Row::Init("step", 3, ""),
+    Row::Create("Sum", "start", 0, "unknown model"),
+    Row::Step(7, "in", 10),
+    Row::Output("1", "out", 12),
+    Row::Output("2", "out", -1),
+];
 
 // What the entities of a sum give.
-fn add(rt: &impl Abort, alloc: Global, kinds: &Registry) -> Result<(), Mem>
-    requires { has_kind (codes "sum") (rows_in kinds.now) ≡ true }
-{
-    let mut sim = sum(alloc, kinds)?;
-    assert_eq!(rt; next(alloc, kinds, &mut sim, 0, "in")?, 1);
-    assert_eq!(rt; output(alloc, kinds, &mut sim, "0", "out")?, 12);
-    assert_eq!(rt; output(alloc, kinds, &mut sim, "1", "out")?, 5);
-    Ok(())
+const SUM: [Row; 4] = [
+    Row::Create("Sum", "bias", 5, ""),
+    Row::Step(0, "in", 1),
+    Row::Output("0", "out", 12),
+    Row::Output("1", "out", 5),
+];
+
+// How many rows of each come true.
+fn counts(alloc: Global, kinds: &Registry) -> Result<(usize, usize), Mem> {
+    let counter = count_so(alloc, kinds, "counter", &COUNTER)?;
+    let sum = count_so(alloc, kinds, "sum", &SUM)?;
+    Ok((counter, sum))
+}
+
+// How many kinds are stored, if one that isn't there is said to be missing.
+fn stored(alloc: Global, kinds: &Registry) -> Result<Option<usize>, Mem> {
+    if kinds.has("none") {
+        return Ok(None);
+    }
+    Ok(Some(kinds.names(alloc)?.len()))
 }
 
 #[test]
@@ -293,64 +341,76 @@ fn six_kinds_are_stored_and_called(rt: HostRuntime) -> Result<(), Fail> {
         Turn::Controller,
         Box::new(alloc, |s: EntityStep| controller_turn(s))?,
     ))?;
-    assert_eq!(rt; kinds.names(alloc)?.len(), 6);
-    assert!(rt; !kinds.has("none"));
-    if kinds.has("counter") {
-        begin(&rt, alloc, &kinds)?;
-        count(&rt, alloc, &kinds)?;
-    }
-    if kinds.has("sum") {
-        add(&rt, alloc, &kinds)?;
-    }
+    assert_eq!(rt; stored(alloc, &kinds)?, Some(6));
+    assert_eq!(rt; counts(alloc, &kinds)?, (COUNTER.len(), SUM.len()));
     Ok(())
 }
 
-#[test]
-fn an_entity_of_each_kind_takes_its_turn(rt: HostRuntime) {
-    let seen = EntityStep {
-        step: 4,
-        setting: 7,
+// The turn of an entity by its row.
+fn turned(turn: Turn, step: EntityStep) -> EntityTurn {
+    match turn {
+        Turn::Constant => constant_turn(step),
+        Turn::Counter => counter_turn(step),
+        Turn::Sum => sum_turn(step),
+        Turn::Relay => relay_turn(step),
+        Turn::Battery => battery_turn(step),
+        Turn::Controller => controller_turn(step),
+    }
+}
+
+// A step at 10 with these inputs of an entity whose state is 5.
+fn step_of(step: i64, setting: i64, seen: bool, sum: i64) -> EntityStep {
+    EntityStep {
+        step,
+        setting,
         state: 5,
         time: 10,
-        seen: true,
-        sum: 9,
-    };
-    let unseen = EntityStep {
-        seen: false,
-        sum: 0,
-        ..seen
-    };
-    let idle = EntityStep { step: 0, ..seen };
-    let low = EntityStep { sum: 4, ..seen };
-    let same = EntityStep { sum: 5, ..seen };
-    let most = EntityStep {
-        setting: i64::MAX,
-        ..seen
-    };
-    let given = |state: i64, out: Option<i64>, next: Option<i64>, at: Option<i64>| EntityTurn {
+        seen,
+        sum,
+    }
+}
+
+fn turn_of(state: i64, out: Option<i64>, next: Option<i64>, at: Option<i64>) -> EntityTurn {
+    EntityTurn {
         state,
         out,
         next,
         at,
-    };
-    assert_eq!(rt; constant_turn(seen), given(5, Some(7), Some(14), None));
-    assert_eq!(rt; counter_turn(unseen), given(5, Some(17), Some(14), None));
-    assert_eq!(rt;
-        counter_turn(most),
-        given(5, Some(i64::MAX), Some(14), None)
-    );
-    assert_eq!(rt; sum_turn(seen), given(5, Some(16), Some(14), None));
-    assert_eq!(rt; sum_turn(unseen), given(5, Some(7), Some(14), None));
-    assert_eq!(rt; relay_turn(seen), given(5, Some(16), None, Some(14)));
-    assert_eq!(rt; relay_turn(unseen), given(5, None, None, Some(14)));
-    assert_eq!(rt; relay_turn(idle), given(5, Some(16), None, None));
-    assert_eq!(rt; battery_turn(seen), given(6, Some(6), None, None));
-    assert_eq!(rt; battery_turn(low), given(4, Some(4), None, None));
-    assert_eq!(rt; battery_turn(same), given(5, Some(5), None, None));
-    assert_eq!(rt; battery_turn(unseen), given(5, Some(5), None, None));
-    assert_eq!(rt; controller_turn(low), given(5, Some(7), None, None));
-    assert_eq!(rt; controller_turn(seen), given(5, None, None, None));
-    assert_eq!(rt; controller_turn(unseen), given(5, None, None, None));
+    }
+}
+
+#[test]
+fn an_entity_of_each_kind_takes_its_turn(rt: HostRuntime) {
+    let seen = step_of(4, 7, true, 9);
+    let unseen = step_of(4, 7, false, 0);
+    let idle = step_of(0, 7, true, 9);
+    let low = step_of(4, 7, true, 4);
+    let same = step_of(4, 7, true, 5);
+    let most = step_of(4, i64::MAX, true, 9);
+    let rows = [
+        (Turn::Constant, seen, turn_of(5, Some(7), Some(14), None)),
+        (Turn::Counter, unseen, turn_of(5, Some(17), Some(14), None)),
+        (
+            Turn::Counter,
+            most,
+            turn_of(5, Some(i64::MAX), Some(14), None),
+        ),
+        (Turn::Sum, seen, turn_of(5, Some(16), Some(14), None)),
+        (Turn::Sum, unseen, turn_of(5, Some(7), Some(14), None)),
+        (Turn::Relay, seen, turn_of(5, Some(16), None, Some(14))),
+        (Turn::Relay, unseen, turn_of(5, None, None, Some(14))),
+        (Turn::Relay, idle, turn_of(5, Some(16), None, None)),
+        (Turn::Battery, seen, turn_of(6, Some(6), None, None)),
+        (Turn::Battery, low, turn_of(4, Some(4), None, None)),
+        (Turn::Battery, same, turn_of(5, Some(5), None, None)),
+        (Turn::Battery, unseen, turn_of(5, Some(5), None, None)),
+        (Turn::Controller, low, turn_of(5, Some(7), None, None)),
+        (Turn::Controller, seen, turn_of(5, None, None, None)),
+        (Turn::Controller, unseen, turn_of(5, None, None, None)),
+    ];
+    for (turn, step, want) in rows {
+        assert_eq!(rt; turned(turn, step), want);
+    }
 }
 
 #[test]

@@ -1,42 +1,59 @@
 // Scenario files, table by table, right and with each fault.
-use crate::{Begin, Place, Scenario, ScenarioFault, read_scenario};
-use mk_base::{Json, Via};
+use crate::{
+    AttrPair, Begin, Block, Group, Place, Scenario, ScenarioFault, SimPart, read_scenario,
+};
+use mk_base::{Json, Mem, Via};
 use std::alloc::Global;
 use std::test::Fail;
 
-// The number and the texts of the fault of a text, or `well`.
-fn verdict(alloc: Global, text: &str) -> Result<String, Fail> {
-    match read_scenario(alloc, text.as_bytes()) {
-        Ok(_) => Ok(format!(in alloc; "well")?),
-        Err(fault) => said(alloc, &fault),
+// What a text is read to.
+fn read(alloc: Global, text: &str) -> Result<Scenario, ScenarioFault> {
+    read_scenario(alloc, text.as_bytes())
+}
+
+// A fault's number and what it tells besides.
+fn told(alloc: Global, number: &str, first: &str, second: &str) -> Result<String, Mem> {
+    let line = format!(in alloc; "{number} {first} {second}")?;
+    Ok(line.as_str().trim_end().to_string(alloc)?)
+}
+
+// The number and the texts of a fault.
+fn said(alloc: Global, fault: &ScenarioFault) -> Result<String, Mem> {
+    match fault {
+        ScenarioFault::NotToml => told(alloc, "1", "", ""),
+        ScenarioFault::Missing(key) => told(alloc, "2", key.as_str(), ""),
+        ScenarioFault::WrongKind(key) => told(alloc, "3", key.as_str(), ""),
+        ScenarioFault::UnknownKey(key) => told(alloc, "4", key.as_str(), ""),
+        ScenarioFault::OutOfRange(key, value) => told(alloc, "5", key.as_str(), value.as_str()),
+        ScenarioFault::UnknownSim(key, name) => told(alloc, "6", key.as_str(), name.as_str()),
+        ScenarioFault::UnknownGroup(key, name) => told(alloc, "7", key.as_str(), name.as_str()),
+        ScenarioFault::TwoKinds(key) => told(alloc, "8", key.as_str(), ""),
+        ScenarioFault::Uneven(key, m, n) => uneven(alloc, key.as_str(), *m, *n),
+        ScenarioFault::Taken(name) => told(alloc, "10", name.as_str(), ""),
+        ScenarioFault::Mem => told(alloc, "memory", "", ""),
     }
 }
 
-fn said(alloc: Global, fault: &ScenarioFault) -> Result<String, Fail> {
-    let line = match fault {
-        ScenarioFault::NotToml => format!(in alloc; "1")?,
-        ScenarioFault::Missing(key) => format!(in alloc; "2 {}", key.as_str())?,
-        ScenarioFault::WrongKind(key) => format!(in alloc; "3 {}", key.as_str())?,
-        ScenarioFault::UnknownKey(key) => format!(in alloc; "4 {}", key.as_str())?,
-        ScenarioFault::OutOfRange(key, value) => {
-            format!(in alloc; "5 {} {}", key.as_str(), value.as_str())?
-        }
-        ScenarioFault::UnknownSim(key, name) => {
-            format!(in alloc; "6 {} {}", key.as_str(), name.as_str())?
-        }
-        ScenarioFault::UnknownGroup(key, name) => {
-            format!(in alloc; "7 {} {}", key.as_str(), name.as_str())?
-        }
-        ScenarioFault::TwoKinds(key) => format!(in alloc; "8 {}", key.as_str())?,
-        ScenarioFault::Uneven(key, m, n) => format!(in alloc; "9 {} {m} {n}", key.as_str())?,
-        ScenarioFault::Taken(name) => format!(in alloc; "10 {}", name.as_str())?,
-        ScenarioFault::Mem => format!(in alloc; "memory")?,
-    };
-    Ok(line)
+fn uneven(alloc: Global, key: &str, m: u32, n: u32) -> Result<String, Mem> {
+    let sides = format!(in alloc; "{m} {n}")?;
+    told(alloc, "9", key, sides.as_str())
+}
+
+fn outcome(alloc: Global, read: &Result<Scenario, ScenarioFault>) -> Result<String, Mem> {
+    match read {
+        Ok(_) => Ok("well".to_string(alloc)?),
+        Err(fault) => said(alloc, fault),
+    }
+}
+
+// The number and the texts of the fault of a text, or `well`.
+fn verdict(alloc: Global, text: &str) -> Result<String, Mem> {
+    let read = read(alloc, text);
+    outcome(alloc, &read)
 }
 
 // The verdict of a text that goes on from this beginning.
-fn after(alloc: Global, beginning: &str, rest: &str) -> Result<String, Fail> {
+fn after(alloc: Global, beginning: &str, rest: &str) -> Result<String, Mem> {
     let text = format!(in alloc; "{beginning}{rest}")?;
     verdict(alloc, text.as_str())
 }
@@ -46,6 +63,12 @@ const GROUPS: &str = "until = 3
 sim = [{name = 'A', local = 's'}, {name = 'A', local = 's'}]
 entities = [{id = 'h', sim = 'A-0', model = 'M', num = 3}, {id = 'p', sim = 'A-1', model = 'M', num = 2}, {id = 'g', sim = 'A-1', model = 'M'}]
 ";
+
+// The verdict of the groups with a connection of this text.
+fn connected(alloc: Global, rest: &str) -> Result<String, Mem> {
+    let table = format!(in alloc; "[[connect]]\n{rest}")?;
+    after(alloc, GROUPS, table.as_str())
+}
 
 #[test]
 fn each_fault_is_named_by_its_key(rt: HostRuntime) -> Result<(), Fail> {
@@ -68,26 +91,31 @@ fn each_fault_is_named_by_its_key(rt: HostRuntime) -> Result<(), Fail> {
         ("from = 'h[02]'\nto = 'A-1.a.b'", "well"),
     ];
     for (rest, want) in rows {
-        let text = format!(in rt.alloc(); "[[connect]]\n{rest}")?;
-        assert_eq!(rt; after(rt.alloc(), GROUPS, text.as_str())?.as_str(), want);
+        assert_eq!(rt; connected(rt.alloc(), rest)?.as_str(), want);
     }
-    let group = "{id = 'g', sim = 'A-0', model = 'M'}";
-    let twice = format!(in rt.alloc();
-        "sim = [{{name = 'A', local = 's'}}]\nentities = [{group}, {group}]"
-    )?;
-    assert_eq!(rt;
-        after(rt.alloc(), "until = 3\n", twice.as_str())?.as_str(),
-        "10 g"
-    );
     Ok(())
+}
+
+const TWICE: &str = "until = 3
+sim = [{name = 'A', local = 's'}]
+entities = [{id = 'g', sim = 'A-0', model = 'M'}, {id = 'g', sim = 'A-0', model = 'M'}]";
+
+#[test]
+fn a_group_is_named_once(rt: HostRuntime) -> Result<(), Fail> {
+    assert_eq!(rt; verdict(rt.alloc(), TWICE)?.as_str(), "10 g");
+    Ok(())
+}
+
+fn via_in(scenario: &Scenario) -> Option<Via> {
+    let block = scenario.blocks.get(0)?;
+    Some(block.via)
 }
 
 // How the first connection of a scenario after this beginning delivers.
 fn first_via(alloc: Global, rest: &str) -> Option<Via> {
     let text = format!(in alloc; "{GROUPS}[[connect]]\nfrom = 'p'\nto = 'g'\n{rest}").ok()?;
-    let scenario = read_scenario(alloc, text.as_bytes()).ok()?;
-    let block = scenario.blocks.get(0)?;
-    Some(block.via)
+    let scenario = read(alloc, text.as_str()).ok()?;
+    via_in(&scenario)
 }
 
 #[test]
@@ -109,7 +137,7 @@ fn a_connection_is_time_shifted_by_a_width(rt: HostRuntime) -> Result<(), Fail> 
 }
 
 // This text so many times.
-fn repeated(alloc: Global, text: &str, count: usize) -> Result<String, Fail> {
+fn repeated(alloc: Global, text: &str, count: usize) -> Result<String, Mem> {
     let mut whole = String::new(alloc);
     for _ in 0..count {
         whole.push_str(text)?;
@@ -118,14 +146,14 @@ fn repeated(alloc: Global, text: &str, count: usize) -> Result<String, Fail> {
 }
 
 // The verdict of a simulator with a name of so many bytes.
-fn long_name(alloc: Global, count: usize) -> Result<String, Fail> {
+fn long_name(alloc: Global, count: usize) -> Result<String, Mem> {
     let name = repeated(alloc, "a", count)?;
     let text = format!(in alloc; "until = 3\nsim = [{{name = '{name}', local = 's'}}]")?;
     verdict(alloc, text.as_str())
 }
 
 // The verdict of a parameter that nests thirty tables and so many lists.
-fn deep_value(alloc: Global, lists: usize) -> Result<String, Fail> {
+fn deep_value(alloc: Global, lists: usize) -> Result<String, Mem> {
     let keys = repeated(alloc, ".k", 30)?;
     let open = repeated(alloc, "[", lists)?;
     let close = repeated(alloc, "]", lists)?;
@@ -138,18 +166,17 @@ fn deep_value(alloc: Global, lists: usize) -> Result<String, Fail> {
 #[test]
 fn names_and_nestings_are_tested_at_their_limits(rt: HostRuntime) -> Result<(), Fail> {
     assert_eq!(rt; long_name(rt.alloc(), 64)?.as_str(), "well");
-    assert!(rt;
-        long_name(rt.alloc(), 65)?
-            .as_str()
-            .starts_with("5 sim[0].name a")
-    );
-    assert_eq!(rt; deep_value(rt.alloc(), 70)?.as_str(), "well");
-    assert_eq!(rt; deep_value(rt.alloc(), 71)?.as_str(), "3 sim[0].params.k");
+    let name = repeated(rt.alloc(), "a", 65)?;
+    let want = joined(rt.alloc(), "5 sim[0].name ", name.as_str())?;
+    assert_eq!(rt; long_name(rt.alloc(), 65)?.as_str(), want.as_str());
+    for (lists, want) in [(70, "well"), (71, "3 sim[0].params.k")] {
+        assert_eq!(rt; deep_value(rt.alloc(), lists)?.as_str(), want);
+    }
     Ok(())
 }
 
 // A list of so many empty tables under this key.
-fn tables(alloc: Global, beginning: &str, key: &str, count: usize) -> Result<String, Fail> {
+fn tables(alloc: Global, beginning: &str, key: &str, count: usize) -> Result<String, Mem> {
     let mut text = format!(in alloc; "{beginning}{key} = [")?;
     for _ in 0..count {
         text.push_str("{},")?;
@@ -249,58 +276,32 @@ to = \"log\"
 attrs = [[\"soc\", \"in\"]]
 ";
 
-// The model of the group that a side is, and how many entities it has.
-fn group_of<'a>(scenario: &'a Scenario, side: &'a Place) -> (&'a str, u32) {
-    match side {
-        Place::Whole(n) => match scenario.groups.get(*n as usize) {
-            Some(group) => (group.model.as_str(), group.num),
-            None => ("no group", 0),
-        },
-        Place::One(_, _) => ("one entity", 1),
-        Place::Full(_, eid) => (eid.as_str(), 1),
-    }
-}
+// What that scenario says: its numbers, its simulators, its groups and its connections.
+const DEMO_SAYS: &str = "until 96, 100 loops, 2000000 entries
+sim House-0 local counter () []
+sim Pv-0 local constant (step=4;) []
+sim Grid-0 local sum () []
+sim Bat-0 local battery () []
+sim Ctl-0 local controller () []
+sim Log-0 local sum () []
+group houses of 0: 40 Count (start=1;)
+group pv of 1: 1 Source (value=7;)
+group grid of 2: 1 Sum ()
+group bat of 3: 1 Battery ()
+group ctl of 4: 1 Control (goal=3;)
+group log of 5: 1 Sum ()
+connect 0 to 2, Plain [out>in;] ()
+connect 1 to 2, Plain [out>in;] ()
+connect 2 to 5, Plain [out>in;] ()
+connect 3 to 4, Plain [soc>soc;] ()
+connect 4 to 3, Weak [set>set;] ()
+connect 3 to 5, Plain [soc>in;] ()
+";
 
-#[test]
-fn the_demo_is_read_whole(rt: HostRuntime) -> Result<(), Fail> {
-    let scenario = read_scenario(rt.alloc(), DEMO.as_bytes())?;
-    assert_eq!(rt;
-        (scenario.until, scenario.loops, scenario.entries),
-        (96, 100, 2_000_000)
-    );
-    let ids = ["House-0", "Pv-0", "Grid-0", "Bat-0", "Ctl-0", "Log-0"];
-    let kinds = ["counter", "constant", "sum", "battery", "controller", "sum"];
-    assert_eq!(rt; scenario.sims.len(), ids.len());
-    for (i, sim) in scenario.sims.as_slice().iter().enumerate() {
-        assert_eq!(rt; Some(sim.id.as_str()), ids.get(i).copied());
-        let Begin::Local(kind) = &sim.begin else {
-            return Err(Fail::new("not within the program"));
-        };
-        assert_eq!(rt; Some(kind.as_str()), kinds.get(i).copied());
-    }
-    let sides = [
-        (("Count", 40), ("Sum", 1), Via::Plain),
-        (("Source", 1), ("Sum", 1), Via::Plain),
-        (("Sum", 1), ("Sum", 1), Via::Plain),
-        (("Battery", 1), ("Control", 1), Via::Plain),
-        (("Control", 1), ("Battery", 1), Via::Weak),
-        (("Battery", 1), ("Sum", 1), Via::Plain),
-    ];
-    assert_eq!(rt; scenario.blocks.len(), sides.len());
-    for (i, block) in scenario.blocks.as_slice().iter().enumerate() {
-        let got = (
-            group_of(&scenario, &block.from),
-            group_of(&scenario, &block.to),
-            block.via,
-        );
-        assert_eq!(rt; Some(got), sides.get(i).copied());
-        assert_eq!(rt; block.attrs.len(), 1);
-    }
-    Ok(())
-}
-
-// A simulator at a port and one by a command, each with parameters or events, and a connection of single entities.
+// A simulator at a port and one by a command, each with parameters or events, and connections of single entities and of groups.
 const PARTS: &str = "until = 3
+max_loop_iterations = 7
+max_entries = 5000
 [[sim]]
 name = 'A'
 connect = '127.0.0.1:4567'
@@ -309,6 +310,10 @@ params = { step = 4 }
 name = 'B'
 command = 'python b.py'
 initial_events = [0, 5]
+[[entities]]
+id = 'h'
+sim = 'B-0'
+model = 'N'
 [[entities]]
 id = 'g'
 sim = 'A-0'
@@ -321,53 +326,133 @@ to = 'B-0.e'
 attrs = ['x', ['y', 'z']]
 time_shifted = 2
 initial_data = { y = 7 }
+[[connect]]
+from = 'h'
+to = 'g'
+async_requests = true
 ";
 
-// The whole number of this name among parameters.
-fn whole_of(params: &Json, name: &str) -> Option<i128> {
-    params.member(name)?.as_whole()
+const PARTS_SAY: &str = "until 3, 7 loops, 5000 entries
+sim A-0 connect 4567 (step=4;) []
+sim B-0 command python b.py () [0;5;]
+group h of 1: 1 N ()
+group g of 0: 3 M (start=2;)
+connect 1[2] to 1.e, Shift(2) [x>x;y>z;] (y=7;)
+connect 0 to 1, Plain, asking [] ()
+";
+
+fn begin_text(alloc: Global, begin: &Begin) -> Result<String, Mem> {
+    match begin {
+        Begin::Command(template) => joined(alloc, "command ", template.as_str()),
+        Begin::Connect(port) => Ok(format!(in alloc; "connect {port}")?),
+        Begin::Local(kind) => joined(alloc, "local ", kind.as_str()),
+    }
+}
+
+fn joined(alloc: Global, first: &str, second: &str) -> Result<String, Mem> {
+    Ok(format!(in alloc; "{first}{second}")?)
+}
+
+// The members of an object of whole numbers.
+fn members_text(alloc: Global, tree: &Json) -> Result<String, Mem> {
+    let Some(members) = tree.as_object() else {
+        return Ok("no object".to_string(alloc)?);
+    };
+    let mut text = String::new(alloc);
+    for member in members.entries() {
+        let number = member.1.as_whole().unwrap_or(-1);
+        let next = format!(in alloc; "{}={number};", member.0.as_str())?;
+        text.push_str(next.as_str())?;
+    }
+    Ok(text)
+}
+
+fn times_text(alloc: Global, times: &[i64]) -> Result<String, Mem> {
+    let mut text = String::new(alloc);
+    for time in times {
+        let next = format!(in alloc; "{time};")?;
+        text.push_str(next.as_str())?;
+    }
+    Ok(text)
+}
+
+fn sim_text(alloc: Global, sim: &SimPart) -> Result<String, Mem> {
+    let begin = begin_text(alloc, &sim.begin)?;
+    let params = members_text(alloc, &sim.params)?;
+    let times = times_text(alloc, sim.initial.as_slice())?;
+    Ok(format!(in alloc; "sim {} {begin} ({params}) [{times}]\n", sim.id.as_str())?)
+}
+
+fn group_text(alloc: Global, group: &Group) -> Result<String, Mem> {
+    let params = members_text(alloc, &group.params)?;
+    Ok(format!(in alloc;
+        "group {} of {}: {} {} ({params})\n",
+        group.id.as_str(),
+        group.sim.0,
+        group.num,
+        group.model.as_str()
+    )?)
+}
+
+fn place_text(alloc: Global, place: &Place) -> Result<String, Mem> {
+    match place {
+        Place::Whole(group) => Ok(format!(in alloc; "{group}")?),
+        Place::One(group, index) => Ok(format!(in alloc; "{group}[{index}]")?),
+        Place::Full(sim, eid) => Ok(format!(in alloc; "{}.{}", sim.0, eid.as_str())?),
+    }
+}
+
+fn pairs_text(alloc: Global, pairs: &[AttrPair]) -> Result<String, Mem> {
+    let mut text = String::new(alloc);
+    for pair in pairs {
+        let next = format!(in alloc; "{}>{};", pair.from.as_str(), pair.to.as_str())?;
+        text.push_str(next.as_str())?;
+    }
+    Ok(text)
+}
+
+fn sides_text(alloc: Global, block: &Block) -> Result<String, Mem> {
+    let from = place_text(alloc, &block.from)?;
+    let to = place_text(alloc, &block.to)?;
+    let asking = if block.async_requests { ", asking" } else { "" };
+    Ok(format!(in alloc; "connect {from} to {to}, {:?}{asking}", block.via)?)
+}
+
+fn block_text(alloc: Global, block: &Block) -> Result<String, Mem> {
+    let sides = sides_text(alloc, block)?;
+    let pairs = pairs_text(alloc, block.attrs.as_slice())?;
+    let initial = members_text(alloc, &block.initial)?;
+    Ok(format!(in alloc; "{sides} [{pairs}] ({initial})\n")?)
+}
+
+fn parts_text(alloc: Global, scenario: &Scenario) -> Result<String, Mem> {
+    let mut text = String::new(alloc);
+    for sim in scenario.sims.as_slice() {
+        text.push_str(sim_text(alloc, sim)?.as_str())?;
+    }
+    for group in scenario.groups.as_slice() {
+        text.push_str(group_text(alloc, group)?.as_str())?;
+    }
+    for block in scenario.blocks.as_slice() {
+        text.push_str(block_text(alloc, block)?.as_str())?;
+    }
+    Ok(text)
+}
+
+// All that a scenario says, a line for each part.
+fn whole_text(alloc: Global, scenario: &Scenario) -> Result<String, Mem> {
+    let parts = parts_text(alloc, scenario)?;
+    Ok(format!(in alloc;
+        "until {}, {} loops, {} entries\n{parts}",
+        scenario.until, scenario.loops, scenario.entries
+    )?)
 }
 
 #[test]
-fn parts_are_read_as_they_stand(rt: HostRuntime) -> Result<(), Fail> {
-    let scenario = read_scenario(rt.alloc(), PARTS.as_bytes())?;
-    let first = scenario.sims.get(0).ok_or("no simulator")?;
-    let second = scenario.sims.get(1).ok_or("no second simulator")?;
-    assert_eq!(rt; port_of(&first.begin), Some(4567));
-    assert_eq!(rt; whole_of(&first.params, "step"), Some(4));
-    assert_eq!(rt; command_of(&second.begin), Some("python b.py"));
-    assert_eq!(rt; second.initial.as_slice(), [0, 5].as_slice());
-    let group = scenario.groups.get(0).ok_or("no group")?;
-    assert_eq!(rt; whole_of(&group.params, "start"), Some(2));
-    let block = scenario.blocks.get(0).ok_or("no connection")?;
-    assert_eq!(rt; group_of(&scenario, &block.from), ("one entity", 1));
-    assert_eq!(rt; group_of(&scenario, &block.to), ("e", 1));
-    assert_eq!(rt; whole_of(&block.initial, "y"), Some(7));
-    let names = [("x", "x"), ("y", "z")];
-    assert_eq!(rt; block.attrs.len(), names.len());
-    for (i, pair) in block.attrs.as_slice().iter().enumerate() {
-        assert_eq!(rt;
-            Some((pair.from.as_str(), pair.to.as_str())),
-            names.get(i).copied()
-        );
+fn a_scenario_is_read_whole(rt: HostRuntime) -> Result<(), Fail> {
+    for (text, want) in [(DEMO, DEMO_SAYS), (PARTS, PARTS_SAY)] {
+        let scenario = read(rt.alloc(), text)?;
+        assert_eq!(rt; whole_text(rt.alloc(), &scenario)?.as_str(), want);
     }
     Ok(())
-}
-
-// The port of a simulator that listens at one.
-fn port_of(begin: &Begin) -> Option<u16> {
-    match begin {
-        Begin::Connect(port) => Some(*port),
-        Begin::Command(_) => None,
-        Begin::Local(_) => None,
-    }
-}
-
-// The template of a simulator's command.
-fn command_of(begin: &Begin) -> Option<&str> {
-    match begin {
-        Begin::Command(template) => Some(template.as_str()),
-        Begin::Connect(_) => None,
-        Begin::Local(_) => None,
-    }
 }

@@ -8,7 +8,6 @@ use mk_base::{List, Mem, SimKind, SimNo, Text, Tier, Via};
 use mk_plan::{AsyncPair, Conn, Plan, PlanEntity, PlanModel, PlanSim};
 use mk_valid::{PlanFault, check_plan};
 use std::alloc::Global;
-use std::process::Abort;
 use std::test::Fail;
 
 fn simulator(alloc: Global, id: &str, rank: u32) -> Result<PlanSim, Mem> {
@@ -51,27 +50,46 @@ fn conn(alloc: Global, from: u32, to: u32, via: Via) -> Result<Conn, Mem> {
     })
 }
 
-// Three simulators A, B and C with an entity each, and triggering connections.
-fn plan_of(alloc: Global, conns: List<Conn>, asyncs: List<AsyncPair>) -> Result<Plan, Mem>
-    ensures { IfOk result (λ plan. length plan.sims ≡ 3) }
+// Three simulators A, B and C.
+fn simulators(alloc: Global) -> Result<List<PlanSim>, Mem>
+    ensures { IfOk result (λ sims. length sims ≡ 3) }
 {
     let mut sims = List::new(alloc);
     sims.push(simulator(alloc, "A-0", 0)?)?;
     sims.push(simulator(alloc, "B-0", 1)?)?;
     sims.push(simulator(alloc, "C-0", 2)?)?;
+    Ok(sims)
+}
+
+// A model of each.
+fn models(alloc: Global) -> Result<List<PlanModel>, Mem> {
     let mut models = List::new(alloc);
-    let mut entities = List::new(alloc);
     for sim in 0..3 {
         models.push(model(alloc, sim)?)?;
-        entities.push(entity(alloc, sim)?)?;
     }
+    Ok(models)
+}
+
+// An entity of each model.
+fn entities(alloc: Global) -> Result<List<PlanEntity>, Mem> {
+    let mut entities = List::new(alloc);
+    for model in 0..3 {
+        entities.push(entity(alloc, model)?)?;
+    }
+    Ok(entities)
+}
+
+// The three with an entity each, and triggering connections.
+fn plan_of(alloc: Global, conns: List<Conn>, asyncs: List<AsyncPair>) -> Result<Plan, Mem>
+    ensures { IfOk result (λ plan. length plan.sims ≡ 3) }
+{
     Ok(Plan {
         until: 100,
         loops: 100,
         entries: 1000,
-        sims,
-        models,
-        entities,
+        sims: simulators(alloc)?,
+        models: models(alloc)?,
+        entities: entities(alloc)?,
         conns,
         asyncs,
     })
@@ -95,30 +113,100 @@ fn at(time: i64) -> Option<Tier>
     }
 }
 
-// A start that is pending, or none where the time is below 0.
-fn pend(bounds: &mut Bounds, sim: u32, time: i64)
-    requires { sim < length bounds.old.owns }
-    ensures { length bounds.new.owns ≡ length bounds.old.owns }
-{
-    bounds.set_own(SimNo(sim), at(time), false);
+// What a row does to a simulator, or what is asked of it, with the answer that it must get.
+#[derive(Clone, Copy)]
+enum Row {
+    // a start that is pending, or none where the time is below 0
+    Pend(u32, i64),
+    // a start that is outstanding
+    Ask(u32, i64),
+    // from when on it may step
+    Earliest(u32, Option<(i64, u32)>),
+    // the least end of the walks that touch it at their end alone
+    Outer(u32, Option<i64>),
+    // whether it may be asked
+    Ready(u32, bool),
+    // who may be asked first
+    First(Option<u32>),
 }
 
-// A start that is outstanding.
-fn ask(bounds: &mut Bounds, sim: u32, time: i64)
-    requires { sim < length bounds.old.owns }
-    ensures { length bounds.new.owns ≡ length bounds.old.owns }
+fn set(bounds: &mut Bounds, sim: u32, time: i64, busy: bool)
+    requires { length bounds.old.owns ≡ 3 }
+    ensures { length bounds.new.owns ≡ 3 }
 {
-    bounds.set_own(SimNo(sim), at(time), true);
+    if sim < 3 {
+        bounds.set_own(SimNo(sim), at(time), busy);
+    }
 }
 
-// The time and the tier from when on a simulator may step.
 fn earliest(bounds: &Bounds, sim: u32) -> Option<(i64, u32)>
-    requires { sim < length bounds.now.owns }
+    requires { length bounds.now.owns ≡ 3 }
 {
+    if 3 <= sim {
+        return None;
+    }
     match bounds.earliest(SimNo(sim)) {
         Some(end) => Some((end.time, end.tier)),
         None => None,
     }
+}
+
+fn outer(bounds: &mut Bounds, sim: u32) -> Option<i64>
+    requires { length bounds.old.owns ≡ 3 }
+    ensures { length bounds.new.owns ≡ 3 }
+{
+    if sim < 3 {
+        bounds.outer(SimNo(sim))
+    } else {
+        None
+    }
+}
+
+fn ready(bounds: &Bounds, sim: u32) -> bool
+    requires { length bounds.now.owns ≡ 3 }
+{
+    sim < 3 && bounds.ready(SimNo(sim))
+}
+
+fn first(bounds: &Bounds) -> Option<u32> {
+    match bounds.first_ready() {
+        Some(sim) => Some(sim.0),
+        None => None,
+    }
+}
+
+// Does what the row says, and tells whether the answer is its own.
+fn is_so(bounds: &mut Bounds, row: Row) -> bool
+    requires { length bounds.old.owns ≡ 3 }
+    ensures { length bounds.new.owns ≡ 3 }
+{
+    match row {
+        Row::Pend(sim, time) => {
+            set(bounds, sim, time, false);
+            true
+        }
+        Row::Ask(sim, time) => {
+            set(bounds, sim, time, true);
+            true
+        }
+        Row::Earliest(sim, end) => earliest(bounds, sim) == end,
+        Row::Outer(sim, end) => outer(bounds, sim) == end,
+        Row::Ready(sim, is_ready) => ready(bounds, sim) == is_ready,
+        Row::First(sim) => first(bounds) == sim,
+    }
+}
+
+// How many rows come true of a plan's bounds, up to the first that doesn't.
+fn count_so(alloc: Global, plan: &Plan, rows: &[Row]) -> Result<usize, PlanFault>
+    requires { length plan.now.sims ≡ 3 }
+{
+    let mut bounds = bounds_of(alloc, plan)?;
+    for (place, row) in rows.iter().enumerate() {
+        if !is_so(&mut bounds, *row) {
+            return Ok(place);
+        }
+    }
+    Ok(rows.len())
 }
 
 // A connects to B, and B to C.
@@ -133,29 +221,29 @@ fn chain(alloc: Global) -> Result<Plan, Mem>
 
 #[test]
 fn a_start_bounds_all_that_it_may_trigger(rt: HostRuntime) -> Result<(), Fail> {
-    let alloc = rt.alloc();
-    let plan = chain(alloc)?;
-    let mut bounds = bounds_of(alloc, &plan)?;
-    assert_eq!(rt; bounds.first_ready(), None);
-    assert_eq!(rt; earliest(&bounds, 2), None);
-    pend(&mut bounds, 0, 3);
-    pend(&mut bounds, 1, 5);
-    assert_eq!(rt; earliest(&bounds, 2), Some((3, 0)), "two connections away");
-    assert_eq!(rt; bounds.ready(SimNo(1)), false);
-    assert_eq!(rt; bounds.first_ready(), Some(SimNo(0)));
-    assert_eq!(rt; bounds.outer(SimNo(0)), None);
-    assert_eq!(rt; bounds.outer(SimNo(2)), Some(3));
-    ask(&mut bounds, 0, 7);
-    assert_eq!(rt; earliest(&bounds, 2), Some((5, 0)));
-    assert_eq!(rt;
-        bounds.first_ready(),
-        Some(SimNo(1)),
-        "the first one is busy"
-    );
-    assert_eq!(rt; bounds.outer(SimNo(1)), Some(7));
-    pend(&mut bounds, 0, 2);
-    assert_eq!(rt; earliest(&bounds, 2), Some((2, 0)), "lowered again");
-    assert_eq!(rt; bounds.ready(SimNo(1)), false);
+    let plan = chain(rt.alloc())?;
+    let rows = [
+        Row::First(None),
+        Row::Earliest(2, None),
+        Row::Pend(0, 3),
+        Row::Pend(1, 5),
+        // two connections away
+        Row::Earliest(2, Some((3, 0))),
+        Row::Ready(1, false),
+        Row::First(Some(0)),
+        Row::Outer(0, None),
+        Row::Outer(2, Some(3)),
+        Row::Ask(0, 7),
+        Row::Earliest(2, Some((5, 0))),
+        // the first one is busy
+        Row::First(Some(1)),
+        Row::Outer(1, Some(7)),
+        // lowered again
+        Row::Pend(0, 2),
+        Row::Earliest(2, Some((2, 0))),
+        Row::Ready(1, false),
+    ];
+    assert_eq!(rt; count_so(rt.alloc(), &plan, &rows)?, rows.len());
     Ok(())
 }
 
@@ -171,26 +259,24 @@ fn ring(alloc: Global, via: Via) -> Result<Plan, Mem>
 
 #[test]
 fn what_comes_back_comes_later(rt: HostRuntime) -> Result<(), Fail> {
-    let alloc = rt.alloc();
     for (via, back) in [(Via::Weak, (4, 1)), (Via::Shift(3), (7, 0))] {
-        let plan = ring(alloc, via)?;
-        let mut bounds = bounds_of(alloc, &plan)?;
-        pend(&mut bounds, 0, 1);
-        assert_eq!(rt; earliest(&bounds, 1), Some((1, 0)));
-        assert_eq!(rt;
-            bounds.outer(SimNo(0)),
-            None,
-            "only its own walks come back"
-        );
-        pend(&mut bounds, 1, 4);
-        assert_eq!(rt; bounds.ready(SimNo(0)), true);
-        assert_eq!(rt; bounds.ready(SimNo(1)), false);
-        assert_eq!(rt; bounds.outer(SimNo(0)), Some(back.0));
-        assert_eq!(rt; bounds.outer(SimNo(1)), Some(1));
-        pend(&mut bounds, 0, -1);
-        assert_eq!(rt; earliest(&bounds, 0), Some(back));
-        assert_eq!(rt; bounds.first_ready(), Some(SimNo(1)));
-        assert_eq!(rt; bounds.outer(SimNo(1)), None);
+        let plan = ring(rt.alloc(), via)?;
+        let rows = [
+            Row::Pend(0, 1),
+            Row::Earliest(1, Some((1, 0))),
+            // only its own walks come back
+            Row::Outer(0, None),
+            Row::Pend(1, 4),
+            Row::Ready(0, true),
+            Row::Ready(1, false),
+            Row::Outer(0, Some(back.0)),
+            Row::Outer(1, Some(1)),
+            Row::Pend(0, -1),
+            Row::Earliest(0, Some(back)),
+            Row::First(Some(1)),
+            Row::Outer(1, None),
+        ];
+        assert_eq!(rt; count_so(rt.alloc(), &plan, &rows)?, rows.len());
     }
     Ok(())
 }
@@ -209,20 +295,18 @@ fn pair(alloc: Global) -> Result<Plan, Mem>
 
 #[test]
 fn an_asynchronous_pair_waits_both_ways(rt: HostRuntime) -> Result<(), Fail> {
-    let alloc = rt.alloc();
-    let plan = pair(alloc)?;
-    for (lender, asker, first) in [(2, 2, 0), (3, 2, 1), (2, 3, 0)] {
-        let mut bounds = bounds_of(alloc, &plan)?;
-        pend(&mut bounds, 0, lender);
-        pend(&mut bounds, 1, asker);
-        assert_eq!(rt; bounds.first_ready(), Some(SimNo(first)));
-        assert_eq!(rt; bounds.ready(SimNo(1 - first)), false);
-        assert_eq!(rt;
-            earliest(&bounds, 1),
-            Some((asker, 0)),
-            "a pair triggers nothing"
-        );
-        assert_eq!(rt; bounds.outer(SimNo(1)), None);
+    let plan = pair(rt.alloc())?;
+    for (lender, asker, first, second) in [(2, 2, 0, 1), (3, 2, 1, 0), (2, 3, 0, 1)] {
+        let rows = [
+            Row::Pend(0, lender),
+            Row::Pend(1, asker),
+            Row::First(Some(first)),
+            Row::Ready(second, false),
+            // a pair triggers nothing
+            Row::Earliest(1, Some((asker, 0))),
+            Row::Outer(1, None),
+        ];
+        assert_eq!(rt; count_so(rt.alloc(), &plan, &rows)?, rows.len());
     }
     Ok(())
 }
