@@ -7,8 +7,8 @@ there, by names, or `lengths`, how many bytes of 0 stand under a name, is run in
 `scripted.py` beside a text whose name ends with `.script`; one with
 `saved`, the name of a file and the text that it must have (null: it must not be there), in a folder that holds copies of the
 files that its words name; one with `at` in that folder of the repository; any other one in the folder `cases`. With `child`
-the program `mk_child`, which the gate makes beside the other, lies in that folder too. It prints what differs, and ends with
-'N passed, M failed'.
+the program `mk_child`, which the gate makes beside the other, lies in that folder too. A case fails too where a program that
+it started still runs when it has ended. It prints what differs, and ends with 'N passed, M failed'.
 """
 
 import json
@@ -18,6 +18,23 @@ import shutil
 import subprocess
 import sys
 import tempfile
+
+
+def left_behind(session: int) -> list[str]:
+    """Returns the names of the programs of this session that still run."""
+    names = []
+    for file in pathlib.Path("/proc").glob("[0-9]*/stat"):
+        try:
+            text = file.read_text(encoding="utf-8", errors="replace")
+        except OSError:
+            # it has ended meanwhile
+            continue
+        # the name stands in parentheses; behind it come the state, the parent, the group and the session
+        start, end = text.index("("), text.rindex(")")
+        state, _, _, its = text[end + 1 :].split()[:4]
+        if int(its) == session and state != "Z":
+            names.append(text[start + 1 : end])
+    return names
 
 
 def main() -> int:
@@ -44,9 +61,11 @@ def main() -> int:
                 shutil.copy(pathlib.Path(program).parents[2] / "mk_child" / "out" / "mk_child", room)
             at = room if any(key in case for key in ("files", "pieces", "lengths", "saved")) else folder
             at = checks.parent / case["at"] if "at" in case else at
-            ran = subprocess.run([program, *case["words"]], cwd=at, capture_output=True, timeout=60, check=False)
-            got = [ran.returncode, ran.stdout.decode("utf-8", "replace"), ran.stderr.decode("utf-8", "replace")]
-            want = [case["status"], case["out"], case["err"]]
+            pipes = {"stdout": subprocess.PIPE, "stderr": subprocess.PIPE}
+            with subprocess.Popen([program, *case["words"]], cwd=at, start_new_session=True, **pipes) as ran:
+                out, err = ran.communicate(timeout=60)
+            got = [ran.returncode, out.decode("utf-8", "replace"), err.decode("utf-8", "replace"), left_behind(ran.pid)]
+            want = [case["status"], case["out"], case["err"], []]
             if "saved" in case:
                 saved = pathlib.Path(room) / case["saved"]["name"]
                 got.append(saved.read_text(encoding="utf-8") if saved.exists() else None)
