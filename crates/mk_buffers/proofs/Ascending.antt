@@ -14,7 +14,7 @@ use Rattle.mk_base.proofs.TierOrder.{up_to_self, up_to_total, up_to_trans, delay
 use Rattle.mk_base.proofs.Lists.{filter_append, map_append, in_map}
 use Rattle.mk_plan.specs.Deliveries.{Timed}
 use Rattle.mk_plan.specs.Inputs.{later, latest, is_since}
-use Rattle.mk_buffers.specs.Logs.{arrival, arrivals, by, is_in_time, does_come, weighed, AllFrom, IsAscending, is_past, is_hidden, SameAnswers, within, AnswersFrom, PlacedFor}
+use Rattle.mk_buffers.specs.Logs.{arrival, arrivals, by, is_in_time, does_come, weighed, AllFrom, IsAscending, is_overtaken, SameAnswers, within, AnswersFrom, PlacedFor}
 use Rattle.mk_buffers.proofs.Latest.{without, moved, latest_last}
 
 -- two tests one after the other
@@ -34,7 +34,7 @@ strictly x y Weak h = grind (arith, ints)
 time_rises : (x y : Tier) → up_to x y ≡ true → x.time ≤ℤ y.time
 time_rises x y h = grind (arith, ints)
 
-from_in : (x : Tier) (ts : List Timed) (t : Timed) → AllFrom x ts → IsIn t ts → IsUpTo x t.at
+pub from_in : (x : Tier) (ts : List Timed) (t : Timed) → AllFrom x ts → IsIn t ts → IsUpTo x t.at
 from_in x [] t all m = absurd m
 from_in x (u ∷ us) t all (inl e) = subst (λ (w : Timed). IsUpTo x w.at) (sym e) all.0
 from_in x (u ∷ us) t all (inr m) = from_in x us t all.1 m
@@ -48,7 +48,7 @@ from_less : (x y : Tier) (ts : List Timed) → IsUpTo x y → AllFrom y ts → A
 from_less x y [] h all = tt
 from_less x y (t ∷ ts) h all = (up_to_trans x y t.at h all.0, from_less x y ts h all.1)
 
-ascending_at : (ts : List Timed) (i j : ℕ) (d : Timed) → IsAscending ts → i ≤ j → j < length ts → IsUpTo (get_or ts i d).at (get_or ts j d).at
+pub ascending_at : (ts : List Timed) (i j : ℕ) (d : Timed) → IsAscending ts → i ≤ j → j < length ts → IsUpTo (get_or ts i d).at (get_or ts j d).at
 ascending_at [] i j d up le there = absurd (omega arith)
 ascending_at (t ∷ ts) zero zero d up le there = up_to_self t.at
 ascending_at (t ∷ ts) zero (suc j) d up le there = from_at t.at ts j d up.0 (omega arith)
@@ -62,17 +62,17 @@ IsDownward test = (x y : Tier) → IsUpTo x y → test y ≡ true → test x ≡
 pub partitioned : (test : Tier → Bool) → IsDownward test → (ts : List Timed) → IsAscending ts → IsPartitionedBy (λ t. test t.at) ts
 partitioned test down ts up i j d le there h = down (get_or ts i d).at (get_or ts j d).at (ascending_at ts i j d up le there) h
 
-and_both : (a b : Bool) → a && b ≡ true → (a ≡ true) × (b ≡ true)
+pub and_both : (a b : Bool) → a && b ≡ true → (a ≡ true) × (b ≡ true)
 and_both true b h = (refl, h)
 and_both false b h = absurd (true≢false (sym h))
 
-and_is : (a b : Bool) → a ≡ true → b ≡ true → a && b ≡ true
+pub and_is : (a b : Bool) → a ≡ true → b ≡ true → a && b ≡ true
 and_is a b h k = rw (h, k) refl
 
 earlier_end : (x y : Tier) (until : ℤ) → up_to x y ≡ true → int_lt y.time until ≡ true → int_lt x.time until ≡ true
 earlier_end x y until h k = grind (arith, ints)
 
-in_time_before : (until : Option ℤ) (x y : Tier) → up_to x y ≡ true → is_in_time until y ≡ true → is_in_time until x ≡ true
+pub in_time_before : (until : Option ℤ) (x y : Tier) → up_to x y ≡ true → is_in_time until y ≡ true → is_in_time until x ≡ true
 in_time_before None x y h k = refl
 in_time_before (Some until) x y h k = earlier_end x y until h k
 
@@ -148,7 +148,7 @@ found_last v until x ts p e up le some is parts = sym (ap latest (come v until x
     one_more : (p : ℕ) → 0 < p → p ≡ suc (p - 1)
     one_more p h = omega arith
 
-get_or_any : (xs : List Timed) (i : ℕ) (c d : Timed) → i < length xs → get_or xs i c ≡ get_or xs i d
+pub get_or_any : (xs : List Timed) (i : ℕ) (c d : Timed) → i < length xs → get_or xs i c ≡ get_or xs i d
 get_or_any [] i c d there = absurd (omega arith)
 get_or_any (x ∷ xs) zero c d there = refl
 get_or_any (x ∷ xs) (suc i) c d there = get_or_any xs i c d (omega arith)
@@ -281,7 +281,7 @@ split_two (t ∷ u ∷ ts) (suc p) d e there is next = let rest = split_two (u �
     shape : (p : ℕ) → suc p + 1 ≡ suc (p + 1)
     shape p = omega arith
 
-list_all_in : (f : Via → Bool) (vs : List Via) (v : Via) → list_all f vs ≡ true → IsIn v vs → f v ≡ true
+pub list_all_in : (f : Via → Bool) (vs : List Via) (v : Via) → list_all f vs ≡ true → IsIn v vs → f v ≡ true
 list_all_in f [] v h m = absurd m
 list_all_in f (w ∷ ws) v h (inl q) = ap f q ∙ (and_both (f w) (list_all f ws) h).0
 list_all_in f (w ∷ ws) v h (inr m) = list_all_in f ws v (and_both (f w) (list_all f ws) h).1 m
@@ -294,32 +294,29 @@ since_later (Some q) x y h k = go (up_to y q) refl
     go true r = ap not (sym (up_to_trans x y q h r)) ∙ k
     go false r = refl
 
-ends_too : (x y : Tier) (until : ℤ) → int_lt y.time until || int_le until x.time ≡ true → int_lt x.time until ≡ true → int_lt y.time until ≡ true
-ends_too x y until h k = go (int_lt y.time until) (int_le until x.time) refl h
-  where
-    go : (a b : Bool) → int_le until x.time ≡ b → a || b ≡ true → a ≡ true
-    go true b e h = refl
-    go false true e h = absurd (apart x.time until k e)
-      where
-        apart : (n m : ℤ) → int_lt n m ≡ true → int_le m n ≡ true → ⊥
-        apart n m h k = grind (arith, ints)
-    go false false e h = h
-
-or_either : (a b c : Bool) → (b ≡ true → c ≡ true) → a || b ≡ true → a || c ≡ true
+pub or_either : (a b c : Bool) → (b ≡ true → c ≡ true) → a || b ≡ true → a || c ≡ true
 or_either true b c f h = refl
 or_either false b c f h = f h
 
 pub answers_self : (vias : List Via) (until : ℤ) (mark : Tier) (ts : List Timed) → AnswersFrom vias until mark ts ts
 answers_self vias until mark ts = record { made = λ x h. refl; arrived = λ v m all p x h. refl }
 
+-- what never comes after the run's end comes before it
+pub comes_in_time : (c : Bool) (x : Tier) (until : ℤ) → c || int_le until x.time ≡ true → int_lt x.time until ≡ true → c ≡ true
+comes_in_time true x until h k = refl
+comes_in_time false x until h k = absurd (apart x.time until k h)
+  where
+    apart : (n m : ℤ) → int_lt n m ≡ true → int_le m n ≡ true → ⊥
+    apart n m h k = grind (arith, ints)
+
 pub forget_step : (vias : List Via) (until : ℤ) (mark : Tier) (ts all new : List Timed) (p : ℕ) (d e : Timed) → IsAscending ts → AnswersFrom vias until mark ts all → p + 1 < length ts → d ≡ get_or ts p d → e ≡ get_or ts (p + 1) e
-    → is_past vias mark e.at ≡ true → is_hidden vias until d.at e.at ≡ true → new ≡ remove ts p → IsAscending new × AnswersFrom vias until mark new all
-forget_step vias until mark ts all new p d e up answers there is next past hidden gone =
+    → is_overtaken vias until mark d.at e.at ≡ true → new ≡ remove ts p → IsAscending new × AnswersFrom vias until mark new all
+forget_step vias until mark ts all new p d e up answers there is next over gone =
     let s = split_two ts p d e there is next in
     let front : List Timed = s.0 in
     let back : List Timed = s.1 in
     let less : IsUpTo d.at e.at = subst (λ (w : Timed). IsUpTo w.at e.at) (sym is) (subst (λ (w : Timed). IsUpTo (get_or ts p d).at w.at) (get_or_any ts (p + 1) d e (omega arith) ∙ sym next) (ascending_at ts p (p + 1) d up (omega arith) (omega arith))) in
-    let come = and_both (up_to e.at mark) (list_all (λ v. up_to (delayed e.at v) mark) vias) past in (
+    let come = and_both (up_to e.at mark) (list_all (λ v. does_come v (Some until) mark e.at || int_le until (delayed d.at v).time) vias) over in (
       subst IsAscending (sym gone) (ascending_remove ts p up),
       record {
         made = λ x h. ap (λ (l : List Timed). latest (by x l)) (gone ∙ s.3)
@@ -333,10 +330,11 @@ forget_step vias until mark ts all new p d e up answers there is next past hidde
             ∙ sym (without C (map (arrival v) front) (arrival v e ∷ map (arrival v) back) (arrival v d) (arrival v e) (inl refl) (delayed_keeps d.at e.at v less)
             (λ k. let a = and_both (int_lt (delayed d.at v).time until) (within all p x (arrival v d)) k in
             let b = and_both (up_to (delayed d.at v) x) (all || is_since p (delayed d.at v)) a.1 in
-            and_is (int_lt (delayed e.at v).time until) (within all p x (arrival v e))
-            (ends_too (delayed d.at v) (delayed e.at v) until (list_all_in (λ v. int_lt (delayed e.at v).time until || int_le until (delayed d.at v).time) vias v hidden m) a.0)
+            let c = and_both (up_to (delayed e.at v) mark) (int_lt (delayed e.at v).time until)
+            (comes_in_time (does_come v (Some until) mark e.at) (delayed d.at v) until (list_all_in (λ v. does_come v (Some until) mark e.at || int_le until (delayed d.at v).time) vias v come.1 m) a.0) in
+            and_is (int_lt (delayed e.at v).time until) (within all p x (arrival v e)) c.1
             (and_is (up_to (delayed e.at v) x) (all || is_since p (delayed e.at v))
-            (up_to_trans (delayed e.at v) mark x (list_all_in (λ v. up_to (delayed e.at v) mark) vias v come.1 m) h)
+            (up_to_trans (delayed e.at v) mark x c.0 h)
             (or_either all (is_since p (delayed d.at v)) (is_since p (delayed e.at v)) (since_later p (delayed d.at v) (delayed e.at v) (delayed_keeps d.at e.at v less)) b.1))))
             ∙ ap (λ (l : List Timed). latest (filter C l)) (sym (map_append (arrival v) front (d ∷ e ∷ back)))
             ∙ sym (ap latest (filter_both (within all p x) (λ y. is_in_time (Some until) y.at) (map (arrival v) (front ++ d ∷ e ∷ back))))

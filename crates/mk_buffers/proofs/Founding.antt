@@ -1,5 +1,5 @@
 -- The tables of new buffers are those of the plan.
-use Rattle.std.proofs.Common.{◌≡◌, ◌⊎◌, inl, inr, ℕ, zero, suc, ◌<◌, ◌≤◌, true, false, ◌&&◌, List, [], ◌∷◌, length, Option, Some, None, pos, unwrap_or, option_map, slice_get, refl, sym, ap, subst, ◌∙◌, arith, ◌==◌, ◌++◌}
+use Rattle.std.proofs.Common.{◌≡◌, ◌⊎◌, inl, inr, ℕ, ℤ, zero, suc, ◌<◌, ◌≤◌, nat_lt, nat_le, get_or, true, false, ◌&&◌, List, [], ◌∷◌, length, Option, Some, None, pos, unwrap_or, option_map, slice_get, refl, sym, ap, subst, ◌∙◌, arith, ◌==◌, ◌++◌}
 use Rattle.std.specs.Cmp.{IsTotalOrder}
 use Rattle.std.specs.List.Sorted.{IsStrictlySortedBy}
 use Rattle.std.specs.Ordering.{ordering_then, ordering_reverse, nat_cmp}
@@ -11,11 +11,11 @@ use Rattle.std.proofs.lemmas.Bool.Decides.{nat_tests}
 use Rattle.std.proofs.lemmas.Slice.Eq.{bytes_eq-Decides}
 use Rattle.mk_base.specs.declared.tier.Via.{Via}
 use Rattle.mk_base.specs.Lists.{IsIn, text_order, same_text}
-use Rattle.mk_base.proofs.Lists.{some_same, in_at, at_in, get_is, below_get, in_filter, filter_in, some_passes}
+use Rattle.mk_base.proofs.Lists.{some_same, in_at, at_in, get_is, below_get, all_in, in_filter, filter_in, some_passes}
 use Rattle.mk_plan.specs.declared.Plan.{Plan}
 use Rattle.mk_plan.specs.declared.Conn.{Conn}
 use Rattle.mk_plan.specs.Asks.{gives_attr}
-use Rattle.mk_plan.specs.Plans.{owner, eid_of, HasDistinctNames}
+use Rattle.mk_plan.specs.Plans.{owner, eid_of, HasDistinctNames, RefersInside}
 use Rattle.mk_buffers.specs.declared.buffers.Buffers.{Buffers}
 use Rattle.mk_buffers.specs.declared.buffers.Home.{Home}
 use Rattle.mk_buffers.specs.declared.inlets.Inlet.{Inlet}
@@ -29,9 +29,15 @@ use Rattle.mk_base.specs.declared.tier.Tier.{Tier}
 use Rattle.mk_base.specs.Tiers.{moment}
 use Rattle.mk_plan.specs.Plans.{IsValidPlan}
 use Rattle.mk_buffers.specs.Held.{is_key, has_key}
-use Rattle.mk_buffers.specs.Building.{outlet_order, IsSource, HasSources, AreOutlets, AreParts}
+use Rattle.mk_buffers.specs.Building.{outlet_order, IsSource, HasSources, AreOutlets, AreParts, IsPartOf}
 use Rattle.mk_buffers.specs.Listing.{IsTargetAt, AreTargets, IsInletOf, AreListed}
-use Rattle.mk_buffers.specs.Standing.{HasHome, mark_of, IsInlet, AreInlets, IsFound, IsNew, AreHomes, HasSizes, IsUnset, AreUnset}
+use Rattle.mk_buffers.specs.Standing.{HasHome, mark_of, IsInlet, AreInlets, IsFound, IsNew, AreHomes, HasSizes, IsUnset, AreUnset, IsLookedAt, IsTight}
+use Rattle.std.specs.List.{sum_by}
+use Rattle.mk_plan.specs.Deliveries.{Timed}
+use Rattle.mk_buffers.specs.declared.outlets.Part.{Part}
+use Rattle.mk_buffers.specs.Bounds.{HasShape}
+use Rattle.mk_buffers.specs.Logs.{IsFew}
+use Rattle.mk_buffers.proofs.Naming.{owner_there}
 use Rattle.mk_buffers.proofs.Collecting.{outlets_total, key_of}
 use Rattle.mk_buffers.proofs.Aligning.{aligned}
 use Rattle.mk_buffers.proofs.Rising.{all_of, get_more}
@@ -119,7 +125,7 @@ module _ (P : Plan) (names : HasDistinctNames P) (done : List Source) (sources :
   in_outlets : (c : Conn) → IsIn c P.conns → (o : Outlet) × IsIn o m.all.items × (o.entity ≡ c.from) × (o.attr ≡ c.from_attr)
   in_outlets c r = let p = in_at c P.conns r in let o = outlet_for p.0 c p.1 in (o.2, at_in o.2 m.all.items o.0 o.3, o.4, o.5)
 
-  module _ (homes : List Home) (lives : AreHomes P m.of_entity.items homes) (targets : List Target) (ends : AreTargets P m.of_conn.items targets) (b : Buffers) (outlets : b.outlets ≡ m.all) (housed : b.homes.items ≡ homes) (until : b.until ≡ P.until) (listed : AreListed (length P.sims) targets b.inlets.items) (feeds : b.feeds.items ≡ m.of_sim.items) (parts : AreParts (length P.sims) m.all.items m.of_sim.items) (sizes : HasSizes P b) (unset : IsUnset b) (valid : IsValidPlan P) (asking : AreAsking P b.marks.asks) (least : IsLeastMark b.marks) (starts : AreStarts b.marks.marks) where
+  module _ (homes : List Home) (lives : AreHomes P m.of_entity.items homes) (targets : List Target) (ends : AreTargets P m.of_conn.items targets) (b : Buffers) (outlets : b.outlets ≡ m.all) (housed : b.homes.items ≡ homes) (until : b.until ≡ P.until) (listed : AreListed (length P.sims) targets b.inlets.items) (feeds : b.feeds.items ≡ m.of_sim.items) (parts : AreParts (length P.sims) m.all.items m.of_sim.items) (sizes : HasSizes P b) (unset : IsUnset b) (valid : IsValidPlan P) (asking : AreAsking P b.marks.asks) (least : IsLeastMark b.marks) (starts : AreStarts b.marks.marks) (noted : length b.next_marks.items ≡ length P.sims) (references : RefersInside P) where
     home_of : (e : ℕ) → e < length P.entities → HasHome P b e
     home_of e low = let h = below_get homes e (rw lives.count low) in let is = lives.each e h.0 h.1 in record { home = h.0; at_home = ap (λ (l : List Home). slice_get l e) housed ∙ h.1; sim = is.1; eid = is.2 }
 
@@ -182,6 +188,64 @@ module _ (P : Plan) (names : HasDistinctNames P) (done : List Source) (sources :
           (i.0, i.1, subst (λ (d : Conn). IsInlet P b d i.0) conn (inlet_is t.0 p.0 i.0 i.2 t.2));
     }
 
+    at_all : (i : ℕ) (o : Outlet) → slice_get b.outlets.items i ≡ Some o → slice_get m.all.items i ≡ Some o
+    at_all i o at = sym (ap (λ v. slice_get v.items i) outlets) ∙ at
+
+    empty_log : (i : ℕ) (o : Outlet) → slice_get b.outlets.items i ≡ Some o → o.log ≡ []
+    empty_log i o at = (are.each o (at_in o m.all.items i (at_all i o at))).2.log
+
+    shape_of : HasShape P b.outlets.items
+    shape_of = record {
+      taken = λ i o at. from_conn o (at_in o m.all.items i (at_all i o at));
+      delays = λ i o v at r. let t = are.delays o v (at_in o m.all.items i (at_all i o at)) r in let s = sources.each t.0 t.1 in
+          (s.conn, at_in s.conn P.conns t.0.place s.at_place, t.2.entity ∙ s.entity, t.2.attr ∙ s.attr, t.2.via ∙ s.via);
+      few = subst (λ v. sum_by (λ (o : Outlet). length o.vias.items) v.items ≤ length P.conns) (sym outlets) (omega (arith, are.few, sources.count));
+    }
+
+    -- an outlet stands among those of its simulator
+    in_part : (o : Outlet) (i : ℕ) (part : Part) → slice_get m.all.items i ≡ Some o → IsPartOf m.all.items o.sim part → (part.first ≤ i) × (i < part.end)
+    in_part o i part at is = (first (le_or part.first i), end (le_or part.end i))
+      where
+        le_or : (n k : ℕ) → (k < n) ⊎ (n ≤ k)
+        le_or n k = grind arith
+
+        there : (i < length m.all.items) × (get_or m.all.items i o ≡ o)
+        there = get_is m.all.items i o at
+
+        first : (i < part.first) ⊎ (part.first ≤ i) → part.first ≤ i
+        first (inl l) = absurd (not_self o.sim (subst (λ (q : Outlet). nat_lt q.sim o.sim ≡ true) there.1 (is.first.0 i o (omega arith) l)))
+          where
+            not_self : (n : ℕ) → nat_lt n n ≡ true → ⊥
+            not_self n h = grind (arith, nat_tests)
+        first (inr l) = l
+
+        end : (i < part.end) ⊎ (part.end ≤ i) → i < part.end
+        end (inl l) = l
+        end (inr l) = absurd (self_le o.sim (subst (λ (q : Outlet). nat_le q.sim o.sim ≡ false) there.1 (is.end.1 i o l there.0)))
+          where
+            self_le : (n : ℕ) → nat_le n n ≡ false → ⊥
+            self_le n h = grind (arith, nat_tests)
+
+    looked_at : (i : ℕ) (o : Outlet) → slice_get b.outlets.items i ≡ Some o → IsLookedAt b i o
+    looked_at i o at =
+        let r = at_in o m.all.items i (at_all i o at) in
+        let c = from_conn o r in
+        let home : o.entity < length P.entities = let l = (all_in (λ c. (c.from < length P.entities) × (c.to < length P.entities)) P.conns c.0 references.conns c.1).0 in omega (arith, l, c.2) in
+        let low : o.sim < length P.sims = subst (λ (n : ℕ). n < length P.sims) (sym (sim_is o r)) (owner_there P names references o.entity home) in
+        let part = below_get m.of_sim.items o.sim (let n = parts.count in omega (arith, low, n)) in
+        let inside = in_part o i part.0 (at_all i o at) (parts.each o.sim part.0 part.1) in
+        record { part = part.0; at_sim = ap (λ l. slice_get l o.sim) feeds ∙ part.1; first = inside.0; end = inside.1; noted = omega (arith, low, noted) }
+
+    none_few : (vs : List Via) (u : ℤ) (x : Tier) (l : List Timed) → l ≡ [] → IsFew vs u x l
+    none_few vs u x l none = subst (IsFew vs u x) (sym none) (omega arith)
+
+    tight_of : IsTight b
+    tight_of = record {
+      few = λ i o at low. none_few o.vias.items b.until b.marks.least o.log (empty_log i o at);
+      stays = λ i o at x above due. none_few o.vias.items b.until x o.log (empty_log i o at);
+      looked = looked_at;
+    }
+
     pub founded : IsNew P b
     founded = record {
       unset = unset;
@@ -192,6 +256,8 @@ module _ (P : Plan) (names : HasDistinctNames P) (done : List Source) (sources :
         home_count = ap length housed ∙ lives.count;
         asking = asking;
         least = least;
+        shape = shape_of;
+        tight = tight_of;
         sizes = sizes;
         until = until;
         once = λ i j o q at to key. one_key i j o q (sym (ap (λ v. slice_get v.items i) outlets) ∙ at) (sym (ap (λ v. slice_get v.items j) outlets) ∙ to) key;

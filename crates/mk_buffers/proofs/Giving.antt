@@ -24,7 +24,8 @@ use Rattle.mk_base.proofs.Lists.{get_is}
 use Rattle.mk_buffers.specs.declared.buffers.Target.{Target}
 use Rattle.mk_buffers.proofs.Slots.{answer_apart, answer_taken}
 use Rattle.mk_buffers.proofs.Naming.{same_full}
-use Rattle.mk_buffers.proofs.Standing.{of_same, eq_from, same_from, apart_from, low_or_past}
+use Rattle.mk_buffers.specs.Bounds.{HasShape}
+use Rattle.mk_buffers.proofs.Standing.{of_same, eq_from, same_from, apart_from, low_or_past, same_tight}
 
 -- one more set value
 module _ (P : Plan) (S : Supply) (e : ℕ) (g : Gift) (src : IsSourced P e g.given) (valid : IsValidPlan P) where
@@ -63,7 +64,8 @@ module _ (P : Plan) (S : Supply) (e : ℕ) (g : Gift) (src : IsSourced P e g.giv
   pub stands_set : (b n : Buffers) (s : ℕ) (eid : List ℕ) → s ≡ owner P g.given.entity → eid ≡ eid_of P g.given.entity → HasSet s eid g b n → Stands P b S → Stands P n (with_gift S e g)
   stands_set b n s eid own named d st = record {
     of_plan = of_same P b n (λ i o at. (o, sym (λ k. slice_get (d.outlets k).items i) ∙ at, refl, refl)) (λ f a i k. has_key (d.outlets k).items f a i) (λ i o at. (o, (λ k. slice_get (d.outlets k).items i) ∙ at, refl, refl, refl))
-        d.inlets d.homes d.feeds (ap length d.sets ∙ length_set b.sets.items s d.after) (λ k. length (d.marks k).marks) (λ k. (d.marks k).asks) (subst IsLeastMark (sym d.marks) st.of_plan.least) d.until st.of_plan;
+        d.inlets d.homes d.feeds (ap length d.sets ∙ length_set b.sets.items s d.after) (λ k. length (d.marks k).marks) (λ k. (d.marks k).asks) (subst IsLeastMark (sym d.marks) st.of_plan.least) d.until (subst (λ v. HasShape P v.items) (sym d.outlets) st.of_plan.shape) (same_tight P b n (λ k. (d.outlets k).items) d.feeds d.next_marks d.until d.marks st.of_plan.tight) st.of_plan;
+    among = λ i o at. st.among i o (sym (λ k. slice_get (d.outlets k).items i) ∙ at);
     texts = texts_more st.texts;
     outputs = λ i o at. subst (λ (u : ℤ). AnswersFrom o.vias.items u n.marks.least o.log (S.outputs o.entity o.attr)) (sym d.until)
         (subst (λ (m : Marked). AnswersFrom o.vias.items b.until m.least o.log (S.outputs o.entity o.attr)) (sym d.marks) (st.outputs i o (sym (λ k. slice_get (d.outlets k).items i) ∙ at)));
@@ -87,6 +89,7 @@ module _ (P : Plan) (S : Supply) (e : ℕ) (g : Gift) (src : IsSourced P e g.giv
     of_plan = st.of_plan;
     texts = texts_more st.texts;
     outputs = st.outputs;
+    among = st.among;
     gifts = (st.gifts.0 ++ g ∷ [], gifts_more st.gifts.0 st.gifts.1, λ r l at low. answer_apart P r (mark_of b r) g l st.gifts.0 (apart_from (owner P g.given.entity) r (λ q. nobody r low q)) (st.gifts.2 r l at low));
   }
     where

@@ -4,7 +4,7 @@ use Rattle.std.proofs.lemmas.List.Sums.{fold-append}
 use Rattle.mk_base.specs.declared.tier.Tier.{Tier}
 use Rattle.mk_base.specs.Lists.{IsIn}
 use Rattle.mk_base.specs.Tiers.{up_to, IsUpTo}
-use Rattle.mk_base.proofs.TierOrder.{up_to_total, up_to_trans}
+use Rattle.mk_base.proofs.TierOrder.{up_to_self, up_to_total, up_to_trans}
 use Rattle.mk_plan.specs.Deliveries.{Timed}
 use Rattle.mk_plan.specs.Inputs.{later, latest}
 use Rattle.mk_base.proofs.Lists.{some_same, none_some, filter_in, in_filter, filter_append}
@@ -142,3 +142,41 @@ joined_later (Some b) (Some d) f = go (up_to d.at f.at) refl (up_to b.at d.at) r
 pub fold_from : (o r : Option Timed) (ts : List Timed) → fold later (joined o r) ts ≡ joined o (fold later r ts)
 fold_from o r [] = refl
 fold_from o r (t ∷ ts) = ap (λ (q : Option Timed). fold later q ts) (sym (joined_later o r t)) ∙ fold_from o (later r t) ts
+
+-- the latest is no earlier than any
+holds_above : (ts : List Timed) (b : Timed) → (c : Timed) × (fold later (Some b) ts ≡ Some c) × IsUpTo b.at c.at
+holds_above [] b = (b, refl, up_to_self b.at)
+holds_above (f ∷ fs) b = go (holds_above fs f) (holds_above fs b) (up_to b.at f.at) refl
+  where
+    go : (c : Timed) × (fold later (Some f) fs ≡ Some c) × IsUpTo f.at c.at → (c : Timed) × (fold later (Some b) fs ≡ Some c) × IsUpTo b.at c.at
+        → (a : Bool) → up_to b.at f.at ≡ a → (c : Timed) × (fold later (if a then Some f else Some b) fs ≡ Some c) × IsUpTo b.at c.at
+    go r q true p = (r.0, r.1, up_to_trans b.at f.at r.0.at p r.2)
+    go r q false p = q
+
+in_above : (ts : List Timed) (o : Option Timed) (e : Timed) → IsIn e ts → (c : Timed) × (fold later o ts ≡ Some c) × IsUpTo e.at c.at
+in_above [] o e m = absurd m
+in_above (f ∷ fs) None e (inl q) = let r = holds_above fs f in (r.0, r.1, subst (λ (w : Timed). IsUpTo w.at r.0.at) (sym q) r.2)
+in_above (f ∷ fs) (Some b) e (inl q) = go (up_to b.at f.at) refl
+  where
+    go : (a : Bool) → up_to b.at f.at ≡ a → (c : Timed) × (fold later (if a then Some f else Some b) fs ≡ Some c) × IsUpTo e.at c.at
+    go true p = let r = holds_above fs f in (r.0, r.1, subst (λ (w : Timed). IsUpTo w.at r.0.at) (sym q) r.2)
+    go false p = let r = holds_above fs b in (r.0, r.1, subst (λ (w : Timed). IsUpTo w.at r.0.at) (sym q) (up_to_trans f.at b.at r.0.at (up_to_total f.at b.at p) r.2))
+in_above (f ∷ fs) o e (inr m) = in_above fs (later o f) e m
+
+-- one that an earlier one of the list is later than may be left out, where that passes the test if it does
+pub without_front : (test : Timed → Bool) (front back : List Timed) (d e : Timed) → IsIn e front → up_to e.at d.at ≡ false → (test d ≡ true → test e ≡ true) → latest (filter test (front ++ d ∷ back)) ≡ latest (filter test (front ++ back))
+without_front test front back d e m h goes = ap latest (filter_append test front (d ∷ back)) ∙ by_test (test d) refl ∙ sym (ap latest (filter_append test front back))
+  where
+    stays : (o : Option Timed) → (b : Timed) × (o ≡ Some b) × IsUpTo e.at b.at → later o d ≡ o
+    stays None r = absurd (none_some r.1)
+    stays (Some b) r = ap (λ (c : Bool). if c then Some d else Some b) (by_up (up_to b.at d.at) refl)
+      where
+        by_up : (c : Bool) → up_to b.at d.at ≡ c → up_to b.at d.at ≡ false
+        by_up true p = absurd (true≢false (sym (up_to_trans e.at b.at d.at (subst (λ (w : Timed). IsUpTo e.at w.at) (sym (some_same r.1)) r.2) p) ∙ h))
+        by_up false p = p
+
+    by_test : (b : Bool) → test d ≡ b → latest (filter test front ++ cond b (d ∷ filter test back) (filter test back)) ≡ latest (filter test front ++ filter test back)
+    by_test true p = fold-append later None (filter test front) (d ∷ filter test back)
+        ∙ ap (λ (o : Option Timed). fold later o (filter test back)) (stays (latest (filter test front)) (in_above (filter test front) None e (filter_in test e front m (goes p))))
+        ∙ sym (fold-append later None (filter test front) (filter test back))
+    by_test false p = refl

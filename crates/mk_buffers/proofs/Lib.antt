@@ -2,6 +2,9 @@ pub mod FullIds
 pub mod Putting
 pub mod Latest
 pub mod Ascending
+pub mod Settling
+pub mod Fitting
+pub mod Sparing
 pub mod Marking
 pub mod Answering
 pub mod Lasts
@@ -13,7 +16,10 @@ pub mod Collecting
 pub mod Naming
 pub mod Swapping
 pub mod Listing
+pub mod Tight
 pub mod Standing
+pub mod Sweeping
+pub mod Bounding
 pub mod Giving
 pub mod Picking
 pub mod Gathering

@@ -22,7 +22,7 @@ apart_or_same i j = elim (compared i j) [ inl less ↦ inr (λ e. omega arith) |
     compared : (i j : ℕ) → (i < j) ⊎ ((i ≡ j) ⊎ (j < i))
     compared i j = grind arith
 
-below_or_same : (s n : ℕ) → s < n + 1 → (s ≡ n) ⊎ (s < n)
+pub below_or_same : (s n : ℕ) → s < n + 1 → (s ≡ n) ⊎ (s < n)
 below_or_same s n h = grind arith
 
 pub low_lifted : (marks : List Tier) (asks : List Bool) (least : Tier) (sim : ℕ) (x : Tier) → IsLow marks asks least → sim < length marks → ((m : Tier) → slice_get marks sim ≡ Some m → IsUpTo m x) → IsLow (slice_set marks sim x) asks least

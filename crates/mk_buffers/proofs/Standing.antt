@@ -14,7 +14,10 @@ use Rattle.std.proofs.lemmas.Bool.Decides.{nat_tests}
 use Rattle.std.proofs.lemmas.Slice.Eq.{bytes_eq-Decides}
 use Rattle.mk_buffers.specs.declared.outlets.Outlet.{Outlet}
 use Rattle.mk_buffers.specs.declared.buffers.Buffers.{Buffers}
-use Rattle.mk_buffers.specs.Logs.{AnswersFrom, by}
+use Rattle.std.specs.List.{sum_by}
+use Rattle.std.proofs.lemmas.List.Sums.{sum_by-cons}
+use Rattle.mk_buffers.specs.Bounds.{HasShape}
+use Rattle.mk_buffers.specs.Logs.{AnswersFrom, IsAmong, IsFew, StaysFew, by}
 use Rattle.std.specs.Prelude.{IfSome}
 use Rattle.mk_base.specs.Tiers.{moment}
 use Rattle.mk_base.specs.Data.{IsValueText}
@@ -24,7 +27,7 @@ use Rattle.mk_buffers.specs.Slots.{AnswerGifts, SameLast, held_for, given_for}
 use Rattle.mk_buffers.specs.Held.{with_output, is_key, has_key, IsThinned, AreThinned}
 use Rattle.mk_plan.specs.declared.Conn.{Conn}
 use Rattle.mk_buffers.specs.declared.inlets.Inlet.{Inlet}
-use Rattle.mk_buffers.specs.Standing.{IsInlet, IsOf, IsNew, Stands, Delivers, HasThinned, HasKey, LacksKey, HasValueTexts, IsOutletFor, IsUnchanged, HasRaised, mark_of}
+use Rattle.mk_buffers.specs.Standing.{IsInlet, IsOf, IsNew, Stands, Delivers, HasThinned, HasKey, LacksKey, HasValueTexts, IsOutletFor, IsUnchanged, HasRaised, IsTight, next_of, mark_of}
 use Rattle.mk_buffers.specs.Marking.{Marked, AreAsking, IsLeastMark, Raised, greater, asks_of}
 use Rattle.mk_base.specs.Tiers.{up_to}
 use Rattle.mk_base.proofs.TierOrder.{up_to_self, up_to_total}
@@ -34,17 +37,21 @@ use Rattle.mk_buffers.proofs.Marking.{apart_or_same, get_some}
 use Rattle.mk_buffers.proofs.Answering.{answers_trans, answers_later}
 use Rattle.mk_buffers.proofs.Ascending.{answers_self}
 use Rattle.mk_buffers.proofs.Lasts.{same_self, same_later}
+use Rattle.mk_buffers.proofs.Settling.{among_self, among_trans, among_more}
+use Rattle.mk_buffers.proofs.Tight.{swept_same, swept_at, swept_less, shape_same, sum_set}
 
 module _ (until : ℤ) (mark : Tier) where
   thinned_self : (o : Outlet) → IsThinned until mark o o
-  thinned_self o = record { entity = refl; attr = refl; vias = refl; answers = answers_self o.vias.items until mark o.log }
+  thinned_self o = record { sim = refl; entity = refl; attr = refl; vias = refl; answers = answers_self o.vias.items until mark o.log; among = among_self o.log }
 
   thinned_trans : (o p q : Outlet) → IsThinned until mark o p → IsThinned until mark p q → IsThinned until mark o q
   thinned_trans o p q f g = record {
+    sim = g.sim ∙ f.sim;
     entity = g.entity ∙ f.entity;
     attr = g.attr ∙ f.attr;
     vias = g.vias ∙ f.vias;
     answers = answers_trans o.vias.items until mark q.log p.log o.log (subst (λ (vs : List Via). AnswersFrom vs until mark q.log p.log) f.vias g.answers) f.answers;
+    among = among_trans q.log p.log o.log g.among f.among;
   }
 
   pub all_self : (os : List Outlet) → AreThinned until mark os os
@@ -65,7 +72,7 @@ module _ (until : ℤ) (mark : Tier) where
   all_set (p ∷ ps) (suc i) o n is f = (thinned_self p, all_set ps i o n is f)
 
   -- what stands at a place stood there
-  thinned_at : (os ns : List Outlet) (i : ℕ) (n : Outlet) → AreThinned until mark os ns → slice_get ns i ≡ Some n → (o : Outlet) × (slice_get os i ≡ Some o) × IsThinned until mark o n
+  pub thinned_at : (os ns : List Outlet) (i : ℕ) (n : Outlet) → AreThinned until mark os ns → slice_get ns i ≡ Some n → (o : Outlet) × (slice_get os i ≡ Some o) × IsThinned until mark o n
   thinned_at [] [] i n f is = cc
   thinned_at [] (m ∷ ms) i n f is = absurd f
   thinned_at (o ∷ os) [] i n f is = absurd f
@@ -86,11 +93,23 @@ module _ (until : ℤ) (mark : Tier) where
   thinned_key (o ∷ os) (m ∷ ms) e attr zero f = (λ k. (f.0.entity k == e) && same_text (f.0.attr k) attr)
   thinned_key (o ∷ os) (m ∷ ms) e attr (suc i) f = thinned_key os ms e attr i f.1
 
+  thinned_total : (os ns : List Outlet) → AreThinned until mark os ns → sum_by (λ o. length o.vias.items) ns ≡ sum_by (λ o. length o.vias.items) os
+  thinned_total [] [] f = refl
+  thinned_total [] (m ∷ ms) f = absurd f
+  thinned_total (o ∷ os) [] f = absurd f
+  thinned_total (o ∷ os) (m ∷ ms) f = let own = ap length f.0.vias in
+      omega (arith, sum_by-cons (λ o. length o.vias.items) m ms, sum_by-cons (λ o. length o.vias.items) o os, own, thinned_total os ms f.1)
+
+  pub thinned_shape : (P : Plan) (os ns : List Outlet) → AreThinned until mark os ns → HasShape P os → HasShape P ns
+  thinned_shape P os ns f h = shape_same P os ns (λ i n at. let o = thinned_at os ns i n f at in (o.0, o.1, o.2.entity, o.2.attr, o.2.vias)) (thinned_total os ns f) h
+
 -- the tables stay those of the plan, where each place keeps its key
 pub of_same : (P : Plan) (b n : Buffers) → ((i : ℕ) (o : Outlet) → slice_get n.outlets.items i ≡ Some o → (p : Outlet) × (slice_get b.outlets.items i ≡ Some p) × (o.entity ≡ p.entity) × (o.attr ≡ p.attr))
     → ((e : ℕ) (attr : List ℕ) (i : ℕ) → has_key n.outlets.items e attr i ≡ has_key b.outlets.items e attr i) → ((i : ℕ) (p : Outlet) → slice_get b.outlets.items i ≡ Some p → (o : Outlet) × (slice_get n.outlets.items i ≡ Some o) × (o.entity ≡ p.entity) × (o.attr ≡ p.attr) × (o.vias.items ≡ p.vias.items))
-    → n.inlets ≡ b.inlets → n.homes ≡ b.homes → n.feeds ≡ b.feeds → length n.sets.items ≡ length b.sets.items → length n.marks.marks ≡ length b.marks.marks → n.marks.asks ≡ b.marks.asks → IsLeastMark n.marks → n.until ≡ b.until → IsOf P b → IsOf P n
-of_same P b n back keys on ins homes feeds sets marks asks exact ends of = record {
+    → n.inlets ≡ b.inlets → n.homes ≡ b.homes → n.feeds ≡ b.feeds → length n.sets.items ≡ length b.sets.items → length n.marks.marks ≡ length b.marks.marks → n.marks.asks ≡ b.marks.asks → IsLeastMark n.marks → n.until ≡ b.until → HasShape P n.outlets.items → IsTight n → IsOf P b → IsOf P n
+of_same P b n back keys on ins homes feeds sets marks asks exact ends shape tight of = record {
+  shape = shape;
+  tight = tight;
   valid = of.valid;
   homes = λ e low. let h = of.homes e low in record { home = h.home; at_home = (λ k. slice_get (homes k).items e) ∙ h.at_home; sim = h.sim; eid = h.eid };
   home_count = (λ k. length (homes k).items) ∙ of.home_count;
@@ -145,11 +164,14 @@ of_same P b n back keys on ins homes feeds sets marks asks exact ends of = recor
       delay = subst (IsIn c.via) (sym q.4) f.delay;
     }
 
-pub stands_thinned : (P : Plan) (b n : Buffers) (S : Supply) (mark : Tier) → AreThinned b.until mark b.outlets.items n.outlets.items → n.inlets ≡ b.inlets → n.homes ≡ b.homes → n.feeds ≡ b.feeds → n.sets ≡ b.sets → length n.marks.marks ≡ length b.marks.marks → n.marks.asks ≡ b.marks.asks → IsLeastMark n.marks → ((s : ℕ) → s < length b.marks.marks → IsUpTo (mark_of b s) (mark_of n s)) → n.until ≡ b.until → IsUpTo b.marks.least mark → n.marks.least ≡ mark → Stands P b S → Stands P n S
-stands_thinned P b n S mark thin ins homes feeds sets marks asks exact rises ends up now s = record {
+pub stands_thinned : (P : Plan) (b n : Buffers) (S : Supply) (mark : Tier) → AreThinned b.until mark b.outlets.items n.outlets.items → n.inlets ≡ b.inlets → n.homes ≡ b.homes → n.feeds ≡ b.feeds → n.sets ≡ b.sets → length n.marks.marks ≡ length b.marks.marks → n.marks.asks ≡ b.marks.asks → IsLeastMark n.marks → ((s : ℕ) → s < length b.marks.marks → IsUpTo (mark_of b s) (mark_of n s)) → n.until ≡ b.until → IsUpTo b.marks.least mark → n.marks.least ≡ mark → IsTight n → Stands P b S → Stands P n S
+stands_thinned P b n S mark thin ins homes feeds sets marks asks exact rises ends up now tight s = record {
   texts = s.texts;
+  among = λ i o at. let old = thinned_at b.until mark b.outlets.items n.outlets.items i o thin at in
+      subst (λ (e : ℕ). IsAmong o.log (S.outputs e o.attr)) (sym old.2.entity)
+      (subst (λ (a : List ℕ). IsAmong o.log (S.outputs old.0.entity a)) (sym old.2.attr) (among_trans o.log old.0.log (S.outputs old.0.entity old.0.attr) old.2.among (s.among i old.0 old.1)));
   gifts = (s.gifts.0, s.gifts.1, λ r l at low k. same_later (mark_of b r) (mark_of n r) (held_for k l) (given_for P r k s.gifts.0) (rises r (omega (arith, low, s.of_plan.sizes.marks))) (s.gifts.2 r l (sym (λ j. slice_get (sets j).items r) ∙ at) low k));
-  of_plan = of_same P b n (λ i o at. let old = thinned_at b.until mark b.outlets.items n.outlets.items i o thin at in (old.0, old.1, old.2.entity, old.2.attr)) (λ e attr i. thinned_key b.until mark b.outlets.items n.outlets.items e attr i thin) (λ i p at. thinned_on b.until mark b.outlets.items n.outlets.items i p thin at) ins homes feeds (λ k. length (sets k).items) marks asks exact ends s.of_plan;
+  of_plan = of_same P b n (λ i o at. let old = thinned_at b.until mark b.outlets.items n.outlets.items i o thin at in (old.0, old.1, old.2.entity, old.2.attr)) (λ e attr i. thinned_key b.until mark b.outlets.items n.outlets.items e attr i thin) (λ i p at. thinned_on b.until mark b.outlets.items n.outlets.items i p thin at) ins homes feeds (λ k. length (sets k).items) marks asks exact ends (thinned_shape b.until mark P b.outlets.items n.outlets.items thin s.of_plan.shape) tight s.of_plan;
   outputs = λ i o at. let old = thinned_at b.until mark b.outlets.items n.outlets.items i o thin at in
       let all : AnswersFrom old.0.vias.items b.until mark o.log (S.outputs old.0.entity old.0.attr) =
       answers_trans old.0.vias.items b.until mark o.log old.0.log (S.outputs old.0.entity old.0.attr) old.2.answers (answers_later old.0.vias.items b.until b.marks.least mark old.0.log (S.outputs old.0.entity old.0.attr) up (s.outputs i old.0 old.1)) in
@@ -286,9 +308,67 @@ module _ (P : Plan) (b n : Buffers) (S : Supply) (e : ℕ) (attr : List ℕ) (i 
   ]
   text_more S texts f a false u m = texts.outputs f a u m
 
+  shapes : (j : ℕ) (o : Outlet) → slice_get n.outlets.items j ≡ Some o → (p : Outlet) × (slice_get b.outlets.items j ≡ Some p) × (o.entity ≡ p.entity) × (o.attr ≡ p.attr) × (o.vias.items ≡ p.vias.items)
+  shapes j o is = elim (apart_or_same j i) [
+    | inl same ↦ let it : o ≡ d.after = some_same (sym is ∙ ap (slice_get n.outlets.items) same ∙ at_it) in
+        (d.before, ap (slice_get b.outlets.items) same ∙ d.at_place, ap (λ (p : Outlet). p.entity) it ∙ d.taken.entity, ap (λ (p : Outlet). p.attr) it ∙ d.taken.attr, ap (λ (p : Outlet). p.vias.items) it ∙ d.taken.vias)
+    | inr apart ↦ (o, sym (at_other j apart) ∙ is, refl, refl, refl)
+  ]
+
+  among_of : (j : ℕ) (o : Outlet) → slice_get n.outlets.items j ≡ Some o → IsAmong o.log ((with_output S e attr t).outputs o.entity o.attr)
+  among_of j o is = elim (apart_or_same j i) [
+    | inl same ↦
+        let it : d.after ≡ o = some_same (sym at_it ∙ sym (ap (slice_get n.outlets.items) same) ∙ is) in
+        let mine : is_key e attr d.after ≡ true = (λ k. (d.taken.entity k == e) && same_text (d.taken.attr k) attr) ∙ own in
+        let grown : IsAmong d.after.log (S.outputs d.before.entity d.before.attr ++ t ∷ []) = d.taken.among (S.outputs d.before.entity d.before.attr) (s.among i d.before d.at_place) in
+        subst (λ (p : Outlet). IsAmong p.log ((with_output S e attr t).outputs p.entity p.attr)) it
+        (subst (λ (c : Bool). IsAmong d.after.log (cond c (S.outputs d.after.entity d.after.attr ++ t ∷ []) (S.outputs d.after.entity d.after.attr))) (sym mine)
+        (subst (λ (f : ℕ). IsAmong d.after.log (S.outputs f d.after.attr ++ t ∷ [])) (sym d.taken.entity)
+        (subst (λ (a : List ℕ). IsAmong d.after.log (S.outputs d.before.entity a ++ t ∷ [])) (sym d.taken.attr) grown)))
+    | inr apart ↦
+        let old : slice_get b.outlets.items j ≡ Some o = sym (at_other j apart) ∙ is in
+        add_one o (is_key e attr o) (s.among j o old)
+  ]
+    where
+      add_one : (o : Outlet) (c : Bool) → IsAmong o.log (S.outputs o.entity o.attr) → IsAmong o.log (cond c (S.outputs o.entity o.attr ++ t ∷ []) (S.outputs o.entity o.attr))
+      add_one o true f = among_trans o.log (S.outputs o.entity o.attr) (S.outputs o.entity o.attr ++ t ∷ []) f (among_more (S.outputs o.entity o.attr) t)
+      add_one o false f = f
+
+  tight_of : IsTight n
+  tight_of = record {
+    few = λ j o is low. let count : length n.feeds.items ≡ length b.feeds.items = (λ k. length (d.feeds k).items) in subst (λ (u : ℤ). IsFew o.vias.items u n.marks.least o.log) (sym d.until) (subst (λ (m : Marked). IsFew o.vias.items b.until m.least o.log) (sym d.marks) (few_of j o is (omega (arith, low, count)) (apart_or_same j i)));
+    stays = λ j o is. subst (λ (u : ℤ). StaysFew o.vias.items u n.marks.least (next_of n o.sim) o.log) (sym d.until) (subst (λ (m : Marked). StaysFew o.vias.items b.until m.least (next_of n o.sim) o.log) (sym d.marks) (stays_of j o is (apart_or_same j i)));
+    looked = λ j o is. let p = sim_of j o is (apart_or_same j i) in let l = s.of_plan.tight.looked j p.0 p.1 in record {
+      part = l.part;
+      at_sim = (λ k. slice_get (d.feeds k).items (p.2 k)) ∙ l.at_sim;
+      first = l.first;
+      end = l.end;
+      noted = omega (arith, l.noted, d.count, p.2);
+    };
+  }
+    where
+      after_is : (j : ℕ) (o : Outlet) → slice_get n.outlets.items j ≡ Some o → j ≡ i → d.after ≡ o
+      after_is j o is same = some_same (sym at_it ∙ sym (ap (slice_get n.outlets.items) same) ∙ is)
+
+      sim_of : (j : ℕ) (o : Outlet) → slice_get n.outlets.items j ≡ Some o → (j ≡ i) ⊎ (j ≢ i) → (p : Outlet) × (slice_get b.outlets.items j ≡ Some p) × (o.sim ≡ p.sim)
+      sim_of j o is (inl same) = (d.before, ap (slice_get b.outlets.items) same ∙ d.at_place, sym (ap (λ (p : Outlet). p.sim) (after_is j o is same)) ∙ d.taken.sim)
+      sim_of j o is (inr apart) = (o, sym (at_other j apart) ∙ is, refl)
+
+      few_of : (j : ℕ) (o : Outlet) → slice_get n.outlets.items j ≡ Some o → o.sim < length b.feeds.items → (j ≡ i) ⊎ (j ≢ i) → IsFew o.vias.items b.until b.marks.least o.log
+      few_of j o is low (inl same) = subst (λ (p : Outlet). IsFew p.vias.items b.until b.marks.least p.log) (after_is j o is same) d.few
+      few_of j o is low (inr apart) = s.of_plan.tight.few j o (sym (at_other j apart) ∙ is) low
+
+      stays_of : (j : ℕ) (o : Outlet) → slice_get n.outlets.items j ≡ Some o → (j ≡ i) ⊎ (j ≢ i) → StaysFew o.vias.items b.until b.marks.least (next_of n o.sim) o.log
+      stays_of j o is (inl same) = subst (λ (p : Outlet). StaysFew p.vias.items b.until b.marks.least (next_of n p.sim) p.log) (after_is j o is same)
+          (d.stays (let l = (s.of_plan.tight.looked i d.before d.at_place).noted in omega (arith, l, d.taken.sim)))
+      stays_of j o is (inr apart) = λ m above due. s.of_plan.tight.stays j o (sym (at_other j apart) ∙ is) m above (d.earlier o.sim m due)
+
   pub stands_delivered : Stands P n (with_output S e attr t)
   stands_delivered = record {
-    of_plan = of_same P b n back keys on d.inlets d.homes d.feeds (λ k. length (d.sets k).items) (λ k. length (d.marks k).marks) (λ k. (d.marks k).asks) (subst IsLeastMark (sym d.marks) s.of_plan.least) d.until s.of_plan;
+    of_plan = of_same P b n back keys on d.inlets d.homes d.feeds (λ k. length (d.sets k).items) (λ k. length (d.marks k).marks) (λ k. (d.marks k).asks) (subst IsLeastMark (sym d.marks) s.of_plan.least) d.until
+        (shape_same P b.outlets.items n.outlets.items shapes (ap (sum_by (λ (o : Outlet). length o.vias.items)) d.outlets ∙ sum_set (λ (o : Outlet). length o.vias.items) b.outlets.items i d.before d.after d.at_place (ap length d.taken.vias)) s.of_plan.shape)
+        tight_of s.of_plan;
+    among = among_of;
     texts = record {
       outputs = λ f a u m. text_more S s.texts f a ((f == e) && same_text a attr) u m;
       gifts = s.texts.gifts;
@@ -309,6 +389,7 @@ stands_new P b S new none nothing = record {
   gifts = ([], record { by_source = λ e low. sym (nothing e); sourced = λ g m. absurd m }, λ s l at low k. subst (λ (q : List Slot). SameLast (mark_of b s) (held_for k q) []) (sym (new.unset s l at)) (same_self (mark_of b s) []));
   outputs = λ i o at. subst (λ (l : List Timed). AnswersFrom o.vias.items b.until b.marks.least o.log l) (sym (none o.entity o.attr))
       (subst (λ (l : List Timed). AnswersFrom o.vias.items b.until b.marks.least l []) (sym (new.empty i o at)) (answers_self o.vias.items b.until b.marks.least []));
+  among = λ i o at. subst (λ (l : List Timed). IsAmong l (S.outputs o.entity o.attr)) (sym (new.empty i o at)) (λ test. omega arith);
 }
 
 -- a wanted attribute's outlet, by its key
@@ -352,11 +433,17 @@ pub value_texts : {X : Type 0} (f : X → List ℕ) (o : Option X) (S : Supply) 
 value_texts f None S texts x e attr is = tt
 value_texts f (Some y) S texts x e attr is = value_text S texts x e attr (f y) is
 
+-- outlets that haven't changed hold few outputs
+pub same_tight : (P : Plan) (b n : Buffers) → n.outlets.items ≡ b.outlets.items → n.feeds ≡ b.feeds → n.next_marks ≡ b.next_marks → n.until ≡ b.until → n.marks ≡ b.marks → IsTight b → IsTight n
+same_tight P b n outs feeds next ends marks t = let count : length n.feeds.items ≡ length b.feeds.items = (λ k. length (feeds k).items) in swept_at n b.marks.least n.marks.least (length n.feeds.items) (λ k. (marks k).least)
+    (swept_less n b.marks.least (length b.feeds.items) (length n.feeds.items) (omega (arith, count)) (swept_same b n b.marks.least (length b.feeds.items) outs feeds next ends t))
+
 -- what hasn't changed stands for what it stood for
 pub stands_unchanged : (P : Plan) (b n : Buffers) (S : Supply) → Stands P b S → IsUnchanged b n → Stands P n S
 stands_unchanged P b n S st u = record {
   of_plan = of_same P b n (λ i o at. (o, sym (λ k. slice_get (u.outlets k) i) ∙ at, refl, refl)) (λ e attr i k. has_key (u.outlets k) e attr i) (λ i p at. (p, (λ k. slice_get (u.outlets k) i) ∙ at, refl, refl, refl))
-      u.inlets u.homes u.feeds (λ k. length (u.sets k)) (λ k. length (u.marks k).marks) (λ k. (u.marks k).asks) (subst IsLeastMark (sym u.marks) st.of_plan.least) u.until st.of_plan;
+      u.inlets u.homes u.feeds (λ k. length (u.sets k)) (λ k. length (u.marks k).marks) (λ k. (u.marks k).asks) (subst IsLeastMark (sym u.marks) st.of_plan.least) u.until (subst (HasShape P) (sym u.outlets) st.of_plan.shape) (same_tight P b n (λ k. u.outlets k) u.feeds u.next_marks u.until u.marks st.of_plan.tight) st.of_plan;
+  among = λ i o at. st.among i o (sym (λ k. slice_get (u.outlets k) i) ∙ at);
   texts = st.texts;
   gifts = (st.gifts.0, st.gifts.1, λ r l at low. subst (λ (m : Marked). AnswerGifts P r (unwrap_or (slice_get m.marks r) (moment (pos 0))) l st.gifts.0) (sym u.marks) (st.gifts.2 r l (sym (λ k. slice_get (u.sets k) r) ∙ at) low));
   outputs = λ i o at. subst (λ (t : ℤ). AnswersFrom o.vias.items t n.marks.least o.log (S.outputs o.entity o.attr)) (sym u.until)

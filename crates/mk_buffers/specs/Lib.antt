@@ -4,4 +4,5 @@ pub mod Held
 pub mod Slots
 pub mod Building
 pub mod Listing
+pub mod Bounds
 pub mod Standing

@@ -24,8 +24,9 @@ use Rattle.mk_plan.specs.Deliveries.{Timed, Gift, Supply}
 use Rattle.mk_buffers.specs.declared.outlets.Outlet.{Outlet}
 use Rattle.mk_buffers.specs.declared.buffers.Buffers.{Buffers}
 use Rattle.mk_buffers.specs.declared.buffers.Home.{Home}
-use Rattle.mk_buffers.specs.Logs.{AnswersFrom, arrivals, by}
+use Rattle.mk_buffers.specs.Logs.{AnswersFrom, IsAmong, IsFew, StaysFew, is_due, arrivals, by}
 use Rattle.mk_buffers.specs.Listing.{inlet_order}
+use Rattle.mk_buffers.specs.Bounds.{HasShape}
 use Rattle.mk_buffers.specs.Marking.{AreAsking, IsLeastMark, greater}
 use Rattle.mk_buffers.specs.Slots.{AnswerGifts, HaveTaken}
 use Rattle.mk_buffers.specs.Held.{is_key, has_key, AreThinned, HasTaken, kept_in, chosen_for, input_of}
@@ -143,6 +144,28 @@ pub record IsSourced (P : Plan) (e : ℕ) (w : SetValue) : Type 0 where
   pub source : w.source ≡ full_id P e
   pub text : IsValueText w.value
 
+-- when the outlets of a simulator are looked at again
+abbrev pub next_of : Buffers → ℕ → Option Tier
+next_of b s = unwrap_or (slice_get b.next_marks.items s) None
+
+-- an outlet stands among those of its simulator, and is looked at again with them
+pub record IsLookedAt (b : Buffers) (i : ℕ) (o : Outlet) : Type 0 where
+  pub part : Part
+  pub at_sim : slice_get b.feeds.items o.sim ≡ Some part
+  pub first : part.first ≤ i
+  pub end : i < part.end
+  pub noted : o.sim < length b.next_marks.items
+
+-- the outlets of the first n simulators hold few outputs that have nothing later than the mark, and all hold few from the mark on until they are looked at again
+pub record IsSwept (mark : Tier) (n : ℕ) (b : Buffers) : Type 0 where
+  pub few : (i : ℕ) (o : Outlet) → slice_get b.outlets.items i ≡ Some o → o.sim < n → IsFew o.vias.items b.until mark o.log
+  pub stays : (i : ℕ) (o : Outlet) → slice_get b.outlets.items i ≡ Some o → StaysFew o.vias.items b.until mark (next_of b o.sim) o.log
+  pub looked : (i : ℕ) (o : Outlet) → slice_get b.outlets.items i ≡ Some o → IsLookedAt b i o
+
+-- the same of all outlets, at the least mark
+abbrev pub IsTight : Buffers → Type 0
+IsTight b = IsSwept b.marks.least (length b.feeds.items) b
+
 -- the tables are those of the plan
 pub record IsOf (P : Plan) (b : Buffers) : Type 0 where
   pub valid : IsValidPlan P
@@ -156,13 +179,16 @@ pub record IsOf (P : Plan) (b : Buffers) : Type 0 where
   pub inlets : (s : ℕ) (l : Vec Inlet Global) → slice_get b.inlets.items s ≡ Some l → AreInlets P b s l.items
   pub aligned : (s : ℕ) (part : Part) → slice_get b.feeds.items s ≡ Some part → AreAligned P b s part
   pub found : (e : ℕ) (attr : List ℕ) → gives_attr P e attr ≡ true → IsFound b e attr
+  pub shape : HasShape P b.outlets.items
+  pub tight : IsTight b
 
--- the buffers answer as this supply, at every question for a value from the least mark on, and at every question for the inputs of a simulator from its mark on
+-- what the buffers keep is among this supply, and they answer as it, at every question for a value from the least mark on, and at every question for the inputs of a simulator from its mark on
 pub record Stands (P : Plan) (b : Buffers) (S : Supply) : Type 0 where
   pub of_plan : IsOf P b
   pub texts : HasValueTexts S
   pub gifts : (all : List Gift) × AreGifts P S all × HoldsGifts P b all
   pub outputs : (i : ℕ) (o : Outlet) → slice_get b.outlets.items i ≡ Some o → AnswersFrom o.vias.items b.until b.marks.least o.log (S.outputs o.entity o.attr)
+  pub among : (i : ℕ) (o : Outlet) → slice_get b.outlets.items i ≡ Some o → IsAmong o.log (S.outputs o.entity o.attr)
 
 -- nothing but the marks at which outlets are looked at again has changed
 pub record IsNoted (old new : Buffers) : Type 0 where
@@ -174,6 +200,17 @@ pub record IsNoted (old new : Buffers) : Type 0 where
   pub sets : new.sets ≡ old.sets
   pub feeds : new.feeds ≡ old.feeds
 
+-- the outlets of a simulator are looked at again at this mark
+pub record IsLookedAgain (s : ℕ) (next : Option Tier) (old new : Buffers) : Type 0 where
+  pub here : s < length old.next_marks.items → new.next_marks.items ≡ slice_set old.next_marks.items s next
+  pub past : length old.next_marks.items ≤ s → new.next_marks ≡ old.next_marks
+
+-- an outlet may be looked at again earlier, and is before more of its outputs have nothing later than the mark
+pub record HasNoted (i : ℕ) (old new : Buffers) : Type 0 where
+  pub count : length new.next_marks.items ≡ length old.next_marks.items
+  pub earlier : (s : ℕ) (m : Tier) → is_due (next_of new s) m ≡ false → is_due (next_of old s) m ≡ false
+  pub here : (o : Outlet) → slice_get old.outlets.items i ≡ Some o → o.sim < length old.next_marks.items → IsFew o.vias.items old.until old.marks.least o.log → StaysFew o.vias.items old.until old.marks.least (next_of new o.sim) o.log
+
 -- an outlet has taken one more output
 pub record Delivers (old new : Buffers) (i : ℕ) (t : Timed) : Type 0 where
   pub before : Outlet
@@ -181,6 +218,10 @@ pub record Delivers (old new : Buffers) (i : ℕ) (t : Timed) : Type 0 where
   pub at_place : slice_get old.outlets.items i ≡ Some before
   pub outlets : new.outlets.items ≡ slice_set old.outlets.items i after
   pub taken : HasTaken old.until old.marks.least t before after
+  pub few : IsFew after.vias.items old.until old.marks.least after.log
+  pub count : length new.next_marks.items ≡ length old.next_marks.items
+  pub earlier : (s : ℕ) (m : Tier) → is_due (next_of new s) m ≡ false → is_due (next_of old s) m ≡ false
+  pub stays : after.sim < length old.next_marks.items → StaysFew after.vias.items old.until old.marks.least (next_of new after.sim) after.log
   pub homes : new.homes ≡ old.homes
   pub until : new.until ≡ old.until
   pub marks : new.marks ≡ old.marks
@@ -201,6 +242,7 @@ pub record HasSet (s : ℕ) (eid : List ℕ) (g : Gift) (old new : Buffers) : Ty
   pub marks : new.marks ≡ old.marks
   pub inlets : new.inlets ≡ old.inlets
   pub feeds : new.feeds ≡ old.feeds
+  pub next_marks : new.next_marks ≡ old.next_marks
 
 -- the simulator of an entity and its name there, where both are known
 abbrev pub TargetOf : Buffers → ℕ → Option Target → Type 0
@@ -216,6 +258,18 @@ pub record HasThinned (mark : Tier) (old new : Buffers) : Type 0 where
   pub inlets : new.inlets ≡ old.inlets
   pub sets : new.sets ≡ old.sets
   pub feeds : new.feeds ≡ old.feeds
+
+-- the outlets of a part hold few outputs that have nothing later than the mark, and go on to do so until they are looked at again
+pub record IsPartSwept (mark : Tier) (part : Part) (next : Option Tier) (b : Buffers) : Type 0 where
+  pub few : (i : ℕ) (o : Outlet) → slice_get b.outlets.items i ≡ Some o → part.first ≤ i → i < part.end → IsFew o.vias.items b.until mark o.log
+  pub stays : (i : ℕ) (o : Outlet) → slice_get b.outlets.items i ≡ Some o → part.first ≤ i → i < part.end → StaysFew o.vias.items b.until mark next o.log
+
+-- the outlet at the place has given up what it may, and no other has changed
+pub record IsSweptAt (mark : Tier) (i : ℕ) (next : Option Tier) (old new : Buffers) : Type 0 where
+  pub few : (o : Outlet) → slice_get new.outlets.items i ≡ Some o → IsFew o.vias.items new.until mark o.log
+  pub stays : (o : Outlet) → slice_get new.outlets.items i ≡ Some o → StaysFew o.vias.items new.until mark next o.log
+  pub others : (j : ℕ) → j ≢ i → slice_get new.outlets.items j ≡ slice_get old.outlets.items j
+  pub next_marks : new.next_marks ≡ old.next_marks
 
 -- nothing that is held has changed
 pub record IsUnchanged (old new : Buffers) : Type 0 where

@@ -1,7 +1,8 @@
 //! Buffers: what they hold of a run, the inputs of a step and the values for a request out of it, and what is given up.
-ghost use Rattle.std.specs.Prelude.{◌≡◌, ℕ, ◌+◌, ◌≤◌, ◌<◌, ◌^◌, pos, ◌≤ℤ◌, ◌++◌, min, true, length, IfOk, IfSome, IfNone, OnOk, OnErr, Some, slice_get, slice_set, option_map, List};
+ghost use Rattle.std.specs.Prelude.{◌≡◌, ℕ, ◌+◌, ◌≤◌, ◌<◌, ◌^◌, pos, ◌≤ℤ◌, ◌++◌, min, true, length, false, IfOk, IfSome, IfNone, OnOk, OnErr, Some, slice_get, slice_set, option_map, List};
 ghost use Rattle.std.specs.Option.{ForSome};
 ghost use Rattle.mk_base.specs.Lists.{same_text};
+ghost use Rattle.mk_base.specs.declared.tier.Tier.{Tier};
 ghost use Rattle.mk_base.specs.Tiers.{IsUpTo, delayed, moment};
 ghost use Rattle.mk_plan.specs.declared.Plan.{Plan};
 ghost use Rattle.mk_plan.specs.declared.Want.{Want};
@@ -10,7 +11,8 @@ ghost use Rattle.mk_plan.specs.Asks.{gives_attr};
 ghost use Rattle.mk_plan.specs.Plans.{RefersInside, IsValidPlan};
 ghost use Rattle.mk_plan.specs.Deliveries.{Supply};
 ghost use Rattle.mk_plan.specs.Inputs.{latest, value_at, inputs};
-ghost use Rattle.mk_buffers.specs.Logs.{by, arrival};
+ghost use Rattle.mk_buffers.specs.Bounds.{most_kept};
+ghost use Rattle.mk_buffers.specs.Logs.{by, arrival, is_due};
 ghost use Rattle.mk_base.specs.Data.{IsValueText};
 ghost use Rattle.mk_buffers.specs.Held.{since_for, initial_for, with_output, with_gift, IsKeyAt, IsKeyless};
 ghost use Rattle.mk_buffers.specs.Marking.{AreAsking, Raised, asks_of};
@@ -57,7 +59,7 @@ pub struct Buffers {
 }
 
 impl Buffers {
-    ghost use Rattle.mk_buffers.specs.Standing.{HasKey, LacksKey, Stands, Delivers, HasSet, IsSourced, HasGathered, HasSameMarks, HasRaised, mark_of, least_mark, outputs_held, given, value_for, last_for, IsBegun, IsNoted, IsUnchanged, HasThinned, IsNew, IsOf, IsOutletFor, TargetOf};
+    ghost use Rattle.mk_buffers.specs.Standing.{HasKey, LacksKey, Stands, Delivers, HasSet, IsSourced, HasGathered, HasSameMarks, HasRaised, mark_of, least_mark, outputs_held, given, value_for, last_for, IsBegun, IsNoted, HasNoted, IsUnchanged, HasThinned, IsSwept, IsPartSwept, IsSweptAt, IsLookedAgain, next_of, IsNew, IsOf, IsOutletFor, TargetOf};
 
     /// Buffers of a plan before anything was added.
     pub fn new(alloc: Global, plan: &Plan) -> Result<Buffers, Mem>
@@ -167,13 +169,14 @@ impl Buffers {
     // Notes when something of the outlet may be given up.
     fn note(&mut self, outlet: usize)
         requires { outlet < length self.old.outlets.items }
-        ensures { IsNoted self.old self.new }
+        ensures same { IsNoted self.old self.new }
+        ensures noted { HasNoted outlet self.old self.new }
     {
-        let next = self.outlets[outlet].next_mark();
-        let sim = self.outlets[outlet].sim;
-        if sim < self.next_marks.len() {
-            self.next_marks[sim] = least_of(self.next_marks[sim], next);
-        }
+        let found = &self.outlets[outlet];
+        let next = found.next_mark(&self.until, self.marks.least());
+        let sim = found.sim;
+        let least = least_of(self.next_of(sim), next);
+        self.look_again(sim, least);
     }
 
     /// Adds a set value that is delivered at `at`: the text of a value, under the full id of an entity.
@@ -314,8 +317,18 @@ impl Buffers {
         }
     }
 
-    /// How many outputs are held; takes no memory.
+    /// How many outputs are held; takes no memory. They are at most as many as there are connections, distinct source
+    /// attributes, and late outputs of all that were added: outputs whose making, or whose delivery over some connection, is
+    /// later than the least mark.
     pub fn kept(&self) -> usize
+        ensures count { result ≡ min (outputs_held self.now) 18446744073709551615 }
+        ensures few { (P : Plan) (S : Supply) → Stands P self.now S → result ≤ most_kept P S (least_mark self.now) }
+    {
+        self.held()
+    }
+
+    // How many outputs are held.
+    fn held(&self) -> usize
         ensures { result ≡ min (outputs_held self.now) 18446744073709551615 }
     {
         let mut kept: usize = 0;
@@ -328,24 +341,41 @@ impl Buffers {
     // Gives up what a simulator's outlets needn't keep, if there is something.
     fn forget_feed(&mut self, sim: usize, mark: Tier)
         requires { sim < length self.old.feeds.items }
-        ensures { HasThinned mark self.old self.new }
+        ensures thinned { HasThinned mark self.old self.new }
+        ensures swept { IsSwept mark sim self.old → IsSwept mark (sim + 1) self.new }
+    {
+        if is_due(self.next_of(sim), mark) {
+            let part = self.feeds[sim];
+            let left = self.forget_part(part, mark);
+            self.look_again(sim, left);
+        }
+    }
+
+    // The mark at which a simulator's outlets are looked at again.
+    fn next_of(&self, sim: usize) -> Option<Tier>
+        ensures { result ≡ next_of self.now sim }
+    {
+        match self.next_marks.get(sim) {
+            Some(next) => *next,
+            None => None,
+        }
+    }
+
+    // Sets the mark at which a simulator's outlets are looked at again.
+    fn look_again(&mut self, sim: usize, next: Option<Tier>)
+        ensures same { IsNoted self.old self.new }
+        ensures next { IsLookedAgain sim next self.old self.new }
     {
         if sim < self.next_marks.len() {
-            let part = self.feeds[sim];
-            let next_mark = self.next_marks[sim];
-            if let Some(next) = next_mark {
-                if next.is_up_to(mark) {
-                    let left = self.forget_part(part, mark);
-                    self.next_marks[sim] = left;
-                }
-            }
+            self.next_marks[sim] = next;
         }
     }
 
     // Gives up what these outlets needn't keep, and finds the least mark at which something more may be given up.
     fn forget_part(&mut self, part: Part, mark: Tier) -> Option<Tier>
         ensures thinned { HasThinned mark self.old self.new }
-        ensures marks { length self.new.next_marks.items ≡ length self.old.next_marks.items }
+        ensures marks { self.new.next_marks ≡ self.old.next_marks }
+        ensures swept { IsPartSwept mark part result self.new }
     {
         let mut next_mark = None;
         for place in part.first..part.end {
@@ -358,13 +388,12 @@ impl Buffers {
     // Gives up what the outlet at the place needn't keep, and finds the least mark at which it may give up more.
     fn forget_at(&mut self, place: usize, mark: Tier) -> Option<Tier>
         ensures thinned { HasThinned mark self.old self.new }
-        ensures marks { length self.new.next_marks.items ≡ length self.old.next_marks.items }
+        ensures swept { IsSweptAt mark place result self.old self.new }
     {
         if place >= self.outlets.len() {
             return None;
         }
-        self.outlets[place].give_up(&self.until, mark);
-        self.outlets[place].next_mark()
+        self.outlets[place].give_up(&self.until, mark)
     }
 
     // What an inlet gives a step.
@@ -498,8 +527,21 @@ fn ask(asks: &mut Vec<bool>, sim: SimNo)
     }
 }
 
+// At this mark outlets that are looked at again at the next one are looked at.
+fn is_due(next: Option<Tier>, mark: Tier) -> bool
+    ensures { result ≡ is_due next mark }
+{
+    match next {
+        Some(next) => next.is_up_to(mark),
+        None => false,
+    }
+}
+
 // The lesser of two times, of which one may be missing.
-fn least_of(first: Option<Tier>, second: Option<Tier>) -> Option<Tier> {
+fn least_of(first: Option<Tier>, second: Option<Tier>) -> Option<Tier>
+    ensures first { (m : Tier) → is_due result m ≡ false → is_due first m ≡ false }
+    ensures second { (m : Tier) → is_due result m ≡ false → is_due second m ≡ false }
+{
     match (first, second) {
         (Some(one), Some(other)) => {
             if one.is_up_to(other) {

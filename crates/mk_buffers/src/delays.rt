@@ -1,9 +1,10 @@
 //! The delays of connections: when what is made at a time comes, and which questions it can answer.
-ghost use Rattle.std.specs.Prelude.{◌≡◌, ◌≤◌, pos, ◌≤ℤ◌};
+ghost use Rattle.std.specs.Prelude.{◌≡◌, ◌≤◌, ◌||◌, true, pos, Some, int_le, int_lt, ◌≤ℤ◌};
 ghost use Rattle.std.specs.List.{list_all};
-ghost use Rattle.mk_base.specs.Tiers.{delayed, up_to, HasWidth};
+ghost use Rattle.mk_base.specs.declared.tier.Tier.{Tier};
+ghost use Rattle.mk_base.specs.Tiers.{delayed, up_to, HasWidth, IsUpTo};
 ghost use Rattle.mk_plan.specs.Inputs.{is_since};
-ghost use Rattle.mk_buffers.specs.Logs.{does_come, is_hidden, is_in_time, is_past};
+ghost use Rattle.mk_buffers.specs.Logs.{does_come, is_held_up, is_in_time, is_overtaken, is_past, is_settled};
 
 use mk_base::{Tier, Via};
 use std::marker::Model;
@@ -98,18 +99,85 @@ fn has_come(made: Tier, vias: &[Delay], mark: Tier) -> bool
     vias.iter().all(|via| made.after(via.via()).is_up_to(mark))
 }
 
-// Wherever the first is delivered before the run's end, the second is.
-pub fn is_hidden(first: Tier, second: Tier, vias: &[Delay], until: i64) -> bool
+// Neither the making nor, by any of these delays, the delivery before the run's end of what is made at a time is later than the mark.
+pub fn is_settled(made: Tier, vias: &[Delay], until: i64, mark: Tier) -> bool
+    requires early { pos 0 ≤ℤ made.time }
+    requires late { made.time ≤ℤ pos 1000000000000000000 }
+    requires low { made.tier ≤ 1000000 }
+    ensures { result ≡ is_settled vias.now until mark made }
+{
+    if made.is_up_to(mark) {
+        has_come_or_never(made, vias, until, mark)
+    } else {
+        false
+    }
+}
+
+// What is made at a time has come by the mark by each of these delays that deliver it before the run's end.
+fn has_come_or_never(made: Tier, vias: &[Delay], until: i64, mark: Tier) -> bool
+    requires early { pos 0 ≤ℤ made.time }
+    requires late { made.time ≤ℤ pos 1000000000000000000 }
+    requires low { made.tier ≤ 1000000 }
+    ensures { result ≡ list_all (λ v. up_to (delayed made v) mark || int_le until (delayed made v).time) vias.now }
+{
+    vias.iter().all(|via| made.after(via.via()).is_up_to(mark)
+        || until <= made.after(via.via()).time)
+}
+
+// From the mark on, what is made second answers every question that what is made first could: by each of these delays the
+// second has come, or the first never comes before the run's end.
+pub fn is_overtaken(first: Tier, second: Tier, vias: &[Delay], until: i64, mark: Tier) -> bool
     requires early { pos 0 ≤ℤ first.time }
     requires late { first.time ≤ℤ pos 1000000000000000000 }
     requires low { first.tier ≤ 1000000 }
     requires second_early { pos 0 ≤ℤ second.time }
     requires second_late { second.time ≤ℤ pos 1000000000000000000 }
     requires second_low { second.tier ≤ 1000000 }
-    ensures { result ≡ is_hidden vias.now until first second }
+    ensures { result ≡ is_overtaken vias.now until mark first second }
 {
-    vias.iter().all(|via| second.after(via.via()).time < until
+    if second.is_up_to(mark) {
+        has_replaced(first, second, vias, until, mark)
+    } else {
+        false
+    }
+}
+
+// By each of these delays the second has come by the mark, or the first never comes before the run's end.
+fn has_replaced(first: Tier, second: Tier, vias: &[Delay], until: i64, mark: Tier) -> bool
+    requires early { pos 0 ≤ℤ first.time }
+    requires late { first.time ≤ℤ pos 1000000000000000000 }
+    requires low { first.tier ≤ 1000000 }
+    requires second_early { pos 0 ≤ℤ second.time }
+    requires second_late { second.time ≤ℤ pos 1000000000000000000 }
+    requires second_low { second.tier ≤ 1000000 }
+    ensures { result ≡ list_all (λ v. does_come v (Some until) mark second || int_le until (delayed first v).time) vias.now }
+{
+    vias.iter().all(|via| is_delivered(second, *via, Some(until), mark)
         || until <= first.after(via.via()).time)
+}
+
+// By one of these delays what is made first comes after the mark, while what is made last still comes before the run's end.
+pub fn is_held_up(first: Tier, last: Tier, vias: &[Delay], until: i64, mark: Tier) -> bool
+    requires early { pos 0 ≤ℤ first.time }
+    requires late { first.time ≤ℤ pos 1000000000000000000 }
+    requires low { first.tier ≤ 1000000 }
+    requires last_early { pos 0 ≤ℤ last.time }
+    requires last_late { last.time ≤ℤ pos 1000000000000000000 }
+    requires last_low { last.tier ≤ 1000000 }
+    ensures { result ≡ is_held_up vias.now until mark first last }
+{
+    vias.iter().any(|via| !first.after(via.via()).is_up_to(mark)
+        && last.after(via.via()).time < until)
+}
+
+// By each of these delays what is made at a time comes before the run's end.
+pub fn is_all_in_time(made: Tier, vias: &[Delay], until: i64) -> bool
+    requires early { pos 0 ≤ℤ made.time }
+    requires late { made.time ≤ℤ pos 1000000000000000000 }
+    requires low { made.tier ≤ 1000000 }
+    ensures { result ≡ list_all (λ v. int_lt (delayed made v).time until) vias.now }
+{
+    vias.iter().all(|via| made.after(via.via()).time < until)
 }
 
 // The least time by which what is made at a time has come, on its own and by each of these delays.
@@ -117,13 +185,22 @@ pub fn arrived(made: Tier, vias: &[Delay]) -> Tier
     requires early { pos 0 ≤ℤ made.time }
     requires late { made.time ≤ℤ pos 1000000000000000000 }
     requires low { made.tier ≤ 1000000 }
+    ensures { (m : Tier) → is_past vias.now m made ≡ true → IsUpTo result m }
 {
     let mut last = made;
     for via in vias {
-        let arrival = made.after(via.via());
-        if last.is_up_to(arrival) {
-            last = arrival;
-        }
+        last = later_of(last, made.after(via.via()));
     }
     last
+}
+
+// The later of two times.
+fn later_of(first: Tier, second: Tier) -> Tier
+    ensures { (m : Tier) → IsUpTo first m → IsUpTo second m → IsUpTo result m }
+{
+    if first.is_up_to(second) {
+        second
+    } else {
+        first
+    }
 }

@@ -1,12 +1,17 @@
 //! The outputs of one entity and attribute: the search for the one that counts, and the giving up of those that no question can reach.
-ghost use Rattle.std.specs.Prelude.{◌≡◌, ◌+◌, ◌<◌, ◌≤◌, true, false, [], length, option_map, OnOk, OnErr, pos, ◌≤ℤ◌};
+ghost use Rattle.std.specs.Prelude.{◌≡◌, ◌+◌, ◌<◌, ◌≤◌, true, false, [], ◌∷◌, ◌++◌, length, get_or, option_map, Some, OnOk, OnErr, pos, ◌≤ℤ◌};
 ghost use Rattle.std.specs.List.{remove};
 ghost use Rattle.std.specs.List.Sorted.{IsPartitionPoint};
+ghost use Rattle.mk_base.specs.Lists.{IsIn};
 ghost use Rattle.mk_base.specs.Tiers.{up_to};
+ghost use Rattle.mk_base.specs.declared.tier.Via.{Via};
+ghost use Rattle.mk_plan.specs.Deliveries.{Timed};
 ghost use Rattle.mk_plan.specs.Inputs.{later, latest};
-ghost use Rattle.mk_buffers.specs.Logs.{AnswersFrom, IsAscending, PlacedFor, Takes, arrival, arrivals, by, does_come, weighed};
+ghost use Rattle.mk_buffers.specs.Logs.{AnswersFrom, IsAmong, IsAscending, IsFew, IsFirstToCome, IsNeeded, IsNewestAt, IsNewestByOf, IsOutdoneAt, IsRest, IsSpare, is_outdone, PlacedFor, StaysFew, Takes, arrival, arrivals, by, does_come, is_past, is_settled, weighed};
 
-use crate::delays::{Delay, arrived, is_delivered, is_hidden, is_past};
+use crate::delays::{
+    Delay, arrived, is_all_in_time, is_delivered, is_held_up, is_overtaken, is_past, is_settled,
+};
 use crate::made::Made;
 use mk_base::{Mem, Tier, Via};
 use std::alloc::Global;
@@ -51,6 +56,7 @@ impl Log {
     // Takes one more output, which came after all others.
     pub fn push(&mut self, new: Made) -> Result<(), Mem>
         ensures ok { OnOk result (Takes new self.old self.new) }
+        ensures among { OnOk result (IsAmong self.new (self.old ++ new ∷ [])) }
         ensures err { OnErr result (self.new ≡ self.old) }
     {
         let place = place_for(&self.entries, self.rising, new.at());
@@ -87,18 +93,25 @@ impl Log {
 
     // Gives up what is overtaken for every question at or after the mark.
     pub fn forget(&mut self, vias: &[Delay], until: &i64, mark: Tier)
-        ensures { AnswersFrom vias.now until.now mark self.new self.old }
+        ensures answers { AnswersFrom vias.now until.now mark self.new self.old }
+        ensures among { IsAmong self.new self.old }
+        ensures few { IsFew vias.now until.now mark self.new }
     {
         if self.rising {
             forget_rising(&mut self.entries, vias, until, mark);
+        } else {
+            forget_spare(&mut self.entries, vias, until, mark);
         }
     }
 
     // The least mark at which something more may be given up, if there is one.
-    pub fn next_mark(&self, vias: &[Delay]) -> Option<Tier> {
-        match self.entries.get(1) {
-            Some(second) if self.rising => Some(arrived(second.at(), vias)),
-            _ => None,
+    pub fn next_mark(&self, vias: &[Delay], until: &i64, mark: Tier) -> Option<Tier>
+        ensures { IsFew vias.now until.now mark self.now → StaysFew vias.now until.now mark result self.now }
+    {
+        if self.rising {
+            next_rising(&self.entries, vias, until, mark)
+        } else {
+            Some(mark)
         }
     }
 }
@@ -206,15 +219,233 @@ fn later<'a>(best: Option<&'a Made>, next: &'a Made, via: Delay) -> Option<&'a M
 fn forget_rising(entries: &mut VecDeque<Made>, vias: &[Delay], until: &i64, mark: Tier)
     requires { IsAscending entries.old.items }
     ensures answers { AnswersFrom vias.now until.now mark entries.new.items entries.old.items }
+    ensures among { IsAmong entries.new.items entries.old.items }
+    ensures few { IsFew vias.now until.now mark entries.new.items }
     ensures rising { IsAscending entries.new.items }
 {
     let mut place = 0;
-    while place + 1 < entries.len() && is_past(entries[place + 1].at(), vias, mark) {
-        if is_hidden(entries[place].at(), entries[place + 1].at(), vias, *until) {
+    while goes_on(entries, place, vias, until, mark) {
+        if is_overtaken(
+            entries[place].at(),
+            entries[place + 1].at(),
+            vias,
+            *until,
+            mark,
+        ) {
             drop_at(entries, place);
         } else {
             place += 1;
         }
+    }
+}
+
+// The entry at the place may be overtaken by its next one, or one behind it by its own.
+fn goes_on(entries: &VecDeque<Made>, place: usize, vias: &[Delay], until: &i64, mark: Tier) -> bool
+    requires { place ≤ length entries.now.items }
+    ensures next { result ≡ true → place + 1 < length entries.now.items }
+    ensures rest { result ≡ false → IsRest vias.now until.now mark entries.now.items place }
+{
+    match entries.back() {
+        Some(last) if place + 1 < entries.len() => {
+            entries[place + 1].at().is_up_to(mark)
+                && !is_held_up(entries[place].at(), last.at(), vias, *until, mark)
+        }
+        _ => false,
+    }
+}
+
+// The least mark at which something more of rising entries may be given up, if there is one.
+fn next_rising(entries: &VecDeque<Made>, vias: &[Delay], until: &i64, mark: Tier) -> Option<Tier>
+    requires { IsAscending entries.now.items }
+    ensures { IsFew vias.now until.now mark entries.now.items → StaysFew vias.now until.now mark result entries.now.items }
+{
+    let place = first_to_come(entries, vias, mark);
+    if place < entries.len() {
+        let last = entries.len() - 1;
+        if is_all_in_time(entries[last].at(), vias, *until) {
+            Some(arrived(entries[place].at(), vias))
+        } else {
+            Some(mark)
+        }
+    } else {
+        None
+    }
+}
+
+// How many entries before the first that has not come by the mark, on its own and by each of these delays.
+fn first_to_come(entries: &VecDeque<Made>, vias: &[Delay], mark: Tier) -> usize
+    ensures { IsFirstToCome vias.now mark entries.now.items result }
+{
+    for place in 0..entries.len() {
+        if !is_past_at(entries, place, vias, mark) {
+            return place;
+        }
+    }
+    entries.len()
+}
+
+// The entry at the place has come by the mark, on its own and by each of these delays.
+fn is_past_at(entries: &VecDeque<Made>, place: usize, vias: &[Delay], mark: Tier) -> bool
+    requires { place < length entries.now.items }
+    ensures { (d : Timed) → result ≡ is_past vias.now mark (get_or entries.now.items place d).at }
+{
+    is_past(entries[place].at(), vias, mark)
+}
+
+// Drops each entry that is settled and is the newest one for no question at the mark; the entries are in any order.
+fn forget_spare(entries: &mut VecDeque<Made>, vias: &[Delay], until: &i64, mark: Tier)
+    ensures answers { AnswersFrom vias.now until.now mark entries.new.items entries.old.items }
+    ensures among { IsAmong entries.new.items entries.old.items }
+    ensures few { IsFew vias.now until.now mark entries.new.items }
+{
+    let mut place = 0;
+    while place < entries.len() {
+        if is_spare(entries, place, vias, until, mark) {
+            drop_at(entries, place);
+        } else {
+            place += 1;
+        }
+    }
+}
+
+// The entry at the place is settled, and is the newest one for no question at the mark.
+fn is_spare(entries: &VecDeque<Made>, place: usize, vias: &[Delay], until: &i64, mark: Tier) -> bool
+    requires { place < length entries.now.items }
+    ensures spare { result ≡ true → IsSpare vias.now until.now mark entries.now.items place }
+    ensures needed { result ≡ false → IsNeeded vias.now until.now mark entries.now.items place }
+{
+    if !is_settled_at(entries, place, vias, until, mark) {
+        return false;
+    }
+    if is_newest(entries, place, Delay::of(Via::Plain), None, mark) {
+        return false;
+    }
+    !is_newest_by(entries, place, vias, until, mark)
+}
+
+// The entry at the place is settled.
+fn is_settled_at(
+    entries: &VecDeque<Made>,
+    place: usize,
+    vias: &[Delay],
+    until: &i64,
+    mark: Tier,
+) -> bool
+    requires { place < length entries.now.items }
+    ensures { (d : Timed) → result ≡ is_settled vias.now until.now mark (get_or entries.now.items place d).at }
+{
+    is_settled(entries[place].at(), vias, *until, mark)
+}
+
+// By one of these delays the entry at the place is the newest one.
+fn is_newest_by(
+    entries: &VecDeque<Made>,
+    place: usize,
+    vias: &[Delay],
+    until: &i64,
+    mark: Tier,
+) -> bool
+    requires { place < length entries.now.items }
+    ensures newest { result ≡ true → IsNewestByOf vias.now until.now mark entries.now.items place }
+    ensures outdone { result ≡ false → (v : Via) → IsIn v vias.now → IsOutdoneAt v (Some until.now) mark entries.now.items place }
+{
+    for via in vias {
+        if is_newest(entries, place, *via, Some(*until), mark) {
+            return true;
+        }
+    }
+    false
+}
+
+// The entry at the place is the one that is delivered last up to the mark, of equal ones the one that came last.
+fn is_newest(
+    entries: &VecDeque<Made>,
+    place: usize,
+    via: Delay,
+    until: Option<i64>,
+    mark: Tier,
+) -> bool
+    requires { place < length entries.now.items }
+    ensures newest { result ≡ true → IsNewestAt via until mark entries.now.items place }
+    ensures outdone { result ≡ false → IsOutdoneAt via until mark entries.now.items place }
+{
+    if !comes_at(entries, place, via, until, mark) {
+        return false;
+    }
+    for other in 0..entries.len() {
+        if is_outdone_at(entries, place, other, via, until, mark) {
+            return false;
+        }
+    }
+    true
+}
+
+// The entry at the place is delivered up to the mark.
+fn comes_at(
+    entries: &VecDeque<Made>,
+    place: usize,
+    via: Delay,
+    until: Option<i64>,
+    mark: Tier,
+) -> bool
+    requires { place < length entries.now.items }
+    ensures { (d : Timed) → result ≡ does_come via until mark (get_or entries.now.items place d).at }
+{
+    is_delivered(entries[place].at(), via, until, mark)
+}
+
+// The entry at the other place is delivered up to the mark and counts rather than the one at the place.
+fn is_outdone_at(
+    entries: &VecDeque<Made>,
+    place: usize,
+    other: usize,
+    via: Delay,
+    until: Option<i64>,
+    mark: Tier,
+) -> bool
+    requires own { place < length entries.now.items }
+    requires other { other < length entries.now.items }
+    ensures { (d : Timed) → result ≡ is_outdone via until mark (get_or entries.now.items place d).at (get_or entries.now.items other d).at place other }
+{
+    is_outdone(
+        entries[place].at(),
+        entries[other].at(),
+        place,
+        other,
+        via,
+        until,
+        mark,
+    )
+}
+
+// Of two entries, which stand at these places, the second is delivered up to the mark and counts rather than the first.
+fn is_outdone(
+    own: Tier,
+    other: Tier,
+    place: usize,
+    other_place: usize,
+    via: Delay,
+    until: Option<i64>,
+    mark: Tier,
+) -> bool
+    requires early { pos 0 ≤ℤ own.time }
+    requires late { own.time ≤ℤ pos 1000000000000000000 }
+    requires low { own.tier ≤ 1000000 }
+    requires other_early { pos 0 ≤ℤ other.time }
+    requires other_late { other.time ≤ℤ pos 1000000000000000000 }
+    requires other_low { other.tier ≤ 1000000 }
+    ensures { result ≡ is_outdone via until mark own other place other_place }
+{
+    if is_delivered(other, via, until, mark) {
+        let own = own.after(via.via());
+        let other = other.after(via.via());
+        if other_place < place {
+            !other.is_up_to(own)
+        } else {
+            place < other_place && own.is_up_to(other)
+        }
+    } else {
+        false
     }
 }
 

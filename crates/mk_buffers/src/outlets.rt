@@ -32,6 +32,7 @@ pub struct Outlet {
 
 impl Outlet {
     ghost use Rattle.mk_buffers.specs.Held.{HasTaken, IsThinned};
+    ghost use Rattle.mk_buffers.specs.Logs.{IsFew, StaysFew};
 
     // Takes one more output, and gives up what no question at or after the mark can reach.
     pub fn take_in(&mut self, at: Tier, value: Datum, until: &i64, mark: Tier) -> Result<(), Mem>
@@ -39,6 +40,7 @@ impl Outlet {
         requires late { at.time ≤ℤ pos 1000000000000000000 }
         requires low { at.tier ≤ 1000000 }
         ensures ok { OnOk result (HasTaken until.now mark (record { at = at; value = value }) self.old self.new) }
+        ensures few { OnOk result (IsFew self.new.vias.items until.now mark self.new.log) }
         ensures err { OnErr result (self.new ≡ self.old) }
     {
         self.log.push(Made::new(at, value))?;
@@ -46,16 +48,21 @@ impl Outlet {
         Ok(())
     }
 
-    // Gives up what no question at or after the mark can reach.
-    pub fn give_up(&mut self, until: &i64, mark: Tier)
-        ensures { IsThinned until.now mark self.old self.new }
+    // Gives up what no question at or after the mark can reach, and finds the least mark at which it may give up more.
+    pub fn give_up(&mut self, until: &i64, mark: Tier) -> Option<Tier>
+        ensures thinned { IsThinned until.now mark self.old self.new }
+        ensures few { IsFew self.new.vias.items until.now mark self.new.log }
+        ensures next { StaysFew self.new.vias.items until.now mark result self.new.log }
     {
         self.log.forget(self.vias.as_slice(), until, mark);
+        self.next_mark(until, mark)
     }
 
     // The least mark at which something more may be given up, if there is one.
-    pub fn next_mark(&self) -> Option<Tier> {
-        self.log.next_mark(self.vias.as_slice())
+    pub fn next_mark(&self, until: &i64, mark: Tier) -> Option<Tier>
+        ensures { IsFew self.now.vias.items until.now mark self.now.log → StaysFew self.now.vias.items until.now mark result self.now.log }
+    {
+        self.log.next_mark(self.vias.as_slice(), until, mark)
     }
 }
 

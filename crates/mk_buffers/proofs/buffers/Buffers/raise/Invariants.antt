@@ -1,5 +1,5 @@
-use Rattle.mk_buffers.specs.Standing.{HasThinned}
+use Rattle.mk_buffers.specs.Standing.{HasThinned, IsSwept}
 use Rattle.mk_buffers.proofs.buffers.Buffers.raise.Given as goal
 
 abbrev pub invariant-loop-sim : goal.invariant-loop-sim
-invariant-loop-sim l = HasThinned l.mark l.initial.self l.self
+invariant-loop-sim l = HasThinned l.mark l.initial.self l.self × (IsSwept l.mark 0 l.initial.self → IsSwept l.mark l.sim l.self)

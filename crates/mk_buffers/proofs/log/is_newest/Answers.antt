@@ -1,0 +1,10 @@
+use Rattle.std.proofs.Common.{◌≡◌, inl, inr, ℕ, false, get_or, sym, subst}
+use Rattle.mk_buffers.specs.Logs.{is_outdone}
+use Rattle.mk_buffers.proofs.Marking.{below_or_same}
+use Rattle.mk_buffers.proofs.log.is_newest.Goals as goal
+
+pub loop-other-preserved : goal.loop-other-preserved
+loop-other-preserved c = λ q d low. elim (below_or_same q c.loop-other.other low) [
+  | inl same ↦ subst (λ (k : ℕ). is_outdone c.args.via c.args.until c.args.mark (get_or c.args.entries.now.items c.args.place d).at (get_or c.args.entries.now.items k d).at c.args.place k ≡ false) (sym same) (sym (c.if-is_outdone_at.ensures d))
+  | inr l ↦ c.loop-other.invariant q d l
+]
