@@ -67,12 +67,12 @@ sources_pass ms form range = all_both (λ (m : List ℕ × Json). is_destination
 -- ---- what is gathered
 
 module _ {A B C : Type 0} (g : A → Option B) where
-  map_same : (h : A → C) (k : B → C) → ((x : A) (y : B) → g x ≡ Some y → h x ≡ k y) → (xs : List A) (ys : List B) → all_there (map g xs) ≡ Some ys → map h xs ≡ map k ys
+  pub map_same : (h : A → C) (k : B → C) → ((x : A) (y : B) → g x ≡ Some y → h x ≡ k y) → (xs : List A) (ys : List B) → all_there (map g xs) ≡ Some ys → map h xs ≡ map k ys
   map_same h k same [] ys e = ap (map k) (some_same e)
   map_same h k same (x ∷ xs) ys e = let m = made g x xs ys e in
       ap (λ c. c ∷ map h xs) (same x m.0 m.2) ∙ ap (λ l. k m.0 ∷ l) (map_same h k same xs m.1 m.3) ∙ ap (map k) (sym m.4)
 
-  flat_same : (h : A → List C) (k : B → List C) → ((x : A) (y : B) → g x ≡ Some y → h x ≡ k y) → (xs : List A) (ys : List B) → all_there (map g xs) ≡ Some ys → flat_map h xs ≡ flat_map k ys
+  pub flat_same : (h : A → List C) (k : B → List C) → ((x : A) (y : B) → g x ≡ Some y → h x ≡ k y) → (xs : List A) (ys : List B) → all_there (map g xs) ≡ Some ys → flat_map h xs ≡ flat_map k ys
   flat_same h k same [] ys e = ap (flat_map k) (some_same e)
   flat_same h k same (x ∷ xs) ys e = let m = made g x xs ys e in
       ap (λ c. c ++ flat_map h xs) (same x m.0 m.2) ∙ ap (λ l. k m.0 ++ l) (flat_same h k same xs m.1 m.3) ∙ ap (flat_map k) (sym m.4)
@@ -81,17 +81,17 @@ module _ {X C : Type 0} (f : Json → Option X) where
   pub named_map : (h : List ℕ → Json → C) (k : Named X → C) → ((t : Json) (n : Named X) → f t ≡ Some n.value → h n.name t ≡ k n) → (ms : Members) (ns : List (Named X)) → named_by f ms ≡ Some ns → map (λ (m : List ℕ × Json). h m.0 m.1) ms ≡ map k ns
   named_map h k same ms ns e = map_same (read f) (λ (m : List ℕ × Json). h m.0 m.1) k (λ m n r. let p = parts f m n r in ap (λ i. h i m.1) p.0 ∙ same m.1 n p.1) ms ns e
 
-  named_flat : (h : List ℕ → Json → List C) (k : Named X → List C) → ((t : Json) (n : Named X) → f t ≡ Some n.value → h n.name t ≡ k n) → (ms : Members) (ns : List (Named X)) → named_by f ms ≡ Some ns → flat_map (λ (m : List ℕ × Json). h m.0 m.1) ms ≡ flat_map k ns
+  pub named_flat : (h : List ℕ → Json → List C) (k : Named X → List C) → ((t : Json) (n : Named X) → f t ≡ Some n.value → h n.name t ≡ k n) → (ms : Members) (ns : List (Named X)) → named_by f ms ≡ Some ns → flat_map (λ (m : List ℕ × Json). h m.0 m.1) ms ≡ flat_map k ns
   named_flat h k same ms ns e = flat_same (read f) (λ (m : List ℕ × Json). h m.0 m.1) k (λ m n r. let p = parts f m n r in ap (λ i. h i m.1) p.0 ∙ same m.1 n p.1) ms ns e
 
-  object_list : (h : Members → List C) (k : List (Named X) → List C) → ((ms : Members) (ns : List (Named X)) → named_by f ms ≡ Some ns → h ms ≡ k ns) → (t : Json) (ns : List (Named X)) → members_by f t ≡ Some ns → h (members_of t) ≡ k ns
+  pub object_list : (h : Members → List C) (k : List (Named X) → List C) → ((ms : Members) (ns : List (Named X)) → named_by f ms ≡ Some ns → h ms ≡ k ns) → (t : Json) (ns : List (Named X)) → members_by f t ≡ Some ns → h (members_of t) ≡ k ns
   object_list h k same t ns e = by (members_in t) e
     where
       by : (o : Option Members) → option_and_then (λ ms. named_by f ms) o ≡ Some ns → h (unwrap_or o []) ≡ k ns
       by None e = absurd (none_some e)
       by (Some ms) e = same ms ns e
 
-datum_is : (t v : Json) → datum_in t ≡ Some v → t ≡ v
+pub datum_is : (t v : Json) → datum_in t ≡ Some v → t ≡ v
 datum_is t v e = elim (is_datum t) as (λ b. cond b (Some t) None ≡ Some v → t ≡ v) [ true ↦ λ e. some_same e | false ↦ λ e. absurd (none_some e) ] e
 
 module _ (P : Plan) where

@@ -165,8 +165,8 @@ fn texts_of(texts: &List<Json>) -> Option<Asked>
     }
 }
 
-// Whether each member is a list of texts.
-fn are_wants(wants: &Members<Json>) -> bool
+/// Whether each member is a list of texts, as the argument of `get_data` has it.
+pub fn are_wants(wants: &Members<Json>) -> bool
     ensures { result ≡ each_passes is_texts wants.now }
 {
     wants.entries().iter().all(|want| is_texts(&want.1))
@@ -199,8 +199,8 @@ fn is_text(tree: &Json) -> bool
     }
 }
 
-// Whether each member is an object of destinations.
-fn are_sources(sources: &Members<Json>) -> bool
+/// Whether each member is an object of objects of values, as the argument of `set_data` and the inputs of a step have it.
+pub fn are_sources(sources: &Members<Json>) -> bool
     ensures { result ≡ each_passes is_destinations sources.now }
 {
     sources

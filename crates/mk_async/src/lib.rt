@@ -13,6 +13,7 @@ mod request;
 mod tests;
 
 pub use data::data_content;
+pub use forms::{are_sources, are_wants};
 pub use given::given_values;
 pub use judged::judge;
 pub use related::plain_content;

@@ -1,6 +1,4 @@
 mod Forming
-mod Numbers
-mod Replying
 mod Ranges
 mod Answering
 mod Logs

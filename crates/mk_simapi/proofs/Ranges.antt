@@ -29,7 +29,7 @@ use Rattle.mk_local.specs.Replies.{item_reply}
 use Rattle.mk_local.specs.Simulators.{Simulator}
 use Rattle.mk_within.specs.Calls.{IsFitSuccess}
 use Rattle.mk_within.specs.Standing.{IsFit}
-use Rattle.mk_simapi.proofs.Replying.{reply_fit}
+use Rattle.mk_within.proofs.Replying.{reply_fit}
 use Rattle.mk_simapi.specs.Replies.{unknown}
 
 -- ---- what is heard

@@ -7,7 +7,7 @@ ghost use Rattle.mk_async.specs.Given.{is_source, is_value, members_of};
 ghost use Rattle.mk_simapi.specs.Requests.{inputs_in, wants_in};
 ghost use Rattle.mk_simapi.specs.Inputs.{inputs_among, inputs_at, inputs_by, inputs_to, items_of, text_or_empty, wants_among, wants_at, wants_by};
 
-use crate::forms::{are_inputs, are_wants};
+use mk_async::{are_sources, are_wants};
 use mk_base::{Datum, Json, List, Mem, Members, Text};
 use mk_json::datum;
 use mk_plan::{Input, Want};
@@ -29,7 +29,7 @@ fn inputs_by(alloc: Global, entities: &Members<Json>) -> Result<Option<List<Inpu
     requires { each_passes is_in_range entities.now ≡ true }
     ensures { IfOk result (λ inputs. inputs ≡ inputs_by entities.now) }
 {
-    if !are_inputs(entities) {
+    if !are_sources(entities) {
         return Ok(None);
     }
     let mut inputs = List::new(alloc);

@@ -1,5 +1,5 @@
-mod Numbers
-mod Replying
+pub mod Numbers
+pub mod Replying
 mod Following
 mod Placing
 mod Beginning
