@@ -34,13 +34,9 @@ use Rattle.mk_sched.specs.declared.faults.Ended.TheVariants.{Faulty, OutOfMemory
 use Rattle.mk_sched.specs.declared.faults.CoreFault.TheVariants.{TooLong}
 use Rattle.mk_sched.specs.declared.faults.Next.TheVariants as next
 use Rattle.mk_sched.specs.Answers.{IsAsked, SomeReady, SomeOpen}
+use Rattle.mk_sched.specs.Holding.{IsSettled}
 use Rattle.mk_sched.specs.Kept.{IsCurrent, IsKept, HasAdvanced, core_of}
-use Rattle.mk_sched.proofs.Standing.{kept_push, ended_kept, same_kept}
-
--- a simulator's mark is the least tiered time at which it may still step, or any where nothing can make it step
-pub mark_of : (P : Plan) (V : View) (s : ℕ) (end : Tier) (o : Option Tier) → MatchOption o ((y : Tier) → Reach P (start P V) nobody s y → ⊥) (λ e. IsEarliest P (start P V) s e) → (m : Tier) → m ≡ unwrap_or o end → IsMarkOf P V s m
-mark_of P V s end None h m is = unreached_is_mark P V s m h
-mark_of P V s end (Some e) h m is = subst (IsMarkOf P V s) (sym is) (earliest_is_mark P V s e h)
+use Rattle.mk_sched.proofs.Standing.{kept_push, ended_kept, ended_settled}
 
 module _ (P : Plan) (J : List Entry) (K : Kept) (kept : IsKept P J K None) where
   pub its : IsCurrent P (view P J) (length J) K
@@ -84,26 +80,25 @@ module _ (P : Plan) (J : List Entry) (K : Kept) (kept : IsKept P J K None) where
 
   -- ---- what is answered
 
-  pub next_asked : (s : SimNo) (L : Kept) (M : List Entry) → IsKept P M L None × IsAsked (core_of P J None) s (core_of P M None) → HasAdvanced P J (Ok (next.Ask s)) L M
-  next_asked s L M h = record { kept = h.0; ok = h.1; err = tt }
+  pub next_asked : (s : SimNo) (L : Kept) (M : List Entry) → IsKept P M L None → IsAsked (core_of P J None) s (core_of P M None) → IsSettled P M L None → HasAdvanced P J (Ok (next.Ask s)) L M
+  next_asked s L M kept asked settled = record { kept = kept; settled = settled; ok = asked; err = tt }
 
   pub next_failed : (e : Mem) (L : Kept) (M : List Entry) → M ≡ J → HasAdvanced P J (Err e) L M
-  next_failed e L M same = record { kept = ended_kept P J K kept M L OutOfMemory same; ok = tt; err = same }
+  next_failed e L M same = record { kept = ended_kept P J K kept M L OutOfMemory same; settled = ended_settled P M L OutOfMemory; ok = tt; err = same }
 
   pub next_full : (s : ℕ) (x : Tier) → IsReady P (view P J) s x → length J ≡ P.entries → HasAdvanced P J (Ok (next.Fault (TooLong P.entries))) K J
   next_full s x ready full = record {
     kept = ended_kept P J K kept J K (Faulty (TooLong P.entries)) refl;
+    settled = ended_settled P J K (Faulty (TooLong P.entries));
     ok = inr (record { going = refl; named = refl; full = full; ready = (s, x, ready); ended = refl });
     err = tt;
   }
 
-  module _ (nobody_ready : (i : ℕ) (x : Tier) → IsReady P (view P J) i x → ⊥) (L : Kept) (sims : L.sims ≡ K.sims) (agenda : L.agenda ≡ K.agenda) (stock : IsStockOf P (view P J) L.stock) where
-    told : IsKept P J L None
-    told = same_kept P J K L kept (record { sims = subst (AreSimsOf P (view P J) (length J)) (sym sims) its.sims; agenda = subst (Mirrors P (view P J)) (sym agenda) its.agenda; stock = stock; no_fault = its.no_fault; none_owed = its.none_owed })
-
-    pub next_waits : (i : ℕ) × (i < sim_count P) × (is_some ((view P J).open_at i) ≡ true) → HasAdvanced P J (Ok next.Wait) L J
+  module _ (settled : IsSettled P J K None) (nobody_ready : (i : ℕ) (x : Tier) → IsReady P (view P J) i x → ⊥) where
+    pub next_waits : (i : ℕ) × (i < sim_count P) × (is_some ((view P J).open_at i) ≡ true) → HasAdvanced P J (Ok next.Wait) K J
     next_waits t = record {
-      kept = told;
+      kept = kept;
+      settled = settled;
       ok = record { going = refl; nobody = λ r. nobody_ready r.0 r.1 r.2; waiting = (t.0, (t.1, λ none. true≢false (sym t.2 ∙ ap is_some none))); same = refl };
       err = tt;
     }
@@ -119,9 +114,10 @@ module _ (P : Plan) (J : List Entry) (K : Kept) (kept : IsKept P J K None) where
     is_over : ((i : ℕ) → i < sim_count P → (view P J).open_at i ≡ None) → IsDone P (view P J)
     is_over shut = record { no_fault = its.no_fault; closed = shut; none_pending = none_pending shut }
 
-    pub next_done : ((i : ℕ) → i < sim_count P → (view P J).open_at i ≡ None) → HasAdvanced P J (Ok next.Done) L J
+    pub next_done : ((i : ℕ) → i < sim_count P → (view P J).open_at i ≡ None) → HasAdvanced P J (Ok next.Done) K J
     next_done shut = record {
-      kept = told;
+      kept = kept;
+      settled = settled;
       ok = record { going = refl; done = is_over shut; finished = orderly_finished P kept.valid J kept.orderly (is_over shut); same = refl };
       err = tt;
     }

@@ -1,4 +1,5 @@
 pub mod Standing
+pub mod Settled
 pub mod Asked
 pub mod Judged
 pub mod Arrived

@@ -17,6 +17,7 @@ use Rattle.mk_supply.specs.Stock.{IsStockOf}
 use Rattle.mk_sched.specs.declared.kept.Kept.{Kept}
 use Rattle.mk_sched.specs.declared.faults.Ended.{Ended}
 use Rattle.mk_sched.specs.Cores.{Stands}
+use Rattle.mk_sched.specs.Holding.{IsSettled}
 use Rattle.mk_sched.specs.Kept.{IsCurrent, IsKept}
 
 pub stands_of : (P : Plan) (J : List Entry) (K : Kept) (end : Option Ended) → IsKept P J K end → Stands P J
@@ -42,9 +43,9 @@ new_is P K valid sims agenda stock = record {
 pub ended_kept : (P : Plan) (J : List Entry) (K : Kept) → IsKept P J K None → (M : List Entry) (L : Kept) (end : Ended) → M ≡ J → IsKept P M L (Some end)
 ended_kept P J K kept M L end same = subst (λ (N : List Entry). IsKept P N L (Some end)) (sym same) (record { valid = kept.valid; orderly = kept.orderly; within = kept.within; current = λ e. absurd (none_some (sym e)) })
 
--- the same journal
-pub same_kept : (P : Plan) (J : List Entry) (K L : Kept) → IsKept P J K None → IsCurrent P (view P J) (length J) L → IsKept P J L None
-same_kept P J K L kept current = record { valid = kept.valid; orderly = kept.orderly; within = kept.within; current = λ _. current }
+-- nothing is to be settled after an end
+pub ended_settled : (P : Plan) (J : List Entry) (K : Kept) (end : Ended) → IsSettled P J K (Some end)
+ended_settled P J K end = λ e. absurd (none_some (sym e))
 
 pub kept_push : (P : Plan) (J : List Entry) (K L : Kept) (end : Option Ended) (e : Entry) → IsKept P J K None → length J ≢ P.entries → IsAllowed IsReady IsAdvance P (view P J) e
     → ((note P (view P J) e).owed ≡ None) ⊎ (length J + 1 ≡ P.entries) → (end ≡ None → IsCurrent P (note P (view P J) e) (length J + 1) L) → IsKept P (J ++ e ∷ []) L end

@@ -33,6 +33,7 @@ use Rattle.mk_sched.specs.declared.faults.Taken.{Taken}
 use Rattle.mk_sched.specs.declared.faults.Taken.TheVariants as taken
 use Rattle.mk_sched.specs.Cores.{CoreState, is_message_in_range}
 use Rattle.mk_sched.specs.Answers.{NextOf, ArriveOf}
+use Rattle.mk_sched.specs.Holding.{IsSettled}
 
 -- what is kept stands for the view of a journal of n entries; nothing is owed, and there is no fault
 pub record IsCurrent (P : Plan) (V : View) (n : ℕ) (K : Kept) : Type 0 where
@@ -70,6 +71,7 @@ end_after_arrive (Err e) = Some OutOfMemory
 -- what `next` leaves
 pub record HasAdvanced (P : Plan) (J : List Entry) (answer : Result Next Mem) (L : Kept) (M : List Entry) : Type 0 where
   pub kept : IsKept P M L (end_after_next answer)
+  pub settled : IsSettled P M L (end_after_next answer)
   pub ok : IfOk answer (λ next. NextOf (core_of P J None) next (core_of P M (end_after_next answer)))
   pub err : IfErr answer (λ _. M ≡ J)
 

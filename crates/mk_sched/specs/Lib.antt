@@ -1,3 +1,4 @@
 pub mod Cores
 pub mod Answers
+pub mod Holding
 pub mod Kept

@@ -6,12 +6,13 @@ ghost use Rattle.mk_plan.specs.Ready.{IsReady};
 ghost use Rattle.mk_plan.specs.Advance.{IsAdvance};
 ghost use Rattle.mk_plan.specs.Orderly.{IsFirstReady};
 ghost use Rattle.mk_sched.specs.Answers.{IsAsked};
+ghost use Rattle.mk_sched.specs.Holding.{IsSettled};
 ghost use Rattle.mk_sched.specs.Kept.{IsKept, HasAdvanced, core_of};
 
 use crate::entries::{is_full, too_long};
 use crate::faults::Next;
 use crate::kept::Kept;
-use crate::marks::forget;
+use crate::marks::settle;
 use mk_agenda::Ready;
 use mk_base::Mem;
 use mk_plan::{Entry, Item, Journal, Plan};
@@ -19,7 +20,8 @@ use mk_supply::stock_stays;
 
 // Asks the first simulator that is ready, if the journal has room.
 pub fn advance(plan: &Plan, kept: &mut Kept, journal: &mut Journal) -> Result<Next, Mem>
-    requires { IsKept plan.now journal.old.entries kept.old None }
+    requires kept { IsKept plan.now journal.old.entries kept.old None }
+    requires settled { IsSettled plan.now journal.old.entries kept.old None }
     ensures { HasAdvanced plan.now journal.old.entries result kept.new journal.new.entries }
 {
     match kept.agenda.first_ready() {
@@ -28,11 +30,11 @@ pub fn advance(plan: &Plan, kept: &mut Kept, journal: &mut Journal) -> Result<Ne
                 Ok(Next::Fault(too_long(plan)))
             } else {
                 ask(kept, journal, ready)?;
+                settle(plan, kept, None);
                 Ok(Next::Ask(ready.sim))
             }
         }
         None => {
-            forget(plan, &kept.agenda, &mut kept.stock);
             if kept.agenda.is_any_open() {
                 Ok(Next::Wait)
             } else {

@@ -1,13 +1,19 @@
 // The core: a run of a plan, message by message.
-ghost use Rattle.std.specs.Prelude.{◌≡◌, ◌<◌, [], true, IfOk, IfErr, None};
+ghost use Rattle.std.specs.Prelude.{◌≡◌, ◌<◌, ◌≤◌, [], true, IfOk, IfErr, None};
+ghost use Rattle.mk_base.specs.declared.tier.Tier.{Tier};
 ghost use Rattle.mk_plan.specs.Plans.{IsValidPlan, sim_count};
+ghost use Rattle.mk_plan.specs.Deliveries.{supply};
+ghost use Rattle.mk_plan.specs.Journals.{view};
+ghost use Rattle.mk_buffers.specs.Bounds.{most_kept};
 ghost use Rattle.mk_sched.specs.Cores.{CoreState, Stands, is_message_in_range};
-ghost use Rattle.mk_sched.specs.Answers.{NextOf, ArriveOf, IsOutOfMemory, open_id, id_at};
+ghost use Rattle.mk_sched.specs.Answers.{NextOf, ArriveOf, IsOutOfMemory, SomeReady, open_id, id_at};
+ghost use Rattle.mk_sched.specs.Holding.{IsFloor};
 ghost use Rattle.mk_sched.specs.Kept.{end_after_next, end_after_arrive};
 
 use crate::asking::advance;
 use crate::faults::{Ended, Next, Taken};
 use crate::kept::{Kept, new_kept};
+use crate::marks::settle;
 use crate::taking::take;
 use mk_base::{List, Mem, SimNo};
 use mk_plan::{Journal, Message, Place, Plan};
@@ -30,6 +36,7 @@ pub struct Core {
 
 impl Model for Core {
     ghost use Rattle.mk_sched.specs.Cores.{CoreState};
+    ghost use Rattle.mk_sched.specs.Holding.{IsSettled};
     ghost use Rattle.mk_sched.specs.Kept.{IsKept};
     ghost use Rattle.mk_base.specs.contracts.json.Json as json;
     ghost use Rattle.std.specs.Coded.{codes};
@@ -40,7 +47,7 @@ impl Model for Core {
 
     ghost view = { λ a. record { plan = a.plan; entries = a.journal.entries; ended = a.ended } };
 
-    ghost invariant = { λ a. IsKept a.plan a.journal.entries a.kept a.ended };
+    ghost invariant = { λ a. IsKept a.plan a.journal.entries a.kept a.ended × IsSettled a.plan a.journal.entries a.kept a.ended };
 }
 
 impl Core {
@@ -49,7 +56,8 @@ impl Core {
         requires { IsValidPlan plan }
         ensures { IfOk result (λ core. core ≡ record { plan = plan; entries = []; ended = None }) }
     {
-        let kept = new_kept(alloc, &plan)?;
+        let mut kept = new_kept(alloc, &plan)?;
+        settle(&plan, &mut kept, None);
         let journal = Journal {
             entries: List::new(alloc),
         };
@@ -102,6 +110,7 @@ impl Core {
             message,
         );
         self.ended = end_after_arrive(&answer);
+        settle(&self.plan, &mut self.kept, self.ended);
         answer
     }
 
@@ -116,8 +125,15 @@ impl Core {
         id_at(&self.kept.sims.place(sim))
     }
 
-    /// How many outputs are held, since questions can still reach them.
-    pub fn kept(&self) -> usize {
+    /// How many outputs are held, since questions can still reach them. Where the core has not ended and nobody is ready, so
+    /// after each `Wait` and each `Done`, they are at most as many as there are connections, distinct source attributes, and
+    /// late outputs of the journal: outputs whose making, or whose delivery over some connection before the run's end, is later
+    /// than `m`, which is any time before which there is neither the run's end, nor an outstanding step, nor a step that may
+    /// still come.
+    pub fn kept(&self) -> usize
+        ensures few { self.now.ended ≡ None → (SomeReady self.now.plan self.now.entries → ⊥) → (m : Tier) → IsFloor self.now.plan (view self.now.plan self.now.entries) m
+            → result ≤ most_kept self.now.plan (supply self.now.plan (view self.now.plan self.now.entries).acts) m }
+    {
         self.kept.stock.kept()
     }
 

@@ -140,11 +140,17 @@ const LINES: [(u32, &str); 16] = [
     (0, "next"),
 ];
 
+// A word more where a core holds more than two outputs.
+fn excess(core: &Core) -> &'static str {
+    if core.kept() > 2 { "many " } else { "" }
+}
+
 // What a core answers to all lines.
 fn play(alloc: Global, core: &mut Core) -> Result<String, Fail> {
     let mut words = String::new(alloc);
     for line in &LINES {
         words.push_str(act(alloc, core, line.0, line.1)?)?;
+        words.push_str(excess(core))?;
     }
     Ok(words)
 }

@@ -11,3 +11,4 @@ pub mod Taking
 pub mod Ranging
 pub mod Giving
 pub mod Beginning
+pub mod Holding

@@ -18,7 +18,8 @@ ghost use Rattle.mk_plan.specs.Journals.{OpenTurn, View, empty_view, view, ended
 ghost use Rattle.mk_plan.specs.Ready.{IsReady};
 ghost use Rattle.mk_confluence.proofs.LaterQuestions.{IsMarkOf};
 ghost use Rattle.mk_sims.specs.Turns.{IsRight};
-ghost use Rattle.mk_buffers.specs.Standing.{HasRaised, Stands, outputs_held};
+ghost use Rattle.mk_buffers.specs.Bounds.{most_kept};
+ghost use Rattle.mk_buffers.specs.Standing.{HasRaised, Stands, least_mark, outputs_held};
 ghost use Rattle.mk_supply.specs.Outputs.{AreData, AreOutputsIn, values_in};
 
 use crate::feeds::{Feed, feeds_of};
@@ -148,9 +149,12 @@ impl Stock {
         self.buffers.forget_before(sim, at);
     }
 
-    /// How many outputs are held; takes no memory.
+    /// How many outputs are held; takes no memory. They are at most as many as there are connections, distinct source
+    /// attributes, and late outputs of the acts so far: outputs whose making, or whose delivery over some connection, is
+    /// later than the least mark.
     pub fn kept(&self) -> usize
-        ensures { result ≡ min (outputs_held self.now.buffers) 18446744073709551615 }
+        ensures count { result ≡ min (outputs_held self.now.buffers) 18446744073709551615 }
+        ensures few { (P : Plan) (V : View) → IsStockOf P V self.now → result ≤ most_kept P (supply P V.acts) (least_mark self.now.buffers) }
     {
         self.buffers.kept()
     }

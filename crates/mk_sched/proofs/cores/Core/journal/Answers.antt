@@ -2,4 +2,4 @@ use Rattle.mk_sched.proofs.cores.Core.journal.Goals as goal
 use Rattle.mk_sched.proofs.Standing.{stands_of}
 
 pub returns-clause-stands : goal.returns-clause-stands
-returns-clause-stands c = rw (← c.self.view_is) (stands_of _ _ _ _ c.self.invariant)
+returns-clause-stands c = rw (← c.self.view_is) (stands_of _ _ _ _ c.self.invariant.0)
