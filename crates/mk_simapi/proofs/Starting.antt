@@ -1,5 +1,5 @@
 -- What a program that is one simulator did.
-use Rattle.std.proofs.Common.{◌≡◌, ℕ, inl, inr, List, [], ◌∷◌, ◌++◌, Option, Some, refl, sym, ap, ◌∙◌, subst}
+use Rattle.std.proofs.Common.{◌≡◌, ℕ, ◌+◌, inl, inr, List, [], ◌∷◌, ◌++◌, Option, Some, refl, sym, ap, ◌∙◌, subst}
 use Rattle.mk_base.specs.declared.LinkNo.{LinkNo}
 use Rattle.mk_base.specs.Lists.{IsIn}
 use Rattle.mk_base.proofs.Lists.{append_nil, in_back, some_same}
@@ -17,11 +17,11 @@ use Rattle.mk_simapi.specs.Children.{HasEnded, status_of}
 pub is_open : (link : LinkNo) (before after : List LinkNo) → after ≡ before ++ link ∷ [] → IsIn link after
 is_open link before after is = subst (IsIn link) (sym is) (in_back link before (link ∷ []) (inl refl))
 
-pub has_served : (rows : List Turn) (kind asked text : List ℕ) (port number : ℕ) (link : LinkNo) (end : Served) (before opened served closed : List LinkNo) (old one two new : Option (List LogEntry)) (status : ℕ) (given : Option (List ℕ × ℕ))
-    → given ≡ Some (asked, number) → given ≡ Some (kind, port) → text ≡ asked → opened ≡ before ++ link ∷ [] → served ≡ opened → closed ≡ without link served
+pub has_served : (rows : List Turn) (kind asked text : List ℕ) (port number started one_more going ended : ℕ) (link : LinkNo) (end : Served) (before opened served closed : List LinkNo) (old one two new : Option (List LogEntry)) (status : ℕ) (given : Option (List ℕ × ℕ))
+    → given ≡ Some (asked, number) → given ≡ Some (kind, port) → text ≡ asked → one_more ≡ started + 1 → going ≡ one_more → ended ≡ going → opened ≡ before ++ link ∷ [] → served ≡ opened → closed ≡ without link served
     → Adds [] old one → ((entries : List LogEntry) × Adds entries one two × ((row : Turn) → kind_named text rows ≡ Some row → Serves (new_simulator row) link end entries)) → Adds [] two new → status ≡ status_of end
-    → HasEnded rows kind before closed old new status
-has_served rows kind asked text port number link end before opened served closed old one two new status given words wanted named started kept shut first did last is =
+    → HasEnded rows kind started ended before closed old new status
+has_served rows kind asked text port number started one_more going ended link end before opened served closed old one two new status given words wanted named one_link goes_on at_end opens kept shut first did last is =
     let same : asked ≡ kind = ap (λ (p : List ℕ × ℕ). p.0) (some_same (sym words ∙ wanted)) in
     inr (record {
       link = link;
@@ -29,6 +29,7 @@ has_served rows kind asked text port number link end before opened served closed
       entries = did.0 ++ [];
       adds = adds_more did.0 [] old two new (adds_more [] did.0 old one two first did.1) last;
       serves = λ row e. subst (λ (l : List LogEntry). Serves (new_simulator row) link end l) (sym (append_nil did.0)) (did.2 row (ap (λ (k : List ℕ). kind_named k rows) (named ∙ same) ∙ e));
-      links = shut ∙ ap (without link) (kept ∙ started);
+      number = at_end ∙ goes_on ∙ one_link;
+      links = shut ∙ ap (without link) (kept ∙ opens);
       status = is;
     })

@@ -1,5 +1,5 @@
 -- The words of a program that is one simulator, and how such a program ends.
-use Rattle.std.specs.Prelude.{◌≡◌, ℕ, ◌⊎◌, List, [], ◌∷◌, ◌++◌, Option, Some, None, option_map, if◌then◌else◌}
+use Rattle.std.specs.Prelude.{◌≡◌, ℕ, ◌+◌, ◌⊎◌, List, [], ◌∷◌, ◌++◌, Option, Some, None, option_map, if◌then◌else◌}
 use Rattle.mk_base.specs.declared.LinkNo.{LinkNo}
 use Rattle.mk_outside.specs.declared.fleet.LogEntry.{LogEntry}
 use Rattle.mk_outside.specs.Fleets.{without}
@@ -29,22 +29,25 @@ status_of (served.TooLong n) = 5
 status_of (served.LongReply n) = 7
 status_of served.Mem = 8
 
--- the fleet failed to start a link, or there was no memory for one; nothing was heard or said
-pub record IsUnstarted (before after : List LinkNo) (old new : Option (List LogEntry)) (answer : ℕ) : Type 0 where
+-- the fleet failed to start a link, or there was no memory for one; none was started, and nothing was heard or said
+pub record IsUnstarted (started_before started_after : ℕ) (before after : List LinkNo) (old new : Option (List LogEntry)) (answer : ℕ) : Type 0 where
   pub status : (answer ≡ 6) ⊎ (answer ≡ 8)
+  pub number : started_after ≡ started_before
   pub links : after ≡ before
   pub silent : Adds [] old new
 
--- a link was started, a simulator of the kind of this name was served on it, and the link was closed again; the status is that of the serving's end
-pub record HasServed (rows : List Turn) (kind : List ℕ) (before after : List LinkNo) (old new : Option (List LogEntry)) (answer : ℕ) : Type 0 where
+-- one link was started, a simulator of the kind of this name was served on it, and the link was closed again; the status is that of the serving's end
+pub record HasServed (rows : List Turn) (kind : List ℕ) (started_before started_after : ℕ) (before after : List LinkNo) (old new : Option (List LogEntry)) (answer : ℕ) : Type 0 where
   pub link : LinkNo
   pub end : Served
   pub entries : List LogEntry
   pub adds : Adds entries old new
   pub serves : (row : Turn) → kind_named kind rows ≡ Some row → Serves (new_simulator row) link end entries
+  pub number : started_after ≡ started_before + 1
   pub links : after ≡ without link (before ++ link ∷ [])
   pub status : answer ≡ status_of end
 
 -- what the program did
-abbrev pub HasEnded : List Turn → List ℕ → List LinkNo → List LinkNo → Option (List LogEntry) → Option (List LogEntry) → ℕ → Type 0
-HasEnded rows kind before after old new answer = IsUnstarted before after old new answer ⊎ HasServed rows kind before after old new answer
+abbrev pub HasEnded : List Turn → List ℕ → ℕ → ℕ → List LinkNo → List LinkNo → Option (List LogEntry) → Option (List LogEntry) → ℕ → Type 0
+HasEnded rows kind started_before started_after before after old new answer =
+    IsUnstarted started_before started_after before after old new answer ⊎ HasServed rows kind started_before started_after before after old new answer

@@ -66,7 +66,7 @@ fn status_of(end: Served) -> u8
     }
 }
 
-/// Connects to the address that the words name, serves a simulator of the kind that they name there, and closes the link.
+/// Connects to the address that the words name, which starts one link or none, serves a simulator of the kind that they name there, and closes the link.
 /// Answers the program's status: 2 exactly where the words aren't the name of one of these kinds and an address, `127.0.0.1`
 /// or `localhost` with a port; 0 at a stop, 5 where the link ended or what was heard is no message, 6 where the fleet
 /// failed, 7 where a reply is too long for a frame, 8 for want of memory.
@@ -82,7 +82,7 @@ pub fn child<F: Fleet, R: Wait>(
     ensures cause { result ≡ 6 → HasRisen (F.faults fleet.old) (F.faults fleet.new) }
     ensures unasked { asked (rows_in kinds.now) (map string_bytes words.now) ≡ None → fleet.new ≡ fleet.old }
     ensures ended { (kind : List ℕ) → (port : ℕ) → asked (rows_in kinds.now) (map string_bytes words.now) ≡ Some (kind, port)
-        → HasEnded (rows_in kinds.now) kind (F.open_links fleet.old) (F.open_links fleet.new) (F.log fleet.old) (F.log fleet.new) result }
+        → HasEnded (rows_in kinds.now) kind (F.started fleet.old) (F.started fleet.new) (F.open_links fleet.old) (F.open_links fleet.new) (F.log fleet.old) (F.log fleet.new) result }
 {
     let Some(asked) = read_words(words, kinds) else {
         return USAGE;
