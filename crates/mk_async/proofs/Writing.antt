@@ -1,17 +1,17 @@
 -- What is written for a request for data is the content of its answer, and the text of a tree.
-use Rattle.std.proofs.Common.{◌≡◌, ℕ, ◌<◌, ◌-◌, length, get_or, take, drop, length-drop, arith, IsSome, List, [], ◌∷◌, ◌++◌, map, flat_map, filter_map, fold, Option, Some, None, option_map, option_and_then, codes, refl, sym, ap, ◌∙◌, append_assoc, append-nil, true≢false}
+use Rattle.std.proofs.Common.{◌≡◌, ℕ, ◌+◌, ◌<◌, ◌-◌, length, get_or, take, drop, length-drop, arith, IsSome, List, [], ◌∷◌, ◌++◌, map, flat_map, filter_map, fold, Option, Some, None, option_map, option_and_then, codes, refl, sym, ap, ◌∙◌, subst, append_assoc, append-nil, true≢false}
 use Rattle.std.specs.BTreeMap.{insert_entry}
 use Rattle.std.specs.List.{cons_option, join_with_byte}
 use Rattle.std.specs.Ordering.{match_ordering}
 use Rattle.std.specs.declared.cmp.Ordering.{Ordering}
 use Rattle.std.specs.declared.cmp.Ordering.TheVariants.{Less, Equal, Greater}
-use Rattle.std.proofs.lemmas.List.{take_all}
+use Rattle.std.proofs.lemmas.List.{take_all, take_more}
 use Rattle.std.proofs.lemmas.Map.Lookups.{exact_bytes}
 use Rattle.mk_base.specs.declared.json.Json as tree
-use Rattle.mk_base.specs.Lists.{all_there, placed, text_order}
+use Rattle.mk_base.specs.Lists.{Each, all_there, placed, text_order}
 use Rattle.mk_base.specs.Texts.{object_text}
 use Rattle.mk_base.specs.Trees.{text_in, items_in}
-use Rattle.mk_base.proofs.Lists.{none_some, some_same}
+use Rattle.mk_base.proofs.Lists.{flat_map_append, none_some, some_same}
 use Rattle.mk_json.proofs.OfOutlines.{left_is}
 use Rattle.mk_plan.specs.declared.Plan.{Plan}
 use Rattle.mk_plan.specs.Asks.{Lookup, Named, Get, content_text, entity_of, ordered, texts_in}
@@ -48,6 +48,27 @@ pub split_first : {X : Type 0} (xs : List X) (x : X) → 0 < length xs → x ≡
 split_first xs x h e =
     let all : take (length xs - 1) (drop 1 xs) ≡ drop 1 xs = take_all (length xs - 1) (drop 1 xs) (omega (arith, length-drop 1 xs)) in
     left_is xs 0 x h e ∙ ap (λ l. x ∷ l) (sym all)
+
+each_push : {X : Type 0} (Q : X → Type 0) (xs : List X) (x : X) → Each Q xs → Q x → Each Q (xs ++ x ∷ [])
+each_push Q [] x all h = (h, tt)
+each_push Q (y ∷ ys) x all h = (all.0, each_push Q ys x all.1 h)
+
+-- one item more
+module _ {X : Type 0} (xs : List X) (i : ℕ) (x : X) (below : i < length xs) (is : x ≡ get_or xs i x) where
+  taken : take (i + 1) xs ≡ take i xs ++ x ∷ []
+  taken = take_more xs i x below ∙ ap (λ (y : X). take i xs ++ y ∷ []) (sym is)
+
+  pub each_more : (Q : X → Type 0) → Each Q (take i xs) → Q x → Each Q (take (i + 1) xs)
+  each_more Q all h = subst (Each Q) (sym taken) (each_push Q (take i xs) x all h)
+
+  pub commas_more : (f : X → List ℕ) (out a b c : List ℕ) → a ≡ out ++ flat_map (λ y. codes "," ++ f y) (take i xs) → b ≡ a ++ codes "," → c ≡ b ++ f x → c ≡ out ++ flat_map (λ y. codes "," ++ f y) (take (i + 1) xs)
+  commas_more f out a b c ea eb ec =
+      let part : List ℕ = codes "," ++ f x in
+      ec ∙ ap (λ l. l ++ f x) (eb ∙ ap (λ l. l ++ codes ",") ea) ∙ regrouped out (flat_map (λ y. codes "," ++ f y) (take i xs)) (codes ",") (f x)
+      ∙ ap (λ l. out ++ l) (sym (flat_map_append (λ (y : X). codes "," ++ f y) (take i xs) (x ∷ []))) ∙ ap (λ l. out ++ flat_map (λ y. codes "," ++ f y) l) (sym taken)
+    where
+      regrouped : (p q r s : List ℕ) → ((p ++ q) ++ r) ++ s ≡ p ++ (q ++ ((r ++ s) ++ []))
+      regrouped p q r s = simp (append_assoc, append-nil)
 
 -- ---- the values of an entity
 

@@ -1,9 +1,12 @@
 -- The content of an answer with values, as it is written. For proofs alone.
 use Rattle.std.specs.Prelude.{◌≡◌, ℕ, List, [], ◌++◌, Option, Some, None, fold, map, codes}
 use Rattle.std.specs.BTreeMap.{insert_entry}
+use Rattle.std.specs.List.Sorted.{IsStrictlySortedBy}
+use Rattle.std.specs.Map.{keys_of}
+use Rattle.std.specs.Str.{IsUtf8}
 use Rattle.mk_base.specs.declared.json.Json.{Json}
-use Rattle.mk_base.specs.Data.{IsValueText}
-use Rattle.mk_base.specs.Lists.{text_order}
+use Rattle.mk_base.specs.Data.{IsDatumText, IsValueText}
+use Rattle.mk_base.specs.Lists.{Each, text_order}
 use Rattle.mk_base.specs.Texts.{quoted, object_text}
 use Rattle.mk_base.specs.Trees.{text_in, items_in}
 use Rattle.mk_plan.specs.declared.Plan.{Plan}
@@ -57,3 +60,17 @@ wants_text P look ms = object_text (map (λ (m : List ℕ × Json). let p : List
 -- each value that is found is the text of a value
 abbrev pub FindsValues : Lookup → Type 0
 FindsValues look = (e : ℕ) (attr value : List ℕ) → look e attr ≡ Some value → IsValueText value
+
+-- a name with the text of a value as the program keeps it
+abbrev pub IsNamed : List ℕ → List ℕ → Type 0
+IsNamed name text = IsUtf8 name × IsDatumText text
+
+abbrev pub AreNamed : Texts → Type 0
+AreNamed ms = Each (λ (m : List ℕ × List ℕ). IsNamed m.0 m.1) ms
+
+-- a full id with such values, whose names rise
+abbrev pub IsContent : List ℕ → Texts → Type 0
+IsContent id ms = IsUtf8 id × IsStrictlySortedBy text_order (keys_of ms) × AreNamed ms
+
+abbrev pub AreContents : Plan → Lookup → Members → Type 0
+AreContents P look ms = Each (λ (m : List ℕ × Json). IsContent m.0 (values_of P look m.0 m.1)) ms

@@ -9,7 +9,7 @@ ghost use Rattle.mk_plan.specs.Inputs.{value_at};
 ghost use Rattle.mk_names.specs.Names.{AreNamesOf};
 ghost use Rattle.mk_buffers.specs.Standing.{Stands, least_mark};
 ghost use Rattle.mk_async.specs.Asked.{get_in};
-ghost use Rattle.mk_async.specs.Content.{listed, member_text, put_attr, put_named, values_by, values_of, want_text, wants_text};
+ghost use Rattle.mk_async.specs.Content.{listed, member_text, put_attr, put_named, values_by, values_of, want_text, wants_text, IsNamed, AreNamed, IsContent, AreContents};
 ghost use Rattle.mk_async.specs.Forms.{is_such};
 ghost use Rattle.mk_async.specs.Known.{gives_each, knows_want, knows_wants};
 
@@ -56,7 +56,8 @@ fn put_wants(
     requires names { AreNamesOf plan.now names.now }
     requires known { knows_wants plan.now wants.now ≡ true }
     requires late { 0 < length wants.now → IsUpTo (least_mark buffers.now) at }
-    ensures { (S : Supply) → Stands plan.now buffers.now S → OnOk result (text.new.items ≡ text.old.items ++ wants_text plan.now (value_at S at) wants.now) }
+    ensures written { (S : Supply) → Stands plan.now buffers.now S → OnOk result (text.new.items ≡ text.old.items ++ wants_text plan.now (value_at S at) wants.now) }
+    ensures content { (S : Supply) → Stands plan.now buffers.now S → OnOk result (AreContents plan.now (value_at S at) wants.now) }
 {
     match wants {
         [] => text.extend_from_slice(b"{}")?,
@@ -83,7 +84,8 @@ fn put_more_wants(
     requires names { AreNamesOf plan.now names.now }
     requires known { knows_wants plan.now wants.now ≡ true }
     requires late { IsUpTo (least_mark buffers.now) at }
-    ensures { (S : Supply) → Stands plan.now buffers.now S → OnOk result (text.new.items ≡ text.old.items ++ flat_map (λ m. codes "," ++ want_text plan.now (value_at S at) m) wants.now) }
+    ensures written { (S : Supply) → Stands plan.now buffers.now S → OnOk result (text.new.items ≡ text.old.items ++ flat_map (λ m. codes "," ++ want_text plan.now (value_at S at) m) wants.now) }
+    ensures content { (S : Supply) → Stands plan.now buffers.now S → OnOk result (AreContents plan.now (value_at S at) wants.now) }
 {
     for want in wants {
         text.extend_from_slice(b",")?;
@@ -106,12 +108,14 @@ fn put_want(
     requires names { AreNamesOf plan.now names.now }
     requires known { knows_want plan.now id.now tree.now ≡ true }
     requires late { IsUpTo (least_mark buffers.now) at }
-    ensures { (S : Supply) → Stands plan.now buffers.now S → OnOk result (text.new.items ≡ text.old.items ++ want_text plan.now (value_at S at) (id.now, tree.now)) }
+    ensures written { (S : Supply) → Stands plan.now buffers.now S → OnOk result (text.new.items ≡ text.old.items ++ want_text plan.now (value_at S at) (id.now, tree.now)) }
+    ensures content { (S : Supply) → Stands plan.now buffers.now S → OnOk result (IsContent id.now (values_of plan.now (value_at S at) id.now tree.now)) }
 {
     let values = values_of(alloc, plan, names, buffers, at, id, tree)?;
     put_text(alloc, text, id)?;
     text.extend_from_slice(b":")?;
-    put_values(alloc, text, values.entries())
+    put_values(alloc, text, values.entries())?;
+    Ok(())
 }
 
 // The values of the attributes that are wanted of the entity of that full id.
@@ -212,7 +216,8 @@ fn put_value(
 
 // Appends an object of values.
 fn put_values(alloc: Global, text: &mut Vec<u8>, values: &[(Text, Datum)]) -> Result<(), Mem>
-    ensures { OnOk result (text.new.items ≡ text.old.items ++ object_text values.now) }
+    ensures written { OnOk result (text.new.items ≡ text.old.items ++ object_text values.now) }
+    ensures named { OnOk result (AreNamed values.now) }
 {
     match values {
         [] => text.extend_from_slice(b"{}")?,
@@ -228,7 +233,8 @@ fn put_values(alloc: Global, text: &mut Vec<u8>, values: &[(Text, Datum)]) -> Re
 
 // Appends values with their names, each behind a comma.
 fn put_more_values(alloc: Global, text: &mut Vec<u8>, values: &[(Text, Datum)]) -> Result<(), Mem>
-    ensures { OnOk result (text.new.items ≡ text.old.items ++ flat_map (λ m. codes "," ++ member_text m.0 m.1) values.now) }
+    ensures written { OnOk result (text.new.items ≡ text.old.items ++ flat_map (λ m. codes "," ++ member_text m.0 m.1) values.now) }
+    ensures named { OnOk result (AreNamed values.now) }
 {
     for value in values {
         text.extend_from_slice(b",")?;
@@ -239,7 +245,8 @@ fn put_more_values(alloc: Global, text: &mut Vec<u8>, values: &[(Text, Datum)]) 
 
 // Appends a value with its name.
 fn put_member(alloc: Global, text: &mut Vec<u8>, name: &Text, value: &Datum) -> Result<(), Mem>
-    ensures { OnOk result (text.new.items ≡ text.old.items ++ member_text name.now value.now) }
+    ensures written { OnOk result (text.new.items ≡ text.old.items ++ member_text name.now value.now) }
+    ensures named { OnOk result (IsNamed name.now value.now) }
 {
     put_text(alloc, text, name)?;
     text.extend_from_slice(b":")?;

@@ -33,7 +33,7 @@ use Rattle.mk_base.specs.Trees.{in_range, is_in_range, nesting}
 use Rattle.mk_json.specs.Outline.{outline, items_in, members_in}
 use Rattle.mk_json.specs.Parsed as made
 use Rattle.mk_json.specs.Parsed.{tree_of, parsed}
-use Rattle.mk_json.specs.Proper.{is_proper, names_rise}
+use Rattle.mk_base.specs.Proper.{is_proper, names_rise}
 use Rattle.mk_json.proofs.LevelTests.{range-List, range-Object, proper-List, proper-Object}
 use Rattle.mk_json.proofs.OfOutlines.{outlined, outline-Null, outline-Bool, outline-Whole, outline-Odd, outline-Text, outline-List, outline-Object, range-Whole, proper-Text, IsNumber-half}
 use Rattle.mk_json.proofs.Compact.{text_of-is, quoted-is, member_texts}

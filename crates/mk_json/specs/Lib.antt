@@ -1,3 +1,2 @@
 pub mod Outline
 pub mod Parsed
-pub mod Proper

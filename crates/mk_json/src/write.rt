@@ -2,13 +2,14 @@
 ghost use Rattle.std.specs.Prelude.{◌≡◌, ◌≤◌, true, Some, ◌++◌, ◌∷◌, [], map, OnOk, OnErr};
 ghost use Rattle.std.specs.List.{list_all};
 ghost use Rattle.std.specs.Fmt.{signed_decimal};
+ghost use Rattle.std.specs.Str.{IsUtf8};
 ghost use Rattle.json.specs.Token.{number};
 ghost use Rattle.json.specs.Tree.{json_tokens, items_tokens, members_tokens};
 ghost use Rattle.mk_base.specs.Texts.{text_of, quoted};
 ghost use Rattle.mk_base.specs.Trees.{nesting, in_range, is_in_range};
 ghost use Rattle.mk_json.specs.Outline.{outline, items_in, members_in};
 ghost use Rattle.mk_json.specs.Parsed.{parsed};
-ghost use Rattle.mk_json.specs.Proper.{is_proper, are_proper};
+ghost use Rattle.mk_base.specs.Proper.{is_proper, are_proper};
 
 use json::Writer;
 use mk_base::{Json, List, Mem, Members, Text};
@@ -19,6 +20,7 @@ use std::mem;
 pub fn put_text(alloc: Global, out: &mut Vec<u8>, text: &Text) -> Result<(), Mem>
     ensures ok { OnOk result (out.new.items ≡ out.old.items ++ quoted text.now) }
     ensures err { OnErr result (out.new.items ≡ out.old.items) }
+    ensures utf8 { IsUtf8 text.now }
 {
     let kept = out.as_slice().len();
     let mut writer = Writer::new(mem::replace(out, Vec::new(alloc)));

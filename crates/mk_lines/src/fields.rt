@@ -1,8 +1,9 @@
 //! The fields of a record's line, each put behind what was written.
-ghost use Rattle.std.specs.Prelude.{◌≡◌, ◌++◌, map, true, OnOk};
+ghost use Rattle.std.specs.Prelude.{◌≡◌, ◌++◌, map, true, IfSome, OnOk};
 ghost use Rattle.std.specs.Fmt.{decimal, signed_decimal};
 ghost use Rattle.std.specs.List.{list_all};
 ghost use Rattle.std.specs.Str.{is_utf8};
+ghost use Rattle.mk_base.specs.Data.{IsDatumText};
 ghost use Rattle.mk_base.specs.Texts.{list_text, quoted};
 ghost use Rattle.mk_saved.specs.Texts.{bool_text, initial_text, kind_name, via_text};
 ghost use Rattle.mk_lines.specs.Commas.{comma_before};
@@ -69,15 +70,17 @@ pub fn put_via(out: &mut Vec<u8>, via: Via) -> Result<(), Mem>
     }
 }
 
-// An initial value, or that there is none.
+// An initial value, which is a datum by its type, or that there is none.
 pub fn put_initial(out: &mut Vec<u8>, initial: &Option<Datum>) -> Result<(), Mem>
-    ensures { OnOk result (out.new.items ≡ out.old.items ++ initial_text initial.now) }
+    ensures written { OnOk result (out.new.items ≡ out.old.items ++ initial_text initial.now) }
+    ensures datum { IfSome initial.now IsDatumText }
 {
     match initial {
         None => put(out, "[]"),
         Some(value) => {
+            let bytes = value.bytes();
             put(out, "[")?;
-            out.extend_from_slice(value.bytes())?;
+            out.extend_from_slice(bytes)?;
             put(out, "]")
         }
     }

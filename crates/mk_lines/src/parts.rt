@@ -1,9 +1,11 @@
 //! The lines of a plan: its limits, and a line for each of its parts.
-ghost use Rattle.std.specs.Prelude.{◌≡◌, ◌++◌, ◌∷◌, [], ◌&&◌, true, codes, map, flat_map, OnOk};
+ghost use Rattle.std.specs.Prelude.{◌≡◌, ◌++◌, ◌∷◌, [], ◌&&◌, true, codes, map, flat_map, All, IfSome, OnOk};
 ghost use Rattle.std.specs.Fmt.{decimal, signed_decimal};
 ghost use Rattle.std.specs.List.{join_with_byte, list_all};
 ghost use Rattle.std.specs.Str.{is_utf8};
+ghost use Rattle.mk_base.specs.Data.{IsDatumText};
 ghost use Rattle.mk_base.specs.Texts.{list_text, quoted};
+ghost use Rattle.mk_valid.specs.FirstBad.{HasDatums};
 ghost use Rattle.mk_saved.specs.Texts.{bool_text, initial_text, kind_name, via_text, run_line, sim_line, model_line, entity_line, conn_line, async_line, plan_text};
 ghost use Rattle.mk_readback.specs.Again.{conn_is_text, model_is_text};
 ghost use Rattle.mk_recordable.specs.Readable.{HasNames};
@@ -20,6 +22,7 @@ use std::alloc::Global;
 pub fn put_plan(alloc: Global, out: &mut Vec<u8>, plan: &Plan) -> Result<(), Mem>
     ensures written { OnOk result (out.new.items ≡ out.old.items ++ plan_text plan.now) }
     ensures utf8 { OnOk result (HasNames plan.now) }
+    ensures datums { OnOk result (HasDatums plan.now) }
 {
     put(out, "mosaikrun 2\n")?;
     put_run(out, plan)?;
@@ -45,6 +48,7 @@ fn put_ties(alloc: Global, out: &mut Vec<u8>, plan: &Plan) -> Result<(), Mem>
     ensures written { OnOk result (out.new.items ≡ out.old.items
         ++ (flat_map conn_line plan.now.conns ++ flat_map async_line plan.now.asyncs)) }
     ensures utf8 { OnOk result (list_all conn_is_text plan.now.conns ≡ true) }
+    ensures datums { OnOk result (HasDatums plan.now) }
 {
     put_conns(alloc, out, plan.conns.as_slice())?;
     put_asyncs(out, plan.asyncs.as_slice())
@@ -157,6 +161,7 @@ fn put_entity(alloc: Global, out: &mut Vec<u8>, entity: &PlanEntity) -> Result<(
 fn put_conns(alloc: Global, out: &mut Vec<u8>, conns: &[Conn]) -> Result<(), Mem>
     ensures written { OnOk result (out.new.items ≡ out.old.items ++ flat_map conn_line conns.now) }
     ensures utf8 { OnOk result (list_all conn_is_text conns.now ≡ true) }
+    ensures datums { OnOk result (All (λ c. IfSome c.initial IsDatumText) conns.now) }
 {
     for conn in conns {
         put_conn(alloc, out, conn)?;
@@ -167,6 +172,7 @@ fn put_conns(alloc: Global, out: &mut Vec<u8>, conns: &[Conn]) -> Result<(), Mem
 fn put_conn(alloc: Global, out: &mut Vec<u8>, conn: &Conn) -> Result<(), Mem>
     ensures written { OnOk result (out.new.items ≡ out.old.items ++ conn_line conn.now) }
     ensures utf8 { OnOk result (conn_is_text conn.now ≡ true) }
+    ensures datum { OnOk result (IfSome conn.now.initial IsDatumText) }
 {
     put(out, "conn [")?;
     put_ends(alloc, out, conn)?;
@@ -194,9 +200,10 @@ fn put_ends(alloc: Global, out: &mut Vec<u8>, conn: &Conn) -> Result<(), Mem>
 
 // How a connection delivers.
 fn put_way(out: &mut Vec<u8>, conn: &Conn) -> Result<(), Mem>
-    ensures { OnOk result (out.new.items ≡ out.old.items ++ join_with_byte 44 (
+    ensures written { OnOk result (out.new.items ≡ out.old.items ++ join_with_byte 44 (
         via_text conn.now.via ∷ bool_text conn.now.persistent
         ∷ bool_text conn.now.triggering ∷ initial_text conn.now.initial ∷ [])) }
+    ensures datum { OnOk result (IfSome conn.now.initial IsDatumText) }
 {
     put_via(out, conn.via)?;
     put(out, ",")?;

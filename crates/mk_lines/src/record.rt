@@ -3,6 +3,7 @@ ghost use Rattle.std.specs.Prelude.{◌≡◌, ◌<◌, ◌^◌, ◌++◌, Some,
 ghost use Rattle.std.specs.Fmt.{decimal};
 ghost use Rattle.std.specs.List.{list_all};
 ghost use Rattle.mk_plan.specs.Journals.{arrivals};
+ghost use Rattle.mk_valid.specs.FirstBad.{HasDatums};
 ghost use Rattle.mk_saved.specs.Entries.{entries_of};
 ghost use Rattle.mk_saved.specs.Reading.{reading, Said};
 ghost use Rattle.mk_saved.specs.Texts.{record_text};
@@ -21,9 +22,8 @@ use std::alloc::Global;
 /// the journal in theirs. The whole numbers in the messages are those that a payload may have, from -2^63 to 2^64 - 1.
 ///
 /// Read again, it gives the plan, the messages in their order, and the Steps with their tiered times, `max_advance` and places
-/// among the messages: where the plan is valid, its initial values are texts of trees as the program keeps them, the numbers of
-/// each Step are within the limits of a record, and each message is one that `mk_message::read` gives for a payload and nests no
-/// deeper than 126.
+/// among the messages: where the plan is valid, the numbers of each Step are within the limits of a record, and each message is
+/// one that `mk_message::read` gives for a payload and nests no deeper than 126.
 pub fn write_record(alloc: Global, plan: &Plan, journal: &Journal) -> Result<Vec<u8>, Mem>
     requires { list_all is_writable journal.now.entries ≡ true }
     ensures text { IfOk result (λ text. text.items ≡ record_text plan.now journal.now.entries) }
@@ -34,11 +34,12 @@ pub fn write_record(alloc: Global, plan: &Plan, journal: &Journal) -> Result<Vec
     Ok(out)
 }
 
-// The bytes of the record, of which the names are UTF-8 and the entries are no more than a number can tell.
+// The bytes of the record, of which the names are UTF-8, the initial values data, and the entries no more than a number can tell.
 fn bytes_of(alloc: Global, plan: &Plan, journal: &Journal) -> Result<Vec<u8>, Mem>
     requires { list_all is_writable journal.now.entries ≡ true }
     ensures text { IfOk result (λ text. text.items ≡ record_text plan.now journal.now.entries) }
     ensures names { IfOk result (λ text. HasNames plan.now) }
+    ensures datums { IfOk result (λ text. HasDatums plan.now) }
     ensures few { IfOk result (λ text. length (entries_of journal.now.entries) < 2 ^ 64) }
 {
     let mut out = Vec::new(alloc);

@@ -18,7 +18,7 @@ use Rattle.serde_json.specs.Read.{number_of, of_json, of_items, of_members, read
 use Rattle.mk_base.specs.declared.json.Json as tree
 use Rattle.mk_json.specs.Parsed as made
 use Rattle.mk_json.specs.Parsed.{tree_of}
-use Rattle.mk_json.specs.Proper.{is_proper, names_rise}
+use Rattle.mk_base.specs.Proper.{is_proper, names_rise}
 use Rattle.mk_json.proofs.LevelTests.{proper-List, proper-Object}
 use Rattle.mk_json.proofs.OfOutlines.{proper-Null, proper-Bool, proper-Whole, proper-Odd, proper-Text}
 use Rattle.mk_parsed.proofs.Tokens.{ValueHasTexts, ItemsHaveTexts, MembersHaveTexts, Held, value_text}

@@ -15,7 +15,7 @@ use Rattle.mk_base.specs.Trees as trees
 use Rattle.mk_base.specs.Trees.{nesting, whole_in, is_object, in_range}
 use Rattle.mk_base.proofs.Lists.{append_nil}
 use Rattle.mk_json.specs.Parsed.{parsed}
-use Rattle.mk_json.specs.Proper.{is_proper}
+use Rattle.mk_base.specs.Proper.{is_proper}
 use Rattle.mk_json.proofs.Back.{parsed-text_of}
 use Rattle.mk_json.proofs.Layers.{folded-Text}
 use Rattle.mk_plan.specs.declared.Plan.{Plan}

@@ -13,7 +13,7 @@ use Rattle.mk_base.specs.Lists.{Each, all_there}
 use Rattle.mk_base.specs.Texts.{quoted, list_text, text_of}
 use Rattle.mk_base.specs.Trees.{in_range, is_in_range, nesting, deepest, whole_in, text_in, bool_in, items_in}
 use Rattle.mk_json.specs.Parsed.{parsed}
-use Rattle.mk_json.specs.Proper.{is_proper}
+use Rattle.mk_base.specs.Proper.{is_proper}
 use Rattle.mk_json.proofs.Back.{parsed-text_of}
 use Rattle.mk_json.proofs.LevelTests.{range-List, proper-List}
 use Rattle.mk_json.proofs.OfOutlines.{range-Whole, proper-Bool, proper-Whole, proper-Text}

@@ -14,7 +14,8 @@ use Rattle.mk_base.specs.declared.json.Json as tree
 use Rattle.mk_base.specs.declared.json.Json.{Json}
 use Rattle.mk_base.specs.Lists.{Each, all_there}
 use Rattle.mk_base.specs.Texts.{quoted, list_text, text_of}
-use Rattle.mk_base.specs.Trees.{in_range, is_datum, nesting, whole_in, text_in, bool_in, items_in}
+use Rattle.mk_base.specs.Data.{IsDatumText}
+use Rattle.mk_base.specs.Trees.{in_range, is_whole, is_datum, nesting, value_depth, whole_in, text_in, bool_in, items_in}
 use Rattle.mk_base.proofs.Lists.{append_nil}
 use Rattle.mk_plan.specs.declared.Plan.{Plan}
 use Rattle.mk_plan.specs.declared.PlanSim.{PlanSim}
@@ -24,8 +25,10 @@ use Rattle.mk_plan.specs.declared.Conn.{Conn}
 use Rattle.mk_plan.specs.declared.AsyncPair.{AsyncPair}
 use Rattle.mk_plan.specs.Journals.{Arrival}
 use Rattle.mk_json.proofs.Layers.{folded-Bool}
+use Rattle.mk_valid.specs.Nesting.{nesting_of}
 use Rattle.mk_valid.specs.Tests as tests
 use Rattle.mk_valid.specs.Tests.{first_bad}
+use Rattle.mk_valid.proofs.Scanning.{nesting_is}
 use Rattle.mk_saved.specs.declared.kinds.LineKind.{LineKind}
 use Rattle.mk_saved.specs.declared.kinds.LineKind.TheVariants as kinds
 use Rattle.mk_saved.specs.declared.saved.Asked.{Asked}
@@ -35,7 +38,7 @@ use Rattle.mk_saved.specs.Lines.{with_run, with_sim, with_model, with_entity, wi
 use Rattle.mk_saved.specs.Reading.{State, Step, Going, Ended, Bad, invalid, is_feed, line_step, kind_step, part_step, plan_step, planned, with_part, place, may_stand, ends_plan, items_read, reading_from, start}
 use Rattle.mk_saved.specs.Texts.{kind_name, via_text, bool_text, initial_text, run_line, sim_line, model_line, entity_line, conn_line, async_line}
 use Rattle.mk_saved.proofs.Splitting.{reads_on}
-use Rattle.mk_readback.specs.Again.{model_is_text, conn_is_text, IsDatumText}
+use Rattle.mk_readback.specs.Again.{model_is_text, conn_is_text}
 use Rattle.mk_readback.proofs.Clean.{clean, all_clean, clean-append, clean-text}
 use Rattle.mk_readback.proofs.Fields.{Field, deeper, text_field, whole_field, bool_field, list_field, natural_field, text_fields, items_of_list, whole_of, text_of_text, text_of_list, bool_of, read_items, cons_same, quoted_is, signed_is, decimal_is, list_is, wholes, naturals, texts, signed_each, decimal_each, quoted_each, wholes_there, naturals_there, texts_there, same_naturals}
 
@@ -239,13 +242,14 @@ entity_read P count few many last done e low high fits =
 
 -- ---- `conn`
 
--- a connection between two of these entities, within the limits, with texts in UTF-8 and a datum as its initial value
+-- a connection between two of these entities, within the limits, with texts in UTF-8 and a value of a simulator as its initial value
 pub record ConnFits (entities : ℕ) (c : Conn) : Type 0 where
   pub from : c.from < entities
   pub to : c.to < entities
   pub width : tests.width_fits c.via ≡ true
   pub texts : conn_is_text c ≡ true
   pub initial : IfSome c.initial IsDatumText
+  pub shallow : tests.initial_fits c.initial ≡ true
 
 abbrev pub with_conns : Plan → List Conn → Plan
 with_conns P done = record P { conns = done; asyncs = [] }
@@ -297,12 +301,13 @@ via_read Plain h = refl
 via_read (Shift w) h = let p = width_low w h in let fits : is_between (pos 1) (pos 1000000) (pos w) ≡ true = between_from_1 w 1000000 p.0 p.1 in rw fits refl
 via_read Weak h = refl
 
--- an initial value, as a tree
-initial_tree : (o : Option (List ℕ)) → IfSome o IsDatumText → (t : Json) × (initial_text o ≡ text_of t) × Field 126 t × (initial_in t ≡ Some o)
-initial_tree None h = (tree.List [], list_is [] [] refl, list_field 125 [] tt, rw (items_of_list []) refl)
-initial_tree (Some text) h =
-    let shallow : nesting h.tree ≤ 125 = (let p = and_parts _ (nat_le (nesting h.tree) 100) h.datum in let q = leb-true (nesting h.tree) 100 p.1 in omega arith) in
-    let datum : is_datum h.tree ≡ true = h.datum in (
+-- an initial value, as a tree that nests as deep as its text says
+initial_tree : (o : Option (List ℕ)) → IfSome o IsDatumText → tests.initial_fits o ≡ true → (t : Json) × (initial_text o ≡ text_of t) × Field 126 t × (initial_in t ≡ Some o)
+initial_tree None h fits = (tree.List [], list_is [] [] refl, list_field 125 [] tt, rw (items_of_list []) refl)
+initial_tree (Some text) h fits =
+    let low : nat_le (nesting h.tree) value_depth ≡ true = subst (λ n. nat_le n value_depth ≡ true) (sym (ap nesting_of h.is) ∙ nesting_is h.tree) fits in
+    let shallow : nesting h.tree ≤ 125 = (let q = leb-true (nesting h.tree) 100 low in omega arith) in
+    let datum : is_datum h.tree ≡ true = and_from (is_whole h.tree) (nat_le (nesting h.tree) value_depth) h.whole low in (
       tree.List (h.tree ∷ []),
       list_is (h.tree ∷ []) (text ∷ []) (cons_same (sym h.is) refl),
       list_field 125 (h.tree ∷ []) (record { proper = h.proper; ranges = h.in_range; deep = shallow }, tt),
@@ -312,7 +317,7 @@ initial_tree (Some text) h =
 pub conn_read : (P : Plan) → length P.entities ≤ 10000 → (last : ℕ) (done : List Conn) (c : Conn) → 3 ≤ last → last ≤ 6 → ConnFits (length P.entities) c
     → Reads (state last (with_conns P done) [] []) (conn_line c) (state 6 (with_conns P (done ++ c ∷ [])) [] [])
 conn_read P few last done c low high fits =
-    let first = initial_tree c.initial fits.initial in
+    let first = initial_tree c.initial fits.initial fits.shallow in
     let ts : List Json = tree.Whole (pos c.from) ∷ tree.Text c.from_attr ∷ tree.Whole (pos c.to) ∷ tree.Text c.to_attr ∷ via_tree c.via ∷ tree.Bool c.persistent ∷ tree.Bool c.triggering ∷ first.0 ∷ [] in
     let utf8 = and_parts (is_utf8 c.from_attr) (is_utf8 c.to_attr) fits.texts in
     let from : c.from ≤ 10000 = (let h = fits.from in omega arith) in

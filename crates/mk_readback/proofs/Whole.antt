@@ -5,6 +5,7 @@ use Rattle.std.specs.List.{list_all, slice_split}
 use Rattle.std.specs.Str.{is_utf8}
 use Rattle.std.specs.Fmt.{decimal}
 use Rattle.std.proofs.lemmas.Bool.{and_parts, and_from, ltb-true, leb-true}
+use Rattle.mk_base.specs.Data.{IsDatumText}
 use Rattle.mk_base.specs.Lists.{Each}
 use Rattle.mk_base.proofs.Lists.{append_nil}
 use Rattle.mk_plan.specs.declared.Plan.{Plan}
@@ -23,7 +24,7 @@ use Rattle.mk_saved.specs.Entries.{RecordEntry, entries_of}
 use Rattle.mk_saved.specs.Reading.{State, Said, is_feed, reading, reading_from, start}
 use Rattle.mk_saved.specs.Texts.{record_text, plan_text, run_line, sim_line, model_line, entity_line, conn_line, async_line, entry_line}
 use Rattle.mk_saved.proofs.Splitting.{reads_end}
-use Rattle.mk_readback.specs.Again.{IsRecordable, IsDatumText, model_is_text, conn_is_text, steps_of, steps_after}
+use Rattle.mk_readback.specs.Again.{IsRecordable, model_is_text, conn_is_text, steps_of, steps_after}
 use Rattle.mk_readback.proofs.Clean.{clean-append, clean-decimal}
 use Rattle.mk_readback.proofs.Lines.{state, Reads, joined, cut_line, a_line, begun, no_plan, run_read, SimFits, with_sims, sim_read, ModelFits, with_models, model_read, EntityFits, with_entities, entity_read, ConnFits, with_conns, conn_read, PairFits, with_asyncs, async_read, reads_parts, stands}
 use Rattle.mk_readback.proofs.Entries.{said, arrivals_said, counted, reads_entries, end_read}
@@ -54,14 +55,16 @@ entities_fit P (e ∷ es) h t =
     let u = and_parts (is_utf8 e.eid) (list_all (λ (e : PlanEntity). is_utf8 e.eid) es) t in
     (record { model = ltb-true e.model (length P.models) q.0; related = q.1; text = u.0 }, entities_fit P es p.1 u.1)
 
-conns_fit : (P : Plan) (cs : List Conn) → list_all (tests.conn_refers P) cs ≡ true → list_all (λ (c : Conn). tests.width_fits c.via) cs ≡ true → list_all conn_is_text cs ≡ true → Each (λ (c : Conn). IfSome c.initial IsDatumText) cs → Each (ConnFits (length P.entities)) cs
-conns_fit P [] h w t i = tt
-conns_fit P (c ∷ cs) h w t i =
+conns_fit : (P : Plan) (cs : List Conn) → list_all (tests.conn_refers P) cs ≡ true → list_all (λ (c : Conn). tests.width_fits c.via) cs ≡ true → list_all conn_is_text cs ≡ true → Each (λ (c : Conn). IfSome c.initial IsDatumText) cs → list_all (λ (c : Conn). tests.initial_fits c.initial) cs ≡ true
+    → Each (ConnFits (length P.entities)) cs
+conns_fit P [] h w t i d = tt
+conns_fit P (c ∷ cs) h w t i d =
     let p = and_parts (tests.conn_refers P c) (list_all (tests.conn_refers P) cs) h in
     let q = and_parts (nat_lt c.from (length P.entities)) (nat_lt c.to (length P.entities)) p.0 in
     let v = and_parts (tests.width_fits c.via) (list_all (λ (c : Conn). tests.width_fits c.via) cs) w in
     let u = and_parts (conn_is_text c) (list_all conn_is_text cs) t in
-    (record { from = ltb-true c.from (length P.entities) q.0; to = ltb-true c.to (length P.entities) q.1; width = v.0; texts = u.0; initial = i.0 }, conns_fit P cs p.1 v.1 u.1 i.1)
+    let e = and_parts (tests.initial_fits c.initial) (list_all (λ (c : Conn). tests.initial_fits c.initial) cs) d in
+    (record { from = ltb-true c.from (length P.entities) q.0; to = ltb-true c.to (length P.entities) q.1; width = v.0; texts = u.0; initial = i.0; shallow = e.0 }, conns_fit P cs p.1 v.1 u.1 i.1 e.1)
 
 pairs_fit : (P : Plan) (ps : List AsyncPair) → list_all (tests.pair_refers P) ps ≡ true → Each (PairFits (length P.sims)) ps
 pairs_fit P [] h = tt
@@ -79,6 +82,7 @@ record Tested (P : Plan) : Type 0 where
   few : length P.sims ≤ 200
   entity_count : length P.entities ≤ 10000
   sims : list_all tests.sim_fits P.sims ≡ true
+  initials : list_all (λ (c : Conn). tests.initial_fits c.initial) P.conns ≡ true
   widths : list_all (λ (c : Conn). tests.width_fits c.via) P.conns ≡ true
   models : list_all (λ (m : PlanModel). nat_lt m.sim.0 (length P.sims)) P.models ≡ true
   entities : list_all (tests.entity_refers P) P.entities ≡ true
@@ -120,6 +124,7 @@ tested P wf =
       few = leb-true (length P.sims) 200 n.1;
       entity_count = leb-true (length P.entities) 10000 m.1;
       sims = f.1;
+      initials = d.1;
       widths = c.1;
       models = q.0;
       entities = q.1;
@@ -144,7 +149,7 @@ plan_read P J ok t =
     let entities = reads_parts (EntityFits (length P.models) (length P.entities)) entity_line (with_entities P) 5 (omega arith) (λ last done x a b f. entity_read P (length P.entities) t.entity_count ok.models last done x a b f) P.entities [] models.0 models.1
     (let h = models.2 in omega arith) (entities_fit P P.entities t.entities ok.texts.entities) in
     let conns = reads_parts (ConnFits (length P.entities)) conn_line (with_conns P) 6 (omega arith) (λ last done x a b f. conn_read P t.entity_count last done x a b f) P.conns [] entities.0 entities.1
-    (let h = entities.2 in omega arith) (conns_fit P P.conns t.conns t.widths ok.texts.conns ok.texts.initials) in
+    (let h = entities.2 in omega arith) (conns_fit P P.conns t.conns t.widths ok.texts.conns ok.texts.initials t.initials) in
     let asyncs = reads_parts (PairFits (length P.sims)) async_line (with_asyncs P) 7 (omega arith) (λ last done x a b f. async_read P t.few last done x a b f) P.asyncs [] conns.0 conns.1 (let h = conns.2 in omega arith) (pairs_fit P P.asyncs t.asyncs) in
     let S1 : State = state 1 no_plan [] [] in
     let S2 : State = state 2 (begun P) [] [] in

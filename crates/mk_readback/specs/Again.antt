@@ -2,11 +2,9 @@
 use Rattle.std.specs.Prelude.{◌≡◌, ℕ, ◌+◌, ◌^◌, ◌<◌, ◌≤◌, Bool, true, ◌&&◌, nat_le, nat_lt, pos, List, [], ◌∷◌, length, IfSome}
 use Rattle.std.specs.List.{list_all}
 use Rattle.std.specs.Str.{is_utf8}
-use Rattle.mk_base.specs.declared.json.Json.{Json}
+use Rattle.mk_base.specs.Data.{IsDatumText}
 use Rattle.mk_base.specs.Lists.{Each}
-use Rattle.mk_base.specs.Texts.{text_of}
-use Rattle.mk_base.specs.Trees.{is_datum, nesting}
-use Rattle.mk_base.specs.Trees as trees
+use Rattle.mk_base.specs.Trees.{nesting}
 use Rattle.mk_plan.specs.declared.Plan.{Plan}
 use Rattle.mk_plan.specs.declared.PlanSim.{PlanSim}
 use Rattle.mk_plan.specs.declared.PlanModel.{PlanModel}
@@ -15,7 +13,7 @@ use Rattle.mk_plan.specs.declared.Conn.{Conn}
 use Rattle.mk_plan.specs.declared.Entry.{Entry}
 use Rattle.mk_plan.specs.declared.Message.{Message}
 use Rattle.mk_plan.specs.Plans.{IsValidPlan, sim_count}
-use Rattle.mk_json.specs.Proper.{is_proper}
+use Rattle.mk_base.specs.Proper.{is_proper}
 use Rattle.mk_message.specs.Written.{is_in_range, is_readable, message_tree}
 use Rattle.mk_saved.specs.Entries.{RecordEntry, StepOf, MessageOf, entries_of}
 use Rattle.mk_saved.specs.Lines.{step_fits}
@@ -46,15 +44,7 @@ model_is_text m = is_utf8 m.name && list_all is_utf8 m.attrs
 abbrev pub conn_is_text : Conn → Bool
 conn_is_text c = is_utf8 c.from_attr && is_utf8 c.to_attr
 
--- the compact text of a datum that is in UTF-8 and has the names of its objects in byte order, each once
-pub record IsDatumText (text : List ℕ) : Type 0 where
-  pub tree : Json
-  pub proper : is_proper tree ≡ true
-  pub in_range : trees.is_in_range tree ≡ true
-  pub datum : is_datum tree ≡ true
-  pub is : text_of tree ≡ text
-
--- the texts of the plan are in UTF-8, and its initial values are data
+-- the texts of the plan are in UTF-8, and its initial values are texts of trees as the program keeps them
 pub record HasTexts (P : Plan) : Type 0 where
   pub sims : list_all (λ (s : PlanSim). is_utf8 s.id) P.sims ≡ true
   pub models : list_all model_is_text P.models ≡ true

@@ -1,16 +1,20 @@
--- For proofs alone. A plan and a journal that may stand in a record can be recorded, where the plan's texts are UTF-8.
-use Rattle.std.proofs.Common.{◌≡◌, ◌^◌, ◌<◌, ◌≤◌, true, List, [], ◌∷◌, length, refl, sym, subst}
+-- For proofs alone. A plan and a journal that may stand in a record can be recorded, where the plan's texts are UTF-8 and its initial values data.
+use Rattle.std.proofs.Common.{◌≡◌, suc, ◌^◌, ◌<◌, ◌≤◌, true, List, [], ◌∷◌, length, All, refl, sym, subst, arith}
+use Rattle.std.specs.Prelude.{IfSome}
 use Rattle.std.specs.List.{list_all}
 use Rattle.std.proofs.lemmas.Bool.{and_from, lt-ltb}
 use Rattle.mk_base.specs.declared.json.Json.{Json}
+use Rattle.mk_base.specs.Data.{IsDatumText}
 use Rattle.mk_base.specs.Lists.{Each}
 use Rattle.mk_base.specs.Trees.{nesting}
 use Rattle.mk_plan.specs.declared.Plan.{Plan}
+use Rattle.mk_plan.specs.declared.Conn.{Conn}
 use Rattle.mk_plan.specs.declared.Entry.{Entry}
 use Rattle.mk_plan.specs.declared.Message.{Message}
 use Rattle.mk_plan.specs.Plans.{sim_count}
 use Rattle.mk_json.specs.Parsed.{parsed}
 use Rattle.mk_message.specs.Messages.{message_in}
+use Rattle.mk_valid.specs.FirstBad.{HasDatums}
 use Rattle.mk_saved.specs.Entries.{RecordEntry, StepOf, MessageOf, entries_of}
 use Rattle.mk_parsed.proofs.Sound.{sound_tree}
 use Rattle.mk_readback.specs.Again.{IsRecordable, entry_fits, is_sayable}
@@ -34,10 +38,15 @@ entries_fit P [] h = refl
 entries_fit P (StepOf sim at advance ∷ es) h = and_from _ _ (and_from _ _ (lt-ltb sim (sim_count P) h.0.0) h.0.1) (entries_fit P es h.1)
 entries_fit P (MessageOf a ∷ es) h = and_from _ _ (and_from _ _ (lt-ltb a.sim (sim_count P) h.0.0) (heard_sayable a.message h.0.1)) (entries_fit P es h.1)
 
-pub readable : (P : Plan) (J : List Entry) → IsReadable P J → HasNames P → length (entries_of J) < 2 ^ 64 → IsRecordable P J
-readable P J ok names few = record {
+-- what holds at each place holds of each item
+each_of : {X : Type 0} (Q : X → Type 0) (xs : List X) → All Q xs → Each Q xs
+each_of Q [] h = tt
+each_of Q (x ∷ xs) h = (h 0 x (omega arith), each_of Q xs (λ i d k. h (suc i) d (omega arith)))
+
+pub readable : (P : Plan) (J : List Entry) → IsReadable P J → HasNames P → HasDatums P → length (entries_of J) < 2 ^ 64 → IsRecordable P J
+readable P J ok names data_of few = record {
   valid = ok.valid;
-  texts = record { sims = names.sims; models = names.models; entities = names.entities; conns = names.conns; initials = ok.initials };
+  texts = record { sims = names.sims; models = names.models; entities = names.entities; conns = names.conns; initials = each_of (λ (c : Conn). IfSome c.initial IsDatumText) P.conns data_of };
   models = models_few P ok.valid;
   entries = entries_fit P (entries_of J) ok.entries;
   count = few;

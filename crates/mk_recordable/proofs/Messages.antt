@@ -10,7 +10,7 @@ use Rattle.mk_base.specs.Trees.{whole_in, text_in, items_in, is_object, nesting}
 use Rattle.mk_base.proofs.Lists.{some_same, none_some}
 use Rattle.mk_plan.specs.declared.Message.{Message}
 use Rattle.mk_plan.specs.declared.Message.TheVariants.{Ask, Success, Failure}
-use Rattle.mk_json.specs.Proper.{is_proper}
+use Rattle.mk_base.specs.Proper.{is_proper}
 use Rattle.mk_message.specs.declared.reading.Kind.{Kind}
 use Rattle.mk_message.specs.declared.reading.Kind.TheVariants as kind
 use Rattle.mk_message.specs.Messages.{three_of, three_in, kind_numbered, kind_in, id_numbered, id_in, request_in, content_in, tested, message_in}

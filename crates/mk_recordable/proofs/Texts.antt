@@ -1,16 +1,17 @@
 -- For proofs alone. What the lines of a record say is made of texts, and its messages may stand in a line again.
-use Rattle.std.proofs.Common.{◌≡◌, ℕ, ◌+◌, ◌&&◌, nat_lt, nat_le, ℤ, pos, nat_abs, Bool, true, false, not, List, [], ◌∷◌, ◌++◌, length, map, Option, Some, None, option_and_then, is_none, refl, sym, ap, ◌∙◌, subst, if◌then◌else◌}
+use Rattle.std.proofs.Common.{◌≡◌, ℕ, ◌+◌, ◌&&◌, nat_lt, nat_le, ℤ, pos, nat_abs, Bool, true, false, not, List, [], ◌∷◌, ◌++◌, length, map, Option, Some, None, option_and_then, is_none, refl, sym, ap, ◌∙◌, subst, arith, if◌then◌else◌}
 use Rattle.std.specs.Prelude.{⊤, Result, Ok, Err, IfSome, codes}
 use Rattle.std.specs.Result.{result_ok}
 use Rattle.std.specs.List.{list_all, slice_split}
 use Rattle.std.specs.Str.{is_utf8}
-use Rattle.std.proofs.lemmas.Bool.{and_parts, and_from}
+use Rattle.std.proofs.lemmas.Bool.{and_parts, and_from, leb-true}
 use Rattle.mk_base.specs.declared.json.Json as tree
 use Rattle.mk_base.specs.declared.json.Json.{Json}
 use Rattle.mk_base.specs.declared.json.Json.TheVariants as v
+use Rattle.mk_base.specs.Data.{IsDatumText}
 use Rattle.mk_base.specs.Lists.{Each, same_text}
 use Rattle.mk_base.specs.Texts.{text_of}
-use Rattle.mk_base.specs.Trees.{bool_in, whole_in, text_in, items_in, is_datum, is_in_range}
+use Rattle.mk_base.specs.Trees.{bool_in, whole_in, text_in, items_in, is_whole, is_datum, is_in_range, nesting, value_depth}
 use Rattle.mk_base.proofs.Lists.{some_same, none_some}
 use Rattle.mk_plan.specs.declared.Plan.{Plan}
 use Rattle.mk_plan.specs.declared.PlanSim.{PlanSim}
@@ -18,7 +19,7 @@ use Rattle.mk_plan.specs.declared.PlanEntity.{PlanEntity}
 use Rattle.mk_plan.specs.declared.Conn.{Conn}
 use Rattle.mk_plan.specs.declared.Message.{Message}
 use Rattle.mk_plan.specs.Journals.{Arrival}
-use Rattle.mk_json.specs.Proper.{is_proper}
+use Rattle.mk_base.specs.Proper.{is_proper}
 use Rattle.mk_json.proofs.LevelTests.{range-List, proper-List}
 use Rattle.mk_message.specs.Messages.{message_in}
 use Rattle.mk_valid.specs.Tests.{first_bad}
@@ -29,7 +30,7 @@ use Rattle.mk_saved.specs.Fields.{misformed, out_of_limits, found, limited, is_b
 use Rattle.mk_saved.specs.Lines.{with_run, run_fits, with_sim, sim_fits, with_model, with_entity, entity_fits, with_way, with_conn, with_async, arrival_in, asked_in}
 use Rattle.mk_saved.specs.Reading.{State, start, Step, Going, Ended, Bad, Reading, Said, Faulty, planned, arrived, asked, items_read, end_step, with_part, is_second, steps_in, plan_step, head_step, part_step, kind_step, known_step, line_step, kind_of_word, word_of, rest_of, ends_plan, may_stand, invalid, closed, overlong, reading_from, reading, is_feed, is_number, miscounted}
 use Rattle.std.specs.Fmt.{decimal}
-use Rattle.mk_readback.specs.Again.{HasTexts, IsDatumText, is_sayable, model_is_text, conn_is_text}
+use Rattle.mk_readback.specs.Again.{HasTexts, is_sayable, model_is_text, conn_is_text}
 use Rattle.mk_recordable.proofs.Trees.{IsSoundField, read_sound, items_are, text_utf8, texts_utf8}
 use Rattle.mk_recordable.proofs.Messages.{message_sayable}
 
@@ -125,13 +126,17 @@ listed_data (value ∷ []) o p r e =
     by (is_datum value) refl (sym here ∙ e)
   where
     by : (b : Bool) → is_datum value ≡ b → (if b then Some (Some (text_of value)) else None) ≡ Some o → IfSome o IsDatumText
-    by true is e = subst (λ (x : Option (List ℕ)). IfSome x IsDatumText) (some_same e) (record {
-      tree = value;
-      proper = (and_parts (is_proper value) true p).0;
-      in_range = (and_parts (is_in_range value) true r).0;
-      datum = is;
-      is = refl;
-    })
+    by true is e =
+        let q = and_parts (is_whole value) (nat_le (nesting value) value_depth) is in
+        let low = leb-true (nesting value) value_depth q.1 in
+        subst (λ (x : Option (List ℕ)). IfSome x IsDatumText) (some_same e) (record {
+          tree = value;
+          proper = (and_parts (is_proper value) true p).0;
+          whole = q.0;
+          in_range = (and_parts (is_in_range value) true r).0;
+          deep = omega (arith, low);
+          is = refl;
+        })
     by false is e = absurd (none_some e)
 listed_data (value ∷ more ∷ rest) o p r e =
     let none : initial_in (tree.List (value ∷ more ∷ rest)) ≡ None = rw (v.outs-List (value ∷ more ∷ rest)) refl in

@@ -12,7 +12,7 @@ use Rattle.mk_base.specs.Trees.{whole_in, text_in, items_in, is_in_range, nestin
 use Rattle.mk_base.proofs.Lists.{some_same, none_some}
 use Rattle.mk_base.proofs.Levels.{nesting_items}
 use Rattle.mk_json.specs.Parsed.{parsed}
-use Rattle.mk_json.specs.Proper.{is_proper}
+use Rattle.mk_base.specs.Proper.{is_proper}
 use Rattle.mk_json.proofs.LevelTests.{range-List, proper-List}
 use Rattle.mk_json.proofs.OfOutlines.{proper-Text}
 use Rattle.mk_json.proofs.Layers as layers

@@ -1,5 +1,5 @@
--- A plan and a journal whose record is read again, where the plan's texts are UTF-8, as they are by their types.
-use Rattle.std.specs.Prelude.{◌≡◌, ℕ, ◌<◌, ◌≤◌, true, pos, List, Ok, IfSome}
+-- A plan and a journal whose record is read again, where the plan's texts are UTF-8 and its initial values data, as they are by their types.
+use Rattle.std.specs.Prelude.{◌≡◌, ℕ, ◌<◌, ◌≤◌, true, pos, List, Ok}
 use Rattle.std.specs.List.{list_all}
 use Rattle.std.specs.Str.{is_utf8}
 use Rattle.mk_base.specs.Lists.{Each}
@@ -7,7 +7,6 @@ use Rattle.mk_base.specs.Trees.{nesting}
 use Rattle.mk_plan.specs.declared.Plan.{Plan}
 use Rattle.mk_plan.specs.declared.PlanSim.{PlanSim}
 use Rattle.mk_plan.specs.declared.PlanEntity.{PlanEntity}
-use Rattle.mk_plan.specs.declared.Conn.{Conn}
 use Rattle.mk_plan.specs.declared.Entry.{Entry}
 use Rattle.mk_plan.specs.declared.Message.{Message}
 use Rattle.mk_plan.specs.Plans.{IsValidPlan, sim_count}
@@ -15,7 +14,7 @@ use Rattle.mk_message.specs.Messages.{message_of}
 use Rattle.mk_message.specs.Written.{message_tree}
 use Rattle.mk_saved.specs.Entries.{RecordEntry, StepOf, MessageOf, entries_of}
 use Rattle.mk_saved.specs.Lines.{step_fits}
-use Rattle.mk_readback.specs.Again.{IsDatumText, conn_is_text, model_is_text}
+use Rattle.mk_readback.specs.Again.{conn_is_text, model_is_text}
 
 -- the message is the one that is read of some payload, and nests no deeper than 126, its own list counted
 pub record IsHeard (m : Message) : Type 0 where
@@ -28,10 +27,9 @@ abbrev pub MayStand : Plan → RecordEntry → Type 0
 MayStand P (StepOf sim at advance) = (sim < sim_count P) × (step_fits at.time (pos at.tier) advance ≡ true)
 MayStand P (MessageOf a) = (a.sim < sim_count P) × IsHeard a.message
 
--- the plan is valid, and its initial values are texts of trees as the program keeps them; each Step and message of the journal may stand in its record
+-- the plan is valid; each Step and message of the journal may stand in its record
 pub record IsReadable (P : Plan) (J : List Entry) : Type 0 where
   pub valid : IsValidPlan P
-  pub initials : Each (λ (c : Conn). IfSome c.initial IsDatumText) P.conns
   pub entries : Each (MayStand P) (entries_of J)
 
 -- the names and attributes in a plan are UTF-8

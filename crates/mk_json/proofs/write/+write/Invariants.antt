@@ -6,7 +6,7 @@ use Rattle.json.specs.Tree.{items_tokens, members_tokens}
 use Rattle.mk_base.specs.declared.json.Json.{Json}
 use Rattle.mk_base.specs.Trees.{is_in_range}
 use Rattle.mk_json.specs.Outline.{outline, items_in, members_in}
-use Rattle.mk_json.specs.Proper.{is_proper}
+use Rattle.mk_base.specs.Proper.{is_proper}
 use Rattle.mk_json.proofs.write.+write.Given as goal
 
 abbrev pub invariant-write_items-loop-item : goal.invariant-write_items-loop-item

@@ -9,4 +9,4 @@ pub returns-clause-again : goal.returns-clause-again
 returns-clause-again c ok =
     let P = c.args.plan.now in
     let J = c.args.journal.now.entries in
-    ap reading c.in_ok-out.ensures.text ∙ read_again P J (readable P J ok c.in_ok-out.ensures.names c.in_ok-out.ensures.few)
+    ap reading c.in_ok-out.ensures.text ∙ read_again P J (readable P J ok c.in_ok-out.ensures.names c.in_ok-out.ensures.datums c.in_ok-out.ensures.few)
