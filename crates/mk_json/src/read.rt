@@ -2,7 +2,7 @@
 ghost use Rattle.std.specs.Prelude.{◌≡◌, ◌≤◌, true, Err, IfOk, None, Some};
 ghost use Rattle.mk_base.specs.Trees.{nesting, is_in_range};
 ghost use Rattle.mk_json.specs.Parsed.{tree_of, items_of, members_of, number_of, parsed};
-ghost use Rattle.mk_json.specs.Proper.{is_proper};
+ghost use Rattle.mk_base.specs.Proper.{is_proper};
 ghost use Rattle.serde_json.specs.View.{view, items_view, members_view, number_view};
 
 use mk_base::{Json, List, Mem, Members, Text};
@@ -71,7 +71,7 @@ fn convert(alloc: Global, value: &Value) -> Result<Json, Mem>
 fn convert_items(alloc: Global, items: &Vec<Value>) -> Result<List<Json>, Mem>
     ensures { IfOk result (λ ts. ts ≡ items_of (items_view items.now.items)) }
 {
-    let mut found = List::new(alloc);
+    let mut found = List::with_room(alloc, items.len())?;
     for item in items {
         found.push(convert(alloc, item)?)?;
     }
@@ -82,7 +82,7 @@ fn convert_items(alloc: Global, items: &Vec<Value>) -> Result<List<Json>, Mem>
 fn convert_members(alloc: Global, members: &Map<String, Value>) -> Result<Members<Json>, Mem>
     ensures { IfOk result (λ ts. ts ≡ members_of (members_view members.now.entries)) }
 {
-    let mut found = List::new(alloc);
+    let mut found = List::with_room(alloc, members.len())?;
     for (name, member) in members.iter() {
         let name = Text::of(alloc, name.as_str())?;
         found.push((name, convert(alloc, member)?))?;

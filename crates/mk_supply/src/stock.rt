@@ -83,7 +83,9 @@ impl Stock {
         ensures { (P : Plan) (V : View) → IsStockOf P V self.now → IsReady P V sim.0 at → previous ≡ last_time (V.acts sim.0)
             → IfOk result (λ ins. ins ≡ inputs P (supply P V.acts) sim.0 previous at) }
     {
-        self.buffers.inputs_at(sim, previous, at)
+        let mut inputs = self.buffers.inputs_at(sim, previous, at)?;
+        inputs.trim();
+        Ok(inputs)
     }
 
     /// What the data of a reply of the simulator give: a value for each want, and for each of its triggering connections in

@@ -1,5 +1,4 @@
-use Rattle.std.proofs.Common.{◌≡◌, List, subst, IfOk}
-use Rattle.mk_plan.specs.declared.Input.{Input}
+use Rattle.std.proofs.Common.{◌≡◌, ◌∙◌}
 use Rattle.mk_confluence.proofs.LaterQuestions.{step_after}
 use Rattle.mk_buffers.specs.Standing.{mark_of}
 use Rattle.mk_supply.proofs.Keeping.{ready_below}
@@ -10,5 +9,6 @@ pub returns : goal.returns
 returns c = λ P V h ready p.
     let s = c.args.sim.0 in
     let low = ready_below P V s c.args.at ready in
-    subst (λ (all : List Input). IfOk c.inputs_at.result (λ ins. ins ≡ all)) (inputs_same P V h.supplied.0 h.supplied.2 s c.args.at c.args.previous ready)
-    (c.inputs_at.ensures P h.supplied.0 h.supplied.1 low (step_after P V s (mark_of c.args.self.now.buffers s) (h.marks s low) c.args.at ready))
+    c.trim.ensures
+    ∙ c.in_ok-inputs.ensures P h.supplied.0 h.supplied.1 low (step_after P V s (mark_of c.args.self.now.buffers s) (h.marks s low) c.args.at ready)
+    ∙ inputs_same P V h.supplied.0 h.supplied.2 s c.args.at c.args.previous ready
