@@ -1,4 +1,5 @@
 mod Answering
+mod Fleetless
 mod Migrating
 mod NeverUsage
 mod Playing

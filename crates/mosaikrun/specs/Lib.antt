@@ -1,5 +1,6 @@
 pub mod Around
 pub mod Commands
+pub mod Fleetless
 pub mod Migrating
 pub mod Program
 pub mod Recording

@@ -19,6 +19,7 @@ ghost use Rattle.mk_ran.specs.Outcomes.{Outside, outside};
 ghost use Rattle.mk_migrated.specs.Migrations.{IsMigration};
 ghost use Rattle.mosaikrun.specs.Around.{FolderSeen, OutputSeen, folder_seen, output_seen, unused};
 ghost use Rattle.mosaikrun.specs.Commands.{IsAsked, IsHeld, IsOutcomeOf, IsNoFile, IsUnreadable, file_of};
+ghost use Rattle.mosaikrun.specs.Fleetless.{IsHeldWithin, NeedsNoFleet};
 ghost use Rattle.mosaikrun.specs.Running.{IsFolderAfter};
 ghost use Rattle.mosaikrun.specs.Summing.{HasSummed};
 ghost use Rattle.mosaikrun.specs.Program.{Ended, EndsWith, IsStatusOr, KeepsOthers, TookLine};
@@ -37,8 +38,10 @@ use std::sync::Wait;
 
 /// Does what the words ask: reads the file that they name, and puts what the command makes of it to `out`. A run is made over
 /// the fleet, and may wait for others; it saves its record, where the words give a name, however it ended. The demo is a run
-/// too, of a scenario that is no file, and leaves the fleet as it was. A migration puts nothing to `out`, and saves a record.
-/// Answers the status. A scenario's simulators within the program are of these kinds.
+/// too, of a scenario that is no file. A migration puts nothing to `out`, and saves a record. Answers the status. A scenario's
+/// simulators within the program are of these kinds.
+///
+/// Nothing is done with the fleet, unless the words ask for a run of a scenario in which some simulator has a link.
 ///
 /// At a status other than 0 `err` gets a line that says why, and `out` gets nothing, or a beginning of the text where it failed
 /// or found no memory.
@@ -71,7 +74,7 @@ pub fn program<D: Folder, F: Fleet, K: Sink, E: Sink, R: Wait>(
         → held source ≡ Some bytes → length bytes ≤ file_limit → IsMigration bytes o → (o ≡ Err ends.Mem → ⊥) → IsStatusOr (outcome_status o) result) }
     ensures others_kept { KeepsOthers (map string_bytes words.now) (D.files folder.old) (D.files folder.new) }
     ensures links_closed { AreNumbered (F.started fleet.old) (F.open_links fleet.old) → F.open_links fleet.new ≡ F.open_links fleet.old }
-    ensures alone { (size : ℕ) → IsAsked (map string_bytes words.now) (requests.Demo size) → fleet.new ≡ fleet.old }
+    ensures fleet_unused { NeedsNoFleet (map string_bytes words.now) (D.files folder.old) → fleet.new ≡ fleet.old }
     ensures folder_count { D.faults folder.old ≤ D.faults folder.new }
     ensures fleet_count { F.faults fleet.old ≤ F.faults fleet.new }
     ensures out_count { K.faults out.old ≤ K.faults out.new }
@@ -100,7 +103,7 @@ fn answer<D: Folder, F: Fleet, K: Sink, R: Wait>(
       output = output_seen K.written K.faults K.shortages out.old out.new;
     }) result }
     ensures links_closed { AreNumbered (F.started fleet.old) (F.open_links fleet.old) → F.open_links fleet.new ≡ F.open_links fleet.old }
-    ensures alone { (size : ℕ) → IsAsked (map string_bytes words.now) (requests.Demo size) → fleet.new ≡ fleet.old }
+    ensures fleet_unused { NeedsNoFleet (map string_bytes words.now) (D.files folder.old) → fleet.new ≡ fleet.old }
     ensures folder_count { D.faults folder.old ≤ D.faults folder.new }
     ensures fleet_count { F.faults fleet.old ≤ F.faults fleet.new }
     ensures out_count { K.faults out.old ≤ K.faults out.new }
@@ -168,6 +171,7 @@ fn play<D: Folder, F: Fleet, K: Sink, R: Wait>(
       output = output_seen K.written K.faults K.shortages out.old out.new;
     }) result }
     ensures links_closed { AreNumbered (F.started fleet.old) (F.open_links fleet.old) → F.open_links fleet.new ≡ F.open_links fleet.old }
+    ensures within { IsHeldWithin (D.files folder.old) scenario.now → fleet.new ≡ fleet.old }
     ensures folder_count { D.faults folder.old ≤ D.faults folder.new }
     ensures fleet_count { F.faults fleet.old ≤ F.faults fleet.new }
     ensures out_count { K.faults out.old ≤ K.faults out.new }

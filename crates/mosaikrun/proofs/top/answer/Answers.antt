@@ -4,13 +4,13 @@ use Rattle.std.proofs.lemmas.Result.{err_from_is_err_and}
 use Rattle.mk_outside.proofs.OnLogs.{adds_none}
 use Rattle.mk_local.specs.Registries.{rows_in}
 use Rattle.mk_words.specs.declared.request.Request.{Request}
-use Rattle.mk_words.specs.declared.request.Request.TheVariants.{Migrate}
+use Rattle.mk_words.specs.declared.request.Request.TheVariants.{Migrate, Run}
 use Rattle.mk_endings.specs.declared.ending.Ending.{Ending}
 use Rattle.mk_ran.specs.Outcomes.{outside}
 use Rattle.mosaikrun.specs.Around.{Around, folder_seen, output_seen}
 use Rattle.mosaikrun.specs.Commands.{IsAsked}
 use Rattle.mosaikrun.specs.Program.{Ended}
-use Rattle.mosaikrun.proofs.Answering.{one_request}
+use Rattle.mosaikrun.proofs.Fleetless.{run_within}
 use Rattle.mosaikrun.proofs.Playing.{performed}
 use Rattle.mosaikrun.proofs.top.answer.Goals as goal
 
@@ -49,12 +49,12 @@ returns-in-Migrate-clause-ended g c =
     let asked = subst (λ (R : Request). IsAsked (map string_bytes c.args.words.now) R) same c.in_ok-request.ensures.asked in
     ([], adds_none (g.F.Fleet.log c.args.fleet.now), c.migrate.ensures.migrated (map string_bytes c.args.words.now) unused seen refl refl refl asked)
 
--- a run isn't the demo
-pub returns-in-Run-clause-alone : goal.returns-in-Run-clause-alone
-returns-in-Run-clause-alone g c = λ size asked.
-    let ran = subst (λ (R : Request). IsAsked (map string_bytes c.args.words.now) R) c.in-Run.is c.in_ok-request.ensures.asked in
-    let wrong = one_request (map string_bytes c.args.words.now) _ _ ran asked in
-    absurd cc
+-- a run does nothing with the fleet where no simulator has a link
+pub returns-in-Run-clause-fleet_unused : goal.returns-in-Run-clause-fleet_unused
+returns-in-Run-clause-fleet_unused g c =
+    let same : c.in_ok-request.request ≡ Run c.as_str.result.now c.in-Run.record = cc (c.in-Run.is, c.as_str.ensures) in
+    let asked = subst (λ (R : Request). IsAsked (map string_bytes c.args.words.now) R) same c.in_ok-request.ensures.asked in
+    λ needless. c.play.ensures.within (run_within (map string_bytes c.args.words.now) (g.D.Folder.files c.args.folder.now) _ _ asked needless)
 
 -- a command without a fleet is made
 pub returns-in_default : goal.returns-in_default
@@ -66,7 +66,7 @@ returns-in_default g c = record {
         c.in_ok-request.ensures.asked,
   );
   links_closed = λ low_ones. refl;
-  alone = λ size asked. refl;
+  fleet_unused = λ needless. refl;
   folder_count = c.make.ensures.folder_count;
   fleet_count = omega (arith);
   out_count = c.make.ensures.out_count;

@@ -12,6 +12,7 @@ use Rattle.mk_ran.specs.Outcomes.{IsRunOutcome, outside}
 use Rattle.mosaikrun.specs.Around.{Around, folder_seen, output_seen}
 use Rattle.mosaikrun.specs.Running.{IsFolderAfter}
 use Rattle.mosaikrun.specs.Program.{Ended}
+use Rattle.mosaikrun.proofs.Fleetless.{does_nothing}
 use Rattle.mosaikrun.proofs.Playing.{Played, as_run, either, reported, risen_after, wanting}
 use Rattle.mosaikrun.proofs.top.play.Goals as goal
 
@@ -163,3 +164,20 @@ returns-clause-played g c = λ words asked.
       outcome = subst (λ w. IsRunOutcome S.outside w c.in_ok-bytes.bytes.items text kept) c.is_some.ensures (subst (λ b. IsRunOutcome S.outside c.is_some.result b text kept) c.as_slice.ensures.value came.2);
     } in
     (came.0, came.1, inr (inr (inr (inr (inl (wanting S _ _ text kept played refl (c.keep.ensures.wanting c.in-Mem.is ∙ c.file_bytes.ensures.kept)))))))
+
+-- nothing is done with the fleet where no simulator has a link
+
+pub returns-in_err-told-in-Kept-clause-within : goal.returns-in_err-told-in-Kept-clause-within
+returns-in_err-told-in-Kept-clause-within g c = does_nothing (g.D.Folder.files c.args.folder.now) c.args.scenario.now c.in_ok-bytes.bytes.items c.as_slice.result.now c.in_ok-bytes.ensures.read c.as_slice.ensures.value c.ran-told.ensures.within
+
+pub returns-in-Kept-clause-within : goal.returns-in-Kept-clause-within
+returns-in-Kept-clause-within g c = does_nothing (g.D.Folder.files c.args.folder.now) c.args.scenario.now c.in_ok-bytes.bytes.items c.as_slice.result.now c.in_ok-bytes.ensures.read c.as_slice.ensures.value c.ran-told.ensures.within
+
+pub returns-in_err-told-in-Failed-clause-within : goal.returns-in_err-told-in-Failed-clause-within
+returns-in_err-told-in-Failed-clause-within g c = does_nothing (g.D.Folder.files c.args.folder.now) c.args.scenario.now c.in_ok-bytes.bytes.items c.as_slice.result.now c.in_ok-bytes.ensures.read c.as_slice.ensures.value c.ran-told.ensures.within
+
+pub returns-in-Failed-clause-within : goal.returns-in-Failed-clause-within
+returns-in-Failed-clause-within g c = does_nothing (g.D.Folder.files c.args.folder.now) c.args.scenario.now c.in_ok-bytes.bytes.items c.as_slice.result.now c.in_ok-bytes.ensures.read c.as_slice.ensures.value c.ran-told.ensures.within
+
+pub returns-clause-within : goal.returns-clause-within
+returns-clause-within g c = does_nothing (g.D.Folder.files c.args.folder.now) c.args.scenario.now c.in_ok-bytes.bytes.items c.as_slice.result.now c.in_ok-bytes.ensures.read c.as_slice.ensures.value c.ran-told.ensures.within
