@@ -7,8 +7,6 @@ mod beginning;
 mod dues;
 mod limits;
 mod outlets;
-#[cfg(test)]
-mod tests;
 mod triggers;
 
 pub use agenda::{Agenda, Ready};

@@ -9,8 +9,6 @@ mod known;
 mod pairs;
 mod related;
 mod request;
-#[cfg(test)]
-mod tests;
 
 pub use data::data_content;
 pub use forms::{are_sources, are_wants};

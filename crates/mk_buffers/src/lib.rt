@@ -13,8 +13,6 @@ mod names;
 mod outlets;
 mod sets;
 mod sorted;
-#[cfg(test)]
-mod tests;
 
 pub use buffers::Buffers;
 pub use laws::buffers_stand;

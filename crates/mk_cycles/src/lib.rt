@@ -6,7 +6,5 @@ mod listed;
 mod places;
 mod ranking;
 mod table;
-#[cfg(test)]
-mod tests;
 
 pub use ranking::{CycleFault, Edge, ranks};

@@ -8,6 +8,3 @@ mod trees;
 pub use first::first_other;
 pub use messages::same_message;
 pub use trees::same_tree;
-
-#[cfg(test)]
-mod tests;

@@ -6,8 +6,6 @@ mod entities;
 mod fault;
 mod making;
 mod names;
-#[cfg(test)]
-mod tests;
 mod trees;
 
 pub use entities::{Entities, EntityInfo};

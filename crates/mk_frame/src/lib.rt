@@ -4,8 +4,6 @@
 mod feeder;
 mod header;
 mod laws;
-#[cfg(test)]
-mod tests;
 mod writing;
 
 pub use feeder::{Feeder, Framed};

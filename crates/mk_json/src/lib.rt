@@ -8,6 +8,3 @@ mod write;
 pub use data::{DatumFault, datum};
 pub use read::{JsonFault, read_json};
 pub use write::{put_json, put_text};
-
-#[cfg(test)]
-mod tests;

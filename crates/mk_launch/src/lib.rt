@@ -7,8 +7,6 @@ mod preparing;
 mod reader;
 mod starting;
 mod template;
-#[cfg(test)]
-mod tests;
 
 pub use faults::{LaunchFault, StartFault, Unready};
 pub use preparing::prepare;

@@ -5,7 +5,5 @@ mod entries;
 mod fields;
 mod parts;
 mod record;
-#[cfg(test)]
-mod tests;
 
 pub use record::write_record;

@@ -13,8 +13,6 @@ mod params;
 mod registry;
 mod sim;
 mod steps;
-#[cfg(test)]
-mod tests;
 mod trees;
 mod turn;
 

@@ -12,6 +12,3 @@ pub use groups::{inputs_bytes, wanted_bytes};
 pub use items::write_item;
 pub use reading::{ReadFault, read, read_tree};
 pub use writing::write;
-
-#[cfg(test)]
-mod tests;

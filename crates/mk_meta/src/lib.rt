@@ -4,8 +4,6 @@
 mod fault;
 mod meta;
 mod model;
-#[cfg(test)]
-mod tests;
 mod trees;
 
 pub use fault::MetaFault;

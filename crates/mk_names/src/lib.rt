@@ -4,7 +4,5 @@
 mod index;
 mod making;
 mod names;
-#[cfg(test)]
-mod tests;
 
 pub use index::Names;

@@ -4,7 +4,5 @@
 
 mod ordering;
 mod replaying;
-#[cfg(test)]
-mod tests;
 
 pub use replaying::{ReplayEnd, Replayed, replay, replay_is_one};

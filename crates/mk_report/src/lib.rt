@@ -6,8 +6,6 @@ mod parts;
 mod report;
 mod summary;
 mod tallies;
-#[cfg(test)]
-mod tests;
 
 pub use report::write_report;
 pub use summary::write_summary;

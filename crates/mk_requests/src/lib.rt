@@ -2,7 +2,5 @@
 #![tactic(auto)]
 
 mod numbers;
-#[cfg(test)]
-mod tests;
 
 pub use numbers::{Answered, Numbers};

@@ -12,6 +12,3 @@ mod saved;
 pub use faults::RecordFault;
 pub use read::read_record;
 pub use saved::{Arrival, Asked, Saved};
-
-#[cfg(test)]
-mod tests;

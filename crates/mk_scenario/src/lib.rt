@@ -13,8 +13,6 @@ mod read;
 mod references;
 mod sims;
 mod spelling;
-#[cfg(test)]
-mod tests;
 mod top;
 mod values;
 

@@ -9,8 +9,6 @@ mod faults;
 mod kept;
 mod marks;
 mod taking;
-#[cfg(test)]
-mod tests;
 
 pub use cores::Core;
 pub use faults::{CoreFault, Ended, Next, Taken};

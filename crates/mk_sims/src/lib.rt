@@ -3,8 +3,6 @@
 
 mod laws;
 mod sims;
-#[cfg(test)]
-mod tests;
 
 pub use laws::ends_of_turns;
 pub use sims::{Sim, Sims};

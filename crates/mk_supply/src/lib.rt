@@ -7,8 +7,6 @@ mod feeds;
 mod laws;
 mod outputs;
 mod stock;
-#[cfg(test)]
-mod tests;
 
 pub use laws::stock_stays;
 pub use outputs::Outputs;

@@ -3,8 +3,6 @@
 
 mod fault;
 mod read;
-#[cfg(test)]
-mod tests;
 
 pub use fault::TomlFault;
 pub use read::read_toml;

@@ -7,8 +7,6 @@ mod data;
 mod numbers;
 mod places;
 mod sorted;
-#[cfg(test)]
-mod tests;
 mod wants;
 
 pub use causes::wrong;

@@ -16,8 +16,6 @@ mod nesting;
 mod parts;
 mod ranks;
 mod references;
-#[cfg(test)]
-mod tests;
 
 use agreement::has_one_connection_each;
 use connections::{has_initial_values, has_kinds_of_connections};

@@ -5,8 +5,6 @@ mod arranged;
 mod number;
 mod reading;
 mod request;
-#[cfg(test)]
-mod tests;
 mod words;
 
 pub use request::{Command, Request};

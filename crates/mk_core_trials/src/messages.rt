@@ -1,0 +1,42 @@
+// Messages are copied whole.
+
+use mk_base::{Json, List, Mem, Text};
+use mk_plan::Message;
+use std::alloc::Global;
+use std::test::Fail;
+
+fn request(alloc: Global) -> Result<Message, Mem> {
+    let mut args = List::new(alloc);
+    args.push(Json::Whole(1))?;
+    Ok(Message::Ask {
+        id: 9,
+        name: Text::of(alloc, "get_data")?,
+        args,
+        named: Json::Null,
+    })
+}
+
+// Whether a message is a request with that id, that name and one argument.
+fn is_request(message: &Message) -> bool {
+    match message {
+        Message::Ask {
+            id,
+            name,
+            args,
+            named: _named,
+        } => *id == 9 && name.as_str() == "get_data" && args.len() == 1,
+        _ => false,
+    }
+}
+
+fn is_copied(alloc: Global) -> Result<bool, Mem> {
+    let request = request(alloc)?;
+    let copied = request.copy(alloc)?;
+    Ok(is_request(&copied))
+}
+
+#[test]
+fn messages_are_copied(rt: HostRuntime) -> Result<(), Fail> {
+    assert!(rt; is_copied(rt.alloc())?);
+    Ok(())
+}

@@ -1,0 +1,40 @@
+// Trees and data by their texts.
+ghost use Rattle.std.specs.Prelude.{◌≡◌, true};
+ghost use Rattle.mk_base.specs.Trees.{is_in_range};
+
+use mk_base::{Datum, Json, Mem};
+use mk_json::{datum, read_json};
+use std::alloc::{AllocFailed, Global};
+
+// The tree of a text; one that is no value where the text has none.
+pub fn tree_of(alloc: Global, text: &str) -> Json
+    ensures { is_in_range result ≡ true }
+{
+    match read_json(alloc, text.as_bytes()) {
+        Ok(tree) => tree,
+        Err(_) => Json::Odd,
+    }
+}
+
+// The datum of a text.
+pub fn datum_of(alloc: Global, text: &[u8]) -> Result<Datum, Mem> {
+    match read_json(alloc, text) {
+        Ok(tree) => match datum(alloc, &tree) {
+            Ok(datum) => Ok(datum),
+            Err(_) => Err(Mem),
+        },
+        Err(_) => Err(Mem),
+    }
+}
+
+// So many lists in one another.
+pub fn nested(alloc: Global, depth: usize) -> Result<Vec<u8>, AllocFailed<u8>> {
+    let mut text = Vec::new(alloc);
+    for _ in 0..depth {
+        text.push(b'[')?;
+    }
+    for _ in 0..depth {
+        text.push(b']')?;
+    }
+    Ok(text)
+}

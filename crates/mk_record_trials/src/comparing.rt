@@ -1,0 +1,56 @@
+// Records that differ from a journal, entry by entry.
+
+use crate::common::{PLAN, counter_journal};
+use mk_differs::first_other;
+use mk_saved::{Saved, read_record};
+use std::alloc::Global;
+use std::test::Fail;
+
+fn record(alloc: Global, lines: &str) -> Result<Saved, Fail> {
+    let text = format!(in alloc; "mosaikrun 2\n{PLAN}{lines}")?;
+    Ok(read_record(alloc, text.as_bytes())?)
+}
+
+// Where a record with these lines after its plan differs from the journal of a counter's three steps.
+fn place_of(alloc: Global, lines: &str) -> Result<Option<u32>, Fail> {
+    let saved = record(alloc, lines)?;
+    let journal = counter_journal(alloc)?;
+    Ok(first_other(&saved, &journal))
+}
+
+const CASES: [(&str, Option<u32>); 8] = [
+    (
+        "ask [0,0,0,3]\ngot [0,[1,3,1]]\nask [0,1,0,3]\ngot [0,[1,4,2]]\nask [0,2,0,3]\ngot [0,[1,5,3]]\nend 6\n",
+        None,
+    ),
+    (
+        "ask [0,0,0,2]\ngot [0,[1,3,1]]\nask [0,1,0,3]\ngot [0,[1,4,2]]\nask [0,2,0,3]\ngot [0,[1,5,3]]\nend 6\n",
+        Some(0),
+    ),
+    (
+        "ask [0,0,0,3]\ngot [0,[1,3,1]]\ngot [0,[1,4,2]]\nask [0,2,0,3]\ngot [0,[1,5,3]]\nend 5\n",
+        Some(2),
+    ),
+    (
+        "ask [0,0,0,3]\ngot [0,[1,3,1]]\nask [0,1,1,3]\nend 3\n",
+        Some(2),
+    ),
+    (
+        "ask [0,0,0,3]\ngot [0,[1,3,{\"a\":[1,null]}]]\nend 2\n",
+        Some(1),
+    ),
+    ("ask [0,0,0,3]\ngot [0,[1,3,1]]\nend 2\n", None),
+    (
+        "ask [0,0,0,3]\ngot [0,[1,3,1]]\nask [0,1,0,3]\ngot [0,[1,4,2]]\nask [0,2,0,3]\ngot [0,[1,5,3]]\nask [0,2,0,3]\nend 7\n",
+        Some(6),
+    ),
+    ("end 0\n", None),
+];
+
+#[test]
+fn the_first_entry_that_differs(rt: HostRuntime) -> Result<(), Fail> {
+    for (lines, place) in &CASES {
+        assert_eq!(rt; place_of(rt.alloc(), lines)?, *place);
+    }
+    Ok(())
+}

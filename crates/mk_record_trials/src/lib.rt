@@ -1,0 +1,16 @@
+//! Records, reports and replays: what a record's text says and how it is written, where it differs from a journal, and how its
+//! replay ends. The crate has tests alone.
+#![tactic(auto)]
+
+#[cfg(test)]
+mod common;
+#[cfg(test)]
+mod comparing;
+#[cfg(test)]
+mod records;
+#[cfg(test)]
+mod replays;
+#[cfg(test)]
+mod reports;
+#[cfg(test)]
+mod writing;
