@@ -10,8 +10,8 @@ use Rattle.mk_cycles.specs.Orders.{IsNext, IsOrder, IsRanking, MayFollow}
 use Rattle.mk_cycles.specs.Outcomes.{numbers}
 use Rattle.mk_cycles.proofs.Chains.{get_take, split_at}
 use Rattle.mk_cycles.proofs.Loops.{reached_left}
+use Rattle.mk_keys.specs.declared.fault.ScenarioFault.{ScenarioFault}
 use Rattle.mk_scenario.specs.declared.parts.Scenario as parts
-use Rattle.mk_scenario.specs.declared.fault.ScenarioFault.{ScenarioFault}
 use Rattle.mk_scenario.specs.Scenarios.{scenario_of}
 use Rattle.mk_connect.specs.Edges.{edges_of}
 use Rattle.mk_endings.specs.declared.ending.Ending.{Ending}

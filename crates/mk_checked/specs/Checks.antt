@@ -1,7 +1,7 @@
 -- What `check` finds of a scenario file's bytes, the kinds of simulators within the program having certain names.
 use Rattle.std.specs.Prelude.{◌≡◌, ◌⊎◌, ℕ, List, Result, Ok, Err}
+use Rattle.mk_keys.specs.declared.fault.ScenarioFault.{ScenarioFault}
 use Rattle.mk_scenario.specs.declared.parts.Scenario.{Scenario}
-use Rattle.mk_scenario.specs.declared.fault.ScenarioFault.{ScenarioFault}
 use Rattle.mk_scenario.specs.Scenarios.{scenario_of}
 use Rattle.mk_launch.specs.Ready.{IsPrepared}
 use Rattle.mk_endings.specs.declared.ending.Ending.{Ending}

@@ -6,8 +6,8 @@ use Rattle.mk_base.specs.declared.json.Json.{Json}
 use Rattle.mk_base.specs.Lists.{Each, same_text, value_under}
 use Rattle.mk_base.specs.Trees.{is_datum, is_in_range, member, members_in}
 use Rattle.mk_base.proofs.Lists.{none_some, some_same}
-use Rattle.mk_scenario.specs.Wellformed.{IsObjectOfData}
-use Rattle.mk_scenario.proofs.Ranges.{InRange, under_range}
+use Rattle.mk_keys.specs.Keys.{IsObjectOfData}
+use Rattle.mk_keys.proofs.Ranges.{InRange, under_range}
 
 value_is_datum : (ms : List (List ℕ × Json)) (name : List ℕ) (v : Json) → Each (λ (m : List ℕ × Json). IsTrue (is_datum m.1)) ms → value_under name ms ≡ Some v → is_datum v ≡ true
 value_is_datum [] name v all is = absurd (none_some is)

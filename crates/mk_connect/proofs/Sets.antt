@@ -7,7 +7,7 @@ use Rattle.std.proofs.lemmas.List.Folds.{list_any-append}
 use Rattle.std.proofs.lemmas.Map.Text.{hash_set_updates_text}
 use Rattle.indexmap.specs.IndexSet.{IndexSet, contains_text, UpdatesBy}
 use Rattle.mk_base.specs.Lists.{same_text}
-use Rattle.mk_scenario.specs.Keys.{is_among}
+use Rattle.mk_keys.specs.Keys.{is_among}
 use Rattle.mk_connect.specs.TextSets.{HasMore, HasTexts}
 
 either : (b x : Bool) → cond b true x ≡ x || b

@@ -4,10 +4,10 @@ use Rattle.std.specs.List.{find}
 use Rattle.mk_base.specs.Lists.{same_text}
 use Rattle.mk_meta.specs.declared.meta.ModelMeta.{ModelMeta}
 use Rattle.mk_meta.specs.declared.meta.Meta.{Meta}
+use Rattle.mk_keys.specs.Keys.{first_unknown}
 use Rattle.mk_scenario.specs.declared.parts.SimPart.{SimPart}
 use Rattle.mk_scenario.specs.declared.parts.Group.{Group}
 use Rattle.mk_scenario.specs.declared.parts.Scenario.{Scenario}
-use Rattle.mk_scenario.specs.Keys.{first_unknown}
 use Rattle.mk_connect.specs.declared.fault.ConnectFault.{ConnectFault}
 use Rattle.mk_connect.specs.declared.fault.ConnectFault.TheVariants.{NotPublic, UnknownParam}
 

@@ -7,7 +7,7 @@ use Rattle.mk_base.specs.Lists.{same_text}
 use Rattle.mk_plan.specs.declared.PlanModel.{PlanModel}
 use Rattle.mk_meta.specs.declared.meta.ModelMeta.{ModelMeta}
 use Rattle.mk_meta.specs.declared.meta.Meta.{Meta}
-use Rattle.mk_scenario.specs.Keys.{is_among}
+use Rattle.mk_keys.specs.Keys.{is_among}
 use Rattle.mk_entities.specs.declared.entities.EntityInfo.{EntityInfo}
 use Rattle.mk_connect.specs.declared.models.SimModel.{SimModel}
 

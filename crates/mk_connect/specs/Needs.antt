@@ -1,10 +1,10 @@
 -- What is asked of blocks, and what is sure of a plan's connections.
 use Rattle.std.specs.Prelude.{◌≡◌, ℕ, ◌<◌, ⊤, AllPairs}
 use Rattle.mk_plan.specs.declared.Plan.{Plan}
+use Rattle.mk_keys.specs.Keys.{IsObjectOfData}
 use Rattle.mk_scenario.specs.declared.parts.Block.{Block}
 use Rattle.mk_scenario.specs.declared.parts.Place.{Place}
 use Rattle.mk_scenario.specs.declared.parts.Place.TheVariants.{Whole, One, Full}
-use Rattle.mk_scenario.specs.Wellformed.{IsObjectOfData}
 
 -- a place of one of so many groups
 abbrev pub HasGroup : ℕ → Place → Type 0

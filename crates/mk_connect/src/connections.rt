@@ -3,7 +3,7 @@ ghost use Rattle.std.specs.Prelude.{◌≡◌, ◌++◌, ◌∷◌, [], Ok, None
 ghost use Rattle.mk_base.specs.Trees.{is_datum, is_in_range};
 ghost use Rattle.mk_base.specs.Lists.{Each};
 ghost use Rattle.mk_base.specs.Texts.{text_of};
-ghost use Rattle.mk_scenario.specs.Wellformed.{IsObjectOfData};
+ghost use Rattle.mk_keys.specs.Keys.{IsObjectOfData};
 ghost use Rattle.mk_connect.specs.Connections.{attrs_fault, block_made, block_pairs, conn_between, conn_fault, connected, conns_made, has_initial, initial_text, pair_made};
 ghost use Rattle.mk_connect.specs.Ends.{full_id};
 ghost use Rattle.mk_connect.specs.Faults.{IsFaultOf, through};

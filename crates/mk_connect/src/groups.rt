@@ -1,9 +1,9 @@
 //! The test of a group, before its entities are created.
 ghost use Rattle.std.specs.Prelude.{◌≡◌, ℕ, List, map, ◌⊎◌, ◌<◌, None, length, OnOk, IfOk, IfErr, option_map, not};
 ghost use Rattle.std.specs.List.{find};
+ghost use Rattle.mk_keys.specs.Keys.{first_unknown, is_among};
 ghost use Rattle.mk_scenario.specs.Wellformed.{IsWellformed};
 ghost use Rattle.mk_base.specs.declared.json.Json.{Json};
-ghost use Rattle.mk_scenario.specs.Keys.{first_unknown, is_among};
 ghost use Rattle.mk_connect.specs.Groups.{fault_of_group, group_fault, id_of_sim, model_fault, model_named, param_fault};
 
 use crate::fault::ConnectFault;

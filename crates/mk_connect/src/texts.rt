@@ -1,6 +1,6 @@
 //! Texts in order, among which a text is looked up without going through them.
 ghost use Rattle.std.specs.Prelude.{◌≡◌, ◌++◌, ◌∷◌, [], OnOk, IfOk};
-ghost use Rattle.mk_scenario.specs.Keys.{is_among};
+ghost use Rattle.mk_keys.specs.Keys.{is_among};
 ghost use Rattle.mk_connect.specs.TextSets.{HasMore};
 
 use indexmap::IndexSet;

@@ -1,8 +1,8 @@
 -- What is said of a file that is no scenario.
 use Rattle.std.specs.Prelude.{ℕ, List, ◌++◌, codes}
 use Rattle.std.specs.Fmt.{decimal}
-use Rattle.mk_scenario.specs.declared.fault.ScenarioFault.{ScenarioFault}
-use Rattle.mk_scenario.specs.declared.fault.ScenarioFault.TheVariants.{NotToml, Missing, WrongKind, UnknownKey, OutOfRange, UnknownSim, UnknownGroup, TwoKinds, Uneven, Taken, Mem}
+use Rattle.mk_keys.specs.declared.fault.ScenarioFault.{ScenarioFault}
+use Rattle.mk_keys.specs.declared.fault.ScenarioFault.TheVariants.{NotToml, Missing, WrongKind, UnknownKey, OutOfRange, UnknownSim, UnknownGroup, TwoKinds, Uneven, Taken, Mem}
 
 abbrev pub text_of_scenario : ScenarioFault → List ℕ
 text_of_scenario NotToml = codes "scenario 1: not TOML"

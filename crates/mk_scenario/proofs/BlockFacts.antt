@@ -1,5 +1,5 @@
 -- What is known of blocks that are read.
-use Rattle.std.proofs.Common.{◌≡◌, ℕ, ◌<◌, ◌≤◌, Bool, true, false, ◌&&◌, ◌||◌, List, [], map, length, Option, Some, None, is_some, IfSome, nat_lt, ◌==◌, Ok, refl, subst, sym, codes, if◌then◌else◌}
+use Rattle.std.proofs.Common.{◌≡◌, ℕ, ◌<◌, ◌≤◌, Bool, true, false, ◌&&◌, ◌||◌, List, [], map, length, Option, Some, None, is_some, IfSome, nat_lt, ◌==◌, Ok, refl, subst, sym, ◌∙◌, codes, if◌then◌else◌}
 use Rattle.std.specs.List.{before_first, after_first}
 use Rattle.std.proofs.lemmas.List.{length-map}
 use Rattle.mk_base.specs.declared.json.Json.{Json}
@@ -8,13 +8,18 @@ use Rattle.mk_base.specs.declared.tier.Via.TheVariants.{Plain}
 use Rattle.mk_base.specs.Lists.{IsIn, Each}
 use Rattle.mk_base.specs.Tiers.{HasWidth}
 use Rattle.mk_base.specs.Trees.{member}
-use Rattle.mk_scenario.specs.Spelling.{spelled}
-use Rattle.mk_scenario.specs.Tests.{found, key_in}
-use Rattle.mk_scenario.specs.Keys.{required, optional, first_unknown, is_among, members_of, text, truth, some_width, values}
+use Rattle.mk_keys.specs.Spelling.{spelled}
+use Rattle.mk_keys.specs.Tests.{found, key_in}
+use Rattle.mk_keys.specs.Keys.{required, optional, first_unknown, is_among, members_of, text, truth, some_width, values}
+use Rattle.mk_keys.specs.Known.{block_keys}
+use Rattle.mk_keys.specs.declared.fault.ScenarioFault.TheVariants.{UnknownKey, UnknownGroup, OutOfRange, TwoKinds, Uneven}
+use Rattle.mk_keys.proofs.Passing.{ok_same, passed_ok, held_ok, no_text_ok, found_ok, and_then_some, none_found}
+use Rattle.mk_keys.proofs.KeyFacts.{left_out_values, left_out_width}
+use Rattle.mk_keys.proofs.Ranges.{InRange, under_range}
 use Rattle.mk_scenario.specs.Groups.{sim_of_id}
 use Rattle.mk_scenario.specs.Places.{place_in}
 use Rattle.mk_scenario.specs.References.{has_byte, ends_with, but_last, full_id, group_ids, group_of_id, num_at, index_below, indexed, whole, place_of, size_of}
-use Rattle.mk_scenario.specs.Blocks.{block_keys, pairs, via_of, at_most_one, first_unfed, initial_fits, sides_pair, manner_said, block_said, block_made, block_at}
+use Rattle.mk_scenario.specs.Blocks.{pairs, via_of, at_most_one, first_unfed, initial_fits, sides_pair, manner_said, block_said, block_fits, block_made, block_at}
 use Rattle.mk_scenario.specs.Wellformed.{IsPlace, IsWellformedBlock}
 use Rattle.mk_scenario.specs.declared.parts.Group.{Group}
 use Rattle.mk_scenario.specs.declared.parts.Place.{Place}
@@ -23,10 +28,6 @@ use Rattle.mk_scenario.specs.declared.parts.AttrPair.{AttrPair}
 use Rattle.mk_scenario.specs.declared.parts.Block.{Block}
 use Rattle.mk_scenario.specs.declared.blocks.Manner.{Manner}
 use Rattle.mk_scenario.specs.declared.blocks.BlockSaid.{BlockSaid}
-use Rattle.mk_scenario.specs.declared.fault.ScenarioFault.TheVariants.{UnknownKey, UnknownGroup, OutOfRange, TwoKinds, Uneven}
-use Rattle.mk_scenario.proofs.Passing.{ok_same, passed_ok, held_ok, no_text_ok, found_ok, and_then_some, none_found}
-use Rattle.mk_scenario.proofs.KeyFacts.{left_out_values, left_out_width}
-use Rattle.mk_scenario.proofs.Ranges.{InRange, under_range}
 use Rattle.mk_scenario.proofs.ListFacts.{empty_is, each_of_map, each_then, among_in}
 use Rattle.mk_scenario.proofs.GroupFacts.{below_chosen, place_ok, sim_of_ok}
 
@@ -108,13 +109,15 @@ block_ok sims groups path table b all e =
     let made = subst (λ (m : Manner). block_made sims groups path (record { from = from_text.0; to = to_text.0; attrs = attrs.0; manner = m; initial = initial.0 }) ≡ Ok b) (sym manner_is) said_so in
     let from = passed_ok (place_of sims groups (key_in path (codes "from")) from_text.0) _ _ made in
     let to = passed_ok (place_of sims groups (key_in path (codes "to")) to_text.0) _ _ from.2 in
-    let kind = held_ok (TwoKinds path) (at_most_one (is_some width.0) weak.0 asks.0) _ _ to.2 in
+    let words : BlockSaid = record { from = from_text.0; to = to_text.0; attrs = attrs.0; manner = record { width = width.0; weak = weak.0; asks = asks.0 }; initial = initial.0 } in
+    let fit = passed_ok (block_fits groups path words from.0 to.0) _ _ to.2 in
+    let kind = held_ok (TwoKinds path) (at_most_one (is_some width.0) weak.0 asks.0) _ _ fit.1 in
     let fits = passed_ok (initial_fits (key_in path (codes "initial_data")) (is_some width.0 || weak.0) attrs.0 initial.0) _ _ kind.1 in
     let delayed = held_ok (UnknownKey (key_in path (codes "initial_data"))) (is_some width.0 || weak.0 || length (members_of initial.0) == 0) _ _ fits.1 in
     let fed = no_text_ok (λ key. UnknownKey (key_in (key_in path (codes "initial_data")) key)) (first_unfed attrs.0 initial.0) _ _ delayed.1 in
-    let same = ok_same initial.0 fits.0 fed.1 in
     let sides = held_ok (Uneven path (size_of groups from.0) (size_of groups to.0)) (sides_pair (size_of groups from.0) (size_of groups to.0)) _ _ fits.2 in
-    subst (IsWellformedBlock (length sims) groups) (ok_same _ b sides.1) (subst (λ (i : Json). IsWellformedBlock (length sims) groups (record { from = from.0; to = to.0; attrs = attrs.0; via = via_of width.0 weak.0; async_requests = asks.0; initial = i })) same (record {
+    let same = ok_same initial.0 fits.0 fed.1 ∙ ok_same fits.0 fit.0 sides.1 in
+    subst (IsWellformedBlock (length sims) groups) (ok_same _ b fit.2) (subst (λ (i : Json). IsWellformedBlock (length sims) groups (record { from = from.0; to = to.0; attrs = attrs.0; via = via_of width.0 weak.0; async_requests = asks.0; initial = i })) same (record {
       from = place_of_ok sims groups (key_in path (codes "from")) from_text.0 from.0 from.1;
       to = place_of_ok sims groups (key_in path (codes "to")) to_text.0 to.0 to.1;
       sides = sides.0;

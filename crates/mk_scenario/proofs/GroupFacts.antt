@@ -8,21 +8,21 @@ use Rattle.mk_base.specs.declared.SimNo.{SimNo}
 use Rattle.mk_base.specs.Lists.{Each, same_text}
 use Rattle.mk_base.specs.Trees.{member}
 use Rattle.mk_base.proofs.Lists.{some_same, in_each, at_in, filter_map_in, passes_some}
-use Rattle.mk_scenario.specs.Tests.{key_in, item_in, each_after}
-use Rattle.mk_scenario.specs.Keys.{required, optional, first_unknown, is_among, count_within, text, name, values}
+use Rattle.mk_keys.specs.Tests.{key_in, item_in, each_after}
+use Rattle.mk_keys.specs.Keys.{required, optional, first_unknown, is_among, count_within, text, name, values}
+use Rattle.mk_keys.specs.Known.{group_keys}
+use Rattle.mk_keys.specs.declared.fault.ScenarioFault.{ScenarioFault}
+use Rattle.mk_keys.specs.declared.fault.ScenarioFault.TheVariants.{UnknownKey, UnknownSim, Taken}
+use Rattle.mk_keys.proofs.Passing.{ok_same, passed_ok, held_ok, no_text_ok, found_ok, chosen_some, each_gives_where, each_at_ok}
+use Rattle.mk_keys.proofs.Ranges.{InRange, under_range}
+use Rattle.mk_keys.proofs.KeyFacts.{left_out_values, left_out_count, text_under, name_under}
 use Rattle.mk_scenario.specs.Sims.{texts_under}
-use Rattle.mk_scenario.specs.Groups.{group_keys, sim_of_id, group_said, group_made, group_at, group_in}
+use Rattle.mk_scenario.specs.Groups.{sim_of_id, group_said, said_sim, group_made, group_after, group_in}
 use Rattle.mk_scenario.specs.Places.{place_in}
 use Rattle.mk_scenario.specs.declared.groups.GroupSaid.{GroupSaid}
 use Rattle.mk_scenario.specs.Wellformed.{IsWellformedGroup}
 use Rattle.mk_scenario.specs.declared.parts.Group.{Group}
-use Rattle.mk_scenario.specs.declared.fault.ScenarioFault.{ScenarioFault}
-use Rattle.mk_scenario.specs.declared.fault.ScenarioFault.TheVariants.{UnknownKey, UnknownSim, Taken}
-use Rattle.mk_scenario.proofs.Passing.{ok_same, passed_ok, held_ok, no_text_ok, found_ok, chosen_some, each_gives_where, each_at_ok}
-use Rattle.mk_scenario.proofs.Ranges.{InRange, under_range}
-use Rattle.mk_scenario.proofs.KeyFacts.{left_out_values, left_out_count}
 use Rattle.mk_scenario.proofs.ListFacts.{is_same, get_taken, get_default}
-use Rattle.mk_scenario.proofs.KeyFacts.{text_under, name_under}
 
 pub below_chosen : (n most i : ℕ) → (if nat_lt n most then Some n else None) ≡ Some i → i < most
 below_chosen n most i e = let t = chosen_some (nat_lt n most) n i e in subst (λ k. k < most) t.1 (ltb-true n most t.0)
@@ -42,7 +42,7 @@ sim_of_ok ids path id s e = at (place_in ids id) refl (found_ok (UnknownSim path
 IsGroupOf : ℕ → List Json → Json → Group → Type 0
 IsGroupOf sims earlier table g = IsWellformedGroup sims g × (text_under (codes "id") table ≡ Some g.id) × (is_among (texts_under (codes "id") earlier) g.id ≡ false)
 
-group_ok : (ids : List (List ℕ)) (path : List ℕ) (earlier : List Json) (table : Json) (g : Group) → InRange table → group_at ids path earlier table ≡ Ok g → IsGroupOf (length ids) earlier table g
+group_ok : (ids : List (List ℕ)) (path : List ℕ) (earlier : List Json) (table : Json) (g : Group) → InRange table → group_after ids (texts_under (codes "id") earlier) path table ≡ Ok g → IsGroupOf (length ids) earlier table g
 unfolding IsGroupOf
 group_ok ids path earlier table g all e =
     let taken = texts_under (codes "id") earlier in
@@ -55,13 +55,14 @@ group_ok ids path earlier table g all e =
     let params = passed_ok (optional (tree.Object []) (key_in path (codes "params")) values (member (codes "params") table)) _ _ num.2 in
     let said_is = ok_same (record { id = id.0; sim = sim.0; model = model.0; num = num.0; params = params.0 }) said.0 params.2 in
     let made = subst (λ (s : GroupSaid). group_made ids taken path s ≡ Ok g) (sym said_is) said.2 in
-    let free = held_ok (Taken id.0) (not (is_among taken id.0)) _ _ made in
-    let found = passed_ok (sim_of_id ids (key_in path (codes "sim")) sim.0) _ _ free.1 in
+    let words : GroupSaid = record { id = id.0; sim = sim.0; model = model.0; num = num.0; params = params.0 } in
+    let found = passed_ok (said_sim ids taken path words) _ _ made in
+    let free = held_ok (Taken id.0) (not (is_among taken id.0)) _ _ found.1 in
     let id_is = name_under (codes "id") (key_in path (codes "id")) table id.0 id.1 in
     subst (IsGroupOf (length ids) earlier table) (ok_same _ g found.2) (
       record {
         id = id_is.1;
-        sim = sim_of_ok ids (key_in path (codes "sim")) sim.0 found.0 found.1;
+        sim = sim_of_ok ids (key_in path (codes "sim")) sim.0 found.0 free.1;
         num = left_out_count 1 1 10000 (key_in path (codes "num")) (member (codes "num") table) num.0 num.1 (omega arith, omega arith);
         params = left_out_values (key_in path (codes "params")) (member (codes "params") table) params.0 (under_range table (codes "params") all) params.1;
       },

@@ -1,13 +1,8 @@
-pub mod Ranges
 pub mod Referring
 pub mod Earlier
 pub mod Placing
-pub mod Gathering
-pub mod Numbers
 pub mod Naming
-pub mod Passing
 pub mod ListFacts
-pub mod KeyFacts
 pub mod SimFacts
 pub mod GroupFacts
 pub mod BlockFacts

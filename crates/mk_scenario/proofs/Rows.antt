@@ -4,13 +4,13 @@ use Rattle.mk_base.specs.declared.tier.Via.TheVariants.{Weak}
 use Rattle.mk_base.specs.declared.json.Json.{Json}
 use Rattle.mk_base.specs.declared.json.Json as tree
 use Rattle.mk_base.proofs.OnTrees.{trees_compute}
+use Rattle.mk_keys.specs.declared.fault.ScenarioFault.TheVariants.{Missing, WrongKind, UnknownKey, OutOfRange, UnknownSim, UnknownGroup, TwoKinds, Uneven, Taken}
 use Rattle.mk_scenario.specs.References.{place_of}
 use Rattle.mk_scenario.specs.Blocks.{block_at}
 use Rattle.mk_scenario.specs.Scenarios.{scenario_in}
 use Rattle.mk_scenario.specs.declared.parts.Begin.TheVariants.{Command, Connect}
 use Rattle.mk_scenario.specs.declared.parts.Place.TheVariants.{Whole, Full}
 use Rattle.mk_scenario.specs.declared.parts.Scenario.{Scenario}
-use Rattle.mk_scenario.specs.declared.fault.ScenarioFault.TheVariants.{Missing, WrongKind, UnknownKey, OutOfRange, UnknownSim, UnknownGroup, TwoKinds, Uneven, Taken}
 
 -- a member of a table
 abbrev number : List ℕ → ℕ → List ℕ × Json

@@ -6,22 +6,22 @@ use Rattle.mk_base.specs.declared.json.Json as tree
 use Rattle.mk_base.specs.Lists.{Each}
 use Rattle.mk_base.specs.Trees.{member}
 use Rattle.mk_base.proofs.Lists.{some_same, each_in, in_each, in_at, at_in, in_filter_map}
-use Rattle.mk_scenario.specs.Spelling.{is_name}
-use Rattle.mk_scenario.specs.Tests.{key_in, item_in, each_after}
-use Rattle.mk_scenario.specs.Keys.{required, optional, first_unknown, wholes_within, name, some_text, some_port, values}
-use Rattle.mk_scenario.specs.Sims.{sim_keys, texts_under, sim_id, begin_of, sim_at, sim_in}
+use Rattle.mk_keys.specs.Spelling.{is_name}
+use Rattle.mk_keys.specs.Tests.{key_in, item_in, each_after}
+use Rattle.mk_keys.specs.Keys.{required, optional, first_unknown, wholes_within, name, some_text, some_port, values}
+use Rattle.mk_keys.specs.Known.{sim_keys}
+use Rattle.mk_keys.specs.declared.fault.ScenarioFault.{ScenarioFault}
+use Rattle.mk_keys.specs.declared.fault.ScenarioFault.TheVariants.{UnknownKey}
+use Rattle.mk_keys.proofs.Passing.{ok_same, passed_ok, held_ok, no_text_ok, each_gives_where, each_at_ok, each_item_ok}
+use Rattle.mk_keys.proofs.Ranges.{InRange, under_range}
+use Rattle.mk_keys.proofs.KeyFacts.{left_out_port, left_out_values, left_out_wholes, text_under, name_under}
+use Rattle.mk_scenario.specs.Sims.{texts_under, sim_id, begin_of, own_params, sim_at, sim_in}
 use Rattle.mk_scenario.specs.Scenarios.{ids_of}
 use Rattle.mk_scenario.specs.Wellformed.{AreIdsOf, HasPort, IsWellformedSim}
 use Rattle.mk_scenario.specs.declared.parts.Begin.{Begin}
 use Rattle.mk_scenario.specs.declared.parts.Begin.TheVariants.{Command, Connect, Local}
 use Rattle.mk_scenario.specs.declared.parts.SimPart.{SimPart}
-use Rattle.mk_scenario.specs.declared.fault.ScenarioFault.{ScenarioFault}
-use Rattle.mk_scenario.specs.declared.fault.ScenarioFault.TheVariants.{UnknownKey}
-use Rattle.mk_scenario.proofs.Passing.{ok_same, passed_ok, held_ok, no_text_ok, each_gives_where, each_at_ok, each_item_ok}
-use Rattle.mk_scenario.proofs.Ranges.{InRange, under_range}
-use Rattle.mk_scenario.proofs.KeyFacts.{left_out_port, left_out_values, left_out_wholes}
 use Rattle.mk_scenario.proofs.ListFacts.{all_kept, none_there, get_map, none_also}
-use Rattle.mk_scenario.proofs.KeyFacts.{text_under, name_under}
 
 begin_ok : (path : List ℕ) (command : Option (List ℕ)) (connect : Option ℕ) (kind : Option (List ℕ)) (begin : Begin) → begin_of path command connect kind ≡ Ok begin → IfSome connect (λ port. (1 ≤ port) × (port ≤ 65535)) → HasPort begin
 begin_ok path (Some c) None None begin e p = subst HasPort (ok_same (Command c) begin e) tt
@@ -48,9 +48,10 @@ sim_ok path earlier table s all e =
     let params = passed_ok (optional (tree.Object []) (key_in path (codes "params")) values (member (codes "params") table)) _ _ kind.2 in
     let initial = passed_ok (optional [] (key_in path (codes "initial_events")) (wholes_within (pos 0) (pos 1000000000)) (member (codes "initial_events") table)) _ _ params.2 in
     let begin = passed_ok (begin_of path command.0 connect.0 kind.0) _ _ initial.2 in
-    let resolution = held_ok (UnknownKey (key_in (key_in path (codes "params")) (codes "time_resolution"))) (not (is_some (member (codes "time_resolution") params.0))) _ _ begin.2 in
+    let own = passed_ok (own_params path params.0) _ _ begin.2 in
+    let resolution = held_ok (UnknownKey (key_in (key_in path (codes "params")) (codes "time_resolution"))) (not (is_some (member (codes "time_resolution") params.0))) _ _ own.1 in
     let name_is = name_under (codes "name") (key_in path (codes "name")) table named.0 named.1 in
-    subst (IsSimOf earlier table) (ok_same _ s resolution.1) (
+    subst (IsSimOf earlier table) (ok_same _ s own.2) (
       record {
         port = begin_ok path command.0 connect.0 kind.0 begin.0 begin.1 (left_out_port (key_in path (codes "connect")) (member (codes "connect") table) connect.0 connect.1);
         params = left_out_values (key_in path (codes "params")) (member (codes "params") table) params.0 (under_range table (codes "params") all) params.1;

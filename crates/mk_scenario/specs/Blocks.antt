@@ -5,8 +5,11 @@ use Rattle.mk_base.specs.declared.json.Json as tree
 use Rattle.mk_base.specs.declared.tier.Via.{Via}
 use Rattle.mk_base.specs.declared.tier.Via.TheVariants.{Plain, Shift, Weak}
 use Rattle.mk_base.specs.Trees.{text_in, member}
-use Rattle.mk_scenario.specs.Tests.{passed, held, no_text, found, each_at, key_in, item_in}
-use Rattle.mk_scenario.specs.Keys.{required, optional, members_of, first_unknown, truth, some_width, text, items, values}
+use Rattle.mk_keys.specs.Known.{block_keys}
+use Rattle.mk_keys.specs.Tests.{passed, held, no_text, found, each_at, key_in, item_in}
+use Rattle.mk_keys.specs.Keys.{required, optional, members_of, first_unknown, truth, some_width, text, items, values}
+use Rattle.mk_keys.specs.declared.fault.ScenarioFault.{ScenarioFault}
+use Rattle.mk_keys.specs.declared.fault.ScenarioFault.TheVariants.{WrongKind, UnknownKey, TwoKinds, Uneven}
 use Rattle.mk_scenario.specs.References.{place_of, size_of}
 use Rattle.mk_scenario.specs.declared.parts.AttrPair.{AttrPair}
 use Rattle.mk_scenario.specs.declared.parts.Group.{Group}
@@ -14,11 +17,6 @@ use Rattle.mk_scenario.specs.declared.parts.Place.{Place}
 use Rattle.mk_scenario.specs.declared.parts.Block.{Block}
 use Rattle.mk_scenario.specs.declared.blocks.BlockSaid.{BlockSaid}
 use Rattle.mk_scenario.specs.declared.blocks.Manner.{Manner}
-use Rattle.mk_scenario.specs.declared.fault.ScenarioFault.{ScenarioFault}
-use Rattle.mk_scenario.specs.declared.fault.ScenarioFault.TheVariants.{WrongKind, UnknownKey, TwoKinds, Uneven}
-
-abbrev pub block_keys : List (List ℕ)
-block_keys = codes "from" ∷ codes "to" ∷ codes "attrs" ∷ codes "time_shifted" ∷ codes "weak" ∷ codes "async_requests" ∷ codes "initial_data" ∷ []
 
 -- two texts are the names on either side
 abbrev pub two_names : Option (List ℕ) → Option (List ℕ) → Option AttrPair
@@ -91,13 +89,19 @@ block_said path table =
     passed (optional (tree.Object []) (key_in path (codes "initial_data")) values (member (codes "initial_data") table)) (λ initial.
     Ok (record { from = from; to = to; attrs = attrs; manner = manner; initial = initial })))))))
 
--- the block that a table of this path says, between these places
-abbrev pub block_between : List Group → List ℕ → BlockSaid → Place → Place → Result Block ScenarioFault
-block_between groups path said from to =
+-- the initial values of the block that a table of this path says, which fits between these places
+abbrev pub block_fits : List Group → List ℕ → BlockSaid → Place → Place → Result Json ScenarioFault
+block_fits groups path said from to =
     held (TwoKinds path) (at_most_one (is_some said.manner.width) said.manner.weak said.manner.asks) (
     passed (initial_fits (key_in path (codes "initial_data")) (is_some said.manner.width || said.manner.weak) said.attrs said.initial) (λ initial.
     held (Uneven path (size_of groups from) (size_of groups to)) (sides_pair (size_of groups from) (size_of groups to)) (
-    Ok (record { from = from; to = to; attrs = said.attrs; via = via_of said.manner.width said.manner.weak; async_requests = said.manner.asks; initial = initial }))))
+    Ok initial)))
+
+-- the block that a table of this path says, between these places
+abbrev pub block_between : List Group → List ℕ → BlockSaid → Place → Place → Result Block ScenarioFault
+block_between groups path said from to =
+    passed (block_fits groups path said from to) (λ initial.
+    Ok (record { from = from; to = to; attrs = said.attrs; via = via_of said.manner.width said.manner.weak; async_requests = said.manner.asks; initial = initial }))
 
 -- the block that a table of this path says
 abbrev pub block_made : List (List ℕ) → List Group → List ℕ → BlockSaid → Result Block ScenarioFault

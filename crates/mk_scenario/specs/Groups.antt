@@ -1,20 +1,18 @@
 -- An `entities` table: a group.
-use Rattle.std.specs.Prelude.{ℕ, not, List, [], ◌∷◌, codes, Option, option_map, option_and_then, Result, Ok}
+use Rattle.std.specs.Prelude.{ℕ, not, List, [], codes, Option, option_map, option_and_then, Result, Ok}
 use Rattle.mk_base.specs.declared.json.Json.{Json}
 use Rattle.mk_base.specs.declared.json.Json as tree
 use Rattle.mk_base.specs.declared.SimNo.{SimNo}
 use Rattle.mk_base.specs.Trees.{text_in, member}
-use Rattle.mk_scenario.specs.Tests.{passed, held, no_text, found, key_in, item_in}
-use Rattle.mk_scenario.specs.Keys.{required, optional, first_unknown, is_among, count_within, text, name, values}
+use Rattle.mk_keys.specs.Known.{group_keys}
+use Rattle.mk_keys.specs.Tests.{passed, held, no_text, found, key_in, item_in}
+use Rattle.mk_keys.specs.Keys.{required, optional, first_unknown, is_among, count_within, text, name, values}
+use Rattle.mk_keys.specs.declared.fault.ScenarioFault.{ScenarioFault}
+use Rattle.mk_keys.specs.declared.fault.ScenarioFault.TheVariants.{UnknownKey, UnknownSim, Taken}
 use Rattle.mk_scenario.specs.Sims.{texts_under}
 use Rattle.mk_scenario.specs.Places.{place_in}
 use Rattle.mk_scenario.specs.declared.parts.Group.{Group}
 use Rattle.mk_scenario.specs.declared.groups.GroupSaid.{GroupSaid}
-use Rattle.mk_scenario.specs.declared.fault.ScenarioFault.{ScenarioFault}
-use Rattle.mk_scenario.specs.declared.fault.ScenarioFault.TheVariants.{UnknownKey, UnknownSim, Taken}
-
-abbrev pub group_keys : List (List ℕ)
-group_keys = codes "id" ∷ codes "sim" ∷ codes "model" ∷ codes "num" ∷ codes "params" ∷ []
 
 -- the text that a table has as its id
 abbrev pub id_in : Json → Option (List ℕ)
@@ -35,21 +33,24 @@ group_said path table =
     passed (optional (tree.Object []) (key_in path (codes "params")) values (member (codes "params") table)) (λ params.
     Ok (record { id = id; sim = sim; model = model; num = num; params = params })))))))
 
+-- the simulator of the group that a table of this path says, where these ids are taken
+abbrev pub said_sim : List (List ℕ) → List (List ℕ) → List ℕ → GroupSaid → Result SimNo ScenarioFault
+said_sim sims taken path said = held (Taken said.id) (not (is_among taken said.id)) (sim_of_id sims (key_in path (codes "sim")) said.sim)
+
 -- the group that a table of this path says, where these ids are taken
 abbrev pub group_made : List (List ℕ) → List (List ℕ) → List ℕ → GroupSaid → Result Group ScenarioFault
 group_made sims taken path said =
-    held (Taken said.id) (not (is_among taken said.id)) (
-    passed (sim_of_id sims (key_in path (codes "sim")) said.sim) (λ no.
-    Ok (record { id = said.id; sim = no; model = said.model; num = said.num; params = said.params })))
+    passed (said_sim sims taken path said) (λ no.
+    Ok (record { id = said.id; sim = no; model = said.model; num = said.num; params = said.params }))
 
 -- the group of the table of this path, where these ids are taken
 abbrev pub group_after : List (List ℕ) → List (List ℕ) → List ℕ → Json → Result Group ScenarioFault
 group_after sims taken path table = passed (group_said path table) (group_made sims taken path)
 
--- the group of the table of this path, after these tables
-abbrev pub group_at : List (List ℕ) → List ℕ → List Json → Json → Result Group ScenarioFault
-group_at sims path earlier table = group_after sims (texts_under (codes "id") earlier) path table
+-- the group of the table at place i, where these ids are taken
+abbrev pub group_next : List (List ℕ) → List (List ℕ) → ℕ → Json → Result Group ScenarioFault
+group_next sims taken i table = group_after sims taken (item_in (codes "entities") i) table
 
 -- the group of the table at place i, after these tables
 abbrev pub group_in : List (List ℕ) → List Json → ℕ → Json → Result Group ScenarioFault
-group_in sims earlier i table = group_at sims (item_in (codes "entities") i) earlier table
+group_in sims earlier i table = group_next sims (texts_under (codes "id") earlier) i table

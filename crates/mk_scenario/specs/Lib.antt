@@ -1,11 +1,7 @@
-pub mod Spelling
-pub mod Tests
-pub mod Keys
 pub mod Sims
 pub mod Places
 pub mod Groups
 pub mod References
 pub mod Blocks
 pub mod Scenarios
-pub mod Known
 pub mod Wellformed

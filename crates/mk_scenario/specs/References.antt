@@ -1,15 +1,15 @@
 -- A reference: a full id, a group's entity at an index, or a group.
 use Rattle.std.specs.Prelude.{◌≡◌, ℕ, nat_lt, Bool, ◌&&◌, ◌==◌, ◌-◌, List, length, take, map, Option, Some, None, slice_get, option_map, option_and_then, unwrap_or, true, false, Result, Ok, if◌then◌else◌}
 use Rattle.std.specs.List.{list_any, before_first, after_first}
-use Rattle.mk_scenario.specs.Spelling.{spelled}
-use Rattle.mk_scenario.specs.Tests.{passed, found}
+use Rattle.mk_keys.specs.Spelling.{spelled}
+use Rattle.mk_keys.specs.Tests.{passed, found}
+use Rattle.mk_keys.specs.declared.fault.ScenarioFault.{ScenarioFault}
+use Rattle.mk_keys.specs.declared.fault.ScenarioFault.TheVariants.{OutOfRange, UnknownGroup}
 use Rattle.mk_scenario.specs.Places.{place_in}
 use Rattle.mk_scenario.specs.Groups.{sim_of_id}
 use Rattle.mk_scenario.specs.declared.parts.Group.{Group}
 use Rattle.mk_scenario.specs.declared.parts.Place.{Place}
 use Rattle.mk_scenario.specs.declared.parts.Place.TheVariants.{Whole, One, Full}
-use Rattle.mk_scenario.specs.declared.fault.ScenarioFault.{ScenarioFault}
-use Rattle.mk_scenario.specs.declared.fault.ScenarioFault.TheVariants.{OutOfRange, UnknownGroup}
 
 -- the byte stands in the text
 abbrev pub has_byte : ℕ → List ℕ → Bool

@@ -4,9 +4,9 @@ use Rattle.mk_base.specs.declared.json.Json.{Json}
 use Rattle.mk_base.specs.declared.tier.Via.TheVariants.{Plain}
 use Rattle.mk_base.specs.Lists.{IsIn, Each}
 use Rattle.mk_base.specs.Tiers.{HasWidth}
-use Rattle.mk_base.specs.Trees.{is_object, is_datum, is_in_range, member}
-use Rattle.mk_scenario.specs.Spelling.{is_name}
-use Rattle.mk_scenario.specs.Keys.{members_of}
+use Rattle.mk_base.specs.Trees.{member}
+use Rattle.mk_keys.specs.Spelling.{is_name}
+use Rattle.mk_keys.specs.Keys.{members_of, IsObjectOfData}
 use Rattle.mk_scenario.specs.Sims.{sim_id}
 use Rattle.mk_scenario.specs.References.{num_at, size_of}
 use Rattle.mk_scenario.specs.Blocks.{sides_pair}
@@ -20,10 +20,6 @@ use Rattle.mk_scenario.specs.declared.parts.Place.TheVariants.{Whole, One, Full}
 use Rattle.mk_scenario.specs.declared.parts.AttrPair.{AttrPair}
 use Rattle.mk_scenario.specs.declared.parts.Block.{Block}
 use Rattle.mk_scenario.specs.declared.parts.Scenario.{Scenario}
-
--- an object, each value of which is whole and not too deep, its numbers in range
-abbrev pub IsObjectOfData : Json → Type 0
-IsObjectOfData tree = IsTrue (is_object tree) × IsTrue (is_in_range tree) × Each (λ (m : List ℕ × Json). IsTrue (is_datum m.1)) (members_of tree)
 
 -- the ids are those of simulators of these names, in order
 pub record AreIdsOf (names ids : List (List ℕ)) : Type 0 where

@@ -3,24 +3,23 @@ ghost use Rattle.std.specs.Prelude.{◌≡◌, ◌||◌, ◌==◌, [], ℕ, List
 ghost use Rattle.std.specs.List.{find};
 ghost use Rattle.mk_base.specs.declared.json.Json.{Json};
 ghost use Rattle.mk_base.specs.Trees.{member};
+ghost use Rattle.mk_keys.specs.Keys as keys;
+ghost use Rattle.mk_keys.specs.Tests.{IsFaultOf, each_at, found, key_in, item_in};
+ghost use Rattle.mk_keys.specs.declared.fault.ScenarioFault.TheVariants as faults;
 ghost use Rattle.mk_scenario.specs.Blocks as blocks;
 ghost use Rattle.mk_scenario.specs.Blocks.{source_names};
-ghost use Rattle.mk_scenario.specs.Keys as keys;
-ghost use Rattle.mk_scenario.specs.References.{group_ids};
+ghost use Rattle.mk_scenario.specs.References.{group_ids, place_of};
 ghost use Rattle.mk_scenario.specs.Scenarios.{ids_of};
-ghost use Rattle.mk_scenario.specs.Tests.{IsFaultOf, each_at, found, key_in, item_in};
-ghost use Rattle.mk_scenario.specs.declared.fault.ScenarioFault.TheVariants as faults;
 
-use crate::fault::ScenarioFault;
 use crate::groups::ids_of;
-use crate::keys::{required_text, truth_or_false, values_or_none, width_or_none};
-use crate::known::{Table, first_unknown};
 use crate::names::Names;
 use crate::parts::{AttrPair, Block, Group, Place, SimPart};
-use crate::paths::{item_in, key_in};
 use crate::references::{place_of, size_of};
-use crate::values::items;
 use mk_base::{Json, List, Mem, Members, Text, Via};
+use mk_keys::{
+    ScenarioFault, Table, first_unknown, item_in, items, key_in, required_text, truth_or_false,
+    values_or_none, width_or_none,
+};
 use std::alloc::Global;
 
 // The manner in which a `connect` table says that the connection delivers; the width is that of its time shift.
@@ -135,6 +134,19 @@ fn block_said(alloc: Global, path: &Text, table: &Json) -> Result<BlockSaid, Sce
     let attrs = pairs_or_none(alloc, path, table)?;
     let manner = manner_said(alloc, path, table)?;
     let initial = values_or_none(alloc, path, "initial_data", table)?;
+    Ok(said_of(from, to, attrs, manner, initial)?)
+}
+
+// What a table says by these words and values.
+fn said_of(
+    from: &Text,
+    to: &Text,
+    attrs: List<AttrPair>,
+    manner: Manner,
+    initial: Json,
+) -> Result<BlockSaid, Mem>
+    ensures { IfOk result (λ said. said ≡ record { from = from.now; to = to.now; attrs = attrs; manner = manner; initial = initial }) }
+{
     Ok(BlockSaid {
         from: from.copy()?,
         to: to.copy()?,
@@ -240,23 +252,26 @@ fn block_made(
     ensures ok { IfOk result (λ block. blocks.block_made sims.now groups.now path.now said ≡ Ok block) }
     ensures refused { IfErr result (λ e. IsFaultOf (blocks.block_made sims.now groups.now path.now said) e) }
 {
-    let from = place_of(
-        alloc,
-        sims,
-        ids,
-        groups,
-        &key_in(alloc, path, "from")?,
-        &said.from,
-    )?;
-    let to = place_of(
-        alloc,
-        sims,
-        ids,
-        groups,
-        &key_in(alloc, path, "to")?,
-        &said.to,
-    )?;
+    let from = place_under(alloc, sims, ids, groups, path, "from", &said.from)?;
+    let to = place_under(alloc, sims, ids, groups, path, "to", &said.to)?;
     block_between(alloc, groups, path, said, from, to)
+}
+
+// What the text under a key of the table of this path refers to.
+fn place_under(
+    alloc: Global,
+    sims: &Names,
+    ids: &Names,
+    groups: &[Group],
+    path: &Text,
+    key: &str,
+    text: &Text,
+) -> Result<Place, ScenarioFault>
+    requires { ids.now ≡ group_ids groups.now }
+    ensures ok { IfOk result (λ place. place_of sims.now groups.now (key_in path.now key.now) text.now ≡ Ok place) }
+    ensures refused { IfErr result (λ e. IsFaultOf (place_of sims.now groups.now (key_in path.now key.now) text.now) e) }
+{
+    place_of(alloc, sims, ids, groups, &key_in(alloc, path, key)?, text)
 }
 
 // The block that a table of this path says, between these places.
@@ -271,30 +286,45 @@ fn block_between(
     ensures ok { IfOk result (λ block. blocks.block_between groups.now path.now said from to ≡ Ok block) }
     ensures refused { IfErr result (λ e. IsFaultOf (blocks.block_between groups.now path.now said from to) e) }
 {
-    let manner = said.manner;
-    if !at_most_one(manner.width.is_some(), manner.weak, manner.asks) {
-        return Err(ScenarioFault::TwoKinds(path.copy()?));
-    }
-    let place = key_in(alloc, path, "initial_data")?;
-    initial_fits(
-        alloc,
-        &place,
-        manner.width.is_some() || manner.weak,
-        said.attrs.as_slice(),
-        &said.initial,
-    )?;
-    let (m, n) = (size_of(groups, &from), size_of(groups, &to));
-    if !sides_pair(m, n) {
-        return Err(ScenarioFault::Uneven(path.copy()?, m, n));
-    }
+    block_fits(alloc, groups, path, &said, &from, &to)?;
     Ok(Block {
         from,
         to,
         attrs: said.attrs,
-        via: via_of(manner.width, manner.weak),
-        async_requests: manner.asks,
+        via: via_of(said.manner.width, said.manner.weak),
+        async_requests: said.manner.asks,
         initial: said.initial,
     })
+}
+
+// What a table of this path says fits between these places: at most one kind, its initial values, and its sides.
+fn block_fits(
+    alloc: Global,
+    groups: &[Group],
+    path: &Text,
+    said: &BlockSaid,
+    from: &Place,
+    to: &Place,
+) -> Result<(), ScenarioFault>
+    ensures ok { IfOk result (λ _. blocks.block_fits groups.now path.now said.now from.now to.now ≡ Ok said.now.initial) }
+    ensures refused { IfErr result (λ e. IsFaultOf (blocks.block_fits groups.now path.now said.now from.now to.now) e) }
+{
+    let manner = said.manner;
+    if !at_most_one(manner.width.is_some(), manner.weak, manner.asks) {
+        return Err(ScenarioFault::TwoKinds(path.copy()?));
+    }
+    initial_fits(
+        alloc,
+        &key_in(alloc, path, "initial_data")?,
+        manner.width.is_some() || manner.weak,
+        said.attrs.as_slice(),
+        &said.initial,
+    )?;
+    let (m, n) = (size_of(groups, from), size_of(groups, to));
+    if !sides_pair(m, n) {
+        return Err(ScenarioFault::Uneven(path.copy()?, m, n));
+    }
+    Ok(())
 }
 
 fn at_most_one(a: bool, b: bool, c: bool) -> bool

@@ -1,19 +1,19 @@
 // The `entities` tables.
 ghost use Rattle.std.specs.Prelude.{◌≡◌, codes, IfOk, IfErr, Ok, Some};
 ghost use Rattle.mk_base.specs.Trees.{member};
+ghost use Rattle.mk_keys.specs.Keys as keys;
+ghost use Rattle.mk_keys.specs.Tests.{IsFaultOf, each_after, key_in};
 ghost use Rattle.mk_scenario.specs.Groups as groups;
 ghost use Rattle.mk_scenario.specs.Groups.{id_in};
-ghost use Rattle.mk_scenario.specs.Keys as keys;
 ghost use Rattle.mk_scenario.specs.Scenarios.{ids_of};
-ghost use Rattle.mk_scenario.specs.Tests.{IsFaultOf, each_after, key_in};
 
-use crate::fault::ScenarioFault;
-use crate::keys::{count_or, required_name, required_text, values_or_none};
-use crate::known::{Table, first_unknown};
 use crate::names::Names;
 use crate::parts::{Group, SimPart};
-use crate::paths::{item_in, key_in};
 use mk_base::{Json, List, Mem, SimNo, Text};
+use mk_keys::{
+    ScenarioFault, Table, count_or, first_unknown, item_in, key_in, required_name, required_text,
+    values_or_none,
+};
 use std::alloc::Global;
 
 // The most entities of a group.
@@ -58,16 +58,30 @@ fn groups_among(alloc: Global, sims: &Names, tables: &[Json]) -> Result<List<Gro
     ensures ok { IfOk result (λ found. each_after (groups.group_in sims.now) tables.now ≡ Ok found) }
     ensures refused { IfErr result (λ e. IsFaultOf (each_after (groups.group_in sims.now) tables.now) e) }
 {
-    let top = Text::of(alloc, "entities")?;
     let mut taken = Names::new(alloc);
     let mut found = List::new(alloc);
     for (i, table) in tables.iter().enumerate() {
-        let path = item_in(alloc, &top, i)?;
-        let group = group_after(alloc, sims, &taken, &path, table)?;
+        let group = group_next(alloc, sims, &taken, i, table)?;
         taken = taken.with(alloc, &group.id)?;
         found.push(group)?;
     }
     Ok(found)
+}
+
+// The group of the table at place i, where these ids are taken.
+fn group_next(
+    alloc: Global,
+    sims: &Names,
+    taken: &Names,
+    i: usize,
+    table: &Json,
+) -> Result<Group, ScenarioFault>
+    ensures ok { IfOk result (λ group. groups.group_next sims.now taken.now i table.now ≡ Ok group) }
+    ensures refused { IfErr result (λ e. IsFaultOf (groups.group_next sims.now taken.now i table.now) e) }
+    ensures named { IfOk result (λ group. id_in table.now ≡ Some group.id) }
+{
+    let path = item_in(alloc, &Text::of(alloc, "entities")?, i)?;
+    group_after(alloc, sims, taken, &path, table)
 }
 
 // The group of the table of this path, where these ids are taken.
@@ -100,6 +114,13 @@ fn group_said(alloc: Global, path: &Text, table: &Json) -> Result<GroupSaid, Sce
     let model = required_text(alloc, path, "model", table)?;
     let num = num_of(alloc, path, table)?;
     let params = values_or_none(alloc, path, "params", table)?;
+    Ok(said_of(id, sim, model, num, params)?)
+}
+
+// What a table says by these words.
+fn said_of(id: &Text, sim: &Text, model: &Text, num: u32, params: Json) -> Result<GroupSaid, Mem>
+    ensures { IfOk result (λ said. said ≡ record { id = id.now; sim = sim.now; model = model.now; num = num; params = params }) }
+{
     Ok(GroupSaid {
         id: id.copy()?,
         sim: sim.copy()?,
@@ -135,6 +156,23 @@ pub fn sim_of_id(alloc: Global, sims: &Names, path: &Text, id: &str) -> Result<S
     }
 }
 
+// The simulator of the group that a table of this path says, where these ids are taken.
+fn said_sim(
+    alloc: Global,
+    sims: &Names,
+    taken: &Names,
+    path: &Text,
+    said: &GroupSaid,
+) -> Result<SimNo, ScenarioFault>
+    ensures ok { IfOk result (λ no. groups.said_sim sims.now taken.now path.now said.now ≡ Ok no) }
+    ensures refused { IfErr result (λ e. IsFaultOf (groups.said_sim sims.now taken.now path.now said.now) e) }
+{
+    if taken.has(said.id.as_str()) {
+        return Err(ScenarioFault::Taken(said.id.copy()?));
+    }
+    sim_of_id(alloc, sims, &key_in(alloc, path, "sim")?, said.sim.as_str())
+}
+
 // The group that a table of this path says, where these ids are taken.
 fn group_made(
     alloc: Global,
@@ -147,10 +185,7 @@ fn group_made(
     ensures refused { IfErr result (λ e. IsFaultOf (groups.group_made sims.now taken.now path.now said) e) }
     ensures named { IfOk result (λ group. group.id ≡ said.id) }
 {
-    if taken.has(said.id.as_str()) {
-        return Err(ScenarioFault::Taken(said.id));
-    }
-    let sim = sim_of_id(alloc, sims, &key_in(alloc, path, "sim")?, said.sim.as_str())?;
+    let sim = said_sim(alloc, sims, taken, path, &said)?;
     Ok(Group {
         id: said.id,
         sim,

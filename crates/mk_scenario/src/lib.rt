@@ -2,20 +2,15 @@
 #![tactic(auto)]
 
 mod blocks;
-mod fault;
 mod groups;
-mod keys;
-mod known;
 mod names;
 mod parts;
-mod paths;
 mod read;
 mod references;
 mod sims;
-mod spelling;
 mod top;
-mod values;
 
-pub use fault::ScenarioFault;
+// Why a text is no scenario stands with the keys' values.
+pub use mk_keys::ScenarioFault;
 pub use parts::{AttrPair, Begin, Block, Group, Place, Scenario, SimPart};
 pub use read::read_scenario;

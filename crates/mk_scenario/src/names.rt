@@ -3,7 +3,7 @@ ghost use Rattle.std.specs.Prelude.{◌≡◌, ◌++◌, ◌∷◌, [], ℕ, Lis
 ghost use Rattle.std.specs.HashMap.{get_by_text};
 ghost use Rattle.std.specs.Map.{update};
 ghost use Rattle.mk_base.specs.Lists.{same_text};
-ghost use Rattle.mk_scenario.specs.Keys.{is_among};
+ghost use Rattle.mk_keys.specs.Keys.{is_among};
 ghost use Rattle.mk_scenario.specs.Places.{place_in};
 
 use indexmap::IndexMap;

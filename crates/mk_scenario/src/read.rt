@@ -1,12 +1,12 @@
 // From a scenario file's bytes to the scenario.
 ghost use Rattle.std.specs.Prelude.{◌≡◌, IfOk, IfErr, Ok};
+ghost use Rattle.mk_keys.specs.Tests.{IsFaultOf};
 ghost use Rattle.mk_scenario.specs.Scenarios.{scenario_of};
-ghost use Rattle.mk_scenario.specs.Tests.{IsFaultOf};
 ghost use Rattle.mk_scenario.specs.Wellformed.{IsWellformed};
 
-use crate::fault::ScenarioFault;
 use crate::parts::Scenario;
 use crate::top::scenario_in;
+use mk_keys::ScenarioFault;
 use mk_toml::{TomlFault, read_toml};
 use std::alloc::Global;
 

@@ -3,15 +3,15 @@ ghost use Rattle.std.specs.Prelude.{◌≡◌, length, codes, false, option_map,
 ghost use Rattle.std.specs.List.{filter};
 ghost use Rattle.mk_base.specs.Lists.{same_text};
 ghost use Rattle.mk_base.specs.Trees.{member, text_in};
+ghost use Rattle.mk_keys.specs.Tests.{IsFaultOf, each_after, key_in};
 ghost use Rattle.mk_scenario.specs.Sims as sims;
-ghost use Rattle.mk_scenario.specs.Tests.{IsFaultOf, each_after, key_in};
 
-use crate::fault::ScenarioFault;
-use crate::keys::{optional_port, optional_text, required_name, times_or_none, values_or_none};
-use crate::known::{Table, first_unknown};
 use crate::parts::{Begin, SimPart};
-use crate::paths::{item_in, key_in};
 use mk_base::{Json, List, Mem, Text};
+use mk_keys::{
+    ScenarioFault, Table, first_unknown, item_in, key_in, optional_port, optional_text,
+    required_name, times_or_none, values_or_none,
+};
 use std::alloc::Global;
 
 // The simulators of these tables.
@@ -52,12 +52,27 @@ fn sim_at(
     let command = optional_text(alloc, path, "command", table)?;
     let port = optional_port(alloc, path, "connect", table)?;
     let local = optional_text(alloc, path, "local", table)?;
+    sim_made(alloc, path, earlier, table, name, command, port, local)
+}
+
+// The simulator of this name that the table of this path says, begun in one of these ways, after these tables.
+fn sim_made(
+    alloc: Global,
+    path: &Text,
+    earlier: &[Json],
+    table: &Json,
+    name: &Text,
+    command: Option<&Text>,
+    port: Option<u16>,
+    local: Option<&Text>,
+) -> Result<SimPart, ScenarioFault>
+    ensures ok { IfOk result (λ part. sims.sim_made path.now earlier.now table.now name.now (option_map (λ t. t.now) command.entry) port (option_map (λ t. t.now) local.entry) ≡ Ok part) }
+    ensures refused { IfErr result (λ e. IsFaultOf (sims.sim_made path.now earlier.now table.now name.now (option_map (λ t. t.now) command.entry) port (option_map (λ t. t.now) local.entry)) e) }
+{
     let params = values_or_none(alloc, path, "params", table)?;
     let initial = times_or_none(alloc, path, "initial_events", table)?;
     let begin = begin_of(alloc, path, command, port, local)?;
-    if params.member("time_resolution").is_some() {
-        return Err(ScenarioFault::UnknownKey(resolution_in(alloc, path)?));
-    }
+    own_params(alloc, path, &params)?;
     let id = sim_id(alloc, earlier, name)?;
     Ok(SimPart {
         id,
@@ -65,6 +80,17 @@ fn sim_at(
         params,
         initial,
     })
+}
+
+// The time resolution is the run's, and no parameter in the table of this path.
+fn own_params(alloc: Global, path: &Text, params: &Json) -> Result<(), ScenarioFault>
+    ensures ok { IfOk result (λ _. sims.own_params path.now params.now ≡ Ok params.now) }
+    ensures refused { IfErr result (λ e. IsFaultOf (sims.own_params path.now params.now) e) }
+{
+    match params.member("time_resolution") {
+        Some(_) => Err(ScenarioFault::UnknownKey(resolution_in(alloc, path)?)),
+        None => Ok(()),
+    }
 }
 
 // The path of the time resolution among the parameters of the table of this path: it is always 1.

@@ -1,18 +1,18 @@
 // A document: the top table, and then its simulators, groups and connections.
 ghost use Rattle.std.specs.Prelude.{◌≡◌, IfOk, IfErr, Ok};
 ghost use Rattle.mk_base.specs.Trees.{member};
-ghost use Rattle.mk_scenario.specs.Keys as keys;
+ghost use Rattle.mk_keys.specs.Keys as keys;
+ghost use Rattle.mk_keys.specs.Tests.{IsFaultOf};
 ghost use Rattle.mk_scenario.specs.Scenarios as scenarios;
-ghost use Rattle.mk_scenario.specs.Tests.{IsFaultOf};
 
 use crate::blocks::blocks_of;
-use crate::fault::ScenarioFault;
 use crate::groups::groups_of;
-use crate::keys::{count_or, required_tables, required_time, tables_or_none};
-use crate::known::{Table, first_unknown};
 use crate::parts::Scenario;
 use crate::sims::sims_of;
 use mk_base::{Json, Text};
+use mk_keys::{
+    ScenarioFault, Table, count_or, first_unknown, required_tables, required_time, tables_or_none,
+};
 use std::alloc::Global;
 
 // How many simulators, groups and connections a scenario may have.

@@ -3,7 +3,7 @@ ghost use Rattle.std.specs.Prelude.{◌≡◌, ◌≤◌, nat_le, ◌&&◌, if�
 ghost use Rattle.std.specs.Fmt.{decimal};
 ghost use Rattle.std.specs.List.{list_all};
 ghost use Rattle.mk_base.specs.Lists.{same_text};
-ghost use Rattle.mk_scenario.specs.Spelling as spelling;
+ghost use Rattle.mk_keys.specs.Spelling as spelling;
 
 use itoa::Buffer;
 

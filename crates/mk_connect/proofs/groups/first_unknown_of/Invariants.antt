@@ -1,7 +1,7 @@
 use Rattle.std.proofs.Common.{◌≡◌, ℕ, List, drop, map, not}
 use Rattle.std.specs.List.{find}
 use Rattle.mk_base.specs.declared.json.Json.{Json}
-use Rattle.mk_scenario.specs.Keys.{is_among}
+use Rattle.mk_keys.specs.Keys.{is_among}
 use Rattle.mk_connect.proofs.groups.first_unknown_of.Given as goal
 
 abbrev pub invariant-loop-name : goal.invariant-loop-name

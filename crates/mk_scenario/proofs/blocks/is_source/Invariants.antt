@@ -1,6 +1,6 @@
 use Rattle.std.proofs.Common.{◌≡◌, drop}
+use Rattle.mk_keys.specs.Keys.{is_among}
 use Rattle.mk_scenario.specs.Blocks.{source_names}
-use Rattle.mk_scenario.specs.Keys.{is_among}
 use Rattle.mk_scenario.proofs.blocks.is_source.Given as goal
 
 abbrev pub invariant-loop-pair : goal.invariant-loop-pair

@@ -1,7 +1,7 @@
-use Rattle.mk_scenario.proofs.Gathering.{Gathers}
+use Rattle.mk_keys.specs.Tests.{found, item_in}
+use Rattle.mk_keys.specs.declared.fault.ScenarioFault.TheVariants as faults
+use Rattle.mk_keys.proofs.Gathering.{Gathers}
 use Rattle.mk_scenario.specs.Blocks.{pair_in}
-use Rattle.mk_scenario.specs.Tests.{found, item_in}
-use Rattle.mk_scenario.specs.declared.fault.ScenarioFault.TheVariants as faults
 use Rattle.mk_scenario.proofs.blocks.pairs_among.Given as goal
 
 abbrev pub invariant-loop-i : goal.invariant-loop-i

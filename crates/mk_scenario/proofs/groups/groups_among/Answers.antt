@@ -1,9 +1,7 @@
-use Rattle.std.proofs.Common.{◌≡◌, ◌+◌, ◌<◌, ◌++◌, ◌∷◌, [], take, codes, length, arith, Ok, ap, ◌∙◌, sym, subst}
+use Rattle.std.proofs.Common.{◌≡◌, ◌+◌, ◌<◌, ◌++◌, ◌∷◌, [], take, length, arith, Ok, ap, ◌∙◌, sym, subst}
+use Rattle.mk_keys.proofs.Gathering.{Gathers, gathers_more}
 use Rattle.mk_scenario.proofs.Earlier.{ids_more}
-use Rattle.mk_scenario.proofs.Gathering.{Gathers, gathers_more}
-use Rattle.mk_scenario.specs.Groups.{group_in, group_after}
-use Rattle.mk_scenario.specs.Sims.{texts_under}
-use Rattle.mk_scenario.specs.Tests.{item_in}
+use Rattle.mk_scenario.specs.Groups.{group_in, group_next}
 use Rattle.mk_scenario.proofs.groups.groups_among.Goals as goal
 
 pub loop-i-preserved : goal.loop-i-preserved
@@ -14,9 +12,7 @@ loop-i-preserved c =
     let table = c.index-tables-i.result in
     let group = c.in_ok-group.group in
     let below : i < length tables = omega arith in
-    let path : c.in_ok-path.path ≡ item_in (codes "entities") i = c.in_ok-path.ensures ∙ ap (λ top. item_in top i) c.in_ok-top.ensures in
-    let well : group_in sims (take i tables) i table ≡ Ok group =
-    sym (ap (λ taken. group_after sims taken c.in_ok-path.path table) c.loop-i.invariant.taken ∙ ap (λ p. group_after sims (texts_under (codes "id") (take i tables)) p table) path) ∙ c.in_ok-group.ensures.ok in
+    let well : group_in sims (take i tables) i table ≡ Ok group = sym (ap (λ taken. group_next sims taken i table) c.loop-i.invariant.taken) ∙ c.in_ok-group.ensures.ok in
     record {
       gathers = subst (Gathers (λ i table. group_in sims (take i tables) i table) tables (i + 1)) (sym c.in_ok-push.ensures.ok)
           (gathers_more (λ i table. group_in sims (take i tables) i table) tables i c.loop-i.found table below c.index-tables-i.is c.loop-i.invariant.gathers group well);

@@ -1,6 +1,6 @@
 use Rattle.std.proofs.Common.{subst, ap, ◌∙◌, ℕ, List, IfErr}
+use Rattle.mk_keys.specs.Tests.{IsFaultOf, item_in}
 use Rattle.mk_scenario.specs.Sims as sims
-use Rattle.mk_scenario.specs.Tests.{IsFaultOf, item_in}
 use Rattle.mk_scenario.proofs.sims.sim_in.Goals as goal
 
 pub returns-clause-refused : goal.returns-clause-refused

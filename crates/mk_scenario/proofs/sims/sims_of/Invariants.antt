@@ -1,6 +1,6 @@
-use Rattle.mk_scenario.proofs.Gathering.{Gathers}
+use Rattle.mk_keys.specs.Tests.{by_earlier}
+use Rattle.mk_keys.proofs.Gathering.{Gathers}
 use Rattle.mk_scenario.specs.Sims.{sim_in}
-use Rattle.mk_scenario.specs.Tests.{by_earlier}
 use Rattle.mk_scenario.proofs.sims.sims_of.Given as goal
 
 abbrev pub invariant-loop-i : goal.invariant-loop-i

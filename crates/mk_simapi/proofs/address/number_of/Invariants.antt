@@ -1,5 +1,5 @@
 use Rattle.std.proofs.Common.{◌≡◌, ◌+◌, ◌*◌, ◌^◌, ◌≤◌, take}
-use Rattle.mk_scenario.specs.Spelling as spelling
+use Rattle.mk_keys.specs.Spelling as spelling
 use Rattle.mk_simapi.proofs.address.number_of.Given as goal
 
 abbrev pub invariant-loop-digit : goal.invariant-loop-digit

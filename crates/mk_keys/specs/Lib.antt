@@ -1,0 +1,4 @@
+pub mod Spelling
+pub mod Tests
+pub mod Keys
+pub mod Known
