@@ -15,5 +15,5 @@ pub use keys::{
 };
 pub use known::{Table, first_unknown};
 pub use paths::{item_in, key_in};
-pub use spelling::spelled;
+pub use spelling::{port_of, spelled};
 pub use values::items;

@@ -75,11 +75,12 @@ fn number_of(digits: &[u8]) -> u64
     number
 }
 
-// The port of an address on this machine: host, colon, port.
-pub fn port_of(address: &Text) -> Option<u16>
+/// The port of an address on this machine: `127.0.0.1` or `localhost`, a colon, and a port from 1 to 65535 in decimal digits
+/// without a leading zero; `None` for any other text.
+pub fn port_of(address: &str) -> Option<u16>
     ensures { result ≡ spelling.port_of address.now }
 {
-    match address.as_str().split_once(':') {
+    match address.split_once(':') {
         Some((host, port)) => port_at(host, port),
         None => None,
     }

@@ -119,7 +119,7 @@ pub fn port(path: &Text, value: &Json) -> Result<u16, ScenarioFault>
     ensures refused { IfErr result (λ e. IsFaultOf (keys.some_port path.now value.now) e) }
 {
     let text = text(path, value)?;
-    match port_of(text) {
+    match port_of(text.as_str()) {
         Some(port) => Ok(port),
         None => Err(ScenarioFault::OutOfRange(path.copy()?, text.copy()?)),
     }

@@ -1,7 +1,6 @@
 //! A simulator's side of the protocol: a simulator of one of the kinds is served over a link, and a program that is one.
 #![tactic(auto)]
 
-mod address;
 mod forms;
 mod gathering;
 mod program;

@@ -4,10 +4,10 @@ ghost use Rattle.mk_outside.specs.Counts.{HasRisen};
 ghost use Rattle.mk_local.specs.Registries.{rows_in};
 ghost use Rattle.mk_simapi.specs.Children.{HasEnded, asked, status_of};
 
-use crate::address::port_of;
 use crate::served::Served;
 use crate::serving::serve;
 use mk_base::Text;
+use mk_keys::port_of;
 use mk_local::Registry;
 use mk_outside::{Fleet, Start, Started};
 use std::alloc::Global;
