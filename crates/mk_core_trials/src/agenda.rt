@@ -4,10 +4,10 @@ ghost use Rattle.std.specs.Option.{ForSome};
 ghost use Rattle.mk_plan.specs.Plans.{sim_count};
 ghost use Rattle.mk_agenda.specs.Endings.{CanBeMade};
 
-use crate::plans::{OUT_TO_IN, Tie, Who, connections, number, plan_of, two_simulators};
 use mk_agenda::Agenda;
 use mk_base::{Mem, SimKind, SimNo, Tier, Via};
 use mk_plan::Plan;
+use mk_samples::{OUT_TO_IN, Tie, Who, connections, number, plan_of, two_simulators};
 use mk_valid::{PlanFault, check_plan};
 use std::alloc::Global;
 use std::test::Fail;

@@ -3,9 +3,9 @@ ghost use Rattle.std.specs.Prelude.{◌≡◌, ◌<◌, length, IfOk};
 ghost use Rattle.mk_plan.specs.Plans.{sim_count};
 ghost use Rattle.mk_tiers.specs.Standing.{IsOwn};
 
-use crate::plans::{OUT_TO_IN, Tie, connections, plan_of, simulator};
 use mk_base::{List, Mem, SimKind, SimNo, Tier, Via};
 use mk_plan::{AsyncPair, Plan, PlanSim};
+use mk_samples::{OUT_TO_IN, Tie, connections, plan_of, simulator};
 use mk_tiers::Bounds;
 use mk_valid::{PlanFault, check_plan};
 use std::alloc::Global;

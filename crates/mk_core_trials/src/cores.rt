@@ -2,10 +2,10 @@
 ghost use Rattle.std.specs.Prelude.{◌≡◌, true, IfOk};
 ghost use Rattle.mk_sched.specs.Cores.{is_message_in_range};
 
-use crate::plans::{OUT_TO_IN, connections, plan_of, two_simulators};
 use mk_base::{Mem, SimKind, SimNo};
 use mk_json::{JsonFault, read_json};
 use mk_plan::{Message, Plan};
+use mk_samples::{OUT_TO_IN, connections, plan_of, two_simulators};
 use mk_sched::{Core, Next, Taken};
 use mk_valid::{PlanFault, check_plan};
 use std::alloc::Global;

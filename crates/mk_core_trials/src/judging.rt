@@ -1,8 +1,8 @@
 // Messages judged at each place, by each cause.
 
-use crate::plans::{OUT_TO_IN, Tie, connections, plan_of, two_simulators};
 use mk_base::{Json, List, Mem, Members, SimKind, SimNo, Text, Tier};
 use mk_plan::{Cause, Message, Place, Plan, Want};
+use mk_samples::{OUT_TO_IN, Tie, connections, plan_of, two_simulators};
 use mk_turns::{next_place, value_for, wanted, wrong};
 use std::alloc::Global;
 use std::test::Fail;

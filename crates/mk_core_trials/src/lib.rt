@@ -13,8 +13,6 @@ mod judging;
 #[cfg(test)]
 mod messages;
 #[cfg(test)]
-mod plans;
-#[cfg(test)]
 mod queue;
 #[cfg(test)]
 mod turns;

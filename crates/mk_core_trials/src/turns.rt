@@ -2,9 +2,9 @@
 ghost use Rattle.std.specs.Prelude.{◌≡◌, ◌<◌, length, IfOk};
 ghost use Rattle.mk_plan.specs.Plans.{sim_count};
 
-use crate::plans::{OUT_TO_IN, Who, connections, number, plan_of, two_simulators};
 use mk_base::{Mem, SimKind, Tier};
 use mk_plan::{Place, Plan};
+use mk_samples::{OUT_TO_IN, Who, connections, number, plan_of, two_simulators};
 use mk_sims::Sims;
 use mk_valid::{PlanFault, check_plan};
 use std::alloc::Global;

@@ -1,8 +1,8 @@
 // Plans that fail each part, and how deep texts nest.
 
-use crate::plans::{OUT_TO_IN, Tie, connections, plan_of, simulator};
 use mk_base::{List, Mem, SimKind, Via};
 use mk_plan::{Plan, PlanSim};
+use mk_samples::{OUT_TO_IN, Tie, connections, plan_of, simulator};
 use mk_valid::{PlanFault, check_plan, text_nesting};
 use std::alloc::Global;
 use std::test::Fail;

@@ -1,13 +1,11 @@
 //! What is said between the program and its simulators, and what it is made of: values, trees, frames, messages, the ids of
-//! requests, metadata, entities, and simulators within the program. The crate has tests alone.
+//! requests, metadata and entities. The crate has tests alone.
 #![tactic(auto)]
 
 #[cfg(test)]
 mod entities;
 #[cfg(test)]
 mod frames;
-#[cfg(test)]
-mod kinds;
 #[cfg(test)]
 mod messages;
 #[cfg(test)]

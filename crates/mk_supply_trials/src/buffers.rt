@@ -1,9 +1,10 @@
 // Buffers of two simulators: a counter that feeds a sum.
 
-use crate::common::{Tie, at, lines, sum_plan};
+use crate::common::{at, lines, sum_plan};
 use mk_base::{Datum, Mem, SimNo, Text, Tier};
 use mk_buffers::Buffers;
 use mk_plan::{Plan, SetValue};
+use mk_samples::{OUT_TO_IN, Tie};
 use mk_valid::{PlanFault, check_plan};
 use std::alloc::Global;
 use std::test::Fail;
@@ -11,10 +12,9 @@ use std::test::Fail;
 // The plan of a connection from `out` of the counter to `in` of the sum.
 fn plan(alloc: Global, persistent: bool) -> Result<Plan, Mem> {
     let tie = Tie {
-        from_attr: "out",
-        to: 1,
-        to_attr: "in",
         persistent,
+        triggering: !persistent,
+        ..OUT_TO_IN
     };
     sum_plan(alloc, &[tie])
 }

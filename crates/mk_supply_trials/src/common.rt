@@ -3,103 +3,16 @@ ghost use Rattle.std.specs.Prelude.{◌≡◌, ◌≤◌, pos, ◌≤ℤ◌, tru
 ghost use Rattle.mk_base.specs.Trees.{is_in_range};
 ghost use Rattle.mk_plan.specs.Plans.{IsValidPlan};
 
-use mk_base::{Json, List, Mem, SimKind, SimNo, Text, Tier, Via};
+use mk_base::{Json, List, Mem, SimKind, SimNo, Tier};
 use mk_json::{JsonFault, read_json};
 use mk_plan::{AsyncPair, Conn, Input, Plan, PlanEntity, PlanModel, PlanSim};
+use mk_samples::{Tie, connections, entities, models, two_simulators};
 use mk_valid::{PlanFault, check_plan};
 use std::alloc::Global;
 
-fn simulator(
-    alloc: Global,
-    id: &str,
-    kind: SimKind,
-    first_id: u64,
-    rank: u32,
-) -> Result<PlanSim, Mem> {
-    Ok(PlanSim {
-        id: Text::of(alloc, id)?,
-        kind,
-        first_id,
-        rank,
-        initial: List::new(alloc),
-    })
-}
-
 // A-0 and B-0, both of this kind, whose requests begin with this id.
 fn simulators(alloc: Global, kind: SimKind, first_id: u64) -> Result<List<PlanSim>, Mem> {
-    let mut sims = List::new(alloc);
-    sims.push(simulator(alloc, "A-0", kind, first_id, 0)?)?;
-    sims.push(simulator(alloc, "B-0", kind, first_id, 1)?)?;
-    Ok(sims)
-}
-
-fn model(alloc: Global, sim: u32) -> Result<PlanModel, Mem> {
-    Ok(PlanModel {
-        sim: SimNo(sim),
-        name: Text::of(alloc, "M")?,
-        attrs: List::new(alloc),
-        any_inputs: true,
-    })
-}
-
-/// A model of each, which takes anything.
-pub fn models(alloc: Global) -> Result<List<PlanModel>, Mem> {
-    let mut models = List::new(alloc);
-    models.push(model(alloc, 0)?)?;
-    models.push(model(alloc, 1)?)?;
-    Ok(models)
-}
-
-/// An entity of a model, related to these.
-pub fn entity(alloc: Global, model: u32, eid: &str, others: &[u32]) -> Result<PlanEntity, Mem> {
-    let mut related = List::new(alloc);
-    for other in others {
-        related.push(*other)?;
-    }
-    Ok(PlanEntity {
-        model,
-        eid: Text::of(alloc, eid)?,
-        related,
-    })
-}
-
-// The entity `0` of each model.
-fn entities(alloc: Global) -> Result<List<PlanEntity>, Mem> {
-    let mut entities = List::new(alloc);
-    entities.push(entity(alloc, 0, "0", &[])?)?;
-    entities.push(entity(alloc, 1, "0", &[])?)?;
-    Ok(entities)
-}
-
-/// A plain connection from an attribute of the first entity to one of another. It triggers unless it is persistent.
-#[derive(Clone, Copy)]
-pub struct Tie {
-    pub from_attr: &'static str,
-    pub to: u32,
-    pub to_attr: &'static str,
-    pub persistent: bool,
-}
-
-fn connection(alloc: Global, tie: &Tie) -> Result<Conn, Mem> {
-    Ok(Conn {
-        from: 0,
-        from_attr: Text::of(alloc, tie.from_attr)?,
-        to: tie.to,
-        to_attr: Text::of(alloc, tie.to_attr)?,
-        via: Via::Plain,
-        persistent: tie.persistent,
-        triggering: !tie.persistent,
-        initial: None,
-    })
-}
-
-/// These connections.
-pub fn connections(alloc: Global, ties: &[Tie]) -> Result<List<Conn>, Mem> {
-    let mut conns = List::new(alloc);
-    for tie in ties {
-        conns.push(connection(alloc, tie)?)?;
-    }
-    Ok(conns)
+    two_simulators(alloc, (kind, first_id), (kind, first_id))
 }
 
 // A lends to B.
@@ -138,8 +51,8 @@ pub fn sum_plan(alloc: Global, ties: &[Tie]) -> Result<Plan, Mem> {
         loops: 3,
         entries: 1000,
         sims: simulators(alloc, SimKind::Hybrid, 2)?,
-        models: models(alloc)?,
-        entities: entities(alloc)?,
+        models: models(alloc, 2)?,
+        entities: entities(alloc, 2)?,
         conns: connections(alloc, ties)?,
         asyncs: List::new(alloc),
     })

@@ -1,9 +1,10 @@
 // Names of a small plan, found and not found.
 
-use crate::common::{Tie, checked, connections, entity, lending_plan, models};
+use crate::common::{checked, lending_plan};
 use mk_base::{List, Mem, SimNo, Text};
 use mk_names::Names;
 use mk_plan::{Plan, PlanEntity};
+use mk_samples::{OUT_TO_IN, Tie, connections, entity, models};
 use mk_valid::PlanFault;
 use std::alloc::Global;
 use std::test::Fail;
@@ -18,18 +19,13 @@ fn entities(alloc: Global) -> Result<List<PlanEntity>, Mem> {
 }
 
 // `out` of A's goes to `in` of B's first.
-const TIES: [Tie; 1] = [Tie {
-    from_attr: "out",
-    to: 1,
-    to_attr: "in",
-    persistent: true,
-}];
+const TIES: [Tie; 1] = [OUT_TO_IN];
 
 // A lends to B.
 fn plan(alloc: Global) -> Result<Plan, Mem> {
     lending_plan(
         alloc,
-        models(alloc)?,
+        models(alloc, 2)?,
         entities(alloc)?,
         connections(alloc, &TIES)?,
     )

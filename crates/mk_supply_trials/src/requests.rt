@@ -6,11 +6,12 @@ ghost use Rattle.mk_plan.specs.Plans.{RefersInside};
 ghost use Rattle.mk_names.specs.Names.{AreNamesOf};
 ghost use Rattle.mk_async.specs.Asked.{asked_in, is_asked_in_range};
 
-use crate::common::{Tie, checked, connections, entity, lending_plan, read};
+use crate::common::{checked, lending_plan, read};
 use mk_async::{Asked, given_values, judge, plain_content};
 use mk_base::{Json, List, Mem, SimNo, Text};
 use mk_names::Names;
 use mk_plan::{Plan, PlanEntity, PlanModel, SetValue};
+use mk_samples::{OUT_TO_IN, Tie, connections, entity};
 use std::alloc::Global;
 use std::test::Fail;
 
@@ -45,12 +46,7 @@ fn entities(alloc: Global) -> Result<List<PlanEntity>, Mem> {
 }
 
 // `out` of A's first goes to `in` of B's first.
-const TIES: [Tie; 1] = [Tie {
-    from_attr: "out",
-    to: 2,
-    to_attr: "in",
-    persistent: true,
-}];
+const TIES: [Tie; 1] = [Tie { to: 2, ..OUT_TO_IN }];
 
 // A lends to B.
 fn plan_of(alloc: Global) -> Result<Plan, Mem> {

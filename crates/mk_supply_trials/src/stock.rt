@@ -3,9 +3,10 @@ ghost use Rattle.std.specs.Prelude.{◌<◌, IfOk};
 ghost use Rattle.mk_plan.specs.Plans.{IsValidPlan, sim_count};
 ghost use Rattle.mk_supply.specs.Stock.{IsStockFor};
 
-use crate::common::{Tie, at, checked, lines, read, sum_plan};
+use crate::common::{at, checked, lines, read, sum_plan};
 use mk_base::{Mem, SimNo};
 use mk_plan::{Message, Place, Plan};
+use mk_samples::{OUT_TO_IN, Tie};
 use mk_supply::{Outputs, Stock};
 use mk_turns::wrong;
 use mk_valid::PlanFault;
@@ -18,16 +19,14 @@ const SUM: SimNo = SimNo(1);
 
 const TIES: [Tie; 2] = [
     Tie {
-        from_attr: "out",
-        to: 1,
-        to_attr: "in",
         persistent: false,
+        triggering: true,
+        ..OUT_TO_IN
     },
     Tie {
         from_attr: "level",
-        to: 1,
         to_attr: "p",
-        persistent: true,
+        ..OUT_TO_IN
     },
 ];
 

@@ -6,8 +6,8 @@ ghost use Rattle.mk_local.specs.Calls.{IsCallReplied};
 ghost use Rattle.mk_local.specs.Registries.{rows_in};
 ghost use Rattle.mk_local.specs.Replies.{IsItemReplied};
 
-use crate::texts::datum_of;
-use mk_base::{Json, List, Mem, Members, Text, Tier};
+use mk_base::{Datum, Json, List, Mem, Members, Text, Tier};
+use mk_json::{datum, read_json};
 use mk_local::{
     EntityStep, EntityTurn, Kind, LocalSim, Registry, Turn, battery_turn, constant_turn,
     controller_turn, counter_turn, metadata_is_accepted, numbers_are_read, relay_turn,
@@ -106,6 +106,17 @@ fn step(
     asked(alloc, kinds, sim, &item)
 }
 
+// The value 7.
+fn seven(alloc: Global) -> Result<Datum, Mem> {
+    match read_json(alloc, b"7") {
+        Ok(tree) => match datum(alloc, &tree) {
+            Ok(value) => Ok(value),
+            Err(_) => Err(Mem),
+        },
+        Err(_) => Err(Mem),
+    }
+}
+
 // The value 7 for an attribute of the entity 0.
 fn one_input(alloc: Global, attr: &str) -> Result<List<Input>, Mem> {
     let mut inputs = List::new(alloc);
@@ -113,7 +124,7 @@ fn one_input(alloc: Global, attr: &str) -> Result<List<Input>, Mem> {
         eid: Text::of(alloc, "0")?,
         attr: Text::of(alloc, attr)?,
         source: Text::of(alloc, "B-0.0")?,
-        value: datum_of(alloc, b"7")?,
+        value: seven(alloc)?,
     })?;
     Ok(inputs)
 }

@@ -45,8 +45,8 @@ fn model(alloc: Global, sim: u32) -> Result<PlanModel, Mem> {
     })
 }
 
-// A model of each of so many simulators, which takes anything.
-fn models(alloc: Global, count: u32) -> Result<List<PlanModel>, Mem> {
+/// A model of each of so many simulators, which takes anything.
+pub fn models(alloc: Global, count: u32) -> Result<List<PlanModel>, Mem> {
     let mut models = List::new(alloc);
     for sim in 0..count {
         models.push(model(alloc, sim)?)?;
@@ -54,19 +54,24 @@ fn models(alloc: Global, count: u32) -> Result<List<PlanModel>, Mem> {
     Ok(models)
 }
 
-fn entity(alloc: Global, model: u32) -> Result<PlanEntity, Mem> {
+/// An entity of a model, related to these.
+pub fn entity(alloc: Global, model: u32, eid: &str, others: &[u32]) -> Result<PlanEntity, Mem> {
+    let mut related = List::new(alloc);
+    for other in others {
+        related.push(*other)?;
+    }
     Ok(PlanEntity {
         model,
-        eid: Text::of(alloc, "0")?,
-        related: List::new(alloc),
+        eid: Text::of(alloc, eid)?,
+        related,
     })
 }
 
-// The entity `0` of each of so many models.
-fn entities(alloc: Global, count: u32) -> Result<List<PlanEntity>, Mem> {
+/// The entity `0` of each of so many models.
+pub fn entities(alloc: Global, count: u32) -> Result<List<PlanEntity>, Mem> {
     let mut entities = List::new(alloc);
     for model in 0..count {
-        entities.push(entity(alloc, model)?)?;
+        entities.push(entity(alloc, model, "0", &[])?)?;
     }
     Ok(entities)
 }

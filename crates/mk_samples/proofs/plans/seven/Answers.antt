@@ -4,7 +4,7 @@ use Rattle.mk_base.specs.declared.json.Json.{Json}
 use Rattle.mk_base.specs.Data.{IsDatumText}
 use Rattle.mk_base.specs.Trees.{nesting}
 use Rattle.mk_base.proofs.OnTrees.{trees_compute}
-use Rattle.mk_core_trials.proofs.plans.seven.Goals as goal
+use Rattle.mk_samples.proofs.plans.seven.Goals as goal
 
 flat : nesting (j.Whole (pos 7)) ≡ 0
 unfolding trees_compute
