@@ -1,0 +1,11 @@
+use Rattle.std.proofs.Common.{arith}
+use Rattle.mk_fakes.proofs.Lines.{line_missing, line_there}
+use Rattle.mk_fakes.proofs.wires.Wires.cursor.Goals as goal
+
+pub returns-then-number-len : goal.returns-then-number-len
+returns-then-number-len c =
+    line_there c.self.inside.chunks c.self.inside.cursors.items c.self.inside.links.items c.args.self.now c.args.link.0 c.len.result c.index.result.now c.self.view_is (omega (arith, c.len.ensures, c.self.inside.cursors.ok.0)) c.if-number-len.true c.index.ensures
+
+pub returns-else-number-len : goal.returns-else-number-len
+returns-else-number-len c =
+    line_missing c.self.inside.chunks c.self.inside.cursors.items c.self.inside.links.items c.args.self.now c.args.link.0 c.self.view_is (omega (arith, c.len.ensures, c.self.inside.cursors.ok.0, c.if-number-len.false))
