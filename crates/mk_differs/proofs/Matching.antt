@@ -1,5 +1,5 @@
 -- What an entry of the journal is to the entries of the record that are left.
-use Rattle.std.proofs.Common.{◌≡◌, ℕ, ℤ, ◌+◌, ◌<◌, ◌≤◌, List, [], ◌∷◌, length, drop, get_or, Some, refl, sym, ap, ◌∙◌, arith}
+use Rattle.std.proofs.Common.{◌≡◌, ℕ, ℤ, ◌+◌, ◌<◌, List, [], ◌∷◌, length, drop, refl, sym, ap, ◌∙◌, arith}
 use Rattle.mk_base.specs.declared.SimNo.{SimNo}
 use Rattle.mk_base.specs.declared.tier.Tier.{Tier}
 use Rattle.mk_plan.specs.declared.Input.{Input}
@@ -44,12 +44,15 @@ module _ (n : ℕ) (A : List Arrival) (steps : List Asked) (sim : SimNo) (m : Me
   pub message_behind : IsMessageNext n A steps → length A ≡ 0 → IsMatch n A steps (Got sim m) Behind
   message_behind next none = (message_of sim m, refl, next.none (empty A none))
 
-pub message_same : (n : ℕ) (A : List Arrival) (steps : List Asked) (sim : SimNo) (m : Message) (a : Arrival) → IsMessageNext n A steps → 1 ≤ length A → a ≡ get_or A 0 a → message_of sim m ≡ MessageOf (came a) → IsMatch n A steps (Got sim m) NextMessage
-message_same n [] steps sim m a next some is same = absurd (omega (arith, some))
-message_same n (b ∷ A) steps sim m a next some is same =
-    (message_of sim m, refl, next.some b A refl ∙ ap (λ x. MessageOf (came x) ∷ left (n + 1) A steps) (sym is) ∙ ap (λ x. x ∷ left (n + 1) A steps) (sym same), some)
+module _ (n : ℕ) (A : List Arrival) (steps : List Asked) (sim : SimNo) (m : Message) (next : IsMessageNext n A steps) (some : 0 < length A) where
+  pub message_same : ((a : Arrival) (more : List Arrival) → A ≡ a ∷ more → message_of sim m ≡ MessageOf (came a)) → IsMatch n A steps (Got sim m) NextMessage
+  message_same same = elim A as (λ B. A ≡ B → IsMatch n B steps (Got sim m) NextMessage) [
+    | [] ↦ λ is. absurd (let e = ap length is in omega (arith, e, some))
+    | a ∷ more ↦ λ is. (message_of sim m, refl, sym (ap (λ B. left n B steps) is) ∙ next.some a more is ∙ ap (λ x. x ∷ left (n + 1) more steps) (sym (same a more is)), omega arith)
+  ] refl
 
-pub message_other : (n : ℕ) (A : List Arrival) (steps : List Asked) (sim : SimNo) (m : Message) (a : Arrival) → IsMessageNext n A steps → 1 ≤ length A → a ≡ get_or A 0 a → (message_of sim m ≡ MessageOf (came a) → ⊥) → IsMatch n A steps (Got sim m) Another
-message_other n [] steps sim m a next some is other = absurd (omega (arith, some))
-message_other n (b ∷ A) steps sim m a next some is other =
-    (message_of sim m, MessageOf (came b), left (n + 1) A steps, refl, next.some b A refl, λ e. other (e ∙ ap (λ x. MessageOf (came x)) (sym is)))
+  pub message_other : ((a : Arrival) (more : List Arrival) → A ≡ a ∷ more → message_of sim m ≡ MessageOf (came a) → ⊥) → IsMatch n A steps (Got sim m) Another
+  message_other other = elim A as (λ B. A ≡ B → IsMatch n B steps (Got sim m) Another) [
+    | [] ↦ λ is. absurd (let e = ap length is in omega (arith, e, some))
+    | a ∷ more ↦ λ is. (message_of sim m, MessageOf (came a), left (n + 1) more steps, refl, sym (ap (λ B. left n B steps) is) ∙ next.some a more is, other a more is)
+  ] refl

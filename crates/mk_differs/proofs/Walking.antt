@@ -1,5 +1,5 @@
 -- The comparison, an entry of the journal at a time.
-use Rattle.std.proofs.Common.{◌≡◌, ℕ, ◌+◌, ◌-◌, ◌<◌, ◌≤◌, max, List, [], ◌∷◌, ◌++◌, map, filter_map, length, take, drop, get_or, slice_get, suc, Option, Some, None, refl, sym, ap, ◌∙◌, subst, ◌⊎◌, inl, inr, arith, append_assoc, length-append}
+use Rattle.std.proofs.Common.{◌≡◌, ℕ, ◌+◌, ◌-◌, ◌<◌, ◌≤◌, max, List, [], ◌∷◌, ◌++◌, map, length, take, drop, get_or, suc, Option, Some, None, refl, sym, ap, ◌∙◌, subst, ◌⊎◌, inl, inr, arith, append_assoc, length-append}
 use Rattle.std.specs.List.{cons_option}
 use Rattle.std.proofs.Math.Seq.{drop-cons}
 use Rattle.std.proofs.lemmas.List.{take_more, take-append-drop, take_all}
@@ -14,7 +14,7 @@ use Rattle.mk_differs.specs.Matches.{left, IsMatch}
 use Rattle.mk_differs.specs.declared.first.Match.TheVariants.{Neither, NextStep, NextMessage, Another, Behind}
 use Rattle.mk_differs.proofs.Places.{first_other_at, all_the_same}
 
-abbrev Entries : Type 0
+abbrev pub Entries : Type 0
 Entries = List RecordEntry
 
 -- what one entry of the journal adds
@@ -122,15 +122,3 @@ module _ (R : Entries) (J : List Entry) (i place n : ℕ) (A : List Arrival) (st
 
   pub on_behind : IsMatch n A steps e Behind → IsFirstOther R (entries_of J) None
   on_behind m = compared_behind R J i place n A steps e m.0 c below is m.1 m.2
-
--- all but the first
-pub all_but_first : {X : Type 0} (xs : List X) → take (length xs - 1) (drop 1 xs) ≡ drop 1 xs
-all_but_first [] = refl
-all_but_first (x ∷ xs) = let one : suc (length xs) - 1 ≡ length xs = omega arith in let most : length xs ≤ length xs = omega arith in ap (λ k. take k xs) one ∙ take_all (length xs) xs most
-
--- the same of equal values
-pub compared_now : (R : Entries) (J : List Entry) (i place later n m : ℕ) (A B : List Arrival) (steps rest : List Asked) → later ≡ place → m ≡ n → B ≡ A → rest ≡ steps → IsCompared R J i place n A steps → IsCompared R J i later m B rest
-compared_now R J i place later n m A B steps rest p q r s c = record {
-  same = c.same ∙ (λ j. entries_of (take i J) ++ left (sym q j) (sym r j) (sym s j));
-  count = p ∙ c.count;
-}

@@ -5,6 +5,6 @@ mod first;
 mod messages;
 mod trees;
 
-pub use first::first_other;
+pub use first::{first_other, first_other_step};
 pub use messages::same_message;
 pub use trees::same_tree;

@@ -1,9 +1,9 @@
-use Rattle.std.proofs.Common.{◌≡◌, ◌<◌, length, arith}
+use Rattle.std.proofs.Common.{arith}
 use Rattle.mk_differs.proofs.Left.{step_alone, message_next}
 use Rattle.mk_differs.proofs.first.next_step.Goals as goal
 
-pub returns-then-is_empty : goal.returns-then-is_empty
-returns-then-is_empty c = step_alone c.args.before c.args.messages.now c.args.steps.now _ c.in-len1-up.len_at_least (grind (arith, c.if-is_empty.ensures))
+pub returns-then-rest-eq0 : goal.returns-then-rest-eq0
+returns-then-rest-eq0 c = λ A rest. step_alone c.args.before A c.args.steps.now _ c.in-len1-up.len_at_least (omega (arith, rest))
 
-pub returns-else-is_empty : goal.returns-else-is_empty
-returns-else-is_empty c = message_next c.args.before c.args.messages.now c.args.steps.now _ c.in-len1-up.len_at_least c.if-asked-before.false (grind (arith, c.if-is_empty.ensures))
+pub returns-else-rest-eq0 : goal.returns-else-rest-eq0
+returns-else-rest-eq0 c = λ A rest. message_next c.args.before A c.args.steps.now _ c.in-len1-up.len_at_least c.if-asked-before.false (omega (arith, rest))

@@ -1,53 +1,54 @@
-use Rattle.std.proofs.Common.{◌≡◌, ℕ, ◌+◌, ◌<◌, ◌≤◌, length, map, refl, ap, ◌∙◌, inl, inr, arith}
-use Rattle.mk_saved.specs.Entries.{entries_after}
-use Rattle.mk_saved.specs.Seen.{came}
-use Rattle.mk_differs.proofs.Walking.{on_neither, on_step, on_message, on_another, on_behind, all_but_first, compared_now, compared_short, some_left}
+use Rattle.std.proofs.Common.{◌+◌, ap, ◌∙◌, inl, inr, arith}
+use Rattle.std.specs.Prelude.{option_map}
+use Rattle.mk_differs.proofs.Named.{walked_neither, walked_step, walked_message, walked_another, walked_behind, walked_now, walked_all, walked_short}
 use Rattle.mk_differs.proofs.first.other_among.Goals as goal
-use Rattle.mk_differs.proofs.first.other_among.Goals.{in-Neither, in-NextStep, in-NextMessage, else-is_empty-via-then-is_empty+else-is_empty-2, else-is_empty-via-else-is_empty}
+use Rattle.mk_differs.proofs.first.other_among.Goals.{in-Neither, in-NextStep, in-NextMessage, else-rest-eq0-via-then-rest-eq0+else-is_empty, else-rest-eq0-via-else-rest-eq0}
 
 pub returns-in-Another : goal.returns-in-Another
-returns-in-Another c = on_another (entries_after 0 (map came c.args.arrivals.now) c.args.asks.now) c.args.entries.now c.loop-entry.entry-index c.loop-entry.place c.loop-entry.before c.loop-entry.messages.now c.loop-entry.steps.now c.entry-item.result
-    c.loop-entry.invariant.compared c.loop-entry-test.true c.entry-item.is c.in-Another.ensures
+returns-in-Another c = walked_another (option_map (λ m. m.now) c.args.messages) c.args.count c.args.entries.now c.args.asks.now c.loop-entry.entry-index c.loop-entry.place c.loop-entry.before c.loop-entry.rest c.loop-entry.steps.now c.entry-item.result
+    c.loop-entry.invariant.walked c.loop-entry-test.true c.entry-item.is c.in-Another.ensures
 
 pub returns-in-Behind : goal.returns-in-Behind
-returns-in-Behind c = on_behind (entries_after 0 (map came c.args.arrivals.now) c.args.asks.now) c.args.entries.now c.loop-entry.entry-index c.loop-entry.place c.loop-entry.before c.loop-entry.messages.now c.loop-entry.steps.now c.entry-item.result
-    c.loop-entry.invariant.compared c.loop-entry-test.true c.entry-item.is c.in-Behind.ensures
+returns-in-Behind c = walked_behind (option_map (λ m. m.now) c.args.messages) c.args.count c.args.entries.now c.args.asks.now c.loop-entry.entry-index c.loop-entry.place c.loop-entry.before c.loop-entry.rest c.loop-entry.steps.now c.entry-item.result
+    c.loop-entry.invariant.walked c.loop-entry-test.true c.entry-item.is c.in-Behind.ensures
 
 pub loop-entry-preserved : goal.loop-entry-preserved
 loop-entry-preserved c =
-    let R = entries_after 0 (map came c.args.arrivals.now) c.args.asks.now in
+    let known = option_map (λ m. m.now) c.args.messages in
+    let J = c.args.entries.now in
+    let asks = c.args.asks.now in
+    let i = c.loop-entry.entry-index in
+    let l = c.loop-entry in
     elim c.match-match_of.branch [
       | in-Neither w ↦ record {
-        compared = compared_now R c.args.entries.now (c.loop-entry.entry-index + 1) _ _ _ _ _ _ _ _ w.place-is w.before-is (ap (λ b. b.now) w.messages-is) (ap (λ b. b.now) w.steps-is)
-            (on_neither R c.args.entries.now c.loop-entry.entry-index c.loop-entry.place c.loop-entry.before c.loop-entry.messages.now c.loop-entry.steps.now c.entry-item.result c.loop-entry.invariant.compared c.loop-entry-test.true c.entry-item.is w.in-Neither.ensures);
+        walked = walked_now known c.args.count J asks (i + 1) l.place c.match-match_of.place l.before c.match-match_of.before l.rest c.match-match_of.rest l.steps.now c.match-match_of.steps.now w.place-is w.before-is w.rest-is (ap (λ b. b.now) w.steps-is)
+            (walked_neither known c.args.count J asks i l.place l.before l.rest l.steps.now c.entry-item.result l.invariant.walked c.loop-entry-test.true c.entry-item.is w.in-Neither.ensures);
         place = omega arith;
         before = omega arith;
       }
       | in-NextStep w ↦ record {
-        compared = compared_now R c.args.entries.now (c.loop-entry.entry-index + 1) _ _ _ _ _ _ _ c.match-match_of.steps.now w.place-is w.before-is (ap (λ b. b.now) w.messages-is) refl
-            (on_step R c.args.entries.now c.loop-entry.entry-index c.loop-entry.place c.loop-entry.before c.loop-entry.messages.now c.loop-entry.steps.now c.entry-item.result c.loop-entry.invariant.compared c.loop-entry-test.true c.entry-item.is
-            c.match-match_of.steps.now (ap (λ b. b.now) w.steps-is ∙ all_but_first c.loop-entry.steps.now) w.in-NextStep.ensures);
+        walked = walked_now known c.args.count J asks (i + 1) (l.place + 1) c.match-match_of.place l.before c.match-match_of.before l.rest c.match-match_of.rest _ c.match-match_of.steps.now w.place-is w.before-is w.rest-is (ap (λ b. b.now) w.steps-is ∙ w.but_first-steps.ensures)
+            (walked_step known c.args.count J asks i l.place l.before l.rest l.steps.now c.entry-item.result l.invariant.walked c.loop-entry-test.true c.entry-item.is w.in-NextStep.ensures);
         place = omega arith;
         before = omega arith;
       }
       | in-NextMessage w ↦ record {
-        compared = compared_now R c.args.entries.now (c.loop-entry.entry-index + 1) _ _ _ _ _ c.match-match_of.messages.now _ _ w.place-is w.before-is refl (ap (λ b. b.now) w.steps-is)
-            (on_message R c.args.entries.now c.loop-entry.entry-index c.loop-entry.place c.loop-entry.before c.loop-entry.messages.now c.loop-entry.steps.now c.entry-item.result c.loop-entry.invariant.compared c.loop-entry-test.true c.entry-item.is
-            c.match-match_of.messages.now (ap (λ b. b.now) w.messages-is ∙ all_but_first c.loop-entry.messages.now) w.in-NextMessage.ensures);
+        walked = walked_now known c.args.count J asks (i + 1) (l.place + 1) c.match-match_of.place (l.before + 1) c.match-match_of.before _ c.match-match_of.rest l.steps.now c.match-match_of.steps.now w.place-is w.before-is (w.rest-is ∙ w.saturating_sub-rest.ensures) (ap (λ b. b.now) w.steps-is)
+            (walked_message known c.args.count J asks i l.place l.before l.rest l.steps.now c.entry-item.result l.invariant.walked c.loop-entry-test.true c.entry-item.is w.in-NextMessage.ensures);
         place = omega arith;
         before = omega arith;
       }
     ]
 
-pub returns-else-is_empty : goal.returns-else-is_empty
-returns-else-is_empty c =
-    let R = entries_after 0 (map came c.args.arrivals.now) c.args.asks.now in
-    let n = c.loop-entry.before in
-    let A = c.loop-entry.messages.now in
-    let steps = c.loop-entry.steps.now in
-    elim c.else-is_empty.branch [
-      | else-is_empty-via-then-is_empty+else-is_empty-2 w ↦ let some = some_left n A steps (inr (grind (arith, w.if-is_empty-2.ensures))) in
-          compared_short R c.args.entries.now c.loop-entry.entry-index c.loop-entry.place n A steps c.loop-entry.invariant.compared c.loop-entry-test.false some.0 some.1 some.2
-      | else-is_empty-via-else-is_empty w ↦ let some = some_left n A steps (inl (grind (arith, w.if-is_empty.ensures))) in
-          compared_short R c.args.entries.now c.loop-entry.entry-index c.loop-entry.place n A steps c.loop-entry.invariant.compared c.loop-entry-test.false some.0 some.1 some.2
+pub returns-then-is_empty : goal.returns-then-is_empty
+returns-then-is_empty c = λ A are. walked_all (option_map (λ m. m.now) c.args.messages) c.args.count c.args.entries.now c.args.asks.now c.loop-entry.entry-index c.loop-entry.place c.loop-entry.before c.loop-entry.rest c.loop-entry.steps.now
+    c.loop-entry.invariant.walked c.loop-entry-test.false A are (omega arith) (grind (arith, c.if-is_empty.ensures))
+
+pub returns-else-rest-eq0 : goal.returns-else-rest-eq0
+returns-else-rest-eq0 c = λ A are.
+    let short = walked_short (option_map (λ m. m.now) c.args.messages) c.args.count c.args.entries.now c.args.asks.now c.loop-entry.entry-index c.loop-entry.place c.loop-entry.before c.loop-entry.rest c.loop-entry.steps.now
+    c.loop-entry.invariant.walked c.loop-entry-test.false A are in
+    elim c.else-rest-eq0.branch [
+      | else-rest-eq0-via-then-rest-eq0+else-is_empty w ↦ short (inr (grind (arith, w.if-is_empty.ensures)))
+      | else-rest-eq0-via-else-rest-eq0 w ↦ short (inl (omega (arith, w.if-rest-eq0.false)))
     ]

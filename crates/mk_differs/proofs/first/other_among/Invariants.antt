@@ -1,12 +1,11 @@
-use Rattle.std.proofs.Common.{◌≤◌, map}
-use Rattle.mk_saved.specs.Entries.{entries_after}
-use Rattle.mk_saved.specs.Seen.{came}
-use Rattle.mk_differs.proofs.Walking.{IsCompared}
+use Rattle.std.proofs.Common.{◌≤◌}
+use Rattle.std.specs.Prelude.{option_map}
+use Rattle.mk_differs.proofs.Named.{IsWalked}
 use Rattle.mk_differs.proofs.first.other_among.Given as goal
 
 abbrev pub invariant-loop-entry : goal.invariant-loop-entry
 invariant-loop-entry l = record {
-  compared : IsCompared (entries_after 0 (map came l.fn.arrivals) l.fn.asks) l.entries l.entry-index l.place l.before l.messages l.steps;
+  walked : IsWalked (option_map (λ m. m.now) l.messages) l.count l.entries l.fn.asks l.entry-index l.place l.before l.rest l.steps;
   place : l.place ≤ l.entry-index;
   before : l.before ≤ l.entry-index;
 }
