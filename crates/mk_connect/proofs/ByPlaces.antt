@@ -1,12 +1,9 @@
 -- What is made of items by their places.
-use Rattle.std.proofs.Common.{◌≡◌, ℕ, zero, suc, ◌+◌, ◌<◌, List, [], ◌∷◌, ◌++◌, length, map, take, Some, refl, sym, ap, ◌∙◌, arith, slice_get, get_or, append_assoc}
+use Rattle.std.proofs.Common.{◌≡◌, ℕ, zero, suc, ◌+◌, ◌<◌, List, [], ◌∷◌, ◌++◌, length, map, take, Some, refl, sym, ap, ◌∙◌, arith, slice_get, get_or}
 use Rattle.std.specs.Prelude.{option_map}
 use Rattle.std.specs.List.{range_with_len}
 use Rattle.std.proofs.lemmas.List.{take_more}
-use Rattle.mk_base.proofs.Lists.{append_nil}
-use Rattle.mk_meta.specs.declared.meta.Meta.{Meta}
 use Rattle.mk_connect.specs.ByPlace.{by_place}
-use Rattle.mk_connect.specs.Models.{models_from, sim_model}
 
 no_more : (n : ℕ) → n ≡ n + 0
 no_more n = omega arith
@@ -39,21 +36,6 @@ module _ {X Y : Type 0} (f : ℕ → X → Y) where
 
   pub one_more : (xs : List X) (i : ℕ) (x : X) → i < length xs → x ≡ get_or xs i x → (old new : List Y) (y : Y) → old ≡ by_place f 0 (take i xs) → y ≡ f i x → new ≡ old ++ y ∷ [] → new ≡ by_place f 0 (take (i + 1) xs)
   one_more xs i x below is old new y so_far made pushed = pushed ∙ (λ k. so_far k ++ made k ∷ []) ∙ sym (by_place_more xs i x below is)
-
-pub models_append : (n : ℕ) (xs ys : List Meta) → models_from n (xs ++ ys) ≡ models_from n xs ++ models_from (n + length xs) ys
-models_append n [] ys = ap (λ k. models_from k ys) (no_more n)
-models_append n (x ∷ xs) ys = ap (λ l. map (sim_model n x.kind) x.models ++ l) (models_append (suc n) xs ys ∙ ap (λ k. models_from (suc n) xs ++ models_from k ys) (over n (length xs)))
-    ∙ sym (append_assoc (map (sim_model n x.kind) x.models) (models_from (suc n) xs) (models_from (n + suc (length xs)) ys))
-
--- the models of one simulator more
-pub models_more : (xs : List Meta) (i : ℕ) (x : Meta) → i < length xs → x ≡ get_or xs i x → models_from 0 (take (i + 1) xs) ≡ models_from 0 (take i xs) ++ map (sim_model i x.kind) x.models
-models_more xs i x below is = ap (models_from 0) (take_more xs i x below ∙ ap (λ z. take i xs ++ z ∷ []) (sym is)) ∙ models_append 0 (take i xs) (x ∷ [])
-    ∙ ap (λ l. models_from 0 (take i xs) ++ l) (append_nil (map (sim_model (0 + length (take i xs)) x.kind) x.models) ∙ ap (λ k. map (sim_model k x.kind) x.models) (long xs i below))
-  where
-    long : (xs : List Meta) (i : ℕ) → i < length xs → 0 + length (take i xs) ≡ i
-    long [] i below = absurd (omega arith)
-    long (x ∷ xs) zero below = refl
-    long (x ∷ xs) (suc i) below = let h = long xs i (omega arith) in omega arith
 
 -- what is made of numbers in order, by its place
 pub range_get : {Y : Type 0} (f : ℕ → Y) (a n i : ℕ) → i < n → slice_get (map f (range_with_len a n)) i ≡ Some (f (a + i))

@@ -11,17 +11,17 @@ use Rattle.mk_base.specs.Trees.{is_whole, member, members_in, nesting, value_dep
 use Rattle.mk_base.proofs.Lists.{Rises, in_map, passes_some, rises_append}
 use Rattle.mk_plan.specs.declared.Conn.{Conn}
 use Rattle.mk_entities.specs.declared.entities.EntityInfo.{EntityInfo}
-use Rattle.mk_keys.specs.Keys.{members_of, IsObjectOfData}
 use Rattle.mk_scenario.specs.declared.parts.AttrPair.{AttrPair}
 use Rattle.mk_scenario.specs.declared.parts.Block.{Block}
 use Rattle.mk_scenario.specs.declared.parts.SimPart.{SimPart}
-use Rattle.mk_connect.specs.declared.fault.ConnectFault.{ConnectFault}
-use Rattle.mk_connect.specs.declared.models.SimModel.{SimModel}
-use Rattle.mk_connect.specs.Connections.{attrs_fault, block_made, block_pairs, conn_between, conn_fault, connected, conns_made, has_initial, initial_text, is_way, most_conns, pair_made}
-use Rattle.mk_connect.specs.Ends.{ends_at, pairs_between, place_fault}
-use Rattle.mk_connect.specs.Faults.{held, passed, through, unless}
-use Rattle.mk_connect.specs.Models.{keeps_attr, model_at, says, triggers_by}
-use Rattle.mk_connect.proofs.Initials.{initial_in_range, initial_is_datum}
+use Rattle.mk_keys.specs.Keys.{IsObjectOfData, members_of}
+use Rattle.mk_conns.specs.declared.fault.ConnectFault.{ConnectFault}
+use Rattle.mk_conns.specs.declared.models.SimModel.{SimModel}
+use Rattle.mk_conns.specs.Connections.{attrs_fault, block_made, block_pairs, conn_between, conn_fault, connected, conns_made, has_initial, initial_text, is_way, most_conns, pair_made}
+use Rattle.mk_conns.specs.Ends.{ends_at, pairs_between, place_fault}
+use Rattle.mk_conns.specs.Faults.{held, passed, through, unless}
+use Rattle.mk_conns.specs.Models.{keeps_attr, model_at, says, triggers_by}
+use Rattle.mk_conns.proofs.Initials.{initial_in_range, initial_is_datum}
 
 -- ---- what tests that pass say
 

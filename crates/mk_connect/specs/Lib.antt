@@ -1,15 +1,8 @@
+pub mod Agreeing
 pub mod Asyncs
 pub mod ByPlace
 pub mod Complete
-pub mod Connections
 pub mod Edges
-pub mod Ends
-pub mod Faults
-pub mod Groups
 pub mod Joining
-pub mod Lookups
 pub mod Made
-pub mod Models
-pub mod Needs
 pub mod Related
-pub mod TextSets

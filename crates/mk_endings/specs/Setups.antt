@@ -5,8 +5,8 @@ use Rattle.mk_meta.specs.declared.fault.MetaFault.{MetaFault}
 use Rattle.mk_meta.specs.declared.fault.MetaFault.TheVariants as meta
 use Rattle.mk_entities.specs.declared.fault.CreateFault.{CreateFault}
 use Rattle.mk_entities.specs.declared.fault.CreateFault.TheVariants as create
-use Rattle.mk_connect.specs.declared.fault.ConnectFault.{ConnectFault}
-use Rattle.mk_connect.specs.declared.fault.ConnectFault.TheVariants as connect
+use Rattle.mk_conns.specs.declared.fault.ConnectFault.{ConnectFault}
+use Rattle.mk_conns.specs.declared.fault.ConnectFault.TheVariants as connect
 use Rattle.mk_endings.specs.declared.setup.SetupEnding.{SetupEnding}
 use Rattle.mk_endings.specs.declared.setup.SetupEnding.TheVariants.{Meta, Create, Connect, Unasked, Failed}
 

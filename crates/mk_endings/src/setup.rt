@@ -5,7 +5,7 @@ ghost use Rattle.mk_endings.specs.Setups.{spaced, text_of_connect, text_of_creat
 
 use crate::lines::{put, put_number};
 use mk_base::Text;
-use mk_connect::ConnectFault;
+use mk_conns::ConnectFault;
 use mk_entities::CreateFault;
 use mk_meta::MetaFault;
 use std::alloc::{AllocError, Global};

@@ -8,10 +8,10 @@ use Rattle.mk_plan.specs.declared.Call.{Call}
 use Rattle.mk_plan.specs.declared.Call.TheVariants.{Init, Create}
 use Rattle.mk_plan.specs.declared.Plan.{Plan}
 use Rattle.mk_meta.specs.declared.meta.Meta.{Meta}
-use Rattle.mk_connect.specs.declared.fault.ConnectFault.{ConnectFault}
-use Rattle.mk_connect.specs.declared.fault.ConnectFault.TheVariants as connect
-use Rattle.mk_connect.specs.Faults.{IsFaultOf}
-use Rattle.mk_connect.specs.Groups.{fault_of_group}
+use Rattle.mk_conns.specs.declared.fault.ConnectFault.{ConnectFault}
+use Rattle.mk_conns.specs.declared.fault.ConnectFault.TheVariants as connect
+use Rattle.mk_conns.specs.Faults.{IsFaultOf}
+use Rattle.mk_conns.specs.Groups.{fault_of_group}
 use Rattle.mk_scenario.specs.declared.parts.Scenario.{Scenario}
 use Rattle.mk_scenario.specs.declared.parts.Group.{Group}
 use Rattle.mk_scenario.specs.declared.parts.SimPart.{SimPart}

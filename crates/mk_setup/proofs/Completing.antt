@@ -5,9 +5,9 @@ use Rattle.std.specs.List.{range_with_len}
 use Rattle.mk_base.proofs.Lists.{each_in, in_map}
 use Rattle.mk_plan.specs.declared.Plan.{Plan}
 use Rattle.mk_plan.specs.Plans.{IsValidPlan}
-use Rattle.mk_connect.specs.declared.fault.ConnectFault.{ConnectFault}
+use Rattle.mk_conns.specs.declared.fault.ConnectFault.{ConnectFault}
 use Rattle.mk_connect.specs.Complete.{IsComplete, most_requests}
-use Rattle.mk_connect.specs.Faults.{IsFaultOf}
+use Rattle.mk_conns.specs.Faults.{IsFaultOf}
 use Rattle.mk_connect.specs.Made.{number_at, plan_made}
 use Rattle.mk_connect.proofs.ByPlaces.{range_get}
 use Rattle.mk_scenario.specs.declared.parts.Scenario.{Scenario}

@@ -17,7 +17,7 @@ use Rattle.mk_scenario.specs.declared.parts.Scenario.{Scenario}
 use Rattle.mk_scenario.specs.declared.parts.Group.{Group}
 use Rattle.mk_scenario.specs.Wellformed.{IsWellformed, IsWellformedGroup, IsWellformedSim}
 use Rattle.mk_connect.specs.Complete.{IsOfGroup, IsOfModel, has_model}
-use Rattle.mk_connect.specs.Groups.{fault_of_group}
+use Rattle.mk_conns.specs.Groups.{fault_of_group}
 use Rattle.mk_links.specs.Handshake.{Request, setup_requests}
 use Rattle.mk_setup.specs.Asking.{test_before}
 use Rattle.mk_setup.specs.Counts.{IsCounted, IsToSim}

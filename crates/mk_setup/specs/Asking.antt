@@ -3,8 +3,8 @@ use Rattle.std.specs.Prelude.{true, Option, Some, None, option_map, Result, Ok, 
 use Rattle.mk_plan.specs.declared.Plan.{Plan}
 use Rattle.mk_plan.specs.declared.Call.{Call}
 use Rattle.mk_plan.specs.declared.Call.TheVariants.{Init, Create, SetupDone, Stop}
-use Rattle.mk_connect.specs.declared.fault.ConnectFault.{ConnectFault}
-use Rattle.mk_connect.specs.Groups.{fault_of_group}
+use Rattle.mk_conns.specs.declared.fault.ConnectFault.{ConnectFault}
+use Rattle.mk_conns.specs.Groups.{fault_of_group}
 use Rattle.mk_connect.specs.Made.{plan_made}
 use Rattle.mk_links.specs.Handshake.{Request}
 use Rattle.mk_setup.specs.declared.fault.SetupFault.{SetupFault}

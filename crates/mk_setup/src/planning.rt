@@ -1,6 +1,6 @@
 // The plan, once all groups are created.
 ghost use Rattle.std.specs.Prelude.{◌≡◌, ◌+◌, ◌≤◌, IfOk, IfErr, OnOk, None, length};
-ghost use Rattle.mk_connect.specs.Faults.{IsFaultOf};
+ghost use Rattle.mk_conns.specs.Faults.{IsFaultOf};
 ghost use Rattle.mk_setup.specs.Asking.{plan_of, refusal};
 ghost use Rattle.mk_setup.specs.Kept.{IsKept, state_of};
 ghost use Rattle.mk_setup.specs.Standing.{IsPlanOf};

@@ -1,6 +1,6 @@
 use Rattle.std.proofs.Common.{◌≡◌, take}
 use Rattle.std.specs.Prelude.{flat_map, fold}
-use Rattle.mk_connect.specs.Connections.{block_pairs}
+use Rattle.mk_conns.specs.Connections.{block_pairs}
 use Rattle.mk_connect.specs.Joining.{joined}
 use Rattle.mk_connect.proofs.relations.join_blocks.Given as goal
 

@@ -1,0 +1,16 @@
+//! A model of a simulator.
+
+use crate::texts::Texts;
+use mk_base::{SimKind, SimNo, Text};
+
+/// A model of a simulator, with its attributes, those that trigger and those that are events, each looked up by its name.
+#[derive(Drop)]
+pub struct SimModel {
+    pub sim: SimNo,
+    pub kind: SimKind,
+    pub name: Text,
+    pub any_inputs: bool,
+    pub attrs: Texts,
+    pub trigger: Texts,
+    pub events: Texts,
+}
