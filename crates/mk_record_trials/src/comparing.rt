@@ -1,7 +1,7 @@
 // Records that differ from a journal, entry by entry.
 
 use crate::common::{PLAN, counter_journal};
-use mk_differs::first_other;
+use mk_differs::{first_other, first_other_step};
 use mk_saved::{Saved, read_record};
 use std::alloc::Global;
 use std::test::Fail;
@@ -18,7 +18,15 @@ fn place_of(alloc: Global, lines: &str) -> Result<Option<u32>, Fail> {
     Ok(first_other(&saved, &journal))
 }
 
-const CASES: [(&str, Option<u32>); 8] = [
+// The same by its steps alone, where the journal's messages are the first of its own.
+fn place_of_step(alloc: Global, lines: &str) -> Result<Option<u32>, Fail> {
+    let saved = record(alloc, lines)?;
+    let journal = counter_journal(alloc)?;
+    Ok(first_other_step(saved.arrivals.len(), &saved.asks, &journal))
+}
+
+// Lines after the plan, and the place; the journal's messages are the first of those of the first five.
+const CASES: [(&str, Option<u32>); 9] = [
     (
         "ask [0,0,0,3]\ngot [0,[1,3,1]]\nask [0,1,0,3]\ngot [0,[1,4,2]]\nask [0,2,0,3]\ngot [0,[1,5,3]]\nend 6\n",
         None,
@@ -32,6 +40,14 @@ const CASES: [(&str, Option<u32>); 8] = [
         Some(2),
     ),
     (
+        "ask [0,0,0,3]\ngot [0,[1,3,1]]\nask [0,1,0,3]\ngot [0,[1,4,2]]\nask [0,2,0,3]\ngot [0,[1,5,3]]\nask [0,2,0,3]\nend 7\n",
+        Some(6),
+    ),
+    (
+        "ask [0,0,0,3]\ngot [0,[1,3,1]]\nask [0,1,0,3]\ngot [0,[1,4,2]]\nask [0,2,0,3]\ngot [0,[1,5,3]]\ngot [0,[1,6,4]]\nend 7\n",
+        Some(6),
+    ),
+    (
         "ask [0,0,0,3]\ngot [0,[1,3,1]]\nask [0,1,1,3]\nend 3\n",
         Some(2),
     ),
@@ -40,10 +56,6 @@ const CASES: [(&str, Option<u32>); 8] = [
         Some(1),
     ),
     ("ask [0,0,0,3]\ngot [0,[1,3,1]]\nend 2\n", None),
-    (
-        "ask [0,0,0,3]\ngot [0,[1,3,1]]\nask [0,1,0,3]\ngot [0,[1,4,2]]\nask [0,2,0,3]\ngot [0,[1,5,3]]\nask [0,2,0,3]\nend 7\n",
-        Some(6),
-    ),
     ("end 0\n", None),
 ];
 
@@ -51,6 +63,9 @@ const CASES: [(&str, Option<u32>); 8] = [
 fn the_first_entry_that_differs(rt: HostRuntime) -> Result<(), Fail> {
     for (lines, place) in &CASES {
         assert_eq!(rt; place_of(rt.alloc(), lines)?, *place);
+    }
+    for (lines, place) in &CASES[..5] {
+        assert_eq!(rt; place_of_step(rt.alloc(), lines)?, *place);
     }
     Ok(())
 }

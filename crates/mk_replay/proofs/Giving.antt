@@ -1,12 +1,12 @@
 -- What the answers of a core make of a replay that is on its way.
-use Rattle.std.proofs.Common.{◌≡◌, ℕ, zero, suc, ◌+◌, ◌-◌, ◌<◌, ◌≤◌, List, [], ◌∷◌, ◌++◌, length, map, take, drop, get_or, Option, Some, None, option_map, unwrap_or, slice_get, refl, sym, ap, ◌∙◌, subst, ◌⊎◌, inl, inr, arith, append_assoc, length-append, filter, Result, Ok, Err, IfOk}
-use Rattle.std.proofs.lemmas.List.{take_more}
+use Rattle.std.proofs.Common.{◌≡◌, ℕ, ◌+◌, ◌-◌, ◌<◌, ◌≤◌, List, [], ◌∷◌, ◌++◌, length, map, reverse, Option, Some, None, option_map, unwrap_or, slice_get, refl, sym, ap, ◌∙◌, subst, ◌⊎◌, inl, inr, arith, append_assoc, length-append, filter, All, Result, Ok, Err, IfOk}
+use Rattle.std.proofs.lemmas.List.{reverse-append}
 use Rattle.mk_base.specs.declared.SimNo.{SimNo}
 use Rattle.mk_base.specs.declared.tier.Tier.{Tier}
-use Rattle.mk_base.specs.Lists.{BeginsWith}
+use Rattle.mk_base.specs.Lists.{BeginsWith, IsIn}
 use Rattle.mk_saved.specs.declared.saved.Arrival as saved
 use Rattle.mk_saved.specs.Seen.{came}
-use Rattle.mk_base.proofs.Lists.{append_nil, map_append, none_some, get_is}
+use Rattle.mk_base.proofs.Lists.{append_nil, map_append, none_some, get_is, all_in, in_back}
 use Rattle.mk_plan.specs.declared.Plan.{Plan}
 use Rattle.mk_plan.specs.declared.PlanSim.{PlanSim}
 use Rattle.mk_plan.specs.declared.Item.TheVariants.{Step}
@@ -27,9 +27,10 @@ use Rattle.mk_sched.specs.declared.faults.Next.TheVariants as next
 use Rattle.mk_sched.specs.declared.faults.Taken.TheVariants as taken
 use Rattle.mk_sched.specs.Cores.{CoreState, Stands}
 use Rattle.mk_sched.specs.Answers.{NextOf, ArriveOf, IsAsked, IsWaiting, IsOver, IsQuiet, IsAnswered, WasFaulty, SomeReady, SomeOpen, with_message}
+use Rattle.mk_replay.specs.declared.replaying.ReplayEnd.{ReplayEnd}
 use Rattle.mk_replay.specs.declared.replaying.ReplayEnd.TheVariants.{Done, Core, Short}
 use Rattle.mk_replay.specs.Replays.{messages_from, IsReplay, IsLastFaulty, IsTooLong}
-use Rattle.mk_replay.specs.Loops.{IsPatient, IsOnWay, GoesOn, IsUnready, IsSettled, IsStopped, GivenBy, IsRun}
+use Rattle.mk_replay.specs.Loops.{IsPatient, IsOnWay, GoesOn, IsUnready, IsSettled, IsStopped, GivenBy, IsRun, CanArrive}
 use Rattle.mk_replay.proofs.Pushing.{given_of, given_got, on_way_sent, on_way_got, patient_got, arrivals_after_got, arrivals_after_sent, got_is}
 use Rattle.mk_replay.proofs.Counting.{some_are_open}
 
@@ -200,19 +201,41 @@ pub on_ok : {T E : Type 0} {P Q : T → Type 0} (r : Result T E) → ((x : T) �
 on_ok (Ok x) f h = f x h
 on_ok (Err e) f h = tt
 
-split : {X : Type 0} (xs : List X) (k : ℕ) (d : X) → k < length xs → take k xs ++ get_or xs k d ∷ drop (suc k) xs ≡ xs
-split {X = X} [] k d h = absurd (omega arith)
-split {X = X} (x ∷ xs) zero d h = refl
-split {X = X} (x ∷ xs) (suc k) d h = ap (λ (ys : List X). x ∷ ys) (split xs k d (omega arith))
+module _ (all given left less : List saved.Arrival) (a : saved.Arrival) (parts : all ≡ given ++ reverse left) (taken : left ≡ less ++ a ∷ []) where
+  -- the messages that were given, the one that is taken off, and those that are left
+  next_part : all ≡ given ++ a ∷ reverse less
+  next_part = parts ∙ ap (λ (l : List saved.Arrival). given ++ l) (ap reverse taken ∙ reverse-append less (a ∷ []))
 
--- a fault after the first of the messages
-pub ends_within : (P : Plan) (core new : CoreState) (xs ys : List saved.Arrival) (k : ℕ) (x : saved.Arrival) (o : Option CoreFault) (f : CoreFault) → core.plan ≡ P → ys ≡ xs → k < length ys → x ≡ get_or ys k x
-    → IsOnWay P (map came (take k ys)) core.entries → o ≡ Some f → GivenBy core (came x) o new → IsRun P (map came xs) (Core f) new
-ends_within P core new xs ys k x o f plan same there is way fault given = stopped_within P (map came (take k ys) ++ came x ∷ map came (drop (suc k) ys)) (map came xs) f new
-    (subst (λ (Q : Plan). IsStopped Q (map came (take k ys) ++ came x ∷ map came (drop (suc k) ys)) f new) plan
-    (subst (λ (p : Option CoreFault). GivenBy core (came x) p new) fault given (map came (take k ys)) (map came (drop (suc k) ys)) (subst (λ (Q : Plan). IsOnWay Q (map came (take k ys)) core.entries) (sym plan) way)))
-    (sym (map_append came (take k ys) (x ∷ drop (suc k) ys)) ∙ ap (λ (y : saved.Arrival). map came (take k ys ++ y ∷ drop (suc k) ys)) is ∙ ap (map came) (split ys k x there ∙ same))
+  pub next_parts : all ≡ (given ++ a ∷ []) ++ reverse less
+  next_parts = next_part ∙ sym (append_assoc given (a ∷ []) (reverse less))
 
--- one message more was given
-pub more_given : (xs : List saved.Arrival) (k : ℕ) (x : saved.Arrival) → k < length xs → x ≡ get_or xs k x → map came (take k xs) ++ came x ∷ [] ≡ map came (take (k + 1) xs)
-more_given xs k x there is = sym (map_append came (take k xs) (x ∷ [])) ∙ ap (map came) (ap (λ (y : saved.Arrival). take k xs ++ y ∷ []) is ∙ sym (take_more xs k x there))
+  -- the core takes it, as it takes all
+  pub next_arrives : (P : Plan) (core : CoreState) → core.plan ≡ P → All (CanArrive P) all → CanArrive core.plan a
+  next_arrives P core plan known = subst (λ (Q : Plan). CanArrive Q a) (sym plan) (all_in (CanArrive P) all a known (subst (IsIn a) (sym next_part) (in_back a given (a ∷ reverse less) (inl refl))))
+
+  -- a fault after the first of the messages
+  pub ends_within : (P : Plan) (core new : CoreState) (o : Option CoreFault) (f : CoreFault) → core.plan ≡ P → IsOnWay P (map came given) core.entries → o ≡ Some f → GivenBy core (came a) o new → IsRun P (map came all) (Core f) new
+  ends_within P core new o f plan way fault by = stopped_within P (map came given ++ map came (a ∷ reverse less)) (map came all) f new
+      (subst (λ (Q : Plan). IsStopped Q (map came given ++ map came (a ∷ reverse less)) f new) plan
+      (subst (λ (p : Option CoreFault). GivenBy core (came a) p new) fault by (map came given) (map came (reverse less)) (subst (λ (Q : Plan). IsOnWay Q (map came given) core.entries) (sym plan) way)))
+      (sym (map_append came given (a ∷ reverse less)) ∙ ap (map came) (sym next_part))
+
+  -- one message more was given
+  pub more_given : (P : Plan) (core new : CoreState) (o : Option CoreFault) → core.plan ≡ P → IsOnWay P (map came given) core.entries → o ≡ None → GivenBy core (came a) o new
+      → (new.ended ≡ None) × (new.plan ≡ P) × IsOnWay P (map came (given ++ a ∷ [])) new.entries
+  more_given P core new o plan way none by =
+      let by_none : GivenBy core (came a) None new = subst (λ (p : Option CoreFault). GivenBy core (came a) p new) none by in
+      let there : IsOnWay core.plan (map came given) core.entries = subst (λ (Q : Plan). IsOnWay Q (map came given) core.entries) (sym plan) way in (
+        by_none.0,
+        by_none.1 ∙ plan,
+        subst (λ (l : List Arrival). IsOnWay P l new.entries) (sym (map_append came given (a ∷ []))) (subst (λ (Q : Plan). IsOnWay Q (map came given ++ came a ∷ []) new.entries) plan (by_none.2 (map came given) there)),
+      )
+
+-- the end, where all were given
+pub ends_after : {E : Type 0} (all given left : List saved.Arrival) (P : Plan) (core new : CoreState) (r : Result ReplayEnd E) → all ≡ given ++ reverse left → left ≡ [] → core.plan ≡ P → IsOnWay P (map came given) core.entries
+    → ((A : List Arrival) → IsOnWay core.plan A core.entries → IfOk r (λ end. IsRun core.plan A end new)) → IfOk r (λ end. IsRun P (map came all) end new)
+ends_after all given left P core new r parts none plan way ends =
+    let whole : given ≡ all = sym (parts ∙ ap (λ (l : List saved.Arrival). given ++ reverse l) none ∙ append_nil given) in
+    subst (λ (l : List saved.Arrival). IfOk r (λ end. IsRun P (map came l) end new)) whole
+    (subst (λ (Q : Plan). IfOk r (λ end. IsRun Q (map came given) end new)) plan
+    (ends (map came given) (subst (λ (Q : Plan). IsOnWay Q (map came given) core.entries) (sym plan) way)))

@@ -1,5 +1,5 @@
 // The replay of a record: whoever is ready is asked, and a message is given, until nothing is left to do.
-ghost use Rattle.std.specs.Prelude.{◌≡◌, ◌<◌, ◌^◌, ℕ, List, [], Option, None, true, map, All, IfOk, is_some, if◌then◌else◌};
+ghost use Rattle.std.specs.Prelude.{◌≡◌, ◌<◌, ◌^◌, ℕ, List, [], Option, None, true, map, reverse, All, IfOk, is_some, if◌then◌else◌};
 ghost use Rattle.mk_plan.specs.Plans.{IsValidPlan, sim_count};
 ghost use Rattle.mk_plan.specs.Journals as journals;
 ghost use Rattle.mk_plan.specs.Journals.{view, open_count};
@@ -17,7 +17,7 @@ ghost use Rattle.mk_replay.specs.Loops.{CanArrive, GivenBy, IsOnWay, IsRun, IsSe
 
 use crate::ordering::{run_in_order, split};
 use mk_base::{List, Mem, SimNo};
-use mk_differs::first_other;
+use mk_differs::first_other_step;
 use mk_plan::{Journal, Plan};
 use mk_saved::{Arrival, Saved};
 use mk_sched::{Core, CoreFault, Next, Taken};
@@ -78,18 +78,14 @@ fn as_recorded(alloc: Global, saved: Saved) -> Result<Replayed, Mem>
         arrivals,
         asks,
     } = saved;
+    let count = arrivals.len();
     let mut core = Core::new(alloc, plan)?;
-    let end = run(&mut core, &arrivals)?;
+    let end = run(&mut core, arrivals)?;
     let (plan, journal) = core.into_parts();
-    let replayed = Saved {
-        plan,
-        arrivals,
-        asks,
-    };
-    let other = first_other(&replayed, &journal);
+    let other = first_other_step(count, &asks, &journal);
     Ok(Replayed {
         end: end_with(end, other),
-        plan: replayed.plan,
+        plan,
         journal,
     })
 }
@@ -104,8 +100,9 @@ fn in_order(alloc: Global, saved: Saved, order: u32) -> Result<Replayed, Mem>
     let Saved {
         plan,
         arrivals,
-        asks: _asks,
+        asks,
     } = saved;
+    drop(asks);
     let mut waiting = split(alloc, plan.sims.len(), arrivals)?;
     let mut core = Core::new(alloc, plan)?;
     let end = run_in_order(alloc, &mut core, &mut waiting, order)?;
@@ -138,18 +135,51 @@ pub fn replay_is_one()
         → IsReplayBy P A steps order J e → IsReplayBy P A steps order K f → (J ≡ K) × (e ≡ f) }
 {}
 
-// Gives these messages to a new core.
-fn run(core: &mut Core, arrivals: &List<Arrival>) -> Result<ReplayEnd, Mem>
+// Gives these messages to a new core, and keeps none that was given.
+fn run(core: &mut Core, arrivals: List<Arrival>) -> Result<ReplayEnd, Mem>
     requires new { core.old ≡ record { plan = core.old.plan; entries = []; ended = None } }
-    requires known { All (CanArrive core.old.plan) arrivals.now }
-    ensures { IfOk result (λ end. IsRun core.old.plan (map came arrivals.now) end core.new) }
+    requires known { All (CanArrive core.old.plan) arrivals }
+    ensures { IfOk result (λ end. IsRun core.old.plan (map came arrivals) end core.new) }
 {
-    for arrival in arrivals.as_slice() {
-        if let Some(fault) = give(core, arrival)? {
+    let mut left = last_first(arrivals);
+    let mut half = left.len() / 2;
+    while let Some(arrival) = left.pop() {
+        if let Some(fault) = give_up(core, arrival)? {
             return Ok(ReplayEnd::Core(fault));
         }
+        half = give_room_back(&mut left, half);
     }
     finish(core)
+}
+
+// The messages from the last to the first.
+fn last_first(arrivals: List<Arrival>) -> List<Arrival>
+    ensures { result ≡ reverse arrivals }
+{
+    let mut all = arrivals.into_vec();
+    all.reverse();
+    List::from_vec(all)
+}
+
+// Gives back the room of the messages that were taken off, where no more are left than half of those that there were when it
+// was given back last; half of those that there were then.
+fn give_room_back(left: &mut List<Arrival>, half: usize) -> usize
+    ensures { left.new ≡ left.old }
+{
+    if left.len() > half {
+        return half;
+    }
+    left.trim();
+    left.len() / 2
+}
+
+// The same as `give`, after which the message is dropped.
+fn give_up(core: &mut Core, arrival: Arrival) -> Result<Option<CoreFault>, Mem>
+    requires going { core.old.ended ≡ None }
+    requires known { CanArrive core.old.plan arrival }
+    ensures { IfOk result (λ fault. GivenBy core.old (came arrival) fault core.new) }
+{
+    give(core, &arrival)
 }
 
 // Asks whoever is ready, and then gives one message; the fault that ends the replay, if there is one.

@@ -1,4 +1,5 @@
-use Rattle.std.proofs.Common.{◌≡◌, None, map, take}
+use Rattle.std.proofs.Common.{◌≡◌, ◌++◌, None, List, map, length, reverse}
+use Rattle.mk_saved.specs.declared.saved.Arrival.{Arrival}
 use Rattle.mk_saved.specs.Seen.{came}
 use Rattle.mk_replay.specs.Loops.{IsOnWay}
 use Rattle.mk_replay.proofs.replaying.run.Given as goal
@@ -7,6 +8,10 @@ abbrev pub invariant-loop-arrival : goal.invariant-loop-arrival
 invariant-loop-arrival l = record {
   going : l.core.ended ≡ None;
   plan : l.core.plan ≡ l.fn.core.plan;
-  items : l.arrival-items ≡ l.arrivals;
-  on_way : IsOnWay l.fn.core.plan (map came (take l.arrival-index l.arrival-items)) l.core.entries;
+  given : List Arrival;
+  parts : l.fn.arrivals ≡ given ++ reverse l.left;
+  on_way : IsOnWay l.fn.core.plan (map came given) l.core.entries;
 }
+
+abbrev pub decreases-loop-arrival : goal.decreases-loop-arrival
+decreases-loop-arrival l = length l.left
