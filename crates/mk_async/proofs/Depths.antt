@@ -26,12 +26,12 @@ use Rattle.mk_plan.specs.declared.Plan.{Plan}
 use Rattle.mk_plan.specs.Asks.{Lookup, entity_of}
 use Rattle.mk_plan.specs.Deliveries.{Supply, Timed}
 use Rattle.mk_plan.specs.Inputs.{latest, value_at}
-use Rattle.mk_valid.specs.Nesting.{nesting_of}
-use Rattle.mk_valid.proofs.Scanning.{nesting_is}
-use Rattle.mk_async.specs.Content.{AreContents, AreNamed, FindsValues, Texts, put_attr, put_named, put_value, values_in, values_of, wants_text}
+use Rattle.mk_plan_check.specs.Nesting.{nesting_of}
+use Rattle.mk_plan_check.proofs.Scanning.{nesting_is}
+use Rattle.mk_async.specs.inner.Content.{AreContents, AreNamed, FindsValues, Texts, put_attr, put_named, put_value, values_in, values_of, wants_text}
 use Rattle.mk_async.specs.Forms.{each_passes}
-use Rattle.mk_async.specs.Known.{Members}
-use Rattle.mk_async.specs.Related.{fits, texts}
+use Rattle.mk_async.specs.inner.Known.{Members}
+use Rattle.mk_async.specs.inner.Related.{fits, texts}
 use Rattle.mk_async.proofs.Giving.{and_of, first_of, rest_of}
 use Rattle.mk_async.proofs.Relating.{fits_object, text_object}
 

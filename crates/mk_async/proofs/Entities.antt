@@ -7,7 +7,7 @@ use Rattle.mk_base.proofs.Lists.{some_same, none_some}
 use Rattle.mk_plan.specs.declared.Plan.{Plan}
 use Rattle.mk_plan.specs.Plans.{full_id}
 use Rattle.mk_plan.specs.Asks.{entity_of, of_entity}
-use Rattle.mk_confluence.proofs.GivenValues.{text_is}
+use Rattle.mk_order.proofs.GivenValues.{text_is}
 
 found_inside : (test : ℕ → Bool) (a n e : ℕ) → find test (range_with_len a n) ≡ Some e → e < a + n
 found_inside test a zero e h = absurd (none_some h)

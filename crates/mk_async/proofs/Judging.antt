@@ -5,9 +5,10 @@ use Rattle.mk_base.specs.declared.json.Json.{Json}
 use Rattle.mk_base.proofs.Lists.{none_some, some_same}
 use Rattle.mk_plan.specs.declared.Plan.{Plan}
 use Rattle.mk_plan.specs.Asks.{AskAnswer, Answered, Refused, Lookup, Request, answer, answer_request, content_text, sets_in, is_function, request_of, knows, permits, unknown_name, no_pair}
-use Rattle.mk_async.specs.Asked.{IsRequest, asked_in, refusal_in}
-use Rattle.mk_async.specs.Judged.{tested}
-use Rattle.mk_async.specs.Known.{knows_asked, permits_asked}
+use Rattle.mk_async.specs.Asked.{asked_in, refusal_in}
+use Rattle.mk_async.specs.inner.Asked.{IsRequest}
+use Rattle.mk_async.specs.inner.Judged.{tested}
+use Rattle.mk_async.specs.inner.Known.{knows_asked, permits_asked}
 use Rattle.mk_async.specs.declared.request.Asked.{Asked}
 use Rattle.mk_async.proofs.Testing.{both}
 

@@ -6,7 +6,8 @@ use Rattle.mk_base.specs.Lists.{all_there}
 use Rattle.mk_base.specs.Trees.{text_in, items_in, members_in, is_datum}
 use Rattle.mk_plan.specs.Asks.{texts_in, members_by, datum_in, Get, Set, RelatedOfEach}
 use Rattle.mk_async.specs.Asked.{get_in, named_by}
-use Rattle.mk_async.specs.Forms.{are_texts, each_passes, is_destinations, is_object_of, is_such, is_texts, is_values, set_of, texts_of}
+use Rattle.mk_async.specs.Forms.{are_texts, each_passes, is_destinations, is_object_of, is_such, is_texts, is_values}
+use Rattle.mk_async.specs.inner.Forms.{set_of, texts_of}
 
 module _ {A : Type 0} where
   pub none_there : (b : Bool) (o : Option A) → b ≡ false → is_some o ≡ b → o ≡ None

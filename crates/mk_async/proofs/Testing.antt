@@ -10,7 +10,7 @@ use Rattle.mk_plan.specs.Plans.{owner}
 use Rattle.mk_plan.specs.Asks.{Named, Request, Get, Set, RelatedOfEach, texts_in, members_by, datum_in, entity_of, of_entity, gives_attr, takes_attr, knows, permits}
 use Rattle.mk_async.specs.Asked.{named_by, asked_in}
 use Rattle.mk_async.specs.Forms.{is_such}
-use Rattle.mk_async.specs.Known.{Members, are_known, gives_each, is_known, knows_asked, knows_destination, knows_destinations, knows_source, knows_sources, knows_want, knows_wants, lends, lends_destinations, lends_each, lends_sources, permits_asked, takes_each}
+use Rattle.mk_async.specs.inner.Known.{Members, are_known, gives_each, is_known, knows_asked, knows_destination, knows_destinations, knows_source, knows_sources, knows_want, knows_wants, lends, lends_destinations, lends_each, lends_sources, permits_asked, takes_each}
 use Rattle.mk_async.specs.declared.request.Asked.{Asked}
 use Rattle.mk_async.specs.declared.request.Asked.TheVariants as as_asked
 

@@ -17,8 +17,8 @@ use Rattle.mk_plan.specs.declared.Plan.{Plan}
 use Rattle.mk_plan.specs.Asks.{Lookup, Named, Get, content_text, entity_of, ordered, texts_in}
 use Rattle.mk_plan.specs.Asks as asks
 use Rattle.mk_async.specs.Asked.{get_in, named_by}
-use Rattle.mk_async.specs.Content.{Texts, listed, member_text, put_attr, put_named, put_value, values_in, values_of, want_text, wants_text}
-use Rattle.mk_async.specs.Known.{Members}
+use Rattle.mk_async.specs.inner.Content.{Texts, listed, member_text, put_attr, put_named, put_value, values_in, values_of, want_text, wants_text}
+use Rattle.mk_async.specs.inner.Known.{Members}
 use Rattle.mk_async.proofs.Giving.{named_map}
 use Rattle.mk_async.proofs.Relating.{put_in}
 use Rattle.mk_async.proofs.Testing.{made}

@@ -1,5 +1,5 @@
 -- What a request as it stands in its argument asks for, and what a judgement of it says.
-use Rattle.std.specs.Prelude.{◌≡◌, ℕ, Bool, true, false, List, map, Option, Some, None, ⊤, option_map, IsSome, Result, Ok, Err}
+use Rattle.std.specs.Prelude.{◌≡◌, ℕ, Bool, true, false, List, map, Option, Some, None, option_map, Result, Ok, Err}
 use Rattle.std.specs.List.{list_all}
 use Rattle.mk_base.specs.declared.json.Json.{Json}
 use Rattle.mk_base.specs.Lists.{all_there}
@@ -27,11 +27,6 @@ asked_in (as_asked.Set ms) = option_map Set (named_by (members_by (members_by da
 asked_in (as_asked.Related text) = Some (Related text.now)
 asked_in (as_asked.RelatedOfEach trees) = option_map RelatedOfEach (all_there (map text_in trees.now))
 
--- what is asked for is the request; nothing is where there is none
-abbrev pub IsRequest : Option Asked → Option Request → Type 0
-IsRequest None request = request ≡ None
-IsRequest (Some asked) request = (asked_in asked ≡ request) × IsSome request
-
 -- the number of the refusal that an answer is
 abbrev pub refusal_in : AskAnswer → Option ℕ
 refusal_in (Answered content sets) = None
@@ -48,11 +43,6 @@ is_asked_in_range (as_asked.Get ms) = true
 is_asked_in_range (as_asked.Set ms) = list_all (λ (m : List ℕ × Json). is_in_range m.1) ms.now
 is_asked_in_range (as_asked.Related text) = true
 is_asked_in_range (as_asked.RelatedOfEach trees) = true
-
--- a request that is there is in range
-abbrev pub HasRange : Option Asked → Type 0
-HasRange None = ⊤
-HasRange (Some asked) = is_asked_in_range asked ≡ true
 
 -- it gets data
 abbrev pub gets : Asked → Bool

@@ -1,7 +1,3 @@
 pub mod Asked
-pub mod Content
 pub mod Forms
-pub mod Given
-pub mod Judged
-pub mod Known
-pub mod Related
+pub mod inner

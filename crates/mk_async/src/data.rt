@@ -6,19 +6,19 @@ ghost use Rattle.mk_base.specs.Trees.{items_in, text_in};
 ghost use Rattle.mk_plan.specs.Asks.{Get, content_text, gives_attr, knows};
 ghost use Rattle.mk_plan.specs.Deliveries.{Supply};
 ghost use Rattle.mk_plan.specs.Inputs.{value_at};
-ghost use Rattle.mk_names.specs.Names.{AreNamesOf};
+ghost use Rattle.mk_plan_names.specs.Names.{AreNamesOf};
 ghost use Rattle.mk_buffers.specs.Standing.{Stands, least_mark};
 ghost use Rattle.mk_async.specs.Asked.{get_in};
-ghost use Rattle.mk_async.specs.Content.{listed, member_text, put_attr, put_named, values_by, values_of, want_text, wants_text, IsNamed, AreNamed, IsContent, AreContents};
+ghost use Rattle.mk_async.specs.inner.Content.{listed, member_text, put_attr, put_named, values_by, values_of, want_text, wants_text, IsNamed, AreNamed, IsContent, AreContents};
 ghost use Rattle.mk_async.specs.Forms.{is_such};
-ghost use Rattle.mk_async.specs.Known.{gives_each, knows_want, knows_wants};
+ghost use Rattle.mk_async.specs.inner.Known.{gives_each, knows_want, knows_wants};
 
 use crate::known::entity_of;
 use mk_base::{Datum, Json, List, Mem, Members, Text, Tier};
 use mk_buffers::Buffers;
 use mk_json::put_text;
-use mk_names::Names;
 use mk_plan::Plan;
+use mk_plan_names::Names;
 use std::alloc::Global;
 
 /// The content of the answer to a `get_data` that was judged, asked in a step at `at`: under each entity's full id an object of

@@ -3,8 +3,10 @@ ghost use Rattle.std.specs.Prelude.{◌≡◌, true, is_some, option_map};
 ghost use Rattle.std.specs.List.{list_all};
 ghost use Rattle.mk_base.specs.Trees.{text_in, is_datum, is_in_range};
 ghost use Rattle.mk_plan.specs.Asks.{argument, form, is_function, is_get, is_related, is_set, request_of};
-ghost use Rattle.mk_async.specs.Asked.{HasRange, IsRequest, get_in};
-ghost use Rattle.mk_async.specs.Forms.{are_texts, each_passes, get_form, is_destinations, is_texts, is_values, only, related_form, set_form, set_of, texts_form, texts_of};
+ghost use Rattle.mk_async.specs.Asked.{get_in};
+ghost use Rattle.mk_async.specs.inner.Asked.{HasRange, IsRequest};
+ghost use Rattle.mk_async.specs.Forms.{are_texts, each_passes, is_destinations, is_texts, is_values};
+ghost use Rattle.mk_async.specs.inner.Forms.{get_form, only, related_form, set_form, set_of, texts_form, texts_of};
 
 use crate::request::Asked;
 use mk_base::{Json, List, Members, Text};

@@ -3,17 +3,17 @@ ghost use Rattle.std.specs.Prelude.{◌≡◌, ℕ, All, ◌++◌, ◌∷◌, []
 ghost use Rattle.mk_base.specs.Texts.{text_of};
 ghost use Rattle.mk_base.specs.Trees.{is_datum, is_in_range};
 ghost use Rattle.mk_plan.specs.Asks.{entity_of, knows, sets_in};
-ghost use Rattle.mk_names.specs.Names.{AreNamesOf};
+ghost use Rattle.mk_plan_names.specs.Names.{AreNamesOf};
 ghost use Rattle.mk_async.specs.Asked.{IsGivenBy, asked_in, is_asked_in_range};
 ghost use Rattle.mk_async.specs.Forms.{each_passes, is_object_of};
-ghost use Rattle.mk_async.specs.Given.{is_source, is_value, members_of, set_value, values_from, values_in, values_to};
+ghost use Rattle.mk_async.specs.inner.Given.{is_source, is_value, members_of, set_value, values_from, values_in, values_to};
 
 use crate::known::entity_of;
 use crate::request::Asked;
 use mk_base::{Datum, Json, List, Mem, Members, Text};
 use mk_json::datum;
-use mk_names::Names;
 use mk_plan::{Plan, SetValue};
+use mk_plan_names::Names;
 use std::alloc::Global;
 
 /// The values that a request sets, in byte order of source, destination and attribute; none but of `set_data`. Where the

@@ -4,18 +4,18 @@ ghost use Rattle.std.specs.List.{list_all};
 ghost use Rattle.mk_base.specs.Trees.{is_in_range};
 ghost use Rattle.mk_plan.specs.Plans.{RefersInside};
 ghost use Rattle.mk_plan.specs.Asks.{Lookup, answer, knows, permits, request_of};
-ghost use Rattle.mk_names.specs.Names.{AreNamesOf};
+ghost use Rattle.mk_plan_names.specs.Names.{AreNamesOf};
 ghost use Rattle.mk_async.specs.Asked.{asked_in, is_asked_in_range, refusal_by, refusal_in};
-ghost use Rattle.mk_async.specs.Judged.{tested};
-ghost use Rattle.mk_async.specs.Known.{knows_asked, permits_asked};
+ghost use Rattle.mk_async.specs.inner.Judged.{tested};
+ghost use Rattle.mk_async.specs.inner.Known.{knows_asked, permits_asked};
 
 use crate::forms::{is_function, request_of};
 use crate::known::knows;
 use crate::pairs::permits;
 use crate::request::Asked;
 use mk_base::{Json, List, SimNo, Text};
-use mk_names::Names;
 use mk_plan::Plan;
+use mk_plan_names::Names;
 
 // The refusals, by the numbers of the tests that fail.
 const UNKNOWN_FUNCTION: u8 = 1;

@@ -4,16 +4,16 @@ ghost use Rattle.std.specs.List.{list_any};
 ghost use Rattle.mk_base.specs.Lists.{same_text};
 ghost use Rattle.mk_plan.specs.Plans.{RefersInside};
 ghost use Rattle.mk_plan.specs.Asks.{entity_of, gives_attr, takes_attr};
-ghost use Rattle.mk_names.specs.Names.{AreNamesOf};
+ghost use Rattle.mk_plan_names.specs.Names.{AreNamesOf};
 ghost use Rattle.mk_async.specs.Forms.{is_such};
-ghost use Rattle.mk_async.specs.Known.{are_known, gives_each, is_known, is_own, knows_asked, knows_destination, knows_destinations, knows_source, knows_sources, knows_want, knows_wants, takes_each};
+ghost use Rattle.mk_async.specs.inner.Known.{are_known, gives_each, is_known, is_own, knows_asked, knows_destination, knows_destinations, knows_source, knows_sources, knows_want, knows_wants, takes_each};
 ghost use Rattle.mk_base.specs.Trees.{items_in, members_in, text_in};
 
 use crate::request::Asked;
 use mk_base::{Json, List, Members, SimNo, Text};
-use mk_names::Names;
 use mk_plan::{Plan, PlanModel};
-use mk_turns::owner;
+use mk_plan_judge::owner;
+use mk_plan_names::Names;
 
 // Whether each entity and attribute of what the simulator asks for is known.
 pub fn knows(plan: &Plan, names: &Names, sim: SimNo, asked: &Asked) -> bool

@@ -1,15 +1,15 @@
 //! Whether the asynchronous connections of a request are there.
 ghost use Rattle.std.specs.Prelude.{◌≡◌};
 ghost use Rattle.mk_plan.specs.Plans.{RefersInside};
-ghost use Rattle.mk_names.specs.Names.{AreNamesOf};
-ghost use Rattle.mk_async.specs.Known.{lends, lends_destinations, lends_each, lends_sources, permits_asked};
+ghost use Rattle.mk_plan_names.specs.Names.{AreNamesOf};
+ghost use Rattle.mk_async.specs.inner.Known.{lends, lends_destinations, lends_each, lends_sources, permits_asked};
 
 use crate::known::entity_of;
 use crate::request::Asked;
 use mk_base::{Json, Members, SimNo, Text};
-use mk_names::Names;
 use mk_plan::Plan;
-use mk_turns::owner;
+use mk_plan_judge::owner;
+use mk_plan_names::Names;
 
 // Whether the asynchronous connections that what the simulator asks for needs are there.
 pub fn permits(plan: &Plan, names: &Names, sim: SimNo, asked: &Asked) -> bool

@@ -5,16 +5,16 @@ ghost use Rattle.mk_base.specs.Lists.{text_order};
 ghost use Rattle.mk_base.specs.Trees.{text_in};
 ghost use Rattle.mk_plan.specs.Plans.{RefersInside, full_id};
 ghost use Rattle.mk_plan.specs.Asks.{Lookup, content_text, model_name, related_text, related_to};
-ghost use Rattle.mk_names.specs.Names.{AreNamesOf};
+ghost use Rattle.mk_plan_names.specs.Names.{AreNamesOf};
 ghost use Rattle.mk_async.specs.Asked.{asked_in, gets};
-ghost use Rattle.mk_async.specs.Related.{described, each_read, each_text, put_read, related_tree, type_tree};
+ghost use Rattle.mk_async.specs.inner.Related.{described, each_read, each_text, put_read, related_tree, type_tree};
 
 use crate::given::datum_of;
 use crate::known::entity_of;
 use crate::request::Asked;
 use mk_base::{Datum, Json, List, Mem, Members, Text};
-use mk_names::Names;
 use mk_plan::Plan;
+use mk_plan_names::Names;
 use std::alloc::Global;
 
 /// The content of the answer to a request that was judged, where it needs no output: `null` for `set_data`; for

@@ -11,7 +11,8 @@ use Rattle.std.specs.BTreeMap.{insert_entry}
 use Rattle.std.proofs.lemmas.Cmp.{nat_list_cmp_total}
 use Rattle.std.proofs.lemmas.Map.Text.{is_eq-slice_cmp}
 use Rattle.std.proofs.lemmas.Slice.Eq.{bytes_eq-Decides}
-use Rattle.mk_base.specs.Lists.{place_under, is_name_at, same_text}
+use Rattle.mk_base.specs.Lists.{same_text}
+use Rattle.mk_base.specs.inner.Lists.{place_under, is_name_at}
 
 module _ {V : Type 0} (k : List ℕ) (v : V) where
   put_all : (P : List ℕ → Type 0) (es : List (List ℕ × V)) → AllByRecursion P (keys_of es) → P k → AllByRecursion P (keys_of (insert_entry (slice_cmp nat_cmp) es k v))

@@ -9,7 +9,8 @@ use Rattle.std.specs.declared.cmp.Ordering.{Ordering}
 use Rattle.std.specs.declared.cmp.Ordering.TheVariants.{Less, Equal, Greater}
 use Rattle.std.proofs.lemmas.Cmp.{nat_list_cmp_total}
 use Rattle.std.proofs.lemmas.Map.Text.{is_eq-slice_cmp}
-use Rattle.mk_base.specs.Lists.{same_text, value_under, place_under, value_if_named}
+use Rattle.mk_base.specs.Lists.{same_text, value_under}
+use Rattle.mk_base.specs.inner.Lists.{place_under, value_if_named}
 
 gt_is : (o : Ordering) → is_gt o ≡ true → o ≡ Greater
 gt_is Less h = absurd (true≢false (sym h))

@@ -25,7 +25,3 @@ proper_step (Json-F.Object ms) = names_rise (keys_of ms) && list_all is_utf8 (ke
 -- each text and name is UTF-8, and each object has its names in byte order, each once
 abbrev pub is_proper : Json → Bool
 is_proper = folded Bool proper_step
-
--- the members of an object of a proper tree
-abbrev pub are_proper : List (List ℕ × Json) → Bool
-are_proper ms = names_rise (keys_of ms) && list_all is_utf8 (keys_of ms) && list_all (λ (m : List ℕ × Json). is_proper m.1) ms

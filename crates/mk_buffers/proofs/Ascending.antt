@@ -14,7 +14,8 @@ use Rattle.mk_base.proofs.TierOrder.{up_to_self, up_to_total, up_to_trans, delay
 use Rattle.mk_base.proofs.Lists.{filter_append, map_append, in_map}
 use Rattle.mk_plan.specs.Deliveries.{Timed}
 use Rattle.mk_plan.specs.Inputs.{later, latest, is_since}
-use Rattle.mk_buffers.specs.Logs.{arrival, arrivals, by, is_in_time, does_come, weighed, AllFrom, IsAscending, is_overtaken, SameAnswers, within, AnswersFrom, PlacedFor}
+use Rattle.mk_buffers.specs.Logs.{arrival, arrivals, by, is_in_time, within, AnswersFrom}
+use Rattle.mk_buffers.specs.inner.Logs.{does_come, weighed, AllFrom, IsAscending, is_overtaken, SameAnswers, PlacedFor}
 use Rattle.mk_buffers.proofs.Latest.{without, moved, latest_last}
 
 -- two tests one after the other

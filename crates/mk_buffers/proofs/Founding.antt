@@ -24,14 +24,16 @@ use Rattle.mk_buffers.specs.declared.outlets.Source.{Source}
 use Rattle.mk_buffers.specs.declared.outlets.Outlet.{Outlet}
 use Rattle.mk_buffers.specs.declared.outlets.Outlets.{Outlets}
 use Rattle.mk_buffers.specs.declared.sets.Slot.{Slot}
-use Rattle.mk_buffers.specs.Marking.{AreAsking, AreStarts, IsLeastMark}
+use Rattle.mk_buffers.specs.Marking.{AreAsking, IsLeastMark}
+use Rattle.mk_buffers.specs.inner.Marking.{AreStarts}
 use Rattle.mk_base.specs.declared.tier.Tier.{Tier}
 use Rattle.mk_base.specs.Tiers.{moment}
 use Rattle.mk_plan.specs.Plans.{IsValidPlan}
 use Rattle.mk_buffers.specs.Held.{is_key, has_key}
-use Rattle.mk_buffers.specs.Building.{outlet_order, IsSource, HasSources, AreOutlets, AreParts, IsPartOf}
-use Rattle.mk_buffers.specs.Listing.{IsTargetAt, AreTargets, IsInletOf, AreListed}
-use Rattle.mk_buffers.specs.Standing.{HasHome, mark_of, IsInlet, AreInlets, IsFound, IsNew, AreHomes, HasSizes, IsUnset, AreUnset, IsLookedAt, IsTight}
+use Rattle.mk_buffers.specs.inner.Building.{outlet_order, IsSource, HasSources, AreOutlets, AreParts, IsPartOf}
+use Rattle.mk_buffers.specs.inner.Listing.{IsTargetAt, AreTargets, IsInletOf, AreListed}
+use Rattle.mk_buffers.specs.Standing.{HasHome, mark_of, IsInlet, AreInlets, IsFound, IsNew, HasSizes, IsUnset, IsLookedAt, IsTight}
+use Rattle.mk_buffers.specs.inner.Standing.{AreHomes, AreUnset}
 use Rattle.std.specs.List.{sum_by}
 use Rattle.mk_plan.specs.Deliveries.{Timed}
 use Rattle.mk_buffers.specs.declared.outlets.Part.{Part}

@@ -28,12 +28,14 @@ use Rattle.mk_buffers.specs.declared.inlets.Inlet.{Inlet}
 use Rattle.mk_buffers.specs.declared.buffers.Buffers.{Buffers}
 use Rattle.mk_buffers.specs.Listing.{inlet_order}
 use Rattle.mk_buffers.specs.Held.{input_of}
-use Rattle.mk_confluence.proofs.Assembled.{last_with, puts_by_last}
-use Rattle.mk_confluence.proofs.GivenValues.{is_for, assemble_given}
+use Rattle.mk_order.proofs.Assembled.{last_with, puts_by_last}
+use Rattle.mk_order.proofs.GivenValues.{is_for, assemble_given}
 use Rattle.mk_buffers.specs.declared.sets.Slot.{Slot}
-use Rattle.mk_buffers.specs.Slots.{AnswerGifts, set_inputs}
+use Rattle.mk_buffers.specs.Slots.{AnswerGifts}
+use Rattle.mk_buffers.specs.inner.Slots.{set_inputs}
 use Rattle.mk_buffers.proofs.Slots.{as_input, last_set, last_given}
-use Rattle.mk_buffers.specs.Standing.{AreInlets, AreGifts, Stands, mark_of, given, value_for, IsBegun, HasGathered}
+use Rattle.mk_buffers.specs.Standing.{AreInlets, AreGifts, Stands, mark_of, given, value_for}
+use Rattle.mk_buffers.specs.inner.Standing.{IsBegun, HasGathered}
 use Rattle.mk_buffers.proofs.Putting.{inputs_total}
 use Rattle.mk_buffers.proofs.Picking.{given_same}
 

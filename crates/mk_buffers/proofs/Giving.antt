@@ -17,7 +17,8 @@ use Rattle.mk_plan.specs.Plans.{full_id, IsValidPlan}
 use Rattle.mk_buffers.specs.declared.sets.Slot.{Slot}
 use Rattle.mk_buffers.specs.Slots.{AnswerGifts}
 use Rattle.mk_buffers.specs.Held.{has_key, with_gift}
-use Rattle.mk_buffers.specs.Standing.{Stands, HasSet, HasValueTexts, AreGifts, IsSourced, TargetOf, mark_of}
+use Rattle.mk_buffers.specs.Standing.{Stands, HasValueTexts, AreGifts, IsSourced, mark_of}
+use Rattle.mk_buffers.specs.inner.Standing.{HasSet, TargetOf}
 use Rattle.mk_buffers.specs.Marking.{Marked, IsLeastMark}
 use Rattle.mk_buffers.proofs.Marking.{apart_or_same}
 use Rattle.mk_base.proofs.Lists.{get_is}

@@ -4,7 +4,8 @@ use Rattle.mk_base.specs.declared.tier.Tier.{Tier}
 use Rattle.mk_base.specs.Tiers.{up_to, IsUpTo, moment}
 use Rattle.mk_base.proofs.TierOrder.{up_to_self, up_to_total, up_to_trans, up_to_antisym}
 use Rattle.mk_base.proofs.Lists.{some_same, below_get, get_is, set_here, set_else, length_set}
-use Rattle.mk_buffers.specs.Marking.{Marked, AreStarts, IsLow, IsLeastOf, IsNoneOf, IsBest, Raised, IsLeastMark, HoldsLeast, greater}
+use Rattle.mk_buffers.specs.Marking.{Marked, IsLow, IsLeastMark, greater}
+use Rattle.mk_buffers.specs.inner.Marking.{AreStarts, IsLeastOf, IsNoneOf, IsBest, Raised, HoldsLeast}
 
 pub get_some : {X : Type 0} (xs : List X) (i : ℕ) (d : X) → i < length xs → d ≡ get_or xs i d → slice_get xs i ≡ Some d
 get_some [] i d there is = absurd (omega arith)

@@ -11,7 +11,8 @@ use Rattle.mk_base.proofs.TierOrder.{up_to_trans, delayed_keeps}
 use Rattle.mk_base.proofs.Lists.{filter_append, in_at, at_in, get_is}
 use Rattle.mk_buffers.proofs.Marking.{get_some}
 use Rattle.mk_plan.specs.Deliveries.{Timed}
-use Rattle.mk_buffers.specs.Logs.{does_come, IsAscending, is_past, is_overtaken, is_held_up, is_settled, IsAmong, IsFew, IsRest, IsFirstToCome}
+use Rattle.mk_buffers.specs.Logs.{is_settled, IsAmong, IsFew}
+use Rattle.mk_buffers.specs.inner.Logs.{does_come, IsAscending, is_past, is_overtaken, is_held_up, IsRest, IsFirstToCome}
 use Rattle.mk_buffers.proofs.Ascending.{ascending_at, and_both, and_is, get_or_any, list_all_in, comes_downward, comes_in_time, in_time_before}
 
 -- ---- which are among which

@@ -19,13 +19,14 @@ use Rattle.mk_plan.specs.declared.Input.{Input}
 use Rattle.mk_plan.specs.Plans.{owner}
 use Rattle.mk_plan.specs.Deliveries.{Timed, Gift}
 use Rattle.mk_plan.specs.Inputs.{input_order, gift_input, is_since}
-use Rattle.mk_confluence.proofs.Assembled.{else_by, last_with}
-use Rattle.mk_confluence.proofs.GivenValues.{is_for}
+use Rattle.mk_order.proofs.Assembled.{else_by, last_with}
+use Rattle.mk_order.proofs.GivenValues.{is_for}
 use Rattle.mk_buffers.specs.declared.sets.Slot.{Slot}
 use Rattle.mk_buffers.specs.Logs.{within}
-use Rattle.mk_buffers.specs.Slots.{input_in, slot_order, same_key, or_before, last_of, last_within, set_inputs, held_for, given_for, SameLast, TakesLast, AnswerGifts, HaveTaken}
+use Rattle.mk_buffers.specs.Slots.{input_in, same_key, or_before, last_of, last_within, held_for, given_for, SameLast, AnswerGifts}
+use Rattle.mk_buffers.specs.inner.Slots.{slot_order, set_inputs, TakesLast, HaveTaken}
 use Rattle.mk_buffers.proofs.Lasts.{or_last, last_filtered}
-use Rattle.mk_turns.proofs.Putting.{put_found, put_unfound}
+use Rattle.mk_plan_judge.proofs.Putting.{put_found, put_unfound}
 use Rattle.mk_buffers.proofs.Marking.{get_some}
 use Rattle.mk_buffers.proofs.Rising.{then_equal, all_of}
 

@@ -12,7 +12,8 @@ use Rattle.mk_base.proofs.TierOrder.{up_to_total, up_to_trans}
 use Rattle.mk_base.proofs.Lists.{map_append, map_in, below_get, get_is}
 use Rattle.mk_plan.specs.Deliveries.{Timed}
 use Rattle.mk_plan.specs.Inputs.{latest, is_since}
-use Rattle.mk_buffers.specs.Logs.{arrival, arrivals, by, is_in_time, does_come, is_settled, is_outdone, IsNewestAt, IsOutdoneAt, IsSpare, IsNeeded, IsFew, AnswersFrom, within}
+use Rattle.mk_buffers.specs.Logs.{arrival, arrivals, by, is_in_time, is_settled, IsFew, AnswersFrom, within}
+use Rattle.mk_buffers.specs.inner.Logs.{does_come, is_outdone, IsNewestAt, IsOutdoneAt, IsSpare, IsNeeded}
 use Rattle.mk_buffers.proofs.Latest.{without, without_front}
 use Rattle.mk_buffers.proofs.Ascending.{and_both, and_is, list_all_in, comes_in_time, filter_both, since_later, or_either}
 use Rattle.mk_buffers.proofs.Fitting.{AreApart, fitting, sum_ones}

@@ -24,11 +24,14 @@ use Rattle.mk_base.specs.Data.{IsValueText}
 use Rattle.mk_plan.specs.declared.Want.{Want}
 use Rattle.mk_buffers.specs.declared.sets.Slot.{Slot}
 use Rattle.mk_buffers.specs.Slots.{AnswerGifts, SameLast, held_for, given_for}
-use Rattle.mk_buffers.specs.Held.{with_output, is_key, has_key, IsThinned, AreThinned}
+use Rattle.mk_buffers.specs.Held.{with_output, is_key, has_key}
+use Rattle.mk_buffers.specs.inner.Held.{IsThinned, AreThinned}
 use Rattle.mk_plan.specs.declared.Conn.{Conn}
 use Rattle.mk_buffers.specs.declared.inlets.Inlet.{Inlet}
-use Rattle.mk_buffers.specs.Standing.{IsInlet, IsOf, IsNew, Stands, Delivers, HasThinned, HasKey, LacksKey, HasValueTexts, IsOutletFor, IsUnchanged, HasRaised, IsTight, next_of, mark_of}
-use Rattle.mk_buffers.specs.Marking.{Marked, AreAsking, IsLeastMark, Raised, greater, asks_of}
+use Rattle.mk_buffers.specs.Standing.{IsInlet, IsOf, IsNew, Stands, HasKey, LacksKey, HasValueTexts, IsOutletFor, IsUnchanged, HasRaised, IsTight, next_of, mark_of}
+use Rattle.mk_buffers.specs.inner.Standing.{Delivers, HasThinned}
+use Rattle.mk_buffers.specs.Marking.{Marked, AreAsking, IsLeastMark, greater, asks_of}
+use Rattle.mk_buffers.specs.inner.Marking.{Raised}
 use Rattle.mk_base.specs.Tiers.{up_to}
 use Rattle.mk_base.proofs.TierOrder.{up_to_self, up_to_total}
 use Rattle.mk_base.proofs.Lists.{get_is, below_get, none_some, in_filter}

@@ -6,9 +6,10 @@ use Rattle.mk_base.proofs.Lists.{some_same, get_is, set_here, set_else, length_s
 use Rattle.mk_buffers.specs.declared.outlets.Outlet.{Outlet}
 use Rattle.mk_buffers.specs.declared.outlets.Part.{Part}
 use Rattle.mk_buffers.specs.declared.buffers.Buffers.{Buffers}
-use Rattle.mk_buffers.specs.Held.{AreThinned, IsThinned}
+use Rattle.mk_buffers.specs.inner.Held.{AreThinned, IsThinned}
 use Rattle.mk_buffers.specs.Logs.{IsFew, StaysFew, is_due}
-use Rattle.mk_buffers.specs.Standing.{IsSwept, IsPartSwept, IsSweptAt, IsLookedAgain, IsNoted, HasNoted, HasThinned, next_of}
+use Rattle.mk_buffers.specs.Standing.{IsSwept, next_of}
+use Rattle.mk_buffers.specs.inner.Standing.{IsPartSwept, IsSweptAt, IsLookedAgain, IsNoted, HasNoted, HasThinned}
 use Rattle.mk_buffers.proofs.Marking.{apart_or_same, below_or_same}
 use Rattle.mk_buffers.proofs.Settling.{few_among}
 use Rattle.mk_buffers.proofs.Standing.{thinned_at}

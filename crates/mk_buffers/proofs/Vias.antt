@@ -9,8 +9,8 @@ use Rattle.mk_plan.specs.declared.Plan.{Plan}
 use Rattle.mk_plan.specs.declared.Conn.{Conn}
 use Rattle.mk_buffers.specs.declared.outlets.Source.{Source}
 use Rattle.mk_buffers.specs.declared.inlets.Target.{Target}
-use Rattle.mk_buffers.specs.Building.{AreSources}
-use Rattle.mk_buffers.specs.Listing.{AreTargets}
+use Rattle.mk_buffers.specs.inner.Building.{AreSources}
+use Rattle.mk_buffers.specs.inner.Listing.{AreTargets}
 use Rattle.mk_buffers.proofs.Marking.{get_some}
 use Rattle.mk_base.specs.contracts.tier.ViaPartialEq as same
 

@@ -2,7 +2,7 @@ pub mod Logs
 pub mod Marking
 pub mod Held
 pub mod Slots
-pub mod Building
 pub mod Listing
 pub mod Bounds
 pub mod Standing
+pub mod inner

@@ -1,7 +1,6 @@
 -- The values set in a simulator, each under its entity, attribute and source, and the set values that they answer as.
-use Rattle.std.specs.Prelude.{◌≡◌, ℕ, Bool, true, false, ◌&&◌, List, [], ◌∷◌, ◌++◌, map, filter, flat_map, Option, Some, None, option_map, option_to_list, ◌==◌, if◌then◌else◌}
+use Rattle.std.specs.Prelude.{◌≡◌, ℕ, Bool, false, ◌&&◌, List, [], ◌∷◌, map, filter, flat_map, Option, Some, None, ◌==◌, if◌then◌else◌}
 use Rattle.std.specs.Ordering.{is_eq}
-use Rattle.std.specs.declared.cmp.Ordering.{Ordering}
 use Rattle.mk_base.specs.declared.tier.Tier.{Tier}
 use Rattle.mk_base.specs.Tiers.{IsUpTo}
 use Rattle.mk_plan.specs.declared.Plan.{Plan}
@@ -15,10 +14,6 @@ use Rattle.mk_buffers.specs.Logs.{within}
 -- the input that a slot makes of a value
 abbrev pub input_in : Slot → List ℕ → Input
 input_in i v = record { eid = i.eid; attr = i.attr; source = i.source; value = v }
-
--- by the entity's name, then the attribute's, then the source's
-abbrev pub slot_order : Slot → Slot → Ordering
-slot_order a b = input_order (input_in a []) (input_in b [])
 
 -- the inputs are of one entity, attribute and source
 abbrev pub same_key : Input → Input → Bool
@@ -37,13 +32,6 @@ last_of (t ∷ ts) = or_before (last_of ts) t
 abbrev pub last_within : Option Tier → Tier → List Timed → Option Timed
 last_within p x ts = last_of (filter (within false p x) ts)
 
--- the input that a slot gives a step at x after a step at p
-abbrev pub set_input : Option Tier → Tier → Slot → Option Input
-set_input p x i = option_map (λ t. input_in i t.value) (last_within p x i.values)
-
-abbrev pub set_inputs : List Slot → Option Tier → Tier → List Input
-set_inputs slots p x = flat_map (λ i. option_to_list (set_input p x i)) slots
-
 -- the values that slots hold under a key
 abbrev pub held_for : Input → List Slot → List Timed
 held_for k slots = flat_map (λ (i : Slot). if same_key k (input_in i []) then i.values else []) slots
@@ -59,12 +47,3 @@ SameLast m ks hs = (p : Option Tier) (x : Tier) → IsUpTo m x → last_within p
 -- slots answer as what these set values give a simulator
 abbrev pub AnswerGifts : Plan → ℕ → Tier → List Slot → List Gift → Type 0
 AnswerGifts P s m slots all = (k : Input) → SameLast m (held_for k slots) (given_for P s k all)
-
--- one list of values answers as the other with one more value
-abbrev pub TakesLast : Tier → Timed → List Timed → List Timed → Type 0
-TakesLast m t old new = (hs : List Timed) → SameLast m old hs → SameLast m new (hs ++ t ∷ [])
-
--- slots have taken one more value under a key
-pub record HaveTaken (m : Tier) (n : Input) (t : Timed) (old new : List Slot) : Type 0 where
-  pub here : (k : Input) → same_key k n ≡ true → TakesLast m t (held_for k old) (held_for k new)
-  pub others : (k : Input) → same_key k n ≡ false → held_for k new ≡ held_for k old

@@ -14,9 +14,11 @@ ghost use Rattle.mk_plan.specs.Inputs.{latest, value_at, inputs};
 ghost use Rattle.mk_buffers.specs.Bounds.{most_kept};
 ghost use Rattle.mk_buffers.specs.Logs.{by, arrival, is_due};
 ghost use Rattle.mk_base.specs.Data.{IsValueText};
-ghost use Rattle.mk_buffers.specs.Held.{since_for, initial_for, with_output, with_gift, IsKeyAt, IsKeyless};
-ghost use Rattle.mk_buffers.specs.Marking.{AreAsking, Raised, asks_of};
-ghost use Rattle.mk_buffers.specs.Standing.{AreHomes, AreUnset};
+ghost use Rattle.mk_buffers.specs.Held.{since_for, initial_for, with_output, with_gift};
+ghost use Rattle.mk_buffers.specs.inner.Held.{IsKeyAt, IsKeyless};
+ghost use Rattle.mk_buffers.specs.Marking.{AreAsking, asks_of};
+ghost use Rattle.mk_buffers.specs.inner.Marking.{Raised};
+ghost use Rattle.mk_buffers.specs.inner.Standing.{AreHomes, AreUnset};
 
 use crate::delays::is_since;
 use crate::inlets::{Inlet, inlets_of, input_of};
@@ -26,7 +28,7 @@ use crate::outlets::{Outlet, Part, has_key, outlets_of};
 use crate::sets::{Sets, Setting, Slot};
 use mk_base::{Datum, List, Mem, SimNo, Text, Tier};
 use mk_plan::{Input, Plan, SetValue};
-use mk_turns::owner;
+use mk_plan_judge::owner;
 use std::alloc::Global;
 
 // An entity: its simulator, its name there, and its outlets.
@@ -59,7 +61,8 @@ pub struct Buffers {
 }
 
 impl Buffers {
-    ghost use Rattle.mk_buffers.specs.Standing.{HasKey, LacksKey, Stands, Delivers, HasSet, IsSourced, HasGathered, HasSameMarks, HasRaised, mark_of, least_mark, outputs_held, given, value_for, last_for, IsBegun, IsNoted, HasNoted, IsUnchanged, HasThinned, IsSwept, IsPartSwept, IsSweptAt, IsLookedAgain, next_of, IsNew, IsOf, IsOutletFor, TargetOf};
+    ghost use Rattle.mk_buffers.specs.Standing.{HasKey, LacksKey, Stands, IsSourced, HasSameMarks, HasRaised, mark_of, least_mark, outputs_held, given, value_for, last_for, IsUnchanged, IsSwept, next_of, IsNew, IsOf, IsOutletFor};
+    ghost use Rattle.mk_buffers.specs.inner.Standing.{Delivers, HasSet, HasGathered, IsBegun, IsNoted, HasNoted, HasThinned, IsPartSwept, IsSweptAt, IsLookedAgain, TargetOf};
 
     /// Buffers of a plan before anything was added.
     pub fn new(alloc: Global, plan: &Plan) -> Result<Buffers, Mem>

@@ -4,7 +4,8 @@ ghost use Rattle.std.specs.List.{list_all};
 ghost use Rattle.mk_base.specs.declared.tier.Tier.{Tier};
 ghost use Rattle.mk_base.specs.Tiers.{delayed, up_to, HasWidth, IsUpTo};
 ghost use Rattle.mk_plan.specs.Inputs.{is_since};
-ghost use Rattle.mk_buffers.specs.Logs.{does_come, is_held_up, is_in_time, is_overtaken, is_past, is_settled};
+ghost use Rattle.mk_buffers.specs.Logs.{is_in_time, is_settled};
+ghost use Rattle.mk_buffers.specs.inner.Logs.{does_come, is_held_up, is_overtaken, is_past};
 
 use mk_base::{Tier, Via};
 use std::marker::Model;

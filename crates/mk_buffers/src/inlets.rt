@@ -5,15 +5,15 @@ ghost use Rattle.std.specs.List.Sorted.{IsPermutation};
 ghost use Rattle.mk_plan.specs.declared.Plan.{Plan};
 ghost use Rattle.mk_plan.specs.Plans.{RefersInside, HasDistinctNames, HasOneConnectionEach, full_id};
 ghost use Rattle.mk_buffers.specs.declared.inlets.Target.{Target};
-ghost use Rattle.mk_buffers.specs.Building.{AreRising};
+ghost use Rattle.mk_buffers.specs.inner.Building.{AreRising};
 ghost use Rattle.mk_buffers.specs.Held.{input_of};
-ghost use Rattle.mk_buffers.specs.Listing.{IsTarget, HasTargets, AreTargets, IsInletOf, AreListed, ComesNext, target_order};
+ghost use Rattle.mk_buffers.specs.inner.Listing.{IsTarget, HasTargets, AreTargets, IsInletOf, AreListed, ComesNext, target_order};
 
 use crate::delays::Delay;
 use crate::names::full_id;
 use mk_base::{Datum, Mem, Text};
 use mk_plan::{Conn, Input, Plan};
-use mk_turns::owner;
+use mk_plan_judge::owner;
 use std::alloc::Global;
 use std::cmp::Ordering;
 

@@ -7,7 +7,8 @@ ghost use Rattle.mk_base.specs.Tiers.{up_to};
 ghost use Rattle.mk_base.specs.declared.tier.Via.{Via};
 ghost use Rattle.mk_plan.specs.Deliveries.{Timed};
 ghost use Rattle.mk_plan.specs.Inputs.{later, latest};
-ghost use Rattle.mk_buffers.specs.Logs.{AnswersFrom, IsAmong, IsAscending, IsFew, IsFirstToCome, IsNeeded, IsNewestAt, IsNewestByOf, IsOutdoneAt, IsRest, IsSpare, is_outdone, PlacedFor, StaysFew, Takes, arrival, arrivals, by, does_come, is_past, is_settled, weighed};
+ghost use Rattle.mk_buffers.specs.Logs.{AnswersFrom, IsAmong, IsFew, StaysFew, arrival, arrivals, by, is_settled};
+ghost use Rattle.mk_buffers.specs.inner.Logs.{IsAscending, IsFirstToCome, IsNeeded, IsNewestAt, IsNewestByOf, IsOutdoneAt, IsRest, IsSpare, is_outdone, PlacedFor, Takes, does_come, is_past, weighed};
 
 use crate::delays::{
     Delay, arrived, is_all_in_time, is_delivered, is_held_up, is_overtaken, is_past, is_settled,
@@ -28,7 +29,7 @@ pub struct Log {
 impl Model for Log {
     ghost use Rattle.std.specs.Prelude.{◌≡◌, true, List};
     ghost use Rattle.mk_plan.specs.Deliveries.{Timed};
-    ghost use Rattle.mk_buffers.specs.Logs.{IsAscending};
+    ghost use Rattle.mk_buffers.specs.inner.Logs.{IsAscending};
 
     ghost Value = { List Timed };
 

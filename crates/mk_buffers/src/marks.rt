@@ -2,7 +2,8 @@
 ghost use Rattle.std.specs.Prelude.{◌≡◌, ◌+◌, ◌<◌, length, false, IfOk, pos, slice_get, slice_set};
 ghost use Rattle.mk_base.specs.Tiers.{IsUpTo};
 ghost use Rattle.mk_base.specs.declared.tier.Tier.{Tier};
-ghost use Rattle.mk_buffers.specs.Marking.{AreStarts, HoldsLeast, IsBest, IsLeastMark, IsLow, Raised};
+ghost use Rattle.mk_buffers.specs.Marking.{IsLeastMark, IsLow};
+ghost use Rattle.mk_buffers.specs.inner.Marking.{AreStarts, HoldsLeast, IsBest, Raised};
 
 use mk_base::{Mem, Tier};
 use std::alloc::Global;
@@ -19,7 +20,8 @@ pub struct Marks {
 
 impl Model for Marks {
     ghost use Rattle.std.specs.Prelude.{◌≡◌, length};
-    ghost use Rattle.mk_buffers.specs.Marking.{Marked, IsLow, HoldsLeast};
+    ghost use Rattle.mk_buffers.specs.Marking.{Marked, IsLow};
+    ghost use Rattle.mk_buffers.specs.inner.Marking.{HoldsLeast};
 
     ghost Value = { Marked };
 

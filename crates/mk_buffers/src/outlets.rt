@@ -9,14 +9,14 @@ ghost use Rattle.mk_plan.specs.Plans.{RefersInside, HasDistinctNames};
 ghost use Rattle.mk_buffers.specs.declared.outlets.Source.{Source};
 ghost use Rattle.mk_buffers.specs.declared.outlets.Outlet.{Outlet};
 ghost use Rattle.mk_buffers.specs.Held.{has_key};
-ghost use Rattle.mk_buffers.specs.Building.{AreRising, IsSource, HasSources, AreSources, AreOutlets, AreParts, IsPartOf, IsNext, HasReached, HasAdded, HasVia, HasJoined, reached, source_order};
+ghost use Rattle.mk_buffers.specs.inner.Building.{AreRising, IsSource, HasSources, AreSources, AreOutlets, AreParts, IsPartOf, IsNext, HasReached, HasAdded, HasVia, HasJoined, reached, source_order};
 
 use crate::delays::Delay;
 use crate::log::Log;
 use crate::made::Made;
 use mk_base::{Datum, Mem, Text, Tier, Via};
 use mk_plan::{Conn, Plan};
-use mk_turns::owner;
+use mk_plan_judge::owner;
 use std::alloc::Global;
 use std::cmp::Ordering;
 
@@ -31,7 +31,7 @@ pub struct Outlet {
 }
 
 impl Outlet {
-    ghost use Rattle.mk_buffers.specs.Held.{HasTaken, IsThinned};
+    ghost use Rattle.mk_buffers.specs.inner.Held.{HasTaken, IsThinned};
     ghost use Rattle.mk_buffers.specs.Logs.{IsFew, StaysFew};
 
     // Takes one more output, and gives up what no question at or after the mark can reach.

@@ -5,7 +5,8 @@ ghost use Rattle.mk_base.specs.Tiers.{up_to};
 ghost use Rattle.mk_plan.specs.Inputs.{input_order, put_all};
 ghost use Rattle.mk_buffers.specs.Logs.{within};
 ghost use Rattle.std.specs.List.{remove};
-ghost use Rattle.mk_buffers.specs.Slots.{SameLast, TakesLast, last_within, slot_order};
+ghost use Rattle.mk_buffers.specs.Slots.{SameLast, last_within};
+ghost use Rattle.mk_buffers.specs.inner.Slots.{TakesLast, slot_order};
 
 use crate::delays::is_since;
 use crate::sorted::put_input;
@@ -146,7 +147,7 @@ pub struct Slot {
 }
 
 impl Slot {
-    ghost use Rattle.mk_buffers.specs.Slots.{set_input};
+    ghost use Rattle.mk_buffers.specs.inner.Slots.{set_input};
 
     pub fn new(alloc: Global, eid: Text, attr: Text, source: Text) -> Slot
         ensures { result ≡ record { eid = eid; attr = attr; source = source; values = [] } }
@@ -204,7 +205,7 @@ impl Model for Sets {
     ghost use Rattle.std.specs.Prelude.{List};
     ghost use Rattle.std.specs.List.Sorted.{IsStrictlySortedBy};
     ghost use Rattle.mk_buffers.specs.declared.sets.Slot.{Slot};
-    ghost use Rattle.mk_buffers.specs.Slots.{slot_order};
+    ghost use Rattle.mk_buffers.specs.inner.Slots.{slot_order};
 
     ghost Value = { List Slot };
 
@@ -214,7 +215,8 @@ impl Model for Sets {
 }
 
 impl Sets {
-    ghost use Rattle.mk_buffers.specs.Slots.{HaveTaken, input_in, set_inputs};
+    ghost use Rattle.mk_buffers.specs.Slots.{input_in};
+    ghost use Rattle.mk_buffers.specs.inner.Slots.{HaveTaken, set_inputs};
 
     pub fn new(alloc: Global) -> Sets
         ensures { result ≡ [] }

@@ -13,9 +13,9 @@ use Rattle.mk_base.specs.Lists.{IsIn}
 use Rattle.mk_entities.proofs.Numbers.{put_in}
 use Rattle.mk_entities.specs.declared.entities.EntityInfo.{EntityInfo}
 use Rattle.mk_scenario.specs.declared.parts.Block.{Block}
-use Rattle.mk_conns.specs.Connections.{block_pairs}
+use Rattle.mk_connect_pairs.specs.Connections.{block_pairs}
 use Rattle.mk_connect.specs.ByPlace.{by_place}
-use Rattle.mk_connect.specs.Joining.{joined, put_all, put_at}
+use Rattle.mk_connect.specs.inner.Joining.{joined, put_all, put_at}
 use Rattle.mk_connect.specs.Related.{is_related, joins, own_pairs, pairs_of, related}
 
 eq_of : (x y : ℕ) → nat_eq x y ≡ true → x ≡ y

@@ -11,9 +11,9 @@ use Rattle.mk_entities.specs.declared.entities.EntityInfo.{EntityInfo}
 use Rattle.mk_scenario.specs.declared.parts.Scenario.{Scenario}
 use Rattle.mk_connect.specs.Complete.{IsComplete, IsOfModel}
 use Rattle.mk_connect.specs.Made.{plan_with}
-use Rattle.mk_conns.specs.Models.{is_persistent, is_triggering, keeps_attr, model_at, model_number, models_of, says, triggers_by}
+use Rattle.mk_connect_pairs.specs.Models.{is_persistent, is_triggering, keeps_attr, model_at, model_number, models_of, says, triggers_by}
 use Rattle.mk_connect.specs.Agreeing.{SourcesAgree, TargetsAgree}
-use Rattle.mk_conns.specs.declared.models.SimModel.{SimModel}
+use Rattle.mk_connect_pairs.specs.declared.models.SimModel.{SimModel}
 use Rattle.mk_connect.proofs.OverLists.{each_all, each_then}
 use Rattle.mk_connect.proofs.Owners.{end_is, kind_is, owned, owner_is}
 use Rattle.mk_connect.proofs.Sound.{AreSoundConns, IsSoundConn}

@@ -19,9 +19,9 @@ use Rattle.mk_scenario.specs.declared.parts.Scenario.{Scenario}
 use Rattle.mk_scenario.specs.Wellformed.{IsWellformed, IsWellformedBlock, IsWellformedSim}
 use Rattle.mk_connect.specs.Complete.{IsComplete, most_requests}
 use Rattle.mk_connect.specs.Made.{number_at, plan_entity, plan_sim, plan_with}
-use Rattle.mk_conns.specs.Models.{models_from, models_of, plan_model, sim_model}
+use Rattle.mk_connect_pairs.specs.Models.{models_from, models_of, plan_model, sim_model}
 use Rattle.mk_connect.specs.Related.{pairs_of}
-use Rattle.mk_conns.specs.declared.models.SimModel.{SimModel}
+use Rattle.mk_connect_pairs.specs.declared.models.SimModel.{SimModel}
 use Rattle.mk_connect.proofs.ByPlaces.{by_place_length}
 use Rattle.mk_connect.proofs.OverLists.{all_of, each_all, each_then}
 use Rattle.mk_connect.proofs.Owners.{made_at, model_from}

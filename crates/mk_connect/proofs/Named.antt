@@ -21,7 +21,7 @@ use Rattle.mk_scenario.specs.Wellformed.{IsWellformed}
 use Rattle.mk_scenario.proofs.IdFacts.{sims_differ, sims_without_dots}
 use Rattle.mk_connect.specs.Complete.{IsComplete, IsOfModel}
 use Rattle.mk_connect.specs.Made.{plan_entity, plan_sim, plan_with}
-use Rattle.mk_conns.specs.Models.{models_of}
+use Rattle.mk_connect_pairs.specs.Models.{models_of}
 use Rattle.mk_connect.specs.Related.{pairs_of}
 use Rattle.mk_connect.proofs.ByPlaces.{by_place_length}
 use Rattle.mk_connect.proofs.OverLists.{all_of, each_all, pairs_of as over_pairs}

@@ -26,11 +26,11 @@ use Rattle.mk_scenario.proofs.ListFacts.{get_map}
 use Rattle.mk_connect.specs.ByPlace.{by_place}
 use Rattle.mk_connect.specs.Complete.{IsOfGroup, IsOfModel, has_model}
 use Rattle.mk_connect.specs.Edges.{sim_at, sim_of_group}
-use Rattle.mk_conns.specs.Ends.{ends_at, is_of_group, members_from}
+use Rattle.mk_connect_pairs.specs.Ends.{ends_at, is_of_group, members_from}
 use Rattle.mk_connect.specs.Made.{kind_at, number_at, plan_entity, plan_sim, plan_with}
-use Rattle.mk_conns.specs.Models.{is_model, model_number, models_from, models_of, plan_model, sim_model}
+use Rattle.mk_connect_pairs.specs.Models.{is_model, model_number, models_from, models_of, plan_model, sim_model}
 use Rattle.mk_connect.specs.Related.{pairs_of}
-use Rattle.mk_conns.specs.declared.models.SimModel.{SimModel}
+use Rattle.mk_connect_pairs.specs.declared.models.SimModel.{SimModel}
 use Rattle.mk_connect.proofs.ByPlaces.{by_place_get}
 
 no_more : (n : ℕ) → n ≡ n + 0

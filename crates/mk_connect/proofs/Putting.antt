@@ -7,8 +7,8 @@ use Rattle.std.proofs.lemmas.List.Sums.{fold-append}
 use Rattle.indexmap.specs.IndexSet.{insert_key}
 use Rattle.mk_base.proofs.Lists.{append_nil, flat_map_append, map_append}
 use Rattle.mk_connect.specs.Asyncs.{pair_put, same_pair}
-use Rattle.mk_connect.specs.Asyncs.{async_of}
-use Rattle.mk_conns.proofs.Ways.{any_map}
+use Rattle.mk_connect.specs.inner.Asyncs.{async_of}
+use Rattle.mk_connect_pairs.proofs.Ways.{any_map}
 
 abbrev pub same_key : ℕ × ℕ → ℕ × ℕ → Bool
 same_key a b = nat_eq a.0 b.0 && nat_eq a.1 b.1

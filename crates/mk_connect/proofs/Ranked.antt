@@ -27,7 +27,7 @@ use Rattle.mk_connect.specs.ByPlace.{by_place}
 use Rattle.mk_connect.specs.Complete.{IsComplete, IsOfModel}
 use Rattle.mk_connect.specs.Edges.{edges_in, edges_of, is_ordering, is_plain, sim_at}
 use Rattle.mk_connect.specs.Made.{number_at, plan_sim, plan_with}
-use Rattle.mk_conns.specs.Models.{models_of}
+use Rattle.mk_connect_pairs.specs.Models.{models_of}
 use Rattle.mk_connect.proofs.Below.{place_below}
 use Rattle.mk_connect.proofs.ByPlaces.{by_place_length}
 use Rattle.mk_connect.proofs.OverLists.{all_of, each_all, each_then}

@@ -17,7 +17,7 @@ use Rattle.mk_scenario.specs.declared.parts.Scenario.{Scenario}
 use Rattle.mk_scenario.specs.Wellformed.{IsWellformed, IsWellformedBlock}
 use Rattle.mk_connect.specs.Complete.{IsComplete, IsOfModel}
 use Rattle.mk_connect.specs.Made.{plan_entity, plan_sim, plan_with}
-use Rattle.mk_conns.specs.Models.{models_of, plan_model}
+use Rattle.mk_connect_pairs.specs.Models.{models_of, plan_model}
 use Rattle.mk_connect.specs.Related.{is_related, pairs_of, related}
 use Rattle.mk_connect.proofs.Below.{place_below}
 use Rattle.mk_connect.proofs.ByPlaces.{by_place_length}

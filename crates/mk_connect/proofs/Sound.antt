@@ -14,14 +14,14 @@ use Rattle.mk_entities.specs.declared.entities.EntityInfo.{EntityInfo}
 use Rattle.mk_scenario.specs.declared.parts.AttrPair.{AttrPair}
 use Rattle.mk_scenario.specs.declared.parts.Block.{Block}
 use Rattle.mk_scenario.specs.declared.parts.SimPart.{SimPart}
-use Rattle.mk_keys.specs.Keys.{IsObjectOfData, members_of}
-use Rattle.mk_conns.specs.declared.fault.ConnectFault.{ConnectFault}
-use Rattle.mk_conns.specs.declared.models.SimModel.{SimModel}
-use Rattle.mk_conns.specs.Connections.{attrs_fault, block_made, block_pairs, conn_between, conn_fault, connected, conns_made, has_initial, initial_text, is_way, most_conns, pair_made}
-use Rattle.mk_conns.specs.Ends.{ends_at, pairs_between, place_fault}
-use Rattle.mk_conns.specs.Faults.{held, passed, through, unless}
-use Rattle.mk_conns.specs.Models.{keeps_attr, model_at, says, triggers_by}
-use Rattle.mk_conns.proofs.Initials.{initial_in_range, initial_is_datum}
+use Rattle.mk_scenario_keys.specs.Keys.{IsObjectOfData, members_of}
+use Rattle.mk_connect_pairs.specs.declared.fault.ConnectFault.{ConnectFault}
+use Rattle.mk_connect_pairs.specs.declared.models.SimModel.{SimModel}
+use Rattle.mk_connect_pairs.specs.Connections.{attrs_fault, block_made, block_pairs, conn_between, conn_fault, connected, conns_made, has_initial, initial_text, is_way, most_conns, pair_made}
+use Rattle.mk_connect_pairs.specs.Ends.{ends_at, pairs_between, place_fault}
+use Rattle.mk_connect_pairs.specs.Faults.{held, passed, through, unless}
+use Rattle.mk_connect_pairs.specs.Models.{keeps_attr, model_at, says, triggers_by}
+use Rattle.mk_connect_pairs.proofs.Initials.{initial_in_range, initial_is_datum}
 
 -- ---- what tests that pass say
 

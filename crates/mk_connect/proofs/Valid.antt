@@ -13,11 +13,11 @@ use Rattle.mk_scenario.specs.declared.parts.Scenario.{Scenario}
 use Rattle.mk_scenario.specs.Wellformed.{IsWellformed}
 use Rattle.mk_connect.specs.ByPlace.{by_place}
 use Rattle.mk_connect.specs.Complete.{IsComplete}
-use Rattle.mk_conns.specs.Connections.{conns_made}
+use Rattle.mk_connect_pairs.specs.Connections.{conns_made}
 use Rattle.mk_connect.specs.Made.{plan_entity, plan_of, plan_with}
-use Rattle.mk_conns.specs.Models.{models_of}
+use Rattle.mk_connect_pairs.specs.Models.{models_of}
 use Rattle.mk_connect.specs.Related.{pairs_of}
-use Rattle.mk_conns.specs.declared.models.SimModel.{SimModel}
+use Rattle.mk_connect_pairs.specs.declared.models.SimModel.{SimModel}
 use Rattle.mk_connect.proofs.Keeping.{kinds_made}
 use Rattle.mk_connect.proofs.Limited.{limits_made}
 use Rattle.mk_connect.proofs.Named.{names_made}

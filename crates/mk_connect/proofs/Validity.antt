@@ -12,11 +12,11 @@ use Rattle.mk_meta.specs.declared.meta.Meta.{Meta}
 use Rattle.mk_entities.specs.declared.entities.EntityInfo.{EntityInfo}
 use Rattle.mk_scenario.specs.declared.parts.Scenario.{Scenario}
 use Rattle.mk_scenario.specs.Wellformed.{IsWellformed, IsWellformedBlock}
-use Rattle.mk_conns.specs.Connections.{conns_made, has_initial}
+use Rattle.mk_connect_pairs.specs.Connections.{conns_made, has_initial}
 use Rattle.mk_connect.specs.Made.{plan_of, plan_with}
-use Rattle.mk_conns.specs.Models.{keeps_attr, model_at, models_of, says, triggers_by}
+use Rattle.mk_connect_pairs.specs.Models.{keeps_attr, model_at, models_of, says, triggers_by}
 use Rattle.mk_connect.specs.Agreeing.{SourcesAgree, TargetsAgree}
-use Rattle.mk_conns.specs.declared.models.SimModel.{SimModel}
+use Rattle.mk_connect_pairs.specs.declared.models.SimModel.{SimModel}
 use Rattle.mk_connect.proofs.OverLists.{each_all, each_pairs, each_then, rises_pairs}
 use Rattle.mk_connect.proofs.Sound.{AreSoundConns, Differ, IsSoundConn, conns_sound, no_member}
 

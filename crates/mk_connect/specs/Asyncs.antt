@@ -1,14 +1,10 @@
 -- The asynchronous pairs of simulators, each once, at the first block that asks for it.
-use Rattle.std.specs.Prelude.{ℕ, Bool, ◌&&◌, ◌==◌, List, [], ◌∷◌, ◌++◌, flat_map, fold, if◌then◌else◌}
+use Rattle.std.specs.Prelude.{Bool, ◌&&◌, ◌==◌, List, [], ◌∷◌, ◌++◌, flat_map, fold, if◌then◌else◌}
 use Rattle.std.specs.List.{list_any}
 use Rattle.mk_plan.specs.declared.AsyncPair.{AsyncPair}
 use Rattle.mk_scenario.specs.declared.parts.Group.{Group}
 use Rattle.mk_scenario.specs.declared.parts.Block.{Block}
 use Rattle.mk_connect.specs.Edges.{sim_at}
-
--- the pair of these simulators' numbers
-abbrev pub async_of : ℕ × ℕ → AsyncPair
-async_of k = record { from = record { 0 = k.0 }; to = record { 0 = k.1 } }
 
 abbrev pub same_pair : AsyncPair → AsyncPair → Bool
 same_pair p q = (p.from.0 == q.from.0) && (p.to.0 == q.to.0)

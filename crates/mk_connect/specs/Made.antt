@@ -10,13 +10,13 @@ use Rattle.mk_meta.specs.declared.meta.Meta.{Meta}
 use Rattle.mk_entities.specs.declared.entities.EntityInfo.{EntityInfo}
 use Rattle.mk_scenario.specs.declared.parts.SimPart.{SimPart}
 use Rattle.mk_scenario.specs.declared.parts.Scenario.{Scenario}
-use Rattle.mk_conns.specs.declared.fault.ConnectFault.{ConnectFault}
-use Rattle.mk_conns.specs.declared.models.SimModel.{SimModel}
+use Rattle.mk_connect_pairs.specs.declared.fault.ConnectFault.{ConnectFault}
+use Rattle.mk_connect_pairs.specs.declared.models.SimModel.{SimModel}
 use Rattle.mk_connect.specs.Asyncs.{asyncs_of}
-use Rattle.mk_conns.specs.Connections.{conns_made}
-use Rattle.mk_conns.specs.Faults.{passed}
+use Rattle.mk_connect_pairs.specs.Connections.{conns_made}
+use Rattle.mk_connect_pairs.specs.Faults.{passed}
 use Rattle.mk_connect.specs.ByPlace.{by_place}
-use Rattle.mk_conns.specs.Models.{model_number, models_of, plan_model}
+use Rattle.mk_connect_pairs.specs.Models.{model_number, models_of, plan_model}
 use Rattle.mk_connect.specs.Related.{pairs_of, related}
 
 -- the type that a simulator's metadata says

@@ -3,7 +3,7 @@ use Rattle.std.specs.Prelude.{ℕ, suc, Bool, not, ◌||◌, ◌&&◌, ◌==◌,
 use Rattle.std.specs.List.{filter, list_any, range_with_len}
 use Rattle.mk_entities.specs.declared.entities.EntityInfo.{EntityInfo}
 use Rattle.mk_scenario.specs.declared.parts.Block.{Block}
-use Rattle.mk_conns.specs.Connections.{block_pairs}
+use Rattle.mk_connect_pairs.specs.Connections.{block_pairs}
 
 -- the pairs that entities, which are numbered from n, make of themselves
 abbrev pub own_pairs : ℕ → List EntityInfo → List (ℕ × ℕ)

@@ -19,7 +19,7 @@ struct Pairs {
 impl Model for Pairs {
     ghost use Rattle.std.specs.Prelude.{List, map};
     ghost use Rattle.mk_plan.specs.declared.AsyncPair.{AsyncPair};
-    ghost use Rattle.mk_connect.specs.Asyncs.{async_of};
+    ghost use Rattle.mk_connect.specs.inner.Asyncs.{async_of};
 
     ghost Value = { List AsyncPair };
 

@@ -9,5 +9,5 @@ mod parts;
 mod relations;
 
 pub use making::plan;
-pub use mk_conns::{ConnectFault, group_check};
+pub use mk_connect_pairs::{ConnectFault, group_check};
 pub use ordering::edges;

@@ -8,10 +8,10 @@ ghost use Rattle.mk_scenario.specs.Wellformed.{IsWellformed};
 ghost use Rattle.mk_base.specs.Lists.{Each};
 ghost use Rattle.mk_connect.specs.ByPlace.{by_place};
 ghost use Rattle.mk_connect.specs.Complete.{IsComplete};
-ghost use Rattle.mk_conns.specs.Connections.{conns_made};
-ghost use Rattle.mk_conns.specs.Faults.{IsFaultOf};
+ghost use Rattle.mk_connect_pairs.specs.Connections.{conns_made};
+ghost use Rattle.mk_connect_pairs.specs.Faults.{IsFaultOf};
 ghost use Rattle.mk_connect.specs.Made.{plan_entity, plan_made, plan_of};
-ghost use Rattle.mk_conns.specs.Usable.{IsUsable};
+ghost use Rattle.mk_connect_pairs.specs.Usable.{IsUsable};
 ghost use Rattle.mk_connect.specs.Agreeing.{SourcesAgree, TargetsAgree};
 ghost use Rattle.mk_connect.specs.Related.{pairs_of};
 
@@ -19,7 +19,9 @@ use crate::asyncs::asyncs_of;
 use crate::parts::{plan_entities, plan_models, plan_sims};
 use crate::relations::related_of;
 use mk_base::{List, Mem};
-use mk_conns::{ConnectFault, Models, Study, conns_made, members_of, models_of, numbers_of};
+use mk_connect_pairs::{
+    ConnectFault, Models, Study, conns_made, members_of, models_of, numbers_of,
+};
 use mk_entities::Entities;
 use mk_meta::Meta;
 use mk_plan::{Conn, Plan, PlanEntity};

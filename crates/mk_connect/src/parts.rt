@@ -3,12 +3,12 @@ ghost use Rattle.std.specs.Prelude.{◌≡◌, [], length, map, option_and_then,
 ghost use Rattle.std.specs.List.{range_with_len};
 ghost use Rattle.mk_connect.specs.ByPlace.{by_place};
 ghost use Rattle.mk_connect.specs.Made.{kind_at, number_at, plan_entity, plan_sim};
-ghost use Rattle.mk_conns.specs.Models.{plan_model};
+ghost use Rattle.mk_connect_pairs.specs.Models.{plan_model};
 ghost use Rattle.mk_connect.specs.Related.{pairs_of, related};
 
 use crate::relations::Numbers;
 use mk_base::{List, Mem, SimKind};
-use mk_conns::{Models, SimModel, Study, number_at};
+use mk_connect_pairs::{Models, SimModel, Study, number_at};
 use mk_entities::EntityInfo;
 use mk_meta::Meta;
 use mk_plan::{PlanEntity, PlanModel, PlanSim};

@@ -4,13 +4,13 @@ ghost use Rattle.std.specs.List.{range_with_len};
 ghost use Rattle.std.specs.Ordering.{nat_cmp};
 ghost use Rattle.std.specs.BTreeSet.{insert_key};
 ghost use Rattle.mk_base.specs.Lists.{Each};
-ghost use Rattle.mk_conns.specs.Connections.{block_pairs};
-ghost use Rattle.mk_connect.specs.Joining.{joined, put_all};
-ghost use Rattle.mk_conns.specs.Usable.{IsUsable};
+ghost use Rattle.mk_connect_pairs.specs.Connections.{block_pairs};
+ghost use Rattle.mk_connect.specs.inner.Joining.{joined, put_all};
+ghost use Rattle.mk_connect_pairs.specs.Usable.{IsUsable};
 ghost use Rattle.mk_connect.specs.Related.{own_pairs, pairs_of, related};
 
 use mk_base::{List, Mem};
-use mk_conns::{Study, block_pairs};
+use mk_connect_pairs::{Study, block_pairs};
 use mk_entities::EntityInfo;
 use mk_scenario::Block;
 use std::alloc::Global;

@@ -6,7 +6,7 @@ use Rattle.std.proofs.lemmas.List.{get_or_past, get_or-set_same, get_or-set_othe
 use Rattle.std.proofs.lemmas.List.Sums.{sum_by-set, count_by-le-length, length-filter}
 use Rattle.mk_base.proofs.Lists.{some_same, none_some, in_front, in_back, in_either, at_in}
 use Rattle.mk_base.specs.Lists.{IsIn}
-use Rattle.mk_cycles.specs.Listing.{IsMarked}
+use Rattle.mk_cycles.specs.inner.Listing.{IsMarked}
 
 -- a marked number is below the count
 pub below : (marks : List Bool) (order : List ℕ) (s : ℕ) → IsMarked marks order → IsIn s order → s < length marks

@@ -6,7 +6,7 @@ use Rattle.std.proofs.lemmas.List.Folds.{list_any_more}
 use Rattle.std.proofs.lemmas.Nat.{mul-add-lt, div-mul-add, mod-mul-add}
 use Rattle.mk_cycles.specs.declared.ranking.Edge.{Edge}
 use Rattle.mk_cycles.specs.Edges.{has_edge, EndsBelow}
-use Rattle.mk_cycles.specs.Tables.{is_set}
+use Rattle.mk_cycles.specs.inner.Tables.{is_set}
 
 -- an edge is from p to s
 is_from_to : ℕ → ℕ → Edge → Bool

@@ -5,7 +5,7 @@ ghost use Rattle.mk_cycles.specs.Cycles.{IsBack, IsLeft, IsLoop, IsReached};
 ghost use Rattle.mk_cycles.specs.Edges.{IsChain};
 ghost use Rattle.mk_cycles.specs.Orders.{MayFollow};
 ghost use Rattle.mk_cycles.specs.Outcomes.{numbers};
-ghost use Rattle.mk_cycles.specs.Tables.{leads};
+ghost use Rattle.mk_cycles.specs.inner.Tables.{leads};
 
 use crate::listed::Listed;
 use crate::table::Table;

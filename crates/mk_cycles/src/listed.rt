@@ -16,7 +16,7 @@ pub struct Listed {
 
 impl Model for Listed {
     ghost use Rattle.std.specs.Prelude.{length};
-    ghost use Rattle.mk_cycles.specs.Listing.{Listing, IsMarked};
+    ghost use Rattle.mk_cycles.specs.inner.Listing.{Listing, IsMarked};
 
     ghost Value = { Listing };
 

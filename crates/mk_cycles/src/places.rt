@@ -2,7 +2,7 @@
 ghost use Rattle.std.specs.Prelude.{◌≡◌, ℕ, ◌<◌, ◌^◌, ◌↔◌, length, slice_get, Some, IsTrue, IfOk, MatchOption};
 ghost use Rattle.mk_base.specs.Lists.{IsIn};
 ghost use Rattle.mk_cycles.specs.Orders.{MayFollow, IsNext, IsOrder};
-ghost use Rattle.mk_cycles.specs.Tables.{leads};
+ghost use Rattle.mk_cycles.specs.inner.Tables.{leads};
 
 use crate::listed::Listed;
 use crate::table::Table;

@@ -1,7 +1,7 @@
 // Which simulator leads to which, as a table.
 ghost use Rattle.std.specs.Prelude.{◌≡◌, ℕ, ◌<◌, ◌*◌, ◌^◌, IfOk, vec_len};
 ghost use Rattle.mk_cycles.specs.Edges.{EndsBelow, has_edge};
-ghost use Rattle.mk_cycles.specs.Tables.{leads};
+ghost use Rattle.mk_cycles.specs.inner.Tables.{leads};
 
 use crate::ranking::Edge;
 use mk_base::Mem;
@@ -16,7 +16,7 @@ pub struct Table {
 }
 
 impl Model for Table {
-    ghost use Rattle.mk_cycles.specs.Tables.{IsSquare, Rows};
+    ghost use Rattle.mk_cycles.specs.inner.Tables.{IsSquare, Rows};
 
     ghost Value = { Rows };
 

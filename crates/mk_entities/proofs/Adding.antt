@@ -11,8 +11,8 @@ use Rattle.mk_entities.specs.declared.described.Described.{Described}
 use Rattle.mk_entities.specs.declared.entities.EntityInfo.{EntityInfo}
 use Rattle.mk_entities.specs.declared.fault.CreateFault.{CreateFault}
 use Rattle.mk_entities.specs.Creation.{added, draft, drafts, entity_fault, first_entity_fault, first_there, is_named, number_of, rel_fault, unless, with_entities}
-use Rattle.mk_entities.specs.Making.{fault_at, first_fault, made_by, named_from, number_in}
-use Rattle.mk_entities.specs.Tied.{numbered}
+use Rattle.mk_entities.specs.inner.Making.{fault_at, first_fault, made_by, named_from, number_in}
+use Rattle.mk_entities.specs.inner.Tied.{numbered}
 use Rattle.mk_entities.proofs.Lookups.{number_is, place_below}
 use Rattle.mk_entities.proofs.Numbers.{put_is_filter}
 

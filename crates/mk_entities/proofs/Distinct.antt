@@ -12,8 +12,9 @@ use Rattle.mk_entities.specs.declared.entities.EntityInfo.{EntityInfo}
 use Rattle.mk_entities.specs.declared.fault.CreateFault.{CreateFault}
 use Rattle.mk_entities.specs.declared.fault.CreateFault.TheVariants.{NoEid, TwiceEid, OfType, TooMany}
 use Rattle.mk_entities.specs.Creation.{entity_fault, first_there, found, has_type, held, is_named, most_entities, number_of}
-use Rattle.mk_entities.specs.Making.{fault_at, first_fault, named_from, number_in}
-use Rattle.mk_entities.specs.Tied.{IsFound, numbered}
+use Rattle.mk_entities.specs.inner.Making.{fault_at, first_fault, named_from, number_in}
+use Rattle.mk_entities.specs.Tied.{IsFound}
+use Rattle.mk_entities.specs.inner.Tied.{numbered}
 use Rattle.mk_entities.proofs.Adding.{numbered_append, numbered_own, own}
 use Rattle.mk_entities.proofs.Lookups.{number_is, place_first, place_later}
 

@@ -6,7 +6,7 @@ use Rattle.mk_meta.specs.declared.meta.Meta.{Meta}
 use Rattle.mk_entities.specs.declared.described.Described.{Described}
 use Rattle.std.specs.List.{range_with_len}
 use Rattle.mk_entities.specs.Creation.{entity_fault, first_there}
-use Rattle.mk_entities.specs.Making.{fault_at, named_from, number_in}
+use Rattle.mk_entities.specs.inner.Making.{fault_at, named_from, number_in}
 
 module _ {X : Type 0} where
   pub skip_none : (xs ys : List (Option X)) → first_there xs ≡ None → first_there (xs ++ ys) ≡ first_there ys

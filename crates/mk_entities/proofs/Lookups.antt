@@ -10,9 +10,9 @@ use Rattle.mk_base.specs.declared.SimNo.{SimNo}
 use Rattle.mk_base.specs.Lists.{same_text, value_under}
 use Rattle.mk_entities.specs.declared.entities.EntityInfo.{EntityInfo}
 use Rattle.mk_entities.specs.Creation.{is_named, number_of}
-use Rattle.mk_entities.specs.Making.{number_in}
-use Rattle.mk_entities.specs.Names.{texts_of}
-use Rattle.mk_entities.specs.Tied.{names_at, numbered}
+use Rattle.mk_entities.specs.inner.Making.{number_in}
+use Rattle.mk_entities.specs.inner.Names.{texts_of}
+use Rattle.mk_entities.specs.inner.Tied.{names_at, numbered}
 
 -- ---- texts and keys
 

@@ -6,7 +6,7 @@ use Rattle.std.specs.Ordering.{nat_cmp}
 use Rattle.std.specs.declared.cmp.Ordering.TheVariants.{Less, Equal, Greater}
 use Rattle.std.specs.BTreeSet.{insert_key}
 use Rattle.mk_entities.specs.Creation.{has_number}
-use Rattle.mk_entities.specs.Making.{with_numbers}
+use Rattle.mk_entities.specs.inner.Making.{with_numbers}
 
 less : (x y : ℕ) → x < y → nat_cmp x y ≡ Less
 less x y h = grind arith

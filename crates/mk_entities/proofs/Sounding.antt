@@ -19,7 +19,7 @@ use Rattle.mk_entities.specs.declared.fault.CreateFault.{CreateFault}
 use Rattle.mk_entities.specs.declared.fault.CreateFault.TheVariants.{NoEid, TwiceEid, OfType, TooMany}
 use Rattle.mk_entities.specs.Creation.{added, entity_fault, found, has_number, has_type, held, most_entities}
 use Rattle.mk_entities.specs.Descriptions.{below, children_in, described, eid_in, family, if_eid, is_eid, list_under}
-use Rattle.mk_entities.specs.Making.{fault_at, first_fault, named_from, number_in}
+use Rattle.mk_entities.specs.inner.Making.{fault_at, first_fault, named_from, number_in}
 use Rattle.mk_entities.specs.Sound.{AreSound, IsSound}
 use Rattle.mk_entities.proofs.Distinct.{none_at}
 

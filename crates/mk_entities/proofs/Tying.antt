@@ -9,7 +9,8 @@ use Rattle.mk_entities.specs.declared.described.Described.{Described}
 use Rattle.mk_entities.specs.declared.entities.EntityInfo.{EntityInfo}
 use Rattle.mk_entities.specs.declared.fault.CreateFault.{CreateFault}
 use Rattle.mk_entities.specs.Creation.{added, drafts, first_entity_fault, first_there, most_entities, number_of, rel_fault, unless, with_entities}
-use Rattle.mk_entities.specs.Tied.{IsFound, IsTied, names_at, numbered}
+use Rattle.mk_entities.specs.Tied.{IsFound}
+use Rattle.mk_entities.specs.inner.Tied.{IsTied, names_at, numbered}
 use Rattle.mk_entities.proofs.Adding.{numbered_append, numbered_other, same_fault}
 use Rattle.mk_entities.specs.Sound.{AreSound}
 use Rattle.mk_entities.proofs.Distinct.{still_found}

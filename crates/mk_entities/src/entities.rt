@@ -39,7 +39,7 @@ pub struct Entities {
 impl Model for Entities {
     ghost use Rattle.std.specs.Prelude.{List};
     ghost use Rattle.mk_entities.specs.declared.entities.EntityInfo.{EntityInfo};
-    ghost use Rattle.mk_entities.specs.Tied.{IsTied};
+    ghost use Rattle.mk_entities.specs.inner.Tied.{IsTied};
 
     ghost Value = { List EntityInfo };
 

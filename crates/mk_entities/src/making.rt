@@ -3,8 +3,8 @@ ghost use Rattle.std.specs.Prelude.{◌≡◌, ◌+◌, ◌<◌, ◌≤◌, [], 
 ghost use Rattle.std.specs.List.{cons_option, find, list_any};
 ghost use Rattle.mk_base.specs.Lists.{BeginsWith, same_text};
 ghost use Rattle.mk_entities.specs.Creation.{most_entities, entity_fault, first_there, has_type, is_model_of, rel_fault, with_entities};
-ghost use Rattle.mk_entities.specs.Making.{first_fault, made_by, named_from, number_in, outcome, related_by, with_numbers};
-ghost use Rattle.mk_entities.specs.Tied.{numbered};
+ghost use Rattle.mk_entities.specs.inner.Making.{first_fault, made_by, named_from, number_in, outcome, related_by, with_numbers};
+ghost use Rattle.mk_entities.specs.inner.Tied.{numbered};
 
 use crate::described::Described;
 use crate::entities::EntityInfo;

@@ -1,7 +1,7 @@
 // The eids of one simulator, and the number of each.
 ghost use Rattle.std.specs.Prelude.{◌≡◌, ℕ, ◌<◌, ◌++◌, [], ◌∷◌, None, length, take, OnOk, OnErr};
 ghost use Rattle.mk_base.specs.Lists.{value_under};
-ghost use Rattle.mk_entities.specs.Tied.{names_at};
+ghost use Rattle.mk_entities.specs.inner.Tied.{names_at};
 
 use indexmap::IndexMap;
 use mk_base::{Mem, Text};
@@ -17,7 +17,7 @@ pub struct Names {
 impl Model for Names {
     ghost use Rattle.std.specs.Prelude.{List, ℕ};
     ghost use Rattle.std.specs.Coded.{coded_list, coded×, coded_ℕ};
-    ghost use Rattle.mk_entities.specs.Names.{texts_of};
+    ghost use Rattle.mk_entities.specs.inner.Names.{texts_of};
 
     ghost Value = { List (List ℕ × ℕ) };
 

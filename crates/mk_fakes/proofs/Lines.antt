@@ -9,7 +9,7 @@ use Rattle.mk_outside.specs.declared.fleet.Started.TheVariants as started
 use Rattle.mk_outside.specs.Logs.{same_link}
 use Rattle.mk_fakes.specs.declared.wires.Chunk.{Chunk}
 use Rattle.mk_fakes.specs.declared.wires.Cursor.{Cursor}
-use Rattle.mk_fakes.specs.Cursors.{cut, line_of, lines_from}
+use Rattle.mk_fakes.specs.inner.Cursors.{cut, line_of, lines_from}
 use Rattle.mk_fakes.specs.Scripts.{after_start, changed_at, chunks_of, coming, given, heard, on_line, past, said_more, said_to, without_front}
 use Rattle.mk_fakes.specs.Telling.{Line, Wiring}
 

@@ -1,5 +1,5 @@
 -- What contracts see of the parts of a fleet in memory.
-use Rattle.std.specs.Prelude.{ℕ, ◌/◌, ◌+◌, Bool, List, [], ◌∷◌, ◌++◌, min}
+use Rattle.std.specs.Prelude.{ℕ, ◌/◌, ◌+◌, Bool, List, [], ◌++◌, min}
 use Rattle.mk_base.specs.declared.LinkNo.{LinkNo}
 use Rattle.mk_outside.specs.declared.fleet.LogEntry.{LogEntry}
 use Rattle.mk_outside.specs.Fleets.{last_moment}
@@ -19,10 +19,6 @@ blank room = record { entries = []; clock = 0; notes_room = room / 16; bytes_roo
 -- with more entries
 abbrev pub with_entries : List LogEntry → Telling → Telling
 with_entries more t = record { entries = t.entries ++ more; clock = t.clock; notes_room = t.notes_room; bytes_room = t.bytes_room }
-
--- with one more entry
-abbrev pub with_entry : LogEntry → Telling → Telling
-with_entry e = with_entries (e ∷ [])
 
 -- with the clock at this number
 abbrev pub with_clock : ℕ → Telling → Telling

@@ -30,7 +30,7 @@ use Rattle.mk_base.specs.declared.json.Json as tree
 use Rattle.mk_base.specs.declared.json.Json.{Json}
 use Rattle.mk_base.specs.Texts.{text_of, quoted}
 use Rattle.mk_base.specs.Trees.{in_range, is_in_range, nesting}
-use Rattle.mk_json.specs.Outline.{outline, items_in, members_in}
+use Rattle.mk_json.specs.inner.Outline.{outline, items_in, members_in}
 use Rattle.mk_json.specs.Parsed as made
 use Rattle.mk_json.specs.Parsed.{tree_of, parsed}
 use Rattle.mk_base.specs.Proper.{is_proper, names_rise}

@@ -12,7 +12,7 @@ use Rattle.serde_json.proofs.OnLiterals.{serde_json_on_literals}
 use Rattle.mk_base.specs.declared.json.Json as tree
 use Rattle.mk_base.specs.declared.json.Json.{Json}
 use Rattle.mk_base.specs.Texts.{quoted, text_of}
-use Rattle.mk_json.specs.Outline.{outline, items_in, members_in}
+use Rattle.mk_json.specs.inner.Outline.{outline, items_in, members_in}
 use Rattle.mk_json.proofs.OfOutlines.{outlined, outline-Null, outline-Bool, outline-Whole, outline-Odd, outline-Text, outline-List, outline-Object}
 use Rattle.mk_json.proofs.Layers.{Held, trees, members, Steps, by_layers, folded-Null, folded-Bool, folded-Whole, folded-Odd, folded-Text, folded-List, folded-Object}
 

@@ -5,7 +5,8 @@ use Rattle.std.specs.Map.{keys_of}
 use Rattle.std.specs.Str.{is_utf8}
 use Rattle.mk_base.specs.declared.json.Json as tree
 use Rattle.mk_base.specs.Trees.{is_in_range}
-use Rattle.mk_base.specs.Proper.{is_proper, are_proper, names_rise}
+use Rattle.mk_base.specs.Proper.{is_proper, names_rise}
+use Rattle.mk_base.specs.inner.Proper.{are_proper}
 use Rattle.mk_json.proofs.Layers.{folded-List, folded-Object}
 
 -- all pass where each passes

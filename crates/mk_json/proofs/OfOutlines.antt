@@ -17,7 +17,7 @@ use Rattle.serde_json.proofs.OnLiterals.{serde_json_on_literals}
 use Rattle.mk_base.specs.declared.json.Json as tree
 use Rattle.mk_base.specs.declared.json.Json.{Json}
 use Rattle.mk_base.specs.Trees.{in_range, is_in_range}
-use Rattle.mk_json.specs.Outline.{outline, items_in, members_in}
+use Rattle.mk_json.specs.inner.Outline.{outline, items_in, members_in}
 use Rattle.mk_base.specs.Proper.{is_proper, names_rise}
 use Rattle.mk_json.proofs.Layers.{folded-Null, folded-Bool, folded-Whole, folded-Odd, folded-Text, folded-List, folded-Object}
 

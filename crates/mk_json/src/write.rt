@@ -7,9 +7,10 @@ ghost use Rattle.json.specs.Token.{number};
 ghost use Rattle.json.specs.Tree.{json_tokens, items_tokens, members_tokens};
 ghost use Rattle.mk_base.specs.Texts.{text_of, quoted};
 ghost use Rattle.mk_base.specs.Trees.{nesting, in_range, is_in_range};
-ghost use Rattle.mk_json.specs.Outline.{outline, items_in, members_in};
+ghost use Rattle.mk_json.specs.inner.Outline.{outline, items_in, members_in};
 ghost use Rattle.mk_json.specs.Parsed.{parsed};
-ghost use Rattle.mk_base.specs.Proper.{is_proper, are_proper};
+ghost use Rattle.mk_base.specs.Proper.{is_proper};
+ghost use Rattle.mk_base.specs.inner.Proper.{are_proper};
 
 use json::Writer;
 use mk_base::{Json, List, Mem, Members, Text};

@@ -14,7 +14,7 @@ use Rattle.mk_launch.specs.declared.marks.Front.TheVariants as front
 use Rattle.mk_launch.specs.Marks.{Mark, before, mark_of, marks}
 use Rattle.mk_launch.specs.Marks.Sign.{Byte, Address}
 use Rattle.mk_launch.specs.Marks.Mark.{Space, Quote, Plain}
-use Rattle.mk_launch.specs.Steps.{front_of}
+use Rattle.mk_launch.specs.inner.Steps.{front_of}
 
 -- the byte stands for itself
 pub record IsPlain (b : ℕ) : Type 0 where

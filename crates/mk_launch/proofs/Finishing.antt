@@ -9,8 +9,8 @@ use Rattle.mk_launch.specs.Marks.Sign.{Byte, Address}
 use Rattle.mk_launch.specs.Marks.Mark.{Space, Quote, Plain}
 use Rattle.mk_launch.specs.Parts.{Piece, gap, of_word, pieces}
 use Rattle.mk_launch.specs.Words.{Cut, all_words, with_piece, cut_at_gaps, some_words, words_of_pieces, words_of_marks, sign_text, word_text, word_texts}
-use Rattle.mk_launch.specs.Reading.{Reading}
-use Rattle.mk_launch.specs.Steps.{with_letters, without_word, some_texts, words_read}
+use Rattle.mk_launch.specs.inner.Reading.{Reading}
+use Rattle.mk_launch.specs.inner.Steps.{with_letters, without_word, some_texts, words_read}
 
 abbrev pub Texts : Type 0
 Texts = Result (List (List ℕ)) LaunchFault

@@ -13,7 +13,7 @@ use Rattle.mk_scenario.specs.declared.parts.Begin.{Begin}
 use Rattle.mk_scenario.specs.declared.parts.Begin.TheVariants.{Command, Connect, Local}
 use Rattle.mk_scenario.specs.declared.parts.SimPart.{SimPart}
 use Rattle.mk_launch.specs.Starts.{Links, link_of, place_of, link_count, places, links_in, AreStarted, AreStartedAndOneClosed}
-use Rattle.mk_launch.specs.Starting.{IsGiven, without_place}
+use Rattle.mk_launch.specs.inner.Starting.{IsGiven, without_place}
 
 -- the last item is one of them
 pub is_last : {X : Type 0} (xs : List X) (x : X) → IsIn x (xs ++ x ∷ [])

@@ -13,8 +13,8 @@ use Rattle.mk_launch.specs.declared.marks.Front.TheVariants as front
 use Rattle.mk_launch.specs.Marks.{Mark, before, marks}
 use Rattle.mk_launch.specs.Marks.Sign.{Byte}
 use Rattle.mk_launch.specs.Marks.Mark.{Space, Quote, Plain}
-use Rattle.mk_launch.specs.Reading.{Reading}
-use Rattle.mk_launch.specs.Steps.{FrontOf, IsReadOf, after_front, after_quote, after_space, with_letters}
+use Rattle.mk_launch.specs.inner.Reading.{Reading}
+use Rattle.mk_launch.specs.inner.Steps.{FrontOf, IsReadOf, after_front, after_quote, after_space, with_letters}
 use Rattle.mk_launch.proofs.Finishing.{Texts, finish, space_ends, space_stays, byte_on, address_on, quote_opens, quote_ends, quote_stays}
 use Rattle.mk_launch.proofs.Bytes.{IsPlain, letters_are_plain, some_bytes, byte_first, plain_first, address_first, percent_first, stray_first}
 

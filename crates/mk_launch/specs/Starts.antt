@@ -3,14 +3,11 @@ use Rattle.std.specs.Prelude.{◌≡◌, ℕ, ◌+◌, ◌<◌, ◌⊎◌, List,
 use Rattle.mk_base.specs.declared.LinkNo.{LinkNo}
 use Rattle.mk_base.specs.Lists.{Each}
 use Rattle.mk_outside.specs.Fleets.{without}
-use Rattle.mk_outside.specs.declared.fleet.Start.{Start}
-use Rattle.mk_outside.specs.declared.fleet.Start.TheVariants as start
 use Rattle.mk_scenario.specs.declared.parts.Begin.{Begin}
 use Rattle.mk_scenario.specs.declared.parts.Begin.TheVariants.{Command, Connect, Local}
 use Rattle.mk_scenario.specs.declared.parts.SimPart.{SimPart}
 use Rattle.mk_launch.specs.declared.faults.StartFault.{StartFault}
 use Rattle.mk_launch.specs.declared.faults.StartFault.TheVariants.{Failed, Mem}
-use Rattle.mk_launch.specs.Words.{words_of}
 
 -- what a fleet tells of its links: how many were started, and the open ones
 pub record Links : Type 0 where
@@ -61,8 +58,3 @@ abbrev pub AllStarted : Result (Unit {0}) StartFault → List SimPart → Links 
 AllStarted (Ok done) sims old new put = AreStarted sims old new put
 AllStarted (Err (Failed sim)) sims old new put = (sim.0 < length sims) × AreStarted (take sim.0 sims) old new put
 AllStarted (Err Mem) sims old new put = (count : ℕ) × (count < length sims) × (AreStarted (take count sims) old new put ⊎ AreStartedAndOneClosed (take count sims) old new put)
-
--- the start is by the words of this template for this port
-abbrev pub IsCommand : List ℕ → ℕ → Start → Type 0
-IsCommand template port (start.Command words) = words_of template port ≡ Ok words
-IsCommand template port (start.Connect other) = ⊥

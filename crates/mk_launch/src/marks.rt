@@ -1,6 +1,6 @@
 //! What stands at the front of a template.
 ghost use Rattle.std.specs.Prelude.{◌≡◌, ℕ, List, [], ◌++◌, MatchOption};
-ghost use Rattle.mk_launch.specs.Steps.{FrontOf, front_of};
+ghost use Rattle.mk_launch.specs.inner.Steps.{FrontOf, front_of};
 
 // What stands at the front of a template's rest.
 #[derive(Clone, Copy)]

@@ -6,8 +6,9 @@ ghost use Rattle.mk_outside.specs.Counts.{HasRisen};
 ghost use Rattle.mk_outside.specs.Logs.{Adds};
 ghost use Rattle.mk_launch.specs.Words.{template_words};
 ghost use Rattle.mk_launch.specs.Ready.{IsPrepared};
-ghost use Rattle.mk_launch.specs.Starts.{AllStarted, IsCommand};
-ghost use Rattle.mk_launch.specs.Starting.{BegunAs, BegunLink, CanStart, without_place};
+ghost use Rattle.mk_launch.specs.Starts.{AllStarted};
+ghost use Rattle.mk_launch.specs.inner.Starts.{IsCommand};
+ghost use Rattle.mk_launch.specs.inner.Starting.{BegunAs, BegunLink, CanStart, without_place};
 ghost use Rattle.mk_launch.specs.declared.faults.StartFault.TheVariants as faults;
 
 use crate::faults::{LaunchFault, StartFault};

@@ -9,7 +9,8 @@ use Rattle.mk_local.specs.declared.turn.Turn.{Turn}
 use Rattle.std.proofs.lemmas.Slice.Eq.{bytes_eq-Decides}
 use Rattle.mk_base.specs.Lists.{same_text}
 use Rattle.mk_local.specs.Data.{place_named}
-use Rattle.mk_local.specs.Inputs.{AreTaken, added, is_input_of, seen, sum_of, taken_at, takes}
+use Rattle.mk_local.specs.Inputs.{added, is_input_of, seen, sum_of, takes}
+use Rattle.mk_local.specs.inner.Inputs.{AreTaken, taken_at}
 use Rattle.mk_local.proofs.Places.{found, named}
 
 fold_append : {A X : Type 0} (f : A → X → A) (a : A) (xs ys : List X) → fold f a (xs ++ ys) ≡ fold f (fold f a xs) ys

@@ -1,12 +1,10 @@
 -- What each entity takes in a Step: whether it has inputs, and their sum.
-use Rattle.std.specs.Prelude.{◌≡◌, ℕ, ◌<◌, ℤ, pos, negsuc, ◌+ℤ◌, Bool, ◌&&◌, false, int_le, List, filter, fold, length, nat_lt, slice_get, Some, unwrap_or, option_map, if◌then◌else◌}
+use Rattle.std.specs.Prelude.{ℕ, ℤ, pos, negsuc, ◌+ℤ◌, Bool, ◌&&◌, false, int_le, List, filter, fold, length, nat_lt, unwrap_or, option_map, if◌then◌else◌}
 use Rattle.std.specs.List.{list_any}
-use Rattle.std.specs.Fmt.{decimal}
 use Rattle.std.specs.Str.{all_ascii_digits}
 use Rattle.std.specs.Str.Parse.{signed_digits_value, without_leading_sign}
 use Rattle.mk_base.specs.Lists.{same_text}
 use Rattle.mk_plan.specs.declared.Input.{Input}
-use Rattle.mk_local.specs.declared.inputs.Taken.{Taken}
 use Rattle.mk_local.specs.declared.turn.Turn.{Turn}
 use Rattle.mk_local.specs.Kinds.{input_of}
 use Rattle.mk_local.specs.Rows.{clamped}
@@ -42,11 +40,3 @@ added sum i = clamped (sum +ℤ number_in i.value)
 -- the sum of the entity's inputs in order, kept within 64 bits at each
 abbrev pub sum_of : Turn → List ℕ → List Input → ℤ
 sum_of T eid inputs = fold added (pos 0) (filter (is_input_of T eid) inputs)
-
--- what the entity at place k takes
-abbrev pub taken_at : Turn → List Input → ℕ → Taken
-taken_at T inputs k = record { seen = seen T (decimal k) inputs; sum = sum_of T (decimal k) inputs }
-
--- these are what the first entities take, in order
-abbrev pub AreTaken : Turn → List Input → List Taken → Type 0
-AreTaken T inputs all = (k : ℕ) → k < length all → slice_get all k ≡ Some (taken_at T inputs k)

@@ -10,3 +10,4 @@ pub mod Right
 pub mod Rows
 pub mod Simulators
 pub mod Steps
+pub mod inner

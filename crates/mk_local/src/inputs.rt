@@ -2,7 +2,8 @@
 ghost use Rattle.std.specs.Prelude.{◌≡◌, ◌<◌, ℕ, [], ◌∷◌, ◌++◌, false, true, pos, length, replicate, IfOk, IfSome, Some, List};
 ghost use Rattle.std.specs.Fmt.{decimal};
 ghost use Rattle.mk_plan.specs.declared.Input.{Input};
-ghost use Rattle.mk_local.specs.Inputs.{AreTaken, added, is_input_of, number_in, takes};
+ghost use Rattle.mk_local.specs.Inputs.{added, is_input_of, number_in, takes};
+ghost use Rattle.mk_local.specs.inner.Inputs.{AreTaken};
 
 use crate::data::place_named;
 use crate::names::input_of;

@@ -1,7 +1,8 @@
 // The reply to a Step.
 ghost use Rattle.std.specs.Prelude.{◌≡◌, IfOk, filter_map};
 ghost use Rattle.mk_local.specs.Rows.{IsStepOf, IsStepTime, row};
-ghost use Rattle.mk_local.specs.Steps.{after_step, earlier_next, least, number_or_null, own_next, turned, turns};
+ghost use Rattle.mk_local.specs.Steps.{after_step, least, number_or_null, own_next, turned, turns};
+ghost use Rattle.mk_local.specs.inner.Steps.{earlier_next};
 
 use crate::entity::Entity;
 use crate::inputs::{Taken, gathered};

@@ -8,7 +8,7 @@ use Rattle.mk_base.specs.Texts.{quoted, object_text}
 use Rattle.mk_json.proofs.OfOutlines.{left_is}
 use Rattle.mk_plan.specs.Report.{inputs_text}
 use Rattle.mk_plan.specs.declared.Input.{Input}
-use Rattle.mk_message.specs.Streams.{Stream, rest_of, keyed, source_member, by_source, by_attribute, by_entity, attributes, wanted_by_entity}
+use Rattle.mk_message.specs.inner.Streams.{Stream, rest_of, keyed, source_member, by_source, by_attribute, by_entity, attributes, wanted_by_entity}
 use Rattle.mk_message.specs.Written.{joined, gathered, wanted_text}
 
 -- the pieces, each behind a comma

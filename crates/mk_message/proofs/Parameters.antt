@@ -4,7 +4,8 @@ use Rattle.std.specs.List.{join_with_byte}
 use Rattle.mk_base.specs.declared.json.Json.{Json}
 use Rattle.mk_base.specs.Lists.{text_order, placed}
 use Rattle.mk_base.specs.Texts.{text_of}
-use Rattle.mk_message.specs.Written.{member_text, texts_of, time_resolution, with_resolution}
+use Rattle.mk_message.specs.Written.{texts_of, time_resolution, with_resolution}
+use Rattle.mk_message.specs.inner.Written.{member_text}
 use Rattle.mk_message.proofs.Gathering.{join_more}
 
 -- the members with the time resolution, by their text

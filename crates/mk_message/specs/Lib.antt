@@ -1,3 +1,3 @@
 pub mod Messages
-pub mod Streams
 pub mod Written
+pub mod inner

@@ -1,5 +1,5 @@
 -- The payloads that the program writes on a link.
-use Rattle.std.specs.Prelude.{ℕ, ◌^◌, pos, ◌==◌, ◌&&◌, nat_lt, Bool, true, List, [], ◌∷◌, ◌++◌, map, Option, Some, None, codes, if◌then◌else◌}
+use Rattle.std.specs.Prelude.{ℕ, ◌^◌, pos, ◌==◌, ◌&&◌, nat_lt, Bool, true, List, [], ◌∷◌, map, Option, Some, None, codes, if◌then◌else◌}
 use Rattle.std.specs.List.{list_all}
 use Rattle.std.specs.Fmt.{decimal, signed_decimal}
 use Rattle.mk_base.specs.declared.json.Json as tree
@@ -83,10 +83,6 @@ members_of (Some ms) = ms
 -- members, by the texts of their values
 abbrev pub texts_of : List (List ℕ × Json) → List (List ℕ × List ℕ)
 texts_of ms = map (λ (m : List ℕ × Json). (m.0, text_of m.1)) ms
-
--- a member of an object
-abbrev pub member_text : List ℕ × List ℕ → List ℕ
-member_text m = quoted m.0 ++ codes ":" ++ m.1
 
 abbrev pub time_resolution : List ℕ × List ℕ
 time_resolution = (codes "time_resolution", codes "1")

@@ -4,7 +4,8 @@ ghost use Rattle.std.specs.List.{list_all, join_with_byte};
 ghost use Rattle.mk_base.specs.Lists.{text_order};
 ghost use Rattle.mk_base.specs.Texts.{quoted, text_of};
 ghost use Rattle.mk_base.specs.Trees.{is_in_range};
-ghost use Rattle.mk_message.specs.Written.{call_text, init_params, is_call_in_range, member_text, texts_of, with_resolution};
+ghost use Rattle.mk_message.specs.Written.{call_text, init_params, is_call_in_range, texts_of, with_resolution};
+ghost use Rattle.mk_message.specs.inner.Written.{member_text};
 
 use crate::items::{put_unsigned, request};
 use mk_base::{Json, Mem, Text};

@@ -3,7 +3,7 @@ ghost use Rattle.std.specs.Prelude.{◌≡◌, ◌++◌, codes, IfOk, OnOk};
 ghost use Rattle.mk_base.specs.Lists.{same_text};
 ghost use Rattle.mk_base.specs.Texts.{quoted};
 ghost use Rattle.mk_plan.specs.Report.{inputs_text};
-ghost use Rattle.mk_message.specs.Streams.{rest_of, source_member, by_source, by_attribute, by_entity, attributes, wanted_by_entity};
+ghost use Rattle.mk_message.specs.inner.Streams.{rest_of, source_member, by_source, by_attribute, by_entity, attributes, wanted_by_entity};
 ghost use Rattle.mk_message.specs.Written.{wanted_text};
 
 use mk_base::{List, Mem, Text};

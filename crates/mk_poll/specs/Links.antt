@@ -46,10 +46,3 @@ made_parked link t = record { ready = t.ready; taken = without link t.taken; par
 abbrev pub TakeOf : Turning → Option LinkNo → Turning → Type 0
 TakeOf old None new = (old.ready ≡ []) × (new ≡ old)
 TakeOf old (Some link) new = (rest : List LinkNo) × (old.ready ≡ link ∷ rest) × (new ≡ record { ready = rest; taken = old.taken ++ link ∷ []; parked = old.parked })
-
--- there is room for so many links in each of the three places, and there are no more
-pub record HasRoom (count ready taken parked room_ready room_taken room_parked : ℕ) : Type 0 where
-  pub within : ready + (taken + parked) ≤ count
-  pub for_ready : count ≤ room_ready
-  pub for_taken : count ≤ room_taken
-  pub for_parked : count ≤ room_parked

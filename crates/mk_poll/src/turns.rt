@@ -25,7 +25,8 @@ impl Model for Turns {
     ghost use Rattle.std.specs.Prelude.{length, vec_capacity};
     ghost use Rattle.std.specs.VecDeque.{deque_capacity};
     ghost use Rattle.mk_poll.specs.Turning.{Turning};
-    ghost use Rattle.mk_poll.specs.Links.{HasRoom, IsApart};
+    ghost use Rattle.mk_poll.specs.Links.{IsApart};
+    ghost use Rattle.mk_poll.specs.inner.Links.{HasRoom};
 
     ghost Value = { Turning };
 

@@ -13,14 +13,14 @@
 #![tactic(auto)]
 
 // Records read.
-pub use mk_saved::{Arrival, Asked, RecordFault, Saved, read_record};
+pub use mk_record_read::{Arrival, Asked, RecordFault, Saved, read_record};
 
 // Records written.
-pub use mk_lines::write_record;
+pub use mk_record_write::write_record;
 
 // A record and a journal.
-pub use mk_differs::first_other;
-pub use mk_replay::{ReplayEnd, Replayed, replay, replay_is_one};
+pub use mk_record_compare::first_other;
+pub use mk_record_replay::{ReplayEnd, Replayed, replay, replay_is_one};
 
 // The texts of a journal.
-pub use mk_report::{write_report, write_summary};
+pub use mk_record_report::{write_report, write_summary};

@@ -1,12 +1,12 @@
 // What several tests have in common: a counter's plan as lines, its journal, and what a record says of it.
 ghost use Rattle.std.specs.Prelude.{◌≡◌, ◌+◌, length, true, IfOk, OnOk};
 ghost use Rattle.std.specs.List.{list_all};
-ghost use Rattle.mk_lines.specs.Writable.{is_writable};
+ghost use Rattle.mk_record_write.specs.Writable.{is_writable};
 
 use mk_base::{List, Mem, SimKind, SimNo, Text, Tier};
 use mk_message::read;
 use mk_plan::{Entry, Item, Journal, Plan, PlanSim};
-use mk_saved::{Asked, RecordFault, Saved, read_record};
+use mk_record_read::{Asked, RecordFault, Saved, read_record};
 use std::alloc::Global;
 use std::test::Fail;
 

@@ -1,8 +1,8 @@
 // Records that differ from a journal, entry by entry.
 
 use crate::common::{PLAN, counter_journal};
-use mk_differs::{first_other, first_other_step};
-use mk_saved::{Saved, read_record};
+use mk_record_compare::{first_other, first_other_step};
+use mk_record_read::{Saved, read_record};
 use std::alloc::Global;
 use std::test::Fail;
 

@@ -2,7 +2,7 @@
 
 use crate::common::{PLAN, said};
 use mk_base::{Mem, SimKind, Via};
-use mk_saved::{RecordFault, Saved, read_record};
+use mk_record_read::{RecordFault, Saved, read_record};
 use std::alloc::Global;
 use std::test::Fail;
 

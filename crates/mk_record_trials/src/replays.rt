@@ -2,8 +2,8 @@
 
 use mk_base::{Mem, SimNo};
 use mk_plan::Entry;
-use mk_replay::{ReplayEnd, Replayed, replay};
-use mk_saved::read_record;
+use mk_record_read::read_record;
+use mk_record_replay::{ReplayEnd, Replayed, replay};
 use mk_sched::{Core, CoreFault};
 use std::alloc::Global;
 use std::test::Fail;

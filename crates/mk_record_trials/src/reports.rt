@@ -3,7 +3,7 @@
 use crate::common::{empty_plan, simulator, step};
 use mk_base::{List, Mem, SimKind, SimNo};
 use mk_plan::{Entry, Item, Journal, Plan};
-use mk_report::{write_report, write_summary};
+use mk_record_report::{write_report, write_summary};
 use std::alloc::Global;
 use std::test::Fail;
 

@@ -3,8 +3,8 @@
 use crate::common::{counter_journal, empty_plan, said, simulator};
 use mk_base::{Datum, List, Mem, SimKind, SimNo, Text, Via};
 use mk_json::{datum, read_json};
-use mk_lines::write_record;
 use mk_plan::{AsyncPair, Conn, Journal, Plan, PlanEntity, PlanModel};
+use mk_record_write::write_record;
 use std::alloc::Global;
 use std::test::Fail;
 

@@ -6,9 +6,9 @@ use Rattle.mk_base.specs.Lists.{IsIn}
 use Rattle.mk_plan.specs.declared.Plan.{Plan}
 use Rattle.mk_plan.specs.declared.Journal.{Journal}
 use Rattle.mk_outside.specs.Counts.{HasRisen}
-use Rattle.mk_crew.specs.Places.{AreOpen}
+use Rattle.mk_run_links.specs.Places.{AreOpen}
 use Rattle.mk_setup.specs.Handshakes.{IsMade}
-use Rattle.mk_links.specs.Running.{SetupReplies}
+use Rattle.mk_run_laws.specs.Running.{SetupReplies}
 use Rattle.mk_plan.specs.declared.Entry.TheVariants.{Got}
 use Rattle.mk_plan.specs.Plans.{IsValidPlan, sim_count, first_id}
 use Rattle.mk_plan.specs.Sequential.{run_items}
@@ -20,21 +20,21 @@ use Rattle.mk_local.specs.declared.turn.Turn.{Turn}
 use Rattle.mk_local.specs.Calls.{after_call}
 use Rattle.mk_local.specs.Kinds.{name_of}
 use Rattle.mk_local.specs.Simulators.{Simulator}
-use Rattle.mk_links.specs.Crews.{AreStopped, IsRestless}
-use Rattle.mk_links.specs.Handshake.{setup_requests, setup_count, calls_to, is_within}
-use Rattle.mk_links.proofs.Clauses.{handshake_says}
-use Rattle.mk_links.proofs.Stepping.{begun, first_or_second}
+use Rattle.mk_run_laws.specs.Crews.{AreStopped, IsRestless}
+use Rattle.mk_run_laws.specs.Handshake.{setup_requests, setup_count, calls_to, is_within}
+use Rattle.mk_run_laws.proofs.Clauses.{handshake_says}
+use Rattle.mk_run_laws.proofs.Stepping.{begun, first_or_second}
 use Rattle.mk_sched.specs.Cores.{Stands}
-use Rattle.mk_within.specs.Made.{made, first_at}
-use Rattle.mk_begin.specs.declared.halt.Halt.TheVariants as halt
-use Rattle.mk_begin.specs.Begun.{HasBegun}
-use Rattle.mk_begin.specs.Halted.{HasHalted}
-use Rattle.mk_begin.specs.Seen.{CrewSeen, crew_of}
+use Rattle.mk_run_local.specs.Made.{made, first_at}
+use Rattle.mk_run_crew.specs.declared.halt.Halt.TheVariants as halt
+use Rattle.mk_run_crew.specs.Begun.{HasBegun}
+use Rattle.mk_run_crew.specs.Halted.{HasHalted}
+use Rattle.mk_run_crew.specs.Seen.{CrewSeen, crew_of}
 use Rattle.mk_run.proofs.Inside.{here_within, within_there}
-use Rattle.mk_run.specs.Underway.{Setting, reply_in, IsUnderway}
+use Rattle.mk_run.specs.inner.Underway.{Setting, reply_in, IsUnderway}
 use Rattle.mk_run.specs.declared.outcome.Outcome.{Outcome}
 use Rattle.mk_run.specs.Ran.{RunsAs}
-use Rattle.mk_run.specs.Turns.{AreLinksOpen, PlanRunsAs}
+use Rattle.mk_run.specs.inner.Turns.{AreLinksOpen, PlanRunsAs}
 use Rattle.mk_run.proofs.Pushed.{not_empty}
 
 -- before any entry

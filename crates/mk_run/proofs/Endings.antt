@@ -22,29 +22,30 @@ use Rattle.mk_sched.specs.declared.faults.CoreFault.{CoreFault}
 use Rattle.mk_sched.specs.Cores.{CoreState, Stands}
 use Rattle.mk_sched.specs.Answers as sched
 use Rattle.mk_sched.specs.Answers.{SomeReady, SomeOpen, IsAsked, IsOver, IsOutOfMemory, IsAnswered, IsFaulty, IsUntaken, IsUnanswered, WasFaulty, open_id, with_message}
-use Rattle.mk_links.specs.Hearing.{first_message}
-use Rattle.mk_links.specs.Handshake.{setup_count, setup_payloads, sim_link, is_within}
-use Rattle.mk_links.specs.Payloads.{takes_id, id_after, item_payloads}
-use Rattle.mk_links.specs.Lines.{Line, IsLineAt, IsMoved}
-use Rattle.mk_links.specs.Crews.{CrewState, line_at, IsMovedAt, IsHeard, IsUnheard}
-use Rattle.mk_links.specs.Running.{HasLine, RestsEnd, IsRunningWith}
-use Rattle.mk_links.proofs.Moving.{line_moved}
-use Rattle.mk_links.proofs.Stepping.{over_ends, rests_at_end}
-use Rattle.mk_links.proofs.Taking.{unfinished_none, long_none, none_first, garbled_none}
-use Rattle.mk_crew.specs.declared.answers.LinkHalt.{LinkHalt}
-use Rattle.mk_crew.specs.declared.answers.LinkHalt.TheVariants as link_halt
-use Rattle.mk_crew.specs.Crews.{IsLengthOf}
-use Rattle.mk_crew.specs.Halts.{ShowsHalt}
-use Rattle.mk_begin.specs.declared.halt.Halt.{Halt}
-use Rattle.mk_begin.specs.declared.halt.Halt.TheVariants as halt
-use Rattle.mk_begin.specs.Seen.{CrewSeen, crew_of}
-use Rattle.mk_begin.specs.Calls.{ShowsUnsent, halt_of}
+use Rattle.mk_run_laws.specs.Hearing.{first_message}
+use Rattle.mk_run_laws.specs.Handshake.{setup_count, setup_payloads, sim_link, is_within}
+use Rattle.mk_run_laws.specs.Payloads.{takes_id, id_after, item_payloads}
+use Rattle.mk_run_laws.specs.Lines.{Line, IsLineAt, IsMoved}
+use Rattle.mk_run_laws.specs.Crews.{CrewState, line_at, IsMovedAt, IsHeard, IsUnheard}
+use Rattle.mk_run_laws.specs.Running.{RestsEnd}
+use Rattle.mk_run_laws.specs.inner.Running.{HasLine, IsRunningWith}
+use Rattle.mk_run_laws.proofs.Moving.{line_moved}
+use Rattle.mk_run_laws.proofs.Stepping.{over_ends, rests_at_end}
+use Rattle.mk_run_laws.proofs.Taking.{unfinished_none, long_none, none_first, garbled_none}
+use Rattle.mk_run_links.specs.declared.answers.LinkHalt.{LinkHalt}
+use Rattle.mk_run_links.specs.declared.answers.LinkHalt.TheVariants as link_halt
+use Rattle.mk_run_links.specs.Crews.{IsLengthOf}
+use Rattle.mk_run_links.specs.Halts.{ShowsHalt}
+use Rattle.mk_run_crew.specs.declared.halt.Halt.{Halt}
+use Rattle.mk_run_crew.specs.declared.halt.Halt.TheVariants as halt
+use Rattle.mk_run_crew.specs.Seen.{CrewSeen, crew_of}
+use Rattle.mk_run_crew.specs.Calls.{ShowsUnsent, halt_of}
 use Rattle.mk_run.specs.declared.outcome.Outcome.{Outcome}
 use Rattle.mk_run.specs.declared.outcome.Outcome.TheVariants as outcome
 use Rattle.mk_run.specs.Ends.{AreInRange, QueuedAll, IsBrokenOff, IsLongItem, SetupRestsWell}
-use Rattle.mk_run.specs.Underway.{Setting, reply_in, Suits, HasNoOther, IsPatient, IsUnderway, HasHeard, IsLastLine, HasGiven, EndsBy, HasEnded}
+use Rattle.mk_run.specs.inner.Underway.{Setting, reply_in, Suits, HasNoOther, IsPatient, IsUnderway, HasHeard, IsLastLine, HasGiven, EndsBy, HasEnded}
 use Rattle.mk_run.specs.Outcomes.{outcome_of}
-use Rattle.mk_run.specs.Sendings.{IsUnsent}
+use Rattle.mk_run.specs.inner.Sendings.{IsUnsent}
 use Rattle.mk_run.proofs.Going.{setup_rests_on}
 use Rattle.mk_run.proofs.Hearing.{heard_fits, heard_left, heard_running, heard_no_other, heard_setup_rests}
 use Rattle.mk_run.proofs.Linked.{no_other_moved}

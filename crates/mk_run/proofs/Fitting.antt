@@ -30,12 +30,12 @@ use Rattle.mk_local.specs.Calls.{after_call, message, init_content, create_conte
 use Rattle.mk_local.specs.Kinds.{name_of, type_of}
 use Rattle.mk_local.specs.Metadata.{metadata}
 use Rattle.mk_local.specs.Simulators.{Simulator}
-use Rattle.mk_links.specs.Handshake.{Request, setup_requests, call_to, calls_to, setup_count, is_within}
+use Rattle.mk_run_laws.specs.Handshake.{Request, setup_requests, call_to, calls_to, setup_count, is_within}
 use Rattle.mk_setup.specs.Laws.{IsKindSaid}
 use Rattle.mk_setup.specs.Requests.{id_before}
-use Rattle.mk_within.specs.Laws.{FitsKinds}
-use Rattle.mk_within.specs.Made.{first_at}
-use Rattle.mk_begin.specs.Answers.{AreKindAnswers}
+use Rattle.mk_run_local.specs.Laws.{FitsKinds}
+use Rattle.mk_run_local.specs.Made.{first_at}
+use Rattle.mk_run_crew.specs.Answers.{AreKindAnswers}
 use Rattle.mk_run.proofs.Inside.{within_there}
 use Rattle.mk_run.proofs.Linked.{within_below}
 

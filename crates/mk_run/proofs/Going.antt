@@ -18,22 +18,22 @@ use Rattle.mk_sched.specs.Cores.{CoreState, Stands}
 use Rattle.mk_sched.specs.Answers.{IsAsked, open_id}
 use Rattle.mk_local.specs.Replies.{IsItemReplied, item_reply, after_item}
 use Rattle.mk_local.specs.Simulators.{Simulator}
-use Rattle.mk_links.specs.Hearing.{messages_heard}
-use Rattle.mk_links.specs.Handshake.{setup_count, is_within}
-use Rattle.mk_links.specs.Payloads.{id_after}
-use Rattle.mk_links.specs.Crews.{CrewState, IsSentWithin}
-use Rattle.mk_links.specs.Rests.{AllSetUp}
-use Rattle.mk_links.specs.Running.{IsRunning}
-use Rattle.mk_links.proofs.Moving.{heard_more}
-use Rattle.mk_links.proofs.Saying.{link_there}
-use Rattle.mk_links.proofs.Stepping.{same_or_not, first_or_second}
-use Rattle.mk_links.proofs.Taking.{takes_on, taken_heard}
-use Rattle.mk_within.specs.Laws.{HasCome, RepliesAreKinds}
-use Rattle.mk_within.specs.Made.{kind_reply_of}
-use Rattle.mk_begin.specs.Seen.{CrewSeen, crew_of, is_here}
-use Rattle.mk_begin.specs.Calls.{HasNext, SendsAs}
+use Rattle.mk_run_laws.specs.Hearing.{messages_heard}
+use Rattle.mk_run_laws.specs.Handshake.{setup_count, is_within}
+use Rattle.mk_run_laws.specs.Payloads.{id_after}
+use Rattle.mk_run_laws.specs.Crews.{CrewState, IsSentWithin}
+use Rattle.mk_run_laws.specs.Rests.{AllSetUp}
+use Rattle.mk_run_laws.specs.inner.Running.{IsRunning}
+use Rattle.mk_run_laws.proofs.Moving.{heard_more}
+use Rattle.mk_run_laws.proofs.Saying.{link_there}
+use Rattle.mk_run_laws.proofs.Stepping.{same_or_not, first_or_second}
+use Rattle.mk_run_laws.proofs.Taking.{takes_on, taken_heard}
+use Rattle.mk_run_local.specs.Laws.{HasCome, RepliesAreKinds}
+use Rattle.mk_run_local.specs.Made.{kind_reply_of}
+use Rattle.mk_run_crew.specs.Seen.{CrewSeen, crew_of, is_here}
+use Rattle.mk_run_crew.specs.Calls.{HasNext, SendsAs}
 use Rattle.mk_run.specs.Ends.{AreInRange, SetupRestsWell}
-use Rattle.mk_run.specs.Underway.{Setting, reply_in, Suits, HasNoOther, HaveCome, IsPatient, IsUnderway, local_at}
+use Rattle.mk_run.specs.inner.Underway.{Setting, reply_in, Suits, HasNoOther, HaveCome, IsPatient, IsUnderway, local_at}
 use Rattle.mk_run.proofs.LoopSteps.{asked_link, asked_inside, asked_opens, asked_id, asked_ready}
 use Rattle.mk_run.proofs.Linked.{sent_here, sent_away, local_set_here, local_set_away, no_other_same, no_other_sent}
 use Rattle.mk_run.proofs.Pushed.{fault_after_sent, patient_sent, range_sent}

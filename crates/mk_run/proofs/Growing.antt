@@ -10,17 +10,17 @@ use Rattle.mk_plan.specs.declared.Entry.TheVariants.{Sent, Got}
 use Rattle.mk_outside.specs.declared.fleet.LogEntry.{LogEntry}
 use Rattle.mk_sched.specs.Cores.{CoreState}
 use Rattle.mk_sched.specs.Answers.{IsAnswered, IsAsked, IsQuiet}
-use Rattle.mk_crew.specs.Places.{IsLinked}
-use Rattle.mk_begin.specs.declared.halt.Halt.{Halt}
-use Rattle.mk_begin.specs.declared.halt.Halt.TheVariants as halt
-use Rattle.mk_begin.specs.Calls.{ShowsUnsent}
-use Rattle.mk_begin.specs.Seen.{CrewSeen}
+use Rattle.mk_run_links.specs.Places.{IsLinked}
+use Rattle.mk_run_crew.specs.declared.halt.Halt.{Halt}
+use Rattle.mk_run_crew.specs.declared.halt.Halt.TheVariants as halt
+use Rattle.mk_run_crew.specs.Calls.{ShowsUnsent}
+use Rattle.mk_run_crew.specs.Seen.{CrewSeen}
 use Rattle.mk_run.specs.declared.outcome.Outcome.{Outcome}
 use Rattle.mk_run.specs.declared.outcome.Outcome.TheVariants as outcome
 use Rattle.mk_run.specs.Outcomes.{outcome_of}
-use Rattle.mk_run.specs.Sendings.{CanSend, EndsWithItem, IsUnsent}
-use Rattle.mk_run.specs.Turns.{GoesOn, IsLinkedIfLong, IsLonger, IsNoShorter}
-use Rattle.mk_run.specs.Underway.{Setting}
+use Rattle.mk_run.specs.inner.Sendings.{CanSend, EndsWithItem, IsUnsent}
+use Rattle.mk_run.specs.inner.Turns.{GoesOn, IsLinkedIfLong, IsLonger, IsNoShorter}
+use Rattle.mk_run.specs.inner.Underway.{Setting}
 
 pushed_more : (J : List Entry) (e : Entry) → length J < length (J ++ e ∷ [])
 pushed_more J e = let count = length-append J (e ∷ []) in omega (arith, count)

@@ -14,7 +14,7 @@ use Rattle.mk_plan.specs.Plans.{sim_count}
 use Rattle.mk_plan.specs.Ready.{IsReady}
 use Rattle.mk_plan.specs.Advance.{IsAdvance}
 use Rattle.mk_plan.specs.Orderly.{IsOrderlySoFar}
-use Rattle.mk_confluence.proofs.Pushing.{orderly_front}
+use Rattle.mk_order.proofs.Pushing.{orderly_front}
 use Rattle.mk_plan.specs.Turns.{wanted}
 use Rattle.mk_plan.specs.Journals.{Arrival, OpenTurn, view, sent, bare}
 use Rattle.mk_scenario.specs.declared.parts.Scenario.{Scenario}
@@ -24,21 +24,21 @@ use Rattle.mk_sched.specs.Cores.{CoreState, Stands, is_message_in_range}
 use Rattle.mk_sched.specs.Answers.{IsQuiet, IsAnswered, open_id, with_message}
 use Rattle.mk_local.specs.Replies.{IsItemReplied}
 use Rattle.mk_local.specs.Simulators.{Simulator}
-use Rattle.mk_links.specs.Hearing.{Takes}
-use Rattle.mk_links.specs.Handshake.{setup_count, sim_link, is_within}
-use Rattle.mk_links.specs.Payloads.{takes_id, id_after}
-use Rattle.mk_links.specs.Lines.{Line}
-use Rattle.mk_links.specs.Kinds.{Replies}
-use Rattle.mk_links.specs.Crews.{CrewState, line_at, kept_of, given_by, IsMovedAt, IsHeard, IsSentWithin}
-use Rattle.mk_links.specs.Running.{awaited, IsRunning, IsRunningWith}
-use Rattle.mk_links.proofs.Saying.{link_there}
-use Rattle.mk_links.proofs.Stepping.{same_is, but, heard}
-use Rattle.mk_within.specs.Calls.{IsFitSuccess}
-use Rattle.mk_within.specs.Laws.{HasCome, RepliesAreKinds}
-use Rattle.mk_begin.specs.Seen.{CrewSeen, crew_of, is_here}
-use Rattle.mk_begin.specs.Calls.{HasNext, SendsAs}
+use Rattle.mk_run_laws.specs.Hearing.{Takes}
+use Rattle.mk_run_laws.specs.Handshake.{setup_count, sim_link, is_within}
+use Rattle.mk_run_laws.specs.Payloads.{takes_id, id_after}
+use Rattle.mk_run_laws.specs.Lines.{Line}
+use Rattle.mk_run_laws.specs.Kinds.{Replies}
+use Rattle.mk_run_laws.specs.Crews.{CrewState, line_at, kept_of, given_by, IsMovedAt, IsHeard, IsSentWithin}
+use Rattle.mk_run_laws.specs.inner.Running.{awaited, IsRunning, IsRunningWith}
+use Rattle.mk_run_laws.proofs.Saying.{link_there}
+use Rattle.mk_run_laws.proofs.Stepping.{same_is, but, heard}
+use Rattle.mk_run_local.specs.Calls.{IsFitSuccess}
+use Rattle.mk_run_local.specs.Laws.{HasCome, RepliesAreKinds}
+use Rattle.mk_run_crew.specs.Seen.{CrewSeen, crew_of, is_here}
+use Rattle.mk_run_crew.specs.Calls.{HasNext, SendsAs}
 use Rattle.mk_run.specs.Ends.{AreInRange, IsOpenWithin, SetupRestsWell}
-use Rattle.mk_run.specs.Underway.{Setting, reply_in, Suits, HasNoOther, HaveCome, IsPatient, IsUnderway, HasHeard, IsAhead}
+use Rattle.mk_run.specs.inner.Underway.{Setting, reply_in, Suits, HasNoOther, HaveCome, IsPatient, IsUnderway, HasHeard, IsAhead}
 use Rattle.mk_run.proofs.LoopSteps.{none_owed, owed_after, answered_opens, answered_id, taken_quietly, taken_on_link, taken_inside}
 use Rattle.mk_run.proofs.Going.{bool_or_not, here_is_within, not_here_is_outside, kept_so, come_sent, only_sent, no_other_after, setup_rests_on}
 use Rattle.mk_run.proofs.InRange.{same_test, read_in_range, success_in_range}

@@ -14,7 +14,7 @@ use Rattle.mk_message.specs.Messages.{tested, message_in, message_of}
 use Rattle.mk_message.specs.Written.{is_in_range}
 use Rattle.mk_message.proofs.Ranges.{fits_in}
 use Rattle.mk_sched.specs.Cores.{is_message_in_range}
-use Rattle.mk_within.specs.Calls.{IsFitSuccess}
+use Rattle.mk_run_local.specs.Calls.{IsFitSuccess}
 
 tree_fits : (bytes : List ℕ) (o : Option Data) (t : Json) → read bytes ≡ o → option_map tree_of o ≡ Some t → trees.is_in_range t ≡ true
 tree_fits bytes None t is e = absurd (none_some e)

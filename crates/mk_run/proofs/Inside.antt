@@ -12,9 +12,9 @@ use Rattle.mk_launch.specs.Ready.{IsPrepared, CanBegin, begin_fault, has_kind}
 use Rattle.mk_local.specs.declared.turn.Turn.{Turn}
 use Rattle.mk_local.specs.Kinds.{name_of, kind_named}
 use Rattle.mk_local.specs.Simulators.{Simulator, new_simulator}
-use Rattle.mk_links.specs.Handshake.{is_within, is_local}
-use Rattle.mk_within.specs.Seen.{begun_as, first_of}
-use Rattle.mk_within.specs.Made.{first_at}
+use Rattle.mk_run_laws.specs.Handshake.{is_within, is_local}
+use Rattle.mk_run_local.specs.Seen.{begun_as, first_of}
+use Rattle.mk_run_local.specs.Made.{first_at}
 
 -- a kind of that name is found
 named_there : (kind : List ℕ) (rows : List Turn) → has_kind (map name_of rows) kind ≡ true → (T : Turn) × (kind_named kind rows ≡ Some T)

@@ -15,7 +15,7 @@ use Rattle.mk_plan.specs.Plans.{owner}
 use Rattle.mk_plan.specs.Sequential.{grown, no_acts}
 use Rattle.mk_plan.specs.Turns.{is_wrong, next_place, wrong}
 use Rattle.mk_plan.specs.Journals.{View, OpenTurn, Fault, LoopLimit, beyond, note_got, note_right, place_at, view}
-use Rattle.mk_confluence.proofs.Pushing.{view_push}
+use Rattle.mk_order.proofs.Pushing.{view_push}
 
 -- the fault is that of the loop limit
 abbrev pub IsLoopLimit : Fault → Type 0

@@ -10,16 +10,16 @@ use Rattle.mk_plan.specs.declared.Message.{Message}
 use Rattle.mk_plan.specs.declared.Entry.{Entry}
 use Rattle.mk_plan.specs.declared.Entry.TheVariants.{Sent}
 use Rattle.mk_plan.specs.Journals.{sent}
-use Rattle.mk_confluence.proofs.Pushing.{sent_push}
+use Rattle.mk_order.proofs.Pushing.{sent_push}
 use Rattle.mk_scenario.specs.declared.parts.SimPart.{SimPart}
 use Rattle.mk_scenario.specs.declared.parts.Scenario.{Scenario}
 use Rattle.mk_outside.specs.declared.fleet.LogEntry.{LogEntry}
 use Rattle.mk_local.specs.Simulators.{Simulator}
-use Rattle.mk_links.specs.Handshake.{is_local, has_link, is_within, sim_link}
-use Rattle.mk_links.specs.Lines.{Line}
-use Rattle.mk_links.specs.Crews.{CrewState, line_at, IsMovedAt, AreMoved, IsHeard, IsSentOnLink}
-use Rattle.mk_links.proofs.Stepping.{same_or_not, apart_is, same_is}
-use Rattle.mk_run.specs.Underway.{Setting, HasNoOther, local_at}
+use Rattle.mk_run_laws.specs.Handshake.{is_local, has_link, is_within, sim_link}
+use Rattle.mk_run_laws.specs.Lines.{Line}
+use Rattle.mk_run_laws.specs.Crews.{CrewState, line_at, IsMovedAt, AreMoved, IsHeard, IsSentOnLink}
+use Rattle.mk_run_laws.proofs.Stepping.{same_or_not, apart_is, same_is}
+use Rattle.mk_run.specs.inner.Underway.{Setting, HasNoOther, local_at}
 
 -- a simulator with a link is one of the scenario, and isn't within the program
 link_by_kind : (s : SimPart) (k l : LinkNo) (b : Bool) → (if not b then Some k else None) ≡ Some l → b ≡ false

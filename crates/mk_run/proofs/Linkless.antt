@@ -4,20 +4,20 @@ use Rattle.mk_base.proofs.Lists.{append_nil, none_some}
 use Rattle.mk_plan.specs.declared.Plan.{Plan}
 use Rattle.mk_outside.specs.Counts.{HasRisen}
 use Rattle.mk_outside.specs.declared.fleet.LogEntry.{LogEntry}
-use Rattle.mk_links.specs.Lines.{Line}
+use Rattle.mk_run_laws.specs.Lines.{Line}
 use Rattle.mk_sched.specs.Cores.{CoreState}
-use Rattle.mk_crew.specs.Places.{at}
-use Rattle.mk_begin.specs.declared.halt.Halt.{Halt}
-use Rattle.mk_begin.specs.declared.halt.Halt.TheVariants as halt
-use Rattle.mk_begin.specs.Seen.{CrewSeen, crew_of}
-use Rattle.mk_begin.specs.Wholly.{IsWithinHalt, is_wholly_within}
-use Rattle.mk_begin.proofs.Unlinked.{never_linked, restless, silently}
+use Rattle.mk_run_links.specs.Places.{at}
+use Rattle.mk_run_crew.specs.declared.halt.Halt.{Halt}
+use Rattle.mk_run_crew.specs.declared.halt.Halt.TheVariants as halt
+use Rattle.mk_run_crew.specs.Seen.{CrewSeen, crew_of}
+use Rattle.mk_run_crew.specs.Wholly.{IsWithinHalt, is_wholly_within}
+use Rattle.mk_run_crew.proofs.Unlinked.{never_linked, restless, silently}
 use Rattle.mk_run.specs.declared.outcome.Outcome.{Outcome}
 use Rattle.mk_run.specs.declared.outcome.Outcome.TheVariants as outcome
 use Rattle.mk_run.specs.Ends.{IsRun}
 use Rattle.mk_run.specs.Outcomes.{IsWithinOutcome, outcome_of}
-use Rattle.mk_run.specs.Turns.{GoesOn, IsLinkedIfLong, IsStopping, TurnsAs, Waits}
-use Rattle.mk_run.specs.Underway.{EndsBy, IsUnderway, Setting, reply_in}
+use Rattle.mk_run.specs.inner.Turns.{GoesOn, IsLinkedIfLong, IsStopping, TurnsAs, Waits}
+use Rattle.mk_run.specs.inner.Underway.{EndsBy, IsUnderway, Setting, reply_in}
 use Rattle.mk_run.proofs.Turning.{may_hear, stopping_by}
 use Rattle.mk_run.proofs.WholeRuns.{new_core, run_whole}
 

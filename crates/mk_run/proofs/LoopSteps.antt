@@ -28,17 +28,18 @@ use Rattle.mk_scenario.specs.declared.parts.Scenario.{Scenario}
 use Rattle.mk_outside.specs.declared.fleet.LogEntry.{LogEntry}
 use Rattle.mk_sched.specs.Cores.{CoreState, Stands}
 use Rattle.mk_sched.specs.Answers.{SomeReady, SomeOpen, IsAsked, IsQuiet, IsAnswered, open_id, id_at, with_message}
-use Rattle.mk_confluence.proofs.Seen.{reached_sound, same_self, open_after_is}
-use Rattle.mk_confluence.proofs.Pushing.{view_push}
-use Rattle.mk_links.specs.Handshake.{setup_count, sim_link, is_within}
-use Rattle.mk_links.specs.Payloads.{takes_id, id_after}
-use Rattle.mk_links.specs.Lines.{Line}
-use Rattle.mk_links.specs.Kinds.{Replies}
-use Rattle.mk_links.specs.Crews.{CrewState, line_at, kept_of, IsHeard, IsSentOnLink, IsSentWithin}
-use Rattle.mk_links.specs.Running.{SetupReplies, IsRunningWith, IsRunning, awaited}
-use Rattle.mk_links.proofs.Stepping.{but, heard, asked_on_link, asked_within, heard_quiet, answered_on_link, answered_within, after_message}
-use Rattle.mk_links.proofs.Saying.{link_there}
-use Rattle.mk_links.proofs.Numbering.{HasId, step_id, owed_id}
+use Rattle.mk_order.proofs.Seen.{reached_sound, same_self, open_after_is}
+use Rattle.mk_order.proofs.Pushing.{view_push}
+use Rattle.mk_run_laws.specs.Handshake.{setup_count, sim_link, is_within}
+use Rattle.mk_run_laws.specs.Payloads.{takes_id, id_after}
+use Rattle.mk_run_laws.specs.Lines.{Line}
+use Rattle.mk_run_laws.specs.Kinds.{Replies}
+use Rattle.mk_run_laws.specs.Crews.{CrewState, line_at, kept_of, IsHeard, IsSentOnLink, IsSentWithin}
+use Rattle.mk_run_laws.specs.Running.{SetupReplies}
+use Rattle.mk_run_laws.specs.inner.Running.{IsRunningWith, IsRunning, awaited}
+use Rattle.mk_run_laws.proofs.Stepping.{but, heard, asked_on_link, asked_within, heard_quiet, answered_on_link, answered_within, after_message}
+use Rattle.mk_run_laws.proofs.Saying.{link_there}
+use Rattle.mk_run_laws.proofs.Numbering.{HasId, step_id, owed_id}
 
 -- a Step is never owed
 next_alone : (P : Plan) (J : List Entry) (s : SimNo) (item : Item) → IsOrderlySoFar IsReady IsAdvance P J → is_step item ≡ true → IsAllowed IsReady IsAdvance P (view P J) (Sent s item) → IsNext IsReady IsAdvance P (view P J) None (Sent s item)

@@ -15,20 +15,20 @@ use Rattle.mk_plan.specs.Advance.{IsAdvance}
 use Rattle.mk_plan.specs.Orderly.{IsOrderlySoFar}
 use Rattle.mk_plan.specs.Agreement.{Continues}
 use Rattle.mk_plan.specs.Turns.{is_wrong}
-use Rattle.mk_theory.specs.Parts as theory
-use Rattle.mk_theory.specs.Parts.{Parts, In, Every, Prefix, act, seq, View, Turn, case_of, Reached, heard_in, heard_of, rest, used, whole, talk_of}
-use Rattle.mk_theory.specs.Laws.{Laws}
-use Rattle.mk_theory.proofs.Lists.{true_false, found, in_right}
-use Rattle.mk_theory.proofs.Reading.{whole_on}
-use Rattle.mk_theory.proofs.ActLists.{rest_whole, each_ended}
-use Rattle.mk_theory.proofs.Folding.{made_by}
-use Rattle.mk_theory.proofs.Invariant.{Opened, Agreeing, Invariant, invariant_holds, heard_open}
-use Rattle.mk_theory.proofs.Talks.{everywhere}
-use Rattle.mk_confluence.proofs.Theory.{parts, laws, seq_is}
-use Rattle.mk_confluence.proofs.Seen.{seen, turn_of, reached, same_self}
-use Rattle.mk_confluence.proofs.Told.{heard_seen, got_is}
-use Rattle.mk_confluence.proofs.Agreeing.{goes_on}
-use Rattle.mk_confluence.proofs.Pushing.{got_push}
+use Rattle.mk_order_any.specs.Parts as theory
+use Rattle.mk_order_any.specs.Parts.{Parts, In, Every, Prefix, act, seq, View, Turn, case_of, Reached, heard_in, heard_of, rest, used, whole, talk_of}
+use Rattle.mk_order_any.specs.Laws.{Laws}
+use Rattle.mk_order_any.proofs.Lists.{true_false, found, in_right}
+use Rattle.mk_order_any.proofs.Reading.{whole_on}
+use Rattle.mk_order_any.proofs.ActLists.{rest_whole, each_ended}
+use Rattle.mk_order_any.proofs.Folding.{made_by}
+use Rattle.mk_order_any.proofs.Invariant.{Opened, Agreeing, Invariant, invariant_holds, heard_open}
+use Rattle.mk_order_any.proofs.Talks.{everywhere}
+use Rattle.mk_order.proofs.Theory.{parts, laws, seq_is}
+use Rattle.mk_order.proofs.Seen.{seen, turn_of, reached, same_self}
+use Rattle.mk_order.proofs.Told.{heard_seen, got_is}
+use Rattle.mk_order.proofs.Agreeing.{goes_on}
+use Rattle.mk_order.proofs.Pushing.{got_push}
 
 -- what is behind the same beginning is the same
 same_behind : {X : Type 0} (xs ys zs : List X) → xs ++ ys ≡ xs ++ zs → ys ≡ zs

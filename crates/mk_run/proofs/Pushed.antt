@@ -11,16 +11,17 @@ use Rattle.mk_plan.specs.declared.Entry.{Entry}
 use Rattle.mk_plan.specs.declared.Entry.TheVariants.{Sent, Got}
 use Rattle.mk_plan.specs.Journals.{View, view, sent, got, sent_to, got_from}
 use Rattle.mk_plan.specs.Ready.{IsReady}
-use Rattle.mk_confluence.proofs.Pushing.{view_push, sent_push, got_push}
+use Rattle.mk_order.proofs.Pushing.{view_push, sent_push, got_push}
 use Rattle.mk_scenario.specs.declared.parts.Scenario.{Scenario}
 use Rattle.mk_outside.specs.declared.fleet.LogEntry.{LogEntry}
 use Rattle.mk_sched.specs.Answers.{SomeReady}
-use Rattle.mk_links.specs.Kinds.{Replies, KeepsToKinds}
-use Rattle.mk_links.specs.Running.{SetupReplies, RestsOver, RestsEnd}
-use Rattle.mk_links.proofs.Stepping.{same_is}
+use Rattle.mk_run_laws.specs.Kinds.{Replies, KeepsToKinds}
+use Rattle.mk_run_laws.specs.Running.{SetupReplies, RestsEnd}
+use Rattle.mk_run_laws.specs.inner.Running.{RestsOver}
+use Rattle.mk_run_laws.proofs.Stepping.{same_is}
 use Rattle.mk_message.specs.Written.{is_in_range}
 use Rattle.mk_run.specs.Ends.{AreInRange}
-use Rattle.mk_run.specs.Underway.{IsPatient}
+use Rattle.mk_run.specs.inner.Underway.{IsPatient}
 
 heads : {X : Type 0} {x y : X} {xs ys : List X} → x ∷ xs ≡ y ∷ ys → (x ≡ y) × (xs ≡ ys)
 heads e = (cc, cc)

@@ -2,13 +2,13 @@
 use Rattle.std.proofs.Common.{◌≡◌, subst}
 use Rattle.mk_plan.specs.Ready.{IsDone}
 use Rattle.mk_plan.specs.Journals.{view}
-use Rattle.mk_confluence.proofs.Headlines.{orderly_agrees, orderly_finished}
+use Rattle.mk_order.proofs.Headlines.{orderly_agrees, orderly_finished}
 use Rattle.mk_outside.specs.Counts.{HasRisen}
-use Rattle.mk_links.specs.Handshake.{is_within}
-use Rattle.mk_links.specs.Laws.{IsJournalOf}
-use Rattle.mk_links.proofs.Answering.{done_answers}
-use Rattle.mk_links.proofs.Clauses.{run_says}
-use Rattle.mk_links.proofs.Saying.{items_all, step_promised}
+use Rattle.mk_run_laws.specs.Handshake.{is_within}
+use Rattle.mk_run_laws.specs.Laws.{IsJournalOf}
+use Rattle.mk_run_laws.proofs.Answering.{done_answers}
+use Rattle.mk_run_laws.proofs.Clauses.{run_says}
+use Rattle.mk_run_laws.proofs.Saying.{items_all, step_promised}
 use Rattle.mk_run.specs.declared.outcome.Outcome.TheVariants.{Done}
 use Rattle.mk_run.specs.Ends.{ShownBy}
 use Rattle.mk_run.specs.Laws.{RunsAreRight}

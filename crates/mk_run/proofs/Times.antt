@@ -10,7 +10,7 @@ use Rattle.mk_plan.specs.Journals.{view}
 use Rattle.mk_plan.specs.Ready.{IsReady}
 use Rattle.mk_plan.specs.Advance.{IsAdvance}
 use Rattle.mk_plan.specs.Orderly.{IsOrderlySoFar}
-use Rattle.mk_confluence.proofs.Past.{pending_within}
+use Rattle.mk_order.proofs.Past.{pending_within}
 
 below_end : (t until end : ℤ) → int_lt t until ≡ true → until ≤ℤ end → t ≤ℤ end
 below_end t until end h k = grind (arith, ints)

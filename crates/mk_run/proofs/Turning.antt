@@ -17,22 +17,22 @@ use Rattle.mk_outside.specs.Logs.{Adds}
 use Rattle.mk_outside.proofs.OnLogs.{adds_none, adds_more}
 use Rattle.mk_sched.specs.Cores.{CoreState, Stands}
 use Rattle.mk_sched.specs.Answers.{SomeOpen, IsAsked, IsWaiting, IsAnswered}
-use Rattle.mk_links.specs.Payloads.{id_after}
-use Rattle.mk_links.specs.Lines.{Line}
-use Rattle.mk_links.specs.Crews.{IsHeard}
-use Rattle.mk_crew.specs.Places.{AreOpen}
-use Rattle.mk_within.specs.Calls.{IsFitSuccess}
-use Rattle.mk_within.specs.Laws.{RepliesAreKinds}
-use Rattle.mk_begin.specs.declared.halt.Halt.{Halt}
-use Rattle.mk_begin.specs.declared.halt.Halt.TheVariants as halt
-use Rattle.mk_begin.specs.Calls.{SendsAs, HearsNothing, CanHear, halt_of}
-use Rattle.mk_begin.specs.Seen.{CrewSeen, crew_of}
+use Rattle.mk_run_laws.specs.Payloads.{id_after}
+use Rattle.mk_run_laws.specs.Lines.{Line}
+use Rattle.mk_run_laws.specs.Crews.{IsHeard}
+use Rattle.mk_run_links.specs.Places.{AreOpen}
+use Rattle.mk_run_local.specs.Calls.{IsFitSuccess}
+use Rattle.mk_run_local.specs.Laws.{RepliesAreKinds}
+use Rattle.mk_run_crew.specs.declared.halt.Halt.{Halt}
+use Rattle.mk_run_crew.specs.declared.halt.Halt.TheVariants as halt
+use Rattle.mk_run_crew.specs.Calls.{SendsAs, HearsNothing, CanHear, halt_of}
+use Rattle.mk_run_crew.specs.Seen.{CrewSeen, crew_of}
 use Rattle.mk_run.specs.declared.outcome.Outcome.{Outcome}
 use Rattle.mk_run.specs.declared.outcome.Outcome.TheVariants as outcome
-use Rattle.mk_run.specs.Underway.{Setting, reply_in, EndsBy, HasEnded, IsUnderway}
+use Rattle.mk_run.specs.inner.Underway.{Setting, reply_in, EndsBy, HasEnded, IsUnderway}
 use Rattle.mk_run.specs.Outcomes.{outcome_of}
-use Rattle.mk_run.specs.Sendings.{CanSend, EndsWithItem, IsUnsent}
-use Rattle.mk_run.specs.Turns.{AreLinksOpen, GoesOn, IsPast, IsStopping, TakesAs, TurnsAs, Waits}
+use Rattle.mk_run.specs.inner.Sendings.{CanSend, EndsWithItem, IsUnsent}
+use Rattle.mk_run.specs.inner.Turns.{AreLinksOpen, GoesOn, IsPast, IsStopping, TakesAs, TurnsAs, Waits}
 use Rattle.mk_run.proofs.LoopSteps.{can_hear}
 use Rattle.mk_run.proofs.Endings.{unsent_ends, unheard_ends}
 use Rattle.mk_run.proofs.Going.{asked_low, asked_opened, asked_replied, asked_linked, asked_goes}

@@ -15,17 +15,17 @@ use Rattle.mk_scenario.specs.declared.parts.Scenario.{Scenario}
 use Rattle.mk_outside.specs.Counts.{HasRisen}
 use Rattle.mk_outside.specs.declared.fleet.LogEntry.{LogEntry}
 use Rattle.mk_outside.specs.declared.fleet.LogEntry.TheVariants.{Rest, Ended}
-use Rattle.mk_links.specs.Handshake.{sim_link}
-use Rattle.mk_links.specs.Crews.{CrewState, AreStopped, IsRestless}
-use Rattle.mk_links.specs.Rests.{run_messages}
-use Rattle.mk_links.specs.Runs.{IsLinkOfRun}
-use Rattle.mk_links.proofs.Stepping.{first_or_second}
-use Rattle.mk_links.proofs.Ending.{link_ended, all_given, rest_held, rests_stopped}
-use Rattle.mk_links.proofs.Resting.{rests_well}
+use Rattle.mk_run_laws.specs.Handshake.{sim_link}
+use Rattle.mk_run_laws.specs.Crews.{CrewState, AreStopped, IsRestless}
+use Rattle.mk_run_laws.specs.Rests.{run_messages}
+use Rattle.mk_run_laws.specs.Runs.{IsLinkOfRun}
+use Rattle.mk_run_laws.proofs.Stepping.{first_or_second}
+use Rattle.mk_run_laws.proofs.Ending.{link_ended, all_given, rest_held, rests_stopped}
+use Rattle.mk_run_laws.proofs.Resting.{rests_well}
 use Rattle.mk_run.specs.declared.outcome.Outcome.{Outcome}
 use Rattle.mk_run.specs.declared.outcome.Outcome.TheVariants as outcome
 use Rattle.mk_run.specs.Ends.{ShownBy, SetupRestsWell, IsMessageLeft, IsOpenWithin, IsRun, IsUngot, NeedsMore}
-use Rattle.mk_run.specs.Underway.{Setting, reply_in, EndsBy, HasGiven, HasEnded, IsAhead, IsLastLine}
+use Rattle.mk_run.specs.inner.Underway.{Setting, reply_in, EndsBy, HasGiven, HasEnded, IsAhead, IsLastLine}
 use Rattle.mk_run.proofs.Pushed.{got_last}
 
 begins_itself : {X : Type 0} (xs : List X) → BeginsWith xs xs

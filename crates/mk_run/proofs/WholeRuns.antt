@@ -6,13 +6,13 @@ use Rattle.mk_plan.specs.declared.Entry.{Entry}
 use Rattle.mk_outside.specs.Counts.{HasRisen}
 use Rattle.mk_outside.specs.declared.fleet.LogEntry.{LogEntry}
 use Rattle.mk_sched.specs.Cores.{CoreState}
-use Rattle.mk_crew.specs.Places.{AreOpen}
-use Rattle.mk_links.specs.Crews.{AreStopped, IsRestless}
-use Rattle.mk_begin.specs.Seen.{CrewSeen, crew_of}
+use Rattle.mk_run_links.specs.Places.{AreOpen}
+use Rattle.mk_run_laws.specs.Crews.{AreStopped, IsRestless}
+use Rattle.mk_run_crew.specs.Seen.{CrewSeen, crew_of}
 use Rattle.mk_run.specs.declared.outcome.Outcome.{Outcome}
 use Rattle.mk_run.specs.Ends.{IsRun}
-use Rattle.mk_run.specs.Turns.{AreLinksOpen, GoesOn, IsStopping, TurnsAs}
-use Rattle.mk_run.specs.Underway.{Setting, reply_in, IsUnderway}
+use Rattle.mk_run.specs.inner.Turns.{AreLinksOpen, GoesOn, IsStopping, TurnsAs}
+use Rattle.mk_run.specs.inner.Underway.{Setting, reply_in, IsUnderway}
 use Rattle.mk_run.proofs.Turning.{risen_on, risen_later, are_open}
 use Rattle.mk_run.proofs.Whole.{whole, whole_replies}
 

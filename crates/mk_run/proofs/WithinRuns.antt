@@ -14,13 +14,13 @@ use Rattle.mk_plan.specs.Ready.{IsReady}
 use Rattle.mk_plan.specs.Advance.{IsAdvance}
 use Rattle.mk_plan.specs.Orderly.{IsAllowed, IsNext, IsOrderlySoFar}
 use Rattle.mk_plan.specs.Agreement.{Continues}
-use Rattle.mk_confluence.proofs.Pushing.{orderly_front}
+use Rattle.mk_order.proofs.Pushing.{orderly_front}
 use Rattle.mk_sched.specs.declared.faults.CoreFault.{CoreFault}
 use Rattle.mk_sched.specs.declared.faults.CoreFault.TheVariants.{Failed, LoopLimit, TooLong, Wrong}
 use Rattle.mk_sched.specs.Answers.{fault_in}
-use Rattle.mk_links.specs.Kinds.{AnswersByKind, IsKindReply, KeepsToKinds, RepliesAreRight, Replies}
-use Rattle.mk_links.proofs.Existing.{there_are}
-use Rattle.mk_links.proofs.Following.{followed}
+use Rattle.mk_run_laws.specs.Kinds.{AnswersByKind, IsKindReply, KeepsToKinds, RepliesAreRight, Replies}
+use Rattle.mk_run_laws.proofs.Existing.{there_are}
+use Rattle.mk_run_laws.proofs.Following.{followed}
 use Rattle.mk_run.specs.Ends.{IsLastFaulty}
 use Rattle.mk_run.specs.Laws.{IsLimit}
 use Rattle.mk_run.proofs.LimitFaults.{IsLoopLimit, fault_is_limit}

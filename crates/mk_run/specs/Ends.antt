@@ -23,14 +23,14 @@ use Rattle.mk_session.specs.Fronts.{BeginsGarbled}
 use Rattle.mk_sched.specs.declared.faults.CoreFault.{CoreFault}
 use Rattle.mk_sched.specs.declared.faults.CoreFault.TheVariants.{TooLong}
 use Rattle.mk_sched.specs.Answers.{fault_in, SomeReady, SomeOpen}
-use Rattle.mk_links.specs.Hearing.{rest_heard}
-use Rattle.mk_links.specs.Handshake.{sim_link, is_within}
-use Rattle.mk_links.specs.Payloads.{id_after}
-use Rattle.mk_links.specs.Kinds.{Replies}
-use Rattle.mk_links.specs.Rests.{run_messages, AllSetUp, IsWellInSetup, RestsWell}
-use Rattle.mk_links.specs.Running.{SetupReplies}
-use Rattle.mk_links.specs.Runs.{IsLinkOfRun}
-use Rattle.mk_links.specs.Laws.{IsJournalOf}
+use Rattle.mk_run_laws.specs.Hearing.{rest_heard}
+use Rattle.mk_run_laws.specs.Handshake.{sim_link, is_within}
+use Rattle.mk_run_laws.specs.Payloads.{id_after}
+use Rattle.mk_run_laws.specs.Kinds.{Replies}
+use Rattle.mk_run_laws.specs.Rests.{run_messages, AllSetUp, IsWellInSetup, RestsWell}
+use Rattle.mk_run_laws.specs.Running.{SetupReplies}
+use Rattle.mk_run_laws.specs.Runs.{IsLinkOfRun}
+use Rattle.mk_run_laws.specs.Laws.{IsJournalOf}
 use Rattle.mk_run.specs.declared.outcome.Outcome.{Outcome}
 use Rattle.mk_run.specs.declared.outcome.Outcome.TheVariants as outcome
 

@@ -17,17 +17,17 @@ use Rattle.mk_plan.specs.Agreement.{Agrees, Continues, IsFinished}
 use Rattle.mk_scenario.specs.declared.parts.Scenario.{Scenario}
 use Rattle.mk_outside.specs.Counts.{HasRisen}
 use Rattle.mk_outside.specs.declared.fleet.LogEntry.{LogEntry}
-use Rattle.mk_links.specs.Handshake.{setup_count, sim_link, is_within}
-use Rattle.mk_links.specs.Kinds.{Replies, AnswersByKind, RepliesAreRight}
-use Rattle.mk_links.specs.Rests.{RestsWell}
-use Rattle.mk_links.specs.Runs.{IsPossible, IsPossibleUpTo, SaysRight, SaidWhole}
+use Rattle.mk_run_laws.specs.Handshake.{setup_count, sim_link, is_within}
+use Rattle.mk_run_laws.specs.Kinds.{Replies, AnswersByKind, RepliesAreRight}
+use Rattle.mk_run_laws.specs.Rests.{RestsWell}
+use Rattle.mk_run_laws.specs.Runs.{IsPossible, IsPossibleUpTo, SaysRight, SaidWhole}
 use Rattle.mk_launch.specs.Ready.{IsPrepared}
 use Rattle.mk_local.specs.declared.turn.Turn.{Turn}
 use Rattle.mk_local.specs.Kinds.{name_of}
 use Rattle.mk_sched.specs.declared.faults.CoreFault.{CoreFault}
 use Rattle.mk_sched.specs.declared.faults.CoreFault.TheVariants.{Failed, LoopLimit, TooLong, Wrong}
-use Rattle.mk_within.specs.Made.{kind_reply_of}
-use Rattle.mk_begin.specs.Wholly.{is_wholly_within}
+use Rattle.mk_run_local.specs.Made.{kind_reply_of}
+use Rattle.mk_run_crew.specs.Wholly.{is_wholly_within}
 use Rattle.mk_run.specs.declared.outcome.Outcome.{Outcome}
 use Rattle.mk_run.specs.declared.outcome.Outcome.TheVariants as outcome
 use Rattle.mk_run.specs.Ends.{QueuedAll, IsRun}

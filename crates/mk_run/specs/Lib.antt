@@ -2,6 +2,4 @@ pub mod Outcomes
 pub mod Ends
 pub mod Laws
 pub mod Ran
-pub mod Underway
-pub mod Sendings
-pub mod Turns
+pub mod inner

@@ -1,7 +1,7 @@
 -- How a run ends that its crew ends, and one without links.
 use Rattle.std.specs.Prelude.{⊤}
-use Rattle.mk_begin.specs.declared.halt.Halt.{Halt}
-use Rattle.mk_begin.specs.declared.halt.Halt.TheVariants as halt
+use Rattle.mk_run_crew.specs.declared.halt.Halt.{Halt}
+use Rattle.mk_run_crew.specs.declared.halt.Halt.TheVariants as halt
 use Rattle.mk_run.specs.declared.outcome.Outcome.{Outcome}
 use Rattle.mk_run.specs.declared.outcome.Outcome.TheVariants as outcome
 

@@ -10,12 +10,12 @@ use Rattle.mk_outside.specs.declared.fleet.LogEntry.{LogEntry}
 use Rattle.mk_scenario.specs.declared.parts.Scenario.{Scenario}
 use Rattle.mk_local.specs.declared.turn.Turn.{Turn}
 use Rattle.mk_plan.specs.Plans.{first_id, sim_count}
-use Rattle.mk_links.specs.Handshake.{setup_count, setup_requests, sim_link}
+use Rattle.mk_run_laws.specs.Handshake.{setup_count, setup_requests, sim_link}
 use Rattle.mk_setup.specs.Handshakes.{IsMade}
-use Rattle.mk_within.specs.Made.{kind_reply_of}
-use Rattle.mk_begin.specs.declared.halt.Halt.{Halt}
-use Rattle.mk_begin.specs.Answers.{AreKindAnswers, answers_to}
-use Rattle.mk_begin.specs.Halted.{HasHalted}
+use Rattle.mk_run_local.specs.Made.{kind_reply_of}
+use Rattle.mk_run_crew.specs.declared.halt.Halt.{Halt}
+use Rattle.mk_run_crew.specs.Answers.{AreKindAnswers, answers_to}
+use Rattle.mk_run_crew.specs.Halted.{HasHalted}
 use Rattle.mk_run.specs.declared.outcome.Outcome.{Outcome}
 use Rattle.mk_run.specs.Ends.{IsRun}
 use Rattle.mk_run.specs.Outcomes.{outcome_of}

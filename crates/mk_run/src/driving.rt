@@ -6,21 +6,21 @@ ghost use Rattle.mk_outside.specs.Logs.{Adds};
 ghost use Rattle.mk_local.specs.Registries.{rows_in};
 ghost use Rattle.mk_plan.specs.Plans.{sim_count};
 ghost use Rattle.mk_sched.specs.Cores.{is_message_in_range};
-ghost use Rattle.mk_crew.specs.Places.{AreOpen};
-ghost use Rattle.mk_within.specs.Seen.{AreOf};
-ghost use Rattle.mk_begin.specs.Seen.{within_of};
-ghost use Rattle.mk_run.specs.Underway.{Setting};
-ghost use Rattle.mk_run.specs.Turns.{AreLinksOpen, GoesOn, IsLinkedIfLong, IsLonger, IsNoShorter, IsPast, IsStill, IsStopping, SettlesAs, TakesAs, TurnsAs, Waits};
+ghost use Rattle.mk_run_links.specs.Places.{AreOpen};
+ghost use Rattle.mk_run_local.specs.Seen.{AreOf};
+ghost use Rattle.mk_run_crew.specs.Seen.{within_of};
+ghost use Rattle.mk_run.specs.inner.Underway.{Setting};
+ghost use Rattle.mk_run.specs.inner.Turns.{AreLinksOpen, GoesOn, IsLinkedIfLong, IsLonger, IsNoShorter, IsPast, IsStill, IsStopping, SettlesAs, TakesAs, TurnsAs, Waits};
 
 use crate::outcome::{Outcome, outcome_of};
 use crate::sending::send_last;
 use mk_base::SimNo;
-use mk_begin::Crew;
 use mk_local::Registry;
 use mk_outside::Fleet;
 use mk_plan::Message;
+use mk_run_crew::Crew;
+use mk_run_local::replies_are_kinds;
 use mk_sched::{Core, Next, Taken};
-use mk_within::replies_are_kinds;
 use std::sync::Wait;
 
 // Asks whoever is ready, until nobody is.

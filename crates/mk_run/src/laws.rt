@@ -3,8 +3,8 @@ ghost use Rattle.mk_run.specs.Ends.{Completes};
 ghost use Rattle.mk_run.specs.Laws.{KindsFit, RunsAreRight, WithinRunsEnd};
 
 use mk_local::metadata_is_accepted;
+use mk_run_local::kinds_are_right;
 use mk_setup::replies_make;
-use mk_within::kinds_are_right;
 
 /// A run with a plan has said on its links what sequential execution sends over all messages that may come, and at its end all
 /// of it; the max_advance of each Step is a promise; and wherever it rested, nobody was ready and all was said.

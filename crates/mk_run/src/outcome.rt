@@ -3,8 +3,8 @@ ghost use Rattle.std.specs.Prelude.{◌≡◌};
 ghost use Rattle.mk_run.specs.Outcomes.{outcome_of};
 
 use mk_base::{Mem, SimNo};
-use mk_begin::Halt;
 use mk_plan::{Journal, Plan};
+use mk_run_crew::Halt;
 use mk_sched::CoreFault;
 use mk_setup::SetupFault;
 

@@ -4,16 +4,16 @@ ghost use Rattle.mk_local.specs.declared.turn.Turn.{Turn};
 ghost use Rattle.mk_local.specs.Registries.{rows_in};
 ghost use Rattle.mk_plan.specs.declared.Item.{Item};
 ghost use Rattle.mk_plan.specs.Plans.{sim_count};
-ghost use Rattle.mk_within.specs.Seen.{AreOf};
-ghost use Rattle.mk_begin.specs.Calls.{SendsAs};
-ghost use Rattle.mk_begin.specs.Seen.{within_of};
-ghost use Rattle.mk_run.specs.Sendings.{CanSend, EndsWithItem, IsUnsent};
+ghost use Rattle.mk_run_local.specs.Seen.{AreOf};
+ghost use Rattle.mk_run_crew.specs.Calls.{SendsAs};
+ghost use Rattle.mk_run_crew.specs.Seen.{within_of};
+ghost use Rattle.mk_run.specs.inner.Sendings.{CanSend, EndsWithItem, IsUnsent};
 
 use crate::outcome::{Outcome, outcome_of};
 use mk_base::SimNo;
-use mk_begin::Crew;
 use mk_local::Registry;
 use mk_plan::{Entry, Journal};
+use mk_run_crew::Crew;
 use mk_sched::Core;
 
 // Sends the simulator the item that the journal ends with, with the id of the request that is open there.

@@ -8,14 +8,14 @@ use Rattle.mk_base.specs.declared.tier.Via.TheVariants.{Plain}
 use Rattle.mk_base.specs.Lists.{IsIn, Each}
 use Rattle.mk_base.specs.Tiers.{HasWidth}
 use Rattle.mk_base.specs.Trees.{member}
-use Rattle.mk_keys.specs.Spelling.{spelled}
-use Rattle.mk_keys.specs.Tests.{found, key_in}
-use Rattle.mk_keys.specs.Keys.{required, optional, first_unknown, is_among, members_of, text, truth, some_width, values}
-use Rattle.mk_keys.specs.Known.{block_keys}
-use Rattle.mk_keys.specs.declared.fault.ScenarioFault.TheVariants.{UnknownKey, UnknownGroup, OutOfRange, TwoKinds, Uneven}
-use Rattle.mk_keys.proofs.Passing.{ok_same, passed_ok, held_ok, no_text_ok, found_ok, and_then_some, none_found}
-use Rattle.mk_keys.proofs.KeyFacts.{left_out_values, left_out_width}
-use Rattle.mk_keys.proofs.Ranges.{InRange, under_range}
+use Rattle.mk_scenario_keys.specs.Spelling.{spelled}
+use Rattle.mk_scenario_keys.specs.Tests.{found, key_in}
+use Rattle.mk_scenario_keys.specs.Keys.{required, optional, first_unknown, is_among, members_of, text, truth, some_width, values}
+use Rattle.mk_scenario_keys.specs.Known.{block_keys}
+use Rattle.mk_scenario_keys.specs.declared.fault.ScenarioFault.TheVariants.{UnknownKey, UnknownGroup, OutOfRange, TwoKinds, Uneven}
+use Rattle.mk_scenario_keys.proofs.Passing.{ok_same, passed_ok, held_ok, no_text_ok, found_ok, and_then_some, none_found}
+use Rattle.mk_scenario_keys.proofs.KeyFacts.{left_out_values, left_out_width}
+use Rattle.mk_scenario_keys.proofs.Ranges.{InRange, under_range}
 use Rattle.mk_scenario.specs.Groups.{sim_of_id}
 use Rattle.mk_scenario.specs.Places.{place_in}
 use Rattle.mk_scenario.specs.References.{has_byte, ends_with, but_last, full_id, group_ids, group_of_id, num_at, index_below, indexed, whole, place_of, size_of}

@@ -8,14 +8,14 @@ use Rattle.mk_base.specs.declared.SimNo.{SimNo}
 use Rattle.mk_base.specs.Lists.{Each, same_text}
 use Rattle.mk_base.specs.Trees.{member}
 use Rattle.mk_base.proofs.Lists.{some_same, in_each, at_in, filter_map_in, passes_some}
-use Rattle.mk_keys.specs.Tests.{key_in, item_in, each_after}
-use Rattle.mk_keys.specs.Keys.{required, optional, first_unknown, is_among, count_within, text, name, values}
-use Rattle.mk_keys.specs.Known.{group_keys}
-use Rattle.mk_keys.specs.declared.fault.ScenarioFault.{ScenarioFault}
-use Rattle.mk_keys.specs.declared.fault.ScenarioFault.TheVariants.{UnknownKey, UnknownSim, Taken}
-use Rattle.mk_keys.proofs.Passing.{ok_same, passed_ok, held_ok, no_text_ok, found_ok, chosen_some, each_gives_where, each_at_ok}
-use Rattle.mk_keys.proofs.Ranges.{InRange, under_range}
-use Rattle.mk_keys.proofs.KeyFacts.{left_out_values, left_out_count, text_under, name_under}
+use Rattle.mk_scenario_keys.specs.Tests.{key_in, item_in, each_after}
+use Rattle.mk_scenario_keys.specs.Keys.{required, optional, first_unknown, is_among, count_within, text, name, values}
+use Rattle.mk_scenario_keys.specs.Known.{group_keys}
+use Rattle.mk_scenario_keys.specs.declared.fault.ScenarioFault.{ScenarioFault}
+use Rattle.mk_scenario_keys.specs.declared.fault.ScenarioFault.TheVariants.{UnknownKey, UnknownSim, Taken}
+use Rattle.mk_scenario_keys.proofs.Passing.{ok_same, passed_ok, held_ok, no_text_ok, found_ok, chosen_some, each_gives_where, each_at_ok}
+use Rattle.mk_scenario_keys.proofs.Ranges.{InRange, under_range}
+use Rattle.mk_scenario_keys.proofs.KeyFacts.{left_out_values, left_out_count, text_under, name_under}
 use Rattle.mk_scenario.specs.Sims.{texts_under}
 use Rattle.mk_scenario.specs.Groups.{sim_of_id, group_said, said_sim, group_made, group_after, group_in}
 use Rattle.mk_scenario.specs.Places.{place_in}

@@ -6,7 +6,7 @@ use Rattle.std.proofs.lemmas.List.{nil_from_length}
 use Rattle.mk_base.specs.declared.json.Json.{Json}
 use Rattle.mk_base.specs.Lists.{IsIn, Each, same_text}
 use Rattle.mk_base.proofs.Lists.{some_passes}
-use Rattle.mk_keys.specs.Keys.{is_among}
+use Rattle.mk_scenario_keys.specs.Keys.{is_among}
 
 pub is_same : (x : List ℕ) → same_text x x ≡ true
 is_same [] = refl

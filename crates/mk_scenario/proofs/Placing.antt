@@ -9,7 +9,7 @@ use Rattle.std.specs.List.{list_any, position, position_or_len}
 use Rattle.std.specs.HashMap.{HashMap, get_by_text}
 use Rattle.std.specs.Map.{update}
 use Rattle.mk_base.specs.Lists.{same_text}
-use Rattle.mk_scenario.specs.Places.{HasPlaces}
+use Rattle.mk_scenario.specs.inner.Places.{HasPlaces}
 
 at_most : {X : Type 0} (p : X → Bool) (xs : List X) → position_or_len p xs ≤ length xs
 at_most p [] = omega arith

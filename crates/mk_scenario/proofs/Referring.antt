@@ -2,7 +2,8 @@
 use Rattle.std.proofs.Common.{◌≡◌, ℕ, true, false, List, ap, ◌∙◌, sym}
 use Rattle.std.specs.Prelude.{◌&&◌, ◌==◌, if◌then◌else◌}
 use Rattle.std.specs.List.{after_first}
-use Rattle.mk_scenario.specs.References.{has_byte, ends_with, but_last, IsAround, entity_of, entity_at, full_id, indexed, group_ids, whole, in_group, place_of}
+use Rattle.mk_scenario.specs.References.{has_byte, ends_with, but_last, entity_of, entity_at, full_id, indexed, group_ids, whole, in_group, place_of}
+use Rattle.mk_scenario.specs.inner.References.{IsAround}
 use Rattle.mk_scenario.specs.declared.parts.Group.{Group}
 
 module _ (groups : List Group) (path text : List ℕ) where

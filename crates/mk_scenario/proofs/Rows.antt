@@ -4,7 +4,7 @@ use Rattle.mk_base.specs.declared.tier.Via.TheVariants.{Weak}
 use Rattle.mk_base.specs.declared.json.Json.{Json}
 use Rattle.mk_base.specs.declared.json.Json as tree
 use Rattle.mk_base.proofs.OnTrees.{trees_compute}
-use Rattle.mk_keys.specs.declared.fault.ScenarioFault.TheVariants.{Missing, WrongKind, UnknownKey, OutOfRange, UnknownSim, UnknownGroup, TwoKinds, Uneven, Taken}
+use Rattle.mk_scenario_keys.specs.declared.fault.ScenarioFault.TheVariants.{Missing, WrongKind, UnknownKey, OutOfRange, UnknownSim, UnknownGroup, TwoKinds, Uneven, Taken}
 use Rattle.mk_scenario.specs.References.{place_of}
 use Rattle.mk_scenario.specs.Blocks.{block_at}
 use Rattle.mk_scenario.specs.Scenarios.{scenario_in}

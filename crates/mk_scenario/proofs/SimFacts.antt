@@ -6,15 +6,15 @@ use Rattle.mk_base.specs.declared.json.Json as tree
 use Rattle.mk_base.specs.Lists.{Each}
 use Rattle.mk_base.specs.Trees.{member}
 use Rattle.mk_base.proofs.Lists.{some_same, each_in, in_each, in_at, at_in, in_filter_map}
-use Rattle.mk_keys.specs.Spelling.{is_name}
-use Rattle.mk_keys.specs.Tests.{key_in, item_in, each_after}
-use Rattle.mk_keys.specs.Keys.{required, optional, first_unknown, wholes_within, name, some_text, some_port, values}
-use Rattle.mk_keys.specs.Known.{sim_keys}
-use Rattle.mk_keys.specs.declared.fault.ScenarioFault.{ScenarioFault}
-use Rattle.mk_keys.specs.declared.fault.ScenarioFault.TheVariants.{UnknownKey}
-use Rattle.mk_keys.proofs.Passing.{ok_same, passed_ok, held_ok, no_text_ok, each_gives_where, each_at_ok, each_item_ok}
-use Rattle.mk_keys.proofs.Ranges.{InRange, under_range}
-use Rattle.mk_keys.proofs.KeyFacts.{left_out_port, left_out_values, left_out_wholes, text_under, name_under}
+use Rattle.mk_scenario_keys.specs.Spelling.{is_name}
+use Rattle.mk_scenario_keys.specs.Tests.{key_in, item_in, each_after}
+use Rattle.mk_scenario_keys.specs.Keys.{required, optional, first_unknown, wholes_within, name, some_text, some_port, values}
+use Rattle.mk_scenario_keys.specs.Known.{sim_keys}
+use Rattle.mk_scenario_keys.specs.declared.fault.ScenarioFault.{ScenarioFault}
+use Rattle.mk_scenario_keys.specs.declared.fault.ScenarioFault.TheVariants.{UnknownKey}
+use Rattle.mk_scenario_keys.proofs.Passing.{ok_same, passed_ok, held_ok, no_text_ok, each_gives_where, each_at_ok, each_item_ok}
+use Rattle.mk_scenario_keys.proofs.Ranges.{InRange, under_range}
+use Rattle.mk_scenario_keys.proofs.KeyFacts.{left_out_port, left_out_values, left_out_wholes, text_under, name_under}
 use Rattle.mk_scenario.specs.Sims.{texts_under, sim_id, begin_of, own_params, sim_at, sim_in}
 use Rattle.mk_scenario.specs.Scenarios.{ids_of}
 use Rattle.mk_scenario.specs.Wellformed.{AreIdsOf, HasPort, IsWellformedSim}

@@ -4,13 +4,13 @@ use Rattle.std.proofs.lemmas.List.{length-map}
 use Rattle.mk_base.specs.declared.json.Json.{Json}
 use Rattle.mk_base.specs.Lists.{Each}
 use Rattle.mk_base.specs.Trees.{member}
-use Rattle.mk_keys.specs.Tests.{item_in, each_at, each_after}
-use Rattle.mk_keys.specs.Keys.{required, optional, first_unknown, whole_within, count_within, tables_within}
-use Rattle.mk_keys.specs.Known.{top_keys}
-use Rattle.mk_keys.specs.declared.fault.ScenarioFault.TheVariants.{UnknownKey}
-use Rattle.mk_keys.proofs.Passing.{ok_same, passed_ok, no_text_ok, required_ok, each_gives_where, each_at_ok}
-use Rattle.mk_keys.proofs.KeyFacts.{left_out_count, left_out_tables, left_out_range, whole_within_ok, tables_within_ok, tables_range}
-use Rattle.mk_keys.proofs.Ranges.{InRange, under_range}
+use Rattle.mk_scenario_keys.specs.Tests.{item_in, each_at, each_after}
+use Rattle.mk_scenario_keys.specs.Keys.{required, optional, first_unknown, whole_within, count_within, tables_within}
+use Rattle.mk_scenario_keys.specs.Known.{top_keys}
+use Rattle.mk_scenario_keys.specs.declared.fault.ScenarioFault.TheVariants.{UnknownKey}
+use Rattle.mk_scenario_keys.proofs.Passing.{ok_same, passed_ok, no_text_ok, required_ok, each_gives_where, each_at_ok}
+use Rattle.mk_scenario_keys.proofs.KeyFacts.{left_out_count, left_out_tables, left_out_range, whole_within_ok, tables_within_ok, tables_range}
+use Rattle.mk_scenario_keys.proofs.Ranges.{InRange, under_range}
 use Rattle.mk_scenario.specs.Sims.{texts_under, sim_in}
 use Rattle.mk_scenario.specs.Groups.{group_in}
 use Rattle.mk_scenario.specs.Blocks.{block_in}

@@ -1,22 +1,18 @@
 -- An `entities` table: a group.
-use Rattle.std.specs.Prelude.{ℕ, not, List, [], codes, Option, option_map, option_and_then, Result, Ok}
+use Rattle.std.specs.Prelude.{ℕ, not, List, [], codes, option_map, Result, Ok}
 use Rattle.mk_base.specs.declared.json.Json.{Json}
 use Rattle.mk_base.specs.declared.json.Json as tree
 use Rattle.mk_base.specs.declared.SimNo.{SimNo}
-use Rattle.mk_base.specs.Trees.{text_in, member}
-use Rattle.mk_keys.specs.Known.{group_keys}
-use Rattle.mk_keys.specs.Tests.{passed, held, no_text, found, key_in, item_in}
-use Rattle.mk_keys.specs.Keys.{required, optional, first_unknown, is_among, count_within, text, name, values}
-use Rattle.mk_keys.specs.declared.fault.ScenarioFault.{ScenarioFault}
-use Rattle.mk_keys.specs.declared.fault.ScenarioFault.TheVariants.{UnknownKey, UnknownSim, Taken}
+use Rattle.mk_base.specs.Trees.{member}
+use Rattle.mk_scenario_keys.specs.Known.{group_keys}
+use Rattle.mk_scenario_keys.specs.Tests.{passed, held, no_text, found, key_in, item_in}
+use Rattle.mk_scenario_keys.specs.Keys.{required, optional, first_unknown, is_among, count_within, text, name, values}
+use Rattle.mk_scenario_keys.specs.declared.fault.ScenarioFault.{ScenarioFault}
+use Rattle.mk_scenario_keys.specs.declared.fault.ScenarioFault.TheVariants.{UnknownKey, UnknownSim, Taken}
 use Rattle.mk_scenario.specs.Sims.{texts_under}
 use Rattle.mk_scenario.specs.Places.{place_in}
 use Rattle.mk_scenario.specs.declared.parts.Group.{Group}
 use Rattle.mk_scenario.specs.declared.groups.GroupSaid.{GroupSaid}
-
--- the text that a table has as its id
-abbrev pub id_in : Json → Option (List ℕ)
-id_in table = option_and_then text_in (member (codes "id") table)
 
 -- the simulator of this id
 abbrev pub sim_of_id : List (List ℕ) → List ℕ → List ℕ → Result SimNo ScenarioFault

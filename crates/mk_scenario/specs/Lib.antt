@@ -5,3 +5,4 @@ pub mod References
 pub mod Blocks
 pub mod Scenarios
 pub mod Wellformed
+pub mod inner

@@ -1,10 +1,10 @@
 -- A reference: a full id, a group's entity at an index, or a group.
-use Rattle.std.specs.Prelude.{◌≡◌, ℕ, nat_lt, Bool, ◌&&◌, ◌==◌, ◌-◌, List, length, take, map, Option, Some, None, slice_get, option_map, option_and_then, unwrap_or, true, false, Result, Ok, if◌then◌else◌}
+use Rattle.std.specs.Prelude.{ℕ, nat_lt, Bool, ◌&&◌, ◌==◌, ◌-◌, List, length, take, map, Option, Some, None, slice_get, option_map, option_and_then, unwrap_or, false, Result, Ok, if◌then◌else◌}
 use Rattle.std.specs.List.{list_any, before_first, after_first}
-use Rattle.mk_keys.specs.Spelling.{spelled}
-use Rattle.mk_keys.specs.Tests.{passed, found}
-use Rattle.mk_keys.specs.declared.fault.ScenarioFault.{ScenarioFault}
-use Rattle.mk_keys.specs.declared.fault.ScenarioFault.TheVariants.{OutOfRange, UnknownGroup}
+use Rattle.mk_scenario_keys.specs.Spelling.{spelled}
+use Rattle.mk_scenario_keys.specs.Tests.{passed, found}
+use Rattle.mk_scenario_keys.specs.declared.fault.ScenarioFault.{ScenarioFault}
+use Rattle.mk_scenario_keys.specs.declared.fault.ScenarioFault.TheVariants.{OutOfRange, UnknownGroup}
 use Rattle.mk_scenario.specs.Places.{place_in}
 use Rattle.mk_scenario.specs.Groups.{sim_of_id}
 use Rattle.mk_scenario.specs.declared.parts.Group.{Group}
@@ -14,11 +14,6 @@ use Rattle.mk_scenario.specs.declared.parts.Place.TheVariants.{Whole, One, Full}
 -- the byte stands in the text
 abbrev pub has_byte : ℕ → List ℕ → Bool
 has_byte byte text = list_any (λ b. b == byte) text
-
--- the text has this byte, and these stand before and after the first
-abbrev pub IsAround : ℕ → List ℕ → List ℕ → List ℕ → Type 0
-IsAround byte text before after =
-    (has_byte byte text ≡ true) × (before ≡ before_first (λ b. b == byte) text) × (after ≡ after_first (λ b. b == byte) text)
 
 -- the text ends with this byte
 abbrev pub ends_with : ℕ → List ℕ → Bool

@@ -6,11 +6,11 @@ use Rattle.mk_base.specs.declared.json.Json.{Json}
 use Rattle.mk_base.specs.declared.json.Json as tree
 use Rattle.mk_base.specs.Lists.{same_text}
 use Rattle.mk_base.specs.Trees.{text_in, member}
-use Rattle.mk_keys.specs.Known.{sim_keys}
-use Rattle.mk_keys.specs.Tests.{passed, held, no_text, key_in, item_in}
-use Rattle.mk_keys.specs.Keys.{required, optional, first_unknown, wholes_within, some_text, name, some_port, values}
-use Rattle.mk_keys.specs.declared.fault.ScenarioFault.{ScenarioFault}
-use Rattle.mk_keys.specs.declared.fault.ScenarioFault.TheVariants.{Missing, UnknownKey, TwoKinds}
+use Rattle.mk_scenario_keys.specs.Known.{sim_keys}
+use Rattle.mk_scenario_keys.specs.Tests.{passed, held, no_text, key_in, item_in}
+use Rattle.mk_scenario_keys.specs.Keys.{required, optional, first_unknown, wholes_within, some_text, name, some_port, values}
+use Rattle.mk_scenario_keys.specs.declared.fault.ScenarioFault.{ScenarioFault}
+use Rattle.mk_scenario_keys.specs.declared.fault.ScenarioFault.TheVariants.{Missing, UnknownKey, TwoKinds}
 use Rattle.mk_scenario.specs.declared.parts.Begin.{Begin}
 use Rattle.mk_scenario.specs.declared.parts.Begin.TheVariants.{Command, Connect, Local}
 use Rattle.mk_scenario.specs.declared.parts.SimPart.{SimPart}

@@ -5,8 +5,8 @@ use Rattle.mk_base.specs.declared.tier.Via.TheVariants.{Plain}
 use Rattle.mk_base.specs.Lists.{IsIn, Each}
 use Rattle.mk_base.specs.Tiers.{HasWidth}
 use Rattle.mk_base.specs.Trees.{member}
-use Rattle.mk_keys.specs.Spelling.{is_name}
-use Rattle.mk_keys.specs.Keys.{members_of, IsObjectOfData}
+use Rattle.mk_scenario_keys.specs.Spelling.{is_name}
+use Rattle.mk_scenario_keys.specs.Keys.{members_of, IsObjectOfData}
 use Rattle.mk_scenario.specs.Sims.{sim_id}
 use Rattle.mk_scenario.specs.References.{num_at, size_of}
 use Rattle.mk_scenario.specs.Blocks.{sides_pair}

@@ -3,9 +3,9 @@ ghost use Rattle.std.specs.Prelude.{◌≡◌, ◌||◌, ◌==◌, [], ℕ, List
 ghost use Rattle.std.specs.List.{find};
 ghost use Rattle.mk_base.specs.declared.json.Json.{Json};
 ghost use Rattle.mk_base.specs.Trees.{member};
-ghost use Rattle.mk_keys.specs.Keys as keys;
-ghost use Rattle.mk_keys.specs.Tests.{IsFaultOf, each_at, found, key_in, item_in};
-ghost use Rattle.mk_keys.specs.declared.fault.ScenarioFault.TheVariants as faults;
+ghost use Rattle.mk_scenario_keys.specs.Keys as keys;
+ghost use Rattle.mk_scenario_keys.specs.Tests.{IsFaultOf, each_at, found, key_in, item_in};
+ghost use Rattle.mk_scenario_keys.specs.declared.fault.ScenarioFault.TheVariants as faults;
 ghost use Rattle.mk_scenario.specs.Blocks as blocks;
 ghost use Rattle.mk_scenario.specs.Blocks.{source_names};
 ghost use Rattle.mk_scenario.specs.References.{group_ids, place_of};
@@ -16,7 +16,7 @@ use crate::names::Names;
 use crate::parts::{AttrPair, Block, Group, Place, SimPart};
 use crate::references::{place_of, size_of};
 use mk_base::{Json, List, Mem, Members, Text, Via};
-use mk_keys::{
+use mk_scenario_keys::{
     ScenarioFault, Table, first_unknown, item_in, items, key_in, required_text, truth_or_false,
     values_or_none, width_or_none,
 };

@@ -1,16 +1,16 @@
 // The `entities` tables.
 ghost use Rattle.std.specs.Prelude.{◌≡◌, codes, IfOk, IfErr, Ok, Some};
 ghost use Rattle.mk_base.specs.Trees.{member};
-ghost use Rattle.mk_keys.specs.Keys as keys;
-ghost use Rattle.mk_keys.specs.Tests.{IsFaultOf, each_after, key_in};
+ghost use Rattle.mk_scenario_keys.specs.Keys as keys;
+ghost use Rattle.mk_scenario_keys.specs.Tests.{IsFaultOf, each_after, key_in};
 ghost use Rattle.mk_scenario.specs.Groups as groups;
-ghost use Rattle.mk_scenario.specs.Groups.{id_in};
+ghost use Rattle.mk_scenario.specs.inner.Groups.{id_in};
 ghost use Rattle.mk_scenario.specs.Scenarios.{ids_of};
 
 use crate::names::Names;
 use crate::parts::{Group, SimPart};
 use mk_base::{Json, List, Mem, SimNo, Text};
-use mk_keys::{
+use mk_scenario_keys::{
     ScenarioFault, Table, count_or, first_unknown, item_in, key_in, required_name, required_text,
     values_or_none,
 };

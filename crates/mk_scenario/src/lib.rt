@@ -11,6 +11,6 @@ mod sims;
 mod top;
 
 // Why a text is no scenario stands with the keys' values.
-pub use mk_keys::ScenarioFault;
+pub use mk_scenario_keys::ScenarioFault;
 pub use parts::{AttrPair, Begin, Block, Group, Place, Scenario, SimPart};
 pub use read::read_scenario;

@@ -3,7 +3,7 @@ ghost use Rattle.std.specs.Prelude.{◌≡◌, ◌++◌, ◌∷◌, [], ℕ, Lis
 ghost use Rattle.std.specs.HashMap.{get_by_text};
 ghost use Rattle.std.specs.Map.{update};
 ghost use Rattle.mk_base.specs.Lists.{same_text};
-ghost use Rattle.mk_keys.specs.Keys.{is_among};
+ghost use Rattle.mk_scenario_keys.specs.Keys.{is_among};
 ghost use Rattle.mk_scenario.specs.Places.{place_in};
 
 use indexmap::IndexMap;
@@ -20,7 +20,7 @@ pub struct Names {
 
 impl Model for Names {
     ghost use Rattle.std.specs.Prelude.{List, ℕ};
-    ghost use Rattle.mk_scenario.specs.Places.{HasPlaces};
+    ghost use Rattle.mk_scenario.specs.inner.Places.{HasPlaces};
 
     ghost Value = { List (List ℕ) };
 

@@ -1,13 +1,13 @@
 // From a scenario file's bytes to the scenario.
 ghost use Rattle.std.specs.Prelude.{◌≡◌, IfOk, IfErr, Ok};
-ghost use Rattle.mk_keys.specs.Tests.{IsFaultOf};
+ghost use Rattle.mk_scenario_keys.specs.Tests.{IsFaultOf};
 ghost use Rattle.mk_scenario.specs.Scenarios.{scenario_of};
 ghost use Rattle.mk_scenario.specs.Wellformed.{IsWellformed};
 
 use crate::parts::Scenario;
 use crate::top::scenario_in;
-use mk_keys::ScenarioFault;
-use mk_toml::{TomlFault, read_toml};
+use mk_scenario_keys::ScenarioFault;
+use mk_scenario_toml::{TomlFault, read_toml};
 use std::alloc::Global;
 
 /// The scenario that a text of TOML 1.1 is, or the first test that it fails: that it is TOML, then the tests of the top table,

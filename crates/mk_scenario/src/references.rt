@@ -1,14 +1,14 @@
 // What a reference refers to.
 ghost use Rattle.std.specs.Prelude.{◌≡◌, false, nat_lt, if◌then◌else◌, Some, None, Ok, MatchOption, IfOk, IfErr};
-ghost use Rattle.mk_keys.specs.Tests.{IsFaultOf};
+ghost use Rattle.mk_scenario_keys.specs.Tests.{IsFaultOf};
 ghost use Rattle.mk_scenario.specs.References as references;
-ghost use Rattle.mk_scenario.specs.References.{IsAround};
+ghost use Rattle.mk_scenario.specs.inner.References.{IsAround};
 
 use crate::groups::sim_of_id;
 use crate::names::Names;
 use crate::parts::{Group, Place};
 use mk_base::Text;
-use mk_keys::{ScenarioFault, spelled};
+use mk_scenario_keys::{ScenarioFault, spelled};
 use std::alloc::Global;
 
 // The most digits of an index.

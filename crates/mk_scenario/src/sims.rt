@@ -3,12 +3,12 @@ ghost use Rattle.std.specs.Prelude.{◌≡◌, length, codes, false, option_map,
 ghost use Rattle.std.specs.List.{filter};
 ghost use Rattle.mk_base.specs.Lists.{same_text};
 ghost use Rattle.mk_base.specs.Trees.{member, text_in};
-ghost use Rattle.mk_keys.specs.Tests.{IsFaultOf, each_after, key_in};
+ghost use Rattle.mk_scenario_keys.specs.Tests.{IsFaultOf, each_after, key_in};
 ghost use Rattle.mk_scenario.specs.Sims as sims;
 
 use crate::parts::{Begin, SimPart};
 use mk_base::{Json, List, Mem, Text};
-use mk_keys::{
+use mk_scenario_keys::{
     ScenarioFault, Table, first_unknown, item_in, key_in, optional_port, optional_text,
     required_name, times_or_none, values_or_none,
 };

@@ -1,8 +1,8 @@
 // A document: the top table, and then its simulators, groups and connections.
 ghost use Rattle.std.specs.Prelude.{◌≡◌, IfOk, IfErr, Ok};
 ghost use Rattle.mk_base.specs.Trees.{member};
-ghost use Rattle.mk_keys.specs.Keys as keys;
-ghost use Rattle.mk_keys.specs.Tests.{IsFaultOf};
+ghost use Rattle.mk_scenario_keys.specs.Keys as keys;
+ghost use Rattle.mk_scenario_keys.specs.Tests.{IsFaultOf};
 ghost use Rattle.mk_scenario.specs.Scenarios as scenarios;
 
 use crate::blocks::blocks_of;
@@ -10,7 +10,7 @@ use crate::groups::groups_of;
 use crate::parts::Scenario;
 use crate::sims::sims_of;
 use mk_base::{Json, Text};
-use mk_keys::{
+use mk_scenario_keys::{
     ScenarioFault, Table, count_or, first_unknown, required_tables, required_time, tables_or_none,
 };
 use std::alloc::Global;

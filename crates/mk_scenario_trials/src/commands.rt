@@ -1,7 +1,7 @@
 //! Words on the command line, and what they ask for.
 
 use mk_base::{Mem, Text};
-use mk_words::{Command, Request, read_words};
+use mosaikrun_words::{Command, Request, read_words};
 use std::alloc::Global;
 use std::test::Fail;
 

@@ -1,7 +1,7 @@
 // The shipped file is the demo scenario of size 1.
 use crate::files::DEMO;
-use mk_demo::demo_scenario;
 use mk_scenario::{Scenario, read_scenario};
+use mk_scenario_demo::demo_scenario;
 use std::alloc::Global;
 use std::test::Fail;
 

@@ -1,6 +1,6 @@
 // Values of each type, and tables in order.
 use mk_base::Json;
-use mk_toml::{TomlFault, read_toml};
+use mk_scenario_toml::{TomlFault, read_toml};
 use std::alloc::Global;
 use std::test::Fail;
 

@@ -26,14 +26,14 @@ use Rattle.mk_plan.specs.Journals.{View, OpenTurn, Owed, Fault, WrongMessage, Fa
 use Rattle.mk_plan.specs.Orderly.{IsAllowed, IsNext}
 use Rattle.mk_plan.specs.Ready.{IsReady}
 use Rattle.mk_plan.specs.Advance.{IsAdvance}
-use Rattle.mk_confluence.proofs.Pushing.{view_push, orderly_push}
-use Rattle.mk_confluence.proofs.Seen.{reached_sound}
-use Rattle.mk_agenda.specs.Mirrors.{Mirrors}
-use Rattle.mk_agenda.proofs.Mirroring.{told_mirrors, went_mirrors}
-use Rattle.mk_sims.specs.Sims.{AreSimsOf}
-use Rattle.mk_sims.specs.Turns.{IsRight}
-use Rattle.mk_supply.specs.Stock.{IsStockOf, MayCome}
-use Rattle.mk_supply.specs.declared.stock.Stock.{Stock}
+use Rattle.mk_order.proofs.Pushing.{view_push, orderly_push}
+use Rattle.mk_order.proofs.Seen.{reached_sound}
+use Rattle.mk_sched_agenda.specs.Mirrors.{Mirrors}
+use Rattle.mk_sched_agenda.proofs.Mirroring.{told_mirrors, went_mirrors}
+use Rattle.mk_sched_open.specs.Sims.{AreSimsOf}
+use Rattle.mk_sched_open.specs.Turns.{IsRight}
+use Rattle.mk_sched_supply.specs.Stock.{IsStockOf, MayCome}
+use Rattle.mk_sched_supply.specs.declared.stock.Stock.{Stock}
 use Rattle.mk_sched.specs.declared.kept.Kept.{Kept}
 use Rattle.mk_sched.specs.declared.faults.CoreFault.{CoreFault}
 use Rattle.mk_sched.specs.declared.faults.CoreFault.TheVariants.{TooLong}
@@ -41,7 +41,7 @@ use Rattle.mk_sched.specs.declared.faults.Ended.{Ended}
 use Rattle.mk_sched.specs.declared.faults.Ended.TheVariants.{Faulty, OutOfMemory}
 use Rattle.mk_sched.specs.declared.faults.Taken.TheVariants as taken
 use Rattle.mk_sched.specs.Answers.{HasRoom, IsAnswered, IsFaulty, IsUnanswered, fault_in}
-use Rattle.mk_sched.specs.Kept.{IsCurrent, IsKept, HasTaken, IsTaking, core_of, fault_by}
+use Rattle.mk_sched.specs.inner.Kept.{IsCurrent, IsKept, HasTaken, IsTaking, core_of, fault_by}
 use Rattle.mk_sched.proofs.Standing.{kept_push, kept_twice, ended_kept, one_longer}
 use Rattle.mk_sched.proofs.Judged.{noted_wrong, noted_right}
 

@@ -20,22 +20,22 @@ use Rattle.mk_plan.specs.Orderly.{IsAllowed, IsNext, IsFirstReady}
 use Rattle.mk_plan.specs.Ready.{pending, start, last_step, step_at, IsReady, IsDone}
 use Rattle.mk_plan.specs.Walks.{Reach, nobody, IsEarliest}
 use Rattle.mk_plan.specs.Advance.{IsAdvance}
-use Rattle.mk_confluence.proofs.Headlines.{orderly_finished}
-use Rattle.mk_confluence.proofs.LaterQuestions.{IsMarkOf, earliest_is_mark, unreached_is_mark}
-use Rattle.mk_confluence.proofs.Orders.{somebody_is_ready}
-use Rattle.mk_confluence.proofs.Past.{pending_within}
-use Rattle.mk_confluence.proofs.Reasons.{and_both}
-use Rattle.mk_agenda.specs.Mirrors.{Mirrors}
-use Rattle.mk_sims.specs.Sims.{AreSimsOf}
-use Rattle.mk_sims.specs.Turns.{IsInRun}
-use Rattle.mk_supply.specs.Stock.{IsStockOf, MayCome}
+use Rattle.mk_order.proofs.Headlines.{orderly_finished}
+use Rattle.mk_order.proofs.LaterQuestions.{IsMarkOf, earliest_is_mark, unreached_is_mark}
+use Rattle.mk_order.proofs.Orders.{somebody_is_ready}
+use Rattle.mk_order.proofs.Past.{pending_within}
+use Rattle.mk_order.proofs.Reasons.{and_both}
+use Rattle.mk_sched_agenda.specs.Mirrors.{Mirrors}
+use Rattle.mk_sched_open.specs.Sims.{AreSimsOf}
+use Rattle.mk_sched_open.specs.Turns.{IsInRun}
+use Rattle.mk_sched_supply.specs.Stock.{IsStockOf, MayCome}
 use Rattle.mk_sched.specs.declared.kept.Kept.{Kept}
 use Rattle.mk_sched.specs.declared.faults.Ended.TheVariants.{Faulty, OutOfMemory}
 use Rattle.mk_sched.specs.declared.faults.CoreFault.TheVariants.{TooLong}
 use Rattle.mk_sched.specs.declared.faults.Next.TheVariants as next
 use Rattle.mk_sched.specs.Answers.{IsAsked, SomeReady, SomeOpen}
-use Rattle.mk_sched.specs.Holding.{IsSettled}
-use Rattle.mk_sched.specs.Kept.{IsCurrent, IsKept, HasAdvanced, core_of}
+use Rattle.mk_sched.specs.inner.Holding.{IsSettled}
+use Rattle.mk_sched.specs.inner.Kept.{IsCurrent, IsKept, HasAdvanced, core_of}
 use Rattle.mk_sched.proofs.Standing.{kept_push, ended_kept, ended_settled}
 
 module _ (P : Plan) (J : List Entry) (K : Kept) (kept : IsKept P J K None) where

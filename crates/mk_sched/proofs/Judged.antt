@@ -25,12 +25,12 @@ use Rattle.mk_plan.specs.Plans.{has_outputs, owner, kind_of}
 use Rattle.mk_plan.specs.Turns.{unasked, first_cause, is_number, time_in, holds_of, part_for, value_for, wrong, wrong_data, next_place, wanted}
 use Rattle.mk_plan.specs.Acts.{content_of}
 use Rattle.mk_plan.specs.Journals.{View, OpenTurn, place_at, note, note_got, note_right, fault_of}
-use Rattle.mk_turns.specs.Places.{open_id}
-use Rattle.mk_turns.proofs.Right.{right_value_is_datum, right_data_reply, right_step_reply, right_next_fits, right_output_time_fits}
-use Rattle.mk_agenda.specs.Outlets.{triggering_in, triggering_from}
-use Rattle.mk_agenda.specs.Endings.{CanBeMade}
-use Rattle.mk_sims.specs.Turns.{IsRight, IsInRun, IsPlaceInRun, next_in}
-use Rattle.mk_sched.specs.Kept.{IsJudged, EndsStep, EndsFetch, made_at}
+use Rattle.mk_plan_judge.specs.Places.{open_id}
+use Rattle.mk_plan_judge.proofs.Right.{right_value_is_datum, right_data_reply, right_step_reply, right_next_fits, right_output_time_fits}
+use Rattle.mk_sched_agenda.specs.Outlets.{triggering_in, triggering_from}
+use Rattle.mk_sched_agenda.specs.Endings.{CanBeMade}
+use Rattle.mk_sched_open.specs.Turns.{IsRight, IsInRun, IsPlaceInRun, next_in}
+use Rattle.mk_sched.specs.inner.Kept.{IsJudged, EndsStep, EndsFetch, made_at}
 
 module _ (P : Plan) (V : View) (s : SimNo) (m : Message) where
   pub judge : (place : Place) → place ≡ place_at (V.open_at s.0) → IsPlaceInRun place → wrong P s.0 place m ≡ None → (q : Option Place) → next_place P s.0 place m ≡ q → IsJudged P V s.0 m place q

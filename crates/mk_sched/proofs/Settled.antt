@@ -10,21 +10,22 @@ use Rattle.mk_plan.specs.Deliveries.{supply}
 use Rattle.mk_plan.specs.Journals.{View, view}
 use Rattle.mk_plan.specs.Ready.{start}
 use Rattle.mk_plan.specs.Walks.{Reach, nobody, IsEarliest}
-use Rattle.mk_confluence.proofs.LaterQuestions.{IsMarkOf, earliest_is_mark, unreached_is_mark}
-use Rattle.mk_agenda.specs.Mirrors.{Mirrors}
-use Rattle.mk_sims.specs.Sims.{AreSimsOf}
+use Rattle.mk_order.proofs.LaterQuestions.{IsMarkOf, earliest_is_mark, unreached_is_mark}
+use Rattle.mk_sched_agenda.specs.Mirrors.{Mirrors}
+use Rattle.mk_sched_open.specs.Sims.{AreSimsOf}
 use Rattle.mk_buffers.specs.Bounds.{most_kept}
 use Rattle.mk_buffers.specs.Marking.{greater}
 use Rattle.mk_buffers.specs.Standing.{HasRaised, least_mark, mark_of}
 use Rattle.mk_buffers.proofs.Marking.{apart_or_same}
-use Rattle.mk_supply.specs.declared.stock.Stock.{Stock}
-use Rattle.mk_supply.specs.Stock.{IsStockOf}
-use Rattle.mk_supply.proofs.Holding.{most_at}
+use Rattle.mk_sched_supply.specs.declared.stock.Stock.{Stock}
+use Rattle.mk_sched_supply.specs.Stock.{IsStockOf}
+use Rattle.mk_sched_supply.proofs.Holding.{most_at}
 use Rattle.mk_sched.specs.declared.kept.Kept.{Kept}
 use Rattle.mk_sched.specs.declared.faults.Ended.{Ended}
 use Rattle.mk_sched.specs.Answers.{SomeReady}
-use Rattle.mk_sched.specs.Holding.{AreMarked, IsFloor, IsSettled, IsTold}
-use Rattle.mk_sched.specs.Kept.{IsCurrent, IsKept}
+use Rattle.mk_sched.specs.Holding.{IsFloor}
+use Rattle.mk_sched.specs.inner.Holding.{AreMarked, IsSettled, IsTold}
+use Rattle.mk_sched.specs.inner.Kept.{IsCurrent, IsKept}
 
 -- a simulator's mark is the least tiered time at which it may still step, or any where nothing can make it step
 pub mark_of_earliest : (P : Plan) (V : View) (s : ℕ) (end : Tier) (o : Option Tier) → MatchOption o ((y : Tier) → Reach P (start P V) nobody s y → ⊥) (λ e. IsEarliest P (start P V) s e) → (m : Tier) → m ≡ unwrap_or o end → IsMarkOf P V s m

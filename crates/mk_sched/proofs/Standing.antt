@@ -9,16 +9,16 @@ use Rattle.mk_plan.specs.Journals.{View, note, view, empty_view}
 use Rattle.mk_plan.specs.Orderly.{IsAllowed, IsOrderlySoFar}
 use Rattle.mk_plan.specs.Ready.{IsReady}
 use Rattle.mk_plan.specs.Advance.{IsAdvance}
-use Rattle.mk_confluence.proofs.Headlines.{orderly_agrees}
-use Rattle.mk_confluence.proofs.Pushing.{view_push, orderly_push}
-use Rattle.mk_agenda.specs.Mirrors.{Mirrors}
-use Rattle.mk_sims.specs.Sims.{AreSimsOf}
-use Rattle.mk_supply.specs.Stock.{IsStockOf}
+use Rattle.mk_order.proofs.Headlines.{orderly_agrees}
+use Rattle.mk_order.proofs.Pushing.{view_push, orderly_push}
+use Rattle.mk_sched_agenda.specs.Mirrors.{Mirrors}
+use Rattle.mk_sched_open.specs.Sims.{AreSimsOf}
+use Rattle.mk_sched_supply.specs.Stock.{IsStockOf}
 use Rattle.mk_sched.specs.declared.kept.Kept.{Kept}
 use Rattle.mk_sched.specs.declared.faults.Ended.{Ended}
 use Rattle.mk_sched.specs.Cores.{Stands}
-use Rattle.mk_sched.specs.Holding.{IsSettled}
-use Rattle.mk_sched.specs.Kept.{IsCurrent, IsKept}
+use Rattle.mk_sched.specs.inner.Holding.{IsSettled}
+use Rattle.mk_sched.specs.inner.Kept.{IsCurrent, IsKept}
 
 pub stands_of : (P : Plan) (J : List Entry) (K : Kept) (end : Option Ended) → IsKept P J K end → Stands P J
 stands_of P J K end kept = record { valid = kept.valid; orderly = kept.orderly; agrees = orderly_agrees P kept.valid J kept.orderly; within = kept.within }

@@ -22,23 +22,23 @@ use Rattle.mk_plan.specs.Sequential.{grown}
 use Rattle.mk_plan.specs.Journals.{View, OpenTurn, Fault, ended_turn, loop_fault, note_right, note, view}
 use Rattle.mk_plan.specs.Ready.{IsReady}
 use Rattle.mk_plan.specs.Advance.{IsAdvance}
-use Rattle.mk_confluence.proofs.Past.{view_right}
-use Rattle.mk_confluence.proofs.Pushing.{view_push, orderly_push}
-use Rattle.mk_confluence.proofs.RightActs as acts
-use Rattle.mk_confluence.proofs.Seen.{same_self}
-use Rattle.mk_agenda.specs.declared.outlets.Outlet.{Outlet}
-use Rattle.mk_agenda.specs.declared.outlets.Beyond.{Beyond}
-use Rattle.mk_agenda.specs.Outlets.{AreOutletsOf, triggering_from, outlets_in}
-use Rattle.mk_agenda.specs.Mirrors.{Mirrors}
-use Rattle.mk_agenda.specs.Endings.{IsLast, EndOf, given_by, fault_of}
-use Rattle.mk_sims.specs.Sims.{AreSimsOf}
-use Rattle.mk_sims.specs.Turns.{IsRight, next_in}
-use Rattle.mk_supply.specs.Stock.{IsStockOf}
+use Rattle.mk_order.proofs.Past.{view_right}
+use Rattle.mk_order.proofs.Pushing.{view_push, orderly_push}
+use Rattle.mk_order.proofs.RightActs as acts
+use Rattle.mk_order.proofs.Seen.{same_self}
+use Rattle.mk_sched_agenda.specs.declared.outlets.Outlet.{Outlet}
+use Rattle.mk_sched_agenda.specs.declared.outlets.Beyond.{Beyond}
+use Rattle.mk_sched_agenda.specs.Outlets.{AreOutletsOf, triggering_from, outlets_in}
+use Rattle.mk_sched_agenda.specs.Mirrors.{Mirrors}
+use Rattle.mk_sched_agenda.specs.Endings.{IsLast, EndOf, given_by, fault_of}
+use Rattle.mk_sched_open.specs.Sims.{AreSimsOf}
+use Rattle.mk_sched_open.specs.Turns.{IsRight, next_in}
+use Rattle.mk_sched_supply.specs.Stock.{IsStockOf}
 use Rattle.mk_sched.specs.declared.kept.Kept.{Kept}
 use Rattle.mk_sched.specs.declared.faults.Ended.TheVariants.{Faulty}
 use Rattle.mk_sched.specs.declared.faults.Taken.TheVariants as taken
 use Rattle.mk_sched.specs.Answers.{HasRoom}
-use Rattle.mk_sched.specs.Kept.{IsCurrent, IsKept, HasTaken, IsTaking, EndsStep, core_of, limit_by, made_at}
+use Rattle.mk_sched.specs.inner.Kept.{IsCurrent, IsKept, HasTaken, IsTaking, EndsStep, core_of, limit_by, made_at}
 use Rattle.mk_sched.proofs.Standing.{kept_push}
 use Rattle.mk_sched.proofs.Judged.{IsEnd, step_end, noted_right, none_leaves}
 use Rattle.mk_sched.proofs.Arrived.{its, got_allowed, the_room, no_end}

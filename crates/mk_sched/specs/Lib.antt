@@ -1,4 +1,4 @@
 pub mod Cores
 pub mod Answers
 pub mod Holding
-pub mod Kept
+pub mod inner

@@ -6,17 +6,17 @@ ghost use Rattle.mk_plan.specs.Ready.{IsReady};
 ghost use Rattle.mk_plan.specs.Advance.{IsAdvance};
 ghost use Rattle.mk_plan.specs.Orderly.{IsFirstReady};
 ghost use Rattle.mk_sched.specs.Answers.{IsAsked};
-ghost use Rattle.mk_sched.specs.Holding.{IsSettled};
-ghost use Rattle.mk_sched.specs.Kept.{IsKept, HasAdvanced, core_of};
+ghost use Rattle.mk_sched.specs.inner.Holding.{IsSettled};
+ghost use Rattle.mk_sched.specs.inner.Kept.{IsKept, HasAdvanced, core_of};
 
 use crate::entries::{is_full, too_long};
 use crate::faults::Next;
 use crate::kept::Kept;
 use crate::marks::settle;
-use mk_agenda::Ready;
 use mk_base::Mem;
 use mk_plan::{Entry, Item, Journal, Plan};
-use mk_supply::stock_stays;
+use mk_sched_agenda::Ready;
+use mk_sched_supply::stock_stays;
 
 // Asks the first simulator that is ready, if the journal has room.
 pub fn advance(plan: &Plan, kept: &mut Kept, journal: &mut Journal) -> Result<Next, Mem>

@@ -8,7 +8,7 @@ ghost use Rattle.mk_buffers.specs.Bounds.{most_kept};
 ghost use Rattle.mk_sched.specs.Cores.{CoreState, Stands, is_message_in_range};
 ghost use Rattle.mk_sched.specs.Answers.{NextOf, ArriveOf, IsOutOfMemory, SomeReady, open_id, id_at};
 ghost use Rattle.mk_sched.specs.Holding.{IsFloor};
-ghost use Rattle.mk_sched.specs.Kept.{end_after_next, end_after_arrive};
+ghost use Rattle.mk_sched.specs.inner.Kept.{end_after_next, end_after_arrive};
 
 use crate::asking::advance;
 use crate::faults::{Ended, Next, Taken};
@@ -36,8 +36,8 @@ pub struct Core {
 
 impl Model for Core {
     ghost use Rattle.mk_sched.specs.Cores.{CoreState};
-    ghost use Rattle.mk_sched.specs.Holding.{IsSettled};
-    ghost use Rattle.mk_sched.specs.Kept.{IsKept};
+    ghost use Rattle.mk_sched.specs.inner.Holding.{IsSettled};
+    ghost use Rattle.mk_sched.specs.inner.Kept.{IsKept};
     ghost use Rattle.mk_base.specs.contracts.json.Json as json;
     ghost use Rattle.std.specs.Coded.{codes};
 

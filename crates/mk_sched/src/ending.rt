@@ -6,18 +6,18 @@ ghost use Rattle.mk_base.specs.Trees.{whole_in};
 ghost use Rattle.mk_plan.specs.Turns.{time_in};
 ghost use Rattle.mk_plan.specs.Journals.{view};
 ghost use Rattle.mk_plan.specs.Acts.{content_of};
-ghost use Rattle.mk_sched.specs.Kept.{HasTaken, IsTaking, IsJudged, EndsStep, EndsFetch, limit_by, made_at};
+ghost use Rattle.mk_sched.specs.inner.Kept.{HasTaken, IsTaking, IsJudged, EndsStep, EndsFetch, limit_by, made_at};
 
 use crate::entries::push_message;
 use crate::faults::{CoreFault, Taken};
 use crate::kept::Kept;
 use crate::taking::next_in;
-use mk_agenda::Beyond;
 use mk_base::{Json, Mem, SimNo, Tier};
 use mk_plan::{Journal, Message, Place, Plan};
-use mk_sims::ends_of_turns;
-use mk_supply::stock_stays;
-use mk_turns::output_time;
+use mk_plan_judge::output_time;
+use mk_sched_agenda::Beyond;
+use mk_sched_open::ends_of_turns;
+use mk_sched_supply::stock_stays;
 use std::alloc::Global;
 
 // The turn ends by the message, which came at `place`.

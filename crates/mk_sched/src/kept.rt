@@ -1,13 +1,13 @@
 // What the core keeps beside the journal.
 ghost use Rattle.std.specs.Prelude.{◌≡◌, [], None, IfOk};
 ghost use Rattle.mk_plan.specs.Plans.{IsValidPlan};
-ghost use Rattle.mk_sched.specs.Kept.{IsKept};
+ghost use Rattle.mk_sched.specs.inner.Kept.{IsKept};
 
-use mk_agenda::Agenda;
 use mk_base::Mem;
 use mk_plan::Plan;
-use mk_sims::Sims;
-use mk_supply::Stock;
+use mk_sched_agenda::Agenda;
+use mk_sched_open::Sims;
+use mk_sched_supply::Stock;
 use std::alloc::Global;
 
 // What is open at each simulator, when each is due, and what was given so far.

@@ -4,17 +4,18 @@ ghost use Rattle.mk_base.specs.declared.tier.Tier.{Tier};
 ghost use Rattle.mk_plan.specs.declared.Entry.{Entry};
 ghost use Rattle.mk_plan.specs.Plans.{IsValidPlan, sim_count};
 ghost use Rattle.mk_plan.specs.Journals.{View};
-ghost use Rattle.mk_agenda.specs.Mirrors.{Mirrors};
-ghost use Rattle.mk_supply.specs.Stock.{IsStockOf};
-ghost use Rattle.mk_sched.specs.Holding.{AreMarked, IsFloor, IsSettled, IsTold};
-ghost use Rattle.mk_sched.specs.Kept.{IsKept};
+ghost use Rattle.mk_sched_agenda.specs.Mirrors.{Mirrors};
+ghost use Rattle.mk_sched_supply.specs.Stock.{IsStockOf};
+ghost use Rattle.mk_sched.specs.Holding.{IsFloor};
+ghost use Rattle.mk_sched.specs.inner.Holding.{AreMarked, IsSettled, IsTold};
+ghost use Rattle.mk_sched.specs.inner.Kept.{IsKept};
 
 use crate::faults::Ended;
 use crate::kept::Kept;
-use mk_agenda::Agenda;
 use mk_base::{SimNo, Tier};
 use mk_plan::Plan;
-use mk_supply::Stock;
+use mk_sched_agenda::Agenda;
+use mk_sched_supply::Stock;
 
 // Where the core has not ended, and nobody is ready, gives up what no question reaches any more.
 pub fn settle(plan: &Plan, kept: &mut Kept, ended: Option<Ended>)

@@ -11,11 +11,11 @@ ghost use Rattle.mk_plan.specs.Plans.{IsValidPlan, sim_count};
 ghost use Rattle.mk_plan.specs.Deliveries.{supply};
 ghost use Rattle.mk_plan.specs.Sequential.{response};
 ghost use Rattle.mk_plan.specs.Journals.{OpenTurn, view, note_right, note_sent};
-ghost use Rattle.mk_sims.specs.Turns.{IsInRun, IsRight, next_in};
-ghost use Rattle.mk_supply.specs.Stock.{IsStockOf, MayCome};
-ghost use Rattle.mk_supply.specs.Asking.{IsInStep};
+ghost use Rattle.mk_sched_open.specs.Turns.{IsInRun, IsRight, next_in};
+ghost use Rattle.mk_sched_supply.specs.Stock.{IsStockOf, MayCome};
+ghost use Rattle.mk_sched_supply.specs.Asking.{IsInStep};
 ghost use Rattle.mk_sched.specs.Cores.{is_message_in_range};
-ghost use Rattle.mk_sched.specs.Kept.{IsKept, HasTaken, IsTaking, IsJudged, time_at, fault_by};
+ghost use Rattle.mk_sched.specs.inner.Kept.{IsKept, HasTaken, IsTaking, IsJudged, time_at, fault_by};
 
 use crate::ending::end_turn;
 use crate::entries::{has_last_room, is_full, push_answered, push_message, too_long};
@@ -23,9 +23,9 @@ use crate::faults::{CoreFault, Taken};
 use crate::kept::Kept;
 use mk_base::{List, Mem, SimNo, Tier};
 use mk_plan::{Cause, Item, Journal, Message, Place, Plan, Want};
-use mk_sims::ends_of_turns;
-use mk_supply::{Stock, stock_stays};
-use mk_turns::{next_place, next_time, wrong};
+use mk_plan_judge::{next_place, next_time, wrong};
+use mk_sched_open::ends_of_turns;
+use mk_sched_supply::{Stock, stock_stays};
 use std::alloc::Global;
 
 // Ends the journal with a message of the simulator, and with what is owed after it, as far as there is room.

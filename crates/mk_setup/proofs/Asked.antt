@@ -8,22 +8,22 @@ use Rattle.mk_plan.specs.declared.Call.{Call}
 use Rattle.mk_plan.specs.declared.Call.TheVariants.{Init, Create}
 use Rattle.mk_plan.specs.declared.Plan.{Plan}
 use Rattle.mk_meta.specs.declared.meta.Meta.{Meta}
-use Rattle.mk_conns.specs.declared.fault.ConnectFault.{ConnectFault}
-use Rattle.mk_conns.specs.declared.fault.ConnectFault.TheVariants as connect
-use Rattle.mk_conns.specs.Faults.{IsFaultOf}
-use Rattle.mk_conns.specs.Groups.{fault_of_group}
+use Rattle.mk_connect_pairs.specs.declared.fault.ConnectFault.{ConnectFault}
+use Rattle.mk_connect_pairs.specs.declared.fault.ConnectFault.TheVariants as connect
+use Rattle.mk_connect_pairs.specs.Faults.{IsFaultOf}
+use Rattle.mk_connect_pairs.specs.Groups.{fault_of_group}
 use Rattle.mk_scenario.specs.declared.parts.Scenario.{Scenario}
 use Rattle.mk_scenario.specs.declared.parts.Group.{Group}
 use Rattle.mk_scenario.specs.declared.parts.SimPart.{SimPart}
-use Rattle.mk_links.specs.Handshake.{setup_requests}
+use Rattle.mk_run_laws.specs.Handshake.{setup_requests}
 use Rattle.mk_setup.specs.declared.fault.SetupFault.{SetupFault}
 use Rattle.mk_setup.specs.declared.fault.SetupFault.TheVariants as fault
 use Rattle.mk_setup.specs.Answers.{IsReady, IsRequested, IsUnready}
 use Rattle.mk_setup.specs.Asking.{fault_before, lasting, plan_of, refusal, test_before}
-use Rattle.mk_setup.specs.Kept.{IsHindered}
+use Rattle.mk_setup.specs.inner.Kept.{IsHindered}
 use Rattle.mk_setup.specs.Requests.{group_of, meta_of, request_of}
 use Rattle.mk_setup.specs.Seen.{SetupState}
-use Rattle.mk_setup.specs.Standing.{IsPlanOf, Stands}
+use Rattle.mk_setup.specs.inner.Standing.{IsPlanOf, Stands}
 use Rattle.mk_setup.proofs.Counting.{count_is}
 use Rattle.mk_setup.proofs.Sequence.{create_at, create_of, done_at, init_at, request_count}
 use Rattle.mk_setup.proofs.Stepping.{counted_of, request_fits}

@@ -5,17 +5,17 @@ use Rattle.std.specs.List.{range_with_len}
 use Rattle.mk_base.proofs.Lists.{each_in, in_map}
 use Rattle.mk_plan.specs.declared.Plan.{Plan}
 use Rattle.mk_plan.specs.Plans.{IsValidPlan}
-use Rattle.mk_conns.specs.declared.fault.ConnectFault.{ConnectFault}
+use Rattle.mk_connect_pairs.specs.declared.fault.ConnectFault.{ConnectFault}
 use Rattle.mk_connect.specs.Complete.{IsComplete, most_requests}
-use Rattle.mk_conns.specs.Faults.{IsFaultOf}
+use Rattle.mk_connect_pairs.specs.Faults.{IsFaultOf}
 use Rattle.mk_connect.specs.Made.{number_at, plan_made}
 use Rattle.mk_connect.proofs.ByPlaces.{range_get}
 use Rattle.mk_scenario.specs.declared.parts.Scenario.{Scenario}
-use Rattle.mk_links.specs.Handshake.{setup_count}
+use Rattle.mk_run_laws.specs.Handshake.{setup_count}
 use Rattle.mk_setup.specs.Asking.{plan_of, refusal}
 use Rattle.mk_setup.specs.Requests.{first_ids}
 use Rattle.mk_setup.specs.Seen.{SetupState}
-use Rattle.mk_setup.specs.Standing.{IsPlanOf, Stands}
+use Rattle.mk_setup.specs.inner.Standing.{IsPlanOf, Stands}
 use Rattle.mk_setup.proofs.Counting.{count_few, few_requests}
 use Rattle.mk_setup.proofs.Planned.{first_made, sims_made}
 

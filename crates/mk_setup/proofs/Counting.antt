@@ -11,9 +11,9 @@ use Rattle.mk_scenario.specs.declared.parts.SimPart.{SimPart}
 use Rattle.mk_scenario.specs.declared.parts.Scenario.{Scenario}
 use Rattle.mk_scenario.specs.Wellformed.{IsWellformed, IsWellformedGroup}
 use Rattle.mk_connect.proofs.ByPlaces.{range_get}
-use Rattle.mk_links.specs.Handshake.{Request, call_to, setup_count, setup_requests}
-use Rattle.mk_links.proofs.Stepping.{apart_is, same_is, same_or_not}
-use Rattle.mk_setup.specs.Counts.{IsCounted, IsToSim}
+use Rattle.mk_run_laws.specs.Handshake.{Request, call_to, setup_count, setup_requests}
+use Rattle.mk_run_laws.proofs.Stepping.{apart_is, same_is, same_or_not}
+use Rattle.mk_setup.specs.inner.Counts.{IsCounted, IsToSim}
 use Rattle.mk_setup.specs.Requests.{first_ids, id_before}
 use Rattle.mk_setup.proofs.Sequence.{create_of, done_to, each_sim, init_to, request_count}
 

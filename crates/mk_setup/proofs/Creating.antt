@@ -20,7 +20,7 @@ use Rattle.mk_scenario.specs.declared.parts.Scenario.{Scenario}
 use Rattle.mk_scenario.specs.declared.parts.Group.{Group}
 use Rattle.mk_scenario.proofs.ListFacts.{same_is}
 use Rattle.mk_connect.specs.Complete.{has_model}
-use Rattle.mk_conns.specs.Groups.{fault_of_group, group_fault, id_of_sim, model_fault, model_named}
+use Rattle.mk_connect_pairs.specs.Groups.{fault_of_group, group_fault, id_of_sim, model_fault, model_named}
 use Rattle.mk_connect.proofs.ByPlaces.{range_get}
 use Rattle.mk_setup.proofs.Replied.{ok_err, ok_same}
 

@@ -12,17 +12,17 @@ use Rattle.mk_plan.specs.Journals.{Arrival}
 use Rattle.mk_meta.specs.Metadata.{meta_in}
 use Rattle.mk_scenario.specs.declared.parts.Scenario.{Scenario}
 use Rattle.mk_scenario.specs.declared.parts.Group.{Group}
-use Rattle.mk_links.specs.Handshake.{Request, setup_requests}
-use Rattle.mk_links.proofs.Stepping.{same_is}
+use Rattle.mk_run_laws.specs.Handshake.{Request, setup_requests}
+use Rattle.mk_run_laws.proofs.Stepping.{same_is}
 use Rattle.mk_setup.specs.declared.fault.SetupFault.{SetupFault}
 use Rattle.mk_setup.specs.declared.fault.SetupFault.TheVariants as fault
 use Rattle.mk_setup.specs.Answers.{IsRefused}
-use Rattle.mk_setup.specs.Counts.{IsToSim, sim_after}
-use Rattle.mk_setup.specs.Kept.{IsAwaitedBy, IsGroupOf, IsUntaken, added_by, awaited_sim, is_awaited}
+use Rattle.mk_setup.specs.inner.Counts.{IsToSim, sim_after}
+use Rattle.mk_setup.specs.inner.Kept.{IsAwaitedBy, IsGroupOf, IsUntaken, added_by, awaited_sim, is_awaited}
 use Rattle.mk_setup.specs.Replies.{after_any, after_reply, arrival, is_reply, moved, outstanding, unless_faulty, with_entities, with_meta, with_reply}
 use Rattle.mk_setup.specs.Requests.{group_of, id_before, request_of}
 use Rattle.mk_setup.specs.Seen.{SetupState}
-use Rattle.mk_setup.specs.Standing.{Stands}
+use Rattle.mk_setup.specs.inner.Standing.{Stands}
 use Rattle.mk_setup.proofs.Counting.{count_is, counted_length}
 use Rattle.mk_setup.proofs.Sequence.{create_at, done_at, init_at, request_count}
 use Rattle.mk_setup.proofs.Stepping.{counted_of, to_there}

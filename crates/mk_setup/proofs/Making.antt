@@ -9,7 +9,7 @@ use Rattle.mk_plan.specs.declared.Call.{Call}
 use Rattle.mk_plan.specs.declared.Message.{Message}
 use Rattle.mk_plan.specs.Journals.{Arrival}
 use Rattle.mk_scenario.specs.declared.parts.Scenario.{Scenario}
-use Rattle.mk_links.specs.Handshake.{Request, setup_requests}
+use Rattle.mk_run_laws.specs.Handshake.{Request, setup_requests}
 use Rattle.mk_setup.specs.declared.fault.SetupFault.{SetupFault}
 use Rattle.mk_setup.specs.Answers.{IsReady, IsRequested, IsStopped}
 use Rattle.mk_setup.specs.Asking.{after_asking, asked_unless, fault_before, lasting}

@@ -11,11 +11,11 @@ use Rattle.mk_meta.specs.declared.meta.Meta.{Meta}
 use Rattle.mk_entities.specs.declared.entities.EntityInfo.{EntityInfo}
 use Rattle.mk_scenario.specs.declared.parts.Scenario.{Scenario}
 use Rattle.mk_scenario.specs.declared.parts.SimPart.{SimPart}
-use Rattle.mk_conns.specs.declared.fault.ConnectFault.{ConnectFault}
-use Rattle.mk_conns.specs.Connections.{conns_made}
-use Rattle.mk_conns.specs.Faults.{passed}
+use Rattle.mk_connect_pairs.specs.declared.fault.ConnectFault.{ConnectFault}
+use Rattle.mk_connect_pairs.specs.Connections.{conns_made}
+use Rattle.mk_connect_pairs.specs.Faults.{passed}
 use Rattle.mk_connect.specs.Made.{number_at, plan_made, plan_sim, plan_with}
-use Rattle.mk_conns.specs.Models.{models_of}
+use Rattle.mk_connect_pairs.specs.Models.{models_of}
 use Rattle.mk_connect.proofs.ByPlaces.{by_place_get, by_place_length}
 use Rattle.mk_setup.proofs.Replied.{ok_err, ok_same}
 

@@ -15,7 +15,7 @@ use Rattle.mk_meta.specs.Metadata.{meta_in}
 use Rattle.mk_entities.specs.declared.entities.EntityInfo.{EntityInfo}
 use Rattle.mk_entities.specs.declared.fault.CreateFault.{CreateFault}
 use Rattle.mk_entities.specs.Creation.{entities_added}
-use Rattle.mk_links.specs.Handshake.{Request}
+use Rattle.mk_run_laws.specs.Handshake.{Request}
 use Rattle.mk_setup.specs.declared.fault.SetupFault.TheVariants as fault
 use Rattle.mk_setup.specs.Asking.{after_asking, asked_unless, fault_before}
 use Rattle.mk_setup.specs.Replies.{after_any, after_message, after_reply, is_reply, outstanding, unless_faulty, with_entities, with_meta, with_reply}

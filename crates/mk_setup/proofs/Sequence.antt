@@ -11,7 +11,7 @@ use Rattle.mk_plan.specs.declared.Call.TheVariants.{Init, Create, SetupDone}
 use Rattle.mk_scenario.specs.declared.parts.SimPart.{SimPart}
 use Rattle.mk_scenario.specs.declared.parts.Group.{Group}
 use Rattle.mk_scenario.specs.declared.parts.Scenario.{Scenario}
-use Rattle.mk_links.specs.Handshake.{Request, setup_requests}
+use Rattle.mk_run_laws.specs.Handshake.{Request, setup_requests}
 
 module _ {X : Type 0} where
   pub get_front : (xs ys : List X) (i : ℕ) → i < length xs → slice_get (xs ++ ys) i ≡ slice_get xs i

@@ -17,17 +17,17 @@ use Rattle.mk_scenario.specs.declared.parts.Scenario.{Scenario}
 use Rattle.mk_scenario.specs.declared.parts.Group.{Group}
 use Rattle.mk_scenario.specs.Wellformed.{IsWellformed, IsWellformedGroup, IsWellformedSim}
 use Rattle.mk_connect.specs.Complete.{IsOfGroup, IsOfModel, has_model}
-use Rattle.mk_conns.specs.Groups.{fault_of_group}
-use Rattle.mk_links.specs.Handshake.{Request, setup_requests}
+use Rattle.mk_connect_pairs.specs.Groups.{fault_of_group}
+use Rattle.mk_run_laws.specs.Handshake.{Request, setup_requests}
 use Rattle.mk_setup.specs.Asking.{test_before}
-use Rattle.mk_setup.specs.Counts.{IsCounted, IsToSim}
+use Rattle.mk_setup.specs.inner.Counts.{IsCounted, IsToSim}
 use Rattle.mk_setup.specs.Handshakes.{begun}
-use Rattle.mk_setup.specs.Kept.{IsGroupOf}
+use Rattle.mk_setup.specs.inner.Kept.{IsGroupOf}
 use Rattle.mk_setup.specs.Ranked.{AreRanksOf}
 use Rattle.mk_setup.specs.Replies.{moved}
 use Rattle.mk_setup.specs.Requests.{group_of, id_before, meta_of, request_of}
 use Rattle.mk_setup.specs.Seen.{SetupState}
-use Rattle.mk_setup.specs.Standing.{IsPlanOf, Stands}
+use Rattle.mk_setup.specs.inner.Standing.{IsPlanOf, Stands}
 use Rattle.mk_setup.proofs.Counting.{equal_counts}
 use Rattle.mk_setup.proofs.Creating.{created, offered}
 use Rattle.mk_setup.proofs.Sequence.{create_at, create_of, done_at, init_at, request_count, request_is}

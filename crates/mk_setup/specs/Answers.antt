@@ -6,7 +6,7 @@ use Rattle.mk_plan.specs.declared.Call.{Call}
 use Rattle.mk_plan.specs.Journals.{Arrival}
 use Rattle.mk_plan.specs.Plans.{IsValidPlan, first_id, sim_count}
 use Rattle.mk_message.specs.Written.{is_call_in_range}
-use Rattle.mk_links.specs.Handshake.{setup_requests, setup_count}
+use Rattle.mk_run_laws.specs.Handshake.{setup_requests, setup_count}
 use Rattle.mk_setup.specs.declared.answers.SetupNext.{SetupNext}
 use Rattle.mk_setup.specs.declared.answers.SetupNext.TheVariants.{Request, Wait, Ready}
 use Rattle.mk_setup.specs.declared.fault.SetupFault.{SetupFault}

@@ -3,10 +3,10 @@ use Rattle.std.specs.Prelude.{true, Option, Some, None, option_map, Result, Ok, 
 use Rattle.mk_plan.specs.declared.Plan.{Plan}
 use Rattle.mk_plan.specs.declared.Call.{Call}
 use Rattle.mk_plan.specs.declared.Call.TheVariants.{Init, Create, SetupDone, Stop}
-use Rattle.mk_conns.specs.declared.fault.ConnectFault.{ConnectFault}
-use Rattle.mk_conns.specs.Groups.{fault_of_group}
+use Rattle.mk_connect_pairs.specs.declared.fault.ConnectFault.{ConnectFault}
+use Rattle.mk_connect_pairs.specs.Groups.{fault_of_group}
 use Rattle.mk_connect.specs.Made.{plan_made}
-use Rattle.mk_links.specs.Handshake.{Request}
+use Rattle.mk_run_laws.specs.Handshake.{Request}
 use Rattle.mk_setup.specs.declared.fault.SetupFault.{SetupFault}
 use Rattle.mk_setup.specs.declared.fault.SetupFault.TheVariants.{Connect}
 use Rattle.mk_setup.specs.Requests.{first_ids, group_of, meta_of, request_of}

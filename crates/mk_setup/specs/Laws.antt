@@ -11,7 +11,7 @@ use Rattle.mk_plan.specs.Plans.{kind_of}
 use Rattle.mk_meta.specs.declared.meta.Meta.{Meta}
 use Rattle.mk_meta.specs.Metadata.{meta_in}
 use Rattle.mk_scenario.specs.declared.parts.Scenario.{Scenario}
-use Rattle.mk_links.specs.Handshake.{Request, setup_requests}
+use Rattle.mk_run_laws.specs.Handshake.{Request, setup_requests}
 use Rattle.mk_setup.specs.declared.fault.SetupFault.{SetupFault}
 use Rattle.mk_setup.specs.Answers.{IsReady, IsRequested, IsStopped}
 use Rattle.mk_setup.specs.Handshakes.{IsFaultyAfter, IsMade, IsReached, begun}

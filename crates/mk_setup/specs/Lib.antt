@@ -1,6 +1,5 @@
 pub mod Answers
 pub mod Asking
-pub mod Counts
 pub mod Handshakes
 pub mod Kept
 pub mod Laws
@@ -8,5 +7,4 @@ pub mod Ranked
 pub mod Replies
 pub mod Requests
 pub mod Seen
-pub mod Stages
-pub mod Standing
+pub mod inner

@@ -13,7 +13,7 @@ use Rattle.mk_meta.specs.Metadata.{meta_in}
 use Rattle.mk_entities.specs.declared.entities.EntityInfo.{EntityInfo}
 use Rattle.mk_entities.specs.declared.fault.CreateFault.{CreateFault}
 use Rattle.mk_entities.specs.Creation.{entities_added}
-use Rattle.mk_links.specs.Handshake.{Request}
+use Rattle.mk_run_laws.specs.Handshake.{Request}
 use Rattle.mk_setup.specs.declared.fault.SetupFault.{SetupFault}
 use Rattle.mk_setup.specs.declared.fault.SetupFault.TheVariants as fault
 use Rattle.mk_setup.specs.Requests.{group_of, id_before, meta_of, request_of}

@@ -4,7 +4,7 @@ use Rattle.std.specs.List.{range_with_len}
 use Rattle.mk_base.specs.declared.SimKind.TheVariants.{TimeBased}
 use Rattle.mk_meta.specs.declared.meta.Meta.{Meta}
 use Rattle.mk_scenario.specs.declared.parts.Scenario.{Scenario}
-use Rattle.mk_links.specs.Handshake.{Request, setup_requests, call_to, setup_count}
+use Rattle.mk_run_laws.specs.Handshake.{Request, setup_requests, call_to, setup_count}
 use Rattle.mk_setup.specs.Seen.{SetupState}
 
 -- how many of the first k requests go to a simulator

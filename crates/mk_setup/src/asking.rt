@@ -2,7 +2,8 @@
 ghost use Rattle.std.specs.Prelude.{◌≡◌, ◌+◌, ◌<◌, ◌⊎◌, false, length, slice_get, IfOk, IfErr, OnOk, None, Some};
 ghost use Rattle.mk_setup.specs.Answers.{NextOf};
 ghost use Rattle.mk_setup.specs.Asking.{test_before};
-ghost use Rattle.mk_setup.specs.Kept.{IsHindered, IsKept, state_of};
+ghost use Rattle.mk_setup.specs.Kept.{state_of};
+ghost use Rattle.mk_setup.specs.inner.Kept.{IsHindered, IsKept};
 ghost use Rattle.mk_setup.specs.Requests.{request_of};
 
 use crate::answers::SetupNext;

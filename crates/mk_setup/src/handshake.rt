@@ -33,7 +33,8 @@ pub struct Setup {
 
 impl Model for Setup {
     ghost use Rattle.mk_setup.specs.Seen.{SetupState};
-    ghost use Rattle.mk_setup.specs.Kept.{IsKept, state_of};
+    ghost use Rattle.mk_setup.specs.Kept.{state_of};
+    ghost use Rattle.mk_setup.specs.inner.Kept.{IsKept};
     ghost use Rattle.mk_base.specs.contracts.json.Json as json;
     ghost use Rattle.std.specs.Coded.{codes};
 

@@ -1,9 +1,10 @@
 // The plan, once all groups are created.
 ghost use Rattle.std.specs.Prelude.{◌≡◌, ◌+◌, ◌≤◌, IfOk, IfErr, OnOk, None, length};
-ghost use Rattle.mk_conns.specs.Faults.{IsFaultOf};
+ghost use Rattle.mk_connect_pairs.specs.Faults.{IsFaultOf};
 ghost use Rattle.mk_setup.specs.Asking.{plan_of, refusal};
-ghost use Rattle.mk_setup.specs.Kept.{IsKept, state_of};
-ghost use Rattle.mk_setup.specs.Standing.{IsPlanOf};
+ghost use Rattle.mk_setup.specs.Kept.{state_of};
+ghost use Rattle.mk_setup.specs.inner.Kept.{IsKept};
+ghost use Rattle.mk_setup.specs.inner.Standing.{IsPlanOf};
 
 use crate::counts::first_ids;
 use crate::progress::Progress;

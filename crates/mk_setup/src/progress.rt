@@ -1,8 +1,8 @@
 // What a setup keeps, but for the fault that it has met.
 ghost use Rattle.std.specs.Prelude.{◌≡◌, ◌+◌, false, length};
 ghost use Rattle.mk_scenario.specs.Wellformed.{IsWellformed};
-ghost use Rattle.mk_setup.specs.Counts.{IsCounted, IsToSim};
-ghost use Rattle.mk_setup.specs.Stages.{IsStage};
+ghost use Rattle.mk_setup.specs.inner.Counts.{IsCounted, IsToSim};
+ghost use Rattle.mk_setup.specs.inner.Stages.{IsStage};
 
 use crate::counts::count_one;
 use crate::stage::{Stage, stage_of};

@@ -1,6 +1,6 @@
 // Which request comes next, by how many were answered.
 ghost use Rattle.std.specs.Prelude.{◌≤◌};
-ghost use Rattle.mk_setup.specs.Stages.{IsStage};
+ghost use Rattle.mk_setup.specs.inner.Stages.{IsStage};
 
 // `init` to this simulator, `create` for this group, `setup_done` to this simulator, or none.
 #[derive(Clone, Copy, Debug, PartialEq, Eq)]

@@ -2,9 +2,10 @@
 ghost use Rattle.std.specs.Prelude.{◌≡◌, ◌+◌, ◌<◌, ◌≤◌, true, length, IfErr, OnOk, None, Some, Ok, option_map, slice_get};
 ghost use Rattle.mk_meta.specs.Metadata.{meta_in};
 ghost use Rattle.mk_scenario.specs.declared.parts.Group.{Group};
-ghost use Rattle.mk_links.specs.Handshake.{Request};
-ghost use Rattle.mk_setup.specs.Counts.{IsToSim, sim_after};
-ghost use Rattle.mk_setup.specs.Kept.{IsAwaitedBy, IsGroupOf, IsKept, IsUntaken, added_by, awaited_sim, is_awaited, state_of};
+ghost use Rattle.mk_run_laws.specs.Handshake.{Request};
+ghost use Rattle.mk_setup.specs.inner.Counts.{IsToSim, sim_after};
+ghost use Rattle.mk_setup.specs.Kept.{state_of};
+ghost use Rattle.mk_setup.specs.inner.Kept.{IsAwaitedBy, IsGroupOf, IsKept, IsUntaken, added_by, awaited_sim, is_awaited};
 ghost use Rattle.mk_setup.specs.Replies.{after_reply, arrival, moved, with_entities, with_meta, with_reply};
 
 use crate::fault::SetupFault;

@@ -10,13 +10,13 @@ use Rattle.mk_plan.specs.declared.Want.{Want}
 use Rattle.mk_plan.specs.Asks.{Named, Set, Get, members_by, datum_in, texts_in}
 use Rattle.mk_async.specs.Asked.{named_by}
 use Rattle.mk_async.specs.Forms.{each_passes, is_destinations, is_texts}
-use Rattle.mk_async.specs.Given.{is_source, members_of}
-use Rattle.mk_async.specs.Known.{Members}
+use Rattle.mk_async.specs.inner.Given.{is_source, members_of}
+use Rattle.mk_async.specs.inner.Known.{Members}
 use Rattle.mk_async.proofs.Giving.{sources_pass, map_same, named_map, named_flat, object_list, datum_is}
 use Rattle.mk_async.proofs.Reading.{get_there, set_there, some_there, none_there}
 use Rattle.mk_async.proofs.Testing.{made, parts, read}
 use Rattle.mk_simapi.specs.Requests.{inputs_of, wants_of}
-use Rattle.mk_simapi.specs.Inputs.{input_at, inputs_at, inputs_to, inputs_among, inputs_by, items_of, text_or_empty, want_at, wants_at, wants_among, wants_by}
+use Rattle.mk_simapi.specs.inner.Inputs.{input_at, inputs_at, inputs_to, inputs_among, inputs_by, items_of, text_or_empty, want_at, wants_at, wants_among, wants_by}
 
 -- ---- the form is there exactly where the test passes
 

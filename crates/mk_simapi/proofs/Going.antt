@@ -6,7 +6,7 @@ use Rattle.mk_plan.specs.declared.Message.{Message}
 use Rattle.mk_frame.specs.Frames.{frames_of}
 use Rattle.mk_message.specs.Written.{message_text}
 use Rattle.mk_local.specs.Simulators.{Simulator}
-use Rattle.mk_links.proofs.Moving.{frames_more}
+use Rattle.mk_run_laws.proofs.Moving.{frames_more}
 use Rattle.mk_simapi.specs.Replies.{after_message, is_stop, payloads, replies, reply_to}
 use Rattle.mk_simapi.specs.Serving.{IsGoing}
 

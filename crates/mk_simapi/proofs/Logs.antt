@@ -8,9 +8,9 @@ use Rattle.mk_outside.specs.declared.fleet.LogEntry.TheVariants.{NotSaid, Rest}
 use Rattle.mk_outside.specs.Logs.{IsOf, is_write, last_write, said_on}
 use Rattle.mk_session.specs.Talks.{IsSaidOut}
 use Rattle.mk_local.specs.Simulators.{Simulator}
-use Rattle.mk_links.specs.Rests.{SaysAll}
-use Rattle.mk_links.proofs.Moving.{last_later}
-use Rattle.mk_links.proofs.Stepping.{first_or_second, not_empty}
+use Rattle.mk_run_laws.specs.Rests.{SaysAll}
+use Rattle.mk_run_laws.proofs.Moving.{last_later}
+use Rattle.mk_run_laws.proofs.Stepping.{first_or_second, not_empty}
 use Rattle.mk_simapi.specs.Serving.{IsWellAtRest, RestsWell}
 
 -- entries of one link have no rest

@@ -27,9 +27,9 @@ use Rattle.mk_local.specs.Metadata.{metadata}
 use Rattle.mk_local.specs.Calls.{call_reply, create_content, entity_tree, first_bad, is_create_param, is_init_param, message, unless_bad}
 use Rattle.mk_local.specs.Replies.{item_reply}
 use Rattle.mk_local.specs.Simulators.{Simulator}
-use Rattle.mk_within.specs.Calls.{IsFitSuccess}
-use Rattle.mk_within.specs.Standing.{IsFit}
-use Rattle.mk_within.proofs.Replying.{reply_fit}
+use Rattle.mk_run_local.specs.Calls.{IsFitSuccess}
+use Rattle.mk_run_local.specs.inner.Standing.{IsFit}
+use Rattle.mk_run_local.proofs.Replying.{reply_fit}
 use Rattle.mk_simapi.specs.Replies.{unknown}
 
 -- ---- what is heard

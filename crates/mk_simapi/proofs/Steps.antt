@@ -22,18 +22,18 @@ use Rattle.mk_session.specs.Talks.{IsSaidOut}
 use Rattle.mk_local.specs.declared.turn.Turn.{Turn}
 use Rattle.mk_local.specs.Kinds.{kind_named}
 use Rattle.mk_local.specs.Simulators.{Simulator, new_simulator}
-use Rattle.mk_links.specs.Hearing.{Takes, none, more, first_message, messages_heard, rest_heard}
-use Rattle.mk_links.specs.Rests.{SaysAll}
-use Rattle.mk_links.proofs.Moving.{frames_push, heard_more, last_later, said_more}
-use Rattle.mk_links.proofs.Taking.{garbled_none, long_none, none_first, none_heard, taken_heard, taken_rest, takes_more, takes_on, unfinished_none}
+use Rattle.mk_run_laws.specs.Hearing.{Takes, none, more, first_message, messages_heard, rest_heard}
+use Rattle.mk_run_laws.specs.Rests.{SaysAll}
+use Rattle.mk_run_laws.proofs.Moving.{frames_push, heard_more, last_later, said_more}
+use Rattle.mk_run_laws.proofs.Taking.{garbled_none, long_none, none_first, none_heard, taken_heard, taken_rest, takes_more, takes_on, unfinished_none}
 use Rattle.mk_simapi.specs.declared.served.Served.{Served}
 use Rattle.mk_simapi.specs.declared.served.Served.TheVariants as served
 use Rattle.mk_simapi.specs.declared.servant.Answer.{Answer}
 use Rattle.mk_simapi.specs.declared.servant.Answer.TheVariants as answer
-use Rattle.mk_simapi.specs.Answers.{AnswersAs}
+use Rattle.mk_simapi.specs.inner.Answers.{AnswersAs}
 use Rattle.mk_simapi.specs.Replies.{after_message, is_stop, payloads, reply_to}
 use Rattle.mk_simapi.specs.Serving.{AreShort, EndsBy, IsGoing, IsUnstopped, IsWellAtRest, RestsWell, Serves, heard_of}
-use Rattle.mk_simapi.specs.Standing.{GoesOn, IsAsked, IsServing, QueuesAs, RestsAs, SaysAs}
+use Rattle.mk_simapi.specs.inner.Standing.{GoesOn, IsAsked, IsServing, QueuesAs, RestsAs, SaysAs}
 use Rattle.mk_simapi.proofs.Going.{after_more, each_behind, frames_begin, payloads_more, payloads_same}
 use Rattle.mk_simapi.proofs.Logs.{no_rest, rests_more, rests_still, said_out_later, says_all}
 

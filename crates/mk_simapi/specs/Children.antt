@@ -4,7 +4,7 @@ use Rattle.mk_base.specs.declared.LinkNo.{LinkNo}
 use Rattle.mk_outside.specs.declared.fleet.LogEntry.{LogEntry}
 use Rattle.mk_outside.specs.Fleets.{without}
 use Rattle.mk_outside.specs.Logs.{Adds}
-use Rattle.mk_keys.specs.Spelling.{port_of}
+use Rattle.mk_scenario_keys.specs.Spelling.{port_of}
 use Rattle.mk_local.specs.declared.turn.Turn.{Turn}
 use Rattle.mk_local.specs.Kinds.{has_kind, kind_named}
 use Rattle.mk_local.specs.Simulators.{new_simulator}

@@ -10,8 +10,8 @@ use Rattle.mk_outside.specs.declared.fleet.LogEntry.TheVariants.{NotHeard, Ended
 use Rattle.mk_outside.specs.Logs.{heard_on, said_on, last_read}
 use Rattle.mk_session.specs.Fronts.{BeginsGarbled}
 use Rattle.mk_local.specs.Simulators.{Simulator}
-use Rattle.mk_links.specs.Hearing.{messages_heard, rest_heard}
-use Rattle.mk_links.specs.Rests.{SaysAll}
+use Rattle.mk_run_laws.specs.Hearing.{messages_heard, rest_heard}
+use Rattle.mk_run_laws.specs.Rests.{SaysAll}
 use Rattle.mk_simapi.specs.declared.served.Served.{Served}
 use Rattle.mk_simapi.specs.declared.served.Served.TheVariants as served
 use Rattle.mk_simapi.specs.Replies.{is_stop, reply_to, after_message, payloads}

@@ -3,9 +3,9 @@ ghost use Rattle.std.specs.Prelude.{◌≡◌, ◌++◌, ◌∷◌, [], true, If
 ghost use Rattle.mk_base.specs.Texts.{text_of};
 ghost use Rattle.mk_base.specs.Trees.{is_in_range};
 ghost use Rattle.mk_async.specs.Forms.{each_passes, is_object_of};
-ghost use Rattle.mk_async.specs.Given.{is_source, is_value, members_of};
+ghost use Rattle.mk_async.specs.inner.Given.{is_source, is_value, members_of};
 ghost use Rattle.mk_simapi.specs.Requests.{inputs_in, wants_in};
-ghost use Rattle.mk_simapi.specs.Inputs.{inputs_among, inputs_at, inputs_by, inputs_to, items_of, text_or_empty, wants_among, wants_at, wants_by};
+ghost use Rattle.mk_simapi.specs.inner.Inputs.{inputs_among, inputs_at, inputs_by, inputs_to, items_of, text_or_empty, wants_among, wants_at, wants_by};
 
 use mk_async::{are_sources, are_wants};
 use mk_base::{Datum, Json, List, Mem, Members, Text};

@@ -7,9 +7,9 @@ ghost use Rattle.mk_simapi.specs.Children.{HasEnded, asked, status_of};
 use crate::served::Served;
 use crate::serving::serve;
 use mk_base::Text;
-use mk_keys::port_of;
 use mk_local::Registry;
 use mk_outside::{Fleet, Start, Started};
+use mk_scenario_keys::port_of;
 use std::alloc::Global;
 use std::sync::Wait;
 

@@ -9,7 +9,7 @@ ghost use Rattle.mk_local.specs.Registries.{rows_in};
 ghost use Rattle.mk_local.specs.Calls.{after_call};
 ghost use Rattle.mk_local.specs.Replies.{IsItemReplied};
 ghost use Rattle.mk_local.specs.Simulators.{new_simulator};
-ghost use Rattle.mk_simapi.specs.Answers.{AnswersAs, CallsAs, IsItemPayload};
+ghost use Rattle.mk_simapi.specs.inner.Answers.{AnswersAs, CallsAs, IsItemPayload};
 ghost use Rattle.mk_simapi.specs.Replies.{after_asked, after_message, is_stop_call, unknown};
 
 use crate::requests::{call_in, item_in};
@@ -36,7 +36,7 @@ pub struct Servant {
 
 impl Model for Servant {
     ghost use Rattle.mk_local.specs.Simulators.{Simulator};
-    ghost use Rattle.mk_within.specs.Standing.{IsFit};
+    ghost use Rattle.mk_run_local.specs.inner.Standing.{IsFit};
 
     ghost Value = { Simulator };
 

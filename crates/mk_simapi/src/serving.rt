@@ -12,8 +12,8 @@ ghost use Rattle.mk_local.specs.Registries.{rows_in};
 ghost use Rattle.mk_local.specs.Simulators.{Simulator, new_simulator};
 ghost use Rattle.mk_session.specs.Answers.{Polls};
 ghost use Rattle.mk_simapi.specs.Serving.{Serves};
-ghost use Rattle.mk_simapi.specs.Steps.{end_of};
-ghost use Rattle.mk_simapi.specs.Standing.{GoesOn, IsAsked, IsServing, QueuesAs, RestsAs, SaysAs};
+ghost use Rattle.mk_simapi.specs.inner.Steps.{end_of};
+ghost use Rattle.mk_simapi.specs.inner.Standing.{GoesOn, IsAsked, IsServing, QueuesAs, RestsAs, SaysAs};
 
 use crate::servant::{Answer, Servant};
 use crate::served::Served;

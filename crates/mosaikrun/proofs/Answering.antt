@@ -3,22 +3,22 @@ use Rattle.std.proofs.Common.{◌≡◌, ℕ, Bool, ◌<◌, ◌≤◌, ◌⊎�
 use Rattle.std.specs.Prelude.{IfSome, is_some}
 use Rattle.mk_outside.specs.Counts.{HasRisen}
 use Rattle.mk_outside.specs.Folders.{Files, file_limit}
-use Rattle.mk_words.specs.declared.request.Request.{Request}
-use Rattle.mk_words.specs.declared.request.Request.TheVariants.{Run, Replay, Check, Demo, Migrate}
-use Rattle.mk_words.proofs.Requested.{requested}
+use Rattle.mosaikrun_words.specs.declared.request.Request.{Request}
+use Rattle.mosaikrun_words.specs.declared.request.Request.TheVariants.{Run, Replay, Check, Demo, Migrate}
+use Rattle.mosaikrun_words.proofs.Requested.{requested}
 use Rattle.mk_local.specs.declared.turn.Turn.{Turn}
 use Rattle.mk_local.specs.Kinds.{name_of}
-use Rattle.mk_endings.specs.declared.ending.Ending.{Ending}
-use Rattle.mk_endings.specs.declared.ending.Ending.TheVariants.{Usage, Missing, TooLong, Scenario, Cycle, Launch, Setup, Record, Wrong, Failed, LoopLimit, Link, Short, Differs, Fleet, Folder, Output, Entries, LongItem, Mem}
-use Rattle.mk_endings.specs.Endings.{outcome_status, status_of}
-use Rattle.mk_replayed.proofs.OneOutcome.{one_outcome}
-use Rattle.mk_checked.proofs.OneRanking.{one_status}
+use Rattle.mosaikrun_endings.specs.declared.ending.Ending.{Ending}
+use Rattle.mosaikrun_endings.specs.declared.ending.Ending.TheVariants.{Usage, Missing, TooLong, Scenario, Cycle, Launch, Setup, Record, Wrong, Failed, LoopLimit, Link, Short, Differs, Fleet, Folder, Output, Entries, LongItem, Mem}
+use Rattle.mosaikrun_endings.specs.Endings.{outcome_status, status_of}
+use Rattle.mosaikrun_records.proofs.OneOutcome.{one_outcome}
+use Rattle.mosaikrun_check.proofs.OneRanking.{one_status}
 use Rattle.mosaikrun.specs.declared.commands.TheConstants.{COMMANDS}
 use Rattle.mosaikrun.specs.Commands.{IsAsked, IsHeld, IsNoFile, IsOutcomeOf, IsUnasked, IsUnreadable, file_of}
 use Rattle.mosaikrun.specs.Around.{Around, FolderSeen, IsCutBy, OutputSeen}
 use Rattle.mosaikrun.specs.Running.{HasRunAs, IsFolderAfter, RunAnswer}
-use Rattle.mk_migrated.specs.Migrations.{IsMigration}
-use Rattle.mk_migrated.proofs.OneMigration.{one_migration}
+use Rattle.mosaikrun_records.specs.Migrations.{IsMigration}
+use Rattle.mosaikrun_records.proofs.OneMigration.{one_migration}
 use Rattle.mosaikrun.specs.Summing.{DemoAnswer, HasSummed}
 use Rattle.mosaikrun.specs.Migrating.{HasMigrated, MigrationAnswer}
 use Rattle.mosaikrun.specs.Program.{Ended, HasPerformed, IsRead, IsStatusOr, KeepsOthers, status}

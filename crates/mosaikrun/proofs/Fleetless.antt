@@ -4,9 +4,9 @@ use Rattle.mk_base.proofs.Lists.{some_same}
 use Rattle.mk_outside.specs.Folders.{Files}
 use Rattle.mk_scenario.specs.declared.parts.Scenario.{Scenario}
 use Rattle.mk_scenario.specs.Scenarios.{scenario_of}
-use Rattle.mk_begin.specs.Wholly.{is_wholly_within}
-use Rattle.mk_words.specs.declared.request.Request.{Request}
-use Rattle.mk_words.specs.declared.request.Request.TheVariants.{Run}
+use Rattle.mk_run_crew.specs.Wholly.{is_wholly_within}
+use Rattle.mosaikrun_words.specs.declared.request.Request.{Request}
+use Rattle.mosaikrun_words.specs.declared.request.Request.TheVariants.{Run}
 use Rattle.mosaikrun.specs.Commands.{IsAsked, IsHeld, file_of}
 use Rattle.mosaikrun.specs.Fleetless.{IsHeldWithin, IsWithin, NeedsNoFleet}
 use Rattle.mosaikrun.proofs.Answering.{one_request}

@@ -8,21 +8,21 @@ use Rattle.mk_sched.specs.declared.faults.CoreFault.{CoreFault}
 use Rattle.mk_sched.specs.declared.faults.CoreFault.TheVariants as core
 use Rattle.mk_setup.specs.declared.fault.SetupFault.{SetupFault}
 use Rattle.mk_setup.specs.declared.fault.SetupFault.TheVariants as fault
-use Rattle.mk_begin.specs.declared.halt.Halt.{Halt}
-use Rattle.mk_begin.specs.declared.halt.Halt.TheVariants as halt
+use Rattle.mk_run_crew.specs.declared.halt.Halt.{Halt}
+use Rattle.mk_run_crew.specs.declared.halt.Halt.TheVariants as halt
 use Rattle.mk_run.specs.declared.outcome.Outcome.{Outcome}
 use Rattle.mk_run.specs.declared.outcome.Outcome.TheVariants as outcome
-use Rattle.mk_endings.specs.declared.ending.Ending.{Ending}
-use Rattle.mk_endings.specs.declared.ending.Ending.TheVariants.{Usage, Mem}
-use Rattle.mk_endings.specs.Endings.{status_of}
-use Rattle.mk_sayings.specs.Sayings.{ids_of, setup_ending}
-use Rattle.mk_replayed.specs.Reports.{stop_of}
-use Rattle.mk_checked.specs.Checks.{IsUnchecked}
-use Rattle.mk_checked.specs.Runnable.{IsUnrunnable}
-use Rattle.mk_checked.proofs.OneRanking.{fault_status}
-use Rattle.mk_ran.specs.declared.sayings.Form.{Form}
-use Rattle.mk_ran.specs.Sayings.{halt_ending, saying_of}
-use Rattle.mk_ran.specs.Outcomes.{Outside, IsRunOutcome, IsSaid, IsScenarioOutcome}
+use Rattle.mosaikrun_endings.specs.declared.ending.Ending.{Ending}
+use Rattle.mosaikrun_endings.specs.declared.ending.Ending.TheVariants.{Usage, Mem}
+use Rattle.mosaikrun_endings.specs.Endings.{status_of}
+use Rattle.mosaikrun_endings.specs.Sayings.{ids_of, setup_ending}
+use Rattle.mosaikrun_endings.specs.Stops.{stop_of}
+use Rattle.mosaikrun_check.specs.Checks.{IsUnchecked}
+use Rattle.mosaikrun_check.specs.Runnable.{IsUnrunnable}
+use Rattle.mosaikrun_check.proofs.OneRanking.{fault_status}
+use Rattle.mosaikrun_run.specs.declared.sayings.Form.{Form}
+use Rattle.mosaikrun_run.specs.Sayings.{halt_ending, saying_of}
+use Rattle.mosaikrun_run.specs.Outcomes.{Outside, IsRunOutcome, IsSaid, IsScenarioOutcome}
 use Rattle.mosaikrun.specs.Around.{IsSaidAs}
 
 -- neither does a check

@@ -3,10 +3,10 @@ use Rattle.std.proofs.Common.{◌≡◌, ℕ, ◌≤◌, arith, ◌⊎◌, inl, 
 use Rattle.std.specs.Prelude.{is_some, IfOk, IfErr, OnOk, OnErr}
 use Rattle.mk_outside.specs.Counts.{HasRisen}
 use Rattle.mk_outside.specs.Sinks.{TookBeginning, appended}
-use Rattle.mk_words.specs.declared.request.Request.TheVariants.{Run}
-use Rattle.mk_endings.specs.declared.ending.Ending.{Ending}
-use Rattle.mk_endings.specs.declared.ending.Ending.TheVariants.{Output, Mem}
-use Rattle.mk_ran.specs.Outcomes.{IsRunOutcome}
+use Rattle.mosaikrun_words.specs.declared.request.Request.TheVariants.{Run}
+use Rattle.mosaikrun_endings.specs.declared.ending.Ending.{Ending}
+use Rattle.mosaikrun_endings.specs.declared.ending.Ending.TheVariants.{Output, Mem}
+use Rattle.mosaikrun_run.specs.Outcomes.{IsRunOutcome}
 use Rattle.mosaikrun.specs.Around.{Around}
 use Rattle.mosaikrun.specs.Commands.{IsAsked, IsHeld}
 use Rattle.mosaikrun.specs.Running.{HasRunAs, IsSaved, RunAnswer}

@@ -3,20 +3,20 @@ use Rattle.std.proofs.Common.{◌≡◌, ◌⊎◌, inl, inr, ℕ, Bool, true, L
 use Rattle.std.specs.Prelude.{IfSome, is_some}
 use Rattle.mk_outside.specs.Counts.{HasRisen}
 use Rattle.mk_outside.specs.Folders.{Files, with_file}
-use Rattle.mk_words.specs.declared.request.Request.{Request}
-use Rattle.mk_words.specs.declared.request.Request.TheVariants.{Run, Demo, Migrate}
+use Rattle.mosaikrun_words.specs.declared.request.Request.{Request}
+use Rattle.mosaikrun_words.specs.declared.request.Request.TheVariants.{Run, Demo, Migrate}
 use Rattle.mk_outside.specs.declared.fleet.LogEntry.{LogEntry}
 use Rattle.mk_record.specs.Texts.{record_text}
 use Rattle.mk_scenario.specs.declared.parts.Scenario.{Scenario}
 use Rattle.mk_scenario.specs.Scenarios.{scenario_of}
-use Rattle.mk_checked.specs.Checks.{IsUnread}
-use Rattle.mk_endings.specs.declared.ending.Ending.{Ending}
-use Rattle.mk_endings.specs.declared.ending.Ending.TheVariants as ends
-use Rattle.mk_endings.specs.Endings.{status_of}
-use Rattle.mk_ran.specs.declared.sayings.Form.TheVariants.{Report}
-use Rattle.mk_ran.specs.Outcomes.{HasScenario, IsNoScenario, IsRunOutcome}
-use Rattle.mk_ran.specs.Records.{HasRecord, IsRunFault, IsSettled, IsStepSaid}
-use Rattle.mk_ran.proofs.Recording.{nothing_said, records_there}
+use Rattle.mosaikrun_check.specs.Checks.{IsUnread}
+use Rattle.mosaikrun_endings.specs.declared.ending.Ending.{Ending}
+use Rattle.mosaikrun_endings.specs.declared.ending.Ending.TheVariants as ends
+use Rattle.mosaikrun_endings.specs.Endings.{status_of}
+use Rattle.mosaikrun_run.specs.declared.sayings.Form.TheVariants.{Report}
+use Rattle.mosaikrun_run.specs.Outcomes.{HasScenario, IsNoScenario, IsRunOutcome}
+use Rattle.mosaikrun_run.specs.Records.{HasRecord, IsRunFault, IsSettled, IsStepSaid}
+use Rattle.mosaikrun_run.proofs.Recording.{nothing_said, records_there}
 use Rattle.mosaikrun.specs.Around.{Around}
 use Rattle.mosaikrun.specs.Commands.{IsAsked, IsHeld, IsOutcomeOf, IsUnasked, IsUnreadable}
 use Rattle.mosaikrun.specs.Program.{Ended, HasPerformed, IsRead, status}

@@ -3,10 +3,10 @@ use Rattle.std.proofs.Common.{◌≡◌, ℕ, ◌≤◌, ◌⊎◌, inl, inr, Li
 use Rattle.std.specs.Prelude.{IfErr, OnOk, OnErr}
 use Rattle.mk_outside.specs.Counts.{HasRisen}
 use Rattle.mk_outside.specs.Sinks.{TookBeginning, appended}
-use Rattle.mk_words.specs.declared.request.Request.TheVariants.{Demo}
-use Rattle.mk_words.specs.Requests.{IsRequest, is_demo}
-use Rattle.mk_endings.specs.declared.ending.Ending.{Ending}
-use Rattle.mk_endings.specs.declared.ending.Ending.TheVariants.{Output, Mem}
+use Rattle.mosaikrun_words.specs.declared.request.Request.TheVariants.{Demo}
+use Rattle.mosaikrun_words.specs.Requests.{IsRequest, is_demo}
+use Rattle.mosaikrun_endings.specs.declared.ending.Ending.{Ending}
+use Rattle.mosaikrun_endings.specs.declared.ending.Ending.TheVariants.{Output, Mem}
 use Rattle.mosaikrun.specs.Around.{OutputSeen}
 use Rattle.mosaikrun.specs.Commands.{IsAsked}
 use Rattle.mosaikrun.specs.Summing.{DemoAnswer}

@@ -2,10 +2,9 @@
 use Rattle.std.specs.Prelude.{◌≡◌, ℕ, ◌⊎◌, List, [], Option}
 use Rattle.mk_outside.specs.Counts.{HasRisen}
 use Rattle.mk_outside.specs.Folders.{Files}
-use Rattle.mk_local.specs.declared.turn.Turn.{Turn}
-use Rattle.mk_endings.specs.declared.ending.Ending.{Ending}
-use Rattle.mk_endings.specs.declared.ending.Ending.TheVariants.{Output, Mem}
-use Rattle.mk_ran.specs.Outcomes.{Outside}
+use Rattle.mosaikrun_endings.specs.declared.ending.Ending.{Ending}
+use Rattle.mosaikrun_endings.specs.declared.ending.Ending.TheVariants.{Output, Mem}
+use Rattle.mosaikrun_run.specs.Outcomes.{Outside}
 
 -- a folder around a call: its files, and its count of faults, before and after
 pub record FolderSeen : Type 0 where
@@ -37,10 +36,6 @@ pub record Around : Type 0 where
   pub outside : Outside
   pub folder : FolderSeen
   pub output : OutputSeen
-
--- where nothing is done with the fleet: the kinds, how many links it had started, and its count of faults
-abbrev pub unused : List Turn → ℕ → ℕ → Outside
-unused kinds started faults = record { kinds = kinds; started = started; log = []; faults = faults; new_faults = faults }
 
 -- nothing was saved, and nothing done with the fleet
 pub record IsAside (S : Around) : Type 0 where

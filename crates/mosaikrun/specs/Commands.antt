@@ -1,15 +1,15 @@
 -- The commands of the program, and what each makes of the file that it names.
 use Rattle.std.specs.Prelude.{◌≡◌, ℕ, ◌<◌, ◌≤◌, ◌⊎◌, ⊤, length, map, List, [], Option, Some, None, IfSome, Result}
 use Rattle.mk_outside.specs.Folders.{Files, file_limit}
-use Rattle.mk_words.specs.declared.request.Request.{Request}
-use Rattle.mk_words.specs.declared.request.Request.TheVariants.{Run, Replay, Check, Demo, Migrate}
-use Rattle.mk_words.specs.Requests.{IsRequestAmong}
+use Rattle.mosaikrun_words.specs.declared.request.Request.{Request}
+use Rattle.mosaikrun_words.specs.declared.request.Request.TheVariants.{Run, Replay, Check, Demo, Migrate}
+use Rattle.mosaikrun_words.specs.Requests.{IsRequestAmong}
 use Rattle.mk_local.specs.declared.turn.Turn.{Turn}
 use Rattle.mk_local.specs.Kinds.{name_of}
-use Rattle.mk_endings.specs.declared.ending.Ending.{Ending}
-use Rattle.mk_endings.specs.declared.ending.Ending.TheVariants as ends
-use Rattle.mk_replayed.specs.Reports as reports
-use Rattle.mk_checked.specs.Checks as checks
+use Rattle.mosaikrun_endings.specs.declared.ending.Ending.{Ending}
+use Rattle.mosaikrun_endings.specs.declared.ending.Ending.TheVariants as ends
+use Rattle.mosaikrun_records.specs.Reports as reports
+use Rattle.mosaikrun_check.specs.Checks as checks
 use Rattle.mosaikrun.specs.declared.commands.TheConstants.{COMMANDS}
 
 -- the words ask for this, by a command that the program has

@@ -3,8 +3,8 @@ use Rattle.std.specs.Prelude.{◌≡◌, ◌⊎◌, ℕ, true, List, Option, Som
 use Rattle.mk_outside.specs.Folders.{Files}
 use Rattle.mk_scenario.specs.declared.parts.Scenario.{Scenario}
 use Rattle.mk_scenario.specs.Scenarios.{scenario_of}
-use Rattle.mk_words.specs.declared.request.Request.TheVariants.{Run}
-use Rattle.mk_begin.specs.Wholly.{is_wholly_within}
+use Rattle.mosaikrun_words.specs.declared.request.Request.TheVariants.{Run}
+use Rattle.mk_run_crew.specs.Wholly.{is_wholly_within}
 use Rattle.mosaikrun.specs.Commands.{IsAsked}
 
 -- the words ask for no run

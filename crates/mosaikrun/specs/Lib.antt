@@ -6,3 +6,4 @@ pub mod Program
 pub mod Recording
 pub mod Running
 pub mod Summing
+pub mod inner

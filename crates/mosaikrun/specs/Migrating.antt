@@ -2,10 +2,10 @@
 use Rattle.std.specs.Prelude.{◌≡◌, ℕ, ◌⊎◌, List, [], option_map, Result, Ok, Err}
 use Rattle.mk_outside.specs.Counts.{HasRisen}
 use Rattle.mk_outside.specs.Folders.{with_file}
-use Rattle.mk_words.specs.declared.request.Request.TheVariants.{Migrate}
-use Rattle.mk_endings.specs.declared.ending.Ending.{Ending}
-use Rattle.mk_endings.specs.declared.ending.Ending.TheVariants.{Folder, Mem}
-use Rattle.mk_migrated.specs.Migrations.{IsMigration}
+use Rattle.mosaikrun_words.specs.declared.request.Request.TheVariants.{Migrate}
+use Rattle.mosaikrun_endings.specs.declared.ending.Ending.{Ending}
+use Rattle.mosaikrun_endings.specs.declared.ending.Ending.TheVariants.{Folder, Mem}
+use Rattle.mosaikrun_records.specs.Migrations.{IsMigration}
 use Rattle.mosaikrun.specs.Commands.{IsAsked, IsHeld}
 use Rattle.mosaikrun.specs.Around.{Around, FolderSeen, IsSaidAs}
 

@@ -3,10 +3,10 @@ use Rattle.std.specs.Prelude.{◌≡◌, ℕ, ◌⊎◌, List, Option, Some, opt
 use Rattle.mk_outside.specs.Counts.{HasRisen}
 use Rattle.mk_outside.specs.Folders.{Files, with_file}
 use Rattle.mk_outside.specs.Sinks.{TookBeginning, appended}
-use Rattle.mk_words.specs.declared.request.Request.{Request}
-use Rattle.mk_words.specs.declared.request.Request.TheVariants.{Run, Migrate}
-use Rattle.mk_endings.specs.declared.ending.Ending.{Ending}
-use Rattle.mk_endings.specs.Endings.{line_of, status_of}
+use Rattle.mosaikrun_words.specs.declared.request.Request.{Request}
+use Rattle.mosaikrun_words.specs.declared.request.Request.TheVariants.{Run, Migrate}
+use Rattle.mosaikrun_endings.specs.declared.ending.Ending.{Ending}
+use Rattle.mosaikrun_endings.specs.Endings.{line_of, status_of}
 use Rattle.mosaikrun.specs.Around.{Around, IsAside, IsCutBy, IsUntouched}
 use Rattle.mosaikrun.specs.Commands.{IsAsked, IsHeld, IsOutcomeOf, IsUnasked, IsUnreadable, file_of}
 use Rattle.mosaikrun.specs.Migrating.{HasMigrated}

@@ -2,11 +2,11 @@
 use Rattle.std.specs.Prelude.{◌≡◌, ◌⊎◌, ℕ, List, Some, option_map, IfSome, Result, Ok}
 use Rattle.mk_outside.specs.Counts.{HasRisen}
 use Rattle.mk_outside.specs.Folders.{with_file}
-use Rattle.mk_words.specs.declared.request.Request.TheVariants.{Run}
+use Rattle.mosaikrun_words.specs.declared.request.Request.TheVariants.{Run}
 use Rattle.mk_scenario.specs.declared.parts.Scenario.{Scenario}
 use Rattle.mk_scenario.specs.Scenarios.{scenario_of}
-use Rattle.mk_endings.specs.declared.ending.Ending.{Ending}
-use Rattle.mk_ran.specs.Records.{HasRecord, IsSettled, IsStepSaid}
+use Rattle.mosaikrun_endings.specs.declared.ending.Ending.{Ending}
+use Rattle.mosaikrun_run.specs.Records.{HasRecord, IsSettled, IsStepSaid}
 use Rattle.mosaikrun.specs.Around.{Around}
 use Rattle.mosaikrun.specs.Commands.{IsAsked}
 

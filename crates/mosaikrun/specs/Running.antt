@@ -3,10 +3,10 @@ use Rattle.std.specs.Prelude.{◌≡◌, ℕ, ◌⊎◌, List, Option, Some, Non
 use Rattle.mk_outside.specs.Counts.{HasRisen}
 use Rattle.mk_outside.specs.Folders.{Files, with_file}
 use Rattle.mk_outside.specs.Sinks.{TookBeginning, appended}
-use Rattle.mk_words.specs.declared.request.Request.TheVariants.{Run}
-use Rattle.mk_endings.specs.declared.ending.Ending.{Ending}
-use Rattle.mk_endings.specs.declared.ending.Ending.TheVariants.{Folder, Mem}
-use Rattle.mk_ran.specs.Outcomes.{IsRunOutcome}
+use Rattle.mosaikrun_words.specs.declared.request.Request.TheVariants.{Run}
+use Rattle.mosaikrun_endings.specs.declared.ending.Ending.{Ending}
+use Rattle.mosaikrun_endings.specs.declared.ending.Ending.TheVariants.{Folder, Mem}
+use Rattle.mosaikrun_run.specs.Outcomes.{IsRunOutcome}
 use Rattle.mosaikrun.specs.Commands.{IsAsked, IsHeld}
 use Rattle.mosaikrun.specs.Around.{Around, IsCutBy, IsSaidAs}
 

@@ -1,9 +1,9 @@
 -- What the program has done where its words ask for the demo, by its answer.
 use Rattle.std.specs.Prelude.{◌≡◌, ℕ, List, Result, Ok, Err}
 use Rattle.mk_outside.specs.Sinks.{TookBeginning, appended}
-use Rattle.mk_words.specs.declared.request.Request.TheVariants.{Demo}
-use Rattle.mk_endings.specs.declared.ending.Ending.{Ending}
-use Rattle.mk_summed.specs.Outcomes.{IsDemoOutcome}
+use Rattle.mosaikrun_words.specs.declared.request.Request.TheVariants.{Demo}
+use Rattle.mosaikrun_endings.specs.declared.ending.Ending.{Ending}
+use Rattle.mosaikrun_demo.specs.Outcomes.{IsDemoOutcome}
 use Rattle.mosaikrun.specs.Commands.{IsAsked}
 use Rattle.mosaikrun.specs.Around.{Around, IsCutBy, IsSaidAs, OutputSeen}
 

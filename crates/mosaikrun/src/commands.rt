@@ -2,16 +2,16 @@
 ghost use Rattle.std.specs.Prelude.{◌≡◌, Some, Ok, Err, IfOk, IfErr, map};
 ghost use Rattle.std.specs.String.{string_bytes};
 ghost use Rattle.mk_base.specs.Lists.{IsIn};
-ghost use Rattle.mk_words.specs.Requests.{command_of};
+ghost use Rattle.mosaikrun_words.specs.Requests.{command_of};
 ghost use Rattle.mk_local.specs.Registries.{rows_in};
 ghost use Rattle.mosaikrun.specs.Commands.{IsAsked, IsOutcomeOf, IsUnasked, file_of};
 
 use mk_base::Text;
-use mk_checked::checked;
-use mk_endings::Ending;
 use mk_local::Registry;
-use mk_replayed::reported;
-use mk_words::{Command, Request, read_words};
+use mosaikrun_check::checked;
+use mosaikrun_endings::Ending;
+use mosaikrun_records::reported;
+use mosaikrun_words::{Command, Request, read_words};
 use std::alloc::Global;
 
 // The commands that the program has.

@@ -1,8 +1,8 @@
 use Rattle.std.proofs.Common.{◌++◌, ap, ◌∙◌, subst, sym}
 use Rattle.std.specs.Prelude.{Some}
 use Rattle.mk_plan.specs.Inputs.{value_at}
-use Rattle.mk_async.specs.Content.{AreContents, wants_text}
-use Rattle.mk_async.specs.Known.{knows_wants}
+use Rattle.mk_async.specs.inner.Content.{AreContents, wants_text}
+use Rattle.mk_async.specs.inner.Known.{knows_wants}
 use Rattle.mk_async.specs.declared.request.Asked.TheVariants as as_asked
 use Rattle.mk_async.proofs.Depths.{datum_written, supply_finds}
 use Rattle.mk_async.proofs.Judging.{known_asked, known_there}

@@ -1,4 +1,4 @@
-use Rattle.mk_async.specs.Content.{IsNamed, member_text}
+use Rattle.mk_async.specs.inner.Content.{IsNamed, member_text}
 use Rattle.mk_async.proofs.Writing.{commas_more, each_more}
 use Rattle.mk_async.proofs.data.put_more_values.Goals as goal
 

@@ -1,5 +1,5 @@
 use Rattle.std.proofs.Common.{◌≡◌, ◌++◌, codes, flat_map, take}
-use Rattle.mk_async.specs.Content.{AreNamed, member_text}
+use Rattle.mk_async.specs.inner.Content.{AreNamed, member_text}
 use Rattle.mk_async.proofs.data.put_more_values.Given as goal
 
 abbrev pub invariant-loop-value : goal.invariant-loop-value

@@ -1,5 +1,5 @@
 use Rattle.mk_plan.specs.Inputs.{value_at}
-use Rattle.mk_async.specs.Content.{IsContent, values_of, want_text}
+use Rattle.mk_async.specs.inner.Content.{IsContent, values_of, want_text}
 use Rattle.mk_async.proofs.Writing.{commas_more, each_more}
 use Rattle.mk_async.proofs.data.put_more_wants.Goals as goal
 

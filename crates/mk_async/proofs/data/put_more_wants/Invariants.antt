@@ -2,7 +2,7 @@ use Rattle.std.proofs.Common.{◌≡◌, ◌++◌, codes, flat_map, take}
 use Rattle.mk_plan.specs.Deliveries.{Supply}
 use Rattle.mk_plan.specs.Inputs.{value_at}
 use Rattle.mk_buffers.specs.Standing.{Stands}
-use Rattle.mk_async.specs.Content.{AreContents, want_text}
+use Rattle.mk_async.specs.inner.Content.{AreContents, want_text}
 use Rattle.mk_async.proofs.data.put_more_wants.Given as goal
 
 abbrev pub invariant-loop-want : goal.invariant-loop-want

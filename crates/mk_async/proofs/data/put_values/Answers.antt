@@ -1,5 +1,5 @@
 use Rattle.std.proofs.Common.{ℕ, List, ◌-◌, length, take, drop, arith, subst, sym}
-use Rattle.mk_async.specs.Content.{AreNamed, Texts}
+use Rattle.mk_async.specs.inner.Content.{AreNamed, Texts}
 use Rattle.mk_async.proofs.Writing.{object_written, split_first}
 use Rattle.mk_async.proofs.data.put_values.Goals as goal
 

@@ -1,8 +1,8 @@
 use Rattle.std.proofs.Common.{ℕ, List, ◌-◌, length, take, drop, arith, subst, sym}
 use Rattle.mk_base.specs.declared.json.Json.{Json}
 use Rattle.mk_plan.specs.Inputs.{value_at}
-use Rattle.mk_async.specs.Content.{AreContents}
-use Rattle.mk_async.specs.Known.{Members}
+use Rattle.mk_async.specs.inner.Content.{AreContents}
+use Rattle.mk_async.specs.inner.Known.{Members}
 use Rattle.mk_async.proofs.Writing.{split_first, wants_written}
 use Rattle.mk_async.proofs.data.put_wants.Goals as goal
 

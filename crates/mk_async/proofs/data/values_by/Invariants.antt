@@ -2,7 +2,7 @@ use Rattle.std.proofs.Common.{◌≡◌, take}
 use Rattle.mk_plan.specs.Deliveries.{Supply}
 use Rattle.mk_plan.specs.Inputs.{value_at}
 use Rattle.mk_buffers.specs.Standing.{Stands}
-use Rattle.mk_async.specs.Content.{values_by}
+use Rattle.mk_async.specs.inner.Content.{values_by}
 use Rattle.mk_async.proofs.data.values_by.Given as goal
 
 abbrev pub invariant-loop-attr : goal.invariant-loop-attr

@@ -1,5 +1,5 @@
 use Rattle.std.proofs.Common.{refl, ◌∙◌, sym}
-use Rattle.mk_async.specs.Forms.{set_of}
+use Rattle.mk_async.specs.inner.Forms.{set_of}
 use Rattle.mk_async.proofs.Reading.{set_there, none_there, some_there}
 use Rattle.mk_async.proofs.forms.set_of.Goals as goal
 

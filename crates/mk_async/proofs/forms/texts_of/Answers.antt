@@ -1,5 +1,5 @@
 use Rattle.std.proofs.Common.{refl, ◌∙◌, sym}
-use Rattle.mk_async.specs.Forms.{texts_of}
+use Rattle.mk_async.specs.inner.Forms.{texts_of}
 use Rattle.mk_async.proofs.Reading.{texts_there, none_there, some_there}
 use Rattle.mk_async.proofs.forms.texts_of.Goals as goal
 

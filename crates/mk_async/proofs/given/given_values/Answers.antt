@@ -1,9 +1,9 @@
 use Rattle.std.proofs.Common.{IsSome, option_map, ◌++◌, sym, ap, subst, ◌∙◌}
 use Rattle.mk_plan.specs.Asks.{sets_in}
 use Rattle.mk_async.specs.Asked.{asked_in, is_asked_in_range}
-use Rattle.mk_async.specs.Given.{values_in}
+use Rattle.mk_async.specs.inner.Given.{values_in}
 use Rattle.mk_async.specs.declared.request.Asked.{Asked}
-use Rattle.mk_async.specs.Known.{knows_asked}
+use Rattle.mk_async.specs.inner.Known.{knows_asked}
 use Rattle.mk_async.proofs.Giving.{gathered, sources_pass}
 use Rattle.mk_async.proofs.Judging.{known_asked}
 use Rattle.mk_async.proofs.Sourcing.{values_given}

@@ -1,5 +1,5 @@
 use Rattle.std.proofs.Common.{◌≡◌, ◌++◌, take}
-use Rattle.mk_async.specs.Given.{values_from}
+use Rattle.mk_async.specs.inner.Given.{values_from}
 use Rattle.mk_async.proofs.given.put_destinations.Given as goal
 
 abbrev pub invariant-loop-member : goal.invariant-loop-member

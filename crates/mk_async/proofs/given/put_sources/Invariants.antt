@@ -1,5 +1,5 @@
 use Rattle.std.proofs.Common.{◌≡◌, ◌++◌, take}
-use Rattle.mk_async.specs.Given.{values_in}
+use Rattle.mk_async.specs.inner.Given.{values_in}
 use Rattle.mk_async.proofs.given.put_sources.Given as goal
 
 abbrev pub invariant-loop-source : goal.invariant-loop-source

@@ -1,5 +1,5 @@
 use Rattle.std.proofs.Common.{◌≡◌, ◌++◌, take}
-use Rattle.mk_async.specs.Given.{values_to}
+use Rattle.mk_async.specs.inner.Given.{values_to}
 use Rattle.mk_async.proofs.given.put_values.Given as goal
 
 abbrev pub invariant-loop-member : goal.invariant-loop-member

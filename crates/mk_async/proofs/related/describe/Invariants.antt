@@ -1,5 +1,5 @@
 use Rattle.std.proofs.Common.{◌≡◌, take}
-use Rattle.mk_async.specs.Related.{described}
+use Rattle.mk_async.specs.inner.Related.{described}
 use Rattle.mk_async.proofs.related.describe.Given as goal
 
 abbrev pub invariant-loop-entity : goal.invariant-loop-entity

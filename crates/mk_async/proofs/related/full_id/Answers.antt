@@ -1,6 +1,6 @@
 use Rattle.std.proofs.Common.{length, arith}
 use Rattle.mk_plan.specs.Plans.{full_id}
-use Rattle.mk_names.proofs.Indexing.{ids_count}
+use Rattle.mk_plan_names.proofs.Indexing.{ids_count}
 use Rattle.mk_async.proofs.related.full_id.Goals as goal
 
 pub full_id-requires : goal.full_id-requires

@@ -1,5 +1,5 @@
 use Rattle.std.proofs.Common.{◌≡◌, take}
-use Rattle.mk_async.specs.Related.{each_read}
+use Rattle.mk_async.specs.inner.Related.{each_read}
 use Rattle.mk_async.proofs.related.members_of_each.Given as goal
 
 abbrev pub invariant-loop-id : goal.invariant-loop-id

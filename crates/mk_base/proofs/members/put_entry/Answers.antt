@@ -1,6 +1,6 @@
 use Rattle.std.proofs.Common.{◌≡◌, ◌≤◌, ap, sym, ◌∙◌, subst, length}
 use Rattle.std.proofs.lemmas.Result.{on_ok_weaker}
-use Rattle.mk_base.specs.Lists.{place_under, is_name_at}
+use Rattle.mk_base.specs.inner.Lists.{place_under, is_name_at}
 use Rattle.mk_base.proofs.Putting.{place_within, put_by_set, put_by_insert}
 use Rattle.mk_base.proofs.members.put_entry.Goals as goal
 

@@ -1,7 +1,7 @@
 use Rattle.std.proofs.Common.{◌≡◌, true}
 use Rattle.mk_base.specs.declared.tier.Tier.{Tier}
 use Rattle.mk_base.specs.Tiers.{IsUpTo}
-use Rattle.mk_buffers.specs.Logs.{is_past}
+use Rattle.mk_buffers.specs.inner.Logs.{is_past}
 use Rattle.mk_buffers.proofs.delays.arrived.Given as goal
 
 abbrev pub invariant-loop-via : goal.invariant-loop-via

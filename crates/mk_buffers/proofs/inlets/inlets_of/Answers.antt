@@ -1,5 +1,5 @@
 use Rattle.std.proofs.Common.{sym, subst}
-use Rattle.mk_buffers.specs.Listing.{AreTargets}
+use Rattle.mk_buffers.specs.inner.Listing.{AreTargets}
 use Rattle.mk_buffers.proofs.Listing.{comes_next, listed_more, listed_whole}
 use Rattle.mk_buffers.proofs.Vias.{target_width}
 use Rattle.mk_buffers.proofs.inlets.inlets_of.Goals as goal

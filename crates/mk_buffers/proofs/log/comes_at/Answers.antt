@@ -1,6 +1,6 @@
 use Rattle.std.proofs.Common.{ap, ◌∙◌}
 use Rattle.mk_plan.specs.Deliveries.{Timed}
-use Rattle.mk_buffers.specs.Logs.{does_come}
+use Rattle.mk_buffers.specs.inner.Logs.{does_come}
 use Rattle.mk_buffers.proofs.Ascending.{get_or_any}
 use Rattle.mk_buffers.proofs.log.comes_at.Goals as goal
 

@@ -1,5 +1,5 @@
 use Rattle.std.proofs.Common.{◌≡◌, inl, inr, ℕ, false, get_or, sym, subst}
-use Rattle.mk_buffers.specs.Logs.{is_outdone}
+use Rattle.mk_buffers.specs.inner.Logs.{is_outdone}
 use Rattle.mk_buffers.proofs.Marking.{below_or_same}
 use Rattle.mk_buffers.proofs.log.is_newest.Goals as goal
 

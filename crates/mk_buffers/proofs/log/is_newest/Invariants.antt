@@ -1,6 +1,6 @@
 use Rattle.std.proofs.Common.{◌≡◌, ◌<◌, ℕ, false, get_or}
 use Rattle.mk_plan.specs.Deliveries.{Timed}
-use Rattle.mk_buffers.specs.Logs.{is_outdone}
+use Rattle.mk_buffers.specs.inner.Logs.{is_outdone}
 use Rattle.mk_buffers.proofs.log.is_newest.Given as goal
 
 abbrev pub invariant-loop-other : goal.invariant-loop-other

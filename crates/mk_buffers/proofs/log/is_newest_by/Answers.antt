@@ -4,7 +4,7 @@ use mir.Syntax.{w64}
 use mir.Val.{to_z, of_z}
 use Rattle.mk_base.specs.declared.tier.Via.{Via}
 use Rattle.mk_base.proofs.Lists.{at_in, in_at, get_is}
-use Rattle.mk_buffers.specs.Logs.{IsNewestAt, IsOutdoneAt}
+use Rattle.mk_buffers.specs.inner.Logs.{IsNewestAt, IsOutdoneAt}
 use Rattle.mk_buffers.proofs.Marking.{below_or_same, get_some}
 use Rattle.mk_buffers.proofs.Rising.{get_any}
 use Rattle.mk_buffers.proofs.log.is_newest_by.Goals as goal

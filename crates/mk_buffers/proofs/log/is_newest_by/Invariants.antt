@@ -1,6 +1,6 @@
 use Rattle.std.proofs.Common.{◌<◌, ℕ, Some, get_or}
 use Rattle.mk_base.specs.declared.tier.Via.{Via}
-use Rattle.mk_buffers.specs.Logs.{IsOutdoneAt}
+use Rattle.mk_buffers.specs.inner.Logs.{IsOutdoneAt}
 use Rattle.mk_buffers.proofs.log.is_newest_by.Given as goal
 
 abbrev pub invariant-loop-via : goal.invariant-loop-via

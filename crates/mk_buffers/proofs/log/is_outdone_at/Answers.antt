@@ -1,7 +1,7 @@
 use Rattle.std.proofs.Common.{◌≡◌, ap, ◌∙◌, get_or}
 use Rattle.mk_base.specs.declared.tier.Tier.{Tier}
 use Rattle.mk_plan.specs.Deliveries.{Timed}
-use Rattle.mk_buffers.specs.Logs.{is_outdone}
+use Rattle.mk_buffers.specs.inner.Logs.{is_outdone}
 use Rattle.mk_buffers.proofs.Ascending.{get_or_any}
 use Rattle.mk_buffers.proofs.log.is_outdone_at.Goals as goal
 

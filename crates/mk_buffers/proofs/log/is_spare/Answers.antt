@@ -1,6 +1,6 @@
 use Rattle.std.proofs.Common.{None, sym, subst, ◌∙◌}
 use Rattle.mk_base.specs.declared.tier.Via.{Via}
-use Rattle.mk_buffers.specs.Logs.{IsOutdoneAt}
+use Rattle.mk_buffers.specs.inner.Logs.{IsOutdoneAt}
 use Rattle.mk_buffers.proofs.Sparing.{not_true}
 use Rattle.mk_buffers.proofs.log.is_spare.Goals as goal
 

@@ -5,7 +5,7 @@ use mir.Syntax.{w64}
 use mir.Val.{to_z, of_z}
 use Rattle.mk_base.specs.declared.tier.Tier.{Tier}
 use Rattle.mk_base.specs.Tiers.{delayed}
-use Rattle.mk_buffers.specs.Logs.{is_past}
+use Rattle.mk_buffers.specs.inner.Logs.{is_past}
 use Rattle.mk_buffers.proofs.Settling.{stays_all, stays_first}
 use Rattle.mk_buffers.proofs.log.next_rising.Goals as goal
 

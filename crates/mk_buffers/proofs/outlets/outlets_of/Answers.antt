@@ -1,6 +1,6 @@
 use Rattle.std.proofs.Common.{arith, refl, sym, subst, ap, ◌∙◌, length, slice_get}
 use Rattle.std.specs.List.Sorted.{IsNonDecreasingBy}
-use Rattle.mk_buffers.specs.Building.{AreSources, AreParts}
+use Rattle.mk_buffers.specs.inner.Building.{AreSources, AreParts}
 use Rattle.mk_buffers.proofs.Collecting.{next_of, outlets_more, outlets_whole, outlets_none, beside, replicated, sims_rise}
 use Rattle.mk_buffers.proofs.Vias.{source_width}
 use Rattle.mk_buffers.proofs.outlets.outlets_of.Goals as goal

@@ -1,6 +1,6 @@
 use Rattle.std.proofs.Common.{rules}
 use Rattle.std.proofs.lemmas.Fn.{always_returns_same}
-use Rattle.mk_buffers.specs.Slots.{slot_order}
+use Rattle.mk_buffers.specs.inner.Slots.{slot_order}
 use Rattle.mk_buffers.proofs.sets.place_of.Goals as goal
 
 pub returns-clause-found : goal.returns-clause-found

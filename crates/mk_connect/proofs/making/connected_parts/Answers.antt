@@ -1,5 +1,5 @@
 use Rattle.std.proofs.Common.{◌∙◌, ap, length}
-use Rattle.mk_conns.proofs.Usable.{usable}
+use Rattle.mk_connect_pairs.proofs.Usable.{usable}
 use Rattle.mk_connect.proofs.making.connected_parts.Goals as goal
 
 pub related_entities-requires : goal.related_entities-requires

@@ -1,10 +1,10 @@
 use Rattle.std.proofs.Common.{ap, arith, sym, ◌+◌, length, ◌∙◌, ◌≡◌, ◌<◌, ℕ, [], unwrap_or}
 use Rattle.std.specs.Prelude.{option_and_then, slice_get}
 use Rattle.mk_base.proofs.Lists.{get_is}
-use Rattle.mk_conns.specs.Models.{model_number}
+use Rattle.mk_connect_pairs.specs.Models.{model_number}
 use Rattle.mk_connect.specs.Related.{pairs_of, related}
 use Rattle.mk_connect.proofs.ByPlaces.{range_get}
-use Rattle.mk_conns.proofs.Modelled.{number_there}
+use Rattle.mk_connect_pairs.proofs.Modelled.{number_there}
 use Rattle.mk_connect.proofs.parts.plan_entity.Goals as goal
 
 pub returns : goal.returns

@@ -1,6 +1,6 @@
 use Rattle.std.proofs.Common.{◌≡◌, take}
 use Rattle.std.specs.Prelude.{fold}
-use Rattle.mk_connect.specs.Joining.{joined}
+use Rattle.mk_connect.specs.inner.Joining.{joined}
 use Rattle.mk_connect.proofs.relations.join_all.Given as goal
 
 abbrev pub invariant-loop-pair : goal.invariant-loop-pair

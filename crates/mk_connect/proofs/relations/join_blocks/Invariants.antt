@@ -1,7 +1,7 @@
 use Rattle.std.proofs.Common.{◌≡◌, take}
 use Rattle.std.specs.Prelude.{flat_map, fold}
-use Rattle.mk_conns.specs.Connections.{block_pairs}
-use Rattle.mk_connect.specs.Joining.{joined}
+use Rattle.mk_connect_pairs.specs.Connections.{block_pairs}
+use Rattle.mk_connect.specs.inner.Joining.{joined}
 use Rattle.mk_connect.proofs.relations.join_blocks.Given as goal
 
 abbrev pub invariant-loop-block : goal.invariant-loop-block

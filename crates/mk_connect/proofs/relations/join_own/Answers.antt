@@ -1,6 +1,6 @@
 use Rattle.std.proofs.Common.{ap, sym, map, ◌∙◌}
 use Rattle.std.specs.Prelude.{fold}
-use Rattle.mk_connect.specs.Joining.{joined}
+use Rattle.mk_connect.specs.inner.Joining.{joined}
 use Rattle.mk_connect.proofs.Joins.{own_more}
 use Rattle.mk_connect.proofs.relations.join_own.Goals as goal
 

@@ -1,6 +1,6 @@
 use Rattle.std.proofs.Common.{◌≡◌, take}
 use Rattle.std.specs.Prelude.{fold}
-use Rattle.mk_connect.specs.Joining.{joined}
+use Rattle.mk_connect.specs.inner.Joining.{joined}
 use Rattle.mk_connect.specs.Related.{own_pairs}
 use Rattle.mk_connect.proofs.relations.join_own.Given as goal
 

@@ -1,7 +1,7 @@
 use Rattle.std.proofs.Common.{ap, [], length, map, ◌∙◌}
 use Rattle.std.specs.Prelude.{fold}
 use Rattle.std.specs.List.{range_with_len}
-use Rattle.mk_connect.specs.Joining.{joined}
+use Rattle.mk_connect.specs.inner.Joining.{joined}
 use Rattle.mk_connect.specs.Related.{own_pairs, related}
 use Rattle.mk_connect.proofs.Joins.{all_related}
 use Rattle.mk_connect.proofs.relations.related_of.Goals as goal

@@ -1,6 +1,6 @@
 use Rattle.std.proofs.Common.{◌≡◌, ◌-◌, Some, slice_get, length, take, drop, ℕ, List, ap, ◌∙◌, subst}
 use Rattle.std.proofs.lemmas.List.{take_rest}
-use Rattle.mk_cycles.specs.Tables.{leads}
+use Rattle.mk_cycles.specs.inner.Tables.{leads}
 use Rattle.mk_cycles.proofs.Loops.{looped, walk_small}
 use Rattle.mk_cycles.proofs.back.cycle.Goals as goal
 

@@ -1,6 +1,6 @@
 use Rattle.std.proofs.Common.{ℕ, arith}
 use Rattle.mk_cycles.specs.Cycles.{IsBack, IsReached, at_least, further}
-use Rattle.mk_cycles.specs.Tables.{leads}
+use Rattle.mk_cycles.specs.inner.Tables.{leads}
 use Rattle.mk_cycles.proofs.Chains.{chain_push, each_push}
 use Rattle.mk_cycles.proofs.Loops.{reached_left}
 use Rattle.mk_cycles.proofs.back.trail.Goals as goal

@@ -2,7 +2,7 @@ use Rattle.std.proofs.Common.{◌≡◌, ◌-◌, [], ◌∷◌, ◌++◌, lengt
 use Rattle.mk_base.specs.Lists.{Each}
 use Rattle.mk_cycles.specs.Cycles.{IsBack, IsReached}
 use Rattle.mk_cycles.specs.Edges.{IsChain}
-use Rattle.mk_cycles.specs.Tables.{leads}
+use Rattle.mk_cycles.specs.inner.Tables.{leads}
 use Rattle.mk_cycles.proofs.back.trail.Given as goal
 
 abbrev pub decreases-going : goal.decreases-going

@@ -1,6 +1,6 @@
 use Rattle.std.proofs.Common.{ℕ, ◌<◌}
 use Rattle.mk_cycles.specs.Orders.{MayFollow}
-use Rattle.mk_cycles.specs.Tables.{leads}
+use Rattle.mk_cycles.specs.inner.Tables.{leads}
 use Rattle.mk_cycles.proofs.places.next_sim.Given as goal
 
 abbrev pub invariant-loop-sim : goal.invariant-loop-sim

@@ -1,4 +1,4 @@
-use Rattle.mk_cycles.specs.Tables.{leads}
+use Rattle.mk_cycles.specs.inner.Tables.{leads}
 use Rattle.mk_cycles.proofs.Placing.{order_push}
 use Rattle.mk_cycles.proofs.places.places.Goals as goal
 

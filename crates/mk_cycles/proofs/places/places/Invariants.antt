@@ -1,6 +1,6 @@
 use Rattle.std.proofs.Common.{◌≡◌, ◌-◌, length}
 use Rattle.mk_cycles.specs.Orders.{IsOrder}
-use Rattle.mk_cycles.specs.Tables.{leads}
+use Rattle.mk_cycles.specs.inner.Tables.{leads}
 use Rattle.mk_cycles.proofs.places.places.Given as goal
 
 abbrev pub decreases-placing : goal.decreases-placing

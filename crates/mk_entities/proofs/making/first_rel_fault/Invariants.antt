@@ -1,6 +1,6 @@
 use Rattle.std.proofs.Common.{◌≡◌, drop, map}
 use Rattle.mk_entities.specs.Creation.{first_there, rel_fault}
-use Rattle.mk_entities.specs.Making.{number_in}
+use Rattle.mk_entities.specs.inner.Making.{number_in}
 use Rattle.mk_entities.proofs.making.first_rel_fault.Given as goal
 
 abbrev pub invariant-loop-entity : goal.invariant-loop-entity

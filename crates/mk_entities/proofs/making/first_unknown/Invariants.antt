@@ -1,6 +1,6 @@
 use Rattle.std.proofs.Common.{◌≡◌, drop, not, is_some}
 use Rattle.std.specs.List.{find}
-use Rattle.mk_entities.specs.Making.{number_in}
+use Rattle.mk_entities.specs.inner.Making.{number_in}
 use Rattle.mk_entities.proofs.making.first_unknown.Given as goal
 
 abbrev pub invariant-loop-text : goal.invariant-loop-text

@@ -1,5 +1,5 @@
 use Rattle.std.proofs.Common.{◌≡◌, take, map}
-use Rattle.mk_entities.specs.Making.{made_by, number_in}
+use Rattle.mk_entities.specs.inner.Making.{made_by, number_in}
 use Rattle.mk_entities.proofs.making.make_all.Given as goal
 
 abbrev pub invariant-loop-entity : goal.invariant-loop-entity

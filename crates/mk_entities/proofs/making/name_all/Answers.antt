@@ -1,5 +1,5 @@
 use Rattle.std.proofs.Common.{◌≡◌, ◌∙◌, ap, sym, arith, length, Ok, None}
-use Rattle.mk_entities.specs.Making.{fault_at}
+use Rattle.mk_entities.specs.inner.Making.{fault_at}
 use Rattle.mk_entities.proofs.Faults.{below_next, fault_here, named_more, none_there, there_first}
 use Rattle.mk_entities.proofs.making.name_all.Goals as goal
 

@@ -1,6 +1,6 @@
 use Rattle.std.proofs.Common.{◌≡◌, ℕ, ◌+◌, ◌<◌, ◌≤◌, ◌++◌, take, None}
 use Rattle.mk_entities.specs.Creation.{most_entities}
-use Rattle.mk_entities.specs.Making.{fault_at, named_from}
+use Rattle.mk_entities.specs.inner.Making.{fault_at, named_from}
 use Rattle.mk_entities.proofs.making.name_all.Given as goal
 
 abbrev pub invariant-loop-n : goal.invariant-loop-n

@@ -1,5 +1,5 @@
 use Rattle.std.proofs.Common.{◌≡◌, ◌∙◌, ap, sym, length, Ok, rules}
-use Rattle.mk_entities.specs.Tied.{numbered}
+use Rattle.mk_entities.specs.inner.Tied.{numbered}
 use Rattle.mk_entities.proofs.Adding.{accepted, entity_refused, rel_refused, still_tied}
 use Rattle.mk_entities.proofs.making.put_entities.Goals as goal
 

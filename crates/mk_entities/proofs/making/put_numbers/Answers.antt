@@ -1,6 +1,6 @@
 use Rattle.std.proofs.Common.{◌≡◌, ◌∙◌, ap, sym, [], filter_map, take, subst, ◌<◌, length, get_or}
 use Rattle.std.specs.List.{cons_option}
-use Rattle.mk_entities.specs.Making.{number_in, with_numbers}
+use Rattle.mk_entities.specs.inner.Making.{number_in, with_numbers}
 use Rattle.mk_entities.proofs.Families.{filter_map_more}
 use Rattle.mk_entities.proofs.Numbers.{put_parts}
 use Rattle.mk_entities.proofs.making.put_numbers.Goals as goal

@@ -1,5 +1,5 @@
 use Rattle.std.proofs.Common.{◌≡◌, take, filter_map}
-use Rattle.mk_entities.specs.Making.{number_in, with_numbers}
+use Rattle.mk_entities.specs.inner.Making.{number_in, with_numbers}
 use Rattle.mk_entities.proofs.making.put_numbers.Given as goal
 
 abbrev pub invariant-loop-text : goal.invariant-loop-text

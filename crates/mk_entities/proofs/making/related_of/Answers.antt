@@ -1,6 +1,6 @@
 use Rattle.std.proofs.Common.{◌≡◌, ◌∙◌, ap, sym, subst, [], IfOk, filter_map, unwrap_or}
 use Rattle.std.proofs.lemmas.List.Elements.{filter_map-append}
-use Rattle.mk_entities.specs.Making.{number_in, related_by, with_numbers}
+use Rattle.mk_entities.specs.inner.Making.{number_in, related_by, with_numbers}
 use Rattle.mk_entities.proofs.Numbers.{put_parts}
 use Rattle.mk_entities.proofs.making.related_of.Goals as goal
 

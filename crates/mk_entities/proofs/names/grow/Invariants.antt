@@ -1,5 +1,5 @@
 use Rattle.std.proofs.Common.{◌≡◌, ℕ, ◌+◌, ◌-◌, length}
-use Rattle.mk_entities.specs.Tied.{names_at}
+use Rattle.mk_entities.specs.inner.Tied.{names_at}
 use Rattle.mk_entities.proofs.names.grow.Given as goal
 
 abbrev pub invariant-loop-alloc : goal.invariant-loop-alloc

@@ -11,8 +11,9 @@ use Rattle.json.specs.Token.{Token, begin_array, begin_object}
 use Rattle.json.specs.Tree.{json_tokens, items_tokens, members_tokens}
 use Rattle.mk_base.specs.declared.json.Json.{Json, the_lemmas}
 use Rattle.mk_base.specs.Trees.{is_in_range}
-use Rattle.mk_json.specs.Outline.{outline, items_in, members_in}
-use Rattle.mk_base.specs.Proper.{is_proper, are_proper}
+use Rattle.mk_json.specs.inner.Outline.{outline, items_in, members_in}
+use Rattle.mk_base.specs.Proper.{is_proper}
+use Rattle.mk_base.specs.inner.Proper.{are_proper}
 use Rattle.mk_json.proofs.LevelTests.{range-List, range-Object, proper-List, proper-Object}
 use Rattle.mk_json.proofs.OfOutlines.{IsNumber-half, on_ok_always, on_ok_test, on_ok_tokens, on_ok_more, outline-Null, outline-Bool, outline-Whole, outline-Odd, outline-Text, outline-List, outline-Object, left_is, none_left, names_rise-sorted, member_tokens, next_passes, same_test, range-Whole, proper-Null, proper-Bool, proper-Whole, proper-Odd, proper-Text}
 use Rattle.mk_json.proofs.write.+write.Goals as goal

@@ -5,7 +5,7 @@ use Rattle.std.specs.Str.{is_utf8}
 use Rattle.json.specs.Tree.{items_tokens, members_tokens}
 use Rattle.mk_base.specs.declared.json.Json.{Json}
 use Rattle.mk_base.specs.Trees.{is_in_range}
-use Rattle.mk_json.specs.Outline.{outline, items_in, members_in}
+use Rattle.mk_json.specs.inner.Outline.{outline, items_in, members_in}
 use Rattle.mk_base.specs.Proper.{is_proper}
 use Rattle.mk_json.proofs.write.+write.Given as goal
 

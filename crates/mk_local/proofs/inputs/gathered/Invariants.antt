@@ -1,5 +1,5 @@
 use Rattle.std.proofs.Common.{◌≡◌, length, take}
-use Rattle.mk_local.specs.Inputs.{AreTaken}
+use Rattle.mk_local.specs.inner.Inputs.{AreTaken}
 use Rattle.mk_local.proofs.inputs.gathered.Given as goal
 
 abbrev pub invariant-loop-input : goal.invariant-loop-input

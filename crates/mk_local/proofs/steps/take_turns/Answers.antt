@@ -1,7 +1,7 @@
 use Rattle.std.proofs.Common.{arith, ◌≡◌, ◌<◌, ◌≤◌, ◌++◌, ◌∷◌, [], Some, length, ap, sym, ◌∙◌}
 use Rattle.mk_local.specs.declared.entity.Entity.{Entity}
 use Rattle.mk_local.specs.declared.inputs.Taken.{Taken}
-use Rattle.mk_local.specs.Inputs.{taken_at}
+use Rattle.mk_local.specs.inner.Inputs.{taken_at}
 use Rattle.mk_local.specs.Rows.{row}
 use Rattle.mk_local.specs.Simulators.{Simulator}
 use Rattle.mk_local.proofs.Stepping.{goes_on, all_done}

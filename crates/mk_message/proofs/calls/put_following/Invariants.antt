@@ -2,7 +2,8 @@ use Rattle.std.proofs.Common.{◌≡◌, ℕ, true, List, ◌++◌, drop, flat_m
 use Rattle.std.specs.List.{list_all}
 use Rattle.mk_base.specs.declared.json.Json.{Json}
 use Rattle.mk_base.specs.Trees.{is_in_range}
-use Rattle.mk_message.specs.Written.{member_text, texts_of}
+use Rattle.mk_message.specs.Written.{texts_of}
+use Rattle.mk_message.specs.inner.Written.{member_text}
 use Rattle.mk_message.proofs.calls.put_following.Given as goal
 
 abbrev pub invariant-loop-name : goal.invariant-loop-name

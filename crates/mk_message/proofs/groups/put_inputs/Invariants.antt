@@ -1,5 +1,5 @@
 use Rattle.std.proofs.Common.{◌≡◌, ◌++◌, drop}
-use Rattle.mk_message.specs.Streams.{rest_of, by_entity}
+use Rattle.mk_message.specs.inner.Streams.{rest_of, by_entity}
 use Rattle.mk_message.proofs.groups.put_inputs.Given as goal
 
 abbrev pub invariant-loop-input : goal.invariant-loop-input

@@ -1,5 +1,5 @@
 use Rattle.std.proofs.Common.{◌≡◌, ◌++◌, drop}
-use Rattle.mk_message.specs.Streams.{rest_of, wanted_by_entity}
+use Rattle.mk_message.specs.inner.Streams.{rest_of, wanted_by_entity}
 use Rattle.mk_message.proofs.groups.put_wanted.Given as goal
 
 abbrev pub invariant-loop-want : goal.invariant-loop-want

@@ -1,6 +1,6 @@
 use Rattle.std.proofs.Common.{◌≡◌, ◌∷◌, ◌++◌, ◌-◌, length, take, drop, arith, sym, ap, ◌∙◌}
 use Rattle.mk_message.specs.Written.{wanted_text}
-use Rattle.mk_message.specs.Streams.{rest_of, wanted_by_entity}
+use Rattle.mk_message.specs.inner.Streams.{rest_of, wanted_by_entity}
 use Rattle.mk_message.proofs.Gathering.{split_first, wanted_text-streamed}
 use Rattle.mk_message.proofs.groups.wanted_bytes.Goals as goal
 

@@ -1,6 +1,6 @@
 use Rattle.std.proofs.Common.{◌∙◌, refl, sym, subst, arith, ◌++◌}
 use Rattle.mk_local.specs.Registries.{rows_in}
-use Rattle.mk_run.specs.Turns.{AreLinksOpen}
+use Rattle.mk_run.specs.inner.Turns.{AreLinksOpen}
 use Rattle.mk_run.proofs.Turning.{none_gone, gone_on, gone_to_end, risen_on}
 use Rattle.mk_run.proofs.driving.drive.Goals as goal
 

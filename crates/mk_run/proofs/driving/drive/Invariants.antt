@@ -1,8 +1,8 @@
 use Rattle.std.proofs.Common.{◌≡◌, ◌≤◌, None}
 use Rattle.mk_local.specs.Registries.{rows_in}
-use Rattle.mk_within.specs.Seen.{AreOf}
-use Rattle.mk_begin.specs.Seen.{within_of}
-use Rattle.mk_run.specs.Turns.{IsStill}
+use Rattle.mk_run_local.specs.Seen.{AreOf}
+use Rattle.mk_run_crew.specs.Seen.{within_of}
+use Rattle.mk_run.specs.inner.Turns.{IsStill}
 use Rattle.mk_run.proofs.Turning.{Gone}
 use Rattle.mk_run.proofs.driving.drive.Given as goal
 

@@ -1,7 +1,7 @@
 use Rattle.std.proofs.Common.{sym, ap, subst, ◌++◌, Err}
 use Rattle.mk_outside.specs.Counts.{HasRisen}
-use Rattle.mk_begin.specs.Seen.{crew_of}
-use Rattle.mk_run.specs.Turns.{IsStopping}
+use Rattle.mk_run_crew.specs.Seen.{crew_of}
+use Rattle.mk_run.specs.inner.Turns.{IsStopping}
 use Rattle.mk_run.proofs.Hearing.{heard_low, heard_in_range}
 use Rattle.mk_run.proofs.Turning.{may_hear, past_it, heard_turn, stopped_unheard}
 use Rattle.mk_run.proofs.driving.hear.Goals as goal

@@ -4,9 +4,9 @@ use Rattle.mk_local.specs.Registries.{rows_in}
 use Rattle.mk_sched.specs.declared.faults.Next.{Next}
 use Rattle.mk_sched.specs.Cores.{CoreState}
 use Rattle.mk_sched.specs.Answers.{NextOf, IsAsked, IsWaiting, IsOver}
-use Rattle.mk_begin.specs.Seen.{CrewSeen}
+use Rattle.mk_run_crew.specs.Seen.{CrewSeen}
 use Rattle.mk_run.specs.declared.outcome.Outcome.{Outcome}
-use Rattle.mk_run.specs.Turns.{IsLinkedIfLong, IsStopping, SettlesAs}
+use Rattle.mk_run.specs.inner.Turns.{IsLinkedIfLong, IsStopping, SettlesAs}
 use Rattle.mk_run.proofs.Endings.{done_ends, full_ends, mem_ends}
 use Rattle.mk_run.proofs.Turning.{can_ask, asked_there, asked_on, asked_not, waiting_on, waits_so}
 use Rattle.mk_run.proofs.Growing.{asked_more, unsent_linked}

@@ -3,9 +3,9 @@ use Rattle.std.proofs.lemmas.Result.{err_from_is_err_and}
 use Rattle.mk_sched.specs.declared.faults.Taken.{Taken}
 use Rattle.mk_sched.specs.Cores.{CoreState}
 use Rattle.mk_sched.specs.Answers.{ArriveOf, IsQuiet}
-use Rattle.mk_begin.specs.Seen.{crew_of}
+use Rattle.mk_run_crew.specs.Seen.{crew_of}
 use Rattle.mk_run.specs.declared.outcome.Outcome.{Outcome}
-use Rattle.mk_run.specs.Turns.{IsLonger, TakesAs}
+use Rattle.mk_run.specs.inner.Turns.{IsLonger, TakesAs}
 use Rattle.mk_run.proofs.Endings.{fault_ends, untaken_for_memory}
 use Rattle.mk_run.proofs.Growing.{answered_more, quiet_more, unsent_long, whatever}
 use Rattle.mk_run.proofs.Hearing.{quiet_goes}

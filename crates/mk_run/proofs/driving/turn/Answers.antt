@@ -3,7 +3,7 @@ use Rattle.std.proofs.lemmas.Result.{err_from_is_err_and}
 use Rattle.mk_outside.specs.Counts.{HasRisen}
 use Rattle.mk_outside.proofs.OnLogs.{adds_none}
 use Rattle.mk_run.specs.declared.outcome.Outcome.{Outcome}
-use Rattle.mk_run.specs.Turns.{TurnsAs}
+use Rattle.mk_run.specs.inner.Turns.{TurnsAs}
 use Rattle.mk_run.proofs.Turning.{are_open, settled_end, settled_turn}
 use Rattle.mk_run.proofs.driving.turn.Goals as goal
 

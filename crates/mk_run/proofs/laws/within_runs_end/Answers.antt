@@ -1,7 +1,7 @@
 use Rattle.std.proofs.Common.{◌<◌, ℕ, inl, inr, sym, subst}
-use Rattle.mk_begin.proofs.Unlinked.{within_low}
-use Rattle.mk_links.specs.Handshake.{is_within}
-use Rattle.mk_within.specs.Made.{kind_reply_of}
+use Rattle.mk_run_crew.proofs.Unlinked.{within_low}
+use Rattle.mk_run_laws.specs.Handshake.{is_within}
+use Rattle.mk_run_local.specs.Made.{kind_reply_of}
 use Rattle.mk_run.specs.Laws.{IsLimit}
 use Rattle.mk_run.specs.declared.outcome.Outcome.TheVariants as outcome
 use Rattle.mk_run.proofs.WithinRuns.{only_limits}

@@ -1,7 +1,7 @@
 use Rattle.std.proofs.Common.{sym, subst, ◌++◌}
 use Rattle.mk_outside.proofs.OnLogs.{adds_more}
 use Rattle.mk_sched.specs.Cores.{CoreState}
-use Rattle.mk_run.specs.Turns.{AreLinksOpen, GoesOn}
+use Rattle.mk_run.specs.inner.Turns.{AreLinksOpen, GoesOn}
 use Rattle.mk_run.proofs.Turning.{ended_open}
 use Rattle.mk_run.proofs.WholeRuns.{open_first, run_whole, run_in_parts}
 use Rattle.mk_run.proofs.running.run_plan.Goals as goal

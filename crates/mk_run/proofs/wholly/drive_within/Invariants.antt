@@ -1,10 +1,10 @@
 use Rattle.std.proofs.Common.{◌≡◌, ◌-◌, None, List, length}
 use Rattle.mk_outside.specs.declared.fleet.LogEntry.{LogEntry}
 use Rattle.mk_local.specs.Registries.{rows_in}
-use Rattle.mk_within.specs.Seen.{AreOf}
-use Rattle.mk_begin.specs.Seen.{within_of}
-use Rattle.mk_run.specs.Underway.{Setting}
-use Rattle.mk_run.specs.Turns.{GoesOn}
+use Rattle.mk_run_local.specs.Seen.{AreOf}
+use Rattle.mk_run_crew.specs.Seen.{within_of}
+use Rattle.mk_run.specs.inner.Underway.{Setting}
+use Rattle.mk_run.specs.inner.Turns.{GoesOn}
 use Rattle.mk_run.proofs.wholly.drive_within.Given as goal
 
 -- the run went on so far

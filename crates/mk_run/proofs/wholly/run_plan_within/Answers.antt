@@ -1,7 +1,7 @@
 use Rattle.std.proofs.Common.{[], ◌++◌, refl, sym, subst}
 use Rattle.mk_sched.specs.Cores.{CoreState}
-use Rattle.mk_run.specs.Turns.{GoesOn}
-use Rattle.mk_begin.proofs.Unlinked.{restless, silently}
+use Rattle.mk_run.specs.inner.Turns.{GoesOn}
+use Rattle.mk_run_crew.proofs.Unlinked.{restless, silently}
 use Rattle.mk_run.proofs.Linkless.{linkless, linkless_end, run_within, within_outcome}
 use Rattle.mk_run.proofs.WholeRuns.{new_core, run_in_parts}
 use Rattle.mk_run.proofs.wholly.run_plan_within.Goals as goal

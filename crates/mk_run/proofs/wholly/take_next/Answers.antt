@@ -1,5 +1,5 @@
 use Rattle.std.proofs.Common.{[]}
-use Rattle.mk_begin.specs.Seen.{crew_of}
+use Rattle.mk_run_crew.specs.Seen.{crew_of}
 use Rattle.mk_run.proofs.Hearing.{heard_low, heard_in_range}
 use Rattle.mk_run.proofs.Turning.{heard_turn, past_it}
 use Rattle.mk_run.proofs.Linkless.{kept_there}

@@ -1,7 +1,7 @@
 use Rattle.std.proofs.Common.{[], sym, ap, ◌∙◌, subst, Result, Err}
 use Rattle.std.proofs.lemmas.Result.{err_from_is_err_and}
 use Rattle.mk_run.specs.declared.outcome.Outcome.{Outcome}
-use Rattle.mk_run.specs.Turns.{TurnsAs}
+use Rattle.mk_run.specs.inner.Turns.{TurnsAs}
 use Rattle.mk_run.proofs.Growing.{longer_after}
 use Rattle.mk_run.proofs.Turning.{settled_end, settled_turn}
 use Rattle.mk_run.proofs.wholly.turn_within.Goals as goal

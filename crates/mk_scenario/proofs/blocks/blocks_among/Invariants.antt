@@ -1,4 +1,4 @@
-use Rattle.mk_keys.proofs.Gathering.{Gathers}
+use Rattle.mk_scenario_keys.proofs.Gathering.{Gathers}
 use Rattle.mk_scenario.specs.Blocks.{block_in}
 use Rattle.mk_scenario.proofs.blocks.blocks_among.Given as goal
 

@@ -1,7 +1,7 @@
 use Rattle.std.proofs.Common.{◌≡◌, ◌∙◌, ap, subst, ℕ, List, Result, Ok, IfOk, IfErr}
 use Rattle.mk_base.specs.declared.json.Json.{Json}
-use Rattle.mk_keys.specs.Tests.{IsFaultOf, each_at}
-use Rattle.mk_keys.specs.declared.fault.ScenarioFault.{ScenarioFault}
+use Rattle.mk_scenario_keys.specs.Tests.{IsFaultOf, each_at}
+use Rattle.mk_scenario_keys.specs.declared.fault.ScenarioFault.{ScenarioFault}
 use Rattle.mk_scenario.specs.Blocks.{block_in}
 use Rattle.mk_scenario.specs.Scenarios.{ids_of}
 use Rattle.mk_scenario.specs.declared.parts.Block.{Block}

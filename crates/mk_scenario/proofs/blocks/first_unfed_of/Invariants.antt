@@ -1,7 +1,7 @@
 use Rattle.std.proofs.Common.{◌≡◌, ℕ, List, drop, map, not}
 use Rattle.std.specs.List.{find}
 use Rattle.mk_base.specs.declared.json.Json.{Json}
-use Rattle.mk_keys.specs.Keys.{is_among}
+use Rattle.mk_scenario_keys.specs.Keys.{is_among}
 use Rattle.mk_scenario.specs.Blocks.{source_names}
 use Rattle.mk_scenario.proofs.blocks.first_unfed_of.Given as goal
 

@@ -1,5 +1,5 @@
 use Rattle.std.proofs.Common.{◌≡◌, drop}
-use Rattle.mk_keys.specs.Keys.{is_among}
+use Rattle.mk_scenario_keys.specs.Keys.{is_among}
 use Rattle.mk_scenario.specs.Blocks.{source_names}
 use Rattle.mk_scenario.proofs.blocks.is_source.Given as goal
 

@@ -1,6 +1,6 @@
-use Rattle.mk_keys.specs.Tests.{found, item_in}
-use Rattle.mk_keys.specs.declared.fault.ScenarioFault.TheVariants as faults
-use Rattle.mk_keys.proofs.Gathering.{Gathers}
+use Rattle.mk_scenario_keys.specs.Tests.{found, item_in}
+use Rattle.mk_scenario_keys.specs.declared.fault.ScenarioFault.TheVariants as faults
+use Rattle.mk_scenario_keys.proofs.Gathering.{Gathers}
 use Rattle.mk_scenario.specs.Blocks.{pair_in}
 use Rattle.mk_scenario.proofs.blocks.pairs_among.Given as goal
 

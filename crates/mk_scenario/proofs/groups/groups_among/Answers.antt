@@ -1,5 +1,5 @@
 use Rattle.std.proofs.Common.{◌≡◌, ◌+◌, ◌<◌, ◌++◌, ◌∷◌, [], take, length, arith, Ok, ap, ◌∙◌, sym, subst}
-use Rattle.mk_keys.proofs.Gathering.{Gathers, gathers_more}
+use Rattle.mk_scenario_keys.proofs.Gathering.{Gathers, gathers_more}
 use Rattle.mk_scenario.proofs.Earlier.{ids_more}
 use Rattle.mk_scenario.specs.Groups.{group_in, group_next}
 use Rattle.mk_scenario.proofs.groups.groups_among.Goals as goal

@@ -1,5 +1,5 @@
 use Rattle.std.proofs.Common.{◌≡◌, take, codes}
-use Rattle.mk_keys.proofs.Gathering.{Gathers}
+use Rattle.mk_scenario_keys.proofs.Gathering.{Gathers}
 use Rattle.mk_scenario.specs.Groups.{group_in}
 use Rattle.mk_scenario.specs.Sims.{texts_under}
 use Rattle.mk_scenario.proofs.groups.groups_among.Given as goal

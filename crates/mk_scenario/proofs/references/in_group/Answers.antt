@@ -1,6 +1,7 @@
 use Rattle.std.proofs.Common.{◌≡◌, Ok, IfOk, IfErr, List, ℕ, true, false, ap, ◌∙◌, sym, subst}
-use Rattle.mk_keys.specs.Tests.{IsFaultOf}
-use Rattle.mk_scenario.specs.References.{IsAround, but_last, entity_at, whole, has_byte, ends_with}
+use Rattle.mk_scenario_keys.specs.Tests.{IsFaultOf}
+use Rattle.mk_scenario.specs.References.{but_last, entity_at, whole, has_byte, ends_with}
+use Rattle.mk_scenario.specs.inner.References.{IsAround}
 use Rattle.mk_scenario.proofs.Referring.{with_index, without_end}
 use Rattle.mk_scenario.proofs.references.in_group.Goals as goal
 

@@ -1,6 +1,6 @@
 use Rattle.std.proofs.Common.{◌≡◌, Ok, IfOk, IfErr, List, ℕ, sym, subst}
-use Rattle.mk_keys.specs.Tests.{IsFaultOf}
-use Rattle.mk_scenario.specs.References.{IsAround}
+use Rattle.mk_scenario_keys.specs.Tests.{IsFaultOf}
+use Rattle.mk_scenario.specs.inner.References.{IsAround}
 use Rattle.mk_scenario.proofs.Referring.{with_point}
 use Rattle.mk_scenario.proofs.references.place_of.Goals as goal
 

@@ -1,5 +1,5 @@
 use Rattle.std.proofs.Common.{subst, ap, ◌∙◌, ℕ, List, IfErr}
-use Rattle.mk_keys.specs.Tests.{IsFaultOf, item_in}
+use Rattle.mk_scenario_keys.specs.Tests.{IsFaultOf, item_in}
 use Rattle.mk_scenario.specs.Sims as sims
 use Rattle.mk_scenario.proofs.sims.sim_in.Goals as goal
 

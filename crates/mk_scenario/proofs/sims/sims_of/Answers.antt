@@ -1,6 +1,6 @@
 use Rattle.std.proofs.Common.{◌≡◌, ◌+◌, ◌<◌, length, arith, Ok, sym, subst}
-use Rattle.mk_keys.specs.Tests.{by_earlier}
-use Rattle.mk_keys.proofs.Gathering.{Gathers, gathers_more}
+use Rattle.mk_scenario_keys.specs.Tests.{by_earlier}
+use Rattle.mk_scenario_keys.proofs.Gathering.{Gathers, gathers_more}
 use Rattle.mk_scenario.specs.Sims.{sim_in}
 use Rattle.mk_scenario.proofs.sims.sims_of.Goals as goal
 

@@ -1,5 +1,5 @@
-use Rattle.mk_keys.specs.Tests.{by_earlier}
-use Rattle.mk_keys.proofs.Gathering.{Gathers}
+use Rattle.mk_scenario_keys.specs.Tests.{by_earlier}
+use Rattle.mk_scenario_keys.proofs.Gathering.{Gathers}
 use Rattle.mk_scenario.specs.Sims.{sim_in}
 use Rattle.mk_scenario.proofs.sims.sims_of.Given as goal
 

@@ -7,7 +7,7 @@ use Rattle.mk_plan.specs.Journals.{view}
 use Rattle.mk_plan.specs.Deliveries.{supply}
 use Rattle.mk_plan.specs.Inputs.{inputs}
 use Rattle.mk_plan.specs.Ready.{last_step}
-use Rattle.mk_agenda.specs.Mirrors.{AgendaState, Mirrors}
+use Rattle.mk_sched_agenda.specs.Mirrors.{AgendaState, Mirrors}
 use Rattle.mk_sched.proofs.Asked.{its, last_closed, ready_low, in_run, asked_may, asked}
 use Rattle.mk_sched.proofs.asking.ask.Goals as goal
 

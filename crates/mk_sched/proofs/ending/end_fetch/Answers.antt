@@ -1,10 +1,10 @@
 use Rattle.std.proofs.Common.{◌≡◌, ◌∙◌, [], Option, Ok, refl, sym, ap, subst}
 use Rattle.mk_plan.specs.Journals.{view, ended_turn}
-use Rattle.mk_agenda.specs.declared.outlets.Beyond.{Beyond}
-use Rattle.mk_agenda.specs.Endings.{EndOf}
+use Rattle.mk_sched_agenda.specs.declared.outlets.Beyond.{Beyond}
+use Rattle.mk_sched_agenda.specs.Endings.{EndOf}
 use Rattle.mk_sched.specs.declared.faults.CoreFault.{CoreFault}
 use Rattle.mk_sched.specs.declared.faults.Taken.TheVariants as taken
-use Rattle.mk_sched.specs.Kept.{HasTaken}
+use Rattle.mk_sched.specs.inner.Kept.{HasTaken}
 use Rattle.mk_sched.proofs.ending.end_fetch.Goals as goal
 use Rattle.mk_sched.proofs.Arrived.{its, got_may, few_entries}
 use Rattle.mk_sched.proofs.TurnEnds.{given_all, next_not_negative, fetch_made, last, taken_limit, taken_ended}

@@ -1,9 +1,10 @@
 use Rattle.std.proofs.Common.{◌≡◌, ◌≤◌, length}
 use Rattle.mk_base.specs.declared.tier.Tier.{Tier}
 use Rattle.mk_plan.specs.Journals.{View}
-use Rattle.mk_agenda.specs.Mirrors.{Mirrors}
-use Rattle.mk_supply.specs.Stock.{IsStockOf}
-use Rattle.mk_sched.specs.Holding.{AreMarked, IsFloor}
+use Rattle.mk_sched_agenda.specs.Mirrors.{Mirrors}
+use Rattle.mk_sched_supply.specs.Stock.{IsStockOf}
+use Rattle.mk_sched.specs.Holding.{IsFloor}
+use Rattle.mk_sched.specs.inner.Holding.{AreMarked}
 use Rattle.mk_sched.proofs.marks.forget.Given as goal
 
 abbrev pub invariant-loop-number : goal.invariant-loop-number

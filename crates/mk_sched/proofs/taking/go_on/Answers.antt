@@ -7,11 +7,11 @@ use Rattle.mk_plan.specs.declared.Message.TheVariants.{Success}
 use Rattle.mk_plan.specs.declared.Entry.TheVariants.{Sent, Got}
 use Rattle.mk_plan.specs.Journals.{view, note_right, note_sent}
 use Rattle.std.proofs.Common.{Some}
-use Rattle.mk_sims.specs.Turns.{IsInRun, IsPlaceInRun}
-use Rattle.mk_supply.specs.Stock.{IsStockOf}
+use Rattle.mk_sched_open.specs.Turns.{IsInRun, IsPlaceInRun}
+use Rattle.mk_sched_supply.specs.Stock.{IsStockOf}
 use Rattle.mk_sched.specs.declared.faults.CoreFault.{CoreFault}
 use Rattle.mk_sched.specs.declared.faults.Taken.TheVariants as taken
-use Rattle.mk_sched.specs.Kept.{HasTaken, time_at}
+use Rattle.mk_sched.specs.inner.Kept.{HasTaken, time_at}
 use Rattle.mk_sched.proofs.Standing.{not_same_number}
 use Rattle.mk_sched.proofs.Judged.{is_open, goes_on}
 use Rattle.mk_sched.proofs.Arrived.{its, got_may, few_entries, taken_left, taken_sent}

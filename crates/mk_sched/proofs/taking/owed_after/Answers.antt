@@ -4,8 +4,8 @@ use Rattle.mk_plan.specs.declared.Entry.TheVariants.{Got}
 use Rattle.mk_plan.specs.Acts.{is_ask}
 use Rattle.mk_plan.specs.Journals.{view}
 use Rattle.std.proofs.Common.{Some}
-use Rattle.mk_sims.specs.Turns.{IsRight}
-use Rattle.mk_supply.specs.Stock.{MayCome}
+use Rattle.mk_sched_open.specs.Turns.{IsRight}
+use Rattle.mk_sched_supply.specs.Stock.{MayCome}
 use Rattle.mk_sched.proofs.Arrived.{owed_asked, owed_fetched}
 use Rattle.mk_sched.proofs.taking.owed_after.Goals as goal
 

@@ -3,7 +3,7 @@ use Rattle.mk_plan.specs.Journals.{view}
 use Rattle.std.proofs.Common.{Some}
 use Rattle.mk_sched.specs.declared.faults.CoreFault.{CoreFault}
 use Rattle.mk_sched.specs.declared.faults.Taken.TheVariants as taken
-use Rattle.mk_sched.specs.Kept.{HasTaken}
+use Rattle.mk_sched.specs.inner.Kept.{HasTaken}
 use Rattle.mk_sched.proofs.Standing.{not_same_number}
 use Rattle.mk_sched.proofs.Judged.{judge, id_low}
 use Rattle.mk_sched.proofs.Arrived.{few_entries, taken_wrong}

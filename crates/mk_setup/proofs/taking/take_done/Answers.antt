@@ -1,7 +1,7 @@
 use Rattle.std.proofs.Common.{None, ap, sym, subst}
 use Rattle.mk_setup.specs.declared.progress.Progress.{Progress}
 use Rattle.mk_setup.specs.Kept.{state_of}
-use Rattle.mk_setup.specs.Standing.{Stands}
+use Rattle.mk_setup.specs.inner.Standing.{Stands}
 use Rattle.mk_setup.proofs.Stepping.{done_stands}
 use Rattle.mk_setup.proofs.taking.take_done.Goals as goal
 

@@ -1,5 +1,5 @@
 use Rattle.std.proofs.Common.{◌≡◌, ◌++◌, true, false, sym, ap, ◌∙◌, arith}
-use Rattle.mk_simapi.specs.Inputs.{inputs_among}
+use Rattle.mk_simapi.specs.inner.Inputs.{inputs_among}
 use Rattle.mk_simapi.proofs.Forming.{inputs_gathered, inputs_none, inputs_pass}
 use Rattle.mk_simapi.proofs.gathering.inputs_by.Goals as goal
 

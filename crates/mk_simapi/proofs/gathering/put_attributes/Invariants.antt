@@ -1,5 +1,5 @@
 use Rattle.std.proofs.Common.{◌≡◌, ◌++◌, take}
-use Rattle.mk_simapi.specs.Inputs.{inputs_to}
+use Rattle.mk_simapi.specs.inner.Inputs.{inputs_to}
 use Rattle.mk_simapi.proofs.gathering.put_attributes.Given as goal
 
 abbrev pub invariant-loop-member : goal.invariant-loop-member

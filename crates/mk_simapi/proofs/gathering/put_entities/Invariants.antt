@@ -1,5 +1,5 @@
 use Rattle.std.proofs.Common.{◌≡◌, ◌++◌, take}
-use Rattle.mk_simapi.specs.Inputs.{inputs_among}
+use Rattle.mk_simapi.specs.inner.Inputs.{inputs_among}
 use Rattle.mk_simapi.proofs.gathering.put_entities.Given as goal
 
 abbrev pub invariant-loop-entity : goal.invariant-loop-entity

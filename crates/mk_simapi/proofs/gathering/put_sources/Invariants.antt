@@ -1,5 +1,5 @@
 use Rattle.std.proofs.Common.{◌≡◌, ◌++◌, take}
-use Rattle.mk_simapi.specs.Inputs.{inputs_at}
+use Rattle.mk_simapi.specs.inner.Inputs.{inputs_at}
 use Rattle.mk_simapi.proofs.gathering.put_sources.Given as goal
 
 abbrev pub invariant-loop-member : goal.invariant-loop-member

@@ -1,5 +1,5 @@
 use Rattle.std.proofs.Common.{◌≡◌, ◌++◌, take}
-use Rattle.mk_simapi.specs.Inputs.{wants_among}
+use Rattle.mk_simapi.specs.inner.Inputs.{wants_among}
 use Rattle.mk_simapi.proofs.gathering.put_wanted.Given as goal
 
 abbrev pub invariant-loop-entity : goal.invariant-loop-entity

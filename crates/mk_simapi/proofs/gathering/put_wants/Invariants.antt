@@ -1,5 +1,5 @@
 use Rattle.std.proofs.Common.{◌≡◌, ◌++◌, take}
-use Rattle.mk_simapi.specs.Inputs.{wants_at}
+use Rattle.mk_simapi.specs.inner.Inputs.{wants_at}
 use Rattle.mk_simapi.proofs.gathering.put_wants.Given as goal
 
 abbrev pub invariant-loop-attr : goal.invariant-loop-attr

@@ -1,5 +1,5 @@
 use Rattle.std.proofs.Common.{◌≡◌, ◌++◌, true, false, sym, ap, ◌∙◌, arith}
-use Rattle.mk_simapi.specs.Inputs.{wants_among}
+use Rattle.mk_simapi.specs.inner.Inputs.{wants_among}
 use Rattle.mk_simapi.proofs.Forming.{wants_gathered, wants_none}
 use Rattle.mk_simapi.proofs.gathering.wants_by.Goals as goal
 

@@ -1,8 +1,9 @@
 use Rattle.std.proofs.Common.{List, [], ℕ, inl, inr, refl, sym, ap, ◌∙◌, subst, Result, Err}
 use Rattle.std.proofs.lemmas.Result.{err_from_is_err_and}
 use Rattle.mk_local.specs.Registries.{rows_in}
-use Rattle.mk_endings.specs.declared.ending.Ending.{Ending}
-use Rattle.mosaikrun.specs.Around.{Around, folder_seen, output_seen, unused}
+use Rattle.mosaikrun_endings.specs.declared.ending.Ending.{Ending}
+use Rattle.mosaikrun.specs.Around.{Around, folder_seen, output_seen}
+use Rattle.mosaikrun.specs.inner.Around.{unused}
 use Rattle.mosaikrun.specs.Program.{Ended}
 use Rattle.mosaikrun.specs.Commands.{IsOutcomeOf}
 use Rattle.mosaikrun.proofs.top.make.Goals as goal

@@ -2,9 +2,9 @@ use Rattle.std.proofs.Common.{◌≡◌, List, ℕ, inl, inr, refl, sym, ap, ◌
 use Rattle.std.proofs.lemmas.Result.{err_from_is_err_and}
 use Rattle.std.specs.Prelude.{OnOk}
 use Rattle.mk_outside.specs.Folders.{with_file}
-use Rattle.mk_words.specs.declared.request.Request.TheVariants.{Migrate}
-use Rattle.mk_endings.specs.declared.ending.Ending.{Ending}
-use Rattle.mk_migrated.specs.Migrations.{IsMigration}
+use Rattle.mosaikrun_words.specs.declared.request.Request.TheVariants.{Migrate}
+use Rattle.mosaikrun_endings.specs.declared.ending.Ending.{Ending}
+use Rattle.mosaikrun_records.specs.Migrations.{IsMigration}
 use Rattle.mosaikrun.specs.Around.{Around, folder_seen}
 use Rattle.mosaikrun.specs.Program.{Ended}
 use Rattle.mosaikrun.proofs.Migrating.{Moved, as_migration, saved_or_not}

@@ -6,9 +6,9 @@ use Rattle.mk_outside.specs.declared.fleet.LogEntry.{LogEntry}
 use Rattle.mk_outside.specs.Logs.{Adds}
 use Rattle.mk_outside.proofs.OnLogs.{adds_none}
 use Rattle.mk_local.specs.Registries.{rows_in}
-use Rattle.mk_words.specs.declared.request.Request.TheVariants.{Run}
-use Rattle.mk_endings.specs.declared.ending.Ending.{Ending}
-use Rattle.mk_ran.specs.Outcomes.{IsRunOutcome, outside}
+use Rattle.mosaikrun_words.specs.declared.request.Request.TheVariants.{Run}
+use Rattle.mosaikrun_endings.specs.declared.ending.Ending.{Ending}
+use Rattle.mosaikrun_run.specs.Outcomes.{IsRunOutcome, outside}
 use Rattle.mosaikrun.specs.Around.{Around, folder_seen, output_seen}
 use Rattle.mosaikrun.specs.Running.{IsFolderAfter}
 use Rattle.mosaikrun.specs.Program.{Ended}

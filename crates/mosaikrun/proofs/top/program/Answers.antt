@@ -1,7 +1,7 @@
 use Rattle.std.proofs.Common.{Ok, Err, arith, refl, sym, ◌∙◌, map, subst}
 use Rattle.std.specs.String.{string_bytes}
 use Rattle.mk_local.specs.Registries.{rows_in}
-use Rattle.mk_ran.specs.Outcomes.{outside}
+use Rattle.mosaikrun_run.specs.Outcomes.{outside}
 use Rattle.mosaikrun.specs.Around.{Around, folder_seen, output_seen}
 use Rattle.mosaikrun.specs.Program.{IsStatusOr}
 use Rattle.mosaikrun.proofs.Answering.{keeps_others, said_ended, told_decided, told_migrated, told_no_file, usage_only, useless_words}

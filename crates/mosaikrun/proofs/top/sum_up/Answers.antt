@@ -3,8 +3,8 @@ use Rattle.std.proofs.lemmas.Result.{err_from_is_err_and}
 use Rattle.std.specs.Prelude.{OnOk, OnErr}
 use Rattle.mk_outside.specs.Sinks.{TookBeginning, appended}
 use Rattle.mk_local.specs.Registries.{rows_in}
-use Rattle.mk_endings.specs.declared.ending.Ending.{Ending}
-use Rattle.mk_ran.specs.Outcomes.{outside}
+use Rattle.mosaikrun_endings.specs.declared.ending.Ending.{Ending}
+use Rattle.mosaikrun_run.specs.Outcomes.{outside}
 use Rattle.mosaikrun.specs.Around.{Around, output_seen}
 use Rattle.mosaikrun.specs.Summing.{HasSummed}
 use Rattle.mosaikrun.proofs.Summing.{put_out}

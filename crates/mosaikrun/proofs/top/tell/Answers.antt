@@ -1,6 +1,6 @@
 use Rattle.std.proofs.Common.{ℕ, List, ◌⊎◌, inl, inr, refl, subst, ◌∙◌}
 use Rattle.mk_outside.specs.Counts.{HasRisen}
-use Rattle.mk_endings.specs.declared.ending.Ending.TheVariants.{Mem}
+use Rattle.mosaikrun_endings.specs.declared.ending.Ending.TheVariants.{Mem}
 use Rattle.mosaikrun.specs.Program.{TookLine}
 use Rattle.mosaikrun.proofs.top.tell.Goals as goal
 

@@ -3,7 +3,8 @@ use Rattle.std.specs.Cmp.Lexicographic.{slice_cmp}
 use Rattle.std.specs.List.Sorted.{IsStrictlySortedBy}
 use Rattle.std.specs.Map.{keys_of}
 use Rattle.std.specs.Ordering.{nat_cmp}
-use Rattle.mk_base.specs.Lists.{value_under, place_under, value_if_named}
+use Rattle.mk_base.specs.Lists.{value_under}
+use Rattle.mk_base.specs.inner.Lists.{place_under, value_if_named}
 use Rattle.mk_base.proofs.Searching.{found_at}
 use Rattle.mk_base.proofs.members.Members.get.Goals as goal
 

@@ -1,5 +1,5 @@
 use Rattle.std.proofs.Common.{subst}
-use Rattle.mk_buffers.specs.Standing.{TargetOf}
+use Rattle.mk_buffers.specs.inner.Standing.{TargetOf}
 use Rattle.mk_buffers.proofs.Giving.{stands_target, stands_past}
 use Rattle.mk_buffers.proofs.buffers.Buffers.give.Goals as goal
 

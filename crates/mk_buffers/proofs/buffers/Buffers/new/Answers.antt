@@ -1,8 +1,8 @@
 use Rattle.std.proofs.Common.{◌∙◌, refl, sym, subst, arith}
 use Rattle.std.proofs.lemmas.Int.{ints}
-use Rattle.mk_buffers.specs.Listing.{AreTargets}
+use Rattle.mk_buffers.specs.inner.Listing.{AreTargets}
 use Rattle.mk_buffers.specs.Marking.{AreAsking}
-use Rattle.mk_buffers.specs.Standing.{AreHomes}
+use Rattle.mk_buffers.specs.inner.Standing.{AreHomes}
 use Rattle.mk_buffers.proofs.Founding.{founded}
 use Rattle.mk_buffers.proofs.buffers.Buffers.new.Goals as goal
 

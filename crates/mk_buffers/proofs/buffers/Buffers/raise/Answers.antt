@@ -1,6 +1,7 @@
 use Rattle.std.proofs.Common.{arith, ◌≡◌, ◌∙◌, refl, sym, ap, subst, length}
 use Rattle.mk_base.specs.Tiers.{IsUpTo}
-use Rattle.mk_buffers.specs.Marking.{Marked, Raised, IsLeastMark}
+use Rattle.mk_buffers.specs.Marking.{Marked, IsLeastMark}
+use Rattle.mk_buffers.specs.inner.Marking.{Raised}
 use Rattle.mk_buffers.proofs.Standing.{all_self, unchanged, thinned_again, stands_thinned, marks_rise}
 use Rattle.mk_buffers.proofs.Tight.{swept_at, swept_less, swept_rises, swept_same}
 use Rattle.mk_buffers.proofs.buffers.Buffers.raise.Goals as goal

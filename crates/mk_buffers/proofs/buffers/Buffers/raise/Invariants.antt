@@ -1,4 +1,5 @@
-use Rattle.mk_buffers.specs.Standing.{HasThinned, IsSwept}
+use Rattle.mk_buffers.specs.Standing.{IsSwept}
+use Rattle.mk_buffers.specs.inner.Standing.{HasThinned}
 use Rattle.mk_buffers.proofs.buffers.Buffers.raise.Given as goal
 
 abbrev pub invariant-loop-sim : goal.invariant-loop-sim

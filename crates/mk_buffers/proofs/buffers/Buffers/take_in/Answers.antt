@@ -1,6 +1,6 @@
 use Rattle.std.proofs.Common.{subst}
 use Rattle.mk_base.specs.declared.tier.Tier.{Tier}
-use Rattle.mk_buffers.specs.Held.{HasTaken}
+use Rattle.mk_buffers.specs.inner.Held.{HasTaken}
 use Rattle.mk_buffers.specs.Logs.{IsFew}
 use Rattle.mk_buffers.proofs.Marking.{get_some}
 use Rattle.mk_base.proofs.Lists.{set_here}

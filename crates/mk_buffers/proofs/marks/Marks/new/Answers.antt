@@ -1,5 +1,5 @@
 use Rattle.std.proofs.Common.{arith, refl, subst, length}
-use Rattle.mk_buffers.specs.Marking.{IsBest}
+use Rattle.mk_buffers.specs.inner.Marking.{IsBest}
 use Rattle.mk_buffers.proofs.Marking.{low_starts, holds_starts, exact_of}
 use Rattle.mk_buffers.proofs.marks.Marks.new.Goals as goal
 

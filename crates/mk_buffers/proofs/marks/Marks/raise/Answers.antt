@@ -1,6 +1,7 @@
 use Rattle.std.proofs.Common.{◌∙◌, ◌<◌, arith, subst, sym, List, Bool, length, false, slice_set}
 use Rattle.mk_base.specs.declared.tier.Tier.{Tier}
-use Rattle.mk_buffers.specs.Marking.{Marked, Raised, IsLow, HoldsLeast}
+use Rattle.mk_buffers.specs.Marking.{Marked, IsLow}
+use Rattle.mk_buffers.specs.inner.Marking.{Raised, HoldsLeast}
 use Rattle.mk_buffers.proofs.Marking.{stays, lifted_low, lifted_holds, lifted_else, lifted_then}
 use Rattle.mk_base.proofs.Lists.{length_set}
 use Rattle.mk_buffers.proofs.marks.Marks.raise.Goals as goal

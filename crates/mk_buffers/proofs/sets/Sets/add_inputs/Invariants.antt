@@ -1,7 +1,7 @@
 use Rattle.std.proofs.Common.{◌≡◌, take}
 use Rattle.std.specs.List.Sorted.{IsStrictlySortedBy}
 use Rattle.mk_plan.specs.Inputs.{input_order, put_all}
-use Rattle.mk_buffers.specs.Slots.{set_inputs}
+use Rattle.mk_buffers.specs.inner.Slots.{set_inputs}
 use Rattle.mk_buffers.proofs.sets.Sets.add_inputs.Given as goal
 
 abbrev pub invariant-loop-slot : goal.invariant-loop-slot

@@ -1,5 +1,5 @@
 use Rattle.std.proofs.Common.{◌≡◌, map, take}
-use Rattle.mk_connect.specs.Asyncs.{async_of}
+use Rattle.mk_connect.specs.inner.Asyncs.{async_of}
 use Rattle.mk_connect.proofs.asyncs.Pairs.listed.Given as goal
 
 abbrev pub invariant-loop-key : goal.invariant-loop-key

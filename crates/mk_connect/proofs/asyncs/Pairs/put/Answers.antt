@@ -1,6 +1,6 @@
 use Rattle.std.proofs.Common.{ap, map, ◌∙◌}
 use Rattle.mk_connect.specs.Asyncs.{pair_put}
-use Rattle.mk_connect.specs.Asyncs.{async_of}
+use Rattle.mk_connect.specs.inner.Asyncs.{async_of}
 use Rattle.mk_connect.proofs.Putting.{key_put}
 use Rattle.mk_connect.proofs.asyncs.Pairs.put.Goals as goal
 

@@ -1,6 +1,6 @@
 use Rattle.std.proofs.Common.{◌<◌, List, ℕ, length, ap, subst, arith}
 use Rattle.mk_base.specs.Lists.{IsIn}
-use Rattle.mk_cycles.specs.Listing.{Listing}
+use Rattle.mk_cycles.specs.inner.Listing.{Listing}
 use Rattle.mk_cycles.proofs.Listings.{pushed, room}
 use Rattle.mk_cycles.proofs.listed.Listed.push.Goals as goal
 

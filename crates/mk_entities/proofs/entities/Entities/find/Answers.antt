@@ -1,7 +1,7 @@
 use Rattle.std.proofs.Common.{◌∙◌, ap, sym}
 use Rattle.mk_base.specs.Lists.{value_under}
 use Rattle.mk_entities.specs.Creation.{number_of}
-use Rattle.mk_entities.specs.Tied.{names_at}
+use Rattle.mk_entities.specs.inner.Tied.{names_at}
 use Rattle.mk_entities.proofs.Lookups.{names_there, no_names, number_is}
 use Rattle.mk_entities.proofs.entities.Entities.find.Goals as goal
 

@@ -1,7 +1,7 @@
 use Rattle.std.proofs.Common.{◌≡◌, ◌∙◌, ◌++◌, ◌∷◌, [], ap, ℕ, List}
 use Rattle.std.specs.String.{string_eq, string_bytes}
 use Rattle.mk_base.specs.Lists.{value_under}
-use Rattle.mk_entities.specs.Names.{texts_of}
+use Rattle.mk_entities.specs.inner.Names.{texts_of}
 use Rattle.mk_entities.proofs.Lookups.{value_is, texts_append}
 use Rattle.indexmap.proofs.CallerLemmas.{insert_entry-new}
 use Rattle.mk_entities.proofs.names.Names.put.Goals as goal

@@ -1,5 +1,5 @@
 use Rattle.std.proofs.Common.{◌∙◌, ap, take}
-use Rattle.mk_entities.specs.Names.{texts_of}
+use Rattle.mk_entities.specs.inner.Names.{texts_of}
 use Rattle.mk_entities.proofs.Lookups.{texts_take}
 use Rattle.mk_entities.proofs.names.Names.truncate.Goals as goal
 

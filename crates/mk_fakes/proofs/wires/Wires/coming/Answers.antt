@@ -1,7 +1,7 @@
 use Rattle.std.proofs.Common.{◌≡◌, ap, sym, ◌∙◌, option_map, subst, drop, List, [], ◌∷◌, ◌+◌, Some}
 use Rattle.std.specs.Option.{option_copied}
 use Rattle.mk_fakes.specs.declared.wires.Chunk.{Chunk}
-use Rattle.mk_fakes.specs.Cursors.{line_of}
+use Rattle.mk_fakes.specs.inner.Cursors.{line_of}
 use Rattle.mk_fakes.specs.Scripts.{chunks_of}
 use Rattle.mk_fakes.specs.Telling.{Wiring}
 use Rattle.mk_fakes.proofs.Lines.{in_time, next_none, next_some, too_early}

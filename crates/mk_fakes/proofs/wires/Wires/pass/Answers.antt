@@ -1,6 +1,6 @@
 use Rattle.std.proofs.Common.{◌≡◌, ap, sym, ◌∙◌, option_map, subst, List}
 use Rattle.mk_fakes.specs.declared.wires.Chunk.{Chunk}
-use Rattle.mk_fakes.specs.Cursors.{line_of}
+use Rattle.mk_fakes.specs.inner.Cursors.{line_of}
 use Rattle.mk_fakes.specs.Scripts.{heard}
 use Rattle.mk_fakes.specs.Telling.{Wiring}
 use Rattle.mk_fakes.proofs.Lines.{line_changed, line_unchanged}

@@ -1,5 +1,5 @@
 use Rattle.std.proofs.Common.{ap, sym, ◌∙◌, option_map}
-use Rattle.mk_fakes.specs.Cursors.{line_of}
+use Rattle.mk_fakes.specs.inner.Cursors.{line_of}
 use Rattle.mk_fakes.specs.Scripts.{said_more}
 use Rattle.mk_fakes.proofs.Lines.{line_changed, line_unchanged, said_line}
 use Rattle.mk_fakes.proofs.wires.Wires.say.Goals as goal

@@ -3,7 +3,7 @@ use Rattle.std.specs.Prelude.{is_some}
 use Rattle.std.specs.HashMap.{get_by_text}
 use Rattle.std.specs.Map.{update}
 use Rattle.mk_base.specs.Lists.{same_text}
-use Rattle.mk_scenario.specs.Places.{HasPlaces}
+use Rattle.mk_scenario.specs.inner.Places.{HasPlaces}
 use Rattle.mk_scenario.proofs.Placing.{copied_there, placed_again, placed_new}
 use Rattle.mk_scenario.proofs.names.Names.with.Goals as goal
 use Rattle.mk_scenario.proofs.names.Names.with.Goals.{then-is_none+in_ok-put, else-is_none}

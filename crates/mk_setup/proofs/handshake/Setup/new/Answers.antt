@@ -2,7 +2,7 @@ use Rattle.std.proofs.Common.{◌∙◌, ℕ, List, None, ap, sym, subst, replic
 use Rattle.mk_meta.specs.declared.meta.Meta.{Meta}
 use Rattle.mk_entities.specs.declared.entities.EntityInfo.{EntityInfo}
 use Rattle.mk_setup.specs.Handshakes.{begun}
-use Rattle.mk_setup.specs.Standing.{Stands}
+use Rattle.mk_setup.specs.inner.Standing.{Stands}
 use Rattle.mk_setup.proofs.Stepping.{begun_stands}
 use Rattle.mk_setup.proofs.handshake.Setup.new.Goals as goal
 

@@ -1,6 +1,6 @@
 use Rattle.std.proofs.Common.{sym, subst}
-use Rattle.mk_within.specs.Standing.{IsFit}
-use Rattle.mk_within.proofs.Numbers.{call_fit}
+use Rattle.mk_run_local.specs.inner.Standing.{IsFit}
+use Rattle.mk_run_local.proofs.Numbers.{call_fit}
 use Rattle.mk_simapi.proofs.Ranges.{call_fits}
 use Rattle.mk_simapi.proofs.servant.Servant.call.Goals as goal
 

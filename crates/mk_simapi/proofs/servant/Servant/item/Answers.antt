@@ -1,8 +1,8 @@
 use Rattle.std.proofs.Common.{◌≡◌, true, sym, subst}
 use Rattle.mk_plan.specs.declared.Message.{Message}
 use Rattle.mk_message.specs.Written.{is_in_range}
-use Rattle.mk_within.specs.Standing.{IsFit}
-use Rattle.mk_within.proofs.Numbers.{item_fit}
+use Rattle.mk_run_local.specs.inner.Standing.{IsFit}
+use Rattle.mk_run_local.proofs.Numbers.{item_fit}
 use Rattle.mk_simapi.proofs.Ranges.{item_fits, unknown_fits}
 use Rattle.mk_simapi.proofs.servant.Servant.item.Goals as goal
 use Rattle.mk_simapi.proofs.servant.Servant.item.Goals.{in-Some+in_ok-reply-in-Some, in-None+in_ok-reply-in-None}

@@ -3,7 +3,7 @@ use Rattle.mk_base.specs.declared.LinkNo.{LinkNo}
 use Rattle.mk_session.specs.declared.answers.Heard.{Heard}
 use Rattle.mk_session.specs.declared.answers.Polled.TheVariants as polled
 use Rattle.mk_session.specs.Answers.{Polls}
-use Rattle.mk_simapi.specs.Standing.{GoesOn, IsAsked}
+use Rattle.mk_simapi.specs.inner.Standing.{GoesOn, IsAsked}
 use Rattle.mk_simapi.proofs.Steps.{polled_closed, polled_failed, polled_garbled, polled_long, polled_memory, polled_message}
 use Rattle.mk_simapi.proofs.serving.Service.take.Goals as goal
 

@@ -1,5 +1,0 @@
-use Rattle.mk_agenda.proofs.Mirroring.{earliest_is}
-use Rattle.mk_agenda.proofs.agenda.Agenda.earliest.Goals as goal
-
-pub returns : goal.returns
-returns c = rw (← c.self.view_is) (λ P V valid mirrors. earliest_is P V _ mirrors c.args.sim.0 c.earliest.result (c.earliest.ensures P valid mirrors.plan.bounds))

@@ -1,6 +1,0 @@
-use Rattle.std.proofs.Common.{◌≡◌}
-use Rattle.mk_agenda.specs.Begun.{AreBegun, AreNone}
-use Rattle.mk_agenda.proofs.beginning.first_dues.Given as goal
-
-abbrev pub invariant-loop-number : goal.invariant-loop-number
-invariant-loop-number l = (l.sim-items ≡ l.plan.sims) × AreBegun l.plan l.number l.dues.queues.items l.dues.opened.items l.dues.bounds × AreNone l.number l.dues.lasts.items

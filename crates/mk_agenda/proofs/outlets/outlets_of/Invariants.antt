@@ -1,6 +1,0 @@
-use Rattle.std.proofs.Common.{◌≡◌}
-use Rattle.mk_agenda.specs.Outlets.{AreRowsOf}
-use Rattle.mk_agenda.proofs.outlets.outlets_of.Given as goal
-
-abbrev pub invariant-loop-place : goal.invariant-loop-place
-invariant-loop-place l = (l.conn-items ≡ l.plan.conns) × AreRowsOf l.plan l.place l.rows.items

@@ -1,6 +1,0 @@
-pub mod Outlets
-pub mod Dues
-pub mod Mirrors
-pub mod Endings
-pub mod Coming
-pub mod Begun

@@ -1,5 +1,0 @@
-use Rattle.std.proofs.Common.{◌≡◌, replicate, None}
-use Rattle.mk_begin.proofs.wholly.no_links.Given as goal
-
-abbrev pub invariant-loop-sim : goal.invariant-loop-sim
-invariant-loop-sim l = l.places ≡ replicate l._sim None

@@ -1,9 +1,0 @@
-pub mod Seen
-pub mod Calls
-pub mod Answers
-pub mod Begun
-pub mod Completing
-pub mod Halted
-pub mod Placed
-pub mod Asking
-pub mod Wholly

@@ -1,7 +1,0 @@
-// What holds of every handshake that ended early.
-ghost use Rattle.mk_begin.specs.Completing.{HandshakesComplete};
-
-/// A handshake in which nothing went wrong ends early for want of memory alone.
-pub fn handshakes_complete()
-    ensures { HandshakesComplete }
-{}

@@ -1,0 +1,8 @@
+-- What proofs alone need.
+pub mod Building
+pub mod Held
+pub mod Listing
+pub mod Logs
+pub mod Marking
+pub mod Slots
+pub mod Standing

@@ -1,7 +1,0 @@
-use Rattle.std.proofs.Common.{◌≡◌, take, map}
-use Rattle.mk_base.specs.declared.SimNo.{SimNo}
-use Rattle.mk_checked.specs.CheckText.{id_at}
-use Rattle.mk_checked.proofs.checking.ids_of.Given as goal
-
-abbrev pub invariant-loop-sim : goal.invariant-loop-sim
-invariant-loop-sim l = l.ids ≡ map (λ (s : SimNo). id_at l.scenario s.0) (take l.sim-index l.sim-items)

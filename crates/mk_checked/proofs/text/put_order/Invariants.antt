@@ -1,6 +1,0 @@
-use Rattle.std.proofs.Common.{◌≡◌, ◌++◌}
-use Rattle.mk_checked.specs.CheckText.{ids_by_rank}
-use Rattle.mk_checked.proofs.text.put_order.Given as goal
-
-abbrev pub invariant-loop-rank : goal.invariant-loop-rank
-invariant-loop-rank l = l.out.items ≡ l.fn.out.items ++ ids_by_rank l.scenario l.ranks l.rank

@@ -1,5 +1,0 @@
-use Rattle.mk_confluence.proofs.LowerBound.{has_all}
-use Rattle.mk_confluence.proofs.nothing_new.Goals as goal
-
-pub returns : goal.returns
-returns c J orderly R on s x ready = has_all c.args.plan.now c.requires J orderly R on s x ready

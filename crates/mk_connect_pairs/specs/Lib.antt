@@ -1,0 +1,8 @@
+pub mod Connections
+pub mod Ends
+pub mod Faults
+pub mod Groups
+pub mod Lookups
+pub mod Models
+pub mod Usable
+pub mod inner

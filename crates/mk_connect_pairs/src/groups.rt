@@ -1,0 +1,106 @@
+//! The test of a group, before its entities are created.
+ghost use Rattle.std.specs.Prelude.{◌≡◌, ℕ, List, map, ◌⊎◌, ◌<◌, None, length, OnOk, IfOk, IfErr, option_map, not};
+ghost use Rattle.std.specs.List.{find};
+ghost use Rattle.mk_scenario.specs.Wellformed.{IsWellformed};
+ghost use Rattle.mk_base.specs.declared.json.Json.{Json};
+ghost use Rattle.mk_scenario_keys.specs.Keys.{first_unknown, is_among};
+ghost use Rattle.mk_connect_pairs.specs.Groups.{fault_of_group, group_fault, id_of_sim, model_fault, model_named, param_fault};
+
+use crate::fault::ConnectFault;
+use crate::texts::{Texts, texts_of};
+use mk_base::{Json, List, Mem, Text};
+use mk_meta::{Meta, ModelMeta};
+use mk_scenario::{Group, Scenario, SimPart};
+use std::alloc::Global;
+
+/// The test of the group at this place by its simulator's metadata, before its entities are created (mosaik 3, `create`): the
+/// model is there and public, and has each parameter that the group gives, or the first that it doesn't have, in byte order, is named.
+pub fn group_check(
+    alloc: Global,
+    scenario: &Scenario,
+    group: u32,
+    meta: &Meta,
+) -> Result<(), ConnectFault>
+    requires wellformed { IsWellformed scenario.now }
+    requires there { group < length scenario.now.groups }
+    ensures ok { OnOk result (fault_of_group scenario.now group meta.now ≡ None) }
+    ensures refused { IfErr result (λ e. (e ≡ ConnectFault.Mem) ⊎ (fault_of_group scenario.now group meta.now ≡ Some e)) }
+{
+    let group = scenario.groups.at(group as usize);
+    match group_fault(alloc, scenario.sims.as_slice(), meta, group)? {
+        Some(fault) => Err(fault),
+        None => Ok(()),
+    }
+}
+
+fn group_fault(
+    alloc: Global,
+    sims: &[SimPart],
+    meta: &Meta,
+    group: &Group,
+) -> Result<Option<ConnectFault>, Mem>
+    ensures { IfOk result (λ fault. fault ≡ group_fault sims.now meta.now group.now) }
+{
+    match model_named(&meta.models, &group.model) {
+        Some(model) if model.public => param_fault(alloc, model, group),
+        _ => {
+            let sim = id_of_sim(alloc, sims, group.sim.0)?;
+            let model = group.model.copy()?;
+            Ok(Some(ConnectFault::NotPublic(sim, model)))
+        }
+    }
+}
+
+fn model_named<'a>(models: &'a List<ModelMeta>, name: &Text) -> Option<&'a ModelMeta>
+    ensures { option_map (λ m. m.now) result ≡ model_named models.now name.now }
+{
+    models
+        .as_slice()
+        .iter()
+        .find(|m| m.name.bytes() == name.bytes())
+}
+
+// The id of the simulator of this number.
+pub fn id_of_sim(alloc: Global, sims: &[SimPart], sim: u32) -> Result<Text, Mem>
+    ensures { IfOk result (λ id. id ≡ id_of_sim sims.now sim) }
+{
+    match sims.get(sim as usize) {
+        Some(part) => part.id.copy(),
+        None => Text::of(alloc, ""),
+    }
+}
+
+fn param_fault(alloc: Global, model: &ModelMeta, group: &Group) -> Result<Option<ConnectFault>, Mem>
+    ensures { IfOk result (λ fault. fault ≡ param_fault model.now group.now) }
+{
+    let params = texts_of(alloc, &model.params)?;
+    match first_unknown(&params, &group.params) {
+        Some(name) => {
+            let model = group.model.copy()?;
+            let name = name.copy()?;
+            Ok(Some(ConnectFault::UnknownParam(model, name)))
+        }
+        None => Ok(None),
+    }
+}
+
+// The first member, in byte order, whose name is none of these.
+fn first_unknown<'a>(known: &Texts, params: &'a Json) -> Option<&'a Text>
+    ensures { option_map (λ t. t.now) result ≡ first_unknown known.now params.now }
+{
+    match params.as_object() {
+        Some(members) => first_unknown_of(known, members.entries()),
+        None => None,
+    }
+}
+
+fn first_unknown_of<'a>(known: &Texts, members: &'a [(Text, Json)]) -> Option<&'a Text>
+    ensures { option_map (λ t. t.now) result ≡ find (λ key. not (is_among known.now key)) (map (λ (m : List ℕ × Json). m.0) members.now) }
+{
+    for (name, _) in members {
+        if !known.has(name) {
+            return Some(name);
+        }
+    }
+    None
+}

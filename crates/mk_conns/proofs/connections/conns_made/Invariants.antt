@@ -1,7 +1,0 @@
-use Rattle.std.proofs.Common.{◌≡◌, Ok, take, []}
-use Rattle.mk_conns.specs.Connections.{block_made}
-use Rattle.mk_conns.specs.Faults.{through}
-use Rattle.mk_conns.proofs.connections.conns_made.Given as goal
-
-abbrev pub invariant-loop-block : goal.invariant-loop-block
-invariant-loop-block l = through (block_made l.study.sims.now l.study.models.now l.study.entities.now) [] (take l.block-index l.blocks) ≡ Ok l.made

@@ -1,6 +1,0 @@
-use Rattle.std.proofs.Common.{◌≡◌, [], length}
-use Rattle.mk_conns.specs.Lookups.{HasMembers}
-use Rattle.mk_conns.proofs.members.no_members.Given as goal
-
-abbrev pub invariant-loop : goal.invariant-loop
-invariant-loop l = (length l.members.items ≡ l.counter) × HasMembers [] l.members.items

@@ -1,6 +1,0 @@
-use Rattle.std.proofs.Common.{◌≡◌, take}
-use Rattle.mk_conns.specs.Models.{models_of}
-use Rattle.mk_conns.proofs.numbers.models_of.Given as goal
-
-abbrev pub invariant-loop-sim : goal.invariant-loop-sim
-invariant-loop-sim l = l.models ≡ models_of (take l.sim l.meta-items)

@@ -1,6 +1,0 @@
-use Rattle.std.proofs.Common.{◌≡◌, ◌++◌, map, take}
-use Rattle.mk_conns.specs.Models.{sim_model}
-use Rattle.mk_conns.proofs.numbers.models_with.Given as goal
-
-abbrev pub invariant-loop-model : goal.invariant-loop-model
-invariant-loop-model l = l.models ≡ l.fn.models ++ map (sim_model l.sim.0 l.meta.kind) (take l.model-index l.model-items)

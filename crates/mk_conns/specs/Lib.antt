@@ -1,8 +1,0 @@
-pub mod Connections
-pub mod Ends
-pub mod Faults
-pub mod Groups
-pub mod Lookups
-pub mod Models
-pub mod TextSets
-pub mod Usable

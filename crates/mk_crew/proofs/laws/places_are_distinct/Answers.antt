@@ -1,5 +1,0 @@
-use Rattle.mk_crew.proofs.Beginning.{places_distinct}
-use Rattle.mk_crew.proofs.laws.places_are_distinct.Goals as goal
-
-pub returns : goal.returns
-returns c started sims = places_distinct started sims

@@ -1,7 +1,0 @@
-use Rattle.std.proofs.Common.{◌≡◌, []}
-use Rattle.mk_links.specs.Crews.{AreMoved}
-use Rattle.mk_crew.specs.Places.{crew}
-use Rattle.mk_crew.proofs.links.Links.wake_marked.Given as goal
-
-abbrev pub invariant-loop-k : goal.invariant-loop-k
-invariant-loop-k l = (l.self.halt ≡ l.fn.self.halt) × AreMoved [] (λ i. []) (crew l.fn.self.lines) (crew l.self.lines)

@@ -1,7 +1,0 @@
-pub mod Places
-pub mod Halts
-pub mod Seen
-pub mod Crews
-pub mod OneLine
-pub mod Rounds
-pub mod Standing

@@ -1,7 +1,0 @@
-// A law of the places that a start of all simulators leaves.
-ghost use Rattle.mk_crew.specs.Places.{PlacesAreDistinct};
-
-/// The places that a start of all simulators leaves have distinct links, as `Links::new` and `close_all` need them.
-pub fn places_are_distinct()
-    ensures { PlacesAreDistinct }
-{}

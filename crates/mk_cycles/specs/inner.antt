@@ -1,0 +1,3 @@
+-- What proofs alone need.
+pub mod Listing
+pub mod Tables

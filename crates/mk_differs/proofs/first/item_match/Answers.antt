@@ -1,8 +1,0 @@
-use Rattle.std.proofs.Common.{sym, subst}
-use Rattle.mk_plan.specs.declared.Item.{Item}
-use Rattle.mk_plan.specs.declared.Entry.TheVariants.{Sent}
-use Rattle.mk_differs.specs.Matches.{IsMatch}
-use Rattle.mk_differs.proofs.first.item_match.Goals as goal
-
-pub returns-in-Step : goal.returns-in-Step
-returns-in-Step c = λ A rest. subst (λ (i : Item). IsMatch c.args.before A c.args.steps.now (Sent c.args.sim i) c.step_match.result) (sym c.in-Step.is) (c.step_match.ensures A rest c.in-Step.inputs)

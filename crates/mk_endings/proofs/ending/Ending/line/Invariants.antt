@@ -1,7 +1,0 @@
-use Rattle.std.proofs.Common.{◌≡◌, ◌++◌, take, map}
-use Rattle.std.specs.Prelude.{codes}
-use Rattle.mk_endings.specs.Endings.{unbroken}
-use Rattle.mk_endings.proofs.ending.Ending.line.Given as goal
-
-abbrev pub invariant-loop-byte : goal.invariant-loop-byte
-invariant-loop-byte l = l.line.items ≡ codes "mosaikrun: " ++ map unbroken (take l.byte-index l.byte-items)

@@ -1,5 +1,0 @@
-pub mod Endings
-pub mod Launches
-pub mod Scenarios
-pub mod Links
-pub mod Setups

@@ -1,0 +1,5 @@
+-- What proofs alone need.
+pub mod Reading
+pub mod Starting
+pub mod Starts
+pub mod Steps

@@ -1,5 +1,0 @@
-use Rattle.mk_link_trials.proofs.Opened.{is_open}
-use Rattle.mk_link_trials.proofs.fakes.count_on_first.Goals as goal
-
-pub count_so-count-requires : goal.count_so-count-requires
-count_so-count-requires g c = is_open c.in-Link.link (g.F.Fleet.open_links c.args.fleet.now) _ c.in-Link.ensures.starts.3

@@ -1,5 +1,0 @@
-use Rattle.mk_names.specs.Making.{AreFirstIds}
-use Rattle.mk_names.proofs.making.ids_of.Given as goal
-
-abbrev pub invariant-loop-place : goal.invariant-loop-place
-invariant-loop-place l = AreFirstIds l.plan l.place l.ids.keys

@@ -1,0 +1,112 @@
+-- A value that is overtaken by another up to a mark is chosen at no time from the mark on.
+use Rattle.std.proofs.Common.{◌≡◌, Bool, true, false, not, ◌&&◌, cond, List, [], ◌∷◌, ◌++◌, filter, fold, Option, Some, None, refl, sym, ap, ◌∙◌, subst, ◌⊎◌, inl, inr, true≢false, if◌then◌else◌}
+use Rattle.std.proofs.lemmas.List.Sums.{fold-append}
+use Rattle.mk_order_any.proofs.Latest.{latest_kept, latest_windowed, if_passes}
+use Rattle.mk_base.specs.declared.tier.Tier.{Tier}
+use Rattle.mk_base.specs.Lists.{IsIn}
+use Rattle.mk_base.specs.Tiers.{up_to, IsUpTo, IsBefore}
+use Rattle.mk_base.proofs.TierOrder.{up_to_self, up_to_total, up_to_trans}
+use Rattle.mk_plan.specs.Deliveries.{Timed}
+use Rattle.mk_plan.specs.Inputs.{later, latest, is_since}
+use Rattle.mk_base.proofs.Lists.{filter_in, filter_append}
+
+above : (x y z : Tier) → up_to x y ≡ false → IsUpTo x z → IsUpTo y z
+above x y z h k = up_to_trans y x z (up_to_total y x h) k
+
+-- both are overtaken by d, so it doesn't matter which was best
+either : (ts : List Timed) (u v d : Timed) → IsIn d ts → IsUpTo u.at d.at → IsUpTo v.at d.at → fold later (Some u) ts ≡ fold later (Some v) ts
+either [] u v d m h k = absurd m
+either (f ∷ ts) u v d (inl e) h k =
+    let a : up_to u.at f.at ≡ true = subst (λ (w : Timed). up_to u.at w.at ≡ true) e h in
+    let b : up_to v.at f.at ≡ true = subst (λ (w : Timed). up_to v.at w.at ≡ true) e k in
+    ap (λ (c : Bool). fold later (if c then Some f else Some u) ts) a ∙ sym (ap (λ (c : Bool). fold later (if c then Some f else Some v) ts) b)
+either (f ∷ ts) u v d (inr m) h k = go (λ x y p q. either ts x y d m p q) (up_to u.at f.at) (up_to v.at f.at) refl refl
+  where
+    go : ((x y : Timed) → IsUpTo x.at d.at → IsUpTo y.at d.at → fold later (Some x) ts ≡ fold later (Some y) ts)
+        → (a b : Bool) → up_to u.at f.at ≡ a → up_to v.at f.at ≡ b → fold later (if a then Some f else Some u) ts ≡ fold later (if b then Some f else Some v) ts
+    go rest true true p q = refl
+    go rest true false p q = rest f v (above v.at f.at d.at q k) k
+    go rest false true p q = rest u f h (above u.at f.at d.at p h)
+    go rest false false p q = rest u v h k
+
+overtaken : (o : Option Timed) (ts : List Timed) (d e : Timed) → IsIn e ts → IsUpTo d.at e.at → fold later (later o d) ts ≡ fold later o ts
+overtaken None [] d e m h = absurd m
+overtaken None (f ∷ ts) d e m h = go (up_to d.at f.at) refl m
+  where
+    go : (a : Bool) → up_to d.at f.at ≡ a → IsIn e (f ∷ ts) → fold later (if a then Some f else Some d) ts ≡ fold later (Some f) ts
+    go true p m = refl
+    go false p (inl q) = absurd (true≢false (sym (subst (λ (w : Timed). up_to d.at w.at ≡ true) q h) ∙ p))
+    go false p (inr m) = either ts d f e m h (above d.at f.at e.at p h)
+overtaken (Some best) ts d e m h = go (up_to best.at d.at) refl
+  where
+    go : (a : Bool) → up_to best.at d.at ≡ a → fold later (if a then Some d else Some best) ts ≡ fold later (Some best) ts
+    go true p = either ts d best e m h (up_to_trans best.at d.at e.at p h)
+    go false p = refl
+
+-- the best so far is at or after all
+best_after : (ts : List Timed) (u e : Timed) → IsIn e ts ⊎ IsUpTo e.at u.at → (best : Timed) × (fold later (Some u) ts ≡ Some best) × IsUpTo e.at best.at
+best_after [] u e (inl m) = absurd m
+best_after [] u e (inr h) = (u, refl, h)
+best_after (f ∷ ts) u e h = go (λ x k. best_after ts x e k) (up_to u.at f.at) refl h
+  where
+    go : ((x : Timed) → IsIn e ts ⊎ IsUpTo e.at x.at → (best : Timed) × (fold later (Some x) ts ≡ Some best) × IsUpTo e.at best.at)
+        → (a : Bool) → up_to u.at f.at ≡ a → IsIn e (f ∷ ts) ⊎ IsUpTo e.at u.at → (best : Timed) × (fold later (if a then Some f else Some u) ts ≡ Some best) × IsUpTo e.at best.at
+    go rest true p (inl (inl q)) = rest f (inr (subst (λ (w : Timed). up_to e.at w.at ≡ true) q (up_to_self e.at)))
+    go rest true p (inl (inr m)) = rest f (inl m)
+    go rest true p (inr k) = rest f (inr (up_to_trans e.at u.at f.at k p))
+    go rest false p (inl (inl q)) = rest u (inr (subst (λ (w : Timed). up_to w.at u.at ≡ true) (sym q) (up_to_total f.at u.at p)))
+    go rest false p (inl (inr m)) = rest u (inl m)
+    go rest false p (inr k) = rest u (inr k)
+
+lesser : (ts : List Timed) (e d : Timed) → IsIn e ts → IsBefore d.at e.at → later (latest ts) d ≡ latest ts
+lesser [] e d m h = absurd m
+lesser (f ∷ ts) e d m h =
+    let t = best_after ts f e (first m) in
+    let not : up_to t.0.at d.at ≡ false = below t.0 (up_to t.0.at d.at) refl t.2 in
+    ap (λ (o : Option Timed). later o d) t.1 ∙ ap (λ (c : Bool). if c then Some d else Some t.0) not ∙ sym t.1
+  where
+    first : IsIn e (f ∷ ts) → IsIn e ts ⊎ IsUpTo e.at f.at
+    first (inl q) = inr (subst (λ (w : Timed). up_to e.at w.at ≡ true) q (up_to_self e.at))
+    first (inr m) = inl m
+
+    below : (best : Timed) (c : Bool) → up_to best.at d.at ≡ c → IsUpTo e.at best.at → up_to best.at d.at ≡ false
+    below best true p k = absurd (true≢false (sym (up_to_trans e.at best.at d.at k p) ∙ h))
+    below best false p k = p
+
+-- d is overtaken: by one that comes after it in the list, or is later than it
+pub data IsOvertaken (front back : List Timed) (d : Timed) : Timed → Type 0 where
+  by_next : (e : Timed) → IsIn e back → IsUpTo d.at e.at → IsOvertaken front back d e
+  by_later : (e : Timed) → IsIn e front → IsBefore d.at e.at → IsOvertaken front back d e
+
+pub latest_without : (front back : List Timed) (d e : Timed) → IsOvertaken front back d e → latest (front ++ d ∷ back) ≡ latest (front ++ back)
+latest_without front back d e (by_next _ m h) = fold-append later None front (d ∷ back) ∙ overtaken (latest front) back d e m h ∙ sym (fold-append later None front back)
+latest_without front back d e (by_later _ m h) = fold-append later None front (d ∷ back) ∙ ap (λ (o : Option Timed). fold later o back) (lesser front e d m h) ∙ sym (fold-append later None front back)
+
+-- the same among those that pass a test, where the other passes if d does
+pub chosen_without : (test : Timed → Bool) (front back : List Timed) (d e : Timed) → IsOvertaken front back d e → (test d ≡ true → test e ≡ true) → latest (filter test (front ++ d ∷ back)) ≡ latest (filter test (front ++ back))
+chosen_without test front back d e over goes = ap latest (filter_append test front (d ∷ back)) ∙ by_test (test d) refl ∙ sym (ap latest (filter_append test front back))
+  where
+    kept : IsOvertaken front back d e → test e ≡ true → IsOvertaken (filter test front) (filter test back) d e
+    kept (by_next _ m h) t = by_next e (filter_in test e back m t) h
+    kept (by_later _ m h) t = by_later e (filter_in test e front m t) h
+
+    by_test : (b : Bool) → test d ≡ b → latest (filter test front ++ cond b (d ∷ filter test back) (filter test back)) ≡ latest (filter test front ++ filter test back)
+    by_test true p = latest_without (filter test front) (filter test back) d e (kept over (goes p))
+    by_test false p = refl
+
+-- a list that keeps all after the mark, and of the others the latest, answers each later question as the whole list does
+pub latest_from_mark : (mark x : Tier) → IsUpTo mark x → (kept all : List Timed) → filter (λ d. not (up_to d.at mark)) kept ≡ filter (λ d. not (up_to d.at mark)) all
+    → latest (filter (λ d. up_to d.at mark) kept) ≡ latest (filter (λ d. up_to d.at mark) all) → latest (filter (λ d. up_to d.at x) kept) ≡ latest (filter (λ d. up_to d.at x) all)
+latest_from_mark mark x = latest_kept Tier Timed up_to (λ d. d.at) up_to_trans (λ x y h. up_to_total x y h) mark x
+
+-- the latest after the previous step is the latest, if that comes after the previous step
+pub latest_since : (p : Option Tier) (x : Tier) (ts : List Timed) → latest (filter (λ d. up_to d.at x && is_since p d.at) ts) ≡ if_passes Tier Timed up_to (λ d. d.at) (λ d. is_since p d.at) (latest (filter (λ d. up_to d.at x) ts))
+latest_since p x ts = latest_windowed Tier Timed up_to (λ d. d.at) up_to_trans (λ x y h. up_to_total x y h) (λ d. is_since p d.at) (closed p) x ts
+  where
+    closed : (p : Option Tier) (d e : Timed) → up_to d.at e.at ≡ true → is_since p d.at ≡ true → is_since p e.at ≡ true
+    closed None d e h k = refl
+    closed (Some q) d e h k = go (up_to e.at q) refl
+      where
+        go : (b : Bool) → up_to e.at q ≡ b → not b ≡ true
+        go true r = ap not (sym (up_to_trans d.at e.at q h r)) ∙ k
+        go false r = refl

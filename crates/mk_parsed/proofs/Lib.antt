@@ -1,4 +1,0 @@
-mod Characters
-mod Tokens
-mod Values
-pub mod Sound

@@ -1,0 +1,4 @@
+pub mod FirstBad
+pub mod Nesting
+pub mod Tests
+pub mod inner

@@ -1,4 +1,0 @@
-pub mod Laws
-pub mod Outcomes
-pub mod Records
-pub mod Sayings

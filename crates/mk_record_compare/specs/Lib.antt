@@ -1,0 +1,3 @@
+pub mod Decisions
+pub mod Differences
+pub mod inner

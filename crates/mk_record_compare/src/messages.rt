@@ -1,0 +1,48 @@
+// Whether two messages are the same.
+ghost use Rattle.std.specs.Prelude.{◌≡◌};
+ghost use Rattle.mk_record_compare.specs.Decisions.{Decides};
+
+use crate::trees::{same_items, same_text, same_tree};
+use mk_plan::Message;
+
+/// Whether two messages are the same.
+pub fn same_message(one: &Message, other: &Message) -> bool
+    ensures { Decides result (one.now ≡ other.now) }
+{
+    match (one, other) {
+        (
+            Message::Ask {
+                id,
+                name,
+                args,
+                named,
+            },
+            Message::Ask {
+                id: other_id,
+                name: other_name,
+                args: other_args,
+                named: other_named,
+            },
+        ) => {
+            *id == *other_id
+                && same_text(name, other_name)
+                && same_items(args, other_args)
+                && same_tree(named, other_named)
+        }
+        (
+            Message::Success { id, content },
+            Message::Success {
+                id: other_id,
+                content: other_content,
+            },
+        ) => *id == *other_id && same_tree(content, other_content),
+        (
+            Message::Failure { id, text },
+            Message::Failure {
+                id: other_id,
+                text: other_text,
+            },
+        ) => *id == *other_id && same_text(text, other_text),
+        _ => false,
+    }
+}

@@ -1,0 +1,16 @@
+mod Characters
+pub mod Clean
+mod Counting
+pub mod Entries
+pub mod Fields
+pub mod Heard
+pub mod Lines
+mod Messages
+pub mod Recorded
+pub mod Sound
+mod Steps
+mod Texts
+mod Tokens
+mod Trees
+mod Values
+pub mod Whole

@@ -1,0 +1,4 @@
+pub mod Again
+pub mod Readable
+pub mod Sound
+pub mod inner

@@ -1,0 +1,14 @@
+-- For proofs alone. Beside `Seen`, which has what a reader needs.
+use Rattle.std.specs.Prelude.{map}
+use Rattle.mk_record_read.specs.declared.saved.Saved.{Saved}
+use Rattle.mk_record_read.specs.declared.saved.Progress.{Progress}
+use Rattle.mk_record_read.specs.Reading.{State}
+use Rattle.mk_record_read.specs.Seen.{came}
+
+-- what stands in the lines that were read
+abbrev pub state_of : Progress → State
+state_of p = record { last = p.last; plan = p.plan; arrivals = map came p.arrivals; asks = p.asks }
+
+-- what is saved of the lines that were read
+abbrev pub saved_in : Progress → Saved
+saved_in p = record { plan = p.plan; arrivals = p.arrivals; asks = p.asks }

@@ -1,0 +1,35 @@
+// Why a record isn't read.
+use thiserror::Error;
+
+/// Why a text is no record: the line, from 1, and the number of its fault.
+///
+/// 1: the line isn't of a kind that may stand there, or not of its kind's form. 2: a number is
+/// outside its limits, a reference is to nothing that stands before, or a type or via is unknown.
+/// 3: the plan before the first `ask`, `got` or `end` line isn't valid. 4: the number of `end` isn't the
+/// number of `ask` and `got` lines. 5: the text ends before a whole `end` line. 6: bytes stand after the
+/// `end` line.
+#[derive(Debug, Drop, Error)]
+pub enum RecordFault {
+    #[error("no record")]
+    Line(u64, u8),
+    #[error("out of memory")]
+    Mem,
+}
+
+// Why a line, or a part of it, isn't read.
+#[derive(Clone, Copy, Debug, PartialEq, Eq)]
+pub enum LineFault {
+    Bad(u8),
+    Mem,
+}
+
+impl From<mk_base::Mem> for LineFault {
+    ghost use Rattle.std.specs.Prelude.{◌≡◌};
+    ghost use Rattle.mk_record_read.specs.declared.faults.LineFault.TheVariants as fault;
+
+    ghost from_gives = { λ _ e. e ≡ fault.Mem };
+
+    fn from(_e: mk_base::Mem) -> LineFault {
+        LineFault::Mem
+    }
+}

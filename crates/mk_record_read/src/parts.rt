@@ -1,0 +1,148 @@
+// What a line adds, by its kind and what stands after its word.
+ghost use Rattle.std.specs.Prelude.{◌≡◌, Ok, Some, OnOk, IfOk, IfErr, true, length, ◌&&◌};
+ghost use Rattle.std.specs.List.{list_all};
+ghost use Rattle.mk_base.specs.Trees.{is_in_range};
+ghost use Rattle.mk_json.specs.Parsed.{parsed};
+ghost use Rattle.mk_record_read.specs.inner.Faults.{IsFaultOf, IsMissing};
+ghost use Rattle.mk_record_read.specs.Fields.{found, misformed};
+ghost use Rattle.mk_record_read.specs.Lines.{arrival_in, asked_in};
+ghost use Rattle.mk_record_read.specs.Reading.{is_digit, is_number, end_step, items_read, with_part};
+ghost use Rattle.mk_record_read.specs.Seen.{came};
+ghost use Rattle.mk_record_read.specs.Steps.{IsKnown};
+ghost use Rattle.mk_record_read.specs.inner.Steps.{IsBadStep};
+ghost use Rattle.mk_record_read.specs.Reading.{Ended};
+
+use crate::faults::LineFault;
+use crate::fields::{is_word, items_of};
+use crate::kinds::LineKind;
+use crate::lines::{
+    add_async, add_conn, add_entity, add_model, add_run, add_sim, arrival_of, asked_of,
+};
+use crate::saved::{Arrival, Asked};
+use itoa::Buffer;
+use mk_base::Json;
+use mk_json::{JsonFault, read_json};
+use mk_plan::Plan;
+use std::alloc::Global;
+
+const MISFORMED: LineFault = LineFault::Bad(1);
+
+const MISCOUNTED: LineFault = LineFault::Bad(4);
+
+fn tree_of(alloc: Global, text: &[u8]) -> Result<Json, LineFault>
+    ensures ok { IfOk result (λ t. parsed text.now ≡ Some t) }
+    ensures err { IfErr result (IsMissing (parsed text.now)) }
+    ensures in_range { IfOk result (λ t. is_in_range t ≡ true) }
+{
+    match read_json(alloc, text) {
+        Ok(tree) => Ok(tree),
+        Err(JsonFault::NotJson) => Err(MISFORMED),
+        Err(JsonFault::Mem) => Err(LineFault::Mem),
+    }
+}
+
+pub fn add_part(
+    alloc: Global,
+    plan: &mut Plan,
+    second: bool,
+    kind: LineKind,
+    text: &[u8],
+) -> Result<(), LineFault>
+    ensures ok { OnOk result
+        (found misformed (items_read text.now) (with_part second kind plan.old) ≡ Ok plan.new) }
+    ensures err { IfErr result
+        (IsFaultOf (found misformed (items_read text.now) (with_part second kind plan.old))) }
+{
+    let tree = tree_of(alloc, text)?;
+    let items = items_of(&tree)?;
+    add_items(alloc, plan, second, kind, items)
+}
+
+fn add_items(
+    alloc: Global,
+    plan: &mut Plan,
+    second: bool,
+    kind: LineKind,
+    items: &[Json],
+) -> Result<(), LineFault>
+    requires { list_all is_in_range items.now ≡ true }
+    ensures ok { OnOk result (with_part second kind plan.old items.now ≡ Ok plan.new) }
+    ensures err { IfErr result (IsFaultOf (with_part second kind plan.old items.now)) }
+{
+    match kind {
+        LineKind::Run => add_run(plan, items),
+        LineKind::Sim => add_sim(alloc, plan, items),
+        LineKind::Model => add_model(alloc, plan, items),
+        LineKind::Entity => add_entity(alloc, plan, items),
+        LineKind::Conn => add_conn(alloc, plan, second, items),
+        LineKind::Async => add_async(plan, items),
+        LineKind::Head => Err(MISFORMED),
+        LineKind::Ask => Err(MISFORMED),
+        LineKind::Got => Err(MISFORMED),
+        LineKind::End => Err(MISFORMED),
+    }
+}
+
+pub fn read_arrival(alloc: Global, plan: &Plan, text: &[u8]) -> Result<Arrival, LineFault>
+    ensures ok { IfOk result
+        (λ a. found misformed (items_read text.now) (arrival_in plan.now) ≡ Ok (came a)) }
+    ensures err { IfErr result
+        (IsFaultOf (found misformed (items_read text.now) (arrival_in plan.now))) }
+    ensures known { IfOk result (λ a. IsKnown plan.now (came a)) }
+{
+    let tree = tree_of(alloc, text)?;
+    let items = items_of(&tree)?;
+    arrival_of(alloc, plan, items)
+}
+
+pub fn read_asked(alloc: Global, plan: &Plan, before: u64, text: &[u8]) -> Result<Asked, LineFault>
+    ensures ok { IfOk result
+        (λ a. found misformed (items_read text.now) (asked_in plan.now before) ≡ Ok a) }
+    ensures err { IfErr result
+        (IsFaultOf (found misformed (items_read text.now) (asked_in plan.now before))) }
+{
+    let tree = tree_of(alloc, text)?;
+    let items = items_of(&tree)?;
+    asked_of(plan, before, items)
+}
+
+pub fn read_end(count: u128, text: &[u8]) -> Result<(), LineFault>
+    ensures ok { OnOk result (end_step count text.now ≡ Ended) }
+    ensures err { IfErr result (IsBadStep (end_step count text.now)) }
+{
+    let mut buffer = Buffer::new();
+    if is_word(text, buffer.format(count).as_bytes()) {
+        return Ok(());
+    }
+    if is_number(text) {
+        return Err(MISCOUNTED);
+    }
+    Err(MISFORMED)
+}
+
+fn is_number(text: &[u8]) -> bool
+    ensures { result ≡ is_number text.now }
+{
+    match text {
+        [] => false,
+        [only] => is_digit(*only),
+        [first, ..] => *first > b'0' && are_digits(text),
+    }
+}
+
+fn are_digits(text: &[u8]) -> bool
+    ensures { result ≡ list_all is_digit text.now }
+{
+    for byte in text {
+        if !is_digit(*byte) {
+            return false;
+        }
+    }
+    true
+}
+
+fn is_digit(byte: u8) -> bool
+    ensures { result ≡ is_digit byte }
+{
+    b'0' <= byte && byte <= b'9'
+}

@@ -1,0 +1,289 @@
+// From a record's bytes to what it says.
+ghost use Rattle.std.specs.Prelude.{◌≡◌, ◌<◌, ◌+◌, ◌≤◌, ℕ, Some, None, Ok, Err, OnOk, IfOk, IfErr, IfSome, MatchOption, true, length, position, ◌==◌, map, All, ◌∷◌, [], ◌^◌};
+ghost use Rattle.std.specs.List.{slice_split};
+ghost use Rattle.mk_plan.specs.Plans.{IsValidPlan};
+ghost use Rattle.mk_plan_check.specs.Tests.{first_bad};
+ghost use Rattle.mk_record_read.specs.Reading.{reading, Faulty, start, is_feed, word_of, rest_of, place, may_stand, line_step, kind_step, part_step, plan_step, steps_in};
+ghost use Rattle.mk_record_read.specs.Seen.{came, said_by};
+ghost use Rattle.mk_record_read.specs.inner.Seen.{state_of, saved_in};
+ghost use Rattle.mk_record_read.specs.Steps.{IsKnown};
+ghost use Rattle.mk_record_read.specs.inner.Steps.{IsStep, IsBadStep, IsSound, IsSoundAfter, IsInvalid, IsOverlong, IsFaultAt};
+
+use crate::faults::{LineFault, RecordFault};
+use crate::fields::is_word;
+use crate::kinds::{LineKind, ends_plan, kind_of_word, may_stand, place};
+use crate::parts::{add_part, read_arrival, read_asked, read_end};
+use crate::saved::{Progress, Saved};
+use mk_base::List;
+use mk_plan::Plan;
+use mk_plan_check::{PlanFault, check_plan};
+use std::alloc::Global;
+
+const MISFORMED: LineFault = LineFault::Bad(1);
+
+const INVALID: LineFault = LineFault::Bad(3);
+
+const UNENDED: u8 = 5;
+
+const OVERLONG: u8 = 6;
+
+fn test_plan(alloc: Global, plan: &Plan) -> Result<(), LineFault>
+    ensures ok { OnOk result (first_bad plan.now ≡ None) }
+    ensures valid { OnOk result (IsValidPlan plan.now) }
+    ensures err { IfErr result (IsInvalid plan.now) }
+{
+    match check_plan(alloc, plan) {
+        Ok(()) => Ok(()),
+        Err(PlanFault::Bad(_)) => Err(INVALID),
+        Err(PlanFault::Mem) => Err(LineFault::Mem),
+    }
+}
+
+// Adds a line of a kind that may stand here; whether it ends the record.
+fn take_part(
+    alloc: Global,
+    progress: &mut Progress,
+    kind: LineKind,
+    text: &[u8],
+) -> Result<bool, LineFault>
+    requires stands { may_stand progress.old.last kind ≡ true }
+    requires valid { 8 ≤ place kind → IsValidPlan progress.old.plan }
+    requires sound { IsSound progress.old }
+    ensures ok { IfOk result
+        (λ ended. IsStep (state_of progress.old) (part_step (state_of progress.old) kind text.now) ended progress.new) }
+    ensures err { IfErr result (IsBadStep (part_step (state_of progress.old) kind text.now)) }
+    ensures sound { IfOk result (λ ended. IsSoundAfter ended progress.new) }
+{
+    match kind {
+        LineKind::Head => take_head(alloc, progress, text),
+        LineKind::Run => take_addition(alloc, progress, kind, text),
+        LineKind::Sim => take_addition(alloc, progress, kind, text),
+        LineKind::Model => take_addition(alloc, progress, kind, text),
+        LineKind::Entity => take_addition(alloc, progress, kind, text),
+        LineKind::Conn => take_addition(alloc, progress, kind, text),
+        LineKind::Async => take_addition(alloc, progress, kind, text),
+        LineKind::Ask => take_ask(alloc, progress, text),
+        LineKind::Got => take_message(alloc, progress, text),
+        LineKind::End => {
+            read_end(line_count(progress), text)?;
+            Ok(true)
+        }
+    }
+}
+
+fn take_head(alloc: Global, progress: &mut Progress, text: &[u8]) -> Result<bool, LineFault>
+    requires stands { may_stand progress.old.last LineKind.Head ≡ true }
+    requires sound { IsSound progress.old }
+    ensures ok { IfOk result
+        (λ ended. IsStep (state_of progress.old) (part_step (state_of progress.old) LineKind.Head text.now) ended progress.new) }
+    ensures err { IfErr result (IsBadStep (part_step (state_of progress.old) LineKind.Head text.now)) }
+    ensures sound { IfOk result (λ ended. IsSoundAfter ended progress.new) }
+{
+    if is_word(text, b"1") {
+        progress.asks = None;
+    } else if is_word(text, b"2") {
+        progress.asks = Some(List::new(alloc));
+    } else {
+        return Err(MISFORMED);
+    }
+    progress.last = place(LineKind::Head);
+    Ok(false)
+}
+
+fn take_addition(
+    alloc: Global,
+    progress: &mut Progress,
+    kind: LineKind,
+    text: &[u8],
+) -> Result<bool, LineFault>
+    requires stands { may_stand progress.old.last kind ≡ true }
+    requires early { place kind < 8 }
+    requires sound { IsSound progress.old }
+    ensures ok { IfOk result
+        (λ ended. IsStep (state_of progress.old) (plan_step (state_of progress.old) kind text.now) ended progress.new) }
+    ensures err { IfErr result (IsBadStep (plan_step (state_of progress.old) kind text.now)) }
+    ensures sound { IfOk result (λ ended. IsSoundAfter ended progress.new) }
+{
+    let second = progress.asks.is_some();
+    add_part(alloc, &mut progress.plan, second, kind, text)?;
+    progress.last = place(kind);
+    Ok(false)
+}
+
+fn take_message(alloc: Global, progress: &mut Progress, text: &[u8]) -> Result<bool, LineFault>
+    requires valid { IsValidPlan progress.old.plan }
+    requires sound { IsSound progress.old }
+    ensures ok { IfOk result
+        (λ ended. IsStep (state_of progress.old) (part_step (state_of progress.old) LineKind.Got text.now) ended progress.new) }
+    ensures err { IfErr result (IsBadStep (part_step (state_of progress.old) LineKind.Got text.now)) }
+    ensures sound { IfOk result (λ ended. IsSoundAfter ended progress.new) }
+{
+    let arrival = read_arrival(alloc, &progress.plan, text)?;
+    progress.arrivals.push(arrival)?;
+    progress.last = place(LineKind::Got);
+    Ok(false)
+}
+
+// Adds a step that was asked for; such lines stand in version 2 alone.
+fn take_ask(alloc: Global, progress: &mut Progress, text: &[u8]) -> Result<bool, LineFault>
+    requires valid { IsValidPlan progress.old.plan }
+    requires sound { IsSound progress.old }
+    ensures ok { IfOk result
+        (λ ended. IsStep (state_of progress.old) (part_step (state_of progress.old) LineKind.Ask text.now) ended progress.new) }
+    ensures err { IfErr result (IsBadStep (part_step (state_of progress.old) LineKind.Ask text.now)) }
+    ensures sound { IfOk result (λ ended. IsSoundAfter ended progress.new) }
+{
+    let asked = read_asked(alloc, &progress.plan, progress.arrivals.len() as u64, text)?;
+    let mut asks = match progress.asks.take() {
+        Some(asks) => asks,
+        None => List::new(alloc),
+    };
+    asks.push(asked)?;
+    progress.asks = Some(asks);
+    progress.last = place(LineKind::Ask);
+    Ok(false)
+}
+
+// How many lines say that a message came or that a step was asked for.
+fn line_count(progress: &Progress) -> u128
+    ensures { result ≡ length progress.now.arrivals + length (steps_in (state_of progress.now)) }
+{
+    let steps = match &progress.asks {
+        Some(asks) => asks.len(),
+        None => 0,
+    };
+    progress.arrivals.len() as u128 + steps as u128
+}
+
+// Adds a line; whether it ends the record.
+fn take_line(alloc: Global, progress: &mut Progress, line: &[u8]) -> Result<bool, LineFault>
+    requires { IsSound progress.old }
+    ensures ok { IfOk result
+        (λ ended. IsStep (state_of progress.old) (line_step (state_of progress.old) line.now) ended progress.new) }
+    ensures err { IfErr result (IsBadStep (line_step (state_of progress.old) line.now)) }
+    ensures sound { IfOk result (λ ended. IsSoundAfter ended progress.new) }
+{
+    let (word, text) = word_and_rest(line);
+    let Some(kind) = kind_of_word(progress.asks.is_some(), word) else {
+        return Err(MISFORMED);
+    };
+    take_kind(alloc, progress, kind, text)
+}
+
+fn take_kind(
+    alloc: Global,
+    progress: &mut Progress,
+    kind: LineKind,
+    text: &[u8],
+) -> Result<bool, LineFault>
+    requires { IsSound progress.old }
+    ensures ok { IfOk result
+        (λ ended. IsStep (state_of progress.old) (kind_step (state_of progress.old) kind text.now) ended progress.new) }
+    ensures err { IfErr result (IsBadStep (kind_step (state_of progress.old) kind text.now)) }
+    ensures sound { IfOk result (λ ended. IsSoundAfter ended progress.new) }
+{
+    if ends_plan(progress.last, kind) {
+        test_plan(alloc, &progress.plan)?;
+    }
+    if !may_stand(progress.last, kind) {
+        return Err(MISFORMED);
+    }
+    take_part(alloc, progress, kind, text)
+}
+
+fn word_and_rest(line: &[u8]) -> (&[u8], &[u8])
+    ensures word { result.0.now ≡ word_of line.now }
+    ensures rest { result.1.now ≡ rest_of line.now }
+{
+    match position_of(b' ', line) {
+        Some(i) => (&line[..i], &line[i + 1..]),
+        None => (line, &[]),
+    }
+}
+
+fn position_of(byte: u8, bytes: &[u8]) -> Option<usize>
+    ensures { result ≡ position (λ b. b == byte) bytes.now }
+{
+    bytes.iter().position(|b| *b == byte)
+}
+
+// The first line, without its line feed, and what stands after that.
+fn line_and_rest(bytes: &[u8]) -> Option<(&[u8], &[u8])>
+    ensures cut { MatchOption result (slice_split is_feed bytes.now ≡ bytes.now ∷ [])
+        (λ p. slice_split is_feed bytes.now ≡ p.0.now ∷ slice_split is_feed p.1.now) }
+    ensures shorter { IfSome result (λ p. length p.1.now + 1 ≤ length bytes.now) }
+{
+    match position_of(b'\n', bytes) {
+        Some(i) => Some((&bytes[..i], &bytes[i + 1..])),
+        None => None,
+    }
+}
+
+/// What a record of version 1 or 2 says: its plan, which is valid, the messages that came and, in version 2, the steps that
+/// were asked for. `Line` has the line and the number of the first fault.
+pub fn read_record(alloc: Global, bytes: &[u8]) -> Result<Saved, RecordFault>
+    ensures ok { IfOk result (λ s. reading bytes.now ≡ said_by s) }
+    ensures valid { IfOk result (λ s. IsValidPlan s.plan) }
+    ensures known { IfOk result (λ s. All (IsKnown s.plan) (map came s.arrivals)) }
+    ensures faulty { (l n : ℕ) → result ≡ Err (RecordFault.Line l n) → reading bytes.now ≡ Faulty l n }
+{
+    let mut progress = empty_progress(alloc);
+    let mut number: u64 = 1;
+    let mut rest = bytes;
+    while let Some((line, after)) = line_and_rest(rest) {
+        match take_line(alloc, &mut progress, line) {
+            Ok(false) => {}
+            Ok(true) => return closed(progress, number, after),
+            Err(fault) => return Err(at_line(number, fault)),
+        }
+        number += 1;
+        rest = after;
+    }
+    Err(RecordFault::Line(number, UNENDED))
+}
+
+fn at_line(number: u64, fault: LineFault) -> RecordFault
+    ensures { IsFaultAt number fault result }
+{
+    match fault {
+        LineFault::Bad(n) => RecordFault::Line(number, n),
+        LineFault::Mem => RecordFault::Mem,
+    }
+}
+
+fn empty_progress(alloc: Global) -> Progress
+    ensures empty { state_of result ≡ start }
+    ensures sound { IsSound result }
+{
+    Progress {
+        last: 0,
+        plan: Plan {
+            until: 0,
+            loops: 0,
+            entries: 0,
+            sims: List::new(alloc),
+            models: List::new(alloc),
+            entities: List::new(alloc),
+            conns: List::new(alloc),
+            asyncs: List::new(alloc),
+        },
+        arrivals: List::new(alloc),
+        asks: None,
+    }
+}
+
+// What a record says whose `end` line was read, this one, where `after` follows.
+fn closed(progress: Progress, number: u64, after: &[u8]) -> Result<Saved, RecordFault>
+    requires { number + 1 < 2 ^ 64 }
+    ensures ok { IfOk result (λ s. (after.now ≡ []) × (s ≡ saved_in progress)) }
+    ensures faulty { IfErr result (IsOverlong number after.now) }
+{
+    match after {
+        [] => Ok(Saved {
+            plan: progress.plan,
+            arrivals: progress.arrivals,
+            asks: progress.asks,
+        }),
+        _ => Err(RecordFault::Line(number + 1, OVERLONG)),
+    }
+}

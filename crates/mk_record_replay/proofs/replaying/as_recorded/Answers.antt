@@ -1,0 +1,32 @@
+use Rattle.std.proofs.Common.{◌≡◌, ◌∙◌, List, All, map, sym, ap, subst}
+use Rattle.std.proofs.lemmas.List.{length-map}
+use Rattle.mk_base.specs.Lists.{BeginsWith}
+use Rattle.mk_plan.specs.declared.Plan.{Plan}
+use Rattle.mk_plan.specs.declared.Entry.{Entry}
+use Rattle.mk_plan.specs.Journals.{arrivals}
+use Rattle.mk_record_read.specs.Seen.{came}
+use Rattle.mk_sched.specs.Cores.{CoreState}
+use Rattle.mk_record_replay.specs.inner.Loops.{CanArrive}
+use Rattle.mk_record_replay.specs.Replays.{EndsBy}
+use Rattle.mk_record_replay.proofs.Known.{messages_of_record}
+use Rattle.mk_record_replay.proofs.replaying.as_recorded.Goals as goal
+
+pub run-requires-clause-known : goal.run-requires-clause-known
+run-requires-clause-known c = let plan : c.in_ok-core.core.plan ≡ c.args.saved.plan = ap (λ (core : CoreState). core.plan) c.in_ok-core.ensures in
+    subst (λ (P : Plan). All (CanArrive P) c.args.saved.arrivals) (sym plan) (messages_of_record c.args.saved.plan c.args.saved.arrivals c.requires.known)
+
+pub returns-clause-end : goal.returns-clause-end
+returns-clause-end c =
+    let P = c.args.saved.plan in
+    let A = map came c.args.saved.arrivals in
+    let end = c.in_ok-end.end in
+    let plan : c.in_ok-core.core.plan ≡ P = ap (λ (core : CoreState). core.plan) c.in_ok-core.ensures in
+    let run = c.in_ok-end.ensures in
+    record {
+      messages_end = end;
+      other = c.first_other_step-other.result;
+      ends = subst (λ (J : List Entry). EndsBy P A J end) (sym c.into_parts-plan.ensures.journal) (subst (λ (Q : Plan). EndsBy Q A c.run.new.core.entries end) plan run.ends);
+      compared = c.first_other_step-other.ensures A (length-map c.args.saved.arrivals came ∙ sym c.len-count.ensures)
+          (subst (λ (J : List Entry). BeginsWith A (arrivals J)) (sym c.into_parts-plan.ensures.journal) run.replay.given);
+      is = c.end_with.ensures;
+    }

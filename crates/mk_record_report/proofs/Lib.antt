@@ -1,0 +1,6 @@
+pub mod Bare
+mod Lasts
+mod Parting
+mod Summing
+mod Tallying
+mod Texts

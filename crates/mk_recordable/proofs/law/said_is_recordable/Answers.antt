@@ -1,5 +1,0 @@
-use Rattle.mk_recordable.proofs.Whole.{recordable}
-use Rattle.mk_recordable.proofs.law.said_is_recordable.Goals as goal
-
-pub returns : goal.returns
-returns c bytes P A steps J read valid eager given within = recordable bytes P A steps J read valid eager given within

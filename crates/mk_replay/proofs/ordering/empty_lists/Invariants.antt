@@ -1,7 +1,0 @@
--- proofs/ordering/empty_lists/Invariants.antt
-use Rattle.std.proofs.Common.{[]}
-use Rattle.mk_replay.specs.Rounds.{AreWaiting, AreFit}
-use Rattle.mk_replay.proofs.ordering.empty_lists.Given as goal
-
-abbrev pub invariant-loop : goal.invariant-loop
-invariant-loop l = record { waiting : AreWaiting l.counter [] [] l.lists.items; fit : AreFit l.counter l.lists.items }

@@ -1,6 +1,0 @@
-use Rattle.std.proofs.Common.{◌≡◌}
-use Rattle.mk_replay.specs.Loops.{open_ids}
-use Rattle.mk_replay.proofs.replaying.open_count.Given as goal
-
-abbrev pub invariant-loop-number : goal.invariant-loop-number
-invariant-loop-number l = l.count ≡ open_ids l.core l.number

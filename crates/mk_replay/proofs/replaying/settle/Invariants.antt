@@ -1,9 +1,0 @@
-use Rattle.std.proofs.Common.{◌≡◌, None, ◌-◌, length}
-use Rattle.mk_replay.specs.Loops.{GoesOn}
-use Rattle.mk_replay.proofs.replaying.settle.Given as goal
-
-abbrev pub invariant-asking : goal.invariant-asking
-invariant-asking l = record { going : l.core.ended ≡ None; goes : GoesOn l.fn.core l.core }
-
-abbrev pub decreases-asking : goal.decreases-asking
-decreases-asking l = l.core.plan.entries - length l.core.entries

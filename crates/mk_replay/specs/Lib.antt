@@ -1,4 +1,0 @@
-pub mod Loops
-pub mod Orders
-pub mod Replays
-pub mod Rounds

@@ -1,2 +1,0 @@
-pub mod WholeRuns
-pub mod OneOutcome

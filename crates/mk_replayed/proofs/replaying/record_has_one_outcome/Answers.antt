@@ -1,6 +1,0 @@
--- proofs/replaying/record_has_one_outcome/Answers.antt
-use Rattle.mk_replayed.proofs.OneOutcome.{one_outcome, one_text}
-use Rattle.mk_replayed.proofs.replaying.record_has_one_outcome.Goals as goal
-
-pub returns : goal.returns
-returns c = record { outcome = one_outcome; report = one_text }

@@ -1,5 +1,0 @@
-mod Lasts
-mod Parting
-mod Summing
-mod Tallying
-mod Texts

@@ -1,6 +1,0 @@
-use Rattle.std.proofs.Common.{take}
-use Rattle.mk_report.specs.Parts.{AreParts}
-use Rattle.mk_report.proofs.parts.parts_of.Given as goal
-
-abbrev pub invariant-loop-entry : goal.invariant-loop-entry
-invariant-loop-entry l = AreParts l.count (take l.entry-index l.entries) l.parts.items

@@ -1,8 +1,0 @@
-use Rattle.std.proofs.Common.{◌≡◌, option_map, take}
-use Rattle.mk_plan.specs.Journals.{sent}
-use Rattle.mk_plan.specs.Report.{steps_in}
-use Rattle.mk_report.specs.Summary.{last_of}
-use Rattle.mk_report.proofs.summary.last_step.Given as goal
-
-abbrev pub invariant-loop-entry : goal.invariant-loop-entry
-invariant-loop-entry l = option_map (λ item. item.now) l.last ≡ last_of (steps_in (sent (take l.entry-index l.entries) l.sim))

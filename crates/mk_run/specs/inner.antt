@@ -1,0 +1,4 @@
+-- What proofs alone need.
+pub mod Sendings
+pub mod Turns
+pub mod Underway

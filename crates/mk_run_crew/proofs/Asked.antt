@@ -1,0 +1,50 @@
+-- One request: what its calls add up to.
+use Rattle.std.proofs.Common.{◌≡◌, ℕ, ◌+◌, ◌<◌, true, false, List, [], ◌∷◌, ◌++◌, length, Option, Some, None, Ok, Err, refl, sym, ap, ◌∙◌, subst, inl, inr}
+use Rattle.mk_base.specs.declared.SimNo.{SimNo}
+use Rattle.mk_frame.specs.Frames.{limit}
+use Rattle.mk_message.specs.Written.{call_text}
+use Rattle.mk_outside.specs.declared.fleet.LogEntry.{LogEntry}
+use Rattle.mk_plan.specs.declared.Call.{Call}
+use Rattle.mk_plan.specs.declared.Message.{Message}
+use Rattle.mk_session.specs.declared.answers.QueueFault.{QueueFault}
+use Rattle.mk_session.specs.declared.answers.QueueFault.TheVariants as queue_fault
+use Rattle.mk_run_laws.specs.Lines.{Line, queued}
+use Rattle.mk_run_laws.specs.Crews.{IsHeard}
+use Rattle.mk_run_links.specs.Places.{IsSet, Lines, at, crew}
+use Rattle.mk_local.specs.declared.turn.Turn.{Turn}
+use Rattle.mk_run_local.specs.Calls.{IsCalled}
+use Rattle.mk_run_local.specs.Seen.{AreOf}
+use Rattle.mk_run_crew.specs.inner.Asking.{AsksFail, AsksOnLink, AsksWithin}
+use Rattle.mk_run_crew.specs.inner.Calls.{unsent}
+use Rattle.mk_run_crew.specs.Seen.{CrewSeen, is_here, within_of}
+
+-- the links didn't take the request
+pub asked_not : (sim : SimNo) (f : QueueFault) (call : Call) (id : ℕ) (payload : List ℕ) (C D : CrewSeen) → is_here C sim.0 ≡ false → payload ≡ call_text id call
+    → ((n : ℕ) → f ≡ queue_fault.TooLong n → n ≡ length payload) → ((n : ℕ) → f ≡ queue_fault.TooLong n → limit < n) → D ≡ C → AsksFail (unsent sim f) sim.0 call id [] C D
+asked_not sim (queue_fault.TooLong n) call id payload C D away text size beyond same = inl (record {
+  quiet = refl;
+  same = same;
+  cause = inr (record { sim = sim; bytes = n; is = refl; same_sim = refl; away = away; length_is = size n refl ∙ ap length text; beyond = beyond n refl });
+})
+asked_not sim queue_fault.Mem call id payload C D away text size beyond same = inl (record { quiet = refl; same = same; cause = inl refl })
+
+-- the request was queued, and then this was heard
+pub asked_on_link : (i : ℕ) (call : Call) (id next : ℕ) (payload : List ℕ) (from : ℕ) (m : Message) (entries : List LogEntry) (V C D : CrewSeen) (mid : Lines) → V ≡ C → is_here C i ≡ false → payload ≡ call_text id call → next ≡ id + 1
+    → ((w : Line) × IsSet i w (queued payload next w) V.lines mid) → IsHeard entries from m (crew mid) (crew D.lines) → D.sims ≡ V.sims → D.kept ≡ V.kept → D.halt ≡ None → AsksOnLink i call id from m entries C D
+asked_on_link i call id next payload from m entries V C D mid same away text more set heard sims kept going = record {
+  away = away;
+  mid = mid;
+  line = set.0;
+  set = subst (λ (X : CrewSeen). IsSet i set.0 (queued (call_text id call) (id + 1) set.0) X.lines mid) same
+      (subst (λ (n : ℕ). IsSet i set.0 (queued (call_text id call) n set.0) V.lines mid) more (subst (λ (p : List ℕ). IsSet i set.0 (queued p next set.0) V.lines mid) text set.1));
+  heard = heard;
+  sims = sims ∙ ap (λ (X : CrewSeen). X.sims) same;
+  kept = kept ∙ ap (λ (X : CrewSeen). X.kept) same;
+  halt = going;
+}
+
+-- a simulator within the program answered
+pub asked_within : (i : ℕ) (call : Call) (id : ℕ) (m : Message) (V C D : CrewSeen) → V ≡ C → is_here V i ≡ true → IsCalled (within_of V) i id call m (within_of D) → ((rows : List Turn) → AreOf rows (within_of V) → AreOf rows (within_of D))
+    → D.lines ≡ V.lines → D.halt ≡ V.halt → AsksWithin i call id i m [] C D
+asked_within i call id m V C D same here called known lines halt =
+    subst (λ (X : CrewSeen). AsksWithin i call id i m [] X D) same (record { here = here; same_sim = refl; quiet = refl; called = called; known = known; lines = lines; halt = halt })

@@ -1,0 +1,16 @@
+use Rattle.std.proofs.Common.{◌≡◌, ◌-◌, length}
+use Rattle.mk_local.specs.Registries.{rows_in}
+use Rattle.mk_run_laws.specs.Handshake.{setup_requests}
+use Rattle.mk_run_crew.proofs.Unlinked.{GoesWithin}
+use Rattle.mk_run_crew.proofs.crew.Crew.set_up_within.Given as goal
+
+-- the requests so far were answered
+abbrev pub invariant-asking : goal.invariant-asking
+invariant-asking g l = record {
+  same_lines : (l.self).lines ≡ (l.fn.self).lines;
+  same_places : (l.self).places ≡ (l.fn.self).places;
+  so_far : GoesWithin (l.fn.setup).scenario (l.fn.setup).ranks (rows_in l.kinds) l.self l.setup;
+}
+
+abbrev pub decreases-asking : goal.decreases-asking
+decreases-asking g l = length (setup_requests (l.fn.setup).scenario) - (l.setup).answered

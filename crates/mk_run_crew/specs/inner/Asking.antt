@@ -1,0 +1,164 @@
+-- What one request of a handshake comes to, and a handshake so far. For proofs alone.
+use Rattle.std.specs.Prelude.{◌≡◌, ℕ, ◌+◌, ◌<◌, ◌⊎◌, true, false, List, [], ◌∷◌, ◌++◌, length, take, drop, filter_map, Option, Some, None, Ok}
+use Rattle.mk_base.specs.declared.LinkNo.{LinkNo}
+use Rattle.mk_base.specs.declared.SimNo.{SimNo}
+use Rattle.mk_base.specs.Lists.{IsIn}
+use Rattle.mk_frame.specs.Frames.{limit}
+use Rattle.mk_message.specs.Written.{call_text}
+use Rattle.mk_outside.specs.declared.fleet.LogEntry.{LogEntry}
+use Rattle.mk_outside.specs.declared.fleet.LogEntry.TheVariants.{Rest}
+use Rattle.mk_outside.specs.Logs.{Adds}
+use Rattle.mk_plan.specs.declared.Call.{Call}
+use Rattle.mk_plan.specs.declared.Message.{Message}
+use Rattle.mk_scenario.specs.declared.parts.Scenario.{Scenario}
+use Rattle.mk_launch.specs.Starts.{places}
+use Rattle.mk_local.specs.declared.turn.Turn.{Turn}
+use Rattle.mk_run_laws.specs.Lines.{Line, IsLineAt, queued}
+use Rattle.mk_run_laws.specs.Crews.{IsHeard, IsUnheard}
+use Rattle.mk_run_laws.specs.Handshake.{Request, setup_requests, call_to, call_payloads, sim_link}
+use Rattle.mk_run_laws.specs.Rests.{AllSetUp, IsWellInSetup}
+use Rattle.mk_run_laws.specs.Running.{SetupReplies}
+use Rattle.mk_run_laws.specs.inner.Running.{IsBetween}
+use Rattle.mk_setup.specs.declared.fault.SetupFault.{SetupFault}
+use Rattle.mk_setup.specs.declared.fault.SetupFault.TheVariants as fault
+use Rattle.mk_setup.specs.Answers.{IsRefused}
+use Rattle.mk_setup.specs.Handshakes.{IsReached}
+use Rattle.mk_setup.specs.Replies.{after_reply, arrival}
+use Rattle.mk_setup.specs.Seen.{SetupState}
+use Rattle.mk_run_links.specs.declared.answers.LinkHalt.{LinkHalt}
+use Rattle.mk_run_links.specs.Halts.{ShowsHalt}
+use Rattle.mk_run_links.specs.Places.{IsSet, Lines, at, crew, new_lines}
+use Rattle.mk_run_local.specs.Calls.{IsCalled}
+use Rattle.mk_run_local.specs.Seen.{AreOf, new_within, sim_at}
+use Rattle.mk_run_crew.specs.declared.halt.Halt.{Halt}
+use Rattle.mk_run_crew.specs.declared.halt.Halt.TheVariants as halt
+use Rattle.mk_run_crew.specs.Answers.{answers_to, sim_after, AreKindAnswers}
+use Rattle.mk_run_crew.specs.Calls.{halt_of}
+use Rattle.mk_run_crew.specs.Halted.{ShowsCause, count_to}
+use Rattle.mk_run_crew.specs.Seen.{CrewSeen, within_of, is_here}
+
+-- simulator i, within the program, answered at once
+pub record AsksWithin (i : ℕ) (call : Call) (id from : ℕ) (m : Message) (entries : List LogEntry) (old new : CrewSeen) : Type 0 where
+  pub here : is_here old i ≡ true
+  pub same_sim : from ≡ i
+  pub quiet : entries ≡ []
+  pub called : IsCalled (within_of old) i id call m (within_of new)
+  pub known : (rows : List Turn) → AreOf rows (within_of old) → AreOf rows (within_of new)
+  pub lines : new.lines ≡ old.lines
+  pub halt : new.halt ≡ old.halt
+
+-- the request was queued on the line of simulator i, and this message was heard of a link
+pub record AsksOnLink (i : ℕ) (call : Call) (id from : ℕ) (m : Message) (entries : List LogEntry) (old new : CrewSeen) : Type 0 where
+  pub away : is_here old i ≡ false
+  pub mid : Lines
+  pub line : Line
+  pub set : IsSet i line (queued (call_text id call) (id + 1) line) old.lines mid
+  pub heard : IsHeard entries from m (crew mid) (crew new.lines)
+  pub sims : new.sims ≡ old.sims
+  pub kept : new.kept ≡ old.kept
+  pub halt : new.halt ≡ None
+
+-- the answer to a request, or another message in its place
+abbrev pub Asks : ℕ → Call → ℕ → ℕ → Message → List LogEntry → CrewSeen → CrewSeen → Type 0
+Asks i call id from m entries old new = AsksWithin i call id from m entries old new ⊎ AsksOnLink i call id from m entries old new
+
+-- the payload is longer than a frame may be
+pub record IsTooLongToAsk (h : Halt) (i : ℕ) (call : Call) (id : ℕ) (old : CrewSeen) : Type 0 where
+  pub sim : SimNo
+  pub bytes : ℕ
+  pub is : h ≡ halt.LongItem sim bytes
+  pub same_sim : sim.0 ≡ i
+  pub away : is_here old i ≡ false
+  pub length_is : bytes ≡ length (call_text id call)
+  pub beyond : limit < bytes
+
+-- the request wasn't made
+pub record AsksNot (h : Halt) (i : ℕ) (call : Call) (id : ℕ) (entries : List LogEntry) (old new : CrewSeen) : Type 0 where
+  pub quiet : entries ≡ []
+  pub same : new ≡ old
+  pub cause : (h ≡ halt.Mem) ⊎ IsTooLongToAsk h i call id old
+
+-- the request was queued, and nothing was heard
+pub record AsksInVain (h : Halt) (i : ℕ) (call : Call) (id : ℕ) (entries : List LogEntry) (old new : CrewSeen) : Type 0 where
+  pub away : is_here old i ≡ false
+  pub mid : Lines
+  pub line : Line
+  pub set : IsSet i line (queued (call_text id call) (id + 1) line) old.lines mid
+  pub why : LinkHalt
+  pub is : h ≡ halt_of why
+  pub unheard : IsUnheard entries (crew mid) (crew new.lines)
+  pub shown : ShowsHalt why entries new.lines
+
+abbrev pub AsksFail : Halt → ℕ → Call → ℕ → List LogEntry → CrewSeen → CrewSeen → Type 0
+AsksFail h i call id entries old new = AsksNot h i call id entries old new ⊎ AsksInVain h i call id entries old new
+
+-- the halt that a fault of the handshake is
+abbrev pub setup_halt : SetupFault → Halt
+setup_halt (fault.Meta sim f) = halt.Setup (fault.Meta sim f)
+setup_halt (fault.Create sim f) = halt.Setup (fault.Create sim f)
+setup_halt (fault.Connect f) = halt.Setup (fault.Connect f)
+setup_halt (fault.Unasked sim) = halt.Setup (fault.Unasked sim)
+setup_halt (fault.Failed sim text) = halt.Setup (fault.Failed sim text)
+setup_halt fault.Mem = halt.Mem
+
+-- a request was made, and the setup took what came
+pub record Answers (i : ℕ) (call : Call) (id : ℕ) (entries : List LogEntry) (old new : CrewSeen) (U V : SetupState) : Type 0 where
+  pub from : SimNo
+  pub message : Message
+  pub asks : Asks i call id from.0 message entries old new
+  pub taken : after_reply U (arrival from message) ≡ Ok V
+
+-- a request was made, and the setup didn't take what came
+pub record IsNotTaken (h : Halt) (i : ℕ) (call : Call) (id : ℕ) (entries : List LogEntry) (old new : CrewSeen) (U : SetupState) : Type 0 where
+  pub from : SimNo
+  pub message : Message
+  pub asks : Asks i call id from.0 message entries old new
+  pub fault : SetupFault
+  pub is : h ≡ setup_halt fault
+  pub state : SetupState
+  pub refused : IsRefused U (arrival from message) fault state
+
+-- or nothing came
+abbrev pub AnswersNot : Type 0 → Halt → ℕ → Call → ℕ → List LogEntry → CrewSeen → CrewSeen → SetupState → Type 0
+AnswersNot risen h i call id entries old new U = (AsksFail h i call id entries old new × (h ≡ halt.Fleet → risen)) ⊎ IsNotTaken h i call id entries old new U
+
+-- a crew before its first request: the links, so many having been started before, are open, and their lines are new; and no simulator within the program has been asked
+pub record IsNewCrew (started : ℕ) (rows : List Turn) (S : Scenario) (open_links : List LinkNo) (C : CrewSeen) : Type 0 where
+  pub places : C.places ≡ places started S.sims
+  pub lines : C.lines ≡ new_lines C.places
+  pub within : within_of C ≡ new_within rows S
+  pub known : AreOf rows (within_of C)
+  pub halt : C.halt ≡ None
+  pub are_open : (i : ℕ) (l : LinkNo) → sim_link started S i ≡ Some l → IsIn l open_links
+
+-- after these answers
+pub record IsAnswered (started : ℕ) (S : Scenario) (rows : List Turn) (log : List LogEntry) (answers : List Message) (C : CrewSeen) : Type 0 where
+  pub replies : SetupReplies
+  pub between : IsBetween started S replies log (crew C.lines) (take (length answers) (setup_requests S)) (drop (length answers) (setup_requests S))
+  pub told : (i : ℕ) (l : LinkNo) → sim_link started S i ≡ Some l → replies i ≡ answers_to i (setup_requests S) answers
+  pub kinds : AreKindAnswers rows S answers
+  pub sims : (i : ℕ) → sim_at (within_of C) i ≡ sim_after rows S (length answers) i
+  pub known : AreOf rows (within_of C)
+  pub back : (i : ℕ) (w : Line) → at C.lines i ≡ Some w → (l : LinkNo) × (sim_link started S i ≡ Some l)
+  pub kept : C.kept ≡ []
+  pub halt : C.halt ≡ None
+  pub places : C.places ≡ places started S.sims
+
+-- the handshake so far: these entries were added, and the setup and the crew have come about together by the answers
+pub record GoesSoFar (started : ℕ) (S : Scenario) (ranks : List ℕ) (rows : List Turn) (old new : Option (List LogEntry)) (C : CrewSeen) (U : SetupState) : Type 0 where
+  pub entries : List LogEntry
+  pub adds : Adds entries old new
+  pub answers : List Message
+  pub reached : IsReached S ranks answers U
+  pub resting : U.asked ≡ false
+  pub answered : IsAnswered started S rows entries answers C
+
+-- the handshake has ended early, and the crew is still to be stopped
+pub record IsHalting (started : ℕ) (S : Scenario) (ranks : List ℕ) (rows : List Turn) (log : List LogEntry) (risen : Type 0) (h : Halt) (C : CrewSeen) : Type 0 where
+  pub queued : List Request
+  pub later : List Request
+  pub parts : setup_requests S ≡ queued ++ later
+  pub lines : (i : ℕ) (l : LinkNo) → sim_link started S i ≡ Some l
+      → (ms : List Message) × (w : Line) × (at C.lines i ≡ Some w) × (w.link ≡ l) × IsLineAt log ms (call_payloads 0 (filter_map (call_to i) queued)) (count_to i queued) w
+  pub rests : (before after : List LogEntry) → log ≡ before ++ Rest ∷ after → IsWellInSetup started S before × (AllSetUp started S before → ⊥)
+  pub cause : ShowsCause started S ranks rows log risen queued later h

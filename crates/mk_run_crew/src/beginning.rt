@@ -1,0 +1,312 @@
+// The begin of a crew: the start of the simulators, and the handshake.
+ghost use Rattle.std.specs.Prelude.{◌≡◌, ◌≤◌, ◌<◌, ◌+◌, ◌⊎◌, ◌^◌, ℕ, List, [], true, false, Some, None, length, map, IfOk, IfErr, OnOk, OnErr};
+ghost use Rattle.mk_message.specs.Written.{is_call_in_range};
+ghost use Rattle.mk_outside.specs.declared.fleet.LogEntry.{LogEntry};
+ghost use Rattle.mk_outside.specs.Counts.{HasRisen};
+ghost use Rattle.mk_outside.specs.Logs.{Adds};
+ghost use Rattle.mk_scenario.specs.Wellformed.{IsWellformed};
+ghost use Rattle.mk_launch.specs.Ready.{IsPrepared};
+ghost use Rattle.mk_launch.specs.Starts.{AreNumbered, AreStarted, links_in};
+ghost use Rattle.mk_local.specs.Calls.{IsCallReplied};
+ghost use Rattle.mk_local.specs.Kinds.{name_of};
+ghost use Rattle.mk_local.specs.Registries.{rows_in};
+ghost use Rattle.mk_run_laws.specs.Lines.{Line};
+ghost use Rattle.mk_run_links.specs.Places.{AreOpen, AreDistinct, at, new_lines, without_all};
+ghost use Rattle.mk_setup.specs.Handshakes.{begun};
+ghost use Rattle.mk_setup.specs.Ranked.{AreRanksOf};
+ghost use Rattle.mk_run_local.specs.Seen.{AreOf, new_within};
+ghost use Rattle.mk_run_crew.specs.inner.Asking.{Answers, AnswersNot, Asks, AsksFail, AsksOnLink, IsHalting, IsNewCrew, setup_halt};
+ghost use Rattle.mk_run_crew.specs.Begun.{HasBegun};
+ghost use Rattle.mk_run_crew.specs.Halted.{HasHalted};
+ghost use Rattle.mk_run_crew.specs.Seen.{is_here};
+ghost use Rattle.mk_run_crew.specs.declared.halt.Halt.TheVariants as halts;
+
+use crate::crew::{Crew, unsent};
+use crate::halt::{Halt, halt_of};
+use mk_base::{LinkNo, List, Mem, SimNo};
+use mk_launch::{StartFault, start_all};
+use mk_local::Registry;
+use mk_message::write_call;
+use mk_outside::Fleet;
+use mk_plan::{Call, Message, Plan};
+use mk_run_links::{Links, close_all, places_are_distinct};
+use mk_run_local::Within;
+use mk_scenario::Scenario;
+use mk_setup::{Setup, SetupFault, SetupNext, replies_make};
+use std::alloc::Global;
+use std::sync::Wait;
+
+// What a crew is made of, and its setup.
+#[derive(Drop)]
+pub struct Parts {
+    pub links: Links,
+    pub within: Within,
+    pub setup: Setup,
+}
+
+// The halt that a fault of the handshake is.
+pub fn setup_halt(fault: SetupFault) -> Halt
+    ensures { result ≡ setup_halt fault }
+{
+    match fault {
+        SetupFault::Meta(sim, fault) => Halt::Setup(SetupFault::Meta(sim, fault)),
+        SetupFault::Create(sim, fault) => Halt::Setup(SetupFault::Create(sim, fault)),
+        SetupFault::Connect(fault) => Halt::Setup(SetupFault::Connect(fault)),
+        SetupFault::Unasked(sim) => Halt::Setup(SetupFault::Unasked(sim)),
+        SetupFault::Failed(sim, text) => Halt::Setup(SetupFault::Failed(sim, text)),
+        SetupFault::Mem => Halt::Mem,
+    }
+}
+
+// Starts the simulators. At a halt those links that were started have been closed.
+fn start<F: Fleet>(
+    alloc: Global,
+    scenario: &Scenario,
+    fleet: &mut F,
+) -> Result<List<Option<LinkNo>>, Halt>
+    requires few { length scenario.now.sims < 2 ^ 32 }
+    requires prepared { (kinds : List (List ℕ)) × IsPrepared scenario.now kinds }
+    ensures started { IfOk result (λ places. AreStarted scenario.now.sims
+        (record { started = F.started fleet.old; links = F.open_links fleet.old })
+        (record { started = F.started fleet.new; links = F.open_links fleet.new }) places) }
+    ensures cause { IfErr result (λ h. (h ≡ halts.Mem) ⊎ ((h ≡ halts.Fleet) × HasRisen (F.faults fleet.old) (F.faults fleet.new))) }
+    ensures closed { OnErr result (AreNumbered (F.started fleet.old) (F.open_links fleet.old) → F.open_links fleet.new ≡ F.open_links fleet.old) }
+    ensures count { F.faults fleet.old ≤ F.faults fleet.new }
+    ensures logged { Adds [] (F.log fleet.old) (F.log fleet.new) }
+{
+    places_are_distinct();
+    let mut places = List::new(alloc);
+    match start_all(alloc, scenario, fleet, &mut places) {
+        Ok(()) => Ok(places),
+        Err(StartFault::Failed(_)) => {
+            close_all(places.as_slice(), fleet);
+            Err(Halt::Fleet)
+        }
+        Err(StartFault::Mem) => {
+            close_all(places.as_slice(), fleet);
+            Err(Halt::Mem)
+        }
+    }
+}
+
+// The lines of links at these places, the simulators within the program, and the setup, before any request.
+pub fn make_parts(
+    alloc: Global,
+    scenario: Scenario,
+    ranks: List<u32>,
+    places: &[Option<LinkNo>],
+    kinds: &Registry,
+) -> Result<Parts, Mem>
+    requires wellformed { IsWellformed scenario }
+    requires ranked { AreRanksOf scenario ranks }
+    requires prepared { IsPrepared scenario (map name_of (rows_in kinds.now)) }
+    requires few { length places.now < 2 ^ 32 }
+    requires distinct { AreDistinct places.now }
+    ensures links { IfOk result (λ p. p.links ≡ record { lines = new_lines places.now; halt = None }) }
+    ensures within { IfOk result (λ p. p.within ≡ new_within (rows_in kinds.now) scenario) }
+    ensures known { IfOk result (λ p. AreOf (rows_in kinds.now) p.within) }
+    ensures setup { IfOk result (λ p. p.setup ≡ begun scenario ranks) }
+{
+    Ok(Parts {
+        links: Links::new(alloc, places)?,
+        within: Within::new(alloc, &scenario, kinds)?,
+        setup: Setup::new(alloc, scenario, ranks)?,
+    })
+}
+
+impl Crew {
+    // Queues a request on a simulator's link, and gives the next message of any link.
+    fn ask_link<F: Fleet, R: Wait>(
+        &mut self,
+        rt: &R,
+        fleet: &mut F,
+        sim: SimNo,
+        call: &Call,
+        id: u64,
+    ) -> Result<(SimNo, Message), Halt>
+        requires away { is_here self.old sim.0 ≡ false }
+        requires linked { (w : Line) × (at self.old.lines sim.0 ≡ Some w) }
+        requires open { AreOpen self.old.lines (F.open_links fleet.old) }
+        requires range { is_call_in_range call.now ≡ true }
+        requires going { self.old.halt ≡ None }
+        ensures count { F.faults fleet.old ≤ F.faults fleet.new }
+        ensures cause { result ≡ Err Halt.Fleet → HasRisen (F.faults fleet.old) (F.faults fleet.new) }
+        ensures same_count { F.started fleet.new ≡ F.started fleet.old }
+        ensures same_links { F.open_links fleet.new ≡ F.open_links fleet.old }
+        ensures same_places { self.new.places ≡ self.old.places }
+        ensures open { AreOpen self.new.lines (F.open_links fleet.new) }
+        ensures ok { IfOk result (λ r. (entries : List LogEntry) × Adds entries (F.log fleet.old) (F.log fleet.new) × AsksOnLink sim.0 call.now id r.0.0 r.1 entries self.old self.new) }
+        ensures err { IfErr result (λ h. (entries : List LogEntry) × Adds entries (F.log fleet.old) (F.log fleet.new) × AsksFail h sim.0 call.now id entries self.old self.new) }
+    {
+        let Some(next) = id.checked_add(1) else {
+            return Err(Halt::Mem);
+        };
+        let payload = write_call(self.alloc, call, id)?;
+        if let Err(fault) = self.links.queue(sim, &payload, next) {
+            return Err(unsent(sim, fault));
+        }
+        match self.links.hear(rt, self.alloc, fleet) {
+            Ok(heard) => Ok(heard),
+            Err(why) => Err(halt_of(why)),
+        }
+    }
+
+    // Makes a request, and gives the answer, or the message that came in its place.
+    fn ask<F: Fleet, R: Wait>(
+        &mut self,
+        rt: &R,
+        kinds: &Registry,
+        fleet: &mut F,
+        sim: SimNo,
+        call: &Call,
+        id: u64,
+    ) -> Result<(SimNo, Message), Halt>
+        requires linked { is_here self.old sim.0 ≡ false → (w : Line) × (at self.old.lines sim.0 ≡ Some w) }
+        requires open { AreOpen self.old.lines (F.open_links fleet.old) }
+        requires replied { IsCallReplied call.now }
+        requires range { is_call_in_range call.now ≡ true }
+        requires going { self.old.halt ≡ None }
+        ensures count { F.faults fleet.old ≤ F.faults fleet.new }
+        ensures cause { result ≡ Err Halt.Fleet → HasRisen (F.faults fleet.old) (F.faults fleet.new) }
+        ensures same_count { F.started fleet.new ≡ F.started fleet.old }
+        ensures same_links { F.open_links fleet.new ≡ F.open_links fleet.old }
+        ensures same_places { self.new.places ≡ self.old.places }
+        ensures open { AreOpen self.new.lines (F.open_links fleet.new) }
+        ensures ok { IfOk result (λ r. (entries : List LogEntry) × Adds entries (F.log fleet.old) (F.log fleet.new) × Asks sim.0 call.now id r.0.0 r.1 entries self.old self.new) }
+        ensures err { IfErr result (λ h. (entries : List LogEntry) × Adds entries (F.log fleet.old) (F.log fleet.new) × AsksFail h sim.0 call.now id entries self.old self.new) }
+    {
+        if self.within.has(sim) {
+            let message = self.within.answer_call(kinds, sim, call, id)?;
+            return Ok((sim, message));
+        }
+        self.ask_link(rt, fleet, sim, call, id)
+    }
+
+    // Makes the request that a setup has asked for, and hands it the message that comes.
+    fn make_request<F: Fleet, R: Wait>(
+        &mut self,
+        rt: &R,
+        kinds: &Registry,
+        fleet: &mut F,
+        setup: &mut Setup,
+        request: (SimNo, Call, u64),
+    ) -> Result<(), Halt>
+        requires linked { is_here self.old request.0.0 ≡ false → (w : Line) × (at self.old.lines request.0.0 ≡ Some w) }
+        requires open { AreOpen self.old.lines (F.open_links fleet.old) }
+        requires replied { IsCallReplied request.1 }
+        requires range { is_call_in_range request.1 ≡ true }
+        requires going { self.old.halt ≡ None }
+        ensures count { F.faults fleet.old ≤ F.faults fleet.new }
+        ensures same_count { F.started fleet.new ≡ F.started fleet.old }
+        ensures same_links { F.open_links fleet.new ≡ F.open_links fleet.old }
+        ensures same_places { self.new.places ≡ self.old.places }
+        ensures open { AreOpen self.new.lines (F.open_links fleet.new) }
+        ensures ok { OnOk result ((entries : List LogEntry) × Adds entries (F.log fleet.old) (F.log fleet.new) × Answers request.0.0 request.1 request.2 entries self.old self.new setup.old setup.new) }
+        ensures err { IfErr result (λ h. (entries : List LogEntry) × Adds entries (F.log fleet.old) (F.log fleet.new)
+            × AnswersNot (HasRisen (F.faults fleet.old) (F.faults fleet.new)) h request.0.0 request.1 request.2 entries self.old self.new setup.old) }
+    {
+        let (sim, call, id) = request;
+        let (from, message) = self.ask(rt, kinds, fleet, sim, &call, id)?;
+        match setup.arrive(from, &message) {
+            Ok(()) => Ok(()),
+            Err(fault) => Err(setup_halt(fault)),
+        }
+    }
+
+    // Makes the requests of a setup, each after the reply to the one before, and gives the plan.
+    fn set_up<F: Fleet, R: Wait>(
+        &mut self,
+        rt: &R,
+        kinds: &Registry,
+        fleet: &mut F,
+        setup: &mut Setup,
+    ) -> Result<Plan, Halt>
+        requires begun { setup.old ≡ begun setup.old.scenario setup.old.ranks }
+        requires wellformed { IsWellformed setup.old.scenario }
+        requires prepared { IsPrepared setup.old.scenario (map name_of (rows_in kinds.now)) }
+        requires new { (started : ℕ) × IsNewCrew started (rows_in kinds.now) setup.old.scenario (F.open_links fleet.old) self.old }
+        ensures count { F.faults fleet.old ≤ F.faults fleet.new }
+        ensures same_count { F.started fleet.new ≡ F.started fleet.old }
+        ensures same_links { F.open_links fleet.new ≡ F.open_links fleet.old }
+        ensures same_places { self.new.places ≡ self.old.places }
+        ensures open { AreOpen self.new.lines (F.open_links fleet.new) }
+        ensures ok { IfOk result (λ P. (started : ℕ) → IsNewCrew started (rows_in kinds.now) setup.old.scenario (F.open_links fleet.old) self.old
+            → (entries : List LogEntry) × Adds entries (F.log fleet.old) (F.log fleet.new) × HasBegun started setup.old.scenario setup.old.ranks (rows_in kinds.now) entries self.new P) }
+        ensures err { IfErr result (λ h. (started : ℕ) → IsNewCrew started (rows_in kinds.now) setup.old.scenario (F.open_links fleet.old) self.old
+            → (entries : List LogEntry) × Adds entries (F.log fleet.old) (F.log fleet.new)
+            × IsHalting started setup.old.scenario setup.old.ranks (rows_in kinds.now) entries (HasRisen (F.faults fleet.old) (F.faults fleet.new)) h self.new) }
+    {
+        replies_make();
+        for _ in rt.forever() {
+            let request = match setup.next() {
+                Ok(SetupNext::Request { sim, call, id }) => (sim, call, id),
+                Ok(SetupNext::Wait) => unreachable!(),
+                Ok(SetupNext::Ready(plan)) => return Ok(plan),
+                Err(fault) => return Err(setup_halt(fault)),
+            };
+            match self.make_request(rt, kinds, fleet, setup, request) {
+                Ok(()) => {}
+                Err(halt) => return Err(halt),
+            }
+        }
+        unreachable!()
+    }
+
+    /// Starts the simulators of a prepared scenario with these ranks, and makes the handshake with each: `init`, `create` for
+    /// each group, `setup_done`. The plan is made of their replies.
+    ///
+    /// At a halt each link that was started has been stopped, if its line was there, and closed.
+    pub fn begin<F: Fleet, R: Wait>(
+        rt: &R,
+        alloc: Global,
+        scenario: Scenario,
+        ranks: List<u32>,
+        fleet: &mut F,
+        kinds: &Registry,
+    ) -> Result<(Crew, Plan), Halt>
+        requires wellformed { IsWellformed scenario }
+        requires ranked { AreRanksOf scenario ranks }
+        requires prepared { IsPrepared scenario (map name_of (rows_in kinds.now)) }
+        ensures count { F.faults fleet.old ≤ F.faults fleet.new }
+        ensures begun { IfOk result (λ r. (entries : List LogEntry) × Adds entries (F.log fleet.old) (F.log fleet.new)
+            × HasBegun (F.started fleet.old) scenario ranks (rows_in kinds.now) entries r.0 r.1) }
+        ensures started { IfOk result (λ r. AreStarted scenario.sims
+            (record { started = F.started fleet.old; links = F.open_links fleet.old })
+            (record { started = F.started fleet.new; links = F.open_links fleet.new }) r.0.places) }
+        ensures others { IfOk result (λ r. AreNumbered (F.started fleet.old) (F.open_links fleet.old) → without_all (links_in r.0.places) (F.open_links fleet.new) ≡ F.open_links fleet.old) }
+        ensures open { IfOk result (λ r. AreOpen r.0.lines (F.open_links fleet.new)) }
+        ensures halted { IfErr result (λ h. (entries : List LogEntry) × Adds entries (F.log fleet.old) (F.log fleet.new)
+            × HasHalted (F.started fleet.old) scenario ranks (rows_in kinds.now) entries (HasRisen (F.faults fleet.old) (F.faults fleet.new)) h) }
+        ensures closed { OnErr result (AreNumbered (F.started fleet.old) (F.open_links fleet.old) → F.open_links fleet.new ≡ F.open_links fleet.old) }
+    {
+        places_are_distinct();
+        let places = match start(alloc, &scenario, fleet) {
+            Ok(places) => places,
+            Err(halt) => return Err(halt),
+        };
+        let Parts {
+            links,
+            within,
+            mut setup,
+        } = match make_parts(alloc, scenario, ranks, places.as_slice(), kinds) {
+            Ok(parts) => parts,
+            Err(Mem) => {
+                close_all(places.as_slice(), fleet);
+                return Err(Halt::Mem);
+            }
+        };
+        let mut crew = Crew {
+            alloc,
+            places,
+            links,
+            within,
+        };
+        match crew.set_up(rt, kinds, fleet, &mut setup) {
+            Ok(plan) => Ok((crew, plan)),
+            Err(halt) => {
+                crew.stop(fleet);
+                Err(halt)
+            }
+        }
+    }
+}

@@ -1,0 +1,48 @@
+// Why a crew doesn't go on.
+ghost use Rattle.std.specs.Prelude.{◌≡◌};
+ghost use Rattle.mk_run_crew.specs.Calls.{halt_of};
+
+use mk_base::{Mem, SimNo};
+use mk_run_links::LinkHalt;
+use mk_setup::SetupFault;
+
+/// Why a crew didn't begin, sent no item, or hears nothing more.
+#[derive(Drop)]
+pub enum Halt {
+    /// The handshake has a fault, which isn't want of memory.
+    Setup(SetupFault),
+    /// The fleet failed.
+    Fleet,
+    /// The simulator's link has ended.
+    Gone(SimNo),
+    /// The next frame of the simulator's link has no message, by this test of `mk_message::read`.
+    Garbled(SimNo, u8),
+    /// The header of the next frame of the simulator's link gives this length, which is more than a frame may have.
+    LongFrame(SimNo, u32),
+    /// A payload to the simulator's link has so many bytes, more than 67,108,864.
+    LongItem(SimNo, usize),
+    Mem,
+}
+
+impl From<Mem> for Halt {
+    ghost use Rattle.mk_run_crew.specs.declared.halt.Halt.TheVariants as halt;
+
+    ghost from_gives = { λ _ e. e ≡ halt.Mem };
+
+    fn from(_e: Mem) -> Halt {
+        Halt::Mem
+    }
+}
+
+// The halt that the links' halt is.
+pub fn halt_of(why: LinkHalt) -> Halt
+    ensures { result ≡ halt_of why }
+{
+    match why {
+        LinkHalt::Fleet => Halt::Fleet,
+        LinkHalt::Gone(sim) => Halt::Gone(sim),
+        LinkHalt::Garbled(sim, test) => Halt::Garbled(sim, test),
+        LinkHalt::LongFrame(sim, n) => Halt::LongFrame(sim, n),
+        LinkHalt::Mem => Halt::Mem,
+    }
+}

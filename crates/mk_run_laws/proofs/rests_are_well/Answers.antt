@@ -1,0 +1,5 @@
+use Rattle.mk_run_laws.proofs.Resting.{rests_well}
+use Rattle.mk_run_laws.proofs.rests_are_well.Goals as goal
+
+pub returns : goal.returns
+returns c = rests_well

@@ -1,0 +1,11 @@
+pub mod Hearing
+pub mod Handshake
+pub mod Payloads
+pub mod Lines
+pub mod Kinds
+pub mod Rests
+pub mod Crews
+pub mod Running
+pub mod Runs
+pub mod Laws
+pub mod inner

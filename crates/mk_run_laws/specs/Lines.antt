@@ -1,0 +1,62 @@
+-- A link as a crew keeps it, and how a call moves it.
+use Rattle.std.specs.Prelude.{◌≡◌, ℕ, Bool, true, false, List, [], ◌++◌, Some, None, ◌⊎◌}
+use Rattle.mk_base.specs.declared.LinkNo.{LinkNo}
+use Rattle.mk_base.specs.Lists.{BeginsWith}
+use Rattle.mk_plan.specs.declared.Call.TheVariants.{Stop}
+use Rattle.mk_plan.specs.declared.Message.{Message}
+use Rattle.mk_message.specs.Written.{call_text}
+use Rattle.mk_frame.specs.Frames.{IsUnfinished, frame_of, frames_of}
+use Rattle.mk_outside.specs.declared.fleet.LogEntry.{LogEntry}
+use Rattle.mk_outside.specs.declared.fleet.LogEntry.TheVariants.{NotHeard, NotSaid}
+use Rattle.mk_outside.specs.Logs.{heard_on, said_on, last_read, last_write}
+use Rattle.mk_run_laws.specs.Hearing.{Takes}
+
+-- the link, the bytes heard and not yet given, the bytes unsent, whether it is parked, and the next id
+pub record Line : Type 0 where
+  pub link : LinkNo
+  pub held : List ℕ
+  pub unsent : List ℕ
+  pub parked : Bool
+  pub next : ℕ
+
+-- by the last read nothing had come, all is said or the last write took nothing, and no whole frame is held
+pub record IsParkedIn (log : List LogEntry) (line : Line) : Type 0 where
+  pub heard_all : last_read line.link log ≡ Some (NotHeard line.link)
+  pub said_all : (line.unsent ≡ []) ⊎ (last_write line.link log ≡ Some (NotSaid line.link))
+  pub unfinished : IsUnfinished line.held
+
+-- the line was parked, and nothing was read or written on it
+pub record IsLeft (entries : List LogEntry) (old new : Line) : Type 0 where
+  pub same : new ≡ old
+  pub parked : old.parked ≡ true
+  pub unread : last_read old.link entries ≡ None
+  pub unwritten : last_write old.link entries ≡ None
+
+-- by these entries the line came from old to new, and gave these messages
+pub record IsMoved (entries : List LogEntry) (given : List Message) (old new : Line) : Type 0 where
+  pub link : new.link ≡ old.link
+  pub next : new.next ≡ old.next
+  pub said : said_on old.link entries ++ new.unsent ≡ old.unsent
+  pub taken : Takes (old.held ++ heard_on old.link entries) given new.held
+  pub parked : new.parked ≡ true → IsParkedIn entries new ⊎ IsLeft entries old new
+
+-- over the whole log the line gave these messages, these payloads were queued on it, and this is the next id
+pub record IsLineAt (log : List LogEntry) (messages : List Message) (payloads : List (List ℕ)) (next : ℕ) (line : Line) : Type 0 where
+  pub heard : Takes (heard_on line.link log) messages line.held
+  pub said : said_on line.link log ++ line.unsent ≡ frames_of payloads
+  pub next_id : line.next ≡ next
+  pub parked : line.parked ≡ true → IsParkedIn log line
+
+-- the line with one more payload to be said
+abbrev pub queued : List ℕ → ℕ → Line → Line
+queued payload next line = record { link = line.link; held = line.held; unsent = line.unsent ++ frame_of payload; parked = false; next = next }
+
+-- what is still to be said on a line that is stopped: what is unsent, and a stop
+abbrev pub last_bytes : Line → List ℕ
+last_bytes line = line.unsent ++ frame_of (call_text line.next Stop)
+
+-- by these entries the line was stopped: nothing was heard, and a beginning of its last bytes was said; all of them, but where a write took nothing or the count of faults rose
+pub record IsStopped (entries : List LogEntry) (risen : Type 0) (line : Line) : Type 0 where
+  pub unheard : heard_on line.link entries ≡ []
+  pub said : BeginsWith (last_bytes line) (said_on line.link entries)
+  pub whole : (said_on line.link entries ≡ last_bytes line) ⊎ ((last_write line.link entries ≡ Some (NotSaid line.link)) ⊎ risen)

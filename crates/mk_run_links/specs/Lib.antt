@@ -1,0 +1,5 @@
+pub mod Places
+pub mod Halts
+pub mod Seen
+pub mod Crews
+pub mod inner

@@ -1,0 +1,181 @@
+// The lines of a crew, each at the place of its simulator.
+ghost use Rattle.std.specs.Prelude.{◌≡◌, ℕ, ◌+◌, ◌≤◌, ◌<◌, ◌^◌, List, [], ◌∷◌, ◌++◌, length, filter_map, None, Some, Err, IfOk, IfSome, OnOk, OnErr};
+ghost use Rattle.mk_base.specs.Lists.{IsIn};
+ghost use Rattle.mk_frame.specs.Frames.{limit};
+ghost use Rattle.mk_outside.specs.declared.fleet.LogEntry.{LogEntry};
+ghost use Rattle.mk_outside.specs.Counts.{HasRisen};
+ghost use Rattle.mk_outside.specs.Logs.{Adds};
+ghost use Rattle.mk_run_laws.specs.Lines.{Line, queued};
+ghost use Rattle.mk_run_links.specs.inner.OneLine.{PollsAt, StopsAt, is_on, link_of, unparked};
+ghost use Rattle.mk_run_links.specs.Places.{IsLinked, IsOpenAt, IsSet, at};
+
+use crate::line::CrewLine;
+use mk_base::{LinkNo, Mem, SimNo};
+use mk_outside::Fleet;
+use mk_session::{Heard, Polled, QueueFault};
+use std::alloc::Global;
+use std::marker::Model;
+
+// The lines of a crew; a simulator within the program has none.
+#[derive(Drop)]
+pub struct CrewLines {
+    lines: Vec<Option<CrewLine>>,
+}
+
+impl Model for CrewLines {
+    ghost use Rattle.std.specs.Prelude.{List, Option, length, ◌<◌, ◌^◌};
+    ghost use Rattle.mk_run_laws.specs.Lines.{Line};
+
+    ghost Value = { List (Option Line) };
+
+    ghost view = { λ a. a.lines.items };
+
+    ghost invariant = { λ a. length a.lines.items < 2 ^ 32 };
+}
+
+fn is_on(line: &Option<CrewLine>, link: LinkNo) -> bool
+    ensures { result ≡ is_on link line.now }
+{
+    match line {
+        Some(line) => line.link().0 == link.0,
+        None => false,
+    }
+}
+
+// Adds the link of a line, if there is one.
+fn add_link(links: &mut Vec<LinkNo>, line: &Option<CrewLine>) -> Result<(), Mem>
+    ensures { OnOk result (links.new.items ≡ links.old.items ++ filter_map link_of (line.now ∷ [])) }
+{
+    if let Some(line) = line {
+        links.push(line.link())?;
+    }
+    Ok(())
+}
+
+impl CrewLines {
+    pub fn new(alloc: Global) -> CrewLines
+        ensures { result ≡ [] }
+    {
+        CrewLines {
+            lines: Vec::new(alloc),
+        }
+    }
+
+    // Adds the line of the next simulator, or none. At want of memory nothing changes.
+    pub fn push(&mut self, line: Option<CrewLine>) -> Result<(), Mem>
+        requires { length self.old + 1 < 2 ^ 32 }
+        ensures ok { OnOk result (self.new ≡ self.old ++ line ∷ []) }
+        ensures err { OnErr result (self.new ≡ self.old) }
+    {
+        self.lines.push(line)?;
+        Ok(())
+    }
+
+    // How many simulators there are.
+    pub fn len(&self) -> usize
+        ensures count { result ≡ length self.now }
+        ensures few { length self.now < 2 ^ 32 }
+    {
+        self.lines.len()
+    }
+
+    // The link of a simulator's line.
+    pub fn link(&self, sim: SimNo) -> LinkNo
+        requires { IsLinked sim.0 self.now }
+        ensures { (w : Line) × (at self.now sim.0 ≡ Some w) × (w.link ≡ result) }
+    {
+        match &self.lines[sim.0 as usize] {
+            Some(line) => line.link(),
+            None => unreachable!(),
+        }
+    }
+
+    // The next id of a simulator's line.
+    pub fn next(&self, sim: SimNo) -> u64
+        requires { IsLinked sim.0 self.now }
+        ensures { (w : Line) × (at self.now sim.0 ≡ Some w) × (w.next ≡ result) }
+    {
+        match &self.lines[sim.0 as usize] {
+            Some(line) => line.next(),
+            None => unreachable!(),
+        }
+    }
+
+    // The simulator whose line is on this link.
+    pub fn sim_on(&self, link: LinkNo) -> Option<SimNo>
+        ensures some { IfSome result (λ sim. (w : Line) × (at self.now sim.0 ≡ Some w) × (w.link ≡ link)) }
+        ensures none { result ≡ None → (i : ℕ) (w : Line) → at self.now i ≡ Some w → w.link ≡ link → ⊥ }
+    {
+        let i = self.lines.iter().position(|line| is_on(line, link))?;
+        Some(SimNo(i as u32))
+    }
+
+    // The links of all lines, in the order of the simulators.
+    pub fn links(&self, alloc: Global) -> Result<Vec<LinkNo>, Mem>
+        ensures { IfOk result (λ links. links.items ≡ filter_map link_of self.now) }
+    {
+        let mut links = Vec::new(alloc);
+        for line in &self.lines {
+            add_link(&mut links, line)?;
+        }
+        Ok(links)
+    }
+
+    // The line of a simulator is no longer parked.
+    pub fn wake(&mut self, sim: SimNo)
+        requires { IsLinked sim.0 self.old }
+        ensures { (w : Line) × IsSet sim.0 w (unparked w) self.old self.new }
+    {
+        match &mut self.lines[sim.0 as usize] {
+            Some(line) => line.wake(),
+            None => unreachable!(),
+        }
+    }
+
+    // Queues a payload on the line of a simulator, which isn't parked then and has this next id. After a fault nothing has
+    // changed.
+    pub fn queue(&mut self, sim: SimNo, payload: &[u8], next: u64) -> Result<(), QueueFault>
+        requires { IsLinked sim.0 self.old }
+        ensures ok { OnOk result ((w : Line) × IsSet sim.0 w (queued payload.now next w) self.old self.new) }
+        ensures allowed { OnOk result (length payload.now ≤ limit) }
+        ensures too_long { (n : ℕ) → result ≡ Err (QueueFault.TooLong n) → n ≡ length payload.now }
+        ensures too_long_only { (n : ℕ) → result ≡ Err (QueueFault.TooLong n) → limit < n }
+        ensures err { OnErr result (self.new ≡ self.old) }
+    {
+        match &mut self.lines[sim.0 as usize] {
+            Some(line) => line.queue(payload, next),
+            None => unreachable!(),
+        }
+    }
+
+    // Polls the line of a simulator.
+    pub fn poll<F: Fleet>(&mut self, sim: SimNo, fleet: &mut F) -> Polled
+        requires there { IsLinked sim.0 self.old }
+        requires open { IsOpenAt sim.0 self.old (F.open_links fleet.old) }
+        ensures count { F.faults fleet.old ≤ F.faults fleet.new }
+        ensures cause { result ≡ Polled.Ready Heard.Failed → HasRisen (F.faults fleet.old) (F.faults fleet.new) }
+        ensures same_count { F.started fleet.new ≡ F.started fleet.old }
+        ensures same_links { F.open_links fleet.new ≡ F.open_links fleet.old }
+        ensures polled { (entries : List LogEntry) × Adds entries (F.log fleet.old) (F.log fleet.new) × PollsAt result sim.0 self.old entries self.new }
+    {
+        match &mut self.lines[sim.0 as usize] {
+            Some(line) => line.poll(fleet),
+            None => unreachable!(),
+        }
+    }
+
+    // Says what is unsent on the line of a simulator, and a stop; where there is no line nothing is done. It takes no memory.
+    pub fn stop<F: Fleet>(&self, sim: SimNo, fleet: &mut F)
+        requires there { sim.0 < length self.now }
+        requires open { IsOpenAt sim.0 self.now (F.open_links fleet.old) }
+        ensures count { F.faults fleet.old ≤ F.faults fleet.new }
+        ensures same_count { F.started fleet.new ≡ F.started fleet.old }
+        ensures same_links { F.open_links fleet.new ≡ F.open_links fleet.old }
+        ensures stopped { (entries : List LogEntry) × Adds entries (F.log fleet.old) (F.log fleet.new) × StopsAt sim.0 self.now (HasRisen (F.faults fleet.old) (F.faults fleet.new)) entries }
+    {
+        match &self.lines[sim.0 as usize] {
+            Some(line) => line.stop(fleet),
+            None => {}
+        }
+    }
+}

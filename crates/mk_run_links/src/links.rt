@@ -1,0 +1,348 @@
+// The links of a run: what is queued, heard and said on them.
+ghost use Rattle.std.specs.Prelude.{◌≡◌, ℕ, ◌+◌, ◌≤◌, ◌<◌, ◌^◌, List, [], ◌∷◌, ◌++◌, length, None, Some, Err, IfOk, IfSome, OnOk, OnErr, option_map, option_to_list};
+ghost use Rattle.mk_frame.specs.Frames.{limit};
+ghost use Rattle.mk_base.specs.declared.SimNo.{SimNo};
+ghost use Rattle.mk_outside.specs.declared.fleet.LogEntry.{LogEntry};
+ghost use Rattle.mk_outside.specs.Counts.{HasRisen};
+ghost use Rattle.mk_outside.specs.Logs.{Adds};
+ghost use Rattle.mk_run_laws.specs.Lines.{Line, queued};
+ghost use Rattle.mk_poll.specs.Links.{IsAdded};
+ghost use Rattle.mk_run_laws.specs.Crews.{AreMoved, IsSentOnLink};
+ghost use Rattle.mk_run_laws.specs.Payloads.{id_after};
+ghost use Rattle.mk_run_links.specs.Crews.{HearsAs, IsLengthOf, StopsAll};
+ghost use Rattle.mk_run_links.specs.Halts.{lasting};
+ghost use Rattle.mk_run_links.specs.Places.{AreDistinct, AreOpen, IsLinked, IsSet, at, crew, new_line, new_lines};
+ghost use Rattle.mk_run_links.specs.inner.Rounds.{GoesAs, LooksAs, RestsAs, round_of};
+
+use crate::answers::{LinkHalt, Looked, Round};
+use crate::line::CrewLine;
+use crate::lines::CrewLines;
+use mk_base::{LinkNo, Mem, SimNo};
+use mk_message::write_item;
+use mk_outside::{Fleet, Waited};
+use mk_plan::{Item, Message};
+use mk_poll::Turns;
+use mk_session::{Heard, Polled, QueueFault};
+use std::alloc::Global;
+use std::marker::Model;
+use std::sync::Wait;
+
+/// The links of a run, and the halt that `hear` answers again.
+#[derive(Drop)]
+pub struct Links {
+    lines: CrewLines,
+    turns: Turns,
+    halt: Option<LinkHalt>,
+}
+
+impl Model for Links {
+    ghost use Rattle.mk_run_links.specs.Seen.{Seen};
+    ghost use Rattle.mk_run_links.specs.inner.Standing.{Stands};
+
+    ghost Value = { Seen };
+
+    ghost view = { λ a. record { lines = a.lines; halt = a.halt } };
+
+    ghost invariant = { λ a. Stands a.lines a.turns };
+}
+
+// Adds the line of the next simulator and a turn of its link, or no line.
+fn add_place(
+    alloc: Global,
+    lines: &mut CrewLines,
+    turns: &mut Turns,
+    place: &Option<LinkNo>,
+) -> Result<(), Mem>
+    requires few { length lines.old + 1 < 2 ^ 32 }
+    requires fresh { IfSome place.now (λ link. ¬ IsAdded link turns.old) }
+    ensures lines { OnOk result (lines.new ≡ lines.old ++ option_map new_line place.now ∷ []) }
+    ensures ready { OnOk result (turns.new.ready ≡ turns.old.ready ++ option_to_list place.now) }
+    ensures taken { OnOk result (turns.new.taken ≡ turns.old.taken) }
+    ensures parked { OnOk result (turns.new.parked ≡ turns.old.parked) }
+{
+    match place {
+        Some(link) => {
+            lines.push(Some(CrewLine::new(alloc, *link)?))?;
+            turns.add(*link)
+        }
+        None => lines.push(None),
+    }
+}
+
+// The next id behind an item that has this one, or that of what it answers; `None` where it would be 2^64.
+fn id_behind(item: &Item, id: u64) -> Option<u64>
+    ensures { IfSome result (λ next. next ≡ id_after id (item.now ∷ [])) }
+{
+    match item {
+        Item::Step { .. } | Item::GetData { .. } => id.checked_add(1),
+        Item::Answer { .. } | Item::Refuse { .. } => Some(id),
+    }
+}
+
+// So many marks, none of them set.
+fn unmarked(alloc: Global, n: usize) -> Result<Vec<bool>, Mem>
+    ensures { IfOk result (λ marks. length marks.items ≡ n) }
+{
+    let mut marks = Vec::new(alloc);
+    marks.resize(n, false)?;
+    Ok(marks)
+}
+
+// The halt that is answered again.
+fn lasting(heard: &Result<(SimNo, Message), LinkHalt>) -> Option<LinkHalt>
+    ensures { result ≡ lasting heard.now }
+{
+    match heard {
+        Err(LinkHalt::Mem) | Ok(_) => None,
+        Err(halt) => Some(*halt),
+    }
+}
+
+// What a round answers where this was heard of a simulator.
+fn round_of(sim: SimNo, heard: Heard) -> Round
+    ensures { result ≡ round_of sim heard }
+{
+    match heard {
+        Heard::Message(message) => Round::Message(sim, message),
+        Heard::Garbled(test) => Round::Halted(LinkHalt::Garbled(sim, test)),
+        Heard::TooLong(n) => Round::Halted(LinkHalt::LongFrame(sim, n)),
+        Heard::Closed => Round::Halted(LinkHalt::Gone(sim)),
+        Heard::Failed => Round::Halted(LinkHalt::Fleet),
+        Heard::Mem => Round::Halted(LinkHalt::Mem),
+    }
+}
+
+impl Links {
+    /// The links at these places, one place for each simulator: nothing was heard on them, and nothing is to be said.
+    pub fn new(alloc: Global, links: &[Option<LinkNo>]) -> Result<Links, Mem>
+        requires few { length links.now < 2 ^ 32 }
+        requires distinct { AreDistinct links.now }
+        ensures { IfOk result (λ made. made ≡ record { lines = new_lines links.now; halt = None }) }
+    {
+        let mut lines = CrewLines::new(alloc);
+        let mut turns = Turns::new(alloc);
+        for place in links {
+            add_place(alloc, &mut lines, &mut turns, place)?;
+        }
+        Ok(Links {
+            lines,
+            turns,
+            halt: None,
+        })
+    }
+
+    /// The next id of a simulator's link.
+    pub fn next(&self, sim: SimNo) -> u64
+        requires { IsLinked sim.0 self.now.lines }
+        ensures { (w : Line) × (at self.now.lines sim.0 ≡ Some w) × (w.next ≡ result) }
+    {
+        self.lines.next(sim)
+    }
+
+    /// The halt that `hear` answers again, if there is one.
+    pub fn halt(&self) -> Option<LinkHalt>
+        ensures { result ≡ self.now.halt }
+    {
+        self.halt
+    }
+
+    /// Queues a payload on a simulator's link, after which this is its next id. After a fault nothing has changed.
+    pub fn queue(&mut self, sim: SimNo, payload: &[u8], next: u64) -> Result<(), QueueFault>
+        requires { IsLinked sim.0 self.old.lines }
+        ensures ok { OnOk result ((w : Line) × IsSet sim.0 w (queued payload.now next w) self.old.lines self.new.lines) }
+        ensures allowed { OnOk result (length payload.now ≤ limit) }
+        ensures too_long { (n : ℕ) → result ≡ Err (QueueFault.TooLong n) → n ≡ length payload.now }
+        ensures too_long_only { (n : ℕ) → result ≡ Err (QueueFault.TooLong n) → limit < n }
+        ensures err { OnErr result (self.new ≡ self.old) }
+        ensures same_halt { self.new.halt ≡ self.old.halt }
+    {
+        let link = self.lines.link(sim);
+        self.lines.queue(sim, payload, next)?;
+        self.turns.ready(link);
+        Ok(())
+    }
+
+    /// Queues an item on a simulator's link: a Step and a GetData with the link's next id, an Answer and a Refuse with the
+    /// id of what they answer. `TooLong` has the length of the item's payload, which may have at most 67,108,864 bytes.
+    /// `Mem` comes for want of memory, and where the next id would be 2^64. After a fault nothing has changed.
+    pub fn send(&mut self, alloc: Global, sim: SimNo, item: &Item) -> Result<(), QueueFault>
+        requires { IsLinked sim.0 self.old.lines }
+        ensures ok { OnOk result ((w : Line) × (at self.old.lines sim.0 ≡ Some w) × IsSentOnLink sim.0 item.now w.next (crew self.old.lines) (crew self.new.lines)) }
+        ensures allowed { OnOk result ((n : ℕ) × IsLengthOf n item.now sim.0 self.old.lines × (n ≤ limit)) }
+        ensures too_long { (n : ℕ) → result ≡ Err (QueueFault.TooLong n) → IsLengthOf n item.now sim.0 self.old.lines × (limit < n) }
+        ensures err { OnErr result (self.new ≡ self.old) }
+        ensures same_halt { self.new.halt ≡ self.old.halt }
+    {
+        let id = self.next(sim);
+        let Some(next) = id_behind(item, id) else {
+            return Err(QueueFault::Mem);
+        };
+        let Ok(payload) = write_item(alloc, item, id) else {
+            return Err(QueueFault::Mem);
+        };
+        self.queue(sim, &payload, next)?;
+        Ok(())
+    }
+
+    // Polls the link that has been ready for longest.
+    fn look<F: Fleet>(&mut self, fleet: &mut F) -> Looked
+        requires { AreOpen self.old.lines (F.open_links fleet.old) }
+        ensures count { F.faults fleet.old ≤ F.faults fleet.new }
+        ensures cause { (sim : SimNo) → result ≡ Looked.Heard sim Heard.Failed → HasRisen (F.faults fleet.old) (F.faults fleet.new) }
+        ensures same_count { F.started fleet.new ≡ F.started fleet.old }
+        ensures same_links { F.open_links fleet.new ≡ F.open_links fleet.old }
+        ensures same_halt { self.new.halt ≡ self.old.halt }
+        ensures looked { (entries : List LogEntry) × Adds entries (F.log fleet.old) (F.log fleet.new) × LooksAs result entries self.old.lines self.new.lines }
+    {
+        let Some(link) = self.turns.take() else {
+            return Looked::Quiet;
+        };
+        let Some(sim) = self.lines.sim_on(link) else {
+            self.turns.park(link);
+            return Looked::Parked;
+        };
+        let polled = self.lines.poll(sim, fleet);
+        self.turns.park(link);
+        match polled {
+            Polled::Pending => Looked::Parked,
+            Polled::Ready(heard) => {
+                self.turns.ready(link);
+                Looked::Heard(sim, heard)
+            }
+        }
+    }
+
+    // The link is no longer parked.
+    fn wake(&mut self, link: LinkNo)
+        ensures same_halt { self.new.halt ≡ self.old.halt }
+        ensures stands { AreMoved [] (λ i. []) (crew self.old.lines) (crew self.new.lines) }
+    {
+        if let Some(sim) = self.lines.sim_on(link) {
+            self.lines.wake(sim);
+            self.turns.ready(link);
+        }
+    }
+
+    // The links whose places are marked are no longer parked.
+    fn wake_marked(&mut self, links: &[LinkNo], marks: &[bool])
+        requires { length marks.now ≡ length links.now }
+        ensures same_halt { self.new.halt ≡ self.old.halt }
+        ensures stands { AreMoved [] (λ i. []) (crew self.old.lines) (crew self.new.lines) }
+    {
+        for k in 0..links.len() {
+            if marks[k] {
+                self.wake(links[k]);
+            }
+        }
+    }
+
+    // Waits on all links. Those that may be read or written again are no longer parked.
+    fn rest<F: Fleet>(&mut self, alloc: Global, fleet: &mut F) -> Result<(), LinkHalt>
+        requires open { AreOpen self.old.lines (F.open_links fleet.old) }
+        requires some { (i : ℕ) × IsLinked i self.old.lines }
+        ensures count { F.faults fleet.old ≤ F.faults fleet.new }
+        ensures cause { result ≡ Err LinkHalt.Fleet → HasRisen (F.faults fleet.old) (F.faults fleet.new) }
+        ensures same_count { F.started fleet.new ≡ F.started fleet.old }
+        ensures same_links { F.open_links fleet.new ≡ F.open_links fleet.old }
+        ensures same_halt { self.new.halt ≡ self.old.halt }
+        ensures rested { (entries : List LogEntry) × Adds entries (F.log fleet.old) (F.log fleet.new) × RestsAs result entries self.old.lines self.new.lines }
+    {
+        let links = self.lines.links(alloc)?;
+        let mut marks = unmarked(alloc, links.len())?;
+        match fleet.wait(&links, &mut marks) {
+            Waited::Marked => {
+                self.wake_marked(&links, &marks);
+                Ok(())
+            }
+            Waited::Failed => Err(LinkHalt::Fleet),
+            Waited::Mem => Err(LinkHalt::Mem),
+        }
+    }
+
+    // A look, or a rest where no link is ready.
+    fn round<F: Fleet>(&mut self, alloc: Global, fleet: &mut F) -> Round
+        requires open { AreOpen self.old.lines (F.open_links fleet.old) }
+        requires some { (i : ℕ) × IsLinked i self.old.lines }
+        ensures count { F.faults fleet.old ≤ F.faults fleet.new }
+        ensures cause { result ≡ Round.Halted LinkHalt.Fleet → HasRisen (F.faults fleet.old) (F.faults fleet.new) }
+        ensures same_count { F.started fleet.new ≡ F.started fleet.old }
+        ensures same_links { F.open_links fleet.new ≡ F.open_links fleet.old }
+        ensures same_halt { self.new.halt ≡ self.old.halt }
+        ensures went { (entries : List LogEntry) × Adds entries (F.log fleet.old) (F.log fleet.new) × GoesAs result entries self.old.lines self.new.lines }
+    {
+        match self.look(fleet) {
+            Looked::Heard(sim, heard) => round_of(sim, heard),
+            Looked::Parked => Round::Again,
+            Looked::Quiet => match self.rest(alloc, fleet) {
+                Ok(()) => Round::Again,
+                Err(halt) => Round::Halted(halt),
+            },
+        }
+    }
+
+    // Goes round until something is heard.
+    fn hear_next<F: Fleet, R: Wait>(
+        &mut self,
+        rt: &R,
+        alloc: Global,
+        fleet: &mut F,
+    ) -> Result<(SimNo, Message), LinkHalt>
+        requires open { AreOpen self.old.lines (F.open_links fleet.old) }
+        requires some { (i : ℕ) × IsLinked i self.old.lines }
+        ensures count { F.faults fleet.old ≤ F.faults fleet.new }
+        ensures cause { result ≡ Err LinkHalt.Fleet → HasRisen (F.faults fleet.old) (F.faults fleet.new) }
+        ensures same_count { F.started fleet.new ≡ F.started fleet.old }
+        ensures same_links { F.open_links fleet.new ≡ F.open_links fleet.old }
+        ensures same_halt { self.new.halt ≡ self.old.halt }
+        ensures heard { (entries : List LogEntry) × Adds entries (F.log fleet.old) (F.log fleet.new) × HearsAs result entries self.old.lines self.new.lines }
+    {
+        for _ in rt.forever() {
+            match self.round(alloc, fleet) {
+                Round::Message(sim, message) => return Ok((sim, message)),
+                Round::Halted(halt) => return Err(halt),
+                Round::Again => {}
+            }
+        }
+        unreachable!()
+    }
+
+    /// Gives the next message of a link. A halt but for want of memory is answered again by each later call, which then
+    /// does nothing.
+    pub fn hear<F: Fleet, R: Wait>(
+        &mut self,
+        rt: &R,
+        alloc: Global,
+        fleet: &mut F,
+    ) -> Result<(SimNo, Message), LinkHalt>
+        requires open { AreOpen self.old.lines (F.open_links fleet.old) }
+        requires some { (i : ℕ) × IsLinked i self.old.lines }
+        ensures count { F.faults fleet.old ≤ F.faults fleet.new }
+        ensures cause { self.old.halt ≡ None → result ≡ Err LinkHalt.Fleet → HasRisen (F.faults fleet.old) (F.faults fleet.new) }
+        ensures same_count { F.started fleet.new ≡ F.started fleet.old }
+        ensures same_links { F.open_links fleet.new ≡ F.open_links fleet.old }
+        ensures again { (h : LinkHalt) → self.old.halt ≡ Some h → (result ≡ Err h) × (self.new ≡ self.old) × (fleet.new ≡ fleet.old) }
+        ensures lasts { self.old.halt ≡ None → self.new.halt ≡ lasting result }
+        ensures heard { self.old.halt ≡ None → (entries : List LogEntry) × Adds entries (F.log fleet.old) (F.log fleet.new) × HearsAs result entries self.old.lines self.new.lines }
+    {
+        if let Some(halt) = self.halt {
+            return Err(halt);
+        }
+        let heard = self.hear_next(rt, alloc, fleet);
+        self.halt = lasting(&heard);
+        heard
+    }
+
+    /// Says what is unsent and then a stop on each link, until all is said or a write takes nothing. It takes no memory.
+    pub fn stop<F: Fleet>(&self, fleet: &mut F)
+        requires { AreOpen self.now.lines (F.open_links fleet.old) }
+        ensures count { F.faults fleet.old ≤ F.faults fleet.new }
+        ensures same_count { F.started fleet.new ≡ F.started fleet.old }
+        ensures same_links { F.open_links fleet.new ≡ F.open_links fleet.old }
+        ensures stopped { (entries : List LogEntry) × Adds entries (F.log fleet.old) (F.log fleet.new)
+            × StopsAll entries (HasRisen (F.faults fleet.old) (F.faults fleet.new)) self.now.lines }
+    {
+        for i in 0..self.lines.len() {
+            self.lines.stop(SimNo(i as u32), fleet);
+        }
+    }
+}

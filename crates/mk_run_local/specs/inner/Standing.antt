@@ -1,0 +1,33 @@
+-- What holds of the simulators within the program and of the replies that are kept. For proofs alone.
+use Rattle.std.specs.Prelude.{◌≡◌, ℕ, ℤ, pos, negsuc, ◌≤ℤ◌, Option, Some, None, ⊤}
+use Rattle.mk_base.specs.Lists.{Each}
+use Rattle.mk_plan.specs.Journals.{Arrival}
+use Rattle.mk_local.specs.declared.entity.Entity.{Entity}
+use Rattle.mk_local.specs.Simulators.{Simulator}
+use Rattle.mk_run_local.specs.Seen.{WithinState, sim_at}
+use Rattle.mk_run_local.specs.Calls.{IsFitSuccess}
+
+-- a number within 64 bits
+abbrev pub IsShort : ℤ → Type 0
+IsShort n = (negsuc 9223372036854775807 ≤ℤ n) × (n ≤ℤ pos 9223372036854775807)
+
+-- the same, if it is there
+abbrev pub IsShortIfThere : Option ℤ → Type 0
+IsShortIfThere None = ⊤
+IsShortIfThere (Some n) = IsShort n
+
+-- an entity's numbers are within 64 bits
+pub record IsFitEntity (e : Entity) : Type 0 where
+  pub setting : IsShort e.setting
+  pub state : IsShort e.state
+  pub out : IsShortIfThere e.out
+  pub at : IsShortIfThere e.at
+
+-- and so are those of all entities of a simulator
+abbrev pub IsFit : Simulator → Type 0
+IsFit L = Each IsFitEntity L.entities
+
+-- the numbers of each simulator, and of each reply that is kept, are in range
+pub record Stands (W : WithinState) : Type 0 where
+  pub sims : (i : ℕ) (L : Simulator) → sim_at W i ≡ Some L → IsFit L
+  pub kept : Each (λ (a : Arrival). IsFitSuccess a.message) W.kept

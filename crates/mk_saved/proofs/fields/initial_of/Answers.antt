@@ -1,6 +1,0 @@
-use Rattle.mk_base.specs.Trees.{is_in_range}
-use Rattle.mk_saved.proofs.Ranges.{all_at}
-use Rattle.mk_saved.proofs.fields.initial_of.Goals as goal
-
-pub datum_of-requires : goal.datum_of-requires
-datum_of-requires c = all_at is_in_range c.in_ok-items.items.now 0 c.value-item.result (c.in_ok-items.ensures.in_range c.requires) c.in-len1.len_at_least c.value-item.is

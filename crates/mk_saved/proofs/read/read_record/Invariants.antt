@@ -1,9 +1,0 @@
-use Rattle.std.proofs.Common.{length}
-use Rattle.mk_saved.proofs.Sound.{Reads}
-use Rattle.mk_saved.proofs.read.read_record.Given as goal
-
-abbrev pub invariant-loop-line : goal.invariant-loop-line
-invariant-loop-line l = Reads l.fn.bytes l.rest l.number l.progress
-
-abbrev pub decreases-loop-line : goal.decreases-loop-line
-decreases-loop-line l = length l.rest

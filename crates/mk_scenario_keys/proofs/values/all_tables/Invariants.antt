@@ -1,0 +1,8 @@
+use Rattle.std.proofs.Common.{take}
+use Rattle.mk_scenario_keys.proofs.Gathering.{Gathers}
+use Rattle.mk_scenario_keys.specs.Keys as keys
+use Rattle.mk_scenario_keys.specs.Tests.{item_in}
+use Rattle.mk_scenario_keys.proofs.values.all_tables.Given as goal
+
+abbrev pub invariant-loop-i : goal.invariant-loop-i
+invariant-loop-i l = Gathers (λ i item. keys.table (item_in l.path i) item) l.items l.i (take l.i l.items)

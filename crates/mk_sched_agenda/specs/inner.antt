@@ -1,0 +1,5 @@
+-- What proofs alone need.
+pub mod Begun
+pub mod Coming
+pub mod Dues
+pub mod Outlets

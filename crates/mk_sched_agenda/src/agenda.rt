@@ -1,0 +1,169 @@
+//! The agenda of a run.
+ghost use Rattle.std.specs.Prelude.{◌≡◌, ℕ, ℤ, ◌<◌, ◌≤ℤ◌, pos, true, false, length, List, IfOk, OnOk, None, is_some, MatchOption};
+ghost use Rattle.std.specs.Option.{ForSome};
+ghost use Rattle.mk_base.specs.declared.tier.Tier.{Tier};
+ghost use Rattle.mk_plan.specs.declared.Plan.{Plan};
+ghost use Rattle.mk_plan.specs.declared.Entry.{Entry};
+ghost use Rattle.mk_plan.specs.declared.Input.{Input};
+ghost use Rattle.mk_plan.specs.declared.Item.TheVariants.{Step};
+ghost use Rattle.mk_plan.specs.declared.Message.{Message};
+ghost use Rattle.mk_plan.specs.Plans.{IsValidPlan, sim_count};
+ghost use Rattle.mk_plan.specs.Journals.{View, OpenTurn, empty_view, view, note_sent};
+ghost use Rattle.mk_plan.specs.Walks.{Reach, nobody, IsEarliest};
+ghost use Rattle.mk_plan.specs.Ready.{IsReady, last_step, start};
+ghost use Rattle.mk_plan.specs.Advance.{IsAdvance};
+ghost use Rattle.mk_plan.specs.Orderly.{IsOrderlySoFar, IsFirstReady};
+ghost use Rattle.mk_sched_agenda.specs.Outlets.{AreOutletsOf, triggering_from, outlets_in};
+ghost use Rattle.mk_sched_agenda.specs.Mirrors.{AgendaState, IsOfPlan, Mirrors};
+ghost use Rattle.mk_sched_agenda.specs.Endings.{CanBeMade, IsLast, EndOf};
+
+use crate::advance::{advance_by, sooner};
+use crate::beginning::first_dues;
+use crate::dues::Dues;
+use crate::limits::{Limits, limits_of};
+use crate::outlets::{Beyond, Outlet, outlets_of};
+use crate::triggers::{bring_all, first_beyond};
+use mk_base::{List, Mem, SimNo, Tier};
+use mk_plan::Plan;
+use std::alloc::Global;
+use std::marker::Model;
+
+/// A simulator that may be asked for a step, and the tiered time of that step.
+#[derive(Clone, Copy, Debug, PartialEq, Eq)]
+pub struct Ready {
+    pub sim: SimNo,
+    pub at: Tier,
+}
+
+/// When each simulator of a plan is due, whose turn is open, and who may be asked next.
+///
+/// Contracts see its parts; what these mean is that the agenda mirrors the view of a journal (`Mirrors`): each call says
+/// for which entry it keeps that.
+#[derive(Drop)]
+pub struct Agenda {
+    limits: Limits,
+    outlets: Vec<List<Outlet>>,
+    dues: Dues,
+}
+
+impl Model for Agenda {
+    ghost use Rattle.mk_sched_agenda.specs.Mirrors.{AgendaState};
+    ghost use Rattle.mk_sched_agenda.specs.inner.Dues.{IsSound, IsTidy};
+    ghost use Rattle.std.specs.Prelude.{◌≡◌, length};
+
+    ghost Value = { AgendaState };
+
+    ghost view = { λ a. record { limits = a.limits; outlets = a.outlets.items; queues = a.dues.queues.items; lasts = a.dues.lasts.items; bounds = a.dues.bounds } };
+
+    ghost invariant = { λ a. IsSound a.limits a.outlets.items a.dues.queues.items × IsTidy a.dues.queues.items a.dues.opened.items a.dues.bounds × (length a.dues.lasts.items ≡ length a.dues.queues.items) };
+}
+
+impl Agenda {
+    /// The agenda of a run that has not begun.
+    pub fn new(alloc: Global, plan: &Plan) -> Result<Agenda, Mem>
+        requires { IsValidPlan plan.now }
+        ensures { IfOk result (λ agenda. Mirrors plan.now empty_view agenda) }
+    {
+        let limits = limits_of(plan);
+        let outlets = outlets_of(alloc, plan)?;
+        let dues = first_dues(alloc, plan, &limits)?;
+        Ok(Agenda {
+            limits,
+            outlets,
+            dues,
+        })
+    }
+
+    /// The triggering connections of a simulator, in plan order.
+    pub fn outlets(&self, sim: SimNo) -> &[Outlet]
+        requires { sim.0 < length self.now.queues }
+        ensures { result.now ≡ outlets_in self.now.outlets sim.0 }
+    {
+        self.outlets[sim.0 as usize].as_slice()
+    }
+
+    /// The least-numbered simulator that may be asked for a step, and when; `None` exactly where none may.
+    pub fn first_ready(&self) -> Option<Ready>
+        ensures { (P : Plan) → (V : View) → IsValidPlan P → Mirrors P V self.now
+            → MatchOption result ((i : ℕ) → (x : Tier) → IsReady P V i x → ⊥) (λ r. IsFirstReady IsReady IsAdvance P V r.sim.0 r.at) }
+    {
+        let sim = self.dues.bounds.first_ready()?;
+        let at = self.dues.first_step(sim)?;
+        Some(Ready { sim, at })
+    }
+
+    /// The last step that a simulator was asked for; `None` exactly where it was asked for none.
+    pub fn last_step(&self, sim: SimNo) -> Option<Tier>
+        ensures { (P : Plan) → (V : View) → Mirrors P V self.now → sim.0 < sim_count P → result ≡ last_step V sim.0 }
+    {
+        self.dues.last_step(sim)
+    }
+
+    /// Whether the turn of some simulator is open.
+    pub fn is_any_open(&self) -> bool
+        ensures some { result ≡ true → (P : Plan) → (V : View) → Mirrors P V self.now → (i : ℕ) × (i < sim_count P) × (is_some (V.open_at i) ≡ true) }
+        ensures none { result ≡ false → (P : Plan) → (V : View) → Mirrors P V self.now → (i : ℕ) → i < sim_count P → V.open_at i ≡ None }
+    {
+        self.dues.is_any_open()
+    }
+
+    /// The `max_advance` of the step of a simulator at `at`, for which it may be asked now. Takes no memory.
+    pub fn max_advance(&mut self, sim: SimNo, at: Tier) -> i64
+        requires { sim.0 < length self.old.queues }
+        ensures same { self.new ≡ self.old }
+        ensures advance { (P : Plan) → (J : List Entry) → IsValidPlan P → IsOrderlySoFar IsReady IsAdvance P J → (view P J).fault ≡ None → IsReady P (view P J) sim.0 at
+            → Mirrors P (view P J) self.old → IsAdvance P (view P J) sim.0 at result }
+    {
+        let trigger = self.dues.queues[sim.0 as usize].least_trigger_after(at);
+        let outer = self.dues.bounds.outer(sim);
+        advance_by(&self.limits, at, sooner(trigger, outer))
+    }
+
+    /// The least tiered time at which a simulator may still step, by what is due and what that may trigger; `None` exactly
+    /// where nothing can make it step any more.
+    pub fn earliest(&self, sim: SimNo) -> Option<Tier>
+        requires { sim.0 < length self.now.queues }
+        ensures { (P : Plan) → (V : View) → IsValidPlan P → Mirrors P V self.now
+            → MatchOption result ((y : Tier) → Reach P (start P V) nobody sim.0 y → ⊥) (λ e. IsEarliest P (start P V) sim.0 e) }
+    {
+        self.dues.bounds.earliest(sim)
+    }
+
+    /// A simulator that may be asked for a step was sent it: its turn opens. Takes no memory.
+    pub fn step(&mut self, sim: SimNo)
+        requires { sim.0 < length self.old.queues }
+        ensures count { length self.new.queues ≡ length self.old.queues }
+        ensures outlets { self.new.outlets ≡ self.old.outlets }
+        ensures mirrors { (P : Plan) → (V : View) → (x : Tier) → (ins : List Input) → (advance : ℤ) → IsReady P V sim.0 x → Mirrors P V self.old → Mirrors P (note_sent P V sim.0 (Step x ins advance)) self.new }
+    {
+        self.dues.begin_turn(sim);
+    }
+
+    /// The last message of a simulator's turn came: its outputs are made at `made` and go to those of its triggering
+    /// connections that `given` marks, and it asked for the next time `next`. Answers the first trigger beyond the loop limit,
+    /// if there is one, and changes nothing then. After want of memory the agenda says nothing any more.
+    pub fn end_turn(
+        &mut self,
+        sim: SimNo,
+        made: Tier,
+        next: Option<i64>,
+        given: &[bool],
+    ) -> Result<Option<Beyond>, Mem>
+        requires sim { sim.0 < length self.old.queues }
+        requires made { CanBeMade made }
+        requires next { ForSome next (λ n. pos 0 ≤ℤ n) }
+        requires given { length given.now ≡ length (outlets_in self.old.outlets sim.0) }
+        ensures count { length self.new.queues ≡ length self.old.queues }
+        ensures outlets { self.new.outlets ≡ self.old.outlets }
+        ensures ends { (P : Plan) → (J : List Entry) → (T : OpenTurn) → (m : Message) → IsLast P J sim T m made next given.now → Mirrors P (view P J) self.old
+            → IfOk result (λ beyond. EndOf P J sim T m self.old beyond self.new) }
+    {
+        let outlets = self.outlets[sim.0 as usize].as_slice();
+        if let Some(beyond) = first_beyond(&self.limits, outlets, given, made) {
+            return Ok(Some(beyond));
+        }
+        self.dues.close_turn(&self.limits, sim, next)?;
+        bring_all(&mut self.dues, &self.limits, outlets, given, made)?;
+        Ok(None)
+    }
+}

@@ -1,0 +1,63 @@
+-- What a message does to a view, by what is open where it comes from; and the time of a step that is asked for.
+use Rattle.std.proofs.Common.{◌≡◌, ℕ, ◌≤◌, pos, ◌≤ℤ◌, true, List, length, Option, Some, None, refl, sym, ap, ◌∙◌, arith, int_lt, nat_le}
+use Rattle.std.proofs.lemmas.Int.{ints}
+use Rattle.std.proofs.lemmas.Bool.{leb-true}
+use Rattle.mk_base.specs.declared.SimNo.{SimNo}
+use Rattle.mk_base.specs.declared.tier.Tier.{Tier}
+use Rattle.mk_base.proofs.Lists.{none_some}
+use Rattle.mk_plan.specs.declared.Plan.{Plan}
+use Rattle.mk_plan.specs.declared.Entry.{Entry}
+use Rattle.mk_plan.specs.declared.Entry.TheVariants.{Got}
+use Rattle.mk_plan.specs.declared.Message.{Message}
+use Rattle.mk_plan.specs.declared.Place.{Place}
+use Rattle.mk_plan.specs.declared.Cause.{Cause}
+use Rattle.mk_plan.specs.declared.Cause.TheVariants.{Wrong, Failed}
+use Rattle.mk_plan.specs.Plans.{IsValidPlan}
+use Rattle.mk_plan.specs.Turns.{wrong, next_place}
+use Rattle.mk_plan.specs.Journals.{View, OpenTurn, WrongMessage, FailedSim, place_at, heard, fault_of, note_right, note_got, note, view}
+use Rattle.mk_plan.specs.Orderly.{IsOrderlySoFar}
+use Rattle.mk_plan.specs.Ready.{IsReady}
+use Rattle.mk_plan.specs.Advance.{IsAdvance}
+use Rattle.mk_order.proofs.Past.{pending_within}
+use Rattle.mk_order.proofs.Reasons.{and_both}
+use Rattle.mk_sched_open.specs.Turns.{IsRight, IsInRun}
+
+-- a message that is right at the place of what is open is right in an open turn
+pub right_turn : (P : Plan) (V : View) (s : ℕ) (m : Message) (place : Place) (q : Option Place) → place ≡ place_at (V.open_at s) → wrong P s place m ≡ None → next_place P s place m ≡ q → (T : OpenTurn) × IsRight P V s m T q
+right_turn P V s m place q is right goes = go (V.open_at s) refl
+  where
+    go : (o : Option OpenTurn) → V.open_at s ≡ o → (T : OpenTurn) × IsRight P V s m T q
+    go None e = absurd (none_some (sym right ∙ ap (λ (p : Place). wrong P s p m) (is ∙ ap place_at e)))
+    go (Some T) e =
+        let same : T.place ≡ place = sym (is ∙ ap place_at e) in
+        (T, record { opened = e; right = ap (λ (p : Place). wrong P s p m) same ∙ right; goes = ap (λ (p : Place). next_place P s p m) same ∙ goes })
+
+-- the view after a right message
+pub noted_right : (P : Plan) (V : View) (s : SimNo) (m : Message) (T : OpenTurn) (q : Option Place) → IsRight P V s.0 m T q → note P V (Got s m) ≡ note_right P V s.0 m T q
+noted_right P V s m T q h =
+    ap (λ (o : Option OpenTurn). note_got P V s.0 m o (wrong P s.0 (place_at o) m)) h.opened
+    ∙ ap (note_got P V s.0 m (Some T)) h.right
+    ∙ ap (note_right P V s.0 m T) h.goes
+
+-- the view after a wrong message: the same with its fault
+pub noted_wrong : (P : Plan) (V : View) (s : SimNo) (m : Message) (place : Place) (c : Cause) → place ≡ place_at (V.open_at s.0) → wrong P s.0 place m ≡ Some c
+    → note P V (Got s m) ≡ record { acts = V.acts; open_at = V.open_at; owed = V.owed; fault = Some (fault_of V s.0 c) }
+noted_wrong P V s m place c is wrongly = ap (note_got P V s.0 m (V.open_at s.0)) (ap (λ (p : Place). wrong P s.0 p m) (sym is) ∙ wrongly)
+
+-- the place of its fault is how many right messages came before
+pub wrong_place : (V : View) (s count n : ℕ) → count ≡ length (heard V s) → fault_of V s (Wrong n) ≡ WrongMessage s count n
+wrong_place V s count n is = ap (λ (k : ℕ). WrongMessage s k n) (sym is)
+
+pub failed_place : (V : View) (s count : ℕ) → count ≡ length (heard V s) → fault_of V s Failed ≡ FailedSim s count
+failed_place V s count is = ap (FailedSim s) (sym is)
+
+-- the step that a simulator may be asked for is within the run
+pub in_run : (P : Plan) → IsValidPlan P → (J : List Entry) → IsOrderlySoFar IsReady IsAdvance P J → (s : ℕ) (x : Tier) → IsReady P (view P J) s x → IsInRun x
+in_run P valid J orderly s x ready =
+    let w = pending_within IsReady IsAdvance P (λ V s x r. r) valid J orderly s x ready.at_pending in
+    let u : P.until ≤ℤ pos 1000000000 = valid.well_formed.limits.until.1 in
+    let l : P.loops ≤ 1000 = valid.well_formed.limits.loops.1 in
+    let t = and_both (int_lt x.time P.until) (nat_le x.tier P.loops) w.1 in
+    let e : int_lt x.time P.until ≡ true = t.0 in
+    let k : x.tier ≤ P.loops = leb-true x.tier P.loops t.1 in
+    record { early = w.0; late = grind (arith, ints); low = omega arith }

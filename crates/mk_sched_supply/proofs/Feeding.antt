@@ -1,0 +1,95 @@
+-- The feeds of simulators, as connections are added one by one.
+use Rattle.std.proofs.Common.{◌≡◌, ℕ, zero, suc, ◌+◌, ◌<◌, Bool, true, false, ◌&&◌, List, [], ◌∷◌, ◌++◌, length, map, take, get_or, slice_get, slice_set, Some, None, option_map, unwrap_or, length-append, refl, sym, ap, ◌∙◌, subst, ◌⊎◌, inl, inr, arith, add-one, ◌==◌, if◌then◌else◌}
+use Rattle.std.proofs.lemmas.Bool.{eqb-true, eq-eqb}
+use Rattle.mk_base.specs.Lists.{IsIn}
+use Rattle.mk_base.proofs.Lists.{append_nil, at_in, filter_append, length_set, map_append, set_else, set_here, none_some, some_same}
+use Rattle.mk_plan.specs.declared.Plan.{Plan}
+use Rattle.mk_plan.specs.declared.Conn.{Conn}
+use Rattle.mk_plan.specs.declared.PlanEntity.{PlanEntity}
+use Rattle.mk_plan.specs.declared.Want.{Want}
+use Rattle.mk_plan.specs.Plans.{owner, eid_of}
+use Rattle.mk_plan.specs.Turns.{wanted}
+use Rattle.mk_plan_judge.proofs.Taken.{taken_is_wanted}
+use Rattle.mk_sched_supply.specs.declared.feeds.Feed.{Feed}
+use Rattle.mk_sched_supply.specs.Stock.{ArePlaces, IsFeedOf, taken}
+use Rattle.mk_sched_supply.specs.inner.Making.{AreFeedsOf, HasNoTriggers, IsFeedSoFar, names_of, triggering_in}
+use Rattle.mk_sched_supply.proofs.Bringing.{take_all, take_get}
+
+pub at_index : {X : Type 0} (xs : List X) (k : ℕ) (x : X) → k < length xs → x ≡ get_or xs k x → slice_get xs k ≡ Some x
+at_index [] k x low is = absurd (omega arith)
+at_index (y ∷ ys) zero x low is = ap Some (sym is)
+at_index (y ∷ ys) (suc k) x low is = at_index ys k x (omega arith) is
+
+get_more : {X : Type 0} (xs : List X) (x y : X) (i : ℕ) → slice_get (xs ++ x ∷ []) i ≡ Some y → (slice_get xs i ≡ Some y) ⊎ ((i ≡ length xs) × (y ≡ x))
+get_more [] x y zero is = inr (refl, sym (some_same is))
+get_more [] x y (suc i) is = cc
+get_more (z ∷ xs) x y zero is = inl is
+get_more (z ∷ xs) x y (suc i) is = elim (get_more xs x y i is) [ inl a ↦ inl a | inr b ↦ inr (ap suc b.0, b.1) ]
+
+same_or : (i j : ℕ) → (i ≡ j) ⊎ (i ≡ j → ⊥)
+same_or i j = elim (i == j) as (λ b. (i == j) ≡ b → (i ≡ j) ⊎ (i ≡ j → ⊥)) [ true ↦ λ e. inl (eqb-true i j e) | false ↦ λ e. inr (λ q. let k : true ≡ false = sym (eq-eqb i j q) ∙ e in cc) ] refl
+
+not_eqb : (i j : ℕ) → (i ≡ j → ⊥) → (i == j) ≡ false
+not_eqb i j n = elim (i == j) as (λ b. (i == j) ≡ b → b ≡ false) [ true ↦ λ e. absurd (n (eqb-true i j e)) | false ↦ λ e. refl ] refl
+
+module _ (P : Plan) where
+  module _ (k : ℕ) (c : Conn) (there : slice_get P.conns k ≡ Some c) where
+    triggering_more : (s : ℕ) (b : Bool) → (c.triggering && (owner P c.from == s)) ≡ b → triggering_in P s (take (k + 1) P.conns) ≡ triggering_in P s (take k P.conns) ++ (if b then c ∷ [] else [])
+    triggering_more s b is = ap (triggering_in P s) (ap (λ (n : ℕ). take n P.conns) (add-one k) ∙ take_get P.conns k c there) ∙ filter_append (λ (d : Conn). d.triggering && (owner P d.from == s)) (take k P.conns) (c ∷ [])
+        ∙ ap (λ (b : Bool). triggering_in P s (take k P.conns) ++ (if b then c ∷ [] else [])) is
+
+    same_places : (s : ℕ) → (c.triggering && (owner P c.from == s)) ≡ false → (ps : List ℕ) → ArePlaces P s (triggering_in P s (take k P.conns)) ps → ArePlaces P s (triggering_in P s (take (k + 1) P.conns)) ps
+    same_places s off ps h = subst (λ (cs : List Conn). ArePlaces P s cs ps) (sym (triggering_more s false off ∙ append_nil (triggering_in P s (take k P.conns)))) h
+
+    more_places : (s p : ℕ) → (c.triggering && (owner P c.from == s)) ≡ true → (ps : List ℕ) → slice_get (wanted P s) p ≡ Some (taken P c) → ArePlaces P s (triggering_in P s (take k P.conns)) ps → ArePlaces P s (triggering_in P s (take (k + 1) P.conns)) (ps ++ p ∷ [])
+    more_places s p on ps at h = map_append (λ p. slice_get (wanted P s) p) ps (p ∷ []) ∙ (λ i. h i ++ at i ∷ []) ∙ sym (map_append (λ c. Some (taken P c)) (triggering_in P s (take k P.conns)) (c ∷ []))
+        ∙ ap (map (λ c. Some (taken P c))) (sym (triggering_more s true on))
+
+    pub feeds_kept : (F : List Feed) → c.triggering ≡ false → AreFeedsOf P k F → AreFeedsOf P (k + 1) F
+    feeds_kept F off fs = record { count = fs.count; each = λ s f at. let o = fs.each s f at in record { wants = o.wants; places = same_places s (ap (λ (b : Bool). b && (owner P c.from == s)) off) f.triggers.items o.places } }
+
+    pub feeds_pushed : (F : List Feed) (s p : ℕ) (old new : Feed) → s ≡ owner P c.from → c.triggering ≡ true → slice_get F s ≡ Some old → new.wants ≡ old.wants → new.triggers.items ≡ old.triggers.items ++ p ∷ []
+        → slice_get (wanted P s) p ≡ Some (taken P c) → AreFeedsOf P k F → AreFeedsOf P (k + 1) (slice_set F s new)
+    feeds_pushed F s p old new from on here wants grown at fs = record { count = length_set F s new ∙ fs.count; each = each }
+      where
+        this : IsFeedSoFar P (k + 1) s new
+        this = let o = fs.each s old here in record {
+          wants = wants ∙ o.wants;
+          places = subst (ArePlaces P s (triggering_in P s (take (k + 1) P.conns))) (sym grown) (more_places s p (ap (λ (b : Bool). b && (owner P c.from == s)) on ∙ eq-eqb (owner P c.from) s (sym from)) old.triggers.items at o.places);
+        }
+
+        each : (r : ℕ) (f : Feed) → slice_get (slice_set F s new) r ≡ Some f → IsFeedSoFar P (k + 1) r f
+        each r f is = elim (same_or r s) [
+          | inl e ↦ subst (λ (i : ℕ). IsFeedSoFar P (k + 1) i f) (sym e) (subst (IsFeedSoFar P (k + 1) s) (some_same (sym (set_here F s new old here) ∙ ap (λ (i : ℕ). slice_get (slice_set F s new) i) (sym e) ∙ is)) this)
+          | inr n ↦ let o = fs.each r f (sym (set_else F s r new n) ∙ is) in
+              record { wants = o.wants; places = same_places r (ap (λ (b : Bool). b && (owner P c.from == r)) on ∙ not_eqb (owner P c.from) r (λ q. n (sym q ∙ sym from))) f.triggers.items o.places }
+        ]
+
+    -- what the connection takes stands among the wants
+    pub conn_wanted : (s : ℕ) → s ≡ owner P c.from → IsIn (let w : Want = record { eid = eid_of P c.from; attr = c.from_attr } in w) (wanted P s)
+    conn_wanted s from = taken_is_wanted P c s (at_in c P.conns k there) (sym from)
+
+    pub named_taken : (n : PlanEntity) → slice_get P.entities c.from ≡ Some n → names_of n.eid c.from_attr ≡ taken P c
+    named_taken n at = λ i. record { eid = eid_is i; attr = c.from_attr }
+      where
+        eid_is : n.eid ≡ eid_of P c.from
+        eid_is = sym (ap (λ o. unwrap_or (option_map (λ (n : PlanEntity). n.eid) o) []) at)
+
+  -- before any connection
+  pub feeds_none : (F : List Feed) → HasNoTriggers P (length P.sims) F → AreFeedsOf P 0 F
+  feeds_none F none = record { count = none.count; each = λ s f at. let o = none.each s f at in record { wants = o.0; places = ap (map (λ p. slice_get (wanted P s) p)) o.1 } }
+
+  pub none_first : (F : List Feed) → F ≡ [] → HasNoTriggers P 0 F
+  none_first F is = record { count = ap length is; each = λ s f at. let k : None ≡ Some f = ap (λ (l : List Feed). slice_get l s) (sym is) ∙ at in absurd (none_some k) }
+
+  pub none_more : (n : ℕ) (F G : List Feed) (new : Feed) → HasNoTriggers P n F → G ≡ F ++ new ∷ [] → new.wants ≡ wanted P n → new.triggers.items ≡ [] → HasNoTriggers P (n + 1) G
+  none_more n F G new h is wants empty = subst (HasNoTriggers P (n + 1)) (sym is) (record {
+    count = length-append F (new ∷ []) ∙ ap (λ (m : ℕ). m + 1) h.count;
+    each = λ s f at. elim (get_more F new f s at) [
+      | inl old ↦ h.each s f old
+      | inr last ↦ (ap (λ (f : Feed). f.wants) last.1 ∙ wants ∙ ap (wanted P) (sym (last.0 ∙ h.count)), ap (λ (f : Feed). f.triggers.items) last.1 ∙ empty)
+    ];
+  })
+
+  pub feeds_whole : (F : List Feed) (n : ℕ) → n ≡ length P.conns → AreFeedsOf P n F → (s : ℕ) (f : Feed) → slice_get F s ≡ Some f → IsFeedOf P s f
+  feeds_whole F n all fs s f at = let o = fs.each s f at in record { wants = o.wants; places = subst (λ (cs : List Conn). ArePlaces P s (triggering_in P s cs) f.triggers.items) (ap (λ (m : ℕ). take m P.conns) all ∙ take_all P.conns) o.places }

@@ -1,0 +1,140 @@
+-- What is wanted of a simulator: in order, each once, and found by a search.
+use Rattle.std.proofs.Common.{◌≡◌, ℕ, zero, suc, ◌<◌, ◌≤◌, Bool, true, false, ◌&&◌, nat_eq, List, [], ◌∷◌, ◌++◌, length, filter, flat_map, fold, get_or, slice_get, Some, refl, sym, ap, ◌∙◌, subst, ◌⊎◌, inl, inr, ◌+◌, arith, ◌==◌, if◌then◌else◌}
+use Rattle.std.specs.List.{AllByRecursion, HoldsAt}
+use Rattle.std.specs.List.Sorted.{IsStrictlySortedBy, IsPartitionPoint, IsNonDecreasingBy}
+use Rattle.std.specs.Ordering.{ordering_index, ordering_reverse, ordering_then, is_lt}
+use Rattle.std.specs.declared.cmp.Ordering.{Ordering}
+use Rattle.std.specs.declared.cmp.Ordering.TheVariants.{Less, Equal, Greater}
+use Rattle.std.proofs.lemmas.List.Sorted.{searchable_from_sorted}
+use Rattle.std.proofs.lemmas.Map.Lookups.{exact_bytes}
+use Rattle.mk_base.specs.Lists.{IsIn, put, same_text, text_order}
+use Rattle.mk_base.proofs.Lists.{in_at, get_is, some_passes, append_nil}
+use Rattle.mk_plan.specs.declared.Plan.{Plan}
+use Rattle.mk_plan.specs.declared.Conn.{Conn}
+use Rattle.mk_plan.specs.declared.Want.{Want}
+use Rattle.mk_plan.specs.Plans.{owner, eid_of}
+use Rattle.mk_plan.specs.Turns.{wanted}
+use Rattle.mk_plan.specs.Asks.{gives_attr}
+use Rattle.mk_plan_judge.specs.inner.Wants.{by_names}
+use Rattle.mk_plan_judge.proofs.Putting.{names_total}
+use Rattle.mk_plan_judge.proofs.Taken.{taken_is_wanted}
+use Rattle.mk_order.proofs.Assembled.{put_sorted}
+use Rattle.mk_order.proofs.Reasons.{and_both, both_and}
+use Rattle.mk_order.proofs.GivenValues.{text_is}
+use Rattle.std.proofs.lemmas.Bool.{eqb-true, eq-eqb}
+
+fold_sorted : {C : Type 0} (f : C → Want) (cs : List C) (ws : List Want) → IsStrictlySortedBy by_names ws → IsStrictlySortedBy by_names (fold (λ ws c. put by_names (f c) ws) ws cs)
+fold_sorted f [] ws sorted = sorted
+fold_sorted f (c ∷ cs) ws sorted = fold_sorted f cs (put by_names (f c) ws) (put_sorted by_names names_total (f c) ws sorted)
+
+pub wanted_sorted : (P : Plan) (s : ℕ) → IsStrictlySortedBy by_names (wanted P s)
+unfolding IsStrictlySortedBy
+wanted_sorted P s = fold_sorted (λ (c : Conn). record { eid = eid_of P c.from; attr = c.from_attr }) (filter (λ c. owner P c.from == s) P.conns) [] tt
+
+-- ---- equal names
+
+both_equal : (o p : Ordering) → ordering_then o p ≡ Equal → (o ≡ Equal) × (p ≡ Equal)
+both_equal Less p e = cc
+both_equal Equal p e = (refl, e)
+both_equal Greater p e = cc
+
+same_want : (v w : Want) → by_names v w ≡ Equal → v ≡ w
+same_want v w e = let t = both_equal (text_order v.eid w.eid) (text_order v.attr w.attr) e in λ i. record { eid = exact_bytes v.eid w.eid t.0 i; attr = exact_bytes v.attr w.attr t.1 i }
+
+not_itself : (w : Want) → by_names w w ≡ Less → ⊥
+not_itself w h = let k : Less ≡ Greater = sym h ∙ names_total.antisymm w w ∙ ap ordering_reverse h in cc
+
+equal_itself : (w : Want) → by_names w w ≡ Equal
+equal_itself w = go (by_names w w) refl
+  where
+    go : (o : Ordering) → by_names w w ≡ o → o ≡ Equal
+    go Less e = absurd (not_itself w e)
+    go Equal e = refl
+    go Greater e = let k : Greater ≡ Less = sym e ∙ names_total.antisymm w w ∙ ap ordering_reverse e in cc
+
+-- ---- the one want of those names
+
+-- the want is of these names
+abbrev pub is_want : Want → Want → Bool
+is_want v w = same_text w.eid v.eid && same_text w.attr v.attr
+
+is_want_same : (v w : Want) → is_want v w ≡ true → w ≡ v
+is_want_same v w h = let t = and_both (same_text w.eid v.eid) (same_text w.attr v.attr) h in λ i. record { eid = text_is w.eid v.eid t.0 i; attr = text_is w.attr v.attr t.1 i }
+
+pub text_itself : (s : List ℕ) → same_text s s ≡ true
+text_itself [] = refl
+text_itself (b ∷ s) = both_and (nat_eq b b) (same_text s s) (eq-eqb b b refl) (text_itself s)
+
+is_want_itself : (v : Want) → is_want v v ≡ true
+is_want_itself v = rw (text_itself v.eid, text_itself v.attr) refl
+
+all_has : {X : Type 0} (Q : X → Type 0) (xs : List X) (x : X) → AllByRecursion Q xs → IsIn x xs → Q x
+all_has Q [] x all m = absurd m
+all_has Q (y ∷ ys) x all (inl e) = subst Q (sym e) all.0
+all_has Q (y ∷ ys) x all (inr m) = all_has Q ys x all.1 m
+
+module _ {Y : Type 0} (f : Want → List Y) (v : Want) where
+  abbrev pub of_want : Want → List Y
+  of_want w = if is_want v w then f w else []
+
+  none_of : (ws : List Want) → ((w : Want) → IsIn w ws → is_want v w ≡ false) → flat_map of_want ws ≡ []
+  none_of [] none = refl
+  none_of (w ∷ ws) none = ap (λ (b : Bool). (if b then f w else []) ++ flat_map of_want ws) (none w (inl refl)) ∙ none_of ws (λ u m. none u (inr m))
+
+  not_want : (w : Want) → (w ≡ v → ⊥) → is_want v w ≡ false
+  not_want w n = elim (is_want v w) as (λ b. is_want v w ≡ b → b ≡ false) [ true ↦ λ e. absurd (n (is_want_same v w e)) | false ↦ λ e. refl ] refl
+
+  pub one_of : (ws : List Want) → IsStrictlySortedBy by_names ws → IsIn v ws → flat_map of_want ws ≡ f v
+  unfolding IsStrictlySortedBy
+  one_of [] sorted m = absurd m
+  one_of (w ∷ ws) sorted (inl e) = ap (λ (l : List Y). of_want w ++ l) (none_of ws (λ u m. not_want u (λ q. not_itself w (subst (λ (x : Want). by_names w x ≡ Less) (q ∙ e) (all_has (λ u. by_names w u ≡ Less) ws u sorted.0 m)))))
+      ∙ ap (λ (u : Want). (if is_want v u then f u else []) ++ []) (sym e) ∙ ap (λ (b : Bool). (if b then f v else []) ++ []) (is_want_itself v) ∙ append_nil (f v)
+  one_of (w ∷ ws) sorted (inr m) = ap (λ (b : Bool). (if b then f w else []) ++ flat_map of_want ws) (not_want w (λ q. not_itself w (subst (λ (x : Want). by_names w x ≡ Less) (sym q) (all_has (λ u. by_names w u ≡ Less) ws v sorted.0 m)))) ∙ one_of ws sorted.1 m
+
+-- what some connection takes is wanted of its simulator
+pub given_is_wanted : (P : Plan) (e : ℕ) (attr : List ℕ) → gives_attr P e attr ≡ true → IsIn (let w : Want = record { eid = eid_of P e; attr = attr } in w) (wanted P (owner P e))
+given_is_wanted P e attr given =
+    let t = some_passes (λ (c : Conn). (c.from == e) && same_text c.from_attr attr) P.conns given in
+    let u = and_both (t.0.from == e) (same_text t.0.from_attr attr) t.2 in
+    let from : t.0.from ≡ e = eqb-true t.0.from e u.0 in
+    let same : t.0.from_attr ≡ attr = text_is t.0.from_attr attr u.1 in
+    subst (λ (w : Want). IsIn w (wanted P (owner P e))) (λ i. record { eid = eid_of P (from i); attr = same i }) (taken_is_wanted P t.0 (owner P e) t.1 (ap (owner P) from))
+
+-- ---- found by a search
+
+rising : (ws : List Want) (v : Want) → IsStrictlySortedBy by_names ws → IsNonDecreasingBy (λ w. ordering_index (by_names w v)) ws
+unfolding IsStrictlySortedBy
+rising ws v sorted = searchable_from_sorted names_total (λ w. w) ws v (λ k d low below. not_less (get_or ws k d) (get_or ws (k + 1) d) (next ws k d sorted below))
+  where
+    not_less : (x y : Want) → by_names x y ≡ Less → is_lt (by_names y x) ≡ false
+    not_less x y h = ap is_lt (names_total.antisymm y x ∙ ap ordering_reverse h)
+
+    all_at : (Q : Want → Type 0) (xs : List Want) (d : Want) → AllByRecursion Q xs → 0 < length xs → Q (get_or xs 0 d)
+    all_at Q [] d all low = absurd (omega arith)
+    all_at Q (x ∷ xs) d all low = all.0
+
+    next : (xs : List Want) (k : ℕ) (d : Want) → IsStrictlySortedBy by_names xs → k + 1 < length xs → by_names (get_or xs k d) (get_or xs (k + 1) d) ≡ Less
+    next [] k d sorted below = absurd (omega arith)
+    next (x ∷ xs) zero d sorted below = all_at (λ y. by_names x y ≡ Less) xs d sorted.0 (omega arith)
+    next (x ∷ xs) (suc k) d sorted below = subst (λ (n : ℕ). by_names (get_or xs k d) (get_or (x ∷ xs) n d) ≡ Less) {x = suc (k + 1)} {y = suc k + 1} (omega arith) (next xs k d sorted.1 (omega arith))
+
+some_at : {X : Type 0} (xs : List X) (i : ℕ) (d : X) → i < length xs → slice_get xs i ≡ Some (get_or xs i d)
+some_at [] i d low = absurd (omega arith)
+some_at (x ∷ xs) zero d low = refl
+some_at (x ∷ xs) (suc i) d low = some_at xs i d (omega arith)
+
+pub found_at : (ws : List Want) (v : Want) (i : ℕ) → i < length ws → HoldsAt (λ w. by_names w v ≡ Equal) ws i → slice_get ws i ≡ Some v
+found_at ws v i low holds = some_at ws i v low ∙ ap Some (same_want (get_or ws i v) v (holds v))
+
+pub not_missing : (ws : List Want) (v : Want) (i : ℕ) → (IsNonDecreasingBy (λ w. ordering_index (by_names w v)) ws → IsPartitionPoint (λ w. by_names w v ≡ Less) (λ w. by_names w v ≡ Greater) ws i) → IsStrictlySortedBy by_names ws → IsIn v ws → slice_get ws i ≡ Some v
+not_missing ws v i parts sorted m =
+    let p = parts (rising ws v sorted) in
+    let t = in_at v ws m in
+    let g = get_is ws t.0 v t.1 in
+    absurd (elim (below_or t.0 i) [
+      | inl low ↦ not_itself v (subst (λ (w : Want). by_names w v ≡ Less) g.1 (p.0 t.0 v (omega arith) low))
+      | inr high ↦ let k : Greater ≡ Equal = sym (subst (λ (w : Want). by_names w v ≡ Greater) g.1 (p.1 t.0 v high g.0)) ∙ equal_itself v in cc
+    ])
+  where
+    below_or : (a b : ℕ) → (a < b) ⊎ (b ≤ a)
+    below_or a b = grind arith

@@ -1,0 +1,4 @@
+pub mod Outputs
+pub mod Stock
+pub mod Asking
+pub mod inner

@@ -1,0 +1,90 @@
+// What the data of a reply give.
+ghost use Rattle.std.specs.Prelude.{◌≡◌, map, true, IfOk, option_map};
+ghost use Rattle.mk_base.specs.Texts.{text_of};
+ghost use Rattle.mk_base.specs.Trees.{is_datum, is_in_range};
+ghost use Rattle.mk_plan.specs.Turns.{value_for};
+ghost use Rattle.mk_sched_supply.specs.Outputs.{values_in};
+ghost use Rattle.mk_sched_supply.specs.inner.Making.{are_given, is_given};
+
+use crate::feeds::Feed;
+use mk_base::{Datum, Json, List, Mem};
+use mk_json::datum;
+use mk_plan::Want;
+use mk_plan_judge::value_for;
+use std::alloc::Global;
+
+/// What the data of a reply give: for each want of the simulator the value, where there is one, and for each of its
+/// triggering connections in plan order whether it is given one.
+#[derive(Drop)]
+pub struct Outputs<'a> {
+    pub values: Vec<Option<&'a Json>>,
+    pub given: Vec<bool>,
+}
+
+impl<'a> Outputs<'a> {
+    // No value, for no want.
+    pub(crate) fn none(alloc: Global) -> Outputs<'a> {
+        Outputs {
+            values: Vec::new(alloc),
+            given: Vec::new(alloc),
+        }
+    }
+}
+
+// What the data give the wants and triggering connections of a feed.
+pub fn outputs_of<'a>(alloc: Global, feed: &Feed, content: &'a Json) -> Result<Outputs<'a>, Mem>
+    ensures values { IfOk result (λ outs. values_in outs ≡ map (value_for content.now) feed.now.wants) }
+    ensures given { IfOk result (λ outs. outs.given.items ≡ are_given (values_in outs) feed.now.triggers.items) }
+{
+    let values = values_of(alloc, &feed.wants, content)?;
+    let given = given_of(alloc, values.as_slice(), feed.triggers.as_slice())?;
+    Ok(Outputs { values, given })
+}
+
+// What the data give each want.
+fn values_of<'a>(
+    alloc: Global,
+    wants: &List<Want>,
+    content: &'a Json,
+) -> Result<Vec<Option<&'a Json>>, Mem>
+    ensures { IfOk result (λ values. map (option_map (λ v. v.now)) values.items ≡ map (value_for content.now) wants.now) }
+{
+    let mut values = Vec::with_capacity(alloc, wants.len())?;
+    for want in wants.as_slice() {
+        values.push(value_for(content, want))?;
+    }
+    Ok(values)
+}
+
+// Whether there is a value at each of these places.
+fn given_of(alloc: Global, values: &[Option<&Json>], places: &[usize]) -> Result<Vec<bool>, Mem>
+    ensures { IfOk result (λ given. given.items ≡ are_given (map (option_map (λ v. v.now)) values.now) places.now) }
+{
+    let mut given = Vec::with_capacity(alloc, places.len())?;
+    for place in places {
+        given.push(is_given(values, *place))?;
+    }
+    Ok(given)
+}
+
+// Whether there is a value at the place.
+fn is_given(values: &[Option<&Json>], place: usize) -> bool
+    ensures { result ≡ is_given (map (option_map (λ v. v.now)) values.now) place }
+{
+    match values.get(place) {
+        Some(value) => value.is_some(),
+        None => false,
+    }
+}
+
+// The text of a value that a simulator may give.
+pub fn datum_of(alloc: Global, value: &Json) -> Result<Datum, Mem>
+    requires in_range { is_in_range value.now ≡ true }
+    requires value { is_datum value.now ≡ true }
+    ensures { IfOk result (λ text. text ≡ text_of value.now) }
+{
+    match datum(alloc, value) {
+        Ok(text) => Ok(text),
+        Err(_) => Err(Mem),
+    }
+}

@@ -1,0 +1,107 @@
+// What several tests have in common: two simulators A and B, plans of them, times and trees.
+ghost use Rattle.std.specs.Prelude.{◌≡◌, ◌≤◌, pos, ◌≤ℤ◌, true, IfOk};
+ghost use Rattle.mk_base.specs.Trees.{is_in_range};
+ghost use Rattle.mk_plan.specs.Plans.{IsValidPlan};
+
+use mk_base::{Json, List, Mem, SimKind, SimNo, Tier};
+use mk_json::{JsonFault, read_json};
+use mk_plan::{AsyncPair, Conn, Input, Plan, PlanEntity, PlanModel, PlanSim};
+use mk_plan_check::{PlanFault, check_plan};
+use mk_plan_samples::{Tie, connections, entities, models, two_simulators};
+use std::alloc::Global;
+
+// A-0 and B-0, both of this kind, whose requests begin with this id.
+fn simulators(alloc: Global, kind: SimKind, first_id: u64) -> Result<List<PlanSim>, Mem> {
+    two_simulators(alloc, (kind, first_id), (kind, first_id))
+}
+
+// A lends to B.
+fn lenders(alloc: Global) -> Result<List<AsyncPair>, Mem> {
+    let mut asyncs = List::new(alloc);
+    asyncs.push(AsyncPair {
+        from: SimNo(0),
+        to: SimNo(1),
+    })?;
+    Ok(asyncs)
+}
+
+/// A lends to B, until 3.
+pub fn lending_plan(
+    alloc: Global,
+    models: List<PlanModel>,
+    entities: List<PlanEntity>,
+    conns: List<Conn>,
+) -> Result<Plan, Mem> {
+    Ok(Plan {
+        until: 3,
+        loops: 100,
+        entries: 1000,
+        sims: simulators(alloc, SimKind::TimeBased, 3)?,
+        models,
+        entities,
+        conns,
+        asyncs: lenders(alloc)?,
+    })
+}
+
+/// A counter A and a sum B with an entity each, connected by these, until 5.
+pub fn sum_plan(alloc: Global, ties: &[Tie]) -> Result<Plan, Mem> {
+    Ok(Plan {
+        until: 5,
+        loops: 3,
+        entries: 1000,
+        sims: simulators(alloc, SimKind::Hybrid, 2)?,
+        models: models(alloc, 2)?,
+        entities: entities(alloc, 2)?,
+        conns: connections(alloc, ties)?,
+        asyncs: List::new(alloc),
+    })
+}
+
+/// The plan, if it is valid.
+pub fn checked(alloc: Global, plan: Plan) -> Result<Plan, PlanFault>
+    ensures { IfOk result (λ valid. IsValidPlan valid) }
+{
+    check_plan(alloc, &plan)?;
+    Ok(plan)
+}
+
+/// The time of an ordinary step.
+pub fn at(time: u8) -> Tier
+    ensures early { pos 0 ≤ℤ result.time }
+    ensures late { result.time ≤ℤ pos 1000000000000000000 }
+    ensures low { result.tier ≤ 1000000 }
+{
+    Tier {
+        time: i64::from(time),
+        tier: 0,
+    }
+}
+
+/// The tree of a text.
+pub fn read(alloc: Global, text: &str) -> Result<Json, JsonFault>
+    ensures { IfOk result (λ tree. is_in_range tree ≡ true) }
+{
+    read_json(alloc, text.as_bytes())
+}
+
+// One input as text.
+fn line(alloc: Global, input: &Input) -> Result<String, Mem> {
+    let value = std::str::from_utf8(input.value.bytes()).unwrap_or("");
+    Ok(format!(in alloc;
+        "{}.{} {}={value};",
+        input.eid.as_str(),
+        input.attr.as_str(),
+        input.source.as_str()
+    )?)
+}
+
+/// Inputs of a step as text.
+pub fn lines(alloc: Global, inputs: &[Input]) -> Result<String, Mem> {
+    let mut lines = String::new(alloc);
+    for input in inputs {
+        let next = line(alloc, input)?;
+        lines.push_str(next.as_str())?;
+    }
+    Ok(lines)
+}

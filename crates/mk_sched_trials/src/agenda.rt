@@ -1,0 +1,219 @@
+// Runs of small plans, step by step.
+ghost use Rattle.std.specs.Prelude.{◌≡◌, ◌<◌, ◌≤ℤ◌, pos, length, IfOk};
+ghost use Rattle.std.specs.Option.{ForSome};
+ghost use Rattle.mk_plan.specs.Plans.{sim_count};
+ghost use Rattle.mk_sched_agenda.specs.Endings.{CanBeMade};
+
+use mk_base::{Mem, SimKind, SimNo, Tier, Via};
+use mk_plan::Plan;
+use mk_plan_check::{PlanFault, check_plan};
+use mk_plan_samples::{OUT_TO_IN, Tie, Who, connections, number, plan_of, two_simulators};
+use mk_sched_agenda::Agenda;
+use std::alloc::Global;
+use std::test::Fail;
+
+// A triggering connection.
+fn tie(from: u32, to: u32, via: Via, persistent: bool) -> Tie {
+    Tie {
+        from,
+        to,
+        via,
+        persistent,
+        triggering: true,
+        ..OUT_TO_IN
+    }
+}
+
+// Two simulators A and B of these kinds, with an entity each, to the time 20 and with at most two rounds.
+fn plan(alloc: Global, first: SimKind, second: SimKind, ties: &[Tie]) -> Result<Plan, Mem>
+    ensures { IfOk result (λ plan. length plan.sims ≡ 2) }
+{
+    let sims = two_simulators(alloc, (first, 0), (second, 0))?;
+    let conns = connections(alloc, ties)?;
+    plan_of(alloc, 20, 2, sims, conns)
+}
+
+// The agenda of a plan, if it is valid.
+fn agenda_of(alloc: Global, plan: &Plan) -> Result<Agenda, PlanFault>
+    ensures { IfOk result (λ agenda. length agenda.queues ≡ sim_count plan.now) }
+{
+    check_plan(alloc, plan)?;
+    Ok(Agenda::new(alloc, plan)?)
+}
+
+// What is done, and what must come of it.
+#[derive(Clone, Copy)]
+enum Row {
+    // The first that is ready is asked: who, at which time and tier, and with which `max_advance`.
+    Step(Who, (i64, u32), i64),
+    // A turn ends: whose, when its outputs are made, its next time, whether it gives outputs; and the time of a trigger
+    // beyond the loop limit.
+    End(Who, (u8, u8), Option<u8>, bool, Option<i64>),
+    // Nobody is ready: whether some turn is open, and from when on B may still step.
+    Nobody(bool, Option<(i64, u32)>),
+}
+
+fn made(time: u8, tier: u8) -> Tier
+    ensures { CanBeMade result }
+{
+    Tier {
+        time: i64::from(time),
+        tier: u32::from(tier),
+    }
+}
+
+fn next(time: Option<u8>) -> Option<i64>
+    ensures { ForSome result (λ n. pos 0 ≤ℤ n) }
+{
+    match time {
+        Some(time) => Some(i64::from(time)),
+        None => None,
+    }
+}
+
+// Asks the first that is ready, if it is this one: when, and with which `max_advance`.
+fn ask(agenda: &mut Agenda, who: Who) -> Option<((i64, u32), i64)>
+    requires { length agenda.old.queues ≡ 2 }
+    ensures { length agenda.new.queues ≡ 2 }
+{
+    let sim = number(who);
+    let ready = agenda.first_ready()?;
+    if ready.sim != sim {
+        return None;
+    }
+    let advance = agenda.max_advance(sim, ready.at);
+    agenda.step(sim);
+    let last = agenda.last_step(sim)?;
+    Some(((last.time, last.tier), advance))
+}
+
+// Ends a turn, with outputs for all its triggering connections or for none: the time of a trigger beyond the loop limit.
+fn finish(
+    alloc: Global,
+    agenda: &mut Agenda,
+    who: Who,
+    at: (u8, u8),
+    time: Option<u8>,
+    given: bool,
+) -> Result<Option<i64>, Mem>
+    requires { length agenda.old.queues ≡ 2 }
+    ensures { length agenda.new.queues ≡ 2 }
+{
+    let sim = number(who);
+    let flags = vec![in alloc; given; agenda.outlets(sim).len()]?;
+    match agenda.end_turn(sim, made(at.0, at.1), next(time), &flags)? {
+        Some(beyond) => Ok(Some(beyond.time)),
+        None => Ok(None),
+    }
+}
+
+// From when on B may still step.
+fn earliest(agenda: &Agenda) -> Option<(i64, u32)>
+    requires { length agenda.now.queues ≡ 2 }
+{
+    match agenda.earliest(SimNo(1)) {
+        Some(end) => Some((end.time, end.tier)),
+        None => None,
+    }
+}
+
+// Does what the row says, and tells whether that came of it.
+fn is_so(alloc: Global, agenda: &mut Agenda, row: Row) -> Result<bool, Mem>
+    requires { length agenda.old.queues ≡ 2 }
+    ensures { length agenda.new.queues ≡ 2 }
+{
+    match row {
+        Row::Step(who, at, advance) => Ok(ask(agenda, who) == Some((at, advance))),
+        Row::End(who, at, time, given, beyond) => {
+            Ok(finish(alloc, agenda, who, at, time, given)? == beyond)
+        }
+        Row::Nobody(open, end) => Ok(
+            agenda.first_ready().is_none()
+                && agenda.is_any_open() == open
+                && earliest(agenda) == end,
+        ),
+    }
+}
+
+// How many rows come true of a plan's agenda, up to the first that doesn't.
+fn count_so(alloc: Global, plan: &Plan, rows: &[Row]) -> Result<usize, PlanFault>
+    requires { length plan.now.sims ≡ 2 }
+{
+    let mut agenda = agenda_of(alloc, plan)?;
+    for (place, row) in rows.iter().enumerate() {
+        if !is_so(alloc, &mut agenda, *row)? {
+            return Ok(place);
+        }
+    }
+    Ok(rows.len())
+}
+
+// A counter that steps every ten times triggers a relay.
+fn counter_and_relay(alloc: Global) -> Result<Plan, Mem>
+    ensures { IfOk result (λ plan. length plan.sims ≡ 2) }
+{
+    plan(
+        alloc,
+        SimKind::TimeBased,
+        SimKind::EventBased,
+        &[tie(0, 1, Via::Plain, true)],
+    )
+}
+
+#[test]
+fn a_relay_steps_where_the_counter_triggers_it(rt: HostRuntime) -> Result<(), Fail> {
+    let alloc = rt.alloc();
+    let plan = counter_and_relay(alloc)?;
+    let rows = [
+        Row::Step(Who::A, (0, 0), 20),
+        Row::Nobody(true, Some((0, 0))),
+        Row::End(Who::A, (0, 0), Some(10), true, None),
+        Row::Step(Who::A, (10, 0), 20),
+        Row::Step(Who::B, (0, 0), 9),
+        Row::End(Who::A, (10, 0), Some(20), true, None),
+        Row::Nobody(true, Some((0, 0))),
+        Row::End(Who::B, (0, 0), None, true, None),
+        Row::Step(Who::B, (10, 0), 20),
+        Row::End(Who::B, (10, 0), Some(12), true, None),
+        Row::Step(Who::B, (12, 0), 20),
+        Row::End(Who::B, (12, 0), None, true, None),
+        Row::Nobody(false, None),
+    ];
+    assert_eq!(rt; count_so(alloc, &plan, &rows)?, 13);
+    Ok(())
+}
+
+// Two simulators that trigger one another, the second over a weak connection.
+fn loop_of_two(alloc: Global) -> Result<Plan, Mem>
+    ensures { IfOk result (λ plan. length plan.sims ≡ 2) }
+{
+    plan(
+        alloc,
+        SimKind::Hybrid,
+        SimKind::EventBased,
+        &[tie(0, 1, Via::Plain, false), tie(1, 0, Via::Weak, false)],
+    )
+}
+
+#[test]
+fn a_loop_goes_on_up_to_the_loop_limit(rt: HostRuntime) -> Result<(), Fail> {
+    let alloc = rt.alloc();
+    let plan = loop_of_two(alloc)?;
+    let rows = [
+        Row::Step(Who::A, (0, 0), 20),
+        Row::End(Who::A, (0, 0), Some(5), true, None),
+        Row::Step(Who::B, (0, 0), 4),
+        Row::End(Who::B, (0, 0), None, true, None),
+        Row::Step(Who::A, (0, 1), 20),
+        Row::End(Who::A, (0, 1), None, true, None),
+        Row::Step(Who::B, (0, 1), 4),
+        Row::End(Who::B, (7, 2), None, true, Some(7)),
+        Row::Nobody(true, Some((0, 1))),
+        Row::End(Who::B, (7, 1), None, true, None),
+        Row::Step(Who::A, (5, 0), 6),
+        Row::End(Who::A, (5, 0), None, false, None),
+        Row::Step(Who::A, (7, 2), 20),
+    ];
+    assert_eq!(rt; count_so(alloc, &plan, &rows)?, 13);
+    Ok(())
+}

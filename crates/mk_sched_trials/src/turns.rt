@@ -1,0 +1,135 @@
+// Turns of the simulators of a small plan, entry by entry.
+ghost use Rattle.std.specs.Prelude.{◌≡◌, ◌<◌, length, IfOk};
+ghost use Rattle.mk_plan.specs.Plans.{sim_count};
+
+use mk_base::{Mem, SimKind, Tier};
+use mk_plan::{Place, Plan};
+use mk_plan_check::{PlanFault, check_plan};
+use mk_plan_samples::{OUT_TO_IN, Who, connections, number, plan_of, two_simulators};
+use mk_sched_open::Sims;
+use std::alloc::Global;
+use std::test::Fail;
+
+// Two simulators A and B, with an entity each, and a connection from A's to B's.
+fn plan(alloc: Global) -> Result<Plan, Mem>
+    ensures { IfOk result (λ plan. length plan.sims ≡ 2) }
+{
+    let kind = SimKind::TimeBased;
+    let sims = two_simulators(alloc, (kind, 3), (kind, 8))?;
+    let conns = connections(alloc, &[OUT_TO_IN])?;
+    plan_of(alloc, 20, 2, sims, conns)
+}
+
+// The simulators of a plan, if it is valid.
+fn sims_of(alloc: Global, plan: &Plan) -> Result<Sims, PlanFault>
+    ensures { IfOk result (λ sims. length sims ≡ sim_count plan.now) }
+{
+    check_plan(alloc, plan)?;
+    Ok(Sims::new(alloc, plan)?)
+}
+
+// What comes about at a simulator.
+#[derive(Clone, Copy)]
+enum Move {
+    // It is sent its Step at this time and tier.
+    Begin(i64, u32),
+    // A right message comes, its turn is at this place from now on, and it returned this next time.
+    GoOn(Place, Option<i64>),
+    // A right message ends its turn.
+    End,
+}
+
+// What comes about, and what is open from then on, with the next time of its turn and how many messages were right.
+#[derive(Clone, Copy)]
+struct Row {
+    who: Who,
+    what: Move,
+    place: Place,
+    next: Option<i64>,
+    heard: u64,
+}
+
+fn stepping(time: i64, tier: u32, id: u64, asks: u32) -> Place {
+    Place::Stepping {
+        at: Tier { time, tier },
+        id,
+        asks,
+    }
+}
+
+fn fetching(time: i64, tier: u32, id: u64) -> Place {
+    Place::Fetching {
+        at: Tier { time, tier },
+        id,
+    }
+}
+
+// Does what the row says, and tells whether that came of it.
+fn is_so(sims: &mut Sims, row: Row) -> bool
+    requires { length sims.old ≡ 2 }
+    ensures { length sims.new ≡ 2 }
+{
+    let sim = number(row.who);
+    match row.what {
+        Move::Begin(time, tier) => sims.begin(sim, Tier { time, tier }),
+        Move::GoOn(place, next) => sims.go_on(sim, place, next),
+        Move::End => sims.end(sim),
+    }
+    sims.place(sim) == row.place && sims.next(sim) == row.next && sims.heard(sim) == row.heard
+}
+
+// How many rows come true, up to the first that doesn't.
+fn count_so(sims: &mut Sims, rows: &[Row]) -> usize
+    requires { length sims.old ≡ 2 }
+{
+    for (place, row) in rows.iter().enumerate() {
+        if !is_so(sims, *row) {
+            return place;
+        }
+    }
+    rows.len()
+}
+
+fn moved(who: Who, what: Move, place: Place, next: Option<i64>, heard: u64) -> Row {
+    Row {
+        who,
+        what,
+        place,
+        next,
+        heard,
+    }
+}
+
+// How many rows come true of the plan's simulators.
+fn count_all(alloc: Global, rows: &[Row]) -> Result<usize, PlanFault> {
+    let plan = plan(alloc)?;
+    let mut sims = sims_of(alloc, &plan)?;
+    Ok(count_so(&mut sims, rows))
+}
+
+#[test]
+fn turns_with_a_request_and_with_data(rt: HostRuntime) -> Result<(), Fail> {
+    let first = Move::Begin(0, 0);
+    let asked = Move::GoOn(stepping(0, 0, 3, 1), None);
+    let replied = Move::GoOn(fetching(0, 0, 4), Some(10));
+    let rows = [
+        moved(Who::A, first, stepping(0, 0, 3, 0), None, 0),
+        moved(Who::B, first, stepping(0, 0, 8, 0), None, 0),
+        moved(Who::A, asked, stepping(0, 0, 3, 1), None, 1),
+        moved(Who::A, replied, fetching(0, 0, 4), Some(10), 2),
+        moved(Who::B, Move::End, Place::Idle, None, 1),
+        moved(Who::A, Move::End, Place::Idle, Some(10), 3),
+        moved(
+            Who::A,
+            Move::Begin(10, 0),
+            stepping(10, 0, 5, 0),
+            Some(10),
+            3,
+        ),
+        moved(Who::B, Move::Begin(4, 1), stepping(4, 1, 9, 0), None, 1),
+        moved(Who::B, Move::End, Place::Idle, None, 2),
+        moved(Who::B, Move::Begin(6, 0), stepping(6, 0, 10, 0), None, 2),
+    ];
+    assert_eq!(rt; count_all(rt.alloc(), &rows)?, 10);
+    Ok(())
+}

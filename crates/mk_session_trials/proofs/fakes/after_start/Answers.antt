@@ -1,0 +1,5 @@
+use Rattle.mk_session_trials.proofs.Opened.{is_open}
+use Rattle.mk_session_trials.proofs.fakes.after_start.Goals as goal
+
+pub after_sleep-requires : goal.after_sleep-requires
+after_sleep-requires g c = is_open c.in-Link.link (g.F.Fleet.open_links c.args.fleet.now) _ c.in-Link.ensures.starts.3

@@ -1,0 +1,20 @@
+-- How many requests to each simulator were answered, as they are counted. For proofs alone.
+use Rattle.std.specs.Prelude.{◌≡◌, ◌≤◌, ℕ, List, length, map, Option, Some, option_map, slice_get}
+use Rattle.std.specs.List.{range_with_len}
+use Rattle.mk_scenario.specs.declared.parts.Scenario.{Scenario}
+use Rattle.mk_scenario.specs.Wellformed.{IsWellformed}
+use Rattle.mk_run_laws.specs.Handshake.{Request, setup_requests}
+use Rattle.mk_setup.specs.Requests.{id_before}
+
+-- the first k requests are counted by their simulators
+pub record IsCounted (S : Scenario) (k : ℕ) (ids : List ℕ) : Type 0 where
+  pub wellformed : IsWellformed S
+  pub within : k ≤ length (setup_requests S)
+  pub numbered : ids ≡ map (id_before S k) (range_with_len 0 (length S.sims))
+
+-- the simulator of request number k, if there is such a request
+abbrev pub sim_after : Scenario → ℕ → Option ℕ
+sim_after S k = option_map (λ (r : Request). r.sim) (slice_get (setup_requests S) k)
+
+abbrev pub IsToSim : Scenario → ℕ → ℕ → Type 0
+IsToSim S k sim = sim_after S k ≡ Some sim

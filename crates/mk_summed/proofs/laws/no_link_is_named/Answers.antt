@@ -1,5 +1,0 @@
-use Rattle.mk_summed.proofs.NoLinks.{outcome_not}
-use Rattle.mk_summed.proofs.laws.no_link_is_named.Goals as goal
-
-pub returns : goal.returns
-returns c = λ O size sim fault. outcome_not sim fault O size

@@ -1,6 +1,0 @@
-use Rattle.std.proofs.Common.{◌≡◌}
-use Rattle.mk_supply.specs.Making.{AreFeedsOf}
-use Rattle.mk_supply.proofs.feeds.feeds_of.Given as goal
-
-abbrev pub invariant-loop-place : goal.invariant-loop-place
-invariant-loop-place l = (l.conn-items ≡ l.plan.conns) × AreFeedsOf l.plan l.place l.feeds.items

@@ -1,6 +1,0 @@
-use Rattle.std.proofs.Common.{◌≡◌, length}
-use Rattle.mk_supply.specs.Making.{HasNoTriggers}
-use Rattle.mk_supply.proofs.feeds.no_triggers.Given as goal
-
-abbrev pub invariant-loop-sim : goal.invariant-loop-sim
-invariant-loop-sim l = HasNoTriggers l.plan l.sim l.feeds.items × (l.sim-end ≡ length l.plan.sims)

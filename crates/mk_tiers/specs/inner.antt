@@ -1,0 +1,9 @@
+-- What proofs alone need.
+pub mod Arcs
+pub mod Clear
+pub mod Levels
+pub mod Outer
+pub mod Sets
+pub mod Standing
+pub mod Times
+pub mod Wires

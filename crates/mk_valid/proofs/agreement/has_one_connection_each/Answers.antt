@@ -1,8 +1,0 @@
-use Rattle.std.proofs.Common.{◌∙◌, ap}
-use Rattle.mk_valid.specs.Tests.{all_apart}
-use Rattle.mk_valid.specs.Marks.{differ}
-use Rattle.mk_valid.proofs.Neighbours.{ways_apart}
-use Rattle.mk_valid.proofs.agreement.has_one_connection_each.Goals as goal
-
-pub returns : goal.returns
-returns c = c.are_apart.ensures ∙ ap (all_apart differ) c.in_ok-ways.ensures ∙ ways_apart c.args.plan.now

@@ -1,8 +1,0 @@
-use Rattle.std.proofs.Common.{rules}
-use Rattle.std.proofs.lemmas.Fn.{always_returns_same}
-use Rattle.mk_valid.specs.Marks.{differ_by}
-use Rattle.mk_valid.proofs.Neighbours.{adjacent_is}
-use Rattle.mk_valid.proofs.agreement.next_differ.Goals as goal
-
-pub returns : goal.returns
-returns c = adjacent_is differ_by c.args.marks.now c.is_sorted_by.result (c.is_sorted_by.ensures.cases differ_by (always_returns_same _ _ _ (λ a r f' k. search rules)))

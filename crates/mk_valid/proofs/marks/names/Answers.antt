@@ -1,5 +1,0 @@
-use Rattle.mk_valid.proofs.Neighbours.{marked_more}
-use Rattle.mk_valid.proofs.marks.names.Goals as goal
-
-pub loop-entity-preserved : goal.loop-entity-preserved
-loop-entity-preserved c = marked_more c.args.plan.now c.loop-entity.marks.items c.push.new.self.items c.name.result c.loop-entity.entity c.loop-entity.invariant c.name.ensures c.in_ok-push.ensures.items

@@ -1,7 +1,0 @@
-use Rattle.std.proofs.Common.{◌≡◌, map}
-use Rattle.std.specs.List.{range_with_len}
-use Rattle.mk_valid.specs.Marks.{label_of, name_label}
-use Rattle.mk_valid.proofs.marks.names.Given as goal
-
-abbrev pub invariant-loop-entity : goal.invariant-loop-entity
-invariant-loop-entity l = map label_of l.marks.items ≡ map (name_label l.plan) (range_with_len 0 l.entity)

@@ -1,6 +1,0 @@
-use Rattle.std.proofs.Common.{◌≡◌, map, take}
-use Rattle.mk_valid.specs.Marks.{label_of, target_label}
-use Rattle.mk_valid.proofs.marks.targets.Given as goal
-
-abbrev pub invariant-loop-conn : goal.invariant-loop-conn
-invariant-loop-conn l = map label_of l.marks.items ≡ map target_label (take l.conn-index l.plan.conns)

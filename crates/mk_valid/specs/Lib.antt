@@ -1,4 +1,0 @@
-pub mod FirstBad
-pub mod Marks
-pub mod Nesting
-pub mod Tests

@@ -1,7 +1,0 @@
-use Rattle.std.proofs.Common.{◌≡◌, take, map}
-use Rattle.mk_local.specs.Registries.{rows_in}
-use Rattle.mk_within.specs.Seen.{first_of}
-use Rattle.mk_within.proofs.within.all_begun.Given as goal
-
-abbrev pub invariant-loop-sim : goal.invariant-loop-sim
-invariant-loop-sim g l = l.places.items ≡ map (first_of (rows_in l.kinds)) (take l.sim-index l.sims)

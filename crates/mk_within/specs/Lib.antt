@@ -1,5 +1,0 @@
-pub mod Seen
-pub mod Calls
-pub mod Made
-pub mod Laws
-pub mod Standing

@@ -1,5 +1,0 @@
-pub mod Apps
-pub mod Arranged
-pub mod Numbers
-pub mod Requests
-pub mod Words

@@ -1,0 +1,7 @@
+use Rattle.std.proofs.Common.{◌≡◌, take, map}
+use Rattle.mk_base.specs.declared.SimNo.{SimNo}
+use Rattle.mosaikrun_check.specs.CheckText.{id_at}
+use Rattle.mosaikrun_check.proofs.checking.ids_of.Given as goal
+
+abbrev pub invariant-loop-sim : goal.invariant-loop-sim
+invariant-loop-sim l = l.ids ≡ map (λ (s : SimNo). id_at l.scenario s.0) (take l.sim-index l.sim-items)

@@ -1,0 +1,40 @@
+// From a size to the summary of a run of the demo scenario.
+ghost use Rattle.std.specs.Prelude.{◌≡◌, ◌≤◌, ◌<◌, List, IfOk, IfErr, Ok, Err};
+ghost use Rattle.mk_outside.specs.declared.fleet.LogEntry.{LogEntry};
+ghost use Rattle.mk_outside.specs.Logs.{Adds};
+ghost use Rattle.mk_launch.specs.Starts.{AreNumbered};
+ghost use Rattle.mk_local.specs.Registries.{rows_in};
+ghost use Rattle.mosaikrun_run.specs.Outcomes.{outside};
+ghost use Rattle.mosaikrun_demo.specs.Outcomes.{IsDemoOutcome};
+
+use mk_local::Registry;
+use mk_outside::Fleet;
+use mk_scenario_demo::demo_scenario;
+use mosaikrun_endings::Ending;
+use mosaikrun_run::{Form, played};
+use std::alloc::Global;
+use std::sync::Wait;
+
+/// Runs the demo scenario of this size, 1 to 100, its simulators being of these kinds, and answers the summary of what each was
+/// sent, or why there is none. All its simulators are within the program, so the fleet is as before: its log has no new entry,
+/// none of its counts rises, and the links that were open before are open after it, and no others.
+pub fn summed<F: Fleet, R: Wait>(
+    rt: &R,
+    alloc: Global,
+    kinds: &Registry,
+    size: u32,
+    fleet: &mut F,
+) -> Result<Vec<u8>, Ending>
+    requires low { 1 ≤ size }
+    requires high { size ≤ 100 }
+    ensures count { F.faults fleet.old ≤ F.faults fleet.new }
+    ensures closed { AreNumbered (F.started fleet.old) (F.open_links fleet.old) → F.open_links fleet.new ≡ F.open_links fleet.old }
+    ensures unused { fleet.new ≡ fleet.old }
+    ensures text { IfOk result (λ text. (entries : List LogEntry) × Adds entries (F.log fleet.old) (F.log fleet.new)
+        × IsDemoOutcome (outside F.started F.faults (rows_in kinds.now) fleet.old fleet.new entries) size (Ok text.items)) }
+    ensures none { IfErr result (λ e. (entries : List LogEntry) × Adds entries (F.log fleet.old) (F.log fleet.new)
+        × IsDemoOutcome (outside F.started F.faults (rows_in kinds.now) fleet.old fleet.new entries) size (Err e)) }
+{
+    let scenario = demo_scenario(alloc, size)?;
+    played(rt, alloc, kinds, scenario, fleet, Form::Summary, false).text
+}

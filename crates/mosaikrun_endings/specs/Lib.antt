@@ -1,0 +1,7 @@
+pub mod Endings
+pub mod Launches
+pub mod Scenarios
+pub mod Links
+pub mod Setups
+pub mod Sayings
+pub mod Stops

@@ -1,0 +1,4 @@
+mod Keeping
+pub mod OneMigration
+pub mod OneOutcome
+pub mod WholeRuns

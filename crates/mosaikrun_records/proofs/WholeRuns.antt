@@ -1,0 +1,118 @@
+-- A whole replay sends what sequential execution over the arrivals sends, line for line.
+use Rattle.std.proofs.Common.{◌≡◌, ℕ, suc, ◌+◌, ◌<◌, ◌≤◌, Bool, true, false, List, [], ◌∷◌, ◌++◌, length, map, filter, refl, sym, ap, ◌∙◌, subst, arith, Option, Some, None}
+use Rattle.std.proofs.Math.Path.{fun_ext}
+use Rattle.std.specs.Prelude.{flat_map, sum, codes, ◌==◌, if◌then◌else◌}
+use Rattle.std.specs.Fmt.{decimal}
+use Rattle.std.specs.List.{enumerate_from, cons_option}
+use Rattle.mk_plan.specs.declared.Plan.{Plan}
+use Rattle.mk_plan.specs.declared.Item.{Item}
+use Rattle.mk_plan.specs.declared.Item.TheVariants.{Step, GetData, Answer, Refuse}
+use Rattle.mk_plan.specs.declared.Message.{Message}
+use Rattle.mk_plan.specs.declared.Entry.{Entry}
+use Rattle.mk_plan.specs.declared.Entry.TheVariants.{Sent, Got}
+use Rattle.mk_plan.specs.Plans.{IsValidPlan, sim_count}
+use Rattle.mk_plan.specs.Journals.{Arrival, arrivals, bare, got, sent}
+use Rattle.mk_plan.specs.Sequential.{Messages, run_items, sequential, all_ended, messages_in}
+use Rattle.mk_plan.specs.Report.{report, line_of, is_step}
+use Rattle.mk_record.specs.Reading.{reading, Said}
+use Rattle.mk_record.specs.Asked.{Asked}
+use Rattle.mk_record.specs.Differences.{IsOther}
+use Rattle.mk_plan.specs.Agreement.{IsFinished}
+use Rattle.mk_record.specs.Replays.{EndsBy, end_with, IsWhole, messages_from}
+use Rattle.mk_record.specs.Orders.{IsReplayBy, IsReplayInOrder}
+use Rattle.mk_record.specs.ReplayEnd.{ReplayEnd}
+use Rattle.mk_record.specs.ReplayEnd.TheVariants.{Done, Core, Short, Other}
+use Rattle.mk_record_report.proofs.Bare.{report_bare}
+use Rattle.mosaikrun_records.specs.Reports.{IsDoneBy, IsReportOf, IsStopped, Unreported}
+use Rattle.mosaikrun_endings.specs.Stops.{stop_of}
+use Rattle.mosaikrun_endings.specs.declared.ending.Ending.{Ending}
+use Rattle.mk_sched.specs.declared.faults.CoreFault.{CoreFault}
+use Rattle.mk_sched.specs.declared.faults.CoreFault.TheVariants as core
+
+-- one more message, if it is the simulator's
+one_more : (b : Bool) (a : Arrival) (ms : List Message) (came : List Arrival) → ms ≡ map (λ (x : Arrival). x.message) came
+    → cons_option (if b then Some a.message else None) ms ≡ map (λ (x : Arrival). x.message) (if b then a ∷ came else came)
+one_more true a ms came e = ap (λ xs. a.message ∷ xs) e
+one_more false a ms came e = e
+
+-- a journal's messages of a simulator are those among all that came
+pub got_is : (J : List Entry) (i : ℕ) → got J i ≡ messages_from (arrivals J) i
+got_is [] i = refl
+got_is (Sent s item ∷ J) i = got_is J i
+got_is (Got s m ∷ J) i = one_more (s.0 == i) (record { sim = s.0; message = m }) _ _ (got_is J i)
+
+-- a replay that ends with all done is one of messages that ends so, and whose entries are those of the record
+done_ends : (e : ReplayEnd) (other : Option ℕ) → Done ≡ end_with e other → (e ≡ Done) × (other ≡ None)
+done_ends Done None is = (refl, refl)
+done_ends Done (Some n) is = cc
+done_ends (Core f) other is = cc
+done_ends (Other k) other is = cc
+done_ends (Short k) None is = cc
+done_ends (Short k) (Some n) is = cc
+
+-- a replay that has come to its end with all done is done
+done_by : (P : Plan) (A : List Arrival) (steps : Option (List Asked)) (order : Option ℕ) (J : List Entry) (end : ReplayEnd) → IsReplayBy P A steps order J end → end ≡ Done → IsDoneBy P A steps order J
+done_by P A steps None J end r done =
+    let so = done_ends r.1.messages_end r.1.other (sym done ∙ r.1.is) in
+    (r.0, subst (λ (n : Option ℕ). IsOther A steps J n) so.1 r.1.compared, subst (λ e. EndsBy P A J e) so.0 r.1.ends)
+done_by P A steps (Some N) J end r done = subst (IsReplayInOrder P A N J) done r
+
+-- where all messages were given in some order, each simulator was sent what sequential execution over the messages sends it
+record IsAllSent (P : Plan) (A : List Arrival) (J : List Entry) : Type 0 where
+  heard : got J ≡ messages_from A
+  finished : IsFinished P J
+  sent : (i : ℕ) → i < sim_count P → map bare (sent J i) ≡ run_items P (messages_from A) i
+
+whole_sent : (P : Plan) (A B : List Arrival) (J : List Entry) → ((i : ℕ) → messages_from B i ≡ messages_from A i) → IsWhole P B J → IsAllSent P A J
+whole_sent P A B J same whole =
+    let one : messages_from B ≡ messages_from A = fun_ext same in record {
+      heard = fun_ext (got_is J) ∙ ap messages_from whole.given ∙ one;
+      finished = whole.finished;
+      sent = λ i within. whole.sent i within ∙ ap (λ (R : Messages). run_items P R i) one;
+    }
+
+all_sent : (P : Plan) (A : List Arrival) (steps : Option (List Asked)) (order : Option ℕ) (J : List Entry) → IsDoneBy P A steps order J → IsAllSent P A J
+all_sent P A steps None J done = whole_sent P A A J (λ i. refl) done.2
+all_sent P A steps (Some N) J done = whole_sent P A done.order J done.same done.ends
+
+-- the report of a replay that ends with all done is that of the sequential execution of its plan over the messages that came
+pub report_done : (bytes text : List ℕ) (P Q : Plan) (A : List Arrival) (steps : Option (List Asked)) (order : Option ℕ) (J : List Entry) (end : ReplayEnd)
+    → reading bytes ≡ Said P A steps → IsValidPlan P → Q ≡ P → IsReplayBy P A steps order J end → end ≡ Done → text ≡ report Q (sent J) → IsReportOf bytes order text
+report_done bytes text P Q A steps order J end read valid same replayed done reported =
+    let by : IsDoneBy P A steps order J = done_by P A steps order J end replayed done in
+    let all : IsAllSent P A J = all_sent P A steps order J by in
+    record {
+      plan = P;
+      arrivals = A;
+      journal = J;
+      steps = steps;
+      read = read;
+      valid = valid;
+      done = by;
+      used = λ i within. subst (λ (R : Messages). messages_in (sequential P R i) ≡ R i) all.heard (all.finished i within).used;
+      uncut = λ i within. subst (λ (R : Messages). all_ended (sequential P R i) ≡ true) all.heard (all.finished i within).ended;
+      reported = reported ∙ ap (λ S. report S (sent J)) same ∙ report_bare P (sent J) (run_items P (messages_from A)) all.sent;
+    }
+
+-- a replay that a fault of the core ends has no report
+as_stopped : (bytes : List ℕ) (order : Option ℕ) (P : Plan) (J : List Entry) (fault : CoreFault) → IsStopped bytes order (stop_of P J fault) → Unreported bytes order (stop_of P J fault)
+as_stopped bytes order P J (core.Wrong s place cause) h = h
+as_stopped bytes order P J (core.Failed s place) h = h
+as_stopped bytes order P J (core.LoopLimit s time) h = h
+as_stopped bytes order P J (core.TooLong count) h = h
+
+pub stopped_by : (bytes : List ℕ) (order : Option ℕ) (P Q : Plan) (A : List Arrival) (steps : Option (List Asked)) (J : List Entry) (end : ReplayEnd) (fault : CoreFault) (e : Ending)
+    → reading bytes ≡ Said P A steps → IsValidPlan P → Q ≡ P → IsReplayBy P A steps order J end → end ≡ Core fault → e ≡ stop_of Q J fault → Unreported bytes order e
+stopped_by bytes order P Q A steps J end fault e read valid same replayed ended said =
+    let named : e ≡ stop_of P J fault = said ∙ ap (λ (X : Plan). stop_of X J fault) same in
+    subst (Unreported bytes order) (sym named) (as_stopped bytes order P J fault (record {
+      plan = P;
+      arrivals = A;
+      journal = J;
+      end = Core fault;
+      steps = steps;
+      read = read;
+      valid = valid;
+      replayed = subst (λ (x : ReplayEnd). IsReplayBy P A steps order J x) ended replayed;
+      said = refl;
+    }))

@@ -1,0 +1,3 @@
+pub mod Migrations
+pub mod Reports
+pub mod inner

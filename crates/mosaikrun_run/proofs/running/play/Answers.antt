@@ -1,0 +1,55 @@
+use Rattle.std.proofs.Common.{None, Ok, Err, refl}
+use Rattle.std.specs.Prelude.{option_map}
+use Rattle.mk_local.specs.Registries.{rows_in}
+use Rattle.mosaikrun_run.specs.Sayings.{record_of}
+use Rattle.mosaikrun_run.specs.Outcomes.{outside}
+use Rattle.mosaikrun_run.proofs.Telling.{has_run, if_err, if_ok, made_with_ending, made_with_text, played, unplayed, writable}
+use Rattle.mosaikrun_run.proofs.running.play.Goals as goal
+
+pub tell-requires : goal.tell-requires
+tell-requires g c =
+    let r = c.run-outcome.ensures.ran in
+    let O = outside g.F.Fleet.started g.F.Fleet.faults (rows_in c.args.kinds.now) c.args.fleet.now c.run-outcome.new.fleet r.0 in
+    writable c.in-Some-Some.journal.entries (has_run O c.args.scenario c.args.accepted.ranks c.run-outcome.result.outcome c.run-outcome.result.plan c.run-outcome.result.journal c.in-Some-Some.plan c.in-Some-Some.journal c.in-Some-Some.is-0 c.in-Some-Some.is-1 r.2).run.in_range
+
+pub returns-in-Some-Some-clause-text : goal.returns-in-Some-Some-clause-text
+returns-in-Some-Some-clause-text g c =
+    let r = c.run-outcome.ensures.ran in
+    let O = outside g.F.Fleet.started g.F.Fleet.faults (rows_in c.args.kinds.now) c.args.fleet.now c.run-outcome.new.fleet r.0 in
+    if_ok c.tell.result.text
+    (λ text is said. (
+      r.0,
+      r.1,
+      played O c.args.scenario c.args.accepted.ranks c.run-outcome.result.outcome c.args.form c.args.is_recorded c.requires.runnable c.run-outcome.result.plan c.run-outcome.result.journal c.in-Some-Some.plan c.in-Some-Some.journal c.in-Some-Some.is-0 c.in-Some-Some.is-1 r.2
+          c.args.accepted.ids c.requires.ids (Ok text.items) (option_map (λ v. v.items) c.tell.result.record) said
+          (made_with_text (λ v. v.items) (record_of c.args.is_recorded c.in-Some-Some.plan c.in-Some-Some.journal.entries) c.tell.result.record c.tell.result.text text is c.tell.ensures.recorded (Ok text.items)),
+    ))
+    c.tell.ensures.text
+
+pub returns-in-Some-Some-clause-none : goal.returns-in-Some-Some-clause-none
+returns-in-Some-Some-clause-none g c =
+    let r = c.run-outcome.ensures.ran in
+    let O = outside g.F.Fleet.started g.F.Fleet.faults (rows_in c.args.kinds.now) c.args.fleet.now c.run-outcome.new.fleet r.0 in
+    if_err c.tell.result.text
+    (λ e is said. (
+      r.0,
+      r.1,
+      played O c.args.scenario c.args.accepted.ranks c.run-outcome.result.outcome c.args.form c.args.is_recorded c.requires.runnable c.run-outcome.result.plan c.run-outcome.result.journal c.in-Some-Some.plan c.in-Some-Some.journal c.in-Some-Some.is-0 c.in-Some-Some.is-1 r.2
+          c.args.accepted.ids c.requires.ids (Err e) (option_map (λ v. v.items) c.tell.result.record) said
+          (made_with_ending (λ v. v.items) (record_of c.args.is_recorded c.in-Some-Some.plan c.in-Some-Some.journal.entries) c.tell.result.record c.tell.result.text e is c.tell.ensures.recorded (Err e) refl),
+    ))
+    c.tell.ensures.none
+
+pub returns-in-None-None-clause-none : goal.returns-in-None-None-clause-none
+returns-in-None-None-clause-none g c =
+    let r = c.run-outcome.ensures.ran in
+    let O = outside g.F.Fleet.started g.F.Fleet.faults (rows_in c.args.kinds.now) c.args.fleet.now c.run-outcome.new.fleet r.0 in
+    rw (c.unrecorded.ensures.text, c.unrecorded.ensures.record)
+    (r.0, r.1, unplayed O c.args.scenario c.args.accepted.ranks c.run-outcome.result.outcome c.args.form c.args.is_recorded c.requires.runnable c.run-outcome.result.plan c.run-outcome.result.journal c.in-None-None.is-0 c.in-None-None.is-1 r.2 c.args.accepted.ids c.requires.ids (Err c.unrun.result) None c.unrun.ensures refl)
+
+-- where all simulators are within the program the fleet is as before
+pub returns-in-Some-Some-clause-within : goal.returns-in-Some-Some-clause-within
+returns-in-Some-Some-clause-within g c = λ all. (c.run-outcome.ensures.within all).0
+
+pub returns-in-None-None-clause-within : goal.returns-in-None-None-clause-within
+returns-in-None-None-clause-within g c = λ all. (c.run-outcome.ensures.within all).0

@@ -1,0 +1,227 @@
+// From a scenario, or a file's bytes, to the text and the record of its run.
+ghost use Rattle.std.specs.Prelude.{◌≡◌, ◌≤◌, ◌<◌, ◌⊎◌, ℕ, List, IfOk, IfErr, Some, None, Ok, Err, map, option_map, true};
+ghost use Rattle.std.specs.List.{list_all};
+ghost use Rattle.mk_plan.specs.declared.Plan.{Plan};
+ghost use Rattle.mk_plan.specs.declared.Journal.{Journal};
+ghost use Rattle.mk_outside.specs.declared.fleet.LogEntry.{LogEntry};
+ghost use Rattle.mk_outside.specs.Logs.{Adds};
+ghost use Rattle.mk_scenario.specs.declared.parts.Scenario.{Scenario};
+ghost use Rattle.mk_scenario.specs.Scenarios.{scenario_of};
+ghost use Rattle.mk_scenario.specs.Wellformed.{IsWellformed};
+ghost use Rattle.mk_run_crew.specs.Wholly.{is_wholly_within};
+ghost use Rattle.mk_launch.specs.Starts.{AreNumbered};
+ghost use Rattle.mk_local.specs.Kinds.{name_of};
+ghost use Rattle.mk_local.specs.Registries.{rows_in};
+ghost use Rattle.mosaikrun_check.specs.Runnable.{IsRunnable, IsUnrunnable};
+ghost use Rattle.mk_run.specs.Ran.{RunsAs};
+ghost use Rattle.mk_record.specs.Writable.{is_writable};
+ghost use Rattle.mk_run_crew.specs.declared.halt.Halt.{Halt};
+ghost use Rattle.mk_run.specs.Outcomes.{outcome_of};
+ghost use Rattle.mosaikrun_endings.specs.Sayings.{ids_of};
+ghost use Rattle.mosaikrun_run.specs.Sayings.{halt_ending, record_of, saying_of};
+ghost use Rattle.mosaikrun_run.specs.inner.Sayings.{IsHalt};
+ghost use Rattle.mosaikrun_run.specs.Outcomes.{IsScenarioOutcome, IsRunOutcome, IsSaid, outside};
+ghost use Rattle.mosaikrun_endings.specs.declared.ending.Ending.TheVariants as ends;
+
+use crate::sayings::{Form, halt_ending, saying};
+use mk_base::{List, Mem, Text};
+use mk_local::Registry;
+use mk_outside::Fleet;
+use mk_plan::{Journal, Plan};
+use mk_record::write_record;
+use mk_run::{Outcome, Ran, run};
+use mk_scenario::Scenario;
+use mosaikrun_check::{ranked, scenario_of};
+use mosaikrun_endings::{Ending, ids_of};
+use std::alloc::Global;
+use std::sync::Wait;
+
+/// What a run comes to: its text, or why there is none; and the record, where one is wanted and the run has a journal.
+#[derive(Drop)]
+pub struct Told {
+    pub text: Result<Vec<u8>, Ending>,
+    pub record: Option<Vec<u8>>,
+}
+
+impl Told {
+    // Nothing is to be recorded.
+    fn unrecorded(ending: Ending) -> Told
+        ensures text { result.text ≡ Err ending }
+        ensures record { result.record ≡ None }
+    {
+        Told {
+            text: Err(ending),
+            record: None,
+        }
+    }
+}
+
+/// Reads a scenario file's bytes, and runs the scenario over a fleet, its simulators within the program being of these kinds. It
+/// may wait for others. Every link that it starts is closed at the end; where all simulators are within the program the fleet
+/// is as before.
+pub fn ran<F: Fleet, R: Wait>(
+    rt: &R,
+    alloc: Global,
+    kinds: &Registry,
+    bytes: &[u8],
+    fleet: &mut F,
+    is_recorded: bool,
+) -> Told
+    ensures count { F.faults fleet.old ≤ F.faults fleet.new }
+    ensures closed { AreNumbered (F.started fleet.old) (F.open_links fleet.old) → F.open_links fleet.new ≡ F.open_links fleet.old }
+    ensures within { (S : Scenario) → scenario_of bytes.now ≡ Ok S → is_wholly_within S ≡ true → fleet.new ≡ fleet.old }
+    ensures text { IfOk result.text (λ text. (entries : List LogEntry) × Adds entries (F.log fleet.old) (F.log fleet.new)
+        × IsRunOutcome (outside F.started F.faults (rows_in kinds.now) fleet.old fleet.new entries) is_recorded bytes.now (Ok text.items) (option_map (λ r. r.items) result.record)) }
+    ensures none { IfErr result.text (λ e. (entries : List LogEntry) × Adds entries (F.log fleet.old) (F.log fleet.new)
+        × IsRunOutcome (outside F.started F.faults (rows_in kinds.now) fleet.old fleet.new entries) is_recorded bytes.now (Err e) (option_map (λ r. r.items) result.record)) }
+{
+    match scenario_of(alloc, bytes) {
+        Ok(scenario) => played(rt, alloc, kinds, scenario, fleet, Form::Report, is_recorded),
+        Err(ending) => Told::unrecorded(ending),
+    }
+}
+
+/// Runs a scenario over a fleet, its simulators within the program being of these kinds, and writes its text in this form. It may
+/// wait for others. Every link that it starts is closed at the end; where all simulators are within the program the fleet is as
+/// before.
+pub fn played<F: Fleet, R: Wait>(
+    rt: &R,
+    alloc: Global,
+    kinds: &Registry,
+    scenario: Scenario,
+    fleet: &mut F,
+    form: Form,
+    is_recorded: bool,
+) -> Told
+    requires wellformed { IsWellformed scenario }
+    ensures count { F.faults fleet.old ≤ F.faults fleet.new }
+    ensures closed { AreNumbered (F.started fleet.old) (F.open_links fleet.old) → F.open_links fleet.new ≡ F.open_links fleet.old }
+    ensures within { is_wholly_within scenario ≡ true → fleet.new ≡ fleet.old }
+    ensures text { IfOk result.text (λ text. (entries : List LogEntry) × Adds entries (F.log fleet.old) (F.log fleet.new)
+        × IsScenarioOutcome (outside F.started F.faults (rows_in kinds.now) fleet.old fleet.new entries) form is_recorded scenario (Ok text.items) (option_map (λ r. r.items) result.record)) }
+    ensures none { IfErr result.text (λ e. (entries : List LogEntry) × Adds entries (F.log fleet.old) (F.log fleet.new)
+        × IsScenarioOutcome (outside F.started F.faults (rows_in kinds.now) fleet.old fleet.new entries) form is_recorded scenario (Err e) (option_map (λ r. r.items) result.record)) }
+{
+    match accept(alloc, kinds, &scenario) {
+        Ok(accepted) => play(
+            rt,
+            alloc,
+            kinds,
+            scenario,
+            accepted,
+            fleet,
+            form,
+            is_recorded,
+        ),
+        Err(ending) => Told::unrecorded(ending),
+    }
+}
+
+// The ranks of a scenario that can be run, and the ids of its simulators.
+#[derive(Drop)]
+struct Accepted {
+    ranks: List<u32>,
+    ids: List<Text>,
+}
+
+// The ranks and ids of a scenario's simulators, or why it can't be run.
+fn accept(alloc: Global, kinds: &Registry, scenario: &Scenario) -> Result<Accepted, Ending>
+    requires { IsWellformed scenario.now }
+    ensures runnable { IfOk result (λ a. IsRunnable (map name_of (rows_in kinds.now)) scenario.now a.ranks) }
+    ensures ids { IfOk result (λ a. a.ids ≡ ids_of scenario.now) }
+    ensures unready { IfErr result (λ e. IsUnrunnable (map name_of (rows_in kinds.now)) scenario.now e) }
+{
+    let names = kinds.names(alloc)?;
+    let ranks = ranked(alloc, &names, scenario)?;
+    let ids = ids_of(alloc, scenario)?;
+    Ok(Accepted { ranks, ids })
+}
+
+// Runs a scenario, and says how it ended.
+fn play<F: Fleet, R: Wait>(
+    rt: &R,
+    alloc: Global,
+    kinds: &Registry,
+    scenario: Scenario,
+    accepted: Accepted,
+    fleet: &mut F,
+    form: Form,
+    is_recorded: bool,
+) -> Told
+    requires wellformed { IsWellformed scenario }
+    requires runnable { IsRunnable (map name_of (rows_in kinds.now)) scenario accepted.ranks }
+    requires ids { accepted.ids ≡ ids_of scenario }
+    ensures count { F.faults fleet.old ≤ F.faults fleet.new }
+    ensures closed { AreNumbered (F.started fleet.old) (F.open_links fleet.old) → F.open_links fleet.new ≡ F.open_links fleet.old }
+    ensures within { is_wholly_within scenario ≡ true → fleet.new ≡ fleet.old }
+    ensures text { IfOk result.text (λ text. (entries : List LogEntry) × Adds entries (F.log fleet.old) (F.log fleet.new)
+        × IsScenarioOutcome (outside F.started F.faults (rows_in kinds.now) fleet.old fleet.new entries) form is_recorded scenario (Ok text.items) (option_map (λ r. r.items) result.record)) }
+    ensures none { IfErr result.text (λ e. (entries : List LogEntry) × Adds entries (F.log fleet.old) (F.log fleet.new)
+        × IsScenarioOutcome (outside F.started F.faults (rows_in kinds.now) fleet.old fleet.new entries) form is_recorded scenario (Err e) (option_map (λ r. r.items) result.record)) }
+{
+    let Accepted { ranks, ids } = accepted;
+    let Ran {
+        outcome,
+        plan,
+        journal,
+    } = run(rt, alloc, scenario, ranks, fleet, kinds);
+    match (plan, journal) {
+        (Some(plan), Some(journal)) => {
+            tell(alloc, form, &ids, outcome, &plan, &journal, is_recorded)
+        }
+        (None, None) => Told::unrecorded(unrun(alloc, &ids, outcome)),
+        (Some(_), None) | (None, Some(_)) => unreachable!(),
+    }
+}
+
+// What is said of a run that had no plan, or that memory is wanting.
+fn unrun(alloc: Global, ids: &List<Text>, outcome: Outcome) -> Ending
+    requires { IsHalt outcome }
+    ensures { (h : Halt) → outcome ≡ outcome_of h → IsSaid (Err (halt_ending ids.now h)) (Err result) }
+{
+    match halt_ending(alloc, ids, outcome) {
+        Ok(ending) => ending,
+        Err(_) => Ending::Mem,
+    }
+}
+
+// What is said of a run with a plan and a journal, and its record.
+fn tell(
+    alloc: Global,
+    form: Form,
+    ids: &List<Text>,
+    outcome: Outcome,
+    plan: &Plan,
+    journal: &Journal,
+    is_recorded: bool,
+) -> Told
+    requires { list_all is_writable journal.now.entries ≡ true }
+    ensures text { IfOk result.text (λ text. IsSaid (saying_of form ids.now plan.now journal.now.entries outcome) (Ok text.items)) }
+    ensures none { IfErr result.text (λ e. IsSaid (saying_of form ids.now plan.now journal.now.entries outcome) (Err e)) }
+    ensures recorded { (option_map (λ r. r.items) result.record ≡ record_of is_recorded plan.now journal.now.entries) ⊎ ((result.record ≡ None) × (result.text ≡ Err ends.Mem)) }
+{
+    match record_of(alloc, plan, journal, is_recorded) {
+        Ok(record) => Told {
+            text: saying(alloc, form, ids, outcome, plan, journal),
+            record,
+        },
+        Err(_) => Told::unrecorded(Ending::Mem),
+    }
+}
+
+// The record of the plan and the journal, where one is wanted.
+fn record_of(
+    alloc: Global,
+    plan: &Plan,
+    journal: &Journal,
+    is_recorded: bool,
+) -> Result<Option<Vec<u8>>, Mem>
+    requires { list_all is_writable journal.now.entries ≡ true }
+    ensures { IfOk result (λ record_. option_map (λ r. r.items) record_ ≡ record_of is_recorded plan.now journal.now.entries) }
+{
+    if is_recorded {
+        Ok(Some(write_record(alloc, plan, journal)?))
+    } else {
+        Ok(None)
+    }
+}

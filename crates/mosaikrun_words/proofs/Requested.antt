@@ -1,0 +1,182 @@
+-- The request that is found is what the words are, and what they are is found.
+use Rattle.std.proofs.Common.{◌≡◌, ◌↔◌, ℕ, ◌==◌, Bool, true, false, cond, List, [], ◌∷◌, Option, Some, None, option_map, option_and_then, refl, sym, ap, ◌∙◌, subst, codes, true≢false, ◌⊎◌, inl, inr}
+use Rattle.std.proofs.lemmas.Slice.Eq.{bytes_eq-Decides}
+use Rattle.mk_base.specs.Lists.{Each, IsIn, same_text}
+use Rattle.mosaikrun_words.specs.declared.reading.Found.{Found}
+use Rattle.mosaikrun_words.specs.declared.reading.Two.{Two}
+use Rattle.mosaikrun_words.specs.declared.request.Command.{Command}
+use Rattle.mosaikrun_words.specs.declared.request.Command.TheVariants as command
+use Rattle.mosaikrun_words.specs.declared.request.Request.{Request}
+use Rattle.mosaikrun_words.specs.declared.request.Request.TheVariants.{Run, Replay, Check, Demo, Migrate}
+use Rattle.mosaikrun_words.specs.inner.Arranged.{check_of, demo_of, migrate_of, number_in, one_word, only_word, replay_in, replay_of, request_among, request_by, request_of, run_of, two_words, word_of}
+use Rattle.mosaikrun_words.specs.Numbers.{IsNumber}
+use Rattle.mosaikrun_words.specs.Requests.{IsNumberGiven, IsRequest, IsRequestAmong, IsSpelled, command_of, if_given, is_check, is_demo, is_migrate, is_replay, is_run, missing, there}
+use Rattle.mosaikrun_words.specs.Words.{Text, Given, is_value, spellings}
+use Rattle.mosaikrun_words.proofs.Spelled.{IsFound, found_is, found_of, number_from, number_is, only_is, only_of, same_self, two_is, two_of}
+
+-- a request and the word of its command before the rest
+abbrev IsRest : Command → List Text → Request → Type 0
+IsRest c rest R = (command_of R ≡ c) × IsRequest (word_of c ∷ rest) R
+
+spelled_by : (word name : Text) (rest : List Text) (f : Found) → IsFound name rest f → IsSpelled word (f.word ∷ []) (if_given name f.value) (word ∷ rest)
+spelled_by word name rest f found = record { rest = rest; is = refl; spelled = found.spelled; plain_values = (found.word, tt); given_values = found.value }
+
+spelled_alone : (word : Text) (rest : List Text) (t : Text) → rest ≡ t ∷ [] → is_value t ≡ true → IsSpelled word (t ∷ []) [] (word ∷ rest)
+spelled_alone word rest t is h = record { rest = rest; is = refl; spelled = inl is; plain_values = (h, tt); given_values = tt }
+
+-- what is found is right
+
+run_right : (rest : List Text) (R : Request) → run_of rest ≡ Some R → IsRest command.Run rest R
+run_right rest R e = by (one_word (codes "record") rest) refl e
+  where
+    by : (o : Option Found) → one_word (codes "record") rest ≡ o → option_map (λ (f : Found). Run f.word f.value) o ≡ Some R → IsRest command.Run rest R
+    by None is h = cc
+    by (Some f) is h =
+        let same : Run f.word f.value ≡ R = cc in
+        subst (IsRest command.Run rest) same (refl, is_run f.word f.value (spelled_by (codes "run") (codes "record") rest f (found_is (codes "record") rest f is)))
+
+replay_right : (rest : List Text) (R : Request) → replay_of rest ≡ Some R → IsRest command.Replay rest R
+replay_right rest R e = by (one_word (codes "order") rest) refl e
+  where
+    numbered : (f : Found) → IsFound (codes "order") rest f → (text : Text) → f.value ≡ Some text → (n : Option ℕ) → number_in 0 4294967295 text ≡ n → option_map (λ k. Replay f.word (Some k)) n ≡ Some R → IsRest command.Replay rest R
+    numbered f found text given None is h = cc
+    numbered f found text given (Some k) is h =
+        let same : Replay f.word (Some k) ≡ R = cc in
+        subst (IsRest command.Replay rest) same (
+          refl,
+          is_replay f.word (Some text) (Some k)
+              (subst (λ (v : Option Text). IsSpelled (codes "replay") (f.word ∷ []) (if_given (codes "order") v) (codes "replay" ∷ rest)) given (spelled_by (codes "replay") (codes "order") rest f found))
+              (there text k (number_is 0 4294967295 text k is)),
+        )
+
+    valued : (f : Found) → IsFound (codes "order") rest f → (v : Option Text) → f.value ≡ v → replay_in f.word v ≡ Some R → IsRest command.Replay rest R
+    valued f found None given h =
+        let same : Replay f.word None ≡ R = cc in
+        subst (IsRest command.Replay rest) same (
+          refl,
+          is_replay f.word None None
+              (subst (λ (v : Option Text). IsSpelled (codes "replay") (f.word ∷ []) (if_given (codes "order") v) (codes "replay" ∷ rest)) given (spelled_by (codes "replay") (codes "order") rest f found))
+              missing,
+        )
+    valued f found (Some text) given h = numbered f found text given (number_in 0 4294967295 text) refl h
+
+    by : (o : Option Found) → one_word (codes "order") rest ≡ o → option_and_then (λ (f : Found). replay_in f.word f.value) o ≡ Some R → IsRest command.Replay rest R
+    by None is h = cc
+    by (Some f) is h = valued f (found_is (codes "order") rest f is) f.value refl h
+
+check_right : (rest : List Text) (R : Request) → check_of rest ≡ Some R → IsRest command.Check rest R
+check_right rest R e = by (only_word rest) refl e
+  where
+    by : (o : Option Text) → only_word rest ≡ o → option_map Check o ≡ Some R → IsRest command.Check rest R
+    by None is h = cc
+    by (Some t) is h =
+        let p = only_is rest t is in
+        let same : Check t ≡ R = cc in
+        subst (IsRest command.Check rest) same (refl, is_check t (spelled_alone (codes "check") rest t p.0 p.1))
+
+demo_right : (rest : List Text) (R : Request) → demo_of rest ≡ Some R → IsRest command.Demo rest R
+demo_right rest R e = by (only_word rest) refl e
+  where
+    numbered : (t : Text) → only_word rest ≡ Some t → (n : Option ℕ) → number_in 1 100 t ≡ n → option_map Demo n ≡ Some R → IsRest command.Demo rest R
+    numbered t is None number h = cc
+    numbered t is (Some k) number h =
+        let p = only_is rest t is in
+        let same : Demo k ≡ R = cc in
+        subst (IsRest command.Demo rest) same (refl, is_demo t k (spelled_alone (codes "demo") rest t p.0 p.1) (number_is 1 100 t k number))
+
+    by : (o : Option Text) → only_word rest ≡ o → option_map Demo (option_and_then (number_in 1 100) o) ≡ Some R → IsRest command.Demo rest R
+    by None is h = cc
+    by (Some t) is h = numbered t is (number_in 1 100 t) refl h
+
+migrate_right : (rest : List Text) (R : Request) → migrate_of rest ≡ Some R → IsRest command.Migrate rest R
+migrate_right rest R e = by (two_words rest) refl e
+  where
+    by : (o : Option Two) → two_words rest ≡ o → option_map (λ (t : Two). Migrate t.first t.second) o ≡ Some R → IsRest command.Migrate rest R
+    by None is h = cc
+    by (Some t) is h =
+        let p = two_is rest t is in
+        let same : Migrate t.first t.second ≡ R = cc in
+        subst (IsRest command.Migrate rest) same (refl, is_migrate t.first t.second (record { rest = rest; is = refl; spelled = inl p.0; plain_values = (p.1, (p.2, tt)); given_values = tt }))
+
+right : (c : Command) (rest : List Text) (R : Request) → request_by c rest ≡ Some R → IsRest c rest R
+right command.Run = run_right
+right command.Replay = replay_right
+right command.Check = check_right
+right command.Demo = demo_right
+right command.Migrate = migrate_right
+
+among_right : (commands : List Command) (word : Text) (rest : List Text) (R : Request) → request_among commands word rest ≡ Some R → IsRequestAmong commands (word ∷ rest) R
+among_right [] word rest R e = cc
+among_right (c ∷ commands) word rest R e = elim (same_text word (word_of c)) as (λ b. same_text word (word_of c) ≡ b → cond b (request_by c rest) (request_among commands word rest) ≡ Some R → IsRequestAmong (c ∷ commands) (word ∷ rest) R) [
+  | true ↦ λ h k.
+      let t = right c rest R k in
+      record { there = inl t.0; spelled = subst (λ (w : Text). IsRequest (w ∷ rest) R) (sym ((bytes_eq-Decides word (word_of c)).0 h)) t.1 }
+  | false ↦ λ h k. let t = among_right commands word rest R k in record { there = inr t.there; spelled = t.spelled }
+] refl e
+
+-- what is right is found
+
+-- the words are those of the request, which is found by its command
+record IsFoundBy (words : List Text) (R : Request) : Type 0 where
+  rest : List Text
+  is : words ≡ word_of (command_of R) ∷ rest
+  found : request_by (command_of R) rest ≡ Some R
+
+found_one : (word name : Text) (w : Text) (v : Option Text) (words : List Text) (s : IsSpelled word (w ∷ []) (if_given name v) words) → one_word name s.rest ≡ Some (record { word = w; value = v })
+found_one word name w v words s = found_of name s.rest (record { word = w; value = v }) (record { spelled = s.spelled; word = s.plain_values.0; value = s.given_values })
+
+only_rest : (word w : Text) (words : List Text) (s : IsSpelled word (w ∷ []) [] words) → only_word s.rest ≡ Some w
+only_rest word w words s = elim s.spelled [ inl e ↦ ap only_word e ∙ only_of w s.plain_values.0 | inr e ↦ absurd e ]
+
+two_rest : (word a b : Text) (words : List Text) (s : IsSpelled word (a ∷ b ∷ []) [] words) → two_words s.rest ≡ Some (record { first = a; second = b })
+two_rest word a b words s = elim s.spelled [ inl e ↦ ap two_words e ∙ two_of a b s.plain_values.0 s.plain_values.1.0 | inr e ↦ absurd e ]
+
+found_by : (words : List Text) (R : Request) → IsRequest words R → IsFoundBy words R
+found_by words _ (is_run s f spelled) = record { rest = spelled.rest; is = spelled.is; found = ap (option_map (λ (x : Found). Run x.word x.value)) (found_one (codes "run") (codes "record") s f words spelled) }
+found_by words _ (is_replay r t n spelled given) = record { rest = spelled.rest; is = spelled.is; found = ap (option_and_then (λ (x : Found). replay_in x.word x.value)) (found_one (codes "replay") (codes "order") r t words spelled) ∙ ordered t n given }
+  where
+    ordered : (t : Option Text) (n : Option ℕ) → IsNumberGiven 0 4294967295 t n → replay_in r t ≡ Some (Replay r n)
+    ordered _ _ missing = refl
+    ordered _ _ (there text k is) = ap (option_map (λ m. Replay r (Some m))) (number_from 0 4294967295 text k is)
+found_by words _ (is_check s spelled) = record { rest = spelled.rest; is = spelled.is; found = ap (option_map Check) (only_rest (codes "check") s words spelled) }
+found_by words _ (is_demo t n spelled number) = record { rest = spelled.rest; is = spelled.is; found = ap (λ (o : Option Text). option_map Demo (option_and_then (number_in 1 100) o)) (only_rest (codes "demo") t words spelled) ∙ ap (option_map Demo) (number_from 1 100 t n number) }
+found_by words _ (is_migrate a b spelled) = record { rest = spelled.rest; is = spelled.is; found = ap (option_map (λ (t : Two). Migrate t.first t.second)) (two_rest (codes "migrate") a b words spelled) }
+
+-- commands by their words
+abbrev command_named : Text → Option Command
+command_named w = cond (same_text w (codes "run")) (Some command.Run) (cond (same_text w (codes "replay")) (Some command.Replay) (cond (same_text w (codes "check")) (Some command.Check) (cond (same_text w (codes "demo")) (Some command.Demo) (Some command.Migrate))))
+
+named : (c : Command) → command_named (word_of c) ≡ Some c
+named command.Run = refl
+named command.Replay = refl
+named command.Check = refl
+named command.Demo = refl
+named command.Migrate = refl
+
+same_command : (c d : Command) → word_of c ≡ word_of d → c ≡ d
+same_command c d e = let s : Some c ≡ Some d = sym (named c) ∙ ap command_named e ∙ named d in let same : c ≡ d = cc in same
+
+among_found : (commands : List Command) (c : Command) (rest : List Text) → IsIn c commands → request_among commands (word_of c) rest ≡ request_by c rest
+among_found [] c rest e = absurd e
+among_found (d ∷ commands) c rest here = elim (same_text (word_of c) (word_of d)) as (λ b. same_text (word_of c) (word_of d) ≡ b → cond b (request_by d rest) (request_among commands (word_of c) rest) ≡ request_by c rest) [
+  | true ↦ λ h. ap (λ (k : Command). request_by k rest) (sym (same_command c d ((bytes_eq-Decides (word_of c) (word_of d)).0 h)))
+  | false ↦ λ h. elim here [
+    | inl e ↦ absurd (true≢false (sym (same_self_of d c e) ∙ h))
+    | inr more ↦ among_found commands c rest more
+  ]
+] refl
+  where
+    same_self_of : (d c : Command) → c ≡ d → same_text (word_of c) (word_of d) ≡ true
+    same_self_of d c e = ap (λ (k : Command). same_text (word_of c) (word_of k)) (sym e) ∙ same_self (word_of c)
+
+pub requested : (commands : List Command) (words : List Text) (R : Request) → (request_of commands words ≡ Some R) ↔ IsRequestAmong commands words R
+requested commands words R = (from words, to)
+  where
+    from : (words : List Text) → request_of commands words ≡ Some R → IsRequestAmong commands words R
+    from [] e = cc
+    from (word ∷ rest) e = among_right commands word rest R e
+
+    to : IsRequestAmong commands words R → request_of commands words ≡ Some R
+    to is =
+        let f = found_by words R is.spelled in
+        ap (request_of commands) f.is ∙ among_found commands (command_of R) f.rest is.there ∙ f.found

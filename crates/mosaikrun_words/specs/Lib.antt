@@ -1,0 +1,4 @@
+pub mod Numbers
+pub mod Requests
+pub mod Words
+pub mod inner

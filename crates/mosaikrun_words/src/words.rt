@@ -1,0 +1,149 @@
+// From words to a request: the crate's call.
+ghost use Rattle.std.specs.Prelude.{◌≡◌, ◌↔◌, IfOk, Some, map};
+ghost use Rattle.std.specs.String.{string_bytes};
+ghost use Rattle.mosaikrun_words.specs.inner.Arranged.{check_of, demo_of, migrate_of, replay_in, replay_of, request_among, request_by, request_of, run_of, word_of};
+ghost use Rattle.mosaikrun_words.specs.Requests.{IsRequestAmong};
+ghost use Rattle.mosaikrun_words.specs.declared.request.Request.{Request};
+
+use crate::arranged::{one_word, only_word, two_words};
+use crate::number::number_in;
+use crate::reading::{Found, Two};
+use crate::request::{Command, OptionName, Request};
+use mk_base::{Mem, Text};
+use std::alloc::Global;
+
+/// The request, of one of these commands, that the words are; `None` where they are none. The words are those after the
+/// program's name: the command, its files, and its options before or behind them, as `--NAME VALUE` or `--NAME=VALUE`.
+pub fn read_words(
+    alloc: Global,
+    commands: &[Command],
+    words: &[String],
+) -> Result<Option<Request>, Mem>
+    ensures { IfOk result (λ found. (R : Request) → (found ≡ Some R) ↔ IsRequestAmong commands.now (map string_bytes words.now) R) }
+{
+    request_of(alloc, commands, words)
+}
+
+fn request_of(alloc: Global, commands: &[Command], words: &[String]) -> Result<Option<Request>, Mem>
+    ensures { IfOk result (λ found. found ≡ request_of commands.now (map string_bytes words.now)) }
+{
+    match words {
+        [word, rest @ ..] => request_among(alloc, commands, word.as_str(), rest),
+        [] => Ok(None),
+    }
+}
+
+// The request of the first of these commands whose word it is.
+fn request_among(
+    alloc: Global,
+    commands: &[Command],
+    word: &str,
+    rest: &[String],
+) -> Result<Option<Request>, Mem>
+    ensures { IfOk result (λ found. found ≡ request_among commands.now word.now (map string_bytes rest.now)) }
+{
+    for command in commands {
+        if word == word_of(*command) {
+            return request_by(alloc, *command, rest);
+        }
+    }
+    Ok(None)
+}
+
+fn word_of(command: Command) -> &'static str
+    ensures { result.now ≡ word_of command }
+{
+    match command {
+        Command::Run => "run",
+        Command::Replay => "replay",
+        Command::Check => "check",
+        Command::Demo => "demo",
+        Command::Migrate => "migrate",
+    }
+}
+
+// The request of a command, by the words after it.
+fn request_by(alloc: Global, command: Command, rest: &[String]) -> Result<Option<Request>, Mem>
+    ensures { IfOk result (λ found. found ≡ request_by command (map string_bytes rest.now)) }
+{
+    match command {
+        Command::Run => run_of(alloc, rest),
+        Command::Replay => replay_of(alloc, rest),
+        Command::Check => check_of(alloc, rest),
+        Command::Demo => demo_of(alloc, rest),
+        Command::Migrate => migrate_of(alloc, rest),
+    }
+}
+
+fn run_of(alloc: Global, rest: &[String]) -> Result<Option<Request>, Mem>
+    ensures { IfOk result (λ found. found ≡ run_of (map string_bytes rest.now)) }
+{
+    match one_word(alloc, OptionName::Record, rest)? {
+        Some(Found { word, value }) => Ok(Some(Request::Run {
+            scenario: word,
+            record: value,
+        })),
+        None => Ok(None),
+    }
+}
+
+fn replay_of(alloc: Global, rest: &[String]) -> Result<Option<Request>, Mem>
+    ensures { IfOk result (λ found. found ≡ replay_of (map string_bytes rest.now)) }
+{
+    match one_word(alloc, OptionName::Order, rest)? {
+        Some(Found { word, value }) => Ok(replay_in(word, value)),
+        None => Ok(None),
+    }
+}
+
+// The replay of a record, if its order is a number.
+fn replay_in(name: Text, order: Option<Text>) -> Option<Request>
+    ensures { result ≡ replay_in name order }
+{
+    match order {
+        Some(text) => match number_in(0, u32::MAX, text.as_str()) {
+            Some(order) => Some(Request::Replay {
+                record: name,
+                order: Some(order),
+            }),
+            None => None,
+        },
+        None => Some(Request::Replay {
+            record: name,
+            order: None,
+        }),
+    }
+}
+
+fn check_of(alloc: Global, rest: &[String]) -> Result<Option<Request>, Mem>
+    ensures { IfOk result (λ found. found ≡ check_of (map string_bytes rest.now)) }
+{
+    match only_word(alloc, rest)? {
+        Some(scenario) => Ok(Some(Request::Check { scenario })),
+        None => Ok(None),
+    }
+}
+
+fn demo_of(alloc: Global, rest: &[String]) -> Result<Option<Request>, Mem>
+    ensures { IfOk result (λ found. found ≡ demo_of (map string_bytes rest.now)) }
+{
+    match only_word(alloc, rest)? {
+        Some(text) => match number_in(1, 100, text.as_str()) {
+            Some(size) => Ok(Some(Request::Demo { size })),
+            None => Ok(None),
+        },
+        None => Ok(None),
+    }
+}
+
+fn migrate_of(alloc: Global, rest: &[String]) -> Result<Option<Request>, Mem>
+    ensures { IfOk result (λ found. found ≡ migrate_of (map string_bytes rest.now)) }
+{
+    match two_words(alloc, rest)? {
+        Some(Two { first, second }) => Ok(Some(Request::Migrate {
+            old: first,
+            new: second,
+        })),
+        None => Ok(None),
+    }
+}
