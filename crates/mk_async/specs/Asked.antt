@@ -13,8 +13,11 @@ use Rattle.mk_async.specs.declared.request.Asked.{Asked}
 use Rattle.mk_async.specs.declared.request.Asked.TheVariants as as_asked
 
 -- the members, each read by f
-abbrev pub named_by : {X : Type 0} → (Json → Option X) → List (List ℕ × Json) → Option (List (Named X))
-named_by {X} f ms = all_there (map (λ (m : List ℕ × Json). option_map (λ x. let p : Named X = record { name = m.0; value = x } in p) (f m.1)) ms)
+abbrev pub named_by : {X : Type 0} → (Json → Option X) → List (List ℕ × Json)
+    → Option (List (Named X))
+named_by {X} f ms = all_there
+    (map (λ (m : List ℕ × Json).
+    option_map (λ x. let p : Named X = record { name = m.0; value = x } in p) (f m.1)) ms)
 
 -- the request for data that these members are
 abbrev pub get_in : List (List ℕ × Json) → Option Request
@@ -25,7 +28,8 @@ abbrev pub asked_in : Asked → Option Request
 asked_in (as_asked.Get ms) = get_in ms.now
 asked_in (as_asked.Set ms) = option_map Set (named_by (members_by (members_by datum_in)) ms.now)
 asked_in (as_asked.Related text) = Some (Related text.now)
-asked_in (as_asked.RelatedOfEach trees) = option_map RelatedOfEach (all_there (map text_in trees.now))
+asked_in (as_asked.RelatedOfEach trees) = option_map RelatedOfEach
+    (all_there (map text_in trees.now))
 
 -- the number of the refusal that an answer is
 abbrev pub refusal_in : AskAnswer → Option ℕ

@@ -36,7 +36,9 @@ pub fn data_content(
     requires known { (s : ℕ) × (option_map (knows plan.now s) (get_in wants.now) ≡ Some true) }
     requires stands { (S : Supply) × Stands plan.now buffers.now S }
     requires late { 0 < length wants.now → IsUpTo (least_mark buffers.now) at }
-    ensures { (S : Supply) → Stands plan.now buffers.now S → IfOk result (λ text. option_map (content_text plan.now (value_at S at)) (get_in wants.now) ≡ Some text) }
+    ensures { (S : Supply) → Stands plan.now buffers.now S
+        → IfOk result (λ text. option_map (content_text plan.now (value_at S at)) (get_in wants.now)
+        ≡ Some text) }
 {
     let mut text = Vec::new(alloc);
     put_wants(alloc, plan, names, buffers, at, &mut text, wants.entries())?;
@@ -56,8 +58,11 @@ fn put_wants(
     requires names { AreNamesOf plan.now names.now }
     requires known { knows_wants plan.now wants.now ≡ true }
     requires late { 0 < length wants.now → IsUpTo (least_mark buffers.now) at }
-    ensures written { (S : Supply) → Stands plan.now buffers.now S → OnOk result (text.new.items ≡ text.old.items ++ wants_text plan.now (value_at S at) wants.now) }
-    ensures content { (S : Supply) → Stands plan.now buffers.now S → OnOk result (AreContents plan.now (value_at S at) wants.now) }
+    ensures written { (S : Supply) → Stands plan.now buffers.now S
+        → OnOk result (text.new.items ≡ text.old.items
+        ++ wants_text plan.now (value_at S at) wants.now) }
+    ensures content { (S : Supply) → Stands plan.now buffers.now S
+        → OnOk result (AreContents plan.now (value_at S at) wants.now) }
 {
     match wants {
         [] => text.extend_from_slice(b"{}")?,
@@ -84,8 +89,11 @@ fn put_more_wants(
     requires names { AreNamesOf plan.now names.now }
     requires known { knows_wants plan.now wants.now ≡ true }
     requires late { IsUpTo (least_mark buffers.now) at }
-    ensures written { (S : Supply) → Stands plan.now buffers.now S → OnOk result (text.new.items ≡ text.old.items ++ flat_map (λ m. codes "," ++ want_text plan.now (value_at S at) m) wants.now) }
-    ensures content { (S : Supply) → Stands plan.now buffers.now S → OnOk result (AreContents plan.now (value_at S at) wants.now) }
+    ensures written { (S : Supply) → Stands plan.now buffers.now S
+        → OnOk result (text.new.items ≡ text.old.items
+        ++ flat_map (λ m. codes "," ++ want_text plan.now (value_at S at) m) wants.now) }
+    ensures content { (S : Supply) → Stands plan.now buffers.now S
+        → OnOk result (AreContents plan.now (value_at S at) wants.now) }
 {
     for want in wants {
         text.extend_from_slice(b",")?;
@@ -108,8 +116,11 @@ fn put_want(
     requires names { AreNamesOf plan.now names.now }
     requires known { knows_want plan.now id.now tree.now ≡ true }
     requires late { IsUpTo (least_mark buffers.now) at }
-    ensures written { (S : Supply) → Stands plan.now buffers.now S → OnOk result (text.new.items ≡ text.old.items ++ want_text plan.now (value_at S at) (id.now, tree.now)) }
-    ensures content { (S : Supply) → Stands plan.now buffers.now S → OnOk result (IsContent id.now (values_of plan.now (value_at S at) id.now tree.now)) }
+    ensures written { (S : Supply) → Stands plan.now buffers.now S
+        → OnOk result (text.new.items ≡ text.old.items
+        ++ want_text plan.now (value_at S at) (id.now, tree.now)) }
+    ensures content { (S : Supply) → Stands plan.now buffers.now S
+        → OnOk result (IsContent id.now (values_of plan.now (value_at S at) id.now tree.now)) }
 {
     let values = values_of(alloc, plan, names, buffers, at, id, tree)?;
     put_text(alloc, text, id)?;
@@ -131,7 +142,8 @@ fn values_of(
     requires names { AreNamesOf plan.now names.now }
     requires known { knows_want plan.now id.now tree.now ≡ true }
     requires late { IsUpTo (least_mark buffers.now) at }
-    ensures { (S : Supply) → Stands plan.now buffers.now S → IfOk result (λ values. values ≡ values_of plan.now (value_at S at) id.now tree.now) }
+    ensures { (S : Supply) → Stands plan.now buffers.now S
+        → IfOk result (λ values. values ≡ values_of plan.now (value_at S at) id.now tree.now) }
 {
     match entity_of(plan, names, id) {
         Some(entity) => listed(alloc, plan, buffers, at, entity, tree),
@@ -150,7 +162,8 @@ fn listed(
 ) -> Result<Members<Datum>, Mem>
     requires given { is_such (gives_each plan.now entity) (items_in tree.now) ≡ true }
     requires late { IsUpTo (least_mark buffers.now) at }
-    ensures { (S : Supply) → Stands plan.now buffers.now S → IfOk result (λ values. values ≡ listed (value_at S at) entity (items_in tree.now)) }
+    ensures { (S : Supply) → Stands plan.now buffers.now S
+        → IfOk result (λ values. values ≡ listed (value_at S at) entity (items_in tree.now)) }
 {
     match tree.as_list() {
         Some(attrs) => values_by(alloc, plan, buffers, at, entity, attrs),
@@ -168,7 +181,8 @@ fn values_by(
 ) -> Result<Members<Datum>, Mem>
     requires given { gives_each plan.now entity attrs.now ≡ true }
     requires late { IsUpTo (least_mark buffers.now) at }
-    ensures { (S : Supply) → Stands plan.now buffers.now S → IfOk result (λ values. values ≡ values_by (value_at S at) entity attrs.now) }
+    ensures { (S : Supply) → Stands plan.now buffers.now S
+        → IfOk result (λ values. values ≡ values_by (value_at S at) entity attrs.now) }
 {
     let mut values = Members::new(alloc);
     for attr in attrs.as_slice() {
@@ -188,7 +202,8 @@ fn put_attr(
 ) -> Result<(), Mem>
     requires given { is_such (gives_attr plan.now entity) (text_in attr.now) ≡ true }
     requires late { IsUpTo (least_mark buffers.now) at }
-    ensures { (S : Supply) → Stands plan.now buffers.now S → OnOk result (values.new ≡ put_attr (value_at S at) entity values.old attr.now) }
+    ensures { (S : Supply) → Stands plan.now buffers.now S
+        → OnOk result (values.new ≡ put_attr (value_at S at) entity values.old attr.now) }
 {
     match attr.as_text() {
         Some(name) => put_value(plan, buffers, at, entity, values, name),
@@ -206,7 +221,8 @@ fn put_value(
 ) -> Result<(), Mem>
     requires given { gives_attr plan.now entity attr.now ≡ true }
     requires late { IsUpTo (least_mark buffers.now) at }
-    ensures { (S : Supply) → Stands plan.now buffers.now S → OnOk result (values.new ≡ put_named (value_at S at) entity values.old (Some attr.now)) }
+    ensures { (S : Supply) → Stands plan.now buffers.now S
+        → OnOk result (values.new ≡ put_named (value_at S at) entity values.old (Some attr.now)) }
 {
     match buffers.value_at(entity, attr, at) {
         Some(value) => values.put(attr.copy()?, value.copy()?),
@@ -233,7 +249,8 @@ fn put_values(alloc: Global, text: &mut Vec<u8>, values: &[(Text, Datum)]) -> Re
 
 // Appends values with their names, each behind a comma.
 fn put_more_values(alloc: Global, text: &mut Vec<u8>, values: &[(Text, Datum)]) -> Result<(), Mem>
-    ensures written { OnOk result (text.new.items ≡ text.old.items ++ flat_map (λ m. codes "," ++ member_text m.0 m.1) values.now) }
+    ensures written { OnOk result (text.new.items ≡ text.old.items
+        ++ flat_map (λ m. codes "," ++ member_text m.0 m.1) values.now) }
     ensures named { OnOk result (AreNamed values.now) }
 {
     for value in values {
@@ -245,7 +262,8 @@ fn put_more_values(alloc: Global, text: &mut Vec<u8>, values: &[(Text, Datum)]) 
 
 // Appends a value with its name.
 fn put_member(alloc: Global, text: &mut Vec<u8>, name: &Text, value: &Datum) -> Result<(), Mem>
-    ensures written { OnOk result (text.new.items ≡ text.old.items ++ member_text name.now value.now) }
+    ensures written { OnOk result (text.new.items ≡ text.old.items
+        ++ member_text name.now value.now) }
     ensures named { OnOk result (IsNamed name.now value.now) }
 {
     put_text(alloc, text, name)?;

@@ -27,8 +27,10 @@ pub fn given_values(
     requires names { AreNamesOf plan.now names.now }
     requires form { IsSome (asked_in asked.now) }
     requires range { is_asked_in_range asked.now ≡ true }
-    ensures sets { IfOk result (λ sets. option_map (sets_in plan.now) (asked_in asked.now) ≡ Some sets) }
-    ensures given { (s : ℕ) → option_map (knows plan.now s) (asked_in asked.now) ≡ Some true → IfOk result (λ sets. All (IsGivenBy plan.now s) sets) }
+    ensures sets { IfOk result (λ sets. option_map (sets_in plan.now) (asked_in asked.now)
+        ≡ Some sets) }
+    ensures given { (s : ℕ) → option_map (knows plan.now s) (asked_in asked.now) ≡ Some true
+        → IfOk result (λ sets. All (IsGivenBy plan.now s) sets) }
 {
     let mut sets = List::new(alloc);
     match asked {
@@ -71,7 +73,8 @@ fn put_source(
 ) -> Result<(), Mem>
     requires names { AreNamesOf plan.now names.now }
     requires values { is_source tree.now ≡ true }
-    ensures { OnOk result (sets.new ≡ sets.old ++ values_from plan.now source.now (members_of tree.now)) }
+    ensures { OnOk result (sets.new ≡ sets.old
+        ++ values_from plan.now source.now (members_of tree.now)) }
 {
     match tree.as_object() {
         Some(members) => put_destinations(alloc, plan, names, sets, source, members),
@@ -109,7 +112,8 @@ fn put_destination(
 ) -> Result<(), Mem>
     requires names { AreNamesOf plan.now names.now }
     requires values { is_object_of is_value tree.now ≡ true }
-    ensures { OnOk result (sets.new ≡ sets.old ++ values_to plan.now source.now id.now (members_of tree.now)) }
+    ensures { OnOk result (sets.new ≡ sets.old
+        ++ values_to plan.now source.now id.now (members_of tree.now)) }
 {
     match tree.as_object() {
         Some(members) => put_values(alloc, plan, names, sets, source, id, members),
@@ -128,7 +132,8 @@ fn put_values(
 ) -> Result<(), Mem>
     requires names { AreNamesOf plan.now names.now }
     requires values { each_passes is_value members.now ≡ true }
-    ensures { OnOk result (sets.new ≡ sets.old ++ values_to plan.now source.now id.now members.now) }
+    ensures { OnOk result (sets.new ≡ sets.old
+        ++ values_to plan.now source.now id.now members.now) }
 {
     let entity = place_of(plan, names, id);
     for member in members.entries() {
@@ -158,7 +163,13 @@ fn put_value(
     value: &Json,
 ) -> Result<(), Mem>
     requires { is_value value.now ≡ true }
-    ensures { OnOk result (sets.new ≡ sets.old ++ record { source = source.now; entity = entity; attr = attr.now; value = text_of value.now } ∷ []) }
+    ensures { OnOk result (sets.new ≡ sets.old
+        ++ record {
+          source = source.now;
+          entity = entity;
+          attr = attr.now;
+          value = text_of value.now;
+        } ∷ []) }
 {
     let given = SetValue {
         source: source.copy()?,

@@ -40,12 +40,17 @@ pub fn judge<'a>(
 ) -> Result<Asked<'a>, u8>
     requires references { RefersInside plan.now }
     requires names { AreNamesOf plan.now names.now }
-    ensures refusal { (look : Lookup) → refusal_by result ≡ refusal_in (answer plan.now look sim.0 name.now args.now named.now) }
-    ensures request { IfOk result (λ asked. asked_in asked ≡ request_of name.now args.now named.now) }
+    ensures refusal { (look : Lookup)
+        → refusal_by result ≡ refusal_in (answer plan.now look sim.0 name.now args.now named.now) }
+    ensures request { IfOk result (λ asked. asked_in asked
+        ≡ request_of name.now args.now named.now) }
     ensures there { IfOk result (λ asked. IsSome (asked_in asked)) }
-    ensures known { IfOk result (λ asked. option_map (knows plan.now sim.0) (asked_in asked) ≡ Some true) }
-    ensures permitted { IfOk result (λ asked. option_map (permits plan.now sim.0) (asked_in asked) ≡ Some true) }
-    ensures range { list_all is_in_range args.now ≡ true → IfOk result (λ asked. is_asked_in_range asked ≡ true) }
+    ensures known { IfOk result (λ asked. option_map (knows plan.now sim.0) (asked_in asked)
+        ≡ Some true) }
+    ensures permitted { IfOk result (λ asked. option_map (permits plan.now sim.0) (asked_in asked)
+        ≡ Some true) }
+    ensures range { list_all is_in_range args.now ≡ true
+        → IfOk result (λ asked. is_asked_in_range asked ≡ true) }
 {
     if !is_function(name) {
         return Err(UNKNOWN_FUNCTION);

@@ -30,7 +30,10 @@ pub fn plain_content(
     requires names { AreNamesOf plan.now names.now }
     requires form { IsSome (asked_in asked.now) }
     ensures there { IfOk result (λ content. is_some content ≡ not (gets asked.now)) }
-    ensures content { (look : Lookup) → IfOk result (λ content. IfSome content (λ text. option_map (content_text plan.now look) (asked_in asked.now) ≡ Some text)) }
+    ensures content { (look : Lookup)
+        → IfOk result (λ content.
+        IfSome content (λ text. option_map (content_text plan.now look) (asked_in asked.now)
+        ≡ Some text)) }
 {
     match asked {
         Asked::Get(_) => Ok(None),
@@ -113,7 +116,9 @@ fn put_entity(
 ) -> Result<(), Mem>
     requires names { AreNamesOf plan.now names.now }
     requires inside { entity < length plan.now.entities }
-    ensures { OnOk result (members.new ≡ insert_entry text_order members.old (full_id plan.now entity) (type_tree plan.now entity)) }
+    ensures { OnOk result (members.new
+        ≡ insert_entry text_order members.old (full_id plan.now entity)
+        (type_tree plan.now entity)) }
 {
     let id = Text::of(alloc, full_id(plan, names, entity))?;
     let described = type_tree(alloc, plan, entity)?;

@@ -13,7 +13,8 @@ pub record Marked : Type 0 where
 
 -- this time is up to the mark of each simulator that asks
 abbrev pub IsLow : List Tier → List Bool → Tier → Type 0
-IsLow marks asks least = (s : ℕ) (m : Tier) → slice_get asks s ≡ Some true → slice_get marks s ≡ Some m → IsUpTo least m
+IsLow marks asks least = (s : ℕ) (m : Tier) → slice_get asks s ≡ Some true
+    → slice_get marks s ≡ Some m → IsUpTo least m
 
 -- the simulator has an incoming connection, or is the second of an asynchronous pair
 abbrev pub asks_of : Plan → ℕ → Bool
@@ -27,7 +28,8 @@ pub record AreAsking (P : Plan) (asks : List Bool) : Type 0 where
 -- the least mark is that of one that asks, if one asks, and up to those of all that ask
 pub record IsLeastMark (m : Marked) : Type 0 where
   pub low : IsLow m.marks m.asks m.least
-  pub held : (s : ℕ) → slice_get m.asks s ≡ Some true → (r : ℕ) × (slice_get m.asks r ≡ Some true) × (slice_get m.marks r ≡ Some m.least)
+  pub held : (s : ℕ) → slice_get m.asks s ≡ Some true → (r : ℕ) × (slice_get m.asks r ≡ Some true)
+      × (slice_get m.marks r ≡ Some m.least)
 
 -- the greater of two times
 abbrev pub greater : Tier → Tier → Tier

@@ -1,4 +1,5 @@
--- The values set in a simulator, each under its entity, attribute and source, and the set values that they answer as.
+-- The values set in a simulator, each under its entity, attribute and source, and the set values
+-- that they answer as.
 use Rattle.std.specs.Prelude.{◌≡◌, ℕ, Bool, false, ◌&&◌, List, [], ◌∷◌, map, filter, flat_map, Option, Some, None, ◌==◌, if◌then◌else◌}
 use Rattle.std.specs.Ordering.{is_eq}
 use Rattle.mk_base.specs.declared.tier.Tier.{Tier}
@@ -34,15 +35,18 @@ last_within p x ts = last_of (filter (within false p x) ts)
 
 -- the values that slots hold under a key
 abbrev pub held_for : Input → List Slot → List Timed
-held_for k slots = flat_map (λ (i : Slot). if same_key k (input_in i []) then i.values else []) slots
+held_for k slots = flat_map (λ (i : Slot). if same_key k (input_in i []) then i.values
+    else []) slots
 
 -- the values that these set values give a simulator under a key
 abbrev pub given_for : Plan → ℕ → Input → List Gift → List Timed
-given_for P s k all = map (λ g. record { at = g.at; value = g.given.value }) (filter (λ g. (owner P g.given.entity == s) && same_key k (gift_input P g.given)) all)
+given_for P s k all = map (λ g. record { at = g.at; value = g.given.value })
+    (filter (λ g. (owner P g.given.entity == s) && same_key k (gift_input P g.given)) all)
 
 -- two lists of values answer alike every question at or after the mark
 abbrev pub SameLast : Tier → List Timed → List Timed → Type 0
-SameLast m ks hs = (p : Option Tier) (x : Tier) → IsUpTo m x → last_within p x ks ≡ last_within p x hs
+SameLast m ks hs = (p : Option Tier) (x : Tier) → IsUpTo m x
+    → last_within p x ks ≡ last_within p x hs
 
 -- slots answer as what these set values give a simulator
 abbrev pub AnswerGifts : Plan → ℕ → Tier → List Slot → List Gift → Type 0

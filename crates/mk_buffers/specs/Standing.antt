@@ -36,7 +36,8 @@ HasKey b e attr i = has_key b.outlets.items e attr i ≡ true
 
 -- no outlet of the entity is that of this attribute
 abbrev pub LacksKey : Buffers → ℕ → List ℕ → Type 0
-LacksKey b e attr = (h : Home) → slice_get b.homes.items e ≡ Some h → (i : ℕ) → h.outlets.first ≤ i → i < h.outlets.end → has_key b.outlets.items e attr i ≡ false
+LacksKey b e attr = (h : Home) → slice_get b.homes.items e ≡ Some h → (i : ℕ) → h.outlets.first ≤ i
+    → i < h.outlets.end → has_key b.outlets.items e attr i ≡ false
 
 -- the entity's attribute has an outlet, among those of the entity
 pub record IsFound (b : Buffers) (e : ℕ) (attr : List ℕ) : Type 0 where
@@ -77,7 +78,8 @@ pub record IsOutletFor (P : Plan) (b : Buffers) (s : ℕ) (w : Want) (place : �
 
 -- the outlets of a simulator stand in the order of its wanted attributes
 abbrev pub AreAligned : Plan → Buffers → ℕ → Part → Type 0
-AreAligned P b s part = (i : ℕ) (w : Want) → slice_get (wanted P s) i ≡ Some w → IsOutletFor P b s w (part.first + i)
+AreAligned P b s part = (i : ℕ) (w : Want) → slice_get (wanted P s) i ≡ Some w
+    → IsOutletFor P b s w (part.first + i)
 
 -- there is a table for each simulator
 pub record HasSizes (P : Plan) (b : Buffers) : Type 0 where
@@ -120,17 +122,21 @@ pub record HasHome (P : Plan) (b : Buffers) (e : ℕ) : Type 0 where
 
 -- the supply's values are texts of values
 pub record HasValueTexts (S : Supply) : Type 0 where
-  pub outputs : (e : ℕ) (attr : List ℕ) (t : Timed) → IsIn t (S.outputs e attr) → IsValueText t.value
+  pub outputs : (e : ℕ) (attr : List ℕ) (t : Timed) → IsIn t (S.outputs e attr)
+      → IsValueText t.value
   pub gifts : (e : ℕ) (g : Gift) → IsIn g (S.gifts e) → IsValueText g.given.value
 
 -- set values in the order in which they were given are those that the supply has under each entity
 pub record AreGifts (P : Plan) (S : Supply) (all : List Gift) : Type 0 where
-  pub by_source : (e : ℕ) → e < length P.entities → filter (λ g. same_text g.given.source (full_id P e)) all ≡ S.gifts e
-  pub sourced : (g : Gift) → IsIn g all → (e : ℕ) × (e < length P.entities) × (g.given.source ≡ full_id P e)
+  pub by_source : (e : ℕ) → e < length P.entities
+      → filter (λ g. same_text g.given.source (full_id P e)) all ≡ S.gifts e
+  pub sourced : (g : Gift) → IsIn g all → (e : ℕ) × (e < length P.entities)
+      × (g.given.source ≡ full_id P e)
 
 -- the set values that are held answer as these, for each simulator from its mark on
 abbrev pub HoldsGifts : Plan → Buffers → List Gift → Type 0
-HoldsGifts P b all = (s : ℕ) (l : List Slot) → slice_get b.sets.items s ≡ Some l → s < length P.sims → AnswerGifts P s (mark_of b s) l all
+HoldsGifts P b all = (s : ℕ) (l : List Slot) → slice_get b.sets.items s ≡ Some l → s < length P.sims
+    → AnswerGifts P s (mark_of b s) l all
 
 -- a set value is the text of a value, set under the full id of the entity
 pub record IsSourced (P : Plan) (e : ℕ) (w : SetValue) : Type 0 where
@@ -150,10 +156,13 @@ pub record IsLookedAt (b : Buffers) (i : ℕ) (o : Outlet) : Type 0 where
   pub end : i < part.end
   pub noted : o.sim < length b.next_marks.items
 
--- the outlets of the first n simulators hold few outputs that have nothing later than the mark, and all hold few from the mark on until they are looked at again
+-- the outlets of the first n simulators hold few outputs that have nothing later than the mark, and
+-- all hold few from the mark on until they are looked at again
 pub record IsSwept (mark : Tier) (n : ℕ) (b : Buffers) : Type 0 where
-  pub few : (i : ℕ) (o : Outlet) → slice_get b.outlets.items i ≡ Some o → o.sim < n → IsFew o.vias.items b.until mark o.log
-  pub stays : (i : ℕ) (o : Outlet) → slice_get b.outlets.items i ≡ Some o → StaysFew o.vias.items b.until mark (next_of b o.sim) o.log
+  pub few : (i : ℕ) (o : Outlet) → slice_get b.outlets.items i ≡ Some o → o.sim < n
+      → IsFew o.vias.items b.until mark o.log
+  pub stays : (i : ℕ) (o : Outlet) → slice_get b.outlets.items i ≡ Some o
+      → StaysFew o.vias.items b.until mark (next_of b o.sim) o.log
   pub looked : (i : ℕ) (o : Outlet) → slice_get b.outlets.items i ≡ Some o → IsLookedAt b i o
 
 -- the same of all outlets, at the least mark
@@ -169,20 +178,26 @@ pub record IsOf (P : Plan) (b : Buffers) : Type 0 where
   pub least : IsLeastMark b.marks
   pub until : b.until ≡ P.until
   pub sizes : HasSizes P b
-  pub once : (i j : ℕ) (o q : Outlet) → slice_get b.outlets.items i ≡ Some o → slice_get b.outlets.items j ≡ Some q → is_key o.entity o.attr q ≡ true → i ≡ j
-  pub inlets : (s : ℕ) (l : Vec Inlet Global) → slice_get b.inlets.items s ≡ Some l → AreInlets P b s l.items
-  pub aligned : (s : ℕ) (part : Part) → slice_get b.feeds.items s ≡ Some part → AreAligned P b s part
+  pub once : (i j : ℕ) (o q : Outlet) → slice_get b.outlets.items i ≡ Some o
+      → slice_get b.outlets.items j ≡ Some q → is_key o.entity o.attr q ≡ true → i ≡ j
+  pub inlets : (s : ℕ) (l : Vec Inlet Global) → slice_get b.inlets.items s ≡ Some l
+      → AreInlets P b s l.items
+  pub aligned : (s : ℕ) (part : Part) → slice_get b.feeds.items s ≡ Some part
+      → AreAligned P b s part
   pub found : (e : ℕ) (attr : List ℕ) → gives_attr P e attr ≡ true → IsFound b e attr
   pub shape : HasShape P b.outlets.items
   pub tight : IsTight b
 
--- what the buffers keep is among this supply, and they answer as it, at every question for a value from the least mark on, and at every question for the inputs of a simulator from its mark on
+-- what the buffers keep is among this supply, and they answer as it, at every question for a value
+-- from the least mark on, and at every question for the inputs of a simulator from its mark on
 pub record Stands (P : Plan) (b : Buffers) (S : Supply) : Type 0 where
   pub of_plan : IsOf P b
   pub texts : HasValueTexts S
   pub gifts : (all : List Gift) × AreGifts P S all × HoldsGifts P b all
-  pub outputs : (i : ℕ) (o : Outlet) → slice_get b.outlets.items i ≡ Some o → AnswersFrom o.vias.items b.until b.marks.least o.log (S.outputs o.entity o.attr)
-  pub among : (i : ℕ) (o : Outlet) → slice_get b.outlets.items i ≡ Some o → IsAmong o.log (S.outputs o.entity o.attr)
+  pub outputs : (i : ℕ) (o : Outlet) → slice_get b.outlets.items i ≡ Some o
+      → AnswersFrom o.vias.items b.until b.marks.least o.log (S.outputs o.entity o.attr)
+  pub among : (i : ℕ) (o : Outlet) → slice_get b.outlets.items i ≡ Some o
+      → IsAmong o.log (S.outputs o.entity o.attr)
 
 -- nothing that is held has changed
 pub record IsUnchanged (old new : Buffers) : Type 0 where
@@ -197,7 +212,9 @@ pub record IsUnchanged (old new : Buffers) : Type 0 where
 
 -- what the outlet of an inlet delivered last up to x
 abbrev pub last_for : Buffers → Inlet → Tier → Option Timed
-last_for b i x = option_and_then (λ (o : Outlet). latest (by x (arrivals i.via (Some b.until) o.log))) (slice_get b.outlets.items i.outlet)
+last_for b i x = option_and_then
+    (λ (o : Outlet). latest (by x (arrivals i.via (Some b.until) o.log)))
+    (slice_get b.outlets.items i.outlet)
 
 -- what an inlet gives a step at x after a step at p
 abbrev pub value_for : Buffers → Inlet → Option Tier → Tier → Option (List ℕ)

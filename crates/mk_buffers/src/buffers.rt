@@ -101,7 +101,9 @@ impl Buffers {
 
     /// Where the outlets of a simulator begin: its wanted attributes have one each, in their order.
     pub fn first_outlet(&self, sim: SimNo) -> usize
-        ensures { (P : Plan) (S : Supply) → Stands P self.now S → sim.0 < length P.sims → (i : ℕ) (w : Want) → slice_get (wanted P sim.0) i ≡ Some w → IsOutletFor P self.now sim.0 w (result + i) }
+        ensures { (P : Plan) (S : Supply) → Stands P self.now S → sim.0 < length P.sims
+            → (i : ℕ) (w : Want) → slice_get (wanted P sim.0) i ≡ Some w
+            → IsOutletFor P self.now sim.0 w (result + i) }
     {
         match self.feeds.get(sim.0 as usize) {
             Some(part) => part.first,
@@ -125,7 +127,10 @@ impl Buffers {
         requires early { pos 0 ≤ℤ at.time }
         requires late { at.time ≤ℤ pos 1000000000000000000 }
         requires low { at.tier ≤ 1000000 }
-        ensures ok { (P : Plan) (S : Supply) → Stands P self.old S → gives_attr P entity attr.now ≡ true → IsValueText value → OnOk result (Stands P self.new (with_output S entity attr.now (record { at = at; value = value }))) }
+        ensures ok { (P : Plan) (S : Supply) → Stands P self.old S
+            → gives_attr P entity attr.now ≡ true → IsValueText value
+            → OnOk result (Stands P self.new
+            (with_output S entity attr.now (record { at = at; value = value }))) }
         ensures err { OnErr result (IsUnchanged self.old self.new) }
         ensures marks { HasSameMarks self.old self.new }
     {
@@ -143,7 +148,10 @@ impl Buffers {
         requires early { pos 0 ≤ℤ at.time }
         requires late { at.time ≤ℤ pos 1000000000000000000 }
         requires low { at.tier ≤ 1000000 }
-        ensures ok { (P : Plan) (S : Supply) (entity : ℕ) (attr : List ℕ) → Stands P self.old S → HasKey self.old entity attr outlet → IsValueText value → OnOk result (Stands P self.new (with_output S entity attr (record { at = at; value = value }))) }
+        ensures ok { (P : Plan) (S : Supply) (entity : ℕ) (attr : List ℕ) → Stands P self.old S
+            → HasKey self.old entity attr outlet → IsValueText value
+            → OnOk result (Stands P self.new
+            (with_output S entity attr (record { at = at; value = value }))) }
         ensures err { OnErr result (IsUnchanged self.old self.new) }
         ensures marks { HasSameMarks self.old self.new }
     {
@@ -159,7 +167,8 @@ impl Buffers {
         requires early { pos 0 ≤ℤ at.time }
         requires late { at.time ≤ℤ pos 1000000000000000000 }
         requires low { at.tier ≤ 1000000 }
-        ensures ok { OnOk result (Delivers self.old self.new outlet (record { at = at; value = value })) }
+        ensures ok { OnOk result
+            (Delivers self.old self.new outlet (record { at = at; value = value })) }
         ensures err { OnErr result (IsUnchanged self.old self.new) }
         ensures marks { HasSameMarks self.old self.new }
     {
@@ -184,7 +193,8 @@ impl Buffers {
 
     /// Adds a set value that is delivered at `at`: the text of a value, under the full id of an entity.
     pub fn give(&mut self, at: Tier, set: SetValue) -> Result<(), Mem>
-        ensures ok { (P : Plan) (S : Supply) (e : ℕ) → Stands P self.old S → IsSourced P e set → OnOk result (Stands P self.new (with_gift S e (record { at = at; given = set }))) }
+        ensures ok { (P : Plan) (S : Supply) (e : ℕ) → Stands P self.old S → IsSourced P e set
+            → OnOk result (Stands P self.new (with_gift S e (record { at = at; given = set }))) }
         ensures err { OnErr result (IsUnchanged self.old self.new) }
         ensures marks { HasSameMarks self.old self.new }
     {
@@ -201,7 +211,8 @@ impl Buffers {
     fn give_to(&mut self, target: Target, at: Tier, set: SetValue) -> Result<(), Mem>
         requires sets { target.sim < length self.old.sets.items }
         requires marks { target.sim < length self.old.marks.marks }
-        ensures ok { OnOk result (HasSet target.sim target.eid (record { at = at; given = set }) self.old self.new) }
+        ensures ok { OnOk result
+            (HasSet target.sim target.eid (record { at = at; given = set }) self.old self.new) }
         ensures err { OnErr result (IsUnchanged self.old self.new) }
         ensures marks { HasSameMarks self.old self.new }
     {
@@ -220,7 +231,8 @@ impl Buffers {
 
     // The simulator of an entity, and the entity's name there.
     fn target_of(&self, entity: u32) -> Result<Option<Target>, Mem>
-        ensures tables { IfOk result (λ o. ForSome o (λ t. (t.sim < length self.now.sets.items) × (t.sim < length self.now.marks.marks))) }
+        ensures tables { IfOk result (λ o. ForSome o (λ t. (t.sim < length self.now.sets.items)
+            × (t.sim < length self.now.marks.marks))) }
         ensures target { IfOk result (λ o. TargetOf self.now entity o) }
     {
         match self.homes.get(entity as usize) {
@@ -245,7 +257,9 @@ impl Buffers {
         previous: Option<Tier>,
         at: Tier,
     ) -> Result<List<Input>, Mem>
-        ensures { (P : Plan) (S : Supply) → Stands P self.now S → sim.0 < length P.sims → IsUpTo (mark_of self.now sim.0) at → IfOk result (λ ins. ins ≡ inputs P S sim.0 previous at) }
+        ensures { (P : Plan) (S : Supply) → Stands P self.now S → sim.0 < length P.sims
+            → IsUpTo (mark_of self.now sim.0) at
+            → IfOk result (λ ins. ins ≡ inputs P S sim.0 previous at) }
     {
         if (sim.0 as usize) < self.sims() {
             let mut inputs = self.gathered(sim, previous, at)?;
@@ -259,7 +273,8 @@ impl Buffers {
     // What the connections to `sim` give its step, sorted.
     fn gathered(&self, sim: SimNo, previous: Option<Tier>, at: Tier) -> Result<List<Input>, Mem>
         requires { sim.0 < length self.now.inlets.items }
-        ensures { IfOk result (λ ins. (l : _) × (slice_get self.now.inlets.items sim.0 ≡ Some l) × HasGathered self.now l.items previous at ins) }
+        ensures { IfOk result (λ ins. (l : _) × (slice_get self.now.inlets.items sim.0 ≡ Some l)
+            × HasGathered self.now l.items previous at ins) }
     {
         let inlets = &self.inlets[sim.0 as usize];
         let mut inputs = List::new(self.alloc);
@@ -277,7 +292,8 @@ impl Buffers {
         at: Tier,
         inputs: &mut List<Input>,
     ) -> Result<(), Mem>
-        ensures { OnOk result ((inputs.new ≡ inputs.old ++ given self.now inlet.now previous at) × IsBegun self.now inlet.now at) }
+        ensures { OnOk result ((inputs.new ≡ inputs.old ++ given self.now inlet.now previous at)
+            × IsBegun self.now inlet.now at) }
     {
         if let Some(value) = self.value_for(inlet, previous, at) {
             inputs.push(input_of(inlet, value)?)?;
@@ -287,8 +303,12 @@ impl Buffers {
 
     /// The value of an entity's attribute that was made last up to `at`; takes no memory.
     pub fn value_at(&self, entity: u32, attr: &Text, at: Tier) -> Option<&Datum>
-        ensures value { (P : Plan) (S : Supply) → Stands P self.now S → gives_attr P entity attr.now ≡ true → IsUpTo (least_mark self.now) at → option_map (λ v. v.now) result ≡ value_at S at entity attr.now }
-        ensures text { (P : Plan) (S : Supply) → Stands P self.now S → gives_attr P entity attr.now ≡ true → IsUpTo (least_mark self.now) at → IfSome result (λ v. IsValueText v.now) }
+        ensures value { (P : Plan) (S : Supply) → Stands P self.now S
+            → gives_attr P entity attr.now ≡ true → IsUpTo (least_mark self.now) at
+            → option_map (λ v. v.now) result ≡ value_at S at entity attr.now }
+        ensures text { (P : Plan) (S : Supply) → Stands P self.now S
+            → gives_attr P entity attr.now ≡ true → IsUpTo (least_mark self.now) at
+            → IfSome result (λ v. IsValueText v.now) }
     {
         match self.outlet(entity, attr) {
             Some(outlet) => value_of(&self.outlets[outlet], at),
@@ -299,7 +319,8 @@ impl Buffers {
     /// Tells that `sim` will ask nothing before `at`; takes no memory.
     pub fn forget_before(&mut self, sim: SimNo, at: Tier)
         ensures stands { (P : Plan) (S : Supply) → Stands P self.old S → Stands P self.new S }
-        ensures marks { (P : Plan) (S : Supply) → Stands P self.old S → sim.0 < length P.sims → HasRaised sim.0 at self.old self.new }
+        ensures marks { (P : Plan) (S : Supply) → Stands P self.old S → sim.0 < length P.sims
+            → HasRaised sim.0 at self.old self.new }
     {
         if (sim.0 as usize) < self.sims() {
             self.raise(sim, at);
@@ -325,7 +346,8 @@ impl Buffers {
     /// later than the least mark.
     pub fn kept(&self) -> usize
         ensures count { result ≡ min (outputs_held self.now) 18446744073709551615 }
-        ensures few { (P : Plan) (S : Supply) → Stands P self.now S → result ≤ most_kept P S (least_mark self.now) }
+        ensures few { (P : Plan) (S : Supply) → Stands P self.now S
+            → result ≤ most_kept P S (least_mark self.now) }
     {
         self.held()
     }
@@ -417,7 +439,8 @@ impl Buffers {
 
     // What the outlet of an inlet delivered last up to `at`.
     fn last_for(&self, inlet: &Inlet, at: Tier) -> Option<&Made>
-        ensures { option_map (λ m. arrival inlet.now.via m.now) result ≡ last_for self.now inlet.now at }
+        ensures { option_map (λ m. arrival inlet.now.via m.now) result
+            ≡ last_for self.now inlet.now at }
     {
         match self.outlets.get(inlet.outlet) {
             Some(outlet) => outlet.log.latest(inlet.via, Some(self.until), at),
@@ -428,7 +451,8 @@ impl Buffers {
 
 // The value of an output, if it comes after the previous step or the inlet persists.
 fn since<'a>(inlet: &Inlet, previous: Option<Tier>, made: &'a Made) -> Option<&'a Datum>
-    ensures value { option_map (λ v. v.now) result ≡ since_for inlet.now previous (arrival inlet.now.via made.now) }
+    ensures value { option_map (λ v. v.now) result
+        ≡ since_for inlet.now previous (arrival inlet.now.via made.now) }
     ensures begun { IsUpTo (moment (pos 0)) (delayed made.now.at inlet.now.via) }
 {
     let arrival = made.at().after(inlet.via.via());
@@ -454,7 +478,8 @@ fn outlet_in(outlets: &[Outlet], part: Part, entity: u32, attr: &Text) -> Option
 
 // The value of an outlet that was made last up to `at`.
 fn value_of(outlet: &Outlet, at: Tier) -> Option<&Datum>
-    ensures { option_map (λ v. v.now) result ≡ option_map (λ t. t.value) (latest (by at outlet.now.log)) }
+    ensures { option_map (λ v. v.now) result
+        ≡ option_map (λ t. t.value) (latest (by at outlet.now.log)) }
 {
     match outlet.log.latest_made(at) {
         Some(made) => Some(made.value()),
@@ -522,7 +547,8 @@ fn asking(alloc: Global, plan: &Plan) -> Result<Vec<bool>, Mem>
 // Notes that the simulator asks.
 fn ask(asks: &mut Vec<bool>, sim: SimNo)
     ensures count { length asks.new.items ≡ length asks.old.items }
-    ensures here { sim.0 < length asks.old.items → asks.new.items ≡ slice_set asks.old.items sim.0 true }
+    ensures here { sim.0 < length asks.old.items
+        → asks.new.items ≡ slice_set asks.old.items sim.0 true }
 {
     let place = sim.0 as usize;
     if place < asks.len() {

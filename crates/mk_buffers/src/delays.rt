@@ -119,7 +119,8 @@ fn has_come_or_never(made: Tier, vias: &[Delay], until: i64, mark: Tier) -> bool
     requires early { pos 0 ≤ℤ made.time }
     requires late { made.time ≤ℤ pos 1000000000000000000 }
     requires low { made.tier ≤ 1000000 }
-    ensures { result ≡ list_all (λ v. up_to (delayed made v) mark || int_le until (delayed made v).time) vias.now }
+    ensures { result ≡ list_all (λ v. up_to (delayed made v) mark
+        || int_le until (delayed made v).time) vias.now }
 {
     vias.iter().all(|via| made.after(via.via()).is_up_to(mark)
         || until <= made.after(via.via()).time)
@@ -151,7 +152,8 @@ fn has_replaced(first: Tier, second: Tier, vias: &[Delay], until: i64, mark: Tie
     requires second_early { pos 0 ≤ℤ second.time }
     requires second_late { second.time ≤ℤ pos 1000000000000000000 }
     requires second_low { second.tier ≤ 1000000 }
-    ensures { result ≡ list_all (λ v. does_come v (Some until) mark second || int_le until (delayed first v).time) vias.now }
+    ensures { result ≡ list_all (λ v. does_come v (Some until) mark second
+        || int_le until (delayed first v).time) vias.now }
 {
     vias.iter().all(|via| is_delivered(second, *via, Some(until), mark)
         || until <= first.after(via.via()).time)

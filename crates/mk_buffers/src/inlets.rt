@@ -47,7 +47,8 @@ pub fn inlets_of(alloc: Global, plan: &Plan, outlet_of: &[usize]) -> Result<Vec<
     requires once { HasOneConnectionEach plan.now }
     requires widths { All (λ c. HasWidth c.via) plan.now.conns }
     requires outlets { length outlet_of.now ≡ length plan.now.conns }
-    ensures { IfOk result (λ v. (done : List Target) × AreTargets plan.now outlet_of.now done × AreListed (length plan.now.sims) done v.items) }
+    ensures { IfOk result (λ v. (done : List Target) × AreTargets plan.now outlet_of.now done
+        × AreListed (length plan.now.sims) done v.items) }
 {
     let mut inlets = empty_lists(alloc, plan.sims.len())?;
     let names = names_of(alloc, plan)?;
@@ -72,7 +73,9 @@ fn empty_lists(alloc: Global, count: usize) -> Result<Vec<Vec<Inlet>>, Mem>
 // Adds the inlet of a target to those of its simulator.
 fn add_inlet(inlets: &mut Vec<Vec<Inlet>>, target: &Target) -> Result<(), Mem>
     requires { HasWidth target.now.conn.now.via }
-    ensures { (n : ℕ) (done : List Target) → AreListed n done inlets.old.items → ComesNext done target.now → OnOk result (AreListed n (done ++ target.now ∷ []) inlets.new.items) }
+    ensures { (n : ℕ) (done : List Target) → AreListed n done inlets.old.items
+        → ComesNext done target.now
+        → OnOk result (AreListed n (done ++ target.now ∷ []) inlets.new.items) }
 {
     let inlet = inlet_of(target)?;
     let sim = target.sim as usize;
@@ -87,7 +90,8 @@ fn names_of(alloc: Global, plan: &Plan) -> Result<Vec<Text>, Mem>
     requires references { RefersInside plan.now }
     requires few { length plan.now.entities < 2 ^ 32 }
     ensures count { IfOk result (λ names. length names.items ≡ length plan.now.entities) }
-    ensures names { IfOk result (λ names. (e : ℕ) (x : List ℕ) → slice_get names.items e ≡ Some x → x ≡ full_id plan.now e) }
+    ensures names { IfOk result (λ names. (e : ℕ) (x : List ℕ) → slice_get names.items e ≡ Some x
+        → x ≡ full_id plan.now e) }
 {
     let mut names = Vec::with_capacity(alloc, plan.entities.len())?;
     for entity in 0..plan.entities.len() {
@@ -119,7 +123,8 @@ fn targets_of<'a>(
 }
 
 fn sort(targets: &mut Vec<Target>) -> Result<(), Mem>
-    ensures { OnOk result (IsPermutation targets.old.items targets.new.items × AreRising target_order targets.new.items) }
+    ensures { OnOk result (IsPermutation targets.old.items targets.new.items
+        × AreRising target_order targets.new.items) }
 {
     targets.sort_by(|first, second| target_order(first, second))?;
     Ok(())

@@ -12,9 +12,16 @@ ghost use Rattle.mk_buffers.specs.Standing.{HasKey, IsNew, IsOutletFor, IsUnchan
 /// New buffers stand for a supply of nothing, unchanged ones for what they stood for; a wanted attribute's outlet is that of
 /// an entity of its simulator; the least mark is that of a simulator that asks, and up to those of all that ask.
 pub fn buffers_stand()
-    ensures new { (P : Plan) (b : Buffers) (S : Supply) → IsNew P b → ((e : ℕ) (attr : List ℕ) → S.outputs e attr ≡ []) → ((e : ℕ) → S.gifts e ≡ []) → Stands P b S }
-    ensures unchanged { (P : Plan) (old : Buffers) (new : Buffers) (S : Supply) → Stands P old S → IsUnchanged old new → Stands P new S }
-    ensures outlets { (P : Plan) (b : Buffers) (s : ℕ) (w : Want) (place : ℕ) → IsOutletFor P b s w place → (e : ℕ) × (owner P e ≡ s) × (eid_of P e ≡ w.eid) × HasKey b e w.attr place }
-    ensures low { (P : Plan) (b : Buffers) (S : Supply) (s : ℕ) → Stands P b S → s < length P.sims → asks_of P s ≡ true → IsUpTo (least_mark b) (mark_of b s) }
-    ensures held { (P : Plan) (b : Buffers) (S : Supply) (s : ℕ) → Stands P b S → s < length P.sims → asks_of P s ≡ true → (r : ℕ) × (asks_of P r ≡ true) × (mark_of b r ≡ least_mark b) }
+    ensures new { (P : Plan) (b : Buffers) (S : Supply) → IsNew P b
+        → ((e : ℕ) (attr : List ℕ) → S.outputs e attr ≡ []) → ((e : ℕ) → S.gifts e ≡ [])
+        → Stands P b S }
+    ensures unchanged { (P : Plan) (old : Buffers) (new : Buffers) (S : Supply) → Stands P old S
+        → IsUnchanged old new → Stands P new S }
+    ensures outlets { (P : Plan) (b : Buffers) (s : ℕ) (w : Want) (place : ℕ)
+        → IsOutletFor P b s w place → (e : ℕ) × (owner P e ≡ s) × (eid_of P e ≡ w.eid)
+        × HasKey b e w.attr place }
+    ensures low { (P : Plan) (b : Buffers) (S : Supply) (s : ℕ) → Stands P b S → s < length P.sims
+        → asks_of P s ≡ true → IsUpTo (least_mark b) (mark_of b s) }
+    ensures held { (P : Plan) (b : Buffers) (S : Supply) (s : ℕ) → Stands P b S → s < length P.sims
+        → asks_of P s ≡ true → (r : ℕ) × (asks_of P r ≡ true) × (mark_of b r ≡ least_mark b) }
 {}

@@ -76,7 +76,8 @@ impl Log {
 
     // The one that is delivered last up to `at`, of equal ones the one that came last.
     pub fn latest(&self, via: Delay, until: Option<i64>, at: Tier) -> Option<&Made>
-        ensures { option_map (λ m. arrival via m.now) result ≡ latest (by at (arrivals via until self.now)) }
+        ensures { option_map (λ m. arrival via m.now) result
+            ≡ latest (by at (arrivals via until self.now)) }
     {
         if self.rising {
             latest_rising(&self.entries, via, until, at)
@@ -107,7 +108,8 @@ impl Log {
 
     // The least mark at which something more may be given up, if there is one.
     pub fn next_mark(&self, vias: &[Delay], until: &i64, mark: Tier) -> Option<Tier>
-        ensures { IsFew vias.now until.now mark self.now → StaysFew vias.now until.now mark result self.now }
+        ensures { IsFew vias.now until.now mark self.now
+            → StaysFew vias.now until.now mark result self.now }
     {
         if self.rising {
             next_rising(&self.entries, vias, until, mark)
@@ -133,7 +135,8 @@ fn place_for(entries: &VecDeque<Made>, rising: bool, at: Tier) -> usize
 fn made_by(entries: &VecDeque<Made>, at: Tier) -> usize
     requires { IsAscending entries.now.items }
     ensures within { result ≤ length entries.now.items }
-    ensures cut { IsPartitionPoint (λ t. up_to t.at at ≡ true) (λ t. up_to t.at at ≡ false) entries.now.items result }
+    ensures cut { IsPartitionPoint (λ t. up_to t.at at ≡ true) (λ t. up_to t.at at
+        ≡ false) entries.now.items result }
 {
     match entries.back() {
         Some(last) if last.at().is_up_to(at) => entries.len(),
@@ -148,7 +151,8 @@ fn latest_rising(
     at: Tier,
 ) -> Option<&Made>
     requires { IsAscending entries.now.items }
-    ensures { option_map (λ m. arrival via m.now) result ≡ latest (by at (arrivals via until entries.now.items)) }
+    ensures { option_map (λ m. arrival via m.now) result
+        ≡ latest (by at (arrivals via until entries.now.items)) }
 {
     let count = passing(entries, via, until, at);
     if count == 0 {
@@ -162,7 +166,8 @@ fn latest_rising(
 fn passing(entries: &VecDeque<Made>, via: Delay, until: Option<i64>, at: Tier) -> usize
     requires { IsAscending entries.now.items }
     ensures within { result ≤ length entries.now.items }
-    ensures cut { IsPartitionPoint (λ t. does_come via until at t.at ≡ true) (λ t. does_come via until at t.at ≡ false) entries.now.items result }
+    ensures cut { IsPartitionPoint (λ t. does_come via until at t.at
+        ≡ true) (λ t. does_come via until at t.at ≡ false) entries.now.items result }
 {
     match entries.back() {
         Some(last) if is_delivered(last.at(), via, until, at) => entries.len(),
@@ -176,7 +181,8 @@ fn latest_of_all(
     until: Option<i64>,
     at: Tier,
 ) -> Option<&Made>
-    ensures { option_map (λ m. arrival via m.now) result ≡ latest (by at (arrivals via until entries.now.items)) }
+    ensures { option_map (λ m. arrival via m.now) result
+        ≡ latest (by at (arrivals via until entries.now.items)) }
 {
     let mut best = None;
     for place in 0..entries.len() {
@@ -193,7 +199,8 @@ fn weigh<'a>(
     until: Option<i64>,
     at: Tier,
 ) -> Option<&'a Made>
-    ensures { option_map (λ m. arrival via m.now) result ≡ weighed via until at (option_map (λ m. arrival via m.now) best.entry) next.now }
+    ensures { option_map (λ m. arrival via m.now) result
+        ≡ weighed via until at (option_map (λ m. arrival via m.now) best.entry) next.now }
 {
     if is_delivered(next.at(), via, until, at) {
         later(best, next, via)
@@ -204,7 +211,8 @@ fn weigh<'a>(
 
 // The later of two; of equal times the second.
 fn later<'a>(best: Option<&'a Made>, next: &'a Made, via: Delay) -> Option<&'a Made>
-    ensures { option_map (λ m. arrival via m.now) result ≡ later (option_map (λ m. arrival via m.now) best.entry) (arrival via next.now) }
+    ensures { option_map (λ m. arrival via m.now) result
+        ≡ later (option_map (λ m. arrival via m.now) best.entry) (arrival via next.now) }
 {
     match best {
         Some(entry)
@@ -258,7 +266,8 @@ fn goes_on(entries: &VecDeque<Made>, place: usize, vias: &[Delay], until: &i64, 
 // The least mark at which something more of rising entries may be given up, if there is one.
 fn next_rising(entries: &VecDeque<Made>, vias: &[Delay], until: &i64, mark: Tier) -> Option<Tier>
     requires { IsAscending entries.now.items }
-    ensures { IsFew vias.now until.now mark entries.now.items → StaysFew vias.now until.now mark result entries.now.items }
+    ensures { IsFew vias.now until.now mark entries.now.items
+        → StaysFew vias.now until.now mark result entries.now.items }
 {
     let place = first_to_come(entries, vias, mark);
     if place < entries.len() {
@@ -333,7 +342,8 @@ fn is_settled_at(
     mark: Tier,
 ) -> bool
     requires { place < length entries.now.items }
-    ensures { (d : Timed) → result ≡ is_settled vias.now until.now mark (get_or entries.now.items place d).at }
+    ensures { (d : Timed)
+        → result ≡ is_settled vias.now until.now mark (get_or entries.now.items place d).at }
 {
     is_settled(entries[place].at(), vias, *until, mark)
 }
@@ -348,7 +358,8 @@ fn is_newest_by(
 ) -> bool
     requires { place < length entries.now.items }
     ensures newest { result ≡ true → IsNewestByOf vias.now until.now mark entries.now.items place }
-    ensures outdone { result ≡ false → (v : Via) → IsIn v vias.now → IsOutdoneAt v (Some until.now) mark entries.now.items place }
+    ensures outdone { result ≡ false → (v : Via) → IsIn v vias.now
+        → IsOutdoneAt v (Some until.now) mark entries.now.items place }
 {
     for via in vias {
         if is_newest(entries, place, *via, Some(*until), mark) {
@@ -390,7 +401,8 @@ fn comes_at(
     mark: Tier,
 ) -> bool
     requires { place < length entries.now.items }
-    ensures { (d : Timed) → result ≡ does_come via until mark (get_or entries.now.items place d).at }
+    ensures { (d : Timed)
+        → result ≡ does_come via until mark (get_or entries.now.items place d).at }
 {
     is_delivered(entries[place].at(), via, until, mark)
 }
@@ -406,7 +418,9 @@ fn is_outdone_at(
 ) -> bool
     requires own { place < length entries.now.items }
     requires other { other < length entries.now.items }
-    ensures { (d : Timed) → result ≡ is_outdone via until mark (get_or entries.now.items place d).at (get_or entries.now.items other d).at place other }
+    ensures { (d : Timed)
+        → result ≡ is_outdone via until mark (get_or entries.now.items place d).at
+        (get_or entries.now.items other d).at place other }
 {
     is_outdone(
         entries[place].at(),

@@ -27,7 +27,9 @@ impl Model for Marks {
 
     ghost view = { λ m. record { marks = m.marks.items; asks = m.asks.items; least = m.least } };
 
-    ghost invariant = { λ m. (length m.marks.items ≡ length m.asks.items) × IsLow m.marks.items m.asks.items m.least × HoldsLeast m.marks.items m.asks.items m.least m.holder };
+    ghost invariant = { λ m. (length m.marks.items ≡ length m.asks.items)
+        × IsLow m.marks.items m.asks.items m.least
+        × HoldsLeast m.marks.items m.asks.items m.least m.holder };
 }
 
 impl Marks {
@@ -36,7 +38,8 @@ impl Marks {
         ensures count { IfOk result (λ m. length m.marks ≡ length asks.items) }
         ensures exact { IfOk result (λ m. IsLeastMark m) }
         ensures starts { IfOk result (λ m. AreStarts m.marks) }
-        ensures start { IfOk result (λ m. (m.asks ≡ asks.items) × (m.least ≡ record { time = pos 0; tier = 0 })) }
+        ensures start { IfOk result (λ m. (m.asks ≡ asks.items)
+            × (m.least ≡ record { time = pos 0; tier = 0 })) }
     {
         let start = Tier { time: 0, tier: 0 };
         let marks = starts(alloc, asks.len())?;

@@ -39,7 +39,8 @@ impl Outlet {
         requires early { pos 0 ≤ℤ at.time }
         requires late { at.time ≤ℤ pos 1000000000000000000 }
         requires low { at.tier ≤ 1000000 }
-        ensures ok { OnOk result (HasTaken until.now mark (record { at = at; value = value }) self.old self.new) }
+        ensures ok { OnOk result
+            (HasTaken until.now mark (record { at = at; value = value }) self.old self.new) }
         ensures few { OnOk result (IsFew self.new.vias.items until.now mark self.new.log) }
         ensures err { OnErr result (self.new ≡ self.old) }
     {
@@ -60,7 +61,8 @@ impl Outlet {
 
     // The least mark at which something more may be given up, if there is one.
     pub fn next_mark(&self, until: &i64, mark: Tier) -> Option<Tier>
-        ensures { IsFew self.now.vias.items until.now mark self.now.log → StaysFew self.now.vias.items until.now mark result self.now.log }
+        ensures { IsFew self.now.vias.items until.now mark self.now.log
+            → StaysFew self.now.vias.items until.now mark result self.now.log }
     {
         self.log.next_mark(self.vias.as_slice(), until, mark)
     }
@@ -97,7 +99,9 @@ pub fn outlets_of(alloc: Global, plan: &Plan) -> Result<Outlets, Mem>
     requires references { RefersInside plan.now }
     requires names { HasDistinctNames plan.now }
     requires widths { All (λ c. HasWidth c.via) plan.now.conns }
-    ensures { IfOk result (λ o. (done : List Source) × HasSources plan.now (length plan.now.conns) done × AreOutlets plan.now done done o × AreParts (length plan.now.sims) o.all.items o.of_sim.items) }
+    ensures { IfOk result (λ o. (done : List Source)
+        × HasSources plan.now (length plan.now.conns) done × AreOutlets plan.now done done o
+        × AreParts (length plan.now.sims) o.all.items o.of_sim.items) }
 {
     let sources = sources_of(alloc, plan)?;
     let none = Part { first: 0, end: 0 };
@@ -141,7 +145,10 @@ impl Outlets {
     // Gives a connection the last outlet, where that is its source's, or else a new one.
     fn add(&mut self, alloc: Global, source: &Source) -> Result<(), Mem>
         requires { HasWidth source.now.via }
-        ensures { (P : Plan) (done : List Source) → AreOutlets P done done self.old → IsNext P done source.now → OnOk result (AreOutlets P (done ++ source.now ∷ []) (done ++ source.now ∷ []) self.new) }
+        ensures { (P : Plan) (done : List Source) → AreOutlets P done done self.old
+            → IsNext P done source.now
+            → OnOk result (AreOutlets P (done ++ source.now ∷ []) (done
+            ++ source.now ∷ []) self.new) }
     {
         if !self.is_last(source) {
             self.add_outlet(alloc, source)?;
@@ -152,7 +159,9 @@ impl Outlets {
     // Gives the source's connection the last outlet.
     fn join(&mut self, source: &Source) -> Result<(), Mem>
         requires { HasWidth source.now.via }
-        ensures { (n : ℕ) (o : Outlet) → length self.old.all.items ≡ n + 1 → slice_get self.old.all.items n ≡ Some o → OnOk result (HasJoined source.now self.old self.new n o) }
+        ensures { (n : ℕ) (o : Outlet) → length self.old.all.items ≡ n + 1
+            → slice_get self.old.all.items n ≡ Some o
+            → OnOk result (HasJoined source.now self.old self.new n o) }
     {
         let count = self.all.len();
         if count > 0 {
@@ -183,7 +192,8 @@ impl Outlets {
 
     // Whether the last outlet is the source's.
     fn is_last(&self, source: &Source) -> bool
-        ensures { result ≡ has_key self.now.all.items source.now.entity source.now.attr.now (length self.now.all.items - 1) }
+        ensures { result ≡ has_key self.now.all.items source.now.entity source.now.attr.now
+            (length self.now.all.items - 1) }
     {
         let count = self.all.len();
         count > 0 && has_key(self.all.as_slice(), source.entity, source.attr, count - 1)
@@ -256,7 +266,8 @@ fn sources_of<'a>(alloc: Global, plan: &'a Plan) -> Result<Vec<Source<'a>>, Mem>
 }
 
 fn sort(sources: &mut Vec<Source>) -> Result<(), Mem>
-    ensures { OnOk result (IsPermutation sources.old.items sources.new.items × AreRising source_order sources.new.items) }
+    ensures { OnOk result (IsPermutation sources.old.items sources.new.items
+        × AreRising source_order sources.new.items) }
 {
     sources.sort_by(|first, second| source_order(first, second))?;
     Ok(())
@@ -265,7 +276,8 @@ fn sort(sources: &mut Vec<Source>) -> Result<(), Mem>
 fn source_of<'a>(plan: &'a Plan, conn: &'a Conn, place: usize) -> Source<'a>
     requires references { RefersInside plan.now }
     requires from { conn.now.from < length plan.now.entities }
-    ensures { slice_get plan.now.conns place ≡ Some conn.now → IsSource plan.now result × (result.place ≡ place) }
+    ensures { slice_get plan.now.conns place ≡ Some conn.now → IsSource plan.now result
+        × (result.place ≡ place) }
 {
     Source {
         sim: owner(plan, conn.from).0,

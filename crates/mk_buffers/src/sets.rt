@@ -182,8 +182,11 @@ impl Slot {
         at: Tier,
         inputs: &mut List<Input>,
     ) -> Result<(), Mem>
-        ensures put { IsStrictlySortedBy input_order inputs.old → OnOk result (inputs.new ≡ put_all (option_to_list (set_input previous at self.now)) inputs.old) }
-        ensures sorted { IsStrictlySortedBy input_order inputs.old → OnOk result (IsStrictlySortedBy input_order inputs.new) }
+        ensures put { IsStrictlySortedBy input_order inputs.old
+            → OnOk result (inputs.new
+            ≡ put_all (option_to_list (set_input previous at self.now)) inputs.old) }
+        ensures sorted { IsStrictlySortedBy input_order inputs.old
+            → OnOk result (IsStrictlySortedBy input_order inputs.new) }
     {
         match self.input(previous, at)? {
             Some(input) => {
@@ -253,7 +256,8 @@ impl Sets {
         at: Tier,
         inputs: &mut List<Input>,
     ) -> Result<(), Mem>
-        ensures { IsStrictlySortedBy input_order inputs.old → OnOk result (inputs.new ≡ put_all (set_inputs self.now previous at) inputs.old) }
+        ensures { IsStrictlySortedBy input_order inputs.old
+            → OnOk result (inputs.new ≡ put_all (set_inputs self.now previous at) inputs.old) }
     {
         for slot in &self.slots {
             slot.add_input(previous, at, inputs)?;

@@ -10,8 +10,10 @@ use std::cmp::Ordering;
 
 // Puts an input at its place among sorted ones, in place of an equal one.
 pub fn put_input(inputs: &mut List<Input>, new: Input) -> Result<(), Mem>
-    ensures put { IsStrictlySortedBy input_order inputs.old → OnOk result (inputs.new ≡ put input_order new inputs.old) }
-    ensures sorted { IsStrictlySortedBy input_order inputs.old → OnOk result (IsStrictlySortedBy input_order inputs.new) }
+    ensures put { IsStrictlySortedBy input_order inputs.old
+        → OnOk result (inputs.new ≡ put input_order new inputs.old) }
+    ensures sorted { IsStrictlySortedBy input_order inputs.old
+        → OnOk result (IsStrictlySortedBy input_order inputs.new) }
 {
     match place_of(inputs.as_slice(), &new) {
         Ok(place) => {

@@ -15,7 +15,11 @@ pair_put pairs p = if list_any (same_pair p) pairs then pairs else pairs ++ p �
 
 -- the pair of a block that is asynchronous
 abbrev pub asyncs_in : List Group → Block → List AsyncPair
-asyncs_in groups b = if b.async_requests then record { from = record { 0 = sim_at groups b.from }; to = record { 0 = sim_at groups b.to } } ∷ [] else []
+asyncs_in groups b = if b.async_requests
+    then record {
+      from = record { 0 = sim_at groups b.from };
+      to = record { 0 = sim_at groups b.to };
+    } ∷ [] else []
 
 -- each distinct pair at its first block
 abbrev pub asyncs_of : List Group → List Block → List AsyncPair

@@ -1,4 +1,5 @@
--- What is known of what a plan is made of, beside a well-formed scenario, once every simulator has answered.
+-- What is known of what a plan is made of, beside a well-formed scenario, once every simulator has
+-- answered.
 use Rattle.std.specs.Prelude.{◌≡◌, ℕ, ◌≤◌, Bool, true, List, length, Some, IfSome, option_map, slice_get}
 use Rattle.std.specs.List.{list_any}
 use Rattle.mk_base.specs.Lists.{Each, same_text}
@@ -27,11 +28,14 @@ IsOfModel metas e = option_map (has_model e.model) (slice_get metas e.sim.0) ≡
 
 -- the entity, unless it is a child, was created for a group of its simulator
 abbrev pub IsOfGroup : List Group → EntityInfo → Type 0
-IsOfGroup groups e = IfSome e.group (λ g. option_map (λ (h : Group). h.sim) (slice_get groups g) ≡ Some e.sim)
+IsOfGroup groups e = IfSome e.group (λ g. option_map (λ (h : Group). h.sim) (slice_get groups g)
+    ≡ Some e.sim)
 
--- the ranks are those of the scenario's edges; each simulator has said what it is, its models in byte order and few enough; none
+-- the ranks are those of the scenario's edges; each simulator has said what it is, its models in
+-- byte order and few enough; none
 -- got too many requests; and entities are of models and groups of their simulators
-pub record IsComplete (S : Scenario) (ranks : List ℕ) (metas : List Meta) (entities : List EntityInfo) (first_ids : List ℕ) : Type 0 where
+pub record IsComplete (S : Scenario) (ranks : List ℕ) (metas : List Meta)
+    (entities : List EntityInfo) (first_ids : List ℕ) : Type 0 where
   pub ranking : IsRanking (has_edge (edges_of S)) (length S.sims) ranks
   pub each_once : IsEachOnce (length S.sims) ranks
   pub rising : IsRising (edges_of S) ranks

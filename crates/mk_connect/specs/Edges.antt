@@ -25,13 +25,15 @@ is_plain Plain = true
 is_plain (Shift d) = false
 is_plain Weak = false
 
--- the left side has to come first: the block is asynchronous, or it is plain and connects attributes
+-- the left side has to come first: the block is asynchronous, or it is plain and connects
+-- attributes
 abbrev pub is_ordering : Block → Bool
 is_ordering b = b.async_requests || (is_plain b.via && not (length b.attrs == 0))
 
 -- the edge of a block, if there is one
 abbrev pub edges_in : List Group → Block → List Edge
-edges_in groups b = if is_ordering b then edge (sim_at groups b.from) (sim_at groups b.to) ∷ [] else []
+edges_in groups b = if is_ordering b then edge (sim_at groups b.from) (sim_at groups b.to) ∷ []
+    else []
 
 -- the edges of a scenario, in the order of its blocks
 abbrev pub edges_of : Scenario → List Edge

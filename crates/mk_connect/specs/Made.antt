@@ -1,4 +1,5 @@
--- The plan that a scenario makes with what its simulators said, or the first test that its connections fail.
+-- The plan that a scenario makes with what its simulators said, or the first test that its
+-- connections fail.
 use Rattle.std.specs.Prelude.{ℕ, List, map, length, option_map, unwrap_or, slice_get, Result, Ok}
 use Rattle.mk_base.specs.declared.SimKind.{SimKind}
 use Rattle.mk_base.specs.declared.SimKind.TheVariants.{TimeBased}
@@ -27,16 +28,28 @@ kind_at metas s = unwrap_or (option_map (λ (m : Meta). m.kind) (slice_get metas
 abbrev pub number_at : List ℕ → ℕ → ℕ
 number_at numbers s = unwrap_or (slice_get numbers s) 0
 
--- the simulator at this place, by its part of the scenario, its type, its rank and the number of its setup requests
+-- the simulator at this place, by its part of the scenario, its type, its rank and the number of
+-- its setup requests
 abbrev pub plan_sim : List Meta → List ℕ → List ℕ → ℕ → SimPart → PlanSim
-plan_sim metas ranks first_ids s part = record { id = part.id; kind = kind_at metas s; first_id = number_at first_ids s; rank = number_at ranks s; initial = part.initial }
+plan_sim metas ranks first_ids s part = record {
+  id = part.id;
+  kind = kind_at metas s;
+  first_id = number_at first_ids s;
+  rank = number_at ranks s;
+  initial = part.initial;
+}
 
 -- an entity, at this place, of so many with these pairs
 abbrev pub plan_entity : List SimModel → ℕ → List (ℕ × ℕ) → ℕ → EntityInfo → PlanEntity
-plan_entity models count pairs i entity = record { model = unwrap_or (model_number models entity) 0; eid = entity.eid; related = related count pairs i }
+plan_entity models count pairs i entity = record {
+  model = unwrap_or (model_number models entity) 0;
+  eid = entity.eid;
+  related = related count pairs i;
+}
 
 -- the plan of these parts
-abbrev pub plan_of : Scenario → List ℕ → List Meta → List ℕ → List SimModel → List PlanEntity → List Conn → Plan
+abbrev pub plan_of : Scenario → List ℕ → List Meta → List ℕ → List SimModel → List PlanEntity
+    → List Conn → Plan
 plan_of S ranks metas first_ids models entities conns = record {
   until = S.until;
   loops = S.loops;
@@ -51,8 +64,13 @@ plan_of S ranks metas first_ids models entities conns = record {
 -- the plan with these connections
 abbrev pub plan_with : Scenario → List ℕ → List Meta → List EntityInfo → List ℕ → List Conn → Plan
 plan_with S ranks metas entities first_ids conns =
-    plan_of S ranks metas first_ids (models_of metas) (by_place (plan_entity (models_of metas) (length entities) (pairs_of entities S.blocks)) 0 entities) conns
+    plan_of S ranks metas first_ids (models_of metas)
+    (by_place (plan_entity (models_of metas) (length entities) (pairs_of entities S.blocks)) 0
+    entities) conns
 
 -- the plan, or the first fault
-abbrev pub plan_made : Scenario → List ℕ → List Meta → List EntityInfo → List ℕ → Result Plan ConnectFault
-plan_made S ranks metas entities first_ids = passed (conns_made S.sims (models_of metas) entities S.blocks) (λ conns. Ok (plan_with S ranks metas entities first_ids conns))
+abbrev pub plan_made : Scenario → List ℕ → List Meta → List EntityInfo → List ℕ
+    → Result Plan ConnectFault
+plan_made S ranks metas entities first_ids = passed
+    (conns_made S.sims (models_of metas) entities S.blocks)
+    (λ conns. Ok (plan_with S ranks metas entities first_ids conns))

@@ -53,11 +53,15 @@ pub fn plan(
     ensures targets { IfOk result (λ P. TargetsAgree P) }
 
     // The plan is valid, once all that it is made of is there.
-    ensures valid { IfOk result (λ P. IsComplete scenario.now ranks.now metas.now entities.now first_ids.now → IsValidPlan P) }
+    ensures valid { IfOk result
+        (λ P. IsComplete scenario.now ranks.now metas.now entities.now first_ids.now
+        → IsValidPlan P) }
 
     // The plan is the one that the definition makes, and each fault is the first test that fails.
-    ensures made { IfOk result (λ P. plan_made scenario.now ranks.now metas.now entities.now first_ids.now ≡ Ok P) }
-    ensures refused { IfErr result (λ e. IsFaultOf (plan_made scenario.now ranks.now metas.now entities.now first_ids.now) e) }
+    ensures made { IfOk result
+        (λ P. plan_made scenario.now ranks.now metas.now entities.now first_ids.now ≡ Ok P) }
+    ensures refused { IfErr result
+        (λ e. IsFaultOf (plan_made scenario.now ranks.now metas.now entities.now first_ids.now) e) }
 {
     let models = models_of(alloc, metas)?;
     match connected_parts(alloc, scenario, &models, entities) {
@@ -83,9 +87,15 @@ fn connected_parts(
     entities: &Entities,
 ) -> Result<Parts, ConnectFault>
     requires { IsWellformed scenario.now }
-    ensures made { IfOk result (λ parts. conns_made scenario.now.sims models.now entities.now scenario.now.blocks ≡ Ok parts.conns) }
-    ensures entities { IfOk result (λ parts. parts.entities ≡ by_place (plan_entity models.now (length entities.now) (pairs_of entities.now scenario.now.blocks)) 0 entities.now) }
-    ensures refused { IfErr result (λ e. IsFaultOf (conns_made scenario.now.sims models.now entities.now scenario.now.blocks) e) }
+    ensures made { IfOk result
+        (λ parts. conns_made scenario.now.sims models.now entities.now scenario.now.blocks
+        ≡ Ok parts.conns) }
+    ensures entities { IfOk result (λ parts. parts.entities
+        ≡ by_place (plan_entity models.now (length entities.now)
+        (pairs_of entities.now scenario.now.blocks)) 0 entities.now) }
+    ensures refused { IfErr result
+        (λ e. IsFaultOf (conns_made scenario.now.sims models.now entities.now scenario.now.blocks)
+        e) }
 
     // What is sure of all entities.
     ensures few { length entities.now ≤ most_entities }
@@ -117,7 +127,9 @@ fn connected_parts(
 
 fn related_entities(alloc: Global, study: &Study, blocks: &[Block]) -> Result<List<PlanEntity>, Mem>
     requires { Each (IsUsable (length study.now.members.now)) blocks.now }
-    ensures { IfOk result (λ entities. entities ≡ by_place (plan_entity study.now.models.now (length study.now.entities.now) (pairs_of study.now.entities.now blocks.now)) 0 study.now.entities.now) }
+    ensures { IfOk result (λ entities. entities
+        ≡ by_place (plan_entity study.now.models.now (length study.now.entities.now)
+        (pairs_of study.now.entities.now blocks.now)) 0 study.now.entities.now) }
 {
     let relations = related_of(alloc, study, blocks)?;
     plan_entities(alloc, study, blocks, relations.as_slice())
@@ -132,7 +144,9 @@ fn plan_with(
     models: Models,
     parts: Parts,
 ) -> Result<Plan, Mem>
-    ensures { IfOk result (λ P. P ≡ plan_of scenario.now ranks.now metas.now first_ids.now models parts.entities parts.conns) }
+    ensures { IfOk result (λ P. P
+        ≡ plan_of scenario.now ranks.now metas.now first_ids.now models parts.entities
+        parts.conns) }
 {
     let sims = plan_sims(alloc, &scenario.sims, metas, ranks, first_ids)?;
     let models = plan_models(alloc, models)?;

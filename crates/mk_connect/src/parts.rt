@@ -23,7 +23,8 @@ pub fn plan_sims(
     ranks: &List<u32>,
     first_ids: &[u64],
 ) -> Result<List<PlanSim>, Mem>
-    ensures { IfOk result (λ sims. sims ≡ by_place (plan_sim metas.now ranks.now first_ids.now) 0 parts.now) }
+    ensures { IfOk result (λ sims. sims
+        ≡ by_place (plan_sim metas.now ranks.now first_ids.now) 0 parts.now) }
 {
     let mut sims = List::new(alloc);
     for (s, part) in parts.as_slice().iter().enumerate() {
@@ -112,8 +113,12 @@ pub fn plan_entities(
     blocks: &[Block],
     relations: &[Numbers],
 ) -> Result<List<PlanEntity>, Mem>
-    requires { relations.now ≡ map (related (length study.now.entities.now) (pairs_of study.now.entities.now blocks.now)) (range_with_len 0 (length study.now.entities.now)) }
-    ensures { IfOk result (λ entities. entities ≡ by_place (plan_entity study.now.models.now (length study.now.entities.now) (pairs_of study.now.entities.now blocks.now)) 0 study.now.entities.now) }
+    requires { relations.now
+        ≡ map (related (length study.now.entities.now) (pairs_of study.now.entities.now blocks.now))
+        (range_with_len 0 (length study.now.entities.now)) }
+    ensures { IfOk result (λ entities. entities
+        ≡ by_place (plan_entity study.now.models.now (length study.now.entities.now)
+        (pairs_of study.now.entities.now blocks.now)) 0 study.now.entities.now) }
 {
     let mut entities = List::new(alloc);
     for (i, entity) in study.entities.as_slice().iter().enumerate() {
@@ -130,9 +135,13 @@ fn plan_entity(
     i: usize,
     entity: &EntityInfo,
 ) -> Result<PlanEntity, Mem>
-    requires related { relations.now ≡ map (related (length study.now.entities.now) (pairs_of study.now.entities.now blocks.now)) (range_with_len 0 (length study.now.entities.now)) }
+    requires related { relations.now
+        ≡ map (related (length study.now.entities.now) (pairs_of study.now.entities.now blocks.now))
+        (range_with_len 0 (length study.now.entities.now)) }
     requires there { slice_get study.now.entities.now i ≡ Some entity.now }
-    ensures { IfOk result (λ made. made ≡ plan_entity study.now.models.now (length study.now.entities.now) (pairs_of study.now.entities.now blocks.now) i entity.now) }
+    ensures { IfOk result (λ made. made
+        ≡ plan_entity study.now.models.now (length study.now.entities.now)
+        (pairs_of study.now.entities.now blocks.now) i entity.now) }
 {
     let eid = entity.eid.copy()?;
     let related = related_at(alloc, relations, i)?;

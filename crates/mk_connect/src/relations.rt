@@ -70,7 +70,9 @@ fn listed(alloc: Global, numbers: &BTreeSet<u32>) -> Result<List<u32>, Mem>
 // The numbers of the entities that each entity is related to.
 pub fn related_of(alloc: Global, study: &Study, blocks: &[Block]) -> Result<Vec<Numbers>, Mem>
     requires { Each (IsUsable (length study.now.members.now)) blocks.now }
-    ensures { IfOk result (λ lists. lists.items ≡ map (related (length study.now.entities.now) (pairs_of study.now.entities.now blocks.now)) (range_with_len 0 (length study.now.entities.now))) }
+    ensures { IfOk result (λ lists. lists.items
+        ≡ map (related (length study.now.entities.now) (pairs_of study.now.entities.now blocks.now))
+        (range_with_len 0 (length study.now.entities.now))) }
 {
     let entities = study.entities.as_slice();
     let mut lists = no_lists(alloc, entities.len())?;
@@ -92,7 +94,8 @@ fn no_lists(alloc: Global, count: usize) -> Result<Vec<Numbers>, Mem>
 // Joins each entity with those that it names and its children.
 fn join_own(lists: &mut Vec<Numbers>, entities: &[EntityInfo]) -> Result<(), Mem>
     requires { length entities.now < 4294967296 }
-    ensures { OnOk result (lists.new.items ≡ fold joined lists.old.items (own_pairs 0 entities.now)) }
+    ensures { OnOk result (lists.new.items
+        ≡ fold joined lists.old.items (own_pairs 0 entities.now)) }
 {
     for (number, entity) in entities.iter().enumerate() {
         join_with(lists, number as u32, &entity.related)?;
@@ -102,7 +105,8 @@ fn join_own(lists: &mut Vec<Numbers>, entities: &[EntityInfo]) -> Result<(), Mem
 
 // Joins an entity with each of these.
 fn join_with(lists: &mut Vec<Numbers>, number: u32, others: &List<u32>) -> Result<(), Mem>
-    ensures { OnOk result (lists.new.items ≡ fold joined lists.old.items (map (λ i. (number, i)) others.now)) }
+    ensures { OnOk result (lists.new.items
+        ≡ fold joined lists.old.items (map (λ i. (number, i)) others.now)) }
 {
     for other in others.as_slice() {
         join(lists, (number, *other))?;
@@ -118,7 +122,8 @@ fn join_blocks(
     blocks: &[Block],
 ) -> Result<(), Mem>
     requires { Each (IsUsable (length study.now.members.now)) blocks.now }
-    ensures { OnOk result (lists.new.items ≡ fold joined lists.old.items (flat_map (block_pairs study.now.entities.now) blocks.now)) }
+    ensures { OnOk result (lists.new.items
+        ≡ fold joined lists.old.items (flat_map (block_pairs study.now.entities.now) blocks.now)) }
 {
     for block in blocks {
         let pairs = block_pairs(alloc, study, block)?;

@@ -50,43 +50,55 @@ conn_between models entities b ends pair = record {
   initial = initial_text b.initial pair.from;
 }
 
--- the attributes that the pair names are there: an output of the source's model, and an input of the target's
-abbrev pub attrs_fault : List SimPart → List SimModel → List EntityInfo → ℕ × ℕ → AttrPair → Option ConnectFault
+-- the attributes that the pair names are there: an output of the source's model, and an input of
+-- the target's
+abbrev pub attrs_fault : List SimPart → List SimModel → List EntityInfo → ℕ × ℕ → AttrPair
+    → Option ConnectFault
 attrs_fault sims models entities ends pair =
-    held (NoSourceAttr (full_id sims entities ends.0) pair.from) (says (has_attr pair.from) (model_at models entities ends.0)) (
-    held (NoTargetAttr (full_id sims entities ends.1) pair.to) (says (takes_attr pair.to) (model_at models entities ends.1))
+    held (NoSourceAttr (full_id sims entities ends.0) pair.from)
+    (says (has_attr pair.from) (model_at models entities ends.0)) (
+    held (NoTargetAttr (full_id sims entities ends.1) pair.to)
+    (says (takes_attr pair.to) (model_at models entities ends.1))
     None)
 
--- beside those that there are, the connection is the only one of its way; it has the initial value that it needs; and there is room
+-- beside those that there are, the connection is the only one of its way; it has the initial value
+-- that it needs; and there is room
 abbrev pub conn_fault : List SimPart → List EntityInfo → List Conn → Conn → Option ConnectFault
 conn_fault sims entities conns c =
-    held (Twice (full_id sims entities c.to) c.to_attr (full_id sims entities c.from)) (not (list_any (is_way c.from c.to c.to_attr) conns)) (
-    held (NoInitial (full_id sims entities c.to) c.from_attr) (has_initial c.via c.persistent (is_some c.initial)) (
+    held (Twice (full_id sims entities c.to) c.to_attr (full_id sims entities c.from))
+    (not (list_any (is_way c.from c.to c.to_attr) conns)) (
+    held (NoInitial (full_id sims entities c.to) c.from_attr)
+    (has_initial c.via c.persistent (is_some c.initial)) (
     held (TooMany (most_conns + 1)) (nat_lt (length conns) most_conns)
     None))
 
 -- one connection more, after its tests
-abbrev pub connected : List SimPart → List SimModel → List EntityInfo → Block → ℕ × ℕ → List Conn → AttrPair → Result (List Conn) ConnectFault
+abbrev pub connected : List SimPart → List SimModel → List EntityInfo → Block → ℕ × ℕ → List Conn
+    → AttrPair → Result (List Conn) ConnectFault
 connected sims models entities b ends conns pair =
     unless (attrs_fault sims models entities ends pair) (
     unless (conn_fault sims entities conns (conn_between models entities b ends pair)) (
     Ok (conns ++ conn_between models entities b ends pair ∷ [])))
 
 -- the connections of two entities, for each pair of attributes
-abbrev pub pair_made : List SimPart → List SimModel → List EntityInfo → Block → List Conn → ℕ × ℕ → Result (List Conn) ConnectFault
-pair_made sims models entities b conns ends = through (connected sims models entities b ends) conns b.attrs
+abbrev pub pair_made : List SimPart → List SimModel → List EntityInfo → Block → List Conn → ℕ × ℕ
+    → Result (List Conn) ConnectFault
+pair_made sims models entities b conns ends = through
+    (connected sims models entities b ends) conns b.attrs
 
 -- which entities a block pairs
 abbrev pub block_pairs : List EntityInfo → Block → List (ℕ × ℕ)
 block_pairs entities b = pairs_between (ends_at entities b.from) (ends_at entities b.to)
 
 -- the connections of a block: what it names are entities, and each two that it pairs are connected
-abbrev pub block_made : List SimPart → List SimModel → List EntityInfo → List Conn → Block → Result (List Conn) ConnectFault
+abbrev pub block_made : List SimPart → List SimModel → List EntityInfo → List Conn → Block
+    → Result (List Conn) ConnectFault
 block_made sims models entities conns b =
     unless (place_fault sims entities b.from) (
     unless (place_fault sims entities b.to) (
     through (pair_made sims models entities b) conns (block_pairs entities b)))
 
 -- the connections of all blocks, in order
-abbrev pub conns_made : List SimPart → List SimModel → List EntityInfo → List Block → Result (List Conn) ConnectFault
+abbrev pub conns_made : List SimPart → List SimModel → List EntityInfo → List Block
+    → Result (List Conn) ConnectFault
 conns_made sims models entities blocks = through (block_made sims models entities) [] blocks

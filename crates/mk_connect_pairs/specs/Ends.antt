@@ -17,7 +17,8 @@ is_of_group group entity = unwrap_or (option_map (nat_eq group) entity.group) fa
 -- the numbers of the group's entities, among entities that are numbered from n
 abbrev pub members_from : ℕ → ℕ → List EntityInfo → List ℕ
 members_from group n [] = []
-members_from group n (e ∷ es) = if is_of_group group e then n ∷ members_from group (suc n) es else members_from group (suc n) es
+members_from group n (e ∷ es) = if is_of_group group e then n ∷ members_from group (suc n) es
+    else members_from group (suc n) es
 
 -- the numbers of the group's entities, in order
 abbrev pub members : List EntityInfo → ℕ → List ℕ
@@ -34,15 +35,18 @@ abbrev pub name_of : List SimPart → ℕ → List ℕ → List ℕ
 name_of sims sim eid = id_of_sim sims sim ++ (codes "." ++ eid)
 
 abbrev pub full_id : List SimPart → List EntityInfo → ℕ → List ℕ
-full_id sims entities i = unwrap_or (option_map (λ (e : EntityInfo). name_of sims e.sim.0 e.eid) (slice_get entities i)) []
+full_id sims entities i = unwrap_or
+    (option_map (λ (e : EntityInfo). name_of sims e.sim.0 e.eid) (slice_get entities i)) []
 
 -- a full id is an entity's
 abbrev pub place_fault : List SimPart → List EntityInfo → Place → Option ConnectFault
 place_fault sims entities (Whole group) = None
 place_fault sims entities (One group i) = None
-place_fault sims entities (Full sim eid) = if is_some (number_of entities sim eid) then None else Some (NoEntity (name_of sims sim.0 eid))
+place_fault sims entities (Full sim eid) = if is_some (number_of entities sim eid) then None
+    else Some (NoEntity (name_of sims sim.0 eid))
 
--- which entities are connected: where one side has one entity, it and each of the other; else one after the other
+-- which entities are connected: where one side has one entity, it and each of the other; else one
+-- after the other
 abbrev pub pairs_between : List ℕ → List ℕ → List (ℕ × ℕ)
 pairs_between froms (to ∷ []) = map (λ from. (from, to)) froms
 pairs_between (from ∷ []) tos = map (λ to. (from, to)) tos

@@ -21,17 +21,21 @@ model_named models name = find (λ (m : ModelMeta). same_text m.name name) model
 
 -- the first parameter, in byte order, that the model doesn't have
 abbrev pub param_fault : ModelMeta → Group → Option ConnectFault
-param_fault model group = option_map (UnknownParam group.model) (first_unknown model.params group.params)
+param_fault model group = option_map (UnknownParam group.model)
+    (first_unknown model.params group.params)
 
 -- the model is there and public, and has the group's parameters
 abbrev pub model_fault : List ℕ → Group → Option ModelMeta → Option ConnectFault
 model_fault sim group None = Some (NotPublic sim group.model)
-model_fault sim group (Some model) = if model.public then param_fault model group else Some (NotPublic sim group.model)
+model_fault sim group (Some model) = if model.public then param_fault model group
+    else Some (NotPublic sim group.model)
 
 -- the first test that a group fails, by its simulator's metadata
 abbrev pub group_fault : List SimPart → Meta → Group → Option ConnectFault
-group_fault sims meta group = model_fault (id_of_sim sims group.sim.0) group (model_named meta.models group.model)
+group_fault sims meta group = model_fault (id_of_sim sims group.sim.0) group
+    (model_named meta.models group.model)
 
 -- the same of the group at this place
 abbrev pub fault_of_group : Scenario → ℕ → Meta → Option ConnectFault
-fault_of_group S n meta = unwrap_or (option_map (group_fault S.sims meta) (slice_get S.groups n)) None
+fault_of_group S n meta = unwrap_or
+    (option_map (group_fault S.sims meta) (slice_get S.groups n)) None

@@ -5,4 +5,5 @@ use Rattle.mk_connect_pairs.specs.Ends.{members}
 
 -- under each group's number stand its entities
 abbrev pub HasMembers : List EntityInfo → List (List ℕ) → Type 0
-HasMembers entities groups = (g : ℕ) → g < length groups → slice_get groups g ≡ Some (members entities g)
+HasMembers entities groups = (g : ℕ) → g < length groups
+    → slice_get groups g ≡ Some (members entities g)

@@ -13,7 +13,15 @@ use Rattle.mk_connect_pairs.specs.declared.models.SimModel.{SimModel}
 
 -- a model of the simulator of this number and type
 abbrev pub sim_model : ℕ → SimKind → ModelMeta → SimModel
-sim_model s kind m = record { sim = record { 0 = s }; kind = kind; name = m.name; any_inputs = m.any_inputs; attrs = m.attrs; trigger = m.trigger; events = m.events }
+sim_model s kind m = record {
+  sim = record { 0 = s };
+  kind = kind;
+  name = m.name;
+  any_inputs = m.any_inputs;
+  attrs = m.attrs;
+  trigger = m.trigger;
+  events = m.events;
+}
 
 -- the models of simulators that are numbered from s
 abbrev pub models_from : ℕ → List Meta → List SimModel
@@ -34,7 +42,8 @@ model_number models entity = position (is_model entity.sim entity.model) models
 
 -- the model of the entity at this place
 abbrev pub model_at : List SimModel → List EntityInfo → ℕ → Option SimModel
-model_at models entities i = option_and_then (slice_get models) (option_and_then (model_number models) (slice_get entities i))
+model_at models entities i = option_and_then (slice_get models)
+    (option_and_then (model_number models) (slice_get entities i))
 
 -- what a model says, if there is one
 abbrev pub says : (SimModel → Bool) → Option SimModel → Bool
@@ -47,7 +56,8 @@ has_attr attr m = is_among m.attrs attr
 abbrev pub takes_attr : List ℕ → SimModel → Bool
 takes_attr attr m = m.any_inputs || is_among m.attrs attr
 
--- an output keeps its value: of a time-based simulator always, of an event-based one never, of a hybrid one unless it is an event
+-- an output keeps its value: of a time-based simulator always, of an event-based one never, of a
+-- hybrid one unless it is an event
 abbrev pub is_persistent : List ℕ → SimKind → List (List ℕ) → Bool
 is_persistent attr TimeBased events = true
 is_persistent attr EventBased events = false
@@ -56,7 +66,8 @@ is_persistent attr Hybrid events = not (is_among events attr)
 abbrev pub keeps_attr : List ℕ → SimModel → Bool
 keeps_attr attr m = is_persistent attr m.kind m.events
 
--- an input makes its simulator step: of a time-based one never, of an event-based one always, of a hybrid one if it is said to
+-- an input makes its simulator step: of a time-based one never, of an event-based one always, of a
+-- hybrid one if it is said to
 abbrev pub is_triggering : List ℕ → SimKind → List (List ℕ) → Bool
 is_triggering attr TimeBased trigger = false
 is_triggering attr EventBased trigger = true

@@ -8,7 +8,8 @@ use mk_base::{SimKind, Text};
 
 // The model of the entity of this number.
 fn model_at<'a>(study: &Study<'a>, entity: u32) -> Option<&'a SimModel>
-    ensures { option_map (λ m. m.now) result ≡ model_at study.now.models.now study.now.entities.now entity }
+    ensures { option_map (λ m. m.now) result
+        ≡ model_at study.now.models.now study.now.entities.now entity }
 {
     match number_at(study.numbers, entity as usize) {
         Some(number) => study.models.get(number as usize),
@@ -18,7 +19,8 @@ fn model_at<'a>(study: &Study<'a>, entity: u32) -> Option<&'a SimModel>
 
 // Whether the attribute is an output of the entity.
 pub fn has_attr(study: &Study, entity: u32, attr: &Text) -> bool
-    ensures { result ≡ says (has_attr attr.now) (model_at study.now.models.now study.now.entities.now entity) }
+    ensures { result ≡ says (has_attr attr.now)
+        (model_at study.now.models.now study.now.entities.now entity) }
 {
     match model_at(study, entity) {
         Some(model) => model.attrs.has(attr),
@@ -28,7 +30,8 @@ pub fn has_attr(study: &Study, entity: u32, attr: &Text) -> bool
 
 // Whether the attribute is an input of the entity.
 pub fn takes_attr(study: &Study, entity: u32, attr: &Text) -> bool
-    ensures { result ≡ says (takes_attr attr.now) (model_at study.now.models.now study.now.entities.now entity) }
+    ensures { result ≡ says (takes_attr attr.now)
+        (model_at study.now.models.now study.now.entities.now entity) }
 {
     match model_at(study, entity) {
         Some(model) => model.any_inputs || model.attrs.has(attr),
@@ -38,7 +41,8 @@ pub fn takes_attr(study: &Study, entity: u32, attr: &Text) -> bool
 
 // Whether the output keeps its value: of a hybrid simulator, unless it is an event.
 pub fn keeps_attr(study: &Study, entity: u32, attr: &Text) -> bool
-    ensures { result ≡ says (keeps_attr attr.now) (model_at study.now.models.now study.now.entities.now entity) }
+    ensures { result ≡ says (keeps_attr attr.now)
+        (model_at study.now.models.now study.now.entities.now entity) }
 {
     match model_at(study, entity) {
         Some(model) => is_persistent(model, attr),
@@ -58,7 +62,8 @@ fn is_persistent(model: &SimModel, attr: &Text) -> bool
 
 // Whether the input makes its simulator step: of a hybrid one, if it is said to.
 pub fn triggers_by(study: &Study, entity: u32, attr: &Text) -> bool
-    ensures { result ≡ says (triggers_by attr.now) (model_at study.now.models.now study.now.entities.now entity) }
+    ensures { result ≡ says (triggers_by attr.now)
+        (model_at study.now.models.now study.now.entities.now entity) }
 {
     match model_at(study, entity) {
         Some(model) => is_triggering(model, attr),

@@ -27,8 +27,12 @@ const MOST_CONNS: usize = 100000;
 /// are, and its initial values are data.
 pub fn conns_made(alloc: Global, study: &Study, blocks: &[Block]) -> Result<Made, ConnectFault>
     requires { Each (IsUsable (length study.now.members.now)) blocks.now }
-    ensures ok { IfOk result (λ made. conns_made study.now.sims.now study.now.models.now study.now.entities.now blocks.now ≡ Ok made) }
-    ensures refused { IfErr result (λ e. IsFaultOf (conns_made study.now.sims.now study.now.models.now study.now.entities.now blocks.now) e) }
+    ensures ok { IfOk result
+        (λ made. conns_made study.now.sims.now study.now.models.now study.now.entities.now
+        blocks.now ≡ Ok made) }
+    ensures refused { IfErr result
+        (λ e. IsFaultOf (conns_made study.now.sims.now study.now.models.now study.now.entities.now
+        blocks.now) e) }
 {
     let mut made = Made::new(alloc);
     for block in blocks {
@@ -43,8 +47,12 @@ pub fn conns_made(alloc: Global, study: &Study, blocks: &[Block]) -> Result<Made
 // The connections of a block: what it names are entities, and each two that it pairs are connected.
 fn block_made(alloc: Global, study: &Study, made: Made, block: &Block) -> Result<Made, ConnectFault>
     requires { IsUsable (length study.now.members.now) block.now }
-    ensures ok { IfOk result (λ new. block_made study.now.sims.now study.now.models.now study.now.entities.now made block.now ≡ Ok new) }
-    ensures refused { IfErr result (λ e. IsFaultOf (block_made study.now.sims.now study.now.models.now study.now.entities.now made block.now) e) }
+    ensures ok { IfOk result
+        (λ new. block_made study.now.sims.now study.now.models.now study.now.entities.now made
+        block.now ≡ Ok new) }
+    ensures refused { IfErr result
+        (λ e. IsFaultOf (block_made study.now.sims.now study.now.models.now study.now.entities.now
+        made block.now) e) }
 {
     if let Some(fault) = place_fault(alloc, study, &block.from)? {
         return Err(fault);
@@ -74,8 +82,13 @@ fn pairs_made(
     pairs: &[(u32, u32)],
 ) -> Result<Made, ConnectFault>
     requires { IsUsable (length study.now.members.now) block.now }
-    ensures ok { IfOk result (λ new. through (pair_made study.now.sims.now study.now.models.now study.now.entities.now block.now) made pairs.now ≡ Ok new) }
-    ensures refused { IfErr result (λ e. IsFaultOf (through (pair_made study.now.sims.now study.now.models.now study.now.entities.now block.now) made pairs.now) e) }
+    ensures ok { IfOk result
+        (λ new. through (pair_made study.now.sims.now study.now.models.now study.now.entities.now
+        block.now) made pairs.now ≡ Ok new) }
+    ensures refused { IfErr result
+        (λ e. IsFaultOf (through
+        (pair_made study.now.sims.now study.now.models.now study.now.entities.now block.now) made
+        pairs.now) e) }
 {
     let mut made = made;
     for ends in pairs {
@@ -96,8 +109,12 @@ fn pair_made(
     ends: (u32, u32),
 ) -> Result<Made, ConnectFault>
     requires { IsUsable (length study.now.members.now) block.now }
-    ensures ok { IfOk result (λ new. pair_made study.now.sims.now study.now.models.now study.now.entities.now block.now made ends ≡ Ok new) }
-    ensures refused { IfErr result (λ e. IsFaultOf (pair_made study.now.sims.now study.now.models.now study.now.entities.now block.now made ends) e) }
+    ensures ok { IfOk result
+        (λ new. pair_made study.now.sims.now study.now.models.now study.now.entities.now block.now
+        made ends ≡ Ok new) }
+    ensures refused { IfErr result
+        (λ e. IsFaultOf (pair_made study.now.sims.now study.now.models.now study.now.entities.now
+        block.now made ends) e) }
 {
     let mut made = made;
     for pair in block.attrs.as_slice() {
@@ -119,8 +136,12 @@ fn connected(
     pair: &AttrPair,
 ) -> Result<Made, ConnectFault>
     requires { IsUsable (length study.now.members.now) block.now }
-    ensures ok { IfOk result (λ new. connected study.now.sims.now study.now.models.now study.now.entities.now block.now ends made pair.now ≡ Ok new) }
-    ensures refused { IfErr result (λ e. IsFaultOf (connected study.now.sims.now study.now.models.now study.now.entities.now block.now ends made pair.now) e) }
+    ensures ok { IfOk result
+        (λ new. connected study.now.sims.now study.now.models.now study.now.entities.now block.now
+        ends made pair.now ≡ Ok new) }
+    ensures refused { IfErr result
+        (λ e. IsFaultOf (connected study.now.sims.now study.now.models.now study.now.entities.now
+        block.now ends made pair.now) e) }
 {
     if let Some(fault) = attrs_fault(alloc, study, ends, pair)? {
         return Err(fault);
@@ -140,7 +161,9 @@ fn attrs_fault(
     ends: (u32, u32),
     pair: &AttrPair,
 ) -> Result<Option<ConnectFault>, Mem>
-    ensures { IfOk result (λ fault. fault ≡ attrs_fault study.now.sims.now study.now.models.now study.now.entities.now ends pair.now) }
+    ensures { IfOk result (λ fault. fault
+        ≡ attrs_fault study.now.sims.now study.now.models.now study.now.entities.now ends
+        pair.now) }
 {
     if !has_attr(study, ends.0, &pair.from) {
         let source = full_id(alloc, study, ends.0)?;
@@ -162,7 +185,8 @@ fn conn_fault(
     made: &Made,
     conn: &Conn,
 ) -> Result<Option<ConnectFault>, Mem>
-    ensures { IfOk result (λ fault. fault ≡ conn_fault study.now.sims.now study.now.entities.now made.now conn.now) }
+    ensures { IfOk result (λ fault. fault
+        ≡ conn_fault study.now.sims.now study.now.entities.now made.now conn.now) }
 {
     if made.has(alloc, conn.from, conn.to, &conn.to_attr)? {
         return Ok(Some(twice(alloc, study, conn)?));
@@ -179,7 +203,10 @@ fn conn_fault(
 }
 
 fn twice(alloc: Global, study: &Study, conn: &Conn) -> Result<ConnectFault, Mem>
-    ensures { IfOk result (λ fault. fault ≡ ConnectFault.Twice (full_id study.now.sims.now study.now.entities.now conn.now.to) conn.now.to_attr (full_id study.now.sims.now study.now.entities.now conn.now.from)) }
+    ensures { IfOk result (λ fault. fault
+        ≡ ConnectFault.Twice
+        (full_id study.now.sims.now study.now.entities.now conn.now.to) conn.now.to_attr
+        (full_id study.now.sims.now study.now.entities.now conn.now.from)) }
 {
     let target = full_id(alloc, study, conn.to)?;
     let attr = conn.to_attr.copy()?;
@@ -207,7 +234,8 @@ fn conn_between(
     pair: &AttrPair,
 ) -> Result<Conn, Mem>
     requires { IsUsable (length study.now.members.now) block.now }
-    ensures { IfOk result (λ conn. conn ≡ conn_between study.now.models.now study.now.entities.now block.now ends pair.now) }
+    ensures { IfOk result (λ conn. conn
+        ≡ conn_between study.now.models.now study.now.entities.now block.now ends pair.now) }
 {
     let from_attr = pair.from.copy()?;
     let to_attr = pair.to.copy()?;

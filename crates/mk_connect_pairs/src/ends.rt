@@ -44,7 +44,8 @@ fn one_of(alloc: Global, number: Option<u32>) -> Result<Vec<u32>, Mem>
 
 // The full id that no entity has, if the place is one.
 pub fn place_fault(alloc: Global, study: &Study, place: &Place) -> Result<Option<ConnectFault>, Mem>
-    ensures { IfOk result (λ fault. fault ≡ place_fault study.now.sims.now study.now.entities.now place.now) }
+    ensures { IfOk result (λ fault. fault
+        ≡ place_fault study.now.sims.now study.now.entities.now place.now) }
 {
     match place {
         Place::Whole(_) => Ok(None),

@@ -24,7 +24,8 @@ pub fn group_check(
     requires wellformed { IsWellformed scenario.now }
     requires there { group < length scenario.now.groups }
     ensures ok { OnOk result (fault_of_group scenario.now group meta.now ≡ None) }
-    ensures refused { IfErr result (λ e. (e ≡ ConnectFault.Mem) ⊎ (fault_of_group scenario.now group meta.now ≡ Some e)) }
+    ensures refused { IfErr result (λ e. (e ≡ ConnectFault.Mem)
+        ⊎ (fault_of_group scenario.now group meta.now ≡ Some e)) }
 {
     let group = scenario.groups.at(group as usize);
     match group_fault(alloc, scenario.sims.as_slice(), meta, group)? {
@@ -95,7 +96,9 @@ fn first_unknown<'a>(known: &Texts, params: &'a Json) -> Option<&'a Text>
 }
 
 fn first_unknown_of<'a>(known: &Texts, members: &'a [(Text, Json)]) -> Option<&'a Text>
-    ensures { option_map (λ t. t.now) result ≡ find (λ key. not (is_among known.now key)) (map (λ (m : List ℕ × Json). m.0) members.now) }
+    ensures { option_map (λ t. t.now) result
+        ≡ find (λ key. not (is_among known.now key))
+        (map (λ (m : List ℕ × Json). m.0) members.now) }
 {
     for (name, _) in members {
         if !known.has(name) {

@@ -15,7 +15,8 @@ pub fn members_of(
     entities: &[EntityInfo],
 ) -> Result<Vec<List<u32>>, Mem>
     requires { length entities.now ≤ most_entities }
-    ensures { IfOk result (λ members. (length members.items ≡ groups) × HasMembers entities.now members.items) }
+    ensures { IfOk result (λ members. (length members.items ≡ groups)
+        × HasMembers entities.now members.items) }
 {
     let mut members = no_members(alloc, groups)?;
     for (number, entity) in entities.iter().enumerate() {
@@ -25,7 +26,8 @@ pub fn members_of(
 }
 
 fn no_members(alloc: Global, groups: usize) -> Result<Vec<List<u32>>, Mem>
-    ensures { IfOk result (λ members. (length members.items ≡ groups) × HasMembers [] members.items) }
+    ensures { IfOk result (λ members. (length members.items ≡ groups)
+        × HasMembers [] members.items) }
 {
     let mut members = Vec::new(alloc);
     for _ in 0..groups {

@@ -136,7 +136,8 @@ fn sim_no(sim: usize) -> Result<SimNo, Mem>
 
 // These models and those of one simulator more.
 fn models_with(alloc: Global, models: Models, sim: SimNo, meta: &Meta) -> Result<Models, Mem>
-    ensures { IfOk result (λ all. all ≡ models ++ map (sim_model sim.0 meta.now.kind) meta.now.models) }
+    ensures { IfOk result (λ all. all ≡ models
+        ++ map (sim_model sim.0 meta.now.kind) meta.now.models) }
 {
     let mut models = models;
     for model in meta.models.as_slice() {

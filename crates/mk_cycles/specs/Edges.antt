@@ -24,4 +24,5 @@ IsChain R (x ∷ y ∷ more) = R x y × IsChain R (y ∷ more)
 -- from each number of the walk an edge leads to the one behind it, and from the last to the first
 abbrev pub IsClosedWalk : List Edge → List ℕ → Type 0
 IsClosedWalk edges [] = ⊥
-IsClosedWalk edges (first ∷ more) = IsChain (λ p s. IsIn (edge p s) edges) ((first ∷ more) ++ first ∷ [])
+IsClosedWalk edges (first ∷ more) = IsChain (λ p s. IsIn (edge p s) edges) ((first ∷ more)
+    ++ first ∷ [])

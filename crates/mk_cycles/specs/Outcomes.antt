@@ -14,7 +14,8 @@ IsEachOnce sims ranks = (r : ℕ) → r < sims → count_by (λ x. x == r) ranks
 
 -- along each edge the rank rises
 abbrev pub IsRising : List Edge → List ℕ → Type 0
-IsRising edges ranks = Each (λ (e : Edge). slice_index ranks e.from.0 < slice_index ranks e.to.0) edges
+IsRising edges ranks = Each
+    (λ (e : Edge). slice_index ranks e.from.0 < slice_index ranks e.to.0) edges
 
 -- the numbers of a walk
 abbrev pub numbers : List SimNo → List ℕ

@@ -44,7 +44,8 @@ fn place_of(numbers: &[usize], number: usize) -> usize
 fn place_of_least(numbers: &[usize]) -> usize
     requires { 0 < length numbers.now }
     ensures place { result < length numbers.now }
-    ensures least { (i : ℕ) → i < length numbers.now → slice_index numbers.now result ≤ slice_index numbers.now i }
+    ensures least { (i : ℕ) → i < length numbers.now
+        → slice_index numbers.now result ≤ slice_index numbers.now i }
 {
     let mut best = 0;
     for i in 1..numbers.len() {
@@ -67,8 +68,12 @@ fn trail(
     requires left { IsLeft table.now.sims placed.now.order start }
     requires least { (t : ℕ) → IsLeft table.now.sims placed.now.order t → start ≤ t }
     ensures again { IfOk result (λ trail. IsIn trail.1 trail.0.order) }
-    ensures reached { IfOk result (λ trail. Each (λ s. IsReached (leads table.now) table.now.sims placed.now.order s) trail.0.order) }
-    ensures chain { IfOk result (λ trail. IsChain (λ s p. IsBack (leads table.now) table.now.sims placed.now.order s p) (trail.0.order ++ trail.1 ∷ [])) }
+    ensures reached { IfOk result
+        (λ trail. Each (λ s.
+        IsReached (leads table.now) table.now.sims placed.now.order s) trail.0.order) }
+    ensures chain { IfOk result
+        (λ trail. IsChain (λ s p. IsBack (leads table.now) table.now.sims placed.now.order s p)
+        (trail.0.order ++ trail.1 ∷ [])) }
 {
     let mut path = Listed::new(alloc, table.sims())?;
     let mut sim = start;
@@ -82,7 +87,9 @@ fn trail(
 // The loop turned into the other direction, from its least number.
 fn turned(alloc: Global, around: &[usize]) -> Result<Vec<usize>, Mem>
     requires { 0 < length around.now }
-    ensures { IfOk result (λ walk. (i : ℕ) × (i < length around.now) × ((j : ℕ) → j < length around.now → slice_index around.now i ≤ slice_index around.now j) × (walk.items ≡ reverse (drop (suc i) around.now ++ take (suc i) around.now))) }
+    ensures { IfOk result (λ walk. (i : ℕ) × (i < length around.now)
+        × ((j : ℕ) → j < length around.now → slice_index around.now i ≤ slice_index around.now j)
+        × (walk.items ≡ reverse (drop (suc i) around.now ++ take (suc i) around.now))) }
 {
     let least = place_of_least(around);
     let mut walk = Vec::from_slice(alloc, around)?;
@@ -114,7 +121,8 @@ pub fn cycle(
     requires stuck { (s : ℕ) → MayFollow (leads table.now) table.now.sims placed.now.order s → ⊥ }
     requires left { IsLeft table.now.sims placed.now.order start }
     requires least { (t : ℕ) → IsLeft table.now.sims placed.now.order t → start ≤ t }
-    ensures { IfOk result (λ walk. IsLoop (leads table.now) table.now.sims placed.now.order (numbers walk)) }
+    ensures { IfOk result
+        (λ walk. IsLoop (leads table.now) table.now.sims placed.now.order (numbers walk)) }
 {
     let (path, again) = trail(alloc, table, placed, start)?;
     let order = path.order();

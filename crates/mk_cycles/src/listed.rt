@@ -45,7 +45,8 @@ impl Listed {
     // The numbers in their order.
     pub fn order(&self) -> &[usize]
         ensures order { result.now ≡ self.now.order }
-        ensures apart { (i j s : ℕ) → slice_get self.now.order i ≡ Some s → slice_get self.now.order j ≡ Some s → i ≡ j }
+        ensures apart { (i j s : ℕ) → slice_get self.now.order i ≡ Some s
+            → slice_get self.now.order j ≡ Some s → i ≡ j }
         ensures below { (s : ℕ) → IsIn s self.now.order → s < self.now.count }
     {
         self.order.as_slice()
@@ -61,7 +62,8 @@ impl Listed {
     pub fn push(&mut self, number: usize) -> Result<(), Mem>
         requires below { number < self.old.count }
         requires new { IsIn number self.old.order → ⊥ }
-        ensures ok { OnOk result (self.new ≡ record { count = self.old.count; order = self.old.order ++ number ∷ [] }) }
+        ensures ok { OnOk result (self.new
+            ≡ record { count = self.old.count; order = self.old.order ++ number ∷ [] }) }
         ensures room { OnOk result (length self.old.order < self.old.count) }
         ensures err { OnErr result (self.new ≡ self.old) }
     {
@@ -72,8 +74,10 @@ impl Listed {
 
     // The least number that is not listed.
     pub fn first_left(&self) -> Option<usize>
-        ensures left { MatchOption result ((s : ℕ) → s < self.now.count → IsIn s self.now.order) (λ s. IsLeft self.now.count self.now.order s) }
-        ensures first { MatchOption result (length self.now.order ≡ self.now.count) (λ s. (t : ℕ) → IsLeft self.now.count self.now.order t → s ≤ t) }
+        ensures left { MatchOption result ((s : ℕ) → s < self.now.count
+            → IsIn s self.now.order) (λ s. IsLeft self.now.count self.now.order s) }
+        ensures first { MatchOption result (length self.now.order ≡ self.now.count) (λ s. (t : ℕ)
+            → IsLeft self.now.count self.now.order t → s ≤ t) }
     {
         for number in 0..self.marks.len() {
             if !self.marks[number] {

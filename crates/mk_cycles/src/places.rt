@@ -29,7 +29,9 @@ fn may_follow(table: &Table, placed: &Listed, sim: usize) -> bool
 // The least-numbered simulator that may come next.
 fn next_sim(table: &Table, placed: &Listed) -> Option<usize>
     requires { placed.now.count ≡ table.now.sims }
-    ensures { MatchOption result ((s : ℕ) → MayFollow (leads table.now) table.now.sims placed.now.order s → ⊥) (λ s. IsNext (leads table.now) table.now.sims placed.now.order s) }
+    ensures { MatchOption result ((s : ℕ)
+        → MayFollow (leads table.now) table.now.sims placed.now.order s
+        → ⊥) (λ s. IsNext (leads table.now) table.now.sims placed.now.order s) }
 {
     for sim in 0..table.sims() {
         if may_follow(table, placed, sim) {
@@ -43,7 +45,8 @@ fn next_sim(table: &Table, placed: &Listed) -> Option<usize>
 pub fn places(alloc: Global, table: &Table) -> Result<Listed, Mem>
     ensures count { IfOk result (λ placed. placed.count ≡ table.now.sims) }
     ensures order { IfOk result (λ placed. IsOrder (leads table.now) table.now.sims placed.order) }
-    ensures last { IfOk result (λ placed. (s : ℕ) → MayFollow (leads table.now) table.now.sims placed.order s → ⊥) }
+    ensures last { IfOk result (λ placed. (s : ℕ)
+        → MayFollow (leads table.now) table.now.sims placed.order s → ⊥) }
 {
     let mut placed = Listed::new(alloc, table.sims())?;
     'placing: while let Some(sim) = next_sim(table, &placed) {
@@ -58,7 +61,8 @@ pub fn ranks_by_place(alloc: Global, placed: &Listed) -> Result<List<u32>, Mem>
     requires each { (s : ℕ) → s < placed.now.count → IsIn s placed.now.order }
     requires small { placed.now.count < 2 ^ 32 }
     ensures length { IfOk result (λ ranks. length ranks ≡ placed.now.count) }
-    ensures inverse { IfOk result (λ ranks. (s r : ℕ) → (slice_get ranks s ≡ Some r) ↔ (slice_get placed.now.order r ≡ Some s)) }
+    ensures inverse { IfOk result (λ ranks. (s r : ℕ)
+        → (slice_get ranks s ≡ Some r) ↔ (slice_get placed.now.order r ≡ Some s)) }
 {
     let mut ranks = List::new(alloc);
     for _sim in 0..placed.count() {

@@ -36,7 +36,8 @@ abbrev pub held : CreateFault → Bool → Option CreateFault → Option CreateF
 held fault holds next = if holds then next else Some fault
 
 -- what follows a test that finds a text, and the fault where it finds none
-abbrev pub found : CreateFault → Option (List ℕ) → (List ℕ → Option CreateFault) → Option CreateFault
+abbrev pub found : CreateFault → Option (List ℕ) → (List ℕ → Option CreateFault)
+    → Option CreateFault
 found fault None next = Some fault
 found fault (Some text) next = next text
 
@@ -45,15 +46,20 @@ abbrev pub unless : {B : Type 0} → Option CreateFault → Result B CreateFault
 unless None next = next
 unless (Some fault) next = Err fault
 
--- the type of a child is some model of the simulator, that of another entity the model that was created
+-- the type of a child is some model of the simulator, that of another entity the model that was
+-- created
 abbrev pub is_model_of : List ℕ → Meta → Described → List ℕ → Bool
-is_model_of model meta entity kind = if entity.is_child then list_any (λ (m : ModelMeta). same_text m.name kind) meta.models else same_text kind model
+is_model_of model meta entity kind = if entity.is_child
+    then list_any (λ (m : ModelMeta). same_text m.name kind) meta.models else same_text kind model
 
 abbrev pub has_type : List ℕ → Meta → Described → Bool
-has_type model meta entity = unwrap_or (option_map (is_model_of model meta entity) entity.kind) false
+has_type model meta entity = unwrap_or
+    (option_map (is_model_of model meta entity) entity.kind) false
 
--- the first test that the n-th entity of a reply fails, where there are so many before it, with these numbers: it has an eid, which is new; it is of the right type; there is room
-abbrev pub entity_fault : (List ℕ → Option ℕ) → ℕ → List ℕ → Meta → ℕ → Described → Option CreateFault
+-- the first test that the n-th entity of a reply fails, where there are so many before it, with
+-- these numbers: it has an eid, which is new; it is of the right type; there is room
+abbrev pub entity_fault : (List ℕ → Option ℕ) → ℕ → List ℕ → Meta → ℕ → Described
+    → Option CreateFault
 entity_fault number count model meta n entity =
     found (NoEid n) entity.eid (λ eid.
     held (TwiceEid eid) (not (is_some (number eid))) (
@@ -68,11 +74,13 @@ unknown_related number (Some texts) = find (λ text. not (is_some (number text))
 
 -- the test of an entity's `rel`: each text of it is an eid of the simulator
 abbrev pub rel_fault : (List ℕ → Option ℕ) → Described → Option CreateFault
-rel_fault number entity = option_map (Related (unwrap_or entity.eid [])) (unknown_related number entity.rel)
+rel_fault number entity = option_map (Related (unwrap_or entity.eid []))
+    (unknown_related number entity.rel)
 
 -- one of these texts has this number
 abbrev pub has_number : (List ℕ → Option ℕ) → List (List ℕ) → ℕ → Bool
-has_number number texts i = list_any (λ text. unwrap_or (option_map (nat_eq i) (number text)) false) texts
+has_number number texts i = list_any
+    (λ text. unwrap_or (option_map (nat_eq i) (number text)) false) texts
 
 -- an entity as it is added, but for the related ones
 abbrev pub draft : SimNo → ℕ → Described → EntityInfo
@@ -84,10 +92,12 @@ draft sim group entity = record {
   related = [];
 }
 
--- an entity as it is added, to so many in all: it is related to what its `rel` names and to its children
+-- an entity as it is added, to so many in all: it is related to what its `rel` names and to its
+-- children
 abbrev pub added : (List ℕ → Option ℕ) → ℕ → SimNo → ℕ → Described → EntityInfo
 added number count sim group entity = record (draft sim group entity) {
-  related = filter (has_number number (unwrap_or entity.rel [] ++ entity.children)) (range_with_len 0 count);
+  related = filter (has_number number (unwrap_or entity.rel [] ++ entity.children))
+      (range_with_len 0 count);
 }
 
 -- all entities after the reply's are added, as far as these can be told before the tests
@@ -95,17 +105,22 @@ abbrev pub drafts : List EntityInfo → SimNo → ℕ → List Described → Lis
 drafts old sim group entities = old ++ map (draft sim group) entities
 
 -- the first test that one of the reply's entities fails, each tested after those before it
-abbrev pub first_entity_fault : List EntityInfo → SimNo → ℕ → List ℕ → Meta → List Described → Option CreateFault
+abbrev pub first_entity_fault : List EntityInfo → SimNo → ℕ → List ℕ → Meta → List Described
+    → Option CreateFault
 first_entity_fault old sim group model meta entities =
     let before : ℕ → List EntityInfo = λ n. take (length old + n) (drafts old sim group entities) in
-    first_there (map (λ n. option_and_then (entity_fault (number_of (before n) sim) (length old + n) model meta n) (slice_get entities n)) (range_with_len 0 (length entities)))
+    first_there (map (λ n.
+    option_and_then (entity_fault (number_of (before n) sim) (length old + n) model meta n)
+    (slice_get entities n)) (range_with_len 0 (length entities)))
 
 -- the reply has as many entities as were asked for
 abbrev pub count_fault : ℕ → Json → Option CreateFault
-count_fault num reply = let count : ℕ = length (unwrap_or (items_in reply) []) in held (Count num count) (count == num) None
+count_fault num reply = let count : ℕ = length (unwrap_or (items_in reply) []) in held
+    (Count num count) (count == num) None
 
 -- these entities of a reply are added, unless one fails a test
-abbrev pub with_entities : List EntityInfo → SimNo → ℕ → List ℕ → Meta → List Described → Result (List EntityInfo) CreateFault
+abbrev pub with_entities : List EntityInfo → SimNo → ℕ → List ℕ → Meta → List Described
+    → Result (List EntityInfo) CreateFault
 with_entities old sim group model meta entities =
     let number : List ℕ → Option ℕ = number_of (drafts old sim group entities) sim in
     unless (first_entity_fault old sim group model meta entities) (
@@ -113,5 +128,7 @@ with_entities old sim group model meta entities =
     Ok (old ++ map (added number (length old + length entities) sim group) entities)))
 
 -- the entities after this reply: as many as were asked for, then each is tested, then each `rel`
-abbrev pub entities_added : List EntityInfo → SimNo → ℕ → ℕ → List ℕ → Meta → Json → Result (List EntityInfo) CreateFault
-entities_added old sim group num model meta reply = unless (count_fault num reply) (with_entities old sim group model meta (reply_entities reply))
+abbrev pub entities_added : List EntityInfo → SimNo → ℕ → ℕ → List ℕ → Meta → Json
+    → Result (List EntityInfo) CreateFault
+entities_added old sim group num model meta reply = unless (count_fault num reply)
+    (with_entities old sim group model meta (reply_entities reply))

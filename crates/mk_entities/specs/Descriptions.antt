@@ -21,7 +21,8 @@ list_under name tree = unless_missing [] list_in (member name tree)
 
 -- the texts of the list under this name, none where the member is missing or null
 abbrev pub texts_under : List ℕ → Json → Option (List (List ℕ))
-texts_under name tree = option_and_then (λ (items : List Json). all_there (map text_in items)) (list_under name tree)
+texts_under name tree = option_and_then (λ (items : List Json). all_there (map text_in items))
+    (list_under name tree)
 
 -- what is described under `children`
 abbrev pub children_in : Json → List Json
@@ -36,7 +37,8 @@ if_eid text = if is_eid text then Some text else None
 
 -- the eid of the entity that a tree describes, whose children are a list
 abbrev pub eid_in : Json → Option (List ℕ)
-eid_in tree = if is_some (list_under (codes "children") tree) then option_and_then if_eid (option_and_then text_in (member (codes "eid") tree)) else None
+eid_in tree = if is_some (list_under (codes "children") tree)
+    then option_and_then if_eid (option_and_then text_in (member (codes "eid") tree)) else None
 
 -- the entity that a tree describes
 abbrev pub described : Bool → Json → Described
@@ -51,7 +53,8 @@ described is_child tree = record {
 -- the entities described under a tree, this many levels down, each before its children
 abbrev pub below : ℕ → Json → List Described
 below zero tree = []
-below (suc levels) tree = flat_map (λ child. described true child ∷ below levels child) (children_in tree)
+below (suc levels) tree = flat_map (λ child. described true child ∷ below levels child)
+    (children_in tree)
 
 -- the entity that a tree describes, and all under it
 abbrev pub family : Bool → Json → List Described

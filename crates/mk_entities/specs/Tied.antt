@@ -5,4 +5,5 @@ use Rattle.mk_entities.specs.Creation.{number_of}
 
 -- each entity is the first of its simulator with its eid
 abbrev pub IsFound : List EntityInfo → Type 0
-IsFound entities = (i : ℕ) (entity : EntityInfo) → slice_get entities i ≡ Some entity → number_of entities entity.sim entity.eid ≡ Some i
+IsFound entities = (i : ℕ) (entity : EntityInfo) → slice_get entities i ≡ Some entity
+    → number_of entities entity.sim entity.eid ≡ Some i

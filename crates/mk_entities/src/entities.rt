@@ -71,10 +71,12 @@ impl Entities {
         meta: &Meta,
         reply: &Json,
     ) -> Result<(), CreateFault>
-        ensures ok { OnOk result (entities_added self.old sim group num model.now meta.now reply.now ≡ Ok self.new) }
+        ensures ok { OnOk result (entities_added self.old sim group num model.now meta.now reply.now
+            ≡ Ok self.new) }
         ensures kept { OnOk result (BeginsWith self.new self.old) }
         ensures unchanged { IfErr result (λ e. self.new ≡ self.old) }
-        ensures refused { IfErr result (λ e. (e ≡ CreateFault.Mem) ⊎ (entities_added self.old sim group num model.now meta.now reply.now ≡ Err e)) }
+        ensures refused { IfErr result (λ e. (e ≡ CreateFault.Mem)
+            ⊎ (entities_added self.old sim group num model.now meta.now reply.now ≡ Err e)) }
     {
         let outer = items_of(reply);
         if outer.len() != num as usize {

@@ -37,12 +37,16 @@ pub fn extend(
 ) -> Result<(), CreateFault>
     requires few { length kept.old.items ≤ most_entities }
     requires tied { names.old ≡ numbered asked.now.sim.0 0 kept.old.items }
-    ensures ok { OnOk result (with_entities kept.old.items asked.now.sim asked.now.group asked.now.model.now asked.now.meta.now entities.now ≡ Ok kept.new.items) }
+    ensures ok { OnOk result
+        (with_entities kept.old.items asked.now.sim asked.now.group asked.now.model.now
+        asked.now.meta.now entities.now ≡ Ok kept.new.items) }
     ensures few { length kept.new.items ≤ most_entities }
     ensures tied { names.new ≡ numbered asked.now.sim.0 0 kept.new.items }
     ensures kept { OnOk result (BeginsWith kept.new.items kept.old.items) }
     ensures unchanged { IfErr result (λ e. kept.new.items ≡ kept.old.items) }
-    ensures refused { IfErr result (λ e. (e ≡ CreateFault.Mem) ⊎ (with_entities kept.old.items asked.now.sim asked.now.group asked.now.model.now asked.now.meta.now entities.now ≡ Err e)) }
+    ensures refused { IfErr result (λ e. (e ≡ CreateFault.Mem)
+        ⊎ (with_entities kept.old.items asked.now.sim asked.now.group asked.now.model.now
+        asked.now.meta.now entities.now ≡ Err e)) }
 {
     let before = names.len();
     match put_entities(alloc, kept, names, asked, entities) {
@@ -71,7 +75,9 @@ fn put_entities(
 ) -> Result<Option<CreateFault>, Mem>
     requires few { length kept.old.items ≤ most_entities }
     requires tied { names.old ≡ numbered asked.now.sim.0 0 kept.old.items }
-    ensures told { IfOk result (λ fault. with_entities kept.old.items asked.now.sim asked.now.group asked.now.model.now asked.now.meta.now entities.now ≡ outcome kept.new.items fault) }
+    ensures told { IfOk result
+        (λ fault. with_entities kept.old.items asked.now.sim asked.now.group asked.now.model.now
+        asked.now.meta.now entities.now ≡ outcome kept.new.items fault) }
     ensures few { length kept.new.items ≤ most_entities }
     ensures tied { result ≡ Ok None → names.new ≡ numbered asked.now.sim.0 0 kept.new.items }
     ensures kept { result ≡ Ok None → BeginsWith kept.new.items kept.old.items }
@@ -99,7 +105,8 @@ fn name_all(
     entities: &[Described],
 ) -> Result<Option<CreateFault>, Mem>
     requires { count ≤ most_entities }
-    ensures told { IfOk result (λ fault. fault ≡ first_fault names.old count asked.now.model.now asked.now.meta.now entities.now) }
+    ensures told { IfOk result (λ fault. fault
+        ≡ first_fault names.old count asked.now.model.now asked.now.meta.now entities.now) }
     ensures named { result ≡ Ok None → names.new ≡ names.old ++ named_from count entities.now }
     ensures few { result ≡ Ok None → count + length entities.now ≤ most_entities }
     ensures begins { BeginsWith names.new names.old }
@@ -122,8 +129,11 @@ fn name(
     entity: &Described,
 ) -> Result<Option<CreateFault>, Mem>
     requires { count + n ≤ most_entities }
-    ensures told { IfOk result (λ fault. fault ≡ entity_fault (number_in names.old) (count + n) asked.now.model.now asked.now.meta.now n entity.now) }
-    ensures named { result ≡ Ok None → names.new ≡ names.old ++ (unwrap_or entity.now.eid [], count + n) ∷ [] }
+    ensures told { IfOk result (λ fault. fault
+        ≡ entity_fault (number_in names.old)
+        (count + n) asked.now.model.now asked.now.meta.now n entity.now) }
+    ensures named { result ≡ Ok None
+        → names.new ≡ names.old ++ (unwrap_or entity.now.eid [], count + n) ∷ [] }
     ensures room { result ≡ Ok None → count + n < most_entities }
     ensures begins { BeginsWith names.new names.old }
 {
@@ -177,7 +187,8 @@ fn first_rel_fault(
     names: &Names,
     entities: &[Described],
 ) -> Result<Option<CreateFault>, Mem>
-    ensures { IfOk result (λ fault. fault ≡ first_there (map (rel_fault (number_in names.now)) entities.now)) }
+    ensures { IfOk result (λ fault. fault
+        ≡ first_there (map (rel_fault (number_in names.now)) entities.now)) }
 {
     for entity in entities {
         if let Some(fault) = rel_fault(alloc, names, entity)? {
@@ -203,7 +214,8 @@ fn rel_fault(alloc: Global, names: &Names, entity: &Described) -> Result<Option<
 
 // The first of the texts that is no eid.
 fn first_unknown<'a>(names: &Names, texts: &'a List<Text>) -> Option<&'a Text>
-    ensures { option_map (λ t. t.now) result ≡ find (λ text. not (is_some (number_in names.now text))) texts.now }
+    ensures { option_map (λ t. t.now) result
+        ≡ find (λ text. not (is_some (number_in names.now text))) texts.now }
 {
     for text in texts.as_slice() {
         if names.get(text.as_str()).is_none() {
@@ -229,7 +241,8 @@ fn make_all(
     asked: &Asked,
     entities: &[Described],
 ) -> Result<Vec<EntityInfo>, Mem>
-    ensures { IfOk result (λ made. made.items ≡ map (made_by (number_in names.now) asked.now.sim asked.now.group) entities.now) }
+    ensures { IfOk result (λ made. made.items
+        ≡ map (made_by (number_in names.now) asked.now.sim asked.now.group) entities.now) }
 {
     let mut made = Vec::new(alloc);
     for entity in entities {
@@ -239,7 +252,8 @@ fn make_all(
 }
 
 fn make(alloc: Global, names: &Names, asked: &Asked, entity: &Described) -> Result<EntityInfo, Mem>
-    ensures { IfOk result (λ made. made ≡ made_by (number_in names.now) asked.now.sim asked.now.group entity.now) }
+    ensures { IfOk result (λ made. made
+        ≡ made_by (number_in names.now) asked.now.sim asked.now.group entity.now) }
 {
     let eid = text_or_empty(alloc, &entity.eid)?;
     let model = text_or_empty(alloc, &entity.kind)?;
@@ -269,7 +283,8 @@ fn related_of(alloc: Global, names: &Names, entity: &Described) -> Result<List<u
 }
 
 fn put_rel(names: &Names, rel: &Option<List<Text>>, into: &mut BTreeSet<u32>) -> Result<(), Mem>
-    ensures { OnOk result (into.new.keys ≡ with_numbers into.old.keys (filter_map (number_in names.now) (unwrap_or rel.now []))) }
+    ensures { OnOk result (into.new.keys
+        ≡ with_numbers into.old.keys (filter_map (number_in names.now) (unwrap_or rel.now []))) }
 {
     match rel {
         Some(texts) => put_numbers(names, texts, into),
@@ -278,7 +293,8 @@ fn put_rel(names: &Names, rel: &Option<List<Text>>, into: &mut BTreeSet<u32>) ->
 }
 
 fn put_numbers(names: &Names, texts: &List<Text>, into: &mut BTreeSet<u32>) -> Result<(), Mem>
-    ensures { OnOk result (into.new.keys ≡ with_numbers into.old.keys (filter_map (number_in names.now) texts.now)) }
+    ensures { OnOk result (into.new.keys
+        ≡ with_numbers into.old.keys (filter_map (number_in names.now) texts.now)) }
 {
     for text in texts.as_slice() {
         put_number(names.get(text.as_str()), into)?;

@@ -44,7 +44,12 @@ says b size = if balks b then write.NotYet else write.Put (min b.bite size)
 
 -- after one more call, which failed or didn't
 abbrev pub after_answer : Bool → Failing → Failing
-after_answer failed f = record { numbers = f.numbers; calls = next_count f.calls; faults = if failed then next_count f.faults else f.faults }
+after_answer failed f = record {
+  numbers = f.numbers;
+  calls = next_count f.calls;
+  faults = if failed
+      then next_count f.faults else f.faults;
+}
 
 -- the next call is one of those that fail, or these entries don't fit
 abbrev pub refuses : MemFleet → List LogEntry → Bool
@@ -52,7 +57,8 @@ refuses f entries = fails_now f.failing || not (has_room entries f.diary)
 
 -- a read into so many bytes fails
 abbrev pub read_fails : MemFleet → LinkNo → ℕ → Bool
-read_fails f link size = refuses f (read_entries link (hears f.wires link size) (bytes_on f.wires link))
+read_fails f link size = refuses f
+    (read_entries link (hears f.wires link size) (bytes_on f.wires link))
 
 -- a write of these bytes fails
 abbrev pub write_fails : MemFleet → LinkNo → List ℕ → Bool

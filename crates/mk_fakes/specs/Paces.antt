@@ -12,7 +12,8 @@ no_writes bite balk = record { bite = bite; balk = balk; writes = 0 }
 abbrev pub one_more_write : Biting → Biting
 one_more_write b = record { bite = b.bite; balk = b.balk; writes = next_count b.writes }
 
--- the next write takes nothing: its number, counted from 1, is a multiple of `balk`, and that isn't 0
+-- the next write takes nothing: its number, counted from 1, is a multiple of `balk`, and that isn't
+-- 0
 abbrev pub balks : Biting → Bool
 balks b = not (b.balk == 0) && (next_count b.writes % b.balk == 0)
 

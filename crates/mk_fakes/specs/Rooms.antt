@@ -22,7 +22,8 @@ byte_count (e ∷ es) = length (bytes_by e) + byte_count es
 
 -- the entries are no more than there is room for, and so are their bytes
 abbrev pub fit_in : ℕ → ℕ → List LogEntry → Bool
-fit_in notes_room bytes_room entries = not (nat_lt notes_room (length entries)) && not (nat_lt bytes_room (byte_count entries))
+fit_in notes_room bytes_room entries = not (nat_lt notes_room (length entries))
+    && not (nat_lt bytes_room (byte_count entries))
 
 -- there is room for these entries behind the others
 abbrev pub has_room : List LogEntry → Telling → Bool

@@ -29,7 +29,8 @@ next_chunk w link = option_and_then (λ l. slice_get l.rest 0) (slice_get w.line
 abbrev pub given : Wiring → Chunk → Option (List ℕ)
 given w c = if nat_lt (said_to w c.on) c.after then None else Some c.bytes
 
--- what is coming on a link: what is left of its next chunk, once that is given; no bytes are the link's end
+-- what is coming on a link: what is left of its next chunk, once that is given; no bytes are the
+-- link's end
 abbrev pub coming : Wiring → LinkNo → Option (List ℕ)
 coming w link = option_and_then (given w) (next_chunk w link)
 
@@ -49,13 +50,19 @@ changed_at change (suc i) (x ∷ xs) = x ∷ changed_at change i xs
 
 -- with one link changed
 abbrev pub on_line : LinkNo → (Line → Line) → Wiring → Wiring
-on_line link change w = record { started = w.started; links = w.links; chunks = w.chunks; lines = changed_at change link.0 w.lines }
+on_line link change w = record {
+  started = w.started;
+  links = w.links;
+  chunks = w.chunks;
+  lines = changed_at change link.0 w.lines;
+}
 
 -- the chunk without its first n bytes
 abbrev pub without_front : ℕ → Chunk → Chunk
 without_front n c = record { link = c.link; on = c.on; after = c.after; bytes = drop n c.bytes }
 
--- what is still to come after n bytes of the next chunk: the rest of it, if there is any, and the chunks behind it
+-- what is still to come after n bytes of the next chunk: the rest of it, if there is any, and the
+-- chunks behind it
 abbrev pub past : ℕ → List Chunk → List Chunk
 past n [] = []
 past n (c ∷ cs) = if nat_lt n (length c.bytes) then without_front n c ∷ cs else cs
@@ -66,11 +73,22 @@ heard n l = record { rest = past n l.rest; said = l.said; held_up = l.held_up }
 
 -- a link after n more bytes were said; held up, or not
 abbrev pub said_more : ℕ → Bool → Line → Line
-said_more n held_up l = record { rest = l.rest; said = min (l.said + n) (2 ^ 64 - 1); held_up = held_up }
+said_more n held_up l = record {
+  rest = l.rest;
+  said = min (l.said + n) (2 ^ 64 - 1);
+  held_up = held_up;
+}
 
--- after a start with this answer: a new link has all its chunks before it, and nothing was said on it
+-- after a start with this answer: a new link has all its chunks before it, and nothing was said on
+-- it
 abbrev pub after_start : Started → Wiring → Wiring
-after_start (started.Link link) w = record { started = w.started + 1; links = w.links ++ link ∷ []; chunks = w.chunks; lines = w.lines ++ (record { rest = chunks_of link w.chunks; said = 0; held_up = false }) ∷ [] }
+after_start (started.Link link) w = record {
+  started = w.started + 1;
+  links = w.links ++ link ∷ [];
+  chunks = w.chunks;
+  lines = w.lines
+      ++ (record { rest = chunks_of link w.chunks; said = 0; held_up = false }) ∷ [];
+}
 after_start started.Failed w = w
 after_start started.Mem w = w
 
@@ -89,4 +107,9 @@ after_write link write.Failed w = on_line link (said_more 0 false) w
 
 -- after a link was closed
 abbrev pub after_close : LinkNo → Wiring → Wiring
-after_close link w = record { started = w.started; links = without link w.links; chunks = w.chunks; lines = w.lines }
+after_close link w = record {
+  started = w.started;
+  links = without link w.links;
+  chunks = w.chunks;
+  lines = w.lines;
+}

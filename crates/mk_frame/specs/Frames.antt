@@ -18,7 +18,8 @@ IsProperPrefix part whole = (more : List ℕ) × (0 < length more) × (whole ≡
 -- fewer than four bytes, or a proper prefix of a frame whose length is allowed
 abbrev pub IsUnfinished : List ℕ → Type 0
 IsUnfinished held =
-    (length held < 4) ⊎ ((payload : List ℕ) × (length payload ≤ limit) × IsProperPrefix held (frame_of payload))
+    (length held < 4) ⊎ ((payload : List ℕ) × (length payload ≤ limit)
+    × IsProperPrefix held (frame_of payload))
 
 -- held begins with a header n above the limit
 abbrev pub IsTooLong : ℕ → List ℕ → Type 0
@@ -28,11 +29,15 @@ IsTooLong n held = (4 ≤ length held) × (big_number 4 held ≡ n) × (limit < 
 abbrev pub BeginsWithFrame : List ℕ → List ℕ → List ℕ → Type 0
 BeginsWithFrame held payload rest = (length payload ≤ limit) × (held ≡ frame_of payload ++ rest)
 
--- a feeder to which `fed` was fed in any pieces, which has given the payloads `given` and holds `held`
+-- a feeder to which `fed` was fed in any pieces, which has given the payloads `given` and holds
+-- `held`
 pub data Feeding : List ℕ → List (List ℕ) → List ℕ → Type 0 where
   begun : Feeding [] [] []
-  feeds : (fed : List ℕ) (given : List (List ℕ)) (held piece : List ℕ) → Feeding fed given held → Feeding (fed ++ piece) given (held ++ piece)
-  takes : (fed : List ℕ) (given : List (List ℕ)) (held payload rest : List ℕ) → Feeding fed given held → BeginsWithFrame held payload rest → Feeding fed (given ++ payload ∷ []) rest
+  feeds : (fed : List ℕ) (given : List (List ℕ)) (held piece : List ℕ) → Feeding fed given held
+      → Feeding (fed ++ piece) given (held ++ piece)
+  takes : (fed : List ℕ) (given : List (List ℕ)) (held payload rest : List ℕ)
+      → Feeding fed given held → BeginsWithFrame held payload rest
+      → Feeding fed (given ++ payload ∷ []) rest
 
 -- the frames of the payloads, joined
 abbrev pub frames_of : List (List ℕ) → List ℕ

@@ -64,7 +64,8 @@ impl Feeder {
     pub fn next(&mut self) -> Result<Framed, Mem>
         ensures answer { IfOk result (λ framed. NextOf self.old framed self.new) }
         ensures not_yet { IfOk result (λ framed. (framed ≡ Framed.NotYet) ↔ IsUnfinished self.old) }
-        ensures too_long { (n : ℕ) → IfOk result (λ framed. (framed ≡ Framed.TooLong n) ↔ IsTooLong n self.old) }
+        ensures too_long { (n : ℕ)
+            → IfOk result (λ framed. (framed ≡ Framed.TooLong n) ↔ IsTooLong n self.old) }
         ensures err { OnErr result (self.new ≡ self.old) }
     {
         let held = &self.buffer[self.given..];

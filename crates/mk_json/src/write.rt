@@ -46,7 +46,8 @@ pub fn put_json(alloc: Global, out: &mut Vec<u8>, tree: &Json) -> Result<(), Mem
     ensures ok { OnOk result (out.new.items ≡ out.old.items ++ text_of tree.now) }
     ensures err { OnErr result (out.new.items ≡ out.old.items) }
     ensures proper { OnOk result (is_proper tree.now ≡ true) }
-    ensures reads_back { OnOk result (nesting tree.now ≤ 127 → parsed (text_of tree.now) ≡ Some tree.now) }
+    ensures reads_back { OnOk result (nesting tree.now ≤ 127
+        → parsed (text_of tree.now) ≡ Some tree.now) }
 {
     let kept = out.as_slice().len();
     let mut writer = Writer::new(mem::replace(out, Vec::new(alloc)));
@@ -118,7 +119,8 @@ fn write_items(out: &mut Writer, items: &List<Json>) -> Result<(), AllocError>
 fn write_members(out: &mut Writer, members: &Members<Json>) -> Result<(), AllocError>
     requires { list_all (λ m. is_in_range m.1) members.now ≡ true }
     ensures ok { OnOk result (out.new.tokens
-        ≡ out.old.tokens ++ members_tokens (members_in (map (λ m. (m.0, outline m.1)) members.now))) }
+        ≡ out.old.tokens ++ members_tokens
+        (members_in (map (λ m. (m.0, outline m.1)) members.now))) }
     ensures proper { OnOk result (are_proper members.now ≡ true) }
     ensures before { out.new.before ≡ out.old.before }
 {

@@ -18,7 +18,8 @@ gap = None
 abbrev pub of_word : List Sign → Piece
 of_word signs = Some signs
 
--- the pieces of a template's marks; the quotation mark that opened the part that is being read, and its byte, or none outside of parts; or the mark of a part that doesn't end
+-- the pieces of a template's marks; the quotation mark that opened the part that is being read, and
+-- its byte, or none outside of parts; or the mark of a part that doesn't end
 abbrev pub pieces : Option (ℕ × ℕ) → List Mark → Result (List Piece) LaunchFault
 pieces None [] = Ok []
 pieces None (Space ∷ marks) = before gap (pieces None marks)
@@ -26,5 +27,7 @@ pieces None (Quote q i ∷ marks) = before (of_word []) (pieces (Some (q, i)) ma
 pieces None (Plain sign ∷ marks) = before (of_word (sign ∷ [])) (pieces None marks)
 pieces (Some (q, i)) [] = Err (BadQuote i)
 pieces (Some (q, i)) (Space ∷ marks) = before (of_word (Byte 32 ∷ [])) (pieces (Some (q, i)) marks)
-pieces (Some (q, i)) (Quote r j ∷ marks) = if q == r then pieces None marks else before (of_word (Byte r ∷ [])) (pieces (Some (q, i)) marks)
-pieces (Some (q, i)) (Plain sign ∷ marks) = before (of_word (sign ∷ [])) (pieces (Some (q, i)) marks)
+pieces (Some (q, i)) (Quote r j ∷ marks) = if q == r then pieces None marks
+    else before (of_word (Byte r ∷ [])) (pieces (Some (q, i)) marks)
+pieces (Some (q, i)) (Plain sign ∷ marks) = before (of_word (sign ∷ []))
+    (pieces (Some (q, i)) marks)

@@ -16,7 +16,8 @@ use Rattle.mk_launch.specs.Words.{template_words}
 abbrev pub has_kind : List (List ℕ) → List ℕ → Bool
 has_kind kinds kind = list_any (λ known. same_text known kind) kinds
 
--- why a simulator can't be begun so, the kinds having these names: its template has a fault, or there is no kind of its name
+-- why a simulator can't be begun so, the kinds having these names: its template has a fault, or
+-- there is no kind of its name
 abbrev pub begin_fault : List (List ℕ) → Begin → Option LaunchFault
 begin_fault kinds (Command template) = result_err (template_words template)
 begin_fault kinds (Connect port) = None

@@ -18,7 +18,8 @@ pub record Links : Type 0 where
 abbrev pub link_of : ℕ → LinkNo
 link_of n = record { 0 = n }
 
--- the place of a simulator's link, so many links having been started before: the next one, or none within the program
+-- the place of a simulator's link, so many links having been started before: the next one, or none
+-- within the program
 abbrev pub place_of : ℕ → Begin → Option LinkNo
 place_of n (Command template) = Some (link_of n)
 place_of n (Connect port) = Some (link_of n)
@@ -37,24 +38,34 @@ places n (sim ∷ more) = place_of n sim.begin ∷ places (n + link_count (place
 abbrev pub links_in : List (Option LinkNo) → List LinkNo
 links_in = flat_map option_to_list
 
--- these simulators were started: each has its place, and their links are open behind those that were open before
-pub record AreStarted (sims : List SimPart) (old new : Links) (put : List (Option LinkNo)) : Type 0 where
+-- these simulators were started: each has its place, and their links are open behind those that
+-- were open before
+pub record AreStarted (sims : List SimPart) (old new : Links)
+    (put : List (Option LinkNo)) : Type 0 where
   pub places : put ≡ places old.started sims
   pub started : new.started ≡ old.started + length (links_in put)
   pub links : new.links ≡ old.links ++ links_in put
 
 -- one link more was started, found no memory for its place, and has been closed
-pub record AreStartedAndOneClosed (sims : List SimPart) (old new : Links) (put : List (Option LinkNo)) : Type 0 where
+pub record AreStartedAndOneClosed (sims : List SimPart) (old new : Links)
+    (put : List (Option LinkNo)) : Type 0 where
   pub places : put ≡ places old.started sims
   pub started : new.started ≡ old.started + length (links_in put) + 1
-  pub links : new.links ≡ without (link_of (old.started + length (links_in put))) (old.links ++ links_in put)
+  pub links : new.links
+      ≡ without (link_of (old.started + length (links_in put))) (old.links ++ links_in put)
 
--- the links have numbers below that of the next one, so many having been started, as fleets number them
+-- the links have numbers below that of the next one, so many having been started, as fleets number
+-- them
 abbrev pub AreNumbered : ℕ → List LinkNo → Type 0
 AreNumbered started links = Each (λ (link : LinkNo). link.0 < started) links
 
--- what an answer says: all simulators were started; or those before the one at which the fleet failed; or so many of the first ones, and memory was wanting
-abbrev pub AllStarted : Result (Unit {0}) StartFault → List SimPart → Links → Links → List (Option LinkNo) → Type 0
+-- what an answer says: all simulators were started; or those before the one at which the fleet
+-- failed; or so many of the first ones, and memory was wanting
+abbrev pub AllStarted : Result (Unit {0}) StartFault → List SimPart → Links → Links
+    → List (Option LinkNo) → Type 0
 AllStarted (Ok done) sims old new put = AreStarted sims old new put
-AllStarted (Err (Failed sim)) sims old new put = (sim.0 < length sims) × AreStarted (take sim.0 sims) old new put
-AllStarted (Err Mem) sims old new put = (count : ℕ) × (count < length sims) × (AreStarted (take count sims) old new put ⊎ AreStartedAndOneClosed (take count sims) old new put)
+AllStarted (Err (Failed sim)) sims old new put = (sim.0 < length sims)
+    × AreStarted (take sim.0 sims) old new put
+AllStarted (Err Mem) sims old new put = (count : ℕ) × (count < length sims)
+    × (AreStarted (take count sims) old new put
+    ⊎ AreStartedAndOneClosed (take count sims) old new put)

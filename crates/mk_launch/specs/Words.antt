@@ -40,7 +40,8 @@ abbrev pub words_of_marks : Result (List Mark) LaunchFault → Result (List (Lis
 words_of_marks (Ok found) = words_of_pieces (pieces None found)
 words_of_marks (Err fault) = Err fault
 
--- the words of a template, or its first fault: a wrong per cent sign, else a part that doesn't end, else that it has no word
+-- the words of a template, or its first fault: a wrong per cent sign, else a part that doesn't end,
+-- else that it has no word
 abbrev pub template_words : List ℕ → Result (List (List Sign)) LaunchFault
 template_words template = words_of_marks (marks 0 0 template)
 
@@ -58,7 +59,8 @@ abbrev pub word_text : List ℕ → List Sign → List ℕ
 word_text address = flat_map (sign_text address)
 
 -- the words' bytes
-abbrev pub word_texts : List ℕ → Result (List (List Sign)) LaunchFault → Result (List (List ℕ)) LaunchFault
+abbrev pub word_texts : List ℕ → Result (List (List Sign)) LaunchFault
+    → Result (List (List ℕ)) LaunchFault
 word_texts address (Ok words) = Ok (map (word_text address) words)
 word_texts address (Err fault) = Err fault
 

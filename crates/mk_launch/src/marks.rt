@@ -33,7 +33,8 @@ pub fn split_front<'a>(rest: &'a str) -> Option<(Front, &'a str)>
 
 // What follows the beginning, if the text has it.
 fn behind<'a>(start: &str, text: &'a str) -> Option<&'a str>
-    ensures { MatchOption result ((v : List ℕ) → text.entry.now ≡ start.now ++ v → ⊥) (λ v. text.entry.now ≡ start.now ++ v.now) }
+    ensures { MatchOption result ((v : List ℕ) → text.entry.now ≡ start.now ++ v
+        → ⊥) (λ v. text.entry.now ≡ start.now ++ v.now) }
 {
     text.strip_prefix(start)
 }

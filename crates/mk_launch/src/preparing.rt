@@ -16,7 +16,8 @@ use std::alloc::Global;
 pub fn prepare(alloc: Global, scenario: &Scenario, kinds: &List<Text>) -> Result<(), Unready>
     requires { length scenario.now.sims < 2 ^ 32 }
     ensures prepared { OnOk result (IsPrepared scenario.now kinds.now) }
-    ensures unready { IfErr result (λ unready. (unready.fault ≡ faults.Mem) ⊎ IsFirstFault scenario.now kinds.now unready) }
+    ensures unready { IfErr result (λ unready. (unready.fault ≡ faults.Mem)
+        ⊎ IsFirstFault scenario.now kinds.now unready) }
 {
     for (i, sim) in scenario.sims.as_slice().iter().enumerate() {
         if let Err(fault) = test_begin(alloc, &sim.begin, kinds) {
@@ -32,7 +33,8 @@ pub fn prepare(alloc: Global, scenario: &Scenario, kinds: &List<Text>) -> Result
 // Whether a simulator can be begun so.
 fn test_begin(alloc: Global, begin: &Begin, kinds: &List<Text>) -> Result<(), LaunchFault>
     ensures ok { OnOk result (begin_fault kinds.now begin.now ≡ None) }
-    ensures err { IfErr result (λ fault. (fault ≡ faults.Mem) ⊎ (begin_fault kinds.now begin.now ≡ Some fault)) }
+    ensures err { IfErr result (λ fault. (fault ≡ faults.Mem)
+        ⊎ (begin_fault kinds.now begin.now ≡ Some fault)) }
 {
     match begin {
         Begin::Command(template) => test_template(alloc, template),
@@ -44,7 +46,8 @@ fn test_begin(alloc: Global, begin: &Begin, kinds: &List<Text>) -> Result<(), La
 // Whether a template has words; the port doesn't matter.
 fn test_template(alloc: Global, template: &Text) -> Result<(), LaunchFault>
     ensures ok { OnOk result (result_err (template_words template.now) ≡ None) }
-    ensures err { IfErr result (λ fault. (fault ≡ faults.Mem) ⊎ (result_err (template_words template.now) ≡ Some fault)) }
+    ensures err { IfErr result (λ fault. (fault ≡ faults.Mem)
+        ⊎ (result_err (template_words template.now) ≡ Some fault)) }
 {
     match words(alloc, template, 0) {
         Ok(_) => Ok(()),
@@ -54,7 +57,8 @@ fn test_template(alloc: Global, template: &Text) -> Result<(), LaunchFault>
 
 fn test_kind(kind: &Text, kinds: &List<Text>) -> Result<(), LaunchFault>
     ensures ok { OnOk result (has_kind kinds.now kind.now ≡ true) }
-    ensures err { IfErr result (λ fault. (fault ≡ faults.NoKind) × (has_kind kinds.now kind.now ≡ false)) }
+    ensures err { IfErr result (λ fault. (fault ≡ faults.NoKind)
+        × (has_kind kinds.now kind.now ≡ false)) }
 {
     if has_kind(kinds.as_slice(), kind.as_str()) {
         Ok(())

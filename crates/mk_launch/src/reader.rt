@@ -45,7 +45,8 @@ impl Model for Reader {
 
 impl Reader {
     pub fn new(alloc: Global, port: u16) -> Result<Reader, Mem>
-        ensures { IfOk result (λ r. r ≡ record { address = address_at port; done = []; word = None; part = None }) }
+        ensures { IfOk result (λ r. r
+            ≡ record { address = address_at port; done = []; word = None; part = None }) }
     {
         Ok(Reader {
             alloc,
@@ -59,7 +60,8 @@ impl Reader {
     // Takes what stands at byte `at`.
     pub fn read(&mut self, front: Front, at: u64) -> Result<(), LaunchFault>
         ensures ok { OnOk result (IsReadOf front self.old at self.new) }
-        ensures err { IfErr result (λ fault. (fault ≡ faults.Mem) ⊎ ((front ≡ Front.Stray) × (fault ≡ faults.BadPlace at))) }
+        ensures err { IfErr result (λ fault. (fault ≡ faults.Mem)
+            ⊎ ((front ≡ Front.Stray) × (fault ≡ faults.BadPlace at))) }
     {
         match front {
             Front::Space => Ok(self.space()?),

@@ -43,7 +43,8 @@ pub fn start_all<F: Fleet>(
     ensures started { AllStarted result scenario.now.sims
         (record { started = F.started fleet.old; links = F.open_links fleet.old })
         (record { started = F.started fleet.new; links = F.open_links fleet.new }) links.new }
-    ensures cause { IfErr result (λ fault. (fault ≡ faults.Mem) ⊎ HasRisen (F.faults fleet.old) (F.faults fleet.new)) }
+    ensures cause { IfErr result (λ fault. (fault ≡ faults.Mem)
+        ⊎ HasRisen (F.faults fleet.old) (F.faults fleet.new)) }
     ensures count { F.faults fleet.old ≤ F.faults fleet.new }
     ensures logged { Adds [] (F.log fleet.old) (F.log fleet.new) }
 {
@@ -67,8 +68,10 @@ fn put_place<F: Fleet>(
     place: Option<LinkNo>,
 ) -> Result<(), Mem>
     requires { IfSome place (λ link. IsIn link (F.open_links fleet.old)) }
-    ensures put { OnOk result ((links.new ≡ links.old ++ place ∷ []) × (F.open_links fleet.new ≡ F.open_links fleet.old)) }
-    ensures closed { OnErr result ((links.new ≡ links.old) × (F.open_links fleet.new ≡ without_place place (F.open_links fleet.old))) }
+    ensures put { OnOk result ((links.new ≡ links.old ++ place ∷ [])
+        × (F.open_links fleet.new ≡ F.open_links fleet.old)) }
+    ensures closed { OnErr result ((links.new ≡ links.old)
+        × (F.open_links fleet.new ≡ without_place place (F.open_links fleet.old))) }
     ensures same_count { F.started fleet.new ≡ F.started fleet.old }
     ensures count { F.faults fleet.old ≤ F.faults fleet.new }
     ensures logged { Adds [] (F.log fleet.old) (F.log fleet.new) }

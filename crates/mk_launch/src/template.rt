@@ -18,7 +18,8 @@ use std::alloc::Global;
 /// word.
 pub fn words(alloc: Global, template: &Text, port: u16) -> Result<List<Text>, LaunchFault>
     ensures words { IfOk result (λ words. words_of template.now port ≡ Ok words) }
-    ensures fault { IfErr result (λ fault. (fault ≡ faults.Mem) ⊎ (words_of template.now port ≡ Err fault)) }
+    ensures fault { IfErr result (λ fault. (fault ≡ faults.Mem)
+        ⊎ (words_of template.now port ≡ Err fault)) }
 {
     let text = template.as_str();
     let mut reader = Reader::new(alloc, port)?;

@@ -15,7 +15,8 @@ if_hybrid TimeBased attrs = []
 if_hybrid EventBased attrs = []
 if_hybrid Hybrid attrs = attrs
 
--- the model of a kind, which may be created, has one parameter, and takes no inputs but its own; in a hybrid simulator its input triggers and its output is an event
+-- the model of a kind, which may be created, has one parameter, and takes no inputs but its own; in
+-- a hybrid simulator its input triggers and its output is an event
 abbrev pub model_meta_of : Turn → ModelMeta
 model_meta_of T = record {
   name = model_of T;

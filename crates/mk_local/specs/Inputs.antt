@@ -19,7 +19,8 @@ is_within n = int_le (negsuc 9223372036854775807) n && int_le n (pos 92233720368
 
 -- the number that the text of a value writes, or 0 where it writes no whole number within 64 bits
 abbrev pub number_in : List ℕ → ℤ
-number_in text = if is_numeral (without_leading_sign text) && is_within (signed_digits_value 10 text) then signed_digits_value 10 text else pos 0
+number_in text = if is_numeral (without_leading_sign text)
+    && is_within (signed_digits_value 10 text) then signed_digits_value 10 text else pos 0
 
 -- the kind takes inputs at the attribute
 abbrev pub takes : Turn → List ℕ → Bool

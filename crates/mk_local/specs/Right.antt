@@ -23,7 +23,8 @@ use Rattle.mk_local.specs.Replies.{after_item, item_reply, replies}
 use Rattle.mk_local.specs.Rows.{IsStepOf, IsStepTime}
 use Rattle.mk_local.specs.Simulators.{Simulator}
 
--- the plan's simulator i fits the kind: it has the kind's type, and nothing of an entity called `time` is wanted of it
+-- the plan's simulator i fits the kind: it has the kind's type, and nothing of an entity called
+-- `time` is wanted of it
 pub record Fits (P : Plan) (i : ℕ) (L : Simulator) : Type 0 where
   pub kind : kind_of P i ≡ type_of L.kind
   pub wants : Each (λ (w : Want). w.eid ≢ codes "time") (wanted P i)
@@ -31,13 +32,17 @@ pub record Fits (P : Plan) (i : ℕ) (L : Simulator) : Type 0 where
 
 -- the reply to each Step is right there
 abbrev pub AreStepRepliesRight : Type 0
-AreStepRepliesRight = (P : Plan) (i : ℕ) (L : Simulator) → Fits P i L → (x : Tier) → IsStepTime x.time → (inputs : List Input) (advance : _) (id asks : ℕ) (m : Message)
+AreStepRepliesRight = (P : Plan) (i : ℕ) (L : Simulator) → Fits P i L → (x : Tier)
+    → IsStepTime x.time → (inputs : List Input) (advance : _) (id asks : ℕ) (m : Message)
     → item_reply L id (Step x inputs advance) ≡ Some m → wrong P i (Stepping x id asks) m ≡ None
 
 -- the reply to each GetData that follows a Step is right there
 abbrev pub AreDataRepliesRight : Type 0
-AreDataRepliesRight = (P : Plan) (i : ℕ) (L : Simulator) → Fits P i L → (x : Tier) → IsStepTime x.time → (inputs : List Input) (advance : _) (asked : List Want) (id : ℕ) (m : Message)
-    → item_reply (after_item L (Step x inputs advance)) id (GetData asked) ≡ Some m → wrong P i (Fetching x id) m ≡ None
+AreDataRepliesRight = (P : Plan) (i : ℕ) (L : Simulator) → Fits P i L → (x : Tier)
+    → IsStepTime x.time → (inputs : List Input) (advance : _) (asked : List Want) (id : ℕ)
+    (m : Message)
+    → item_reply (after_item L (Step x inputs advance)) id (GetData asked) ≡ Some m
+    → wrong P i (Fetching x id) m ≡ None
 
 -- the item has an id of its own: it is a Step or a GetData
 abbrev pub takes_id : Item → Bool
@@ -56,22 +61,29 @@ last_of [] = None
 last_of (m ∷ []) = Some m
 last_of (m ∷ n ∷ ms) = last_of (n ∷ ms)
 
--- what the simulator sent last after these items is a success with the id of the last of them, and right there
-pub record EndsRight (P : Plan) (i : ℕ) (L : Simulator) (first : ℕ) (items : List Item) (id : ℕ) (place : Place) : Type 0 where
+-- what the simulator sent last after these items is a success with the id of the last of them, and
+-- right there
+pub record EndsRight (P : Plan) (i : ℕ) (L : Simulator) (first : ℕ) (items : List Item) (id : ℕ)
+    (place : Place) : Type 0 where
   pub content : tree.Json
   pub sent : last_of (replies L first items) ≡ Some (Success id content)
   pub right : wrong P i place (Success id content) ≡ None
 
--- whatever the simulator was sent before, its reply to a Step is right, and so is its reply to the GetData behind that
+-- whatever the simulator was sent before, its reply to a Step is right, and so is its reply to the
+-- GetData behind that
 abbrev pub AreRightInOrder : Type 0
-AreRightInOrder = (P : Plan) (i : ℕ) (L : Simulator) → Fits P i L → (first : ℕ) (before : List Item) (x : Tier) → IsStepTime x.time → (inputs : List Input) (advance : ℤ) (asked : List Want)
+AreRightInOrder = (P : Plan) (i : ℕ) (L : Simulator) → Fits P i L
+    → (first : ℕ) (before : List Item) (x : Tier) → IsStepTime x.time
+    → (inputs : List Input) (advance : ℤ) (asked : List Want)
     → (let id = id_after first before in
     EndsRight P i L first (before ++ Step x inputs advance ∷ []) id (Stepping x id 0)
-    × EndsRight P i L first ((before ++ Step x inputs advance ∷ []) ++ GetData asked ∷ []) (id + 1) (Fetching x (id + 1)))
+    × EndsRight P i L first ((before ++ Step x inputs advance ∷ [])
+    ++ GetData asked ∷ []) (id + 1) (Fetching x (id + 1)))
 
 -- max_advance makes no difference to what a simulator sends
 abbrev pub AreBareRepliesSame : Type 0
-AreBareRepliesSame = (L : Simulator) (first : ℕ) (items : List Item) → replies L first (map bare items) ≡ replies L first items
+AreBareRepliesSame = (L : Simulator) (first : ℕ) (items : List Item)
+    → replies L first (map bare items) ≡ replies L first items
 
 -- the text of a whole number within 64 bits is read as that number
 abbrev pub AreNumbersRead : Type 0

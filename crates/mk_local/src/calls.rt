@@ -33,7 +33,8 @@ pub fn create_content(
     model: &Text,
     params: &Json,
 ) -> Result<Result<Json, Text>, Mem>
-    ensures { IfOk result (λ content. content ≡ create_content turn count num model.now params.now) }
+    ensures { IfOk result (λ content. content
+        ≡ create_content turn count num model.now params.now) }
 {
     if model.as_str() != model_of(turn) {
         return Ok(Err(Text::of(alloc, "unknown model")?));

@@ -53,7 +53,8 @@ fn nothing_taken(alloc: Global, count: usize) -> Result<List<Taken>, Mem>
 // One more input, where it is one of these entities.
 fn put_input(turn: Turn, all: &mut List<Taken>, input: &Input)
     ensures count { length all.new ≡ length all.old }
-    ensures taken { (before : List Input) → AreTaken turn before all.old → AreTaken turn (before ++ input.now ∷ []) all.new }
+    ensures taken { (before : List Input) → AreTaken turn before all.old
+        → AreTaken turn (before ++ input.now ∷ []) all.new }
 {
     let Some(place) = place_of(turn, all.len(), input) else {
         return;
@@ -66,7 +67,8 @@ fn put_input(turn: Turn, all: &mut List<Taken>, input: &Input)
 fn place_of(turn: Turn, count: usize, input: &Input) -> Option<usize>
     ensures within { IfSome result (λ k. k < count) }
     ensures own { IfSome result (λ k. is_input_of turn (decimal k) input.now ≡ true) }
-    ensures others { (k : ℕ) → k < count → is_input_of turn (decimal k) input.now ≡ true → result ≡ Some k }
+    ensures others { (k : ℕ) → k < count → is_input_of turn (decimal k) input.now ≡ true
+        → result ≡ Some k }
 {
     if takes(turn, input.attr.as_str()) {
         place_named(count, input.eid.as_str())

@@ -37,8 +37,19 @@ pub fn take_turns(
 ) -> Result<Turned, Mem>
     requires step { IsStepOf kind.now.turn pace.now.step }
     requires time { IsStepTime pace.now.time }
-    ensures entities { IfOk result (λ t. t.entities ≡ (after_step (record { kind = kind.now.turn; step = pace.now.step; entities = entities.now }) pace.now.time inputs.now).entities) }
-    ensures least { IfOk result (λ t. t.least ≡ least (filter_map (λ t. t.next) (turns (record { kind = kind.now.turn; step = pace.now.step; entities = entities.now }) pace.now.time inputs.now))) }
+    ensures entities { IfOk result (λ t. t.entities
+        ≡ (after_step (record {
+          kind = kind.now.turn;
+          step = pace.now.step;
+          entities = entities.now;
+        }) pace.now.time inputs.now).entities) }
+    ensures least { IfOk result (λ t. t.least
+        ≡ least (filter_map (λ t. t.next)
+        (turns (record {
+          kind = kind.now.turn;
+          step = pace.now.step;
+          entities = entities.now;
+        }) pace.now.time inputs.now))) }
 {
     let mut found = Turned {
         entities: List::new(alloc),
@@ -56,7 +67,12 @@ pub fn take_turns(
 
 // The content of the reply to a Step, where the entities give this least next time.
 pub fn step_content(turn: Turn, pace: &Pace, entities: &List<Entity>, least: Option<i64>) -> Json
-    ensures { result ≡ number_or_null (own_next (record { kind = turn; step = pace.now.step; entities = entities.now }) pace.now.time least) }
+    ensures { result ≡ number_or_null
+        (own_next (record {
+          kind = turn;
+          step = pace.now.step;
+          entities = entities.now;
+        }) pace.now.time least) }
 {
     if entities.is_empty() && type_of(turn) == SimKind::TimeBased {
         Json::Whole(pace.time.saturating_add(pace.step) as i128)
@@ -78,7 +94,15 @@ fn number_or_null(n: Option<i64>) -> Json
 fn entity_turn(kind: &Kind, pace: &Pace, taken: &Taken, entity: &Entity) -> EntityTurn
     requires step { IsStepOf kind.now.turn pace.now.step }
     requires time { IsStepTime pace.now.time }
-    ensures { result ≡ row kind.now.turn (record { step = pace.now.step; setting = entity.now.setting; state = entity.now.state; time = pace.now.time; seen = taken.now.seen; sum = taken.now.sum }) }
+    ensures { result ≡ row kind.now.turn
+        (record {
+          step = pace.now.step;
+          setting = entity.now.setting;
+          state = entity.now.state;
+          time = pace.now.time;
+          seen = taken.now.seen;
+          sum = taken.now.sum;
+        }) }
 {
     kind.take(EntityStep {
         step: pace.step,

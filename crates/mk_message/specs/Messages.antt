@@ -23,7 +23,8 @@ three_in tree = option_and_then three_of (items_in tree)
 
 -- which kind of message a number stands for
 abbrev pub kind_numbered : ℤ → Option Kind
-kind_numbered n = if int_eq n (pos 0) then Some kind.Request else if int_eq n (pos 1) then Some kind.Success else if int_eq n (pos 2) then Some kind.Failure else None
+kind_numbered n = if int_eq n (pos 0) then Some kind.Request else if int_eq n (pos 1)
+    then Some kind.Success else if int_eq n (pos 2) then Some kind.Failure else None
 
 -- the tree is 0, 1 or 2
 abbrev pub kind_in : Json → Option Kind
@@ -39,7 +40,10 @@ id_in tree = option_and_then id_numbered (whole_in tree)
 
 -- the tree is a function's name, its positional arguments and an object of its keyword arguments
 abbrev pub request_in : ℕ → Json → Option Message
-request_in id tree = option_and_then (λ (p : Json × Json × Json). option_and_then (λ name. option_and_then (λ args. if is_object p.2 then Some (Ask id name args p.2) else None) (items_in p.1)) (text_in p.0)) (three_in tree)
+request_in id tree = option_and_then (λ (p : Json × Json
+    × Json). option_and_then
+    (λ name. option_and_then (λ args. if is_object p.2 then Some (Ask id name args p.2)
+    else None) (items_in p.1)) (text_in p.0)) (three_in tree)
 
 -- the tree is what the content of such a message may be
 abbrev pub content_in : Kind → ℕ → Json → Option Message
@@ -52,9 +56,12 @@ abbrev pub tested : {A B : Type 0} → ℕ → Option A → (A → Result B ℕ)
 tested number None next = Err number
 tested number (Some x) next = next x
 
--- the tests of a tree, after the first: it is a list of three, its first item is a kind, its second an id, and its third a content of that kind
+-- the tests of a tree, after the first: it is a list of three, its first item is a kind, its second
+-- an id, and its third a content of that kind
 abbrev pub message_in : Json → Result Message ℕ
-message_in tree = tested 2 (three_in tree) (λ (p : Json × Json × Json). tested 3 (kind_in p.0) (λ kind. tested 4 (id_in p.1) (λ id. tested 5 (content_in kind id p.2) (λ m. Ok m))))
+message_in tree = tested 2 (three_in tree) (λ (p : Json × Json
+    × Json). tested 3 (kind_in p.0)
+    (λ kind. tested 4 (id_in p.1) (λ id. tested 5 (content_in kind id p.2) (λ m. Ok m))))
 
 -- the tests of a payload, the first being that it is JSON
 abbrev pub message_of : List ℕ → Result Message ℕ

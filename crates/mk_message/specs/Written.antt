@@ -19,7 +19,8 @@ use Rattle.mk_plan.specs.declared.Want.{Want}
 
 -- a request: [0,ID,[NAME,[ARGUMENTS],KEYWORDS]]
 abbrev pub request_text : ℕ → List ℕ → List (List ℕ) → List ℕ → List ℕ
-request_text id name args named = list_text (codes "0" ∷ decimal id ∷ list_text (quoted name ∷ list_text args ∷ named ∷ []) ∷ [])
+request_text id name args named = list_text (codes "0" ∷ decimal id
+    ∷ list_text (quoted name ∷ list_text args ∷ named ∷ []) ∷ [])
 
 -- a success: [1,ID,CONTENT]
 abbrev pub success_text : ℕ → List ℕ → List ℕ
@@ -31,9 +32,12 @@ failure_text id text = list_text (codes "2" ∷ decimal id ∷ quoted text ∷ [
 
 -- the tree of a message: [TYPE,ID,CONTENT]
 abbrev pub message_tree : Message → Json
-message_tree (Ask id name args named) = tree.List (tree.Whole (pos 0) ∷ tree.Whole (pos id) ∷ tree.List (tree.Text name ∷ tree.List args ∷ named ∷ []) ∷ [])
-message_tree (Success id content) = tree.List (tree.Whole (pos 1) ∷ tree.Whole (pos id) ∷ content ∷ [])
-message_tree (Failure id text) = tree.List (tree.Whole (pos 2) ∷ tree.Whole (pos id) ∷ tree.Text text ∷ [])
+message_tree (Ask id name args named) = tree.List (tree.Whole (pos 0) ∷ tree.Whole (pos id)
+    ∷ tree.List (tree.Text name ∷ tree.List args ∷ named ∷ []) ∷ [])
+message_tree (Success id content) = tree.List (tree.Whole (pos 1) ∷ tree.Whole (pos id) ∷ content
+    ∷ [])
+message_tree (Failure id text) = tree.List (tree.Whole (pos 2) ∷ tree.Whole (pos id)
+    ∷ tree.Text text ∷ [])
 
 -- a message
 abbrev pub message_text : Message → List ℕ
@@ -52,9 +56,11 @@ is_readable (Success id content) = nat_lt id (2 ^ 63)
 is_readable (Failure id text) = nat_lt id (2 ^ 63)
 
 -- one more item in front of gathered ones: with those of its key, if they stand first
-abbrev pub joined : {X : Type 0} → (X → List ℕ) → X → List (List ℕ × List X) → List (List ℕ × List X)
+abbrev pub joined : {X : Type 0} → (X → List ℕ) → X → List (List ℕ × List X)
+    → List (List ℕ × List X)
 joined key x [] = (key x, x ∷ []) ∷ []
-joined key x (g ∷ gs) = if same_text (key x) g.0 then (g.0, x ∷ g.1) ∷ gs else ((key x, x ∷ []) ∷ g ∷ gs)
+joined key x (g ∷ gs) = if same_text (key x) g.0 then (g.0, x ∷ g.1) ∷ gs
+    else ((key x, x ∷ []) ∷ g ∷ gs)
 
 -- sorted items, gathered by a key: each key once, with the items that have it
 abbrev pub gathered : {X : Type 0} → (X → List ℕ) → List X → List (List ℕ × List X)
@@ -63,16 +69,22 @@ gathered key (x ∷ xs) = joined key x (gathered key xs)
 
 -- what is wanted: {EID:[ATTRIBUTE,..]}
 abbrev pub wanted_text : List Want → List ℕ
-wanted_text wants = object_text (map (λ (g : List ℕ × List Want). (g.0, list_text (map (λ w. quoted w.attr) g.1))) (gathered (λ w. w.eid) wants))
+wanted_text wants = object_text
+    (map (λ (g : List ℕ × List Want). (g.0, list_text (map (λ w. quoted w.attr) g.1)))
+    (gathered (λ w. w.eid) wants))
 
 -- the text of a refusal, by the number of the test that fails
 abbrev pub refusal_text : ℕ → List ℕ
-refusal_text reason = if reason == 1 then codes "unknown function" else if reason == 2 then codes "malformed request" else if reason == 3 then codes "unknown entity or attribute" else codes "no asynchronous connection"
+refusal_text reason = if reason == 1 then codes "unknown function" else if reason == 2
+    then codes "malformed request" else if reason == 3 then codes "unknown entity or attribute"
+    else codes "no asynchronous connection"
 
 -- an item; a Step and a GetData take this id, an Answer and a Refuse carry their own
 abbrev pub item_text : ℕ → Item → List ℕ
-item_text id (Step at inputs advance) = request_text id (codes "step") (signed_decimal at.time ∷ inputs_text inputs ∷ signed_decimal advance ∷ []) (codes "{}")
-item_text id (GetData wanted) = request_text id (codes "get_data") (wanted_text wanted ∷ []) (codes "{}")
+item_text id (Step at inputs advance) = request_text id (codes "step") (signed_decimal at.time
+    ∷ inputs_text inputs ∷ signed_decimal advance ∷ []) (codes "{}")
+item_text id (GetData wanted) = request_text id (codes "get_data") (wanted_text wanted ∷ [])
+    (codes "{}")
 item_text id (Answer asked content) = success_text asked content
 item_text id (Refuse asked reason) = failure_text asked (refusal_text reason)
 
@@ -104,7 +116,9 @@ is_call_in_range Stop = true
 
 -- a request of the handshake
 abbrev pub call_text : ℕ → Call → List ℕ
-call_text id (Init sim params) = request_text id (codes "init") (quoted sim ∷ []) (init_params params)
-call_text id (Create num model params) = request_text id (codes "create") (decimal num ∷ quoted model ∷ []) (text_of params)
+call_text id (Init sim params) = request_text id (codes "init") (quoted sim ∷ [])
+    (init_params params)
+call_text id (Create num model params) = request_text id (codes "create") (decimal num
+    ∷ quoted model ∷ []) (text_of params)
 call_text id SetupDone = request_text id (codes "setup_done") [] (codes "{}")
 call_text id Stop = request_text id (codes "stop") [] (codes "{}")

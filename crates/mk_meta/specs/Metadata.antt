@@ -13,7 +13,8 @@ use Rattle.mk_meta.specs.declared.fault.MetaFault.{MetaFault}
 use Rattle.mk_meta.specs.declared.fault.MetaFault.TheVariants.{NoVersion, Version, BadType, NoModels, Model, TriggerUnknown}
 
 -- what follows a test that finds something, and the fault where it finds nothing
-abbrev pub found : {A B : Type 0} → MetaFault → Option A → (A → Result B MetaFault) → Result B MetaFault
+abbrev pub found : {A B : Type 0} → MetaFault → Option A → (A → Result B MetaFault)
+    → Result B MetaFault
 found fault None next = Err fault
 found fault (Some x) next = next x
 
@@ -22,7 +23,8 @@ abbrev pub held : {B : Type 0} → MetaFault → Bool → Result B MetaFault →
 held fault holds next = if holds then next else Err fault
 
 -- what follows a test that no text fails, and the fault of the one that does
-abbrev pub no_text : {B : Type 0} → (List ℕ → MetaFault) → Option (List ℕ) → Result B MetaFault → Result B MetaFault
+abbrev pub no_text : {B : Type 0} → (List ℕ → MetaFault) → Option (List ℕ) → Result B MetaFault
+    → Result B MetaFault
 no_text fault None next = next
 no_text fault (Some text) next = Err (fault text)
 
@@ -39,7 +41,8 @@ all_well (Ok x ∷ more) = before x (all_well more)
 
 -- the list of texts that the tree is
 abbrev pub texts_in : Json → Option (List (List ℕ))
-texts_in tree = option_and_then (λ (items : List Json). all_there (map text_in items)) (items_in tree)
+texts_in tree = option_and_then (λ (items : List Json). all_there (map text_in items))
+    (items_in tree)
 
 -- what is read of a member, or what stands for it where it is missing
 abbrev pub unless_missing : {A : Type 0} → A → (Json → Option A) → Option Json → Option A
@@ -56,11 +59,14 @@ is_version_three version = same_text (before_first (λ b. b == 46) version) (cod
 
 -- the type of simulator that a word names
 abbrev pub kind_named : List ℕ → Option SimKind
-kind_named word = if same_text word (codes "time-based") then Some TimeBased else if same_text word (codes "event-based") then Some EventBased else if same_text word (codes "hybrid") then Some Hybrid else None
+kind_named word = if same_text word (codes "time-based") then Some TimeBased
+    else if same_text word (codes "event-based") then Some EventBased
+    else if same_text word (codes "hybrid") then Some Hybrid else None
 
 -- the type of the simulator, time-based where it is missing
 abbrev pub kind_in : Json → Option SimKind
-kind_in reply = unless_missing TimeBased (λ tree. option_and_then kind_named (text_in tree)) (member (codes "type") reply)
+kind_in reply = unless_missing TimeBased (λ tree. option_and_then kind_named (text_in tree))
+    (member (codes "type") reply)
 
 -- the type as it is written, or nothing where it is no text
 abbrev pub type_text : Json → List ℕ
@@ -76,7 +82,8 @@ few_enough members = if nat_le (length members) most_models then Some members el
 
 -- the simulator's models, each a name and a description
 abbrev pub models_in : Json → Option (List (List ℕ × Json))
-models_in reply = option_and_then (λ tree. option_and_then few_enough (members_in tree)) (member (codes "models") reply)
+models_in reply = option_and_then (λ tree. option_and_then few_enough (members_in tree))
+    (member (codes "models") reply)
 
 -- only hybrid simulators say which attributes trigger and which aren't persistent
 abbrev pub is_hybrid : SimKind → Bool
@@ -86,7 +93,8 @@ is_hybrid Hybrid = true
 
 -- a list of texts under this name, none where it is missing or the simulator isn't hybrid
 abbrev pub hybrid_texts : SimKind → List ℕ → Json → Option (List (List ℕ))
-hybrid_texts kind name tree = if is_hybrid kind then unless_missing [] texts_in (member name tree) else Some []
+hybrid_texts kind name tree = if is_hybrid kind then unless_missing [] texts_in (member name tree)
+    else Some []
 
 -- the text is one of these
 abbrev pub is_among : List (List ℕ) → List ℕ → Bool
@@ -96,24 +104,40 @@ is_among texts text = list_any (λ t. same_text t text) texts
 abbrev pub first_unknown : List (List ℕ) → List (List ℕ) → Option (List ℕ)
 first_unknown attrs texts = find (λ t. not (is_among attrs t)) texts
 
--- the last tests of a model: what triggers is an attribute, unless any input is taken, and what isn't persistent is one
+-- the last tests of a model: what triggers is an attribute, unless any input is taken, and what
+-- isn't persistent is one
 abbrev pub with_known : ModelMeta → Result ModelMeta MetaFault
 with_known model =
-    no_text (TriggerUnknown model.name) (if model.any_inputs then None else first_unknown model.attrs model.trigger) (
+    no_text (TriggerUnknown model.name) (if model.any_inputs then None
+    else first_unknown model.attrs model.trigger) (
     no_text (TriggerUnknown model.name) (first_unknown model.attrs model.events) (
     Ok model))
 
--- the tests of a model's description: it is an object; `public`, `params`, `attrs`, `any_inputs`, `trigger` and `non-persistent` are what they must be; each attribute named is one
+-- the tests of a model's description: it is an object; `public`, `params`, `attrs`, `any_inputs`,
+-- `trigger` and `non-persistent` are what they must be; each attribute named is one
 abbrev pub model_in : SimKind → List ℕ × Json → Result ModelMeta MetaFault
 model_in kind m =
     held (Model m.0 []) (is_object m.1) (
-    found (Model m.0 (codes "public")) (option_and_then bool_in (member (codes "public") m.1)) (λ public.
-    found (Model m.0 (codes "params")) (option_and_then texts_in (member (codes "params") m.1)) (λ params.
-    found (Model m.0 (codes "attrs")) (option_and_then texts_in (member (codes "attrs") m.1)) (λ attrs.
-    found (Model m.0 (codes "any_inputs")) (unless_missing false bool_in (member (codes "any_inputs") m.1)) (λ any.
+    found (Model m.0 (codes "public")) (option_and_then bool_in (member (codes "public") m.1))
+    (λ public.
+    found (Model m.0 (codes "params")) (option_and_then texts_in (member (codes "params") m.1))
+    (λ params.
+    found (Model m.0 (codes "attrs")) (option_and_then texts_in (member (codes "attrs") m.1))
+    (λ attrs.
+    found (Model m.0 (codes "any_inputs"))
+    (unless_missing false bool_in (member (codes "any_inputs") m.1)) (λ any.
     found (Model m.0 (codes "trigger")) (hybrid_texts kind (codes "trigger") m.1) (λ trigger.
-    found (Model m.0 (codes "non-persistent")) (hybrid_texts kind (codes "non-persistent") m.1) (λ events.
-    with_known (record { name = m.0; public = public; params = params; attrs = attrs; any_inputs = any; trigger = trigger; events = events }))))))))
+    found (Model m.0 (codes "non-persistent")) (hybrid_texts kind (codes "non-persistent") m.1)
+    (λ events.
+    with_known (record {
+      name = m.0;
+      public = public;
+      params = params;
+      attrs = attrs;
+      any_inputs = any;
+      trigger = trigger;
+      events = events;
+    }))))))))
 
 -- the metadata of these models
 abbrev pub with_models : SimKind → Result (List ModelMeta) MetaFault → Result Meta MetaFault
@@ -122,13 +146,16 @@ with_models kind (Err fault) = Err fault
 
 -- the models are few enough, distinct and in byte order
 abbrev pub IsListed : List ModelMeta → Type 0
-IsListed models = (length models ≤ most_models) × IsStrictlySortedBy text_order (map (λ (m : ModelMeta). m.name) models)
+IsListed models = (length models ≤ most_models)
+    × IsStrictlySortedBy text_order (map (λ (m : ModelMeta). m.name) models)
 
--- only a hybrid simulator's model names attributes that trigger or aren't persistent, and it has those that it names, but for what triggers where any input is taken
+-- only a hybrid simulator's model names attributes that trigger or aren't persistent, and it has
+-- those that it names, but for what triggers where any input is taken
 pub record HasKnownAttrs (kind : SimKind) (model : ModelMeta) : Type 0 where
   pub trigger : is_hybrid kind ≡ false → model.trigger ≡ []
   pub events : is_hybrid kind ≡ false → model.events ≡ []
-  pub triggers_known : model.any_inputs ≡ false → Each (λ t. IsTrue (is_among model.attrs t)) model.trigger
+  pub triggers_known : model.any_inputs ≡ false
+      → Each (λ t. IsTrue (is_among model.attrs t)) model.trigger
   pub events_known : Each (λ t. IsTrue (is_among model.attrs t)) model.events
 
 -- the tests of a reply: a version that is 3, a type, models, and each model in byte order

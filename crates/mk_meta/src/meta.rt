@@ -47,7 +47,8 @@ pub fn read_meta(alloc: Global, reply: &Json) -> Result<Meta, MetaFault>
 fn meta_of(alloc: Global, reply: &Json) -> Result<Result<Meta, MetaFault>, Mem>
     ensures told { IfOk result (λ meta. meta ≡ meta_in reply.now) }
     ensures listed { IfOk result (λ found. IfOk found (λ meta. IsListed meta.models)) }
-    ensures known { IfOk result (λ found. IfOk found (λ meta. Each (HasKnownAttrs meta.kind) meta.models)) }
+    ensures known { IfOk result
+        (λ found. IfOk found (λ meta. Each (HasKnownAttrs meta.kind) meta.models)) }
 {
     let Some(version) = text_at(reply, "api_version") else {
         return Ok(Err(MetaFault::NoVersion));
@@ -130,7 +131,8 @@ fn models_of(reply: &Json) -> Option<&Members<Json>>
 }
 
 fn few_members_of(tree: &Json) -> Option<&Members<Json>>
-    ensures same { option_map (λ ms. ms.now) result ≡ option_and_then few_enough (members_in tree.now) }
+    ensures same { option_map (λ ms. ms.now) result
+        ≡ option_and_then few_enough (members_in tree.now) }
     ensures few { IfSome result (λ ms. length ms.now ≤ most_models) }
 {
     match tree {

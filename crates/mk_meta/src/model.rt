@@ -78,7 +78,8 @@ fn with_known(model: ModelMeta) -> Result<Result<ModelMeta, MetaFault>, Mem>
 }
 
 fn unknown_trigger(model: &ModelMeta) -> Option<&Text>
-    ensures { option_map (λ t. t.now) result ≡ (if model.now.any_inputs then None else first_unknown model.now.attrs model.now.trigger) }
+    ensures { option_map (λ t. t.now) result
+        ≡ (if model.now.any_inputs then None else first_unknown model.now.attrs model.now.trigger) }
 {
     if model.any_inputs {
         None

@@ -22,14 +22,22 @@ pub record IsUnknown (P : Plan) (V : View) (R : Messages) (i : ℕ) (u : Act) : 
   pub parts : sequential P R i ≡ V.acts i ++ later
   pub there : IsIn u later
 
--- where the lists of the simulators of Z end with what J has of them, an unknown turn of another simulator starts at or after the end of a walk to it that touches no simulator of Z
+-- where the lists of the simulators of Z end with what J has of them, an unknown turn of another
+-- simulator starts at or after the end of a walk to it that touches no simulator of Z
 abbrev pub IsBounded : Plan → List Entry → Type 0
-IsBounded P J = (R : Messages) (Z : ℕ → Bool) → Continues P J R → ((i : ℕ) → Z i ≡ true → R i ≡ got J i) → (i : ℕ) (u : Act) → Z i ≡ false → IsUnknown P (view P J) R i u
+IsBounded P J = (R : Messages) (Z : ℕ → Bool) → Continues P J R
+    → ((i : ℕ) → Z i ≡ true → R i ≡ got J i) → (i : ℕ) (u : Act) → Z i ≡ false
+    → IsUnknown P (view P J) R i u
     → (y : Tier) × Reach P (start P (view P J)) (λ j. Z j ≡ true) i y × IsUpTo y u.at
 
--- over R nothing new comes to s at x or before: no unknown turn over any link, no trigger, and neither its Step nor an answer in it changes
+-- over R nothing new comes to s at x or before: no unknown turn over any link, no trigger, and
+-- neither its Step nor an answer in it changes
 pub record HasAll (P : Plan) (V : View) (R : Messages) (s : ℕ) (x : Tier) : Type 0 where
-  pub turns : (i : ℕ) (u : Act) → IsUnknown P V R i u → (v : Via) → IsLink P i v s → IsBefore x (delayed u.at v)
-  pub triggered : (d : Tier) → IsIn d (triggers P (supply P (sequential P R)) s) → IsUpTo d x → IsIn d (triggers P (supply P V.acts) s)
-  pub step : (acts : List Act) → next_step P (supply P (sequential P R)) s x acts ≡ next_step P (supply P V.acts) s x acts
-  pub answers : (o : Place) (m : Message) → response P (supply P (sequential P R)) s x o m ≡ response P (supply P V.acts) s x o m
+  pub turns : (i : ℕ) (u : Act) → IsUnknown P V R i u → (v : Via) → IsLink P i v s
+      → IsBefore x (delayed u.at v)
+  pub triggered : (d : Tier) → IsIn d (triggers P (supply P (sequential P R)) s) → IsUpTo d x
+      → IsIn d (triggers P (supply P V.acts) s)
+  pub step : (acts : List Act)
+      → next_step P (supply P (sequential P R)) s x acts ≡ next_step P (supply P V.acts) s x acts
+  pub answers : (o : Place) (m : Message)
+      → response P (supply P (sequential P R)) s x o m ≡ response P (supply P V.acts) s x o m

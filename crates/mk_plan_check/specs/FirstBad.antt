@@ -11,8 +11,10 @@ IsFirstBad P zero = ⊥
 IsFirstBad P (suc zero) = ¬ IsWellFormed P
 IsFirstBad P (suc (suc zero)) = IsWellFormed P × ¬ HasRanks P
 IsFirstBad P (suc (suc (suc zero))) = IsWellFormed P × HasRanks P × ¬ HasOneConnectionEach P
-IsFirstBad P (suc (suc (suc (suc zero)))) = IsWellFormed P × HasRanks P × HasOneConnectionEach P × ¬ HasInitialValues P
-IsFirstBad P (suc (suc (suc (suc (suc zero))))) = IsWellFormed P × HasRanks P × HasOneConnectionEach P × HasInitialValues P × ¬ HasKindsOfConnections P
+IsFirstBad P (suc (suc (suc (suc zero)))) = IsWellFormed P × HasRanks P × HasOneConnectionEach P
+    × ¬ HasInitialValues P
+IsFirstBad P (suc (suc (suc (suc (suc zero))))) = IsWellFormed P × HasRanks P
+    × HasOneConnectionEach P × HasInitialValues P × ¬ HasKindsOfConnections P
 IsFirstBad P (suc (suc (suc (suc (suc (suc n)))))) = ⊥
 
 -- what a fault says of the plan

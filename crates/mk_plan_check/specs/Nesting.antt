@@ -20,12 +20,17 @@ is_closing b = (b == 93) || (b == 125)
 
 -- the brackets that are open, each counting where it doesn't stand in a text
 abbrev pub depth_after : Place → ℕ → ℕ → ℕ
-depth_after Outside b depth = if is_opening b then depth + 1 else if is_closing b then depth - 1 else depth
+depth_after Outside b depth = if is_opening b then depth + 1 else if is_closing b then depth - 1
+    else depth
 depth_after Quoted b depth = depth
 depth_after Escaped b depth = depth
 
 abbrev pub scanned : Scan → ℕ → Scan
-scanned s b = record { place = place_after s.place b; depth = depth_after s.place b s.depth; most = max s.most (depth_after s.place b s.depth) }
+scanned s b = record {
+  place = place_after s.place b;
+  depth = depth_after s.place b s.depth;
+  most = max s.most (depth_after s.place b s.depth);
+}
 
 -- the most brackets that are open at once
 abbrev pub nesting_of : List ℕ → ℕ

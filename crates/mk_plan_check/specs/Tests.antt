@@ -26,11 +26,13 @@ implies a b = not a || b
 
 -- the end, the loop limit and the length of the journal
 abbrev pub numbers_fit : Plan → Bool
-numbers_fit P = int_le (pos 1) P.until && int_le P.until (pos 1000000000) && nat_le 1 P.loops && nat_le P.loops 1000 && nat_le 1 P.entries && nat_le P.entries 20000000
+numbers_fit P = int_le (pos 1) P.until && int_le P.until (pos 1000000000) && nat_le 1 P.loops
+    && nat_le P.loops 1000 && nat_le 1 P.entries && nat_le P.entries 20000000
 
 -- how many simulators, entities and connections there are
 abbrev pub sizes_fit : Plan → Bool
-sizes_fit P = nat_le 1 (length P.sims) && nat_le (length P.sims) 200 && nat_le (length P.entities) 10000 && nat_le (length P.conns) 100000
+sizes_fit P = nat_le 1 (length P.sims) && nat_le (length P.sims) 200
+    && nat_le (length P.entities) 10000 && nat_le (length P.conns) 100000
 
 abbrev pub event_fits : ℤ → Bool
 event_fits e = int_le (pos 0) e && int_le e (pos 1000000000)
@@ -56,10 +58,12 @@ width_fits (Shift width) = nat_le 1 width && nat_le width 1000000
 width_fits Weak = true
 
 abbrev pub is_within_limits : Plan → Bool
-is_within_limits P = numbers_fit P && sizes_fit P && list_all sim_fits P.sims && models_fit P && list_all (λ c. initial_fits c.initial) P.conns && list_all (λ c. width_fits c.via) P.conns
+is_within_limits P = numbers_fit P && sizes_fit P && list_all sim_fits P.sims && models_fit P
+    && list_all (λ c. initial_fits c.initial) P.conns && list_all (λ c. width_fits c.via) P.conns
 
 abbrev pub entity_refers : Plan → PlanEntity → Bool
-entity_refers P n = nat_lt n.model (length P.models) && list_all (λ (r : ℕ). nat_lt r (length P.entities)) n.related
+entity_refers P n = nat_lt n.model (length P.models)
+    && list_all (λ (r : ℕ). nat_lt r (length P.entities)) n.related
 
 abbrev pub conn_refers : Plan → Conn → Bool
 conn_refers P c = nat_lt c.from (length P.entities) && nat_lt c.to (length P.entities)
@@ -68,7 +72,9 @@ abbrev pub pair_refers : Plan → AsyncPair → Bool
 pair_refers P p = nat_lt p.from.0 (length P.sims) && nat_lt p.to.0 (length P.sims)
 
 abbrev pub refers_inside : Plan → Bool
-refers_inside P = list_all (λ m. nat_lt m.sim.0 (length P.sims)) P.models && list_all (entity_refers P) P.entities && list_all (conn_refers P) P.conns && list_all (pair_refers P) P.asyncs
+refers_inside P = list_all (λ m. nat_lt m.sim.0 (length P.sims)) P.models
+    && list_all (entity_refers P) P.entities && list_all (conn_refers P) P.conns
+    && list_all (pair_refers P) P.asyncs
 
 abbrev pub sims_apart : Plan → Bool
 sims_apart P = all_apart (λ s t. not (same_text s.id t.id)) P.sims
@@ -88,7 +94,8 @@ abbrev pub is_eid : List ℕ → Bool
 is_eid eid = not (same_text eid []) && not (same_text eid (codes "time"))
 
 abbrev pub has_distinct_names : Plan → Bool
-has_distinct_names P = sims_apart P && list_all (λ s. has_no_dot s.id) P.sims && list_all (λ n. is_eid n.eid) P.entities && eids_apart P
+has_distinct_names P = sims_apart P && list_all (λ s. has_no_dot s.id) P.sims
+    && list_all (λ n. is_eid n.eid) P.entities && eids_apart P
 
 abbrev pub is_well_formed : Plan → Bool
 is_well_formed P = is_within_limits P && refers_inside P && has_distinct_names P
@@ -104,13 +111,16 @@ is_plain Weak = false
 
 -- a plain connection goes to a higher rank
 abbrev pub conn_rises : Plan → Conn → Bool
-conn_rises P c = implies (is_plain c.via) (nat_lt (rank_of P (owner P c.from)) (rank_of P (owner P c.to)))
+conn_rises P c = implies (is_plain c.via)
+    (nat_lt (rank_of P (owner P c.from)) (rank_of P (owner P c.to)))
 
 abbrev pub pair_rises : Plan → AsyncPair → Bool
 pair_rises P p = nat_lt (rank_of P p.from.0) (rank_of P p.to.0)
 
 abbrev pub has_ranks : Plan → Bool
-has_ranks P = list_all (λ s. nat_lt s.rank (length P.sims)) P.sims && list_all (λ r. ranked P r == 1) (range_with_len 0 (length P.sims)) && list_all (conn_rises P) P.conns && list_all (pair_rises P) P.asyncs
+has_ranks P = list_all (λ s. nat_lt s.rank (length P.sims)) P.sims
+    && list_all (λ r. ranked P r == 1) (range_with_len 0 (length P.sims))
+    && list_all (conn_rises P) P.conns && list_all (pair_rises P) P.asyncs
 
 -- one source entity, target entity and target attribute
 abbrev pub same_way : Conn → Conn → Bool
@@ -139,7 +149,8 @@ triggering_fits EventBased triggering = triggering
 triggering_fits Hybrid triggering = true
 
 abbrev pub kinds_fit : Plan → Conn → Bool
-kinds_fit P c = persistence_fits (kind_of P (owner P c.from)) c.persistent && triggering_fits (kind_of P (owner P c.to)) c.triggering
+kinds_fit P c = persistence_fits (kind_of P (owner P c.from)) c.persistent
+    && triggering_fits (kind_of P (owner P c.to)) c.triggering
 
 abbrev pub same_bool : Bool → Bool → Bool
 same_bool true b = b
@@ -152,14 +163,18 @@ abbrev pub same_target : Conn → Conn → Bool
 same_target c d = (c.to == d.to) && same_text c.to_attr d.to_attr
 
 abbrev pub sources_agree : Plan → Bool
-sources_agree P = all_apart (λ c d. implies (same_source c d) (same_bool c.persistent d.persistent)) P.conns
+sources_agree P = all_apart
+    (λ c d. implies (same_source c d) (same_bool c.persistent d.persistent)) P.conns
 
 abbrev pub targets_agree : Plan → Bool
-targets_agree P = all_apart (λ c d. implies (same_target c d) (same_bool c.triggering d.triggering)) P.conns
+targets_agree P = all_apart
+    (λ c d. implies (same_target c d) (same_bool c.triggering d.triggering)) P.conns
 
 abbrev pub has_kinds_of_connections : Plan → Bool
 has_kinds_of_connections P = list_all (kinds_fit P) P.conns && sources_agree P && targets_agree P
 
 -- the number of the first part that fails
 abbrev pub first_bad : Plan → Option ℕ
-first_bad P = if not (is_well_formed P) then Some 1 else if not (has_ranks P) then Some 2 else if not (has_one_connection_each P) then Some 3 else if not (has_initial_values P) then Some 4 else if not (has_kinds_of_connections P) then Some 5 else None
+first_bad P = if not (is_well_formed P) then Some 1 else if not (has_ranks P) then Some 2
+    else if not (has_one_connection_each P) then Some 3 else if not (has_initial_values P)
+    then Some 4 else if not (has_kinds_of_connections P) then Some 5 else None

@@ -55,7 +55,8 @@ pub fn targets<'a>(alloc: Global, plan: &'a Plan) -> Result<Vec<Mark<'a>>, Mem>
 
 // The names of the entities, each with its simulator.
 pub fn names<'a>(alloc: Global, plan: &'a Plan) -> Result<Vec<Mark<'a>>, Mem>
-    ensures { IfOk result (λ marks. map label_of marks.items ≡ map (name_label plan.now) (range_with_len 0 (length plan.now.entities))) }
+    ensures { IfOk result (λ marks. map label_of marks.items
+        ≡ map (name_label plan.now) (range_with_len 0 (length plan.now.entities))) }
 {
     let mut marks = Vec::with_capacity(alloc, plan.entities.len())?;
     for entity in 0..plan.entities.len() {

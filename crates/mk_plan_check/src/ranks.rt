@@ -43,7 +43,8 @@ fn ranks_below(plan: &Plan) -> bool
 }
 
 fn ranks_once(plan: &Plan) -> bool
-    ensures { result ≡ list_all (λ r. ranked plan.now r == 1) (range_with_len 0 (length plan.now.sims)) }
+    ensures { result ≡ list_all (λ r. ranked plan.now r == 1)
+        (range_with_len 0 (length plan.now.sims)) }
 {
     (0..plan.sims.len()).all(|rank| ranked(plan, rank) == 1)
 }

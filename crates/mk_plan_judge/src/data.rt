@@ -24,7 +24,8 @@ pub fn value_for<'a>(content: &'a Json, want: &Want) -> Option<&'a Json>
 
 // Whether the data gives no object for the entity of a wanted attribute, but something else.
 pub fn some_bad_part(wants: &List<Want>, content: &Json) -> bool
-    ensures { result ≡ list_any (λ w. holds_of (λ t. not (is_object t)) (part_for content.now w)) wants.now }
+    ensures { result ≡ list_any
+        (λ w. holds_of (λ t. not (is_object t)) (part_for content.now w)) wants.now }
 {
     wants
         .as_slice()
@@ -34,7 +35,8 @@ pub fn some_bad_part(wants: &List<Want>, content: &Json) -> bool
 
 // Whether a number in a wanted value isn't whole.
 pub fn some_odd_value(wants: &List<Want>, content: &Json) -> bool
-    ensures { result ≡ list_any (λ w. holds_of (λ t. not (is_whole t)) (value_for content.now w)) wants.now }
+    ensures { result ≡ list_any
+        (λ w. holds_of (λ t. not (is_whole t)) (value_for content.now w)) wants.now }
 {
     wants
         .as_slice()
@@ -44,7 +46,9 @@ pub fn some_odd_value(wants: &List<Want>, content: &Json) -> bool
 
 // Whether a wanted value nests too deep.
 pub fn some_deep_value(wants: &List<Want>, content: &Json) -> bool
-    ensures { result ≡ list_any (λ w. holds_of (λ t. not (nat_le (nesting t) value_depth)) (value_for content.now w)) wants.now }
+    ensures { result ≡ list_any
+        (λ w. holds_of (λ t. not (nat_le (nesting t) value_depth)) (value_for content.now w))
+        wants.now }
 {
     wants
         .as_slice()
@@ -74,7 +78,8 @@ fn has_odd_value(content: &Json, want: &Want) -> bool
 
 // Whether the value of this wanted attribute nests too deep.
 fn has_deep_value(content: &Json, want: &Want) -> bool
-    ensures { result ≡ holds_of (λ t. not (nat_le (nesting t) value_depth)) (value_for content.now want.now) }
+    ensures { result ≡ holds_of (λ t. not (nat_le (nesting t) value_depth))
+        (value_for content.now want.now) }
 {
     match value_for(content, want) {
         Some(value) => !value.nests_within(VALUE_DEPTH),

@@ -54,7 +54,8 @@ fn is_owner(plan: &Plan, sim: SimNo, entity: u32) -> bool
 
 // What a connection takes from its source.
 fn want_of(alloc: Global, plan: &Plan, conn: &Conn) -> Result<Want, Mem>
-    ensures { IfOk result (λ want. want ≡ record { eid = eid_of plan.now conn.now.from; attr = conn.now.from_attr }) }
+    ensures { IfOk result (λ want. want
+        ≡ record { eid = eid_of plan.now conn.now.from; attr = conn.now.from_attr }) }
 {
     Ok(Want {
         eid: eid_of(alloc, plan, conn.from)?,
@@ -74,7 +75,8 @@ fn eid_of(alloc: Global, plan: &Plan, entity: u32) -> Result<Text, Mem>
 
 // The simulator of an entity, if the plan has both.
 fn owner_of(plan: &Plan, entity: u32) -> Option<SimNo>
-    ensures { owner plan.now entity ≡ unwrap_or (option_map (λ s. s.0) result) (sim_count plan.now) }
+    ensures { owner plan.now entity
+        ≡ unwrap_or (option_map (λ s. s.0) result) (sim_count plan.now) }
 {
     let model = plan.entities.get(entity as usize)?.model;
     Some(plan.models.get(model as usize)?.sim)

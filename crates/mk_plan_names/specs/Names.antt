@@ -21,7 +21,8 @@ has_at sets e text = unwrap_or (option_map (λ s. contains_text s text) (slice_g
 abbrev pub is_paired : List (ℕ × ℕ) → ℕ → ℕ → Bool
 is_paired pairs from to = list_any (λ p. (p.0 == from) && (p.1 == to)) pairs
 
--- the full ids are those of the plan's entities, the attributes are those that connections take, and the pairs are the plan's
+-- the full ids are those of the plan's entities, the attributes are those that connections take,
+-- and the pairs are the plan's
 pub record AreNamesOf (P : Plan) (n : Names) : Type 0 where
   pub ids : map string_bytes n.ids.keys ≡ full_ids P
   pub attrs : (e : ℕ) (attr : List ℕ) → has_at n.attrs.items e attr ≡ gives_attr P e attr

@@ -24,11 +24,13 @@ IsAdded link t = IsIn link t.ready ⊎ (IsIn link t.taken ⊎ IsIn link t.parked
 -- how often the link stands among these
 abbrev pub times_in : LinkNo → List LinkNo → ℕ
 times_in link [] = 0
-times_in link (other ∷ more) = if same_link other link then 1 + times_in link more else times_in link more
+times_in link (other ∷ more) = if same_link other link then 1 + times_in link more
+    else times_in link more
 
 -- no link stands twice, nor in two of the places
 abbrev pub IsApart : Turning → Type 0
-IsApart t = (link : LinkNo) → times_in link t.ready + (times_in link t.taken + times_in link t.parked) ≤ 1
+IsApart t = (link : LinkNo)
+    → times_in link t.ready + (times_in link t.taken + times_in link t.parked) ≤ 1
 
 -- one more link, which is ready
 abbrev pub added : LinkNo → Turning → Turning
@@ -36,13 +38,24 @@ added link t = record { ready = t.ready ++ link ∷ []; taken = t.taken; parked 
 
 -- a ready link stays in its place; another one becomes the last that is ready
 abbrev pub made_ready : LinkNo → Turning → Turning
-made_ready link t = if list_any (λ other. same_link other link) t.ready then t else record { ready = t.ready ++ link ∷ []; taken = without link t.taken; parked = without link t.parked }
+made_ready link t = if list_any (λ other. same_link other link) t.ready then t
+    else record {
+      ready = t.ready ++ link ∷ [];
+      taken = without link t.taken;
+      parked = without link t.parked;
+    }
 
 -- a taken link, parked
 abbrev pub made_parked : LinkNo → Turning → Turning
-made_parked link t = record { ready = t.ready; taken = without link t.taken; parked = t.parked ++ link ∷ [] }
+made_parked link t = record {
+  ready = t.ready;
+  taken = without link t.taken;
+  parked = t.parked
+      ++ link ∷ [];
+}
 
 -- the first ready link was taken; or none is ready
 abbrev pub TakeOf : Turning → Option LinkNo → Turning → Type 0
 TakeOf old None new = (old.ready ≡ []) × (new ≡ old)
-TakeOf old (Some link) new = (rest : List LinkNo) × (old.ready ≡ link ∷ rest) × (new ≡ record { ready = rest; taken = old.taken ++ link ∷ []; parked = old.parked })
+TakeOf old (Some link) new = (rest : List LinkNo) × (old.ready ≡ link ∷ rest)
+    × (new ≡ record { ready = rest; taken = old.taken ++ link ∷ []; parked = old.parked })

@@ -30,7 +30,11 @@ impl Model for Turns {
 
     ghost Value = { Turning };
 
-    ghost view = { λ a. record { ready = a.ready.items; taken = a.taken.items; parked = a.parked.items } };
+    ghost view = { λ a. record {
+      ready = a.ready.items;
+      taken = a.taken.items;
+      parked = a.parked.items;
+    } };
 
     ghost invariant = { λ a. HasRoom a.count (length a.ready.items) (length a.taken.items) (length a.parked.items) (deque_capacity a.ready) (vec_capacity a.taken) (vec_capacity a.parked)
         × IsApart (record { ready = a.ready.items; taken = a.taken.items; parked = a.parked.items }) };

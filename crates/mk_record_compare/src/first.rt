@@ -38,7 +38,9 @@ pub fn first_other(saved: &Saved, journal: &Journal) -> Option<u32>
 /// The same of a record whose steps alone are at hand, and how many messages it has, of which the journal has the first.
 pub fn first_other_step(count: usize, steps: &Option<List<Asked>>, journal: &Journal) -> Option<u32>
     requires { length journal.now.entries ≤ 20000000 }
-    ensures { (A : List journals.Arrival) → length A ≡ count → BeginsWith A (arrivals journal.now.entries) → IsOther A steps.now journal.now.entries result }
+    ensures { (A : List journals.Arrival) → length A ≡ count
+        → BeginsWith A (arrivals journal.now.entries)
+        → IsOther A steps.now journal.now.entries result }
 {
     match steps {
         None => None,
@@ -64,7 +66,8 @@ fn other_among(
     entries: &[Entry],
 ) -> Option<u32>
     requires { length entries.now ≤ 20000000 }
-    ensures { (A : List Arrival) → AreMessages (option_map (λ m. m.now) messages.entry) count entries.now A
+    ensures { (A : List Arrival)
+        → AreMessages (option_map (λ m. m.now) messages.entry) count entries.now A
         → IsFirstOther (entries_after 0 (map came A) asks.now) (entries_of entries.now) result }
 {
     let mut rest = count;
@@ -112,7 +115,9 @@ fn match_of(
     before: u64,
     entry: &Entry,
 ) -> Match
-    ensures { (A : List Arrival) → length A ≡ rest → IsNextNamed (option_map (λ m. m.now) messages.entry) before entry.now A → IsMatch before A steps.now entry.now result }
+    ensures { (A : List Arrival) → length A ≡ rest
+        → IsNextNamed (option_map (λ m. m.now) messages.entry) before entry.now A
+        → IsMatch before A steps.now entry.now result }
 {
     match entry {
         Entry::Sent(sim, item) => item_match(rest, steps, before, *sim, item),
@@ -121,7 +126,8 @@ fn match_of(
 }
 
 fn item_match(rest: usize, steps: &[Asked], before: u64, sim: SimNo, item: &Item) -> Match
-    ensures { (A : List Arrival) → length A ≡ rest → IsMatch before A steps.now (Sent sim item.now) result }
+    ensures { (A : List Arrival) → length A ≡ rest
+        → IsMatch before A steps.now (Sent sim item.now) result }
 {
     match item {
         Item::Step {
@@ -137,8 +143,10 @@ fn item_match(rest: usize, steps: &[Asked], before: u64, sim: SimNo, item: &Item
 
 // The step that is the next entry, if the next entry is one.
 fn next_step<'a>(rest: usize, steps: &'a [Asked], before: u64) -> Option<&'a Asked>
-    ensures { (A : List Arrival) → length A ≡ rest → MatchOption result (IsMessageNext before A steps.now)
-        (λ a. (left before A steps.now ≡ step_of a.now ∷ left before A (drop 1 steps.now)) × (1 ≤ length steps.now)) }
+    ensures { (A : List Arrival) → length A ≡ rest
+        → MatchOption result (IsMessageNext before A steps.now)
+        (λ a. (left before A steps.now ≡ step_of a.now ∷ left before A (drop 1 steps.now))
+        × (1 ≤ length steps.now)) }
 {
     match steps {
         [] => None,
@@ -162,7 +170,8 @@ fn step_match(
     at: &Tier,
     max_advance: &i64,
 ) -> Match
-    ensures { (A : List Arrival) → length A ≡ rest → (ins : List Input) → IsMatch before A steps.now (Sent sim (Step at.now ins max_advance.now)) result }
+    ensures { (A : List Arrival) → length A ≡ rest → (ins : List Input)
+        → IsMatch before A steps.now (Sent sim (Step at.now ins max_advance.now)) result }
 {
     match next_step(rest, steps, before) {
         Some(asked) => {
@@ -199,7 +208,9 @@ fn message_match(
     sim: SimNo,
     message: &Message,
 ) -> Match
-    ensures { (A : List Arrival) → length A ≡ rest → IsNextNamed (option_map (λ m. m.now) messages.entry) before (Got sim message.now) A → IsMatch before A steps.now (Got sim message.now) result }
+    ensures { (A : List Arrival) → length A ≡ rest
+        → IsNextNamed (option_map (λ m. m.now) messages.entry) before (Got sim message.now) A
+        → IsMatch before A steps.now (Got sim message.now) result }
 {
     match next_step(rest, steps, before) {
         Some(_) => Match::Another,
@@ -217,8 +228,11 @@ fn message_match(
 
 // Whether the journal's message is the next of the record's; where those aren't at hand, it is.
 fn is_next(messages: Option<&List<Arrival>>, before: u64, sim: SimNo, message: &Message) -> bool
-    ensures { (a : Arrival) → IsNamed (option_map (λ m. m.now) messages.entry) before (record { sim = sim.0; message = message.now }) a
-        → Decides result (MessageOf (record { sim = sim.0; message = message.now }) ≡ MessageOf (came a)) }
+    ensures { (a : Arrival)
+        → IsNamed (option_map (λ m. m.now) messages.entry) before
+        (record { sim = sim.0; message = message.now }) a
+        → Decides result (MessageOf (record { sim = sim.0; message = message.now })
+        ≡ MessageOf (came a)) }
 {
     match messages {
         None => true,
@@ -230,7 +244,8 @@ fn is_next(messages: Option<&List<Arrival>>, before: u64, sim: SimNo, message: &
 }
 
 fn is_message(arrival: &Arrival, sim: SimNo, message: &Message) -> bool
-    ensures { Decides result (MessageOf (record { sim = sim.0; message = message.now }) ≡ MessageOf (came arrival.now)) }
+    ensures { Decides result (MessageOf (record { sim = sim.0; message = message.now })
+        ≡ MessageOf (came arrival.now)) }
 {
     arrival.sim.0 == sim.0 && same_message(message, &arrival.message)
 }

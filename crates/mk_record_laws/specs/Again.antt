@@ -19,10 +19,16 @@ use Rattle.mk_record_read.specs.Entries.{RecordEntry, StepOf, MessageOf, entries
 use Rattle.mk_record_read.specs.Lines.{step_fits}
 use Rattle.mk_record_read.specs.declared.saved.Asked.{Asked}
 
--- the steps among these entries of a record, in order, each with the number of messages before it, n of which came earlier
+-- the steps among these entries of a record, in order, each with the number of messages before it,
+-- n of which came earlier
 abbrev pub steps_after : ℕ → List RecordEntry → List Asked
 steps_after n [] = []
-steps_after n (StepOf sim at advance ∷ entries) = record { before = n; sim = record { 0 = sim }; at = at; max_advance = advance } ∷ steps_after n entries
+steps_after n (StepOf sim at advance ∷ entries) = record {
+  before = n;
+  sim = record { 0 = sim };
+  at = at;
+  max_advance = advance;
+} ∷ steps_after n entries
 steps_after n (MessageOf a ∷ entries) = steps_after (n + 1) entries
 
 -- the Steps of a journal, in order, each with the number of messages before it
@@ -31,11 +37,13 @@ steps_of J = steps_after 0 (entries_of J)
 
 -- a message that some payload has, and that nests so that the list around it may stand in a line
 abbrev pub is_sayable : Message → Bool
-is_sayable m = is_readable m && is_in_range m && is_proper (message_tree m) && nat_le (nesting (message_tree m)) 126
+is_sayable m = is_readable m && is_in_range m && is_proper (message_tree m)
+    && nat_le (nesting (message_tree m)) 126
 
 -- a simulator of the plan, and a step within its limits or a message that may stand in a line
 abbrev pub entry_fits : Plan → RecordEntry → Bool
-entry_fits P (StepOf sim at advance) = nat_lt sim (sim_count P) && step_fits at.time (pos at.tier) advance
+entry_fits P (StepOf sim at advance) = nat_lt sim (sim_count P)
+    && step_fits at.time (pos at.tier) advance
 entry_fits P (MessageOf a) = nat_lt a.sim (sim_count P) && is_sayable a.message
 
 abbrev pub model_is_text : PlanModel → Bool
@@ -44,7 +52,8 @@ model_is_text m = is_utf8 m.name && list_all is_utf8 m.attrs
 abbrev pub conn_is_text : Conn → Bool
 conn_is_text c = is_utf8 c.from_attr && is_utf8 c.to_attr
 
--- the texts of the plan are in UTF-8, and its initial values are texts of trees as the program keeps them
+-- the texts of the plan are in UTF-8, and its initial values are texts of trees as the program
+-- keeps them
 pub record HasTexts (P : Plan) : Type 0 where
   pub sims : list_all (λ (s : PlanSim). is_utf8 s.id) P.sims ≡ true
   pub models : list_all model_is_text P.models ≡ true
@@ -52,7 +61,8 @@ pub record HasTexts (P : Plan) : Type 0 where
   pub conns : list_all conn_is_text P.conns ≡ true
   pub initials : Each (λ (c : Conn). IfSome c.initial IsDatumText) P.conns
 
--- the plan is valid and made of texts; and the journal's Steps and messages are of its simulators and within the limits of a record
+-- the plan is valid and made of texts; and the journal's Steps and messages are of its simulators
+-- and within the limits of a record
 pub record IsRecordable (P : Plan) (J : List Entry) : Type 0 where
   pub valid : IsValidPlan P
   pub texts : HasTexts P

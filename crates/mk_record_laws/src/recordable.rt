@@ -13,6 +13,8 @@ ghost use Rattle.mk_record_laws.specs.Again.{IsRecordable};
 /// can be recorded so that its record is read again: the texts that were read are UTF-8, each message may stand in a line, and
 /// the numbers of each Step are within the limits of a record.
 pub fn said_is_recordable()
-    ensures { (bytes : List ℕ) → (P : Plan) → (A : List Arrival) → (steps : Option (List Asked)) → (J : List Entry)
-        → reading bytes ≡ Said P A steps → IsValidPlan P → IsEager P J → arrivals J ≡ A → length J ≤ P.entries → IsRecordable P J }
+    ensures { (bytes : List ℕ) → (P : Plan) → (A : List Arrival) → (steps : Option (List Asked))
+        → (J : List Entry)
+        → reading bytes ≡ Said P A steps → IsValidPlan P → IsEager P J → arrivals J ≡ A
+        → length J ≤ P.entries → IsRecordable P J }
 {}

@@ -11,5 +11,6 @@ ghost use Rattle.mk_record_laws.specs.Again.{IsRecordable, steps_of};
 /// their tiered times, `max_advance` and places among the messages; where the plan is valid, its texts are UTF-8, and the
 /// journal's Steps and messages are of its simulators and within the limits of a record.
 pub fn written_is_read()
-    ensures { (P : Plan) → (J : List Entry) → IsRecordable P J → reading (record_text P J) ≡ Said P (arrivals J) (Some (steps_of J)) }
+    ensures { (P : Plan) → (J : List Entry) → IsRecordable P J
+        → reading (record_text P J) ≡ Said P (arrivals J) (Some (steps_of J)) }
 {}

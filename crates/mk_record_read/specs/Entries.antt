@@ -1,4 +1,5 @@
--- The entries of a record, which its `ask` and `got` lines say one by one: steps that were asked for, and messages that came.
+-- The entries of a record, which its `ask` and `got` lines say one by one: steps that were asked
+-- for, and messages that came.
 use Rattle.std.specs.Prelude.{ℕ, ◌-◌, ℤ, max, List, [], ◌∷◌, ◌++◌, map, filter_map, take, drop, Option, Some, None}
 use Rattle.mk_base.specs.declared.tier.Tier.{Tier}
 use Rattle.mk_plan.specs.declared.Item.TheVariants.{Step, GetData, Answer, Refuse}
@@ -15,10 +16,12 @@ pub data RecordEntry : Type 0 where
 abbrev pub step_of : Asked → RecordEntry
 step_of a = StepOf a.sim.0 a.at a.max_advance
 
--- the entries of messages, of which n came before, and of steps: each step stands after the messages that came before it
+-- the entries of messages, of which n came before, and of steps: each step stands after the
+-- messages that came before it
 abbrev pub entries_after : ℕ → List Arrival → List Asked → List RecordEntry
 entries_after n A [] = map MessageOf A
-entries_after n A (a ∷ steps) = map MessageOf (take (a.before - n) A) ++ step_of a ∷ entries_after (max n a.before) (drop (a.before - n) A) steps
+entries_after n A (a ∷ steps) = map MessageOf (take (a.before - n) A)
+    ++ step_of a ∷ entries_after (max n a.before) (drop (a.before - n) A) steps
 
 -- the entries of a record of version 2
 abbrev pub entries_in : List Arrival → List Asked → List RecordEntry

@@ -13,7 +13,8 @@ use Rattle.mk_base.specs.Trees.{bool_in, whole_in, text_in, items_in, is_datum}
 abbrev pub misformed : ℕ
 misformed = 1
 
--- a number is outside its limits, a reference is to nothing that stands before, or a type or via is unknown
+-- a number is outside its limits, a reference is to nothing that stands before, or a type or via is
+-- unknown
 abbrev pub out_of_limits : ℕ
 out_of_limits = 2
 
@@ -78,14 +79,16 @@ abbrev way_or : Option (List ℕ) → Option Way → Option Way
 way_or (Some name) other = Some (name, None)
 way_or None other = other
 
--- how a connection delays, as it stands in a line: by a name alone or, in version 2, also by a list of a name and a number
+-- how a connection delays, as it stands in a line: by a name alone or, in version 2, also by a list
+-- of a name and a number
 abbrev pub way_in : Bool → Json → Option Way
 way_in second tree = way_or (text_in tree) (way_in_list second (items_in tree))
 
 -- a time shift in version 1 is by one time; in version 2 its width stands beside its name
 abbrev pub shift_of : Bool → Option ℤ → Option Via
 shift_of true None = None
-shift_of true (Some width) = if is_between (pos 1) (pos 1000000) width then Some (Shift (nat_abs width)) else None
+shift_of true (Some width) = if is_between (pos 1) (pos 1000000) width
+    then Some (Shift (nat_abs width)) else None
 shift_of false width = Some (Shift 1)
 
 -- no number stands beside this name

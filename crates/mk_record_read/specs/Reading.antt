@@ -1,4 +1,5 @@
--- What a record's bytes say: a plan, the messages that came and, in version 2, the steps that were asked for; or the first fault with its line.
+-- What a record's bytes say: a plan, the messages that came and, in version 2, the steps that were
+-- asked for; or the first fault with its line.
 use Rattle.std.specs.Prelude.{ℕ, ◌+◌, Bool, false, not, ◌&&◌, nat_le, nat_lt, pos, List, [], ◌∷◌, ◌++◌, length, option_and_then, Option, Some, None, is_none, is_some, unwrap_or, Result, Ok, Err, codes, ◌==◌, if◌then◌else◌}
 use Rattle.std.specs.Fmt.{decimal}
 use Rattle.std.specs.List.{slice_split, before_first, after_first, list_all}
@@ -67,7 +68,8 @@ place Ask = 8
 place Got = 8
 place End = 9
 
--- what stands in the lines so far: the place of the last one's kind (0 before the first), the plan, the messages, and in version 2 the steps
+-- what stands in the lines so far: the place of the last one's kind (0 before the first), the plan,
+-- the messages, and in version 2 the steps
 pub record State : Type 0 where
   pub last : ℕ
   pub plan : Plan
@@ -76,9 +78,24 @@ pub record State : Type 0 where
 
 -- before any line
 abbrev pub start : State
-start = record { last = 0; plan = record { until = pos 0; loops = 0; entries = 0; sims = []; models = []; entities = []; conns = []; asyncs = [] }; arrivals = []; asks = None }
+start = record {
+  last = 0;
+  plan = record {
+    until = pos 0;
+    loops = 0;
+    entries = 0;
+    sims = [];
+    models = [];
+    entities = [];
+    conns = [];
+    asyncs = [];
+  };
+  arrivals = [];
+  asks = None;
+}
 
--- a line of this kind may stand here: first the head, then `run`, then a `sim`, and from there on no kind before that of the last line
+-- a line of this kind may stand here: first the head, then `run`, then a `sim`, and from there on
+-- no kind before that of the last line
 abbrev pub may_stand : ℕ → LineKind → Bool
 may_stand last kind = if nat_lt last 3 then place kind == last + 1 else nat_le last (place kind)
 
@@ -94,17 +111,25 @@ pub data Step : Type 0 where
 
 -- a line that adds to the plan
 abbrev pub planned : State → LineKind → Result Plan ℕ → Step
-planned S kind (Ok P) = Going (record { last = place kind; plan = P; arrivals = S.arrivals; asks = S.asks })
+planned S kind (Ok P) = Going
+    (record { last = place kind; plan = P; arrivals = S.arrivals; asks = S.asks })
 planned S kind (Err n) = Bad n
 
 -- a line that adds a message
 abbrev pub arrived : State → Result Arrival ℕ → Step
-arrived S (Ok a) = Going (record { last = place Got; plan = S.plan; arrivals = S.arrivals ++ a ∷ []; asks = S.asks })
+arrived S (Ok a) = Going
+    (record { last = place Got; plan = S.plan; arrivals = S.arrivals ++ a ∷ []; asks = S.asks })
 arrived S (Err n) = Bad n
 
 -- a line that adds a step
 abbrev pub asked : State → List Asked → Result Asked ℕ → Step
-asked S steps (Ok a) = Going (record { last = place Ask; plan = S.plan; arrivals = S.arrivals; asks = Some (steps ++ a ∷ []) })
+asked S steps (Ok a) = Going
+    (record {
+      last = place Ask;
+      plan = S.plan;
+      arrivals = S.arrivals;
+      asks = Some (steps ++ a ∷ []);
+    })
 asked S steps (Err n) = Bad n
 
 -- the items of the list that a text of JSON is
@@ -122,7 +147,8 @@ is_number (b ∷ c ∷ bs) = nat_lt 48 b && list_all is_digit (b ∷ c ∷ bs)
 
 -- the `end` line, by the number of messages and steps
 abbrev pub end_step : ℕ → List ℕ → Step
-end_step count text = if same_text text (decimal count) then Ended else if is_number text then Bad miscounted else Bad misformed
+end_step count text = if same_text text (decimal count) then Ended else if is_number text
+    then Bad miscounted else Bad misformed
 
 -- the plan with what a line of this kind adds to it
 abbrev pub with_part : Bool → LineKind → Plan → List Json → Result Plan ℕ
@@ -147,12 +173,15 @@ steps_in S = unwrap_or S.asks []
 
 -- a line that adds to the plan, by what stands after its word
 abbrev pub plan_step : State → LineKind → List ℕ → Step
-plan_step S kind text = planned S kind (found misformed (items_read text) (with_part (is_second S) kind S.plan))
+plan_step S kind text = planned S kind
+    (found misformed (items_read text) (with_part (is_second S) kind S.plan))
 
 -- the first line, by the version
 abbrev pub head_step : State → List ℕ → Step
-head_step S text = if same_text text (codes "1") then Going (record S { last = place Head; asks = None })
-    else if same_text text (codes "2") then Going (record S { last = place Head; asks = Some [] }) else Bad misformed
+head_step S text = if same_text text (codes "1")
+    then Going (record S { last = place Head; asks = None })
+    else if same_text text (codes "2") then Going (record S { last = place Head; asks = Some [] })
+    else Bad misformed
 
 -- what a line of a kind that may stand here makes, by what stands after its word
 abbrev pub part_step : State → LineKind → List ℕ → Step
@@ -163,13 +192,16 @@ part_step S Model text = plan_step S Model text
 part_step S Entity text = plan_step S Entity text
 part_step S Conn text = plan_step S Conn text
 part_step S Async text = plan_step S Async text
-part_step S Ask text = asked S (steps_in S) (found misformed (items_read text) (asked_in S.plan (length S.arrivals)))
+part_step S Ask text = asked S (steps_in S)
+    (found misformed (items_read text) (asked_in S.plan (length S.arrivals)))
 part_step S Got text = arrived S (found misformed (items_read text) (arrival_in S.plan))
 part_step S End text = end_step (length S.arrivals + length (steps_in S)) text
 
--- the tests of a line whose kind is known: the plan before the messages, whether it may stand here, and its own
+-- the tests of a line whose kind is known: the plan before the messages, whether it may stand here,
+-- and its own
 abbrev pub kind_step : State → LineKind → List ℕ → Step
-kind_step S kind text = if ends_plan S.last kind && not (is_none (first_bad S.plan)) then Bad invalid
+kind_step S kind text = if ends_plan S.last kind && not (is_none (first_bad S.plan))
+    then Bad invalid
     else if may_stand S.last kind then part_step S kind text else Bad misformed
 
 abbrev pub known_step : State → Option LineKind → List ℕ → Step
@@ -180,7 +212,8 @@ known_step S (Some kind) text = kind_step S kind text
 abbrev pub line_step : State → List ℕ → Step
 line_step S line = known_step S (kind_of_word (is_second S) (word_of line)) (rest_of line)
 
--- a plan, the messages that came and, in version 2, the steps that were asked for; or a line, from 1, and the number of its fault
+-- a plan, the messages that came and, in version 2, the steps that were asked for; or a line, from
+-- 1, and the number of its fault
 pub data Reading : Type 0 where
   Said : Plan → List Arrival → Option (List Asked) → Reading
   Faulty : ℕ → ℕ → Reading
@@ -190,11 +223,18 @@ abbrev pub closed : State → ℕ → List (List ℕ) → Reading
 closed S line ([] ∷ []) = Said S.plan S.arrivals S.asks
 closed S line pieces = Faulty (line + 1) overlong
 
--- the reading from a line on, the pieces being the lines that are left and, at last, what stands after the last line feed
+-- the reading from a line on, the pieces being the lines that are left and, at last, what stands
+-- after the last line feed
 abbrev pub reading_from : State → ℕ → List (List ℕ) → Reading
 reading_from S line [] = Faulty line unended
 reading_from S line (piece ∷ []) = Faulty line unended
-reading_from S line (piece ∷ next ∷ pieces) = elim (line_step S piece) [ Going T ↦ reading_from T (line + 1) (next ∷ pieces) | Ended ↦ closed S line (next ∷ pieces) | Bad n ↦ Faulty line n ]
+reading_from S line (piece ∷ next ∷ pieces) = elim
+    (line_step S piece) [
+      | Going T ↦ reading_from T (line + 1) (next
+          ∷ pieces)
+      | Ended ↦ closed S line (next ∷ pieces)
+      | Bad n ↦ Faulty line n
+    ]
 
 -- a line feed
 abbrev pub is_feed : ℕ → Bool

@@ -6,7 +6,8 @@ use Rattle.mk_plan.specs.Plans.{sim_count}
 use Rattle.mk_message.specs.Written.{is_in_range}
 use Rattle.mk_record_read.specs.Seen.{came}
 
--- the message came from a simulator of the plan, and each whole number in its content or arguments is in range
+-- the message came from a simulator of the plan, and each whole number in its content or arguments
+-- is in range
 pub record IsKnown (P : Plan) (a : Arrival) : Type 0 where
   pub sim : a.sim < sim_count P
   pub in_range : is_in_range a.message ≡ true

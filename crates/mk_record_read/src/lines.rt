@@ -78,7 +78,14 @@ fn sim_of(
     events: &List<i128>,
 ) -> Result<PlanSim, Mem>
     requires { sim_fits first_id rank events.now ≡ true }
-    ensures { IfOk result (λ s. s ≡ record { id = id.now; kind = kind; first_id = nat_abs first_id; rank = nat_abs rank; initial = events.now }) }
+    ensures { IfOk result (λ s. s
+        ≡ record {
+          id = id.now;
+          kind = kind;
+          first_id = nat_abs first_id;
+          rank = nat_abs rank;
+          initial = events.now;
+        }) }
 {
     Ok(PlanSim {
         id: id.copy()?,
@@ -223,8 +230,10 @@ fn add_way(
     way: &[Json],
 ) -> Result<(), LineFault>
     requires { list_all is_in_range way.now ≡ true }
-    ensures ok { OnOk result (with_way second plan.old from from_attr.now to to_attr.now way.now ≡ Ok plan.new) }
-    ensures err { IfErr result (IsFaultOf (with_way second plan.old from from_attr.now to to_attr.now way.now)) }
+    ensures ok { OnOk result (with_way second plan.old from from_attr.now to to_attr.now way.now
+        ≡ Ok plan.new) }
+    ensures err { IfErr result
+        (IsFaultOf (with_way second plan.old from from_attr.now to to_attr.now way.now)) }
 {
     let [via, persistent, triggering, initial] = way else {
         return Err(MISFORMED);

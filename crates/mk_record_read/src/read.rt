@@ -50,7 +50,8 @@ fn take_part(
     requires valid { 8 ≤ place kind → IsValidPlan progress.old.plan }
     requires sound { IsSound progress.old }
     ensures ok { IfOk result
-        (λ ended. IsStep (state_of progress.old) (part_step (state_of progress.old) kind text.now) ended progress.new) }
+        (λ ended. IsStep (state_of progress.old)
+        (part_step (state_of progress.old) kind text.now) ended progress.new) }
     ensures err { IfErr result (IsBadStep (part_step (state_of progress.old) kind text.now)) }
     ensures sound { IfOk result (λ ended. IsSoundAfter ended progress.new) }
 {
@@ -75,8 +76,10 @@ fn take_head(alloc: Global, progress: &mut Progress, text: &[u8]) -> Result<bool
     requires stands { may_stand progress.old.last LineKind.Head ≡ true }
     requires sound { IsSound progress.old }
     ensures ok { IfOk result
-        (λ ended. IsStep (state_of progress.old) (part_step (state_of progress.old) LineKind.Head text.now) ended progress.new) }
-    ensures err { IfErr result (IsBadStep (part_step (state_of progress.old) LineKind.Head text.now)) }
+        (λ ended. IsStep (state_of progress.old)
+        (part_step (state_of progress.old) LineKind.Head text.now) ended progress.new) }
+    ensures err { IfErr result
+        (IsBadStep (part_step (state_of progress.old) LineKind.Head text.now)) }
     ensures sound { IfOk result (λ ended. IsSoundAfter ended progress.new) }
 {
     if is_word(text, b"1") {
@@ -100,7 +103,8 @@ fn take_addition(
     requires early { place kind < 8 }
     requires sound { IsSound progress.old }
     ensures ok { IfOk result
-        (λ ended. IsStep (state_of progress.old) (plan_step (state_of progress.old) kind text.now) ended progress.new) }
+        (λ ended. IsStep (state_of progress.old)
+        (plan_step (state_of progress.old) kind text.now) ended progress.new) }
     ensures err { IfErr result (IsBadStep (plan_step (state_of progress.old) kind text.now)) }
     ensures sound { IfOk result (λ ended. IsSoundAfter ended progress.new) }
 {
@@ -114,8 +118,10 @@ fn take_message(alloc: Global, progress: &mut Progress, text: &[u8]) -> Result<b
     requires valid { IsValidPlan progress.old.plan }
     requires sound { IsSound progress.old }
     ensures ok { IfOk result
-        (λ ended. IsStep (state_of progress.old) (part_step (state_of progress.old) LineKind.Got text.now) ended progress.new) }
-    ensures err { IfErr result (IsBadStep (part_step (state_of progress.old) LineKind.Got text.now)) }
+        (λ ended. IsStep (state_of progress.old)
+        (part_step (state_of progress.old) LineKind.Got text.now) ended progress.new) }
+    ensures err { IfErr result
+        (IsBadStep (part_step (state_of progress.old) LineKind.Got text.now)) }
     ensures sound { IfOk result (λ ended. IsSoundAfter ended progress.new) }
 {
     let arrival = read_arrival(alloc, &progress.plan, text)?;
@@ -129,8 +135,10 @@ fn take_ask(alloc: Global, progress: &mut Progress, text: &[u8]) -> Result<bool,
     requires valid { IsValidPlan progress.old.plan }
     requires sound { IsSound progress.old }
     ensures ok { IfOk result
-        (λ ended. IsStep (state_of progress.old) (part_step (state_of progress.old) LineKind.Ask text.now) ended progress.new) }
-    ensures err { IfErr result (IsBadStep (part_step (state_of progress.old) LineKind.Ask text.now)) }
+        (λ ended. IsStep (state_of progress.old)
+        (part_step (state_of progress.old) LineKind.Ask text.now) ended progress.new) }
+    ensures err { IfErr result
+        (IsBadStep (part_step (state_of progress.old) LineKind.Ask text.now)) }
     ensures sound { IfOk result (λ ended. IsSoundAfter ended progress.new) }
 {
     let asked = read_asked(alloc, &progress.plan, progress.arrivals.len() as u64, text)?;
@@ -159,7 +167,8 @@ fn line_count(progress: &Progress) -> u128
 fn take_line(alloc: Global, progress: &mut Progress, line: &[u8]) -> Result<bool, LineFault>
     requires { IsSound progress.old }
     ensures ok { IfOk result
-        (λ ended. IsStep (state_of progress.old) (line_step (state_of progress.old) line.now) ended progress.new) }
+        (λ ended. IsStep (state_of progress.old)
+        (line_step (state_of progress.old) line.now) ended progress.new) }
     ensures err { IfErr result (IsBadStep (line_step (state_of progress.old) line.now)) }
     ensures sound { IfOk result (λ ended. IsSoundAfter ended progress.new) }
 {
@@ -178,7 +187,8 @@ fn take_kind(
 ) -> Result<bool, LineFault>
     requires { IsSound progress.old }
     ensures ok { IfOk result
-        (λ ended. IsStep (state_of progress.old) (kind_step (state_of progress.old) kind text.now) ended progress.new) }
+        (λ ended. IsStep (state_of progress.old)
+        (kind_step (state_of progress.old) kind text.now) ended progress.new) }
     ensures err { IfErr result (IsBadStep (kind_step (state_of progress.old) kind text.now)) }
     ensures sound { IfOk result (λ ended. IsSoundAfter ended progress.new) }
 {
@@ -225,7 +235,8 @@ pub fn read_record(alloc: Global, bytes: &[u8]) -> Result<Saved, RecordFault>
     ensures ok { IfOk result (λ s. reading bytes.now ≡ said_by s) }
     ensures valid { IfOk result (λ s. IsValidPlan s.plan) }
     ensures known { IfOk result (λ s. All (IsKnown s.plan) (map came s.arrivals)) }
-    ensures faulty { (l n : ℕ) → result ≡ Err (RecordFault.Line l n) → reading bytes.now ≡ Faulty l n }
+    ensures faulty { (l n : ℕ) → result ≡ Err (RecordFault.Line l n)
+        → reading bytes.now ≡ Faulty l n }
 {
     let mut progress = empty_progress(alloc);
     let mut number: u64 = 1;

@@ -26,13 +26,15 @@ has_left A J i = nat_lt (length (got J i)) (length (messages_from A i))
 
 -- those with a message left whose request is open, in rising number
 abbrev pub candidates : Plan → List Arrival → List Entry → List ℕ
-candidates P A J = filter (λ i. is_some ((view P J).open_at i) && has_left A J i) (range_with_len 0 (sim_count P))
+candidates P A J = filter (λ i. is_some ((view P J).open_at i)
+    && has_left A J i) (range_with_len 0 (sim_count P))
 
 -- all those with a message left
 abbrev pub all_left : Plan → List Arrival → List Entry → List ℕ
 all_left P A J = filter (has_left A J) (range_with_len 0 (sim_count P))
 
--- the candidate at the place that is drawn; where there is none, the first simulator with a message left
+-- the candidate at the place that is drawn; where there is none, the first simulator with a message
+-- left
 abbrev pub chosen : ℕ → List ℕ → List ℕ → Option ℕ
 chosen number (c ∷ cs) left = slice_get (c ∷ cs) (drawn number % length (c ∷ cs))
 chosen number [] left = slice_get left 0
@@ -48,8 +50,15 @@ pub record Drawing : Type 0 where
   pub journal : List Entry
 
 abbrev pub draw_step : Plan → List Arrival → Drawing → Entry → Drawing
-draw_step P A D (Sent s item) = record { number = D.number; journal = D.journal ++ Sent s item ∷ [] }
-draw_step P A D (Got s m) = record { number = after_draw (candidates P A D.journal) D.number; journal = D.journal ++ Got s m ∷ [] }
+draw_step P A D (Sent s item) = record {
+  number = D.number;
+  journal = D.journal
+      ++ Sent s item ∷ [];
+}
+draw_step P A D (Got s m) = record {
+  number = after_draw (candidates P A D.journal) D.number;
+  journal = D.journal ++ Got s m ∷ [];
+}
 
 -- the number after the entries, from N on
 abbrev pub number_after : Plan → List Arrival → ℕ → List Entry → ℕ
@@ -61,21 +70,25 @@ next_sim P A N J = chosen (next_number (number_after P A N J)) (candidates P A J
 
 -- each message came from the simulator that is next after the entries before it
 abbrev pub IsInOrder : Plan → List Arrival → ℕ → List Entry → Type 0
-IsInOrder P A N J = (H : List Entry) (s : SimNo) (m : Message) (more : List Entry) → J ≡ H ++ Got s m ∷ more → next_sim P A N H ≡ Some s.0
+IsInOrder P A N J = (H : List Entry) (s : SimNo) (m : Message) (more : List Entry)
+    → J ≡ H ++ Got s m ∷ more → next_sim P A N H ≡ Some s.0
 
 -- B has the messages of each simulator of A, in the same order
 abbrev pub SameMessages : List Arrival → List Arrival → Type 0
 SameMessages A B = (i : ℕ) → messages_from B i ≡ messages_from A i
 
 -- J is a replay, with this end, of the messages A in the order of N
-pub record IsReplayInOrder (P : Plan) (A : List Arrival) (N : ℕ) (J : List Entry) (end : ReplayEnd) : Type 0 where
+pub record IsReplayInOrder (P : Plan) (A : List Arrival) (N : ℕ) (J : List Entry)
+    (end : ReplayEnd) : Type 0 where
   pub order : List Arrival
   pub same : SameMessages A order
   pub replay : IsReplay P order J
   pub ends : EndsBy P order J end
   pub in_order : IsInOrder P A N J
 
--- what the replay of a record is: of its messages as they came, its steps then compared; or of its messages in the order of a number
-abbrev pub IsReplayBy : Plan → List Arrival → Option (List Asked) → Option ℕ → List Entry → ReplayEnd → Type 0
+-- what the replay of a record is: of its messages as they came, its steps then compared; or of its
+-- messages in the order of a number
+abbrev pub IsReplayBy : Plan → List Arrival → Option (List Asked) → Option ℕ → List Entry
+    → ReplayEnd → Type 0
 IsReplayBy P A steps None J end = IsReplay P A J × IsEndOf P A steps J end
 IsReplayBy P A steps (Some N) J end = IsReplayInOrder P A N J end

@@ -24,14 +24,16 @@ use Rattle.mk_record_replay.specs.declared.replaying.ReplayEnd.TheVariants.{Done
 abbrev pub messages_from : List Arrival → Messages
 messages_from A i = map (λ a. a.message) (filter (λ a. a.sim == i) A)
 
--- the journal J is a replay of the messages A, or of the first of them: no message is given while a simulator is ready
+-- the journal J is a replay of the messages A, or of the first of them: no message is given while a
+-- simulator is ready
 pub record IsReplay (P : Plan) (A : List Arrival) (J : List Entry) : Type 0 where
   pub agrees : Agrees P J
   pub eager : IsEager P J
   pub given : BeginsWith A (arrivals J)
   pub within : length J ≤ P.entries
 
--- all messages were given, nothing is left to do or owed, and each simulator was sent what sequential execution over these messages sends it
+-- all messages were given, nothing is left to do or owed, and each simulator was sent what
+-- sequential execution over these messages sends it
 pub record IsWhole (P : Plan) (A : List Arrival) (J : List Entry) : Type 0 where
   pub given : arrivals J ≡ A
   pub done : IsDone P (view P J)
@@ -62,7 +64,8 @@ pub record IsLastFaulty (P : Plan) (J : List Entry) (f : CoreFault) : Type 0 whe
 abbrev pub IsLeft : List Arrival → List Entry → Type 0
 IsLeft A J = (a : Arrival) × (more : List Arrival) × (A ≡ arrivals J ++ a ∷ more)
 
--- the journal is full, there is no fault, and one more entry is needed: what is owed, a Step, or a message
+-- the journal is full, there is no fault, and one more entry is needed: what is owed, a Step, or a
+-- message
 pub record IsTooLong (P : Plan) (A : List Arrival) (J : List Entry) (f : CoreFault) : Type 0 where
   pub named : f ≡ TooLong P.entries
   pub full : length J ≡ P.entries
@@ -76,7 +79,8 @@ EndsBy P A J (Core f) = IsLastFaulty P J f ⊎ IsTooLong P A J f
 EndsBy P A J (Short n) = IsShort P A J n
 EndsBy P A J (Other n) = ⊥
 
--- how the replay of a record ends, by how that of its messages ends and which of its entries is the first that isn't the journal's: a fault comes first, and then that entry
+-- how the replay of a record ends, by how that of its messages ends and which of its entries is the
+-- first that isn't the journal's: a fault comes first, and then that entry
 abbrev pub end_with : ReplayEnd → Option ℕ → ReplayEnd
 end_with (Core f) other = Core f
 end_with (Other k) other = Other k
@@ -86,7 +90,8 @@ end_with (Short k) None = Short k
 end_with (Short k) (Some n) = Other n
 
 -- what the end of the replay of a record with these messages and steps means
-pub record IsEndOf (P : Plan) (A : List Arrival) (steps : Option (List Asked)) (J : List Entry) (end : ReplayEnd) : Type 0 where
+pub record IsEndOf (P : Plan) (A : List Arrival) (steps : Option (List Asked)) (J : List Entry)
+    (end : ReplayEnd) : Type 0 where
   pub messages_end : ReplayEnd
   pub other : Option ℕ
   pub ends : EndsBy P A J messages_end

@@ -32,7 +32,8 @@ pub fn split(
     arrivals: List<Arrival>,
 ) -> Result<Vec<List<Message>>, Mem>
     requires { All (λ a. (a.sim.0 < count) × (is_message_in_range a.message ≡ true)) arrivals }
-    ensures waiting { IfOk result (λ waiting. AreWaiting count (map came arrivals) [] waiting.items) }
+    ensures waiting { IfOk result
+        (λ waiting. AreWaiting count (map came arrivals) [] waiting.items) }
     ensures fit { IfOk result (λ waiting. AreFit count waiting.items) }
 {
     let mut waiting = empty_lists(alloc, count)?;
@@ -59,7 +60,8 @@ fn empty_lists(alloc: Global, count: usize) -> Result<Vec<List<Message>>, Mem>
 fn push_message(waiting: &mut Vec<List<Message>>, arrival: Arrival) -> Result<(), Mem>
     requires { arrival.sim.0 < length waiting.old.items }
     ensures { (left : List Message) → slice_get waiting.old.items arrival.sim.0 ≡ Some left
-        → OnOk result (waiting.new.items ≡ slice_set waiting.old.items arrival.sim.0 (left ++ arrival.message ∷ [])) }
+        → OnOk result (waiting.new.items
+        ≡ slice_set waiting.old.items arrival.sim.0 (left ++ arrival.message ∷ [])) }
 {
     waiting[arrival.sim.0 as usize].push(arrival.message)
 }
@@ -67,7 +69,8 @@ fn push_message(waiting: &mut Vec<List<Message>>, arrival: Arrival) -> Result<()
 // Takes the last message off those of a simulator.
 fn pop_message(waiting: &mut Vec<List<Message>>, sim: u32) -> Option<Message>
     requires { sim < length waiting.old.items }
-    ensures { (left : List Message) → slice_get waiting.old.items sim ≡ Some left → IsPopped waiting.old.items sim left result waiting.new.items }
+    ensures { (left : List Message) → slice_get waiting.old.items sim ≡ Some left
+        → IsPopped waiting.old.items sim left result waiting.new.items }
 {
     waiting[sim as usize].pop()
 }
@@ -100,7 +103,8 @@ fn round(
     number: &mut u64,
 ) -> Result<Option<ReplayEnd>, Mem>
     requires going { CanGoOn core.old waiting.old.items }
-    ensures round { (A : List journals.Arrival) → (N : ℕ) → IsBetween A N core.old waiting.old.items number.old
+    ensures round { (A : List journals.Arrival) → (N : ℕ)
+        → IsBetween A N core.old waiting.old.items number.old
         → IfOk result (λ end. RoundOf A N core.old end core.new waiting.new.items number.new) }
     ensures moved { IfOk result (λ end. end ≡ None → HasMoved core.old core.new waiting.new.items) }
 {
@@ -130,9 +134,12 @@ fn give_next(
     requires going { CanGoOn core.old waiting.old.items }
     requires few { sim_count core.old.plan < 2 ^ 32 }
     requires nobody { IsUnready core.old }
-    ensures given { (A : List journals.Arrival) → (N : ℕ) → IsBetween A N core.old waiting.old.items number.old
-        → IfOk result (λ given. GivenNext A N core.old given core.new waiting.new.items number.new) }
-    ensures moved { IfOk result (λ given. given ≡ Given.Going → HasMoved core.old core.new waiting.new.items) }
+    ensures given { (A : List journals.Arrival) → (N : ℕ)
+        → IsBetween A N core.old waiting.old.items number.old
+        → IfOk result (λ given.
+        GivenNext A N core.old given core.new waiting.new.items number.new) }
+    ensures moved { IfOk result (λ given. given ≡ Given.Going
+        → HasMoved core.old core.new waiting.new.items) }
     ensures nothing { IfOk result (λ given. given ≡ Given.Nothing → core.new ≡ core.old) }
 {
     match next_sim(alloc, core, waiting.as_slice(), number)? {
@@ -153,7 +160,9 @@ fn give_message(core: &mut Core, sim: SimNo, message: Message) -> Result<Given, 
     requires there { sim.0 < sim_count core.old.plan }
     requires form { is_message_in_range message ≡ true }
     requires nobody { IsUnready core.old }
-    ensures { IfOk result (λ given. GivenMessage core.old (record { sim = sim.0; message = message }) given core.new) }
+    ensures { IfOk result
+        (λ given. GivenMessage core.old
+        (record { sim = sim.0; message = message }) given core.new) }
 {
     match take(core, &Arrival { sim, message })? {
         None => Ok(Given::Going),
@@ -173,8 +182,10 @@ fn next_sim(
     requires count { length waiting.now ≡ sim_count core.now.plan }
     requires few { sim_count core.now.plan < 2 ^ 32 }
     ensures chosen { IfOk result (λ sim. sim ≡ chosen (next_number number.old)
-        (next_among false core.now waiting.now (length waiting.now)) (next_among true core.now waiting.now (length waiting.now))) }
-    ensures drawn { OnOk result (number.new ≡ after_draw (next_among false core.now waiting.now (length waiting.now)) number.old) }
+        (next_among false core.now waiting.now (length waiting.now))
+        (next_among true core.now waiting.now (length waiting.now))) }
+    ensures drawn { OnOk result (number.new
+        ≡ after_draw (next_among false core.now waiting.now (length waiting.now)) number.old) }
 {
     let candidates = sims_left(alloc, core, waiting, false)?;
     if candidates.is_empty() {
@@ -194,7 +205,8 @@ fn first_of(sims: &[u32]) -> Option<u32>
 // Draws one of these.
 fn draw(candidates: &[u32], number: &mut u64) -> u32
     requires { 0 < length candidates.now }
-    ensures chosen { slice_get candidates.now (drawn (next_number number.old) % length candidates.now) ≡ Some result }
+    ensures chosen { slice_get candidates.now
+        (drawn (next_number number.old) % length candidates.now) ≡ Some result }
     ensures number { number.new ≡ next_number number.old }
 {
     *number = next_number(*number);
@@ -227,7 +239,8 @@ fn sims_left(
     requires going { core.now.ended ≡ None }
     requires count { length waiting.now ≡ sim_count core.now.plan }
     requires few { sim_count core.now.plan < 2 ^ 32 }
-    ensures { IfOk result (λ sims. sims.items ≡ next_among any core.now waiting.now (length waiting.now)) }
+    ensures { IfOk result (λ sims. sims.items
+        ≡ next_among any core.now waiting.now (length waiting.now)) }
 {
     let mut sims = Vec::new(alloc);
     for (place, messages) in waiting.iter().enumerate() {
@@ -247,7 +260,8 @@ fn note_sim(
     requires going { core.now.ended ≡ None }
     requires there { sim.0 < sim_count core.now.plan }
     ensures { OnOk result (sims.new.items ≡ sims.old.items
-        ++ (if (any || is_some (open_id core.now sim.0)) && not (length messages.now == 0) then (sim.0 ∷ []) else [])) }
+        ++ (if (any || is_some (open_id core.now sim.0)) && not (length messages.now == 0)
+        then (sim.0 ∷ []) else [])) }
 {
     if may_be_next(core, sim, messages, any) {
         sims.push(sim.0)?;
@@ -258,7 +272,8 @@ fn note_sim(
 fn may_be_next(core: &Core, sim: SimNo, messages: &List<Message>, any: bool) -> bool
     requires going { core.now.ended ≡ None }
     requires there { sim.0 < sim_count core.now.plan }
-    ensures { result ≡ ((any || is_some (open_id core.now sim.0)) && not (length messages.now == 0)) }
+    ensures { result ≡ ((any || is_some (open_id core.now sim.0))
+        && not (length messages.now == 0)) }
 {
     (any || core.id_of(sim).is_some()) && !messages.is_empty()
 }

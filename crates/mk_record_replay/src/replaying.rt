@@ -51,7 +51,9 @@ pub fn replay(alloc: Global, saved: Saved, order: Option<u32>) -> Result<Replaye
     requires valid { IsValidPlan saved.plan }
     requires known { All (IsKnown saved.plan) (map came saved.arrivals) }
     ensures plan { IfOk result (λ r. r.plan ≡ saved.plan) }
-    ensures replay { IfOk result (λ r. IsReplayBy saved.plan (map came saved.arrivals) saved.asks order r.journal.entries r.end) }
+    ensures replay { IfOk result
+        (λ r. IsReplayBy saved.plan
+        (map came saved.arrivals) saved.asks order r.journal.entries r.end) }
 {
     match order {
         None => {
@@ -70,8 +72,10 @@ fn as_recorded(alloc: Global, saved: Saved) -> Result<Replayed, Mem>
     requires valid { IsValidPlan saved.plan }
     requires known { All (IsKnown saved.plan) (map came saved.arrivals) }
     ensures plan { IfOk result (λ r. r.plan ≡ saved.plan) }
-    ensures replay { IfOk result (λ r. IsReplay saved.plan (map came saved.arrivals) r.journal.entries) }
-    ensures end { IfOk result (λ r. IsEndOf saved.plan (map came saved.arrivals) saved.asks r.journal.entries r.end) }
+    ensures replay { IfOk result
+        (λ r. IsReplay saved.plan (map came saved.arrivals) r.journal.entries) }
+    ensures end { IfOk result
+        (λ r. IsEndOf saved.plan (map came saved.arrivals) saved.asks r.journal.entries r.end) }
 {
     let Saved {
         plan,
@@ -95,7 +99,8 @@ fn in_order(alloc: Global, saved: Saved, order: u32) -> Result<Replayed, Mem>
     requires valid { IsValidPlan saved.plan }
     requires known { All (IsKnown saved.plan) (map came saved.arrivals) }
     ensures plan { IfOk result (λ r. r.plan ≡ saved.plan) }
-    ensures replay { IfOk result (λ r. IsReplayInOrder saved.plan (map came saved.arrivals) order r.journal.entries r.end) }
+    ensures replay { IfOk result
+        (λ r. IsReplayInOrder saved.plan (map came saved.arrivals) order r.journal.entries r.end) }
 {
     let Saved {
         plan,
@@ -131,7 +136,9 @@ fn end_with(end: ReplayEnd, other: Option<u32>) -> ReplayEnd
 /// A record has one replay in each order: two journals over its plan and its messages that have come to an end are the same,
 /// and so is their end.
 pub fn replay_is_one()
-    ensures { (P : Plan) → (A : List journals.Arrival) → (steps : Option (List Asked)) → (order : Option ℕ) → (J : List Entry) → (K : List Entry) → (e : ReplayEnd) → (f : ReplayEnd)
+    ensures { (P : Plan) → (A : List journals.Arrival) → (steps : Option (List Asked))
+        → (order : Option ℕ) → (J : List Entry) → (K : List Entry) → (e : ReplayEnd)
+        → (f : ReplayEnd)
         → IsReplayBy P A steps order J e → IsReplayBy P A steps order K f → (J ≡ K) × (e ≡ f) }
 {}
 
@@ -214,7 +221,8 @@ pub fn take(core: &mut Core, arrival: &Arrival) -> Result<Option<CoreFault>, Mem
 // Asks whoever is ready after the last message; how the replay of all messages ends.
 fn finish(core: &mut Core) -> Result<ReplayEnd, Mem>
     requires going { core.old.ended ≡ None }
-    ensures { (A : List journals.Arrival) → IsOnWay core.old.plan A core.old.entries → IfOk result (λ end. IsRun core.old.plan A end core.new) }
+    ensures { (A : List journals.Arrival) → IsOnWay core.old.plan A core.old.entries
+        → IfOk result (λ end. IsRun core.old.plan A end core.new) }
 {
     match settle(core)? {
         Next::Fault(fault) => Ok(ReplayEnd::Core(fault)),

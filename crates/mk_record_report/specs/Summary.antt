@@ -30,4 +30,5 @@ last_line (item ∷ more ∷ items) = last_line (more ∷ items)
 -- the Steps of the last simulator that has one
 abbrev pub last_stepped : List (List Item) → List Item → List Item
 last_stepped [] found = found
-last_stepped (items ∷ more) found = last_stepped more (if nat_lt 0 (length (steps_in items)) then steps_in items else found)
+last_stepped (items ∷ more) found = last_stepped more (if nat_lt 0 (length (steps_in items))
+    then steps_in items else found)

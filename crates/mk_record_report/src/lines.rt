@@ -38,7 +38,9 @@ pub fn put_line(alloc: Global, out: &mut Vec<u8>, item: &Item) -> Result<(), Mem
 
 // Appends a Step's line: its time and tier, and its inputs.
 fn put_step(alloc: Global, out: &mut Vec<u8>, at: &Tier, inputs: &List<Input>) -> Result<(), Mem>
-    ensures { OnOk result (out.new.items ≡ out.old.items ++ (codes "step " ++ signed_decimal at.now.time ++ codes ":" ++ decimal at.now.tier ++ codes " " ++ inputs_text inputs.now ++ codes "\n")) }
+    ensures { OnOk result (out.new.items ≡ out.old.items
+        ++ (codes "step " ++ signed_decimal at.now.time ++ codes ":" ++ decimal at.now.tier
+        ++ codes " " ++ inputs_text inputs.now ++ codes "\n")) }
 {
     put(out, "step ")?;
     put_bytes(out, at.time.to_string(alloc)?.as_bytes())?;
@@ -76,7 +78,8 @@ pub fn put_count(alloc: Global, out: &mut Vec<u8>, n: u128) -> Result<(), Mem>
 
 // Appends the last line, with the number of all Steps.
 pub fn put_total(alloc: Global, out: &mut Vec<u8>, total: u128) -> Result<(), Mem>
-    ensures { OnOk result (out.new.items ≡ out.old.items ++ (codes "end " ++ decimal total ++ codes "\n")) }
+    ensures { OnOk result (out.new.items ≡ out.old.items
+        ++ (codes "end " ++ decimal total ++ codes "\n")) }
 {
     put(out, "end ")?;
     put_bytes(out, total.to_string(alloc)?.as_bytes())?;

@@ -44,7 +44,8 @@ fn empty_parts(alloc: Global, count: usize) -> Result<Vec<Part>, Mem>
 // The parts after one more entry.
 fn note(alloc: Global, parts: &mut Vec<Part>, entry: &Entry) -> Result<(), Mem>
     requires { All (λ p. p.steps < 2 ^ 64 - 1) parts.old.items }
-    ensures { (count : ℕ) → (J : List Entry) → AreParts count J parts.old.items → OnOk result (AreParts count (J ++ entry.now ∷ []) parts.new.items) }
+    ensures { (count : ℕ) → (J : List Entry) → AreParts count J parts.old.items
+        → OnOk result (AreParts count (J ++ entry.now ∷ []) parts.new.items) }
 {
     match entry {
         Entry::Sent(sim, item) => {

@@ -27,7 +27,8 @@ pub fn write_report(alloc: Global, plan: &Plan, journal: &Journal) -> Result<Vec
 
 // Appends a simulator's part: its id, and the lines of what it was sent.
 fn put_part(out: &mut Vec<u8>, sim: &PlanSim, part: &Part) -> Result<(), Mem>
-    ensures { OnOk result (out.new.items ≡ out.old.items ++ codes "sim " ++ sim.now.id ++ codes "\n" ++ part.now.lines.items) }
+    ensures { OnOk result (out.new.items ≡ out.old.items ++ codes "sim " ++ sim.now.id ++ codes "\n"
+        ++ part.now.lines.items) }
 {
     put(out, "sim ")?;
     put_bytes(out, sim.id.bytes())?;

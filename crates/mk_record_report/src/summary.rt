@@ -69,7 +69,8 @@ fn put_last(
     entries: &[Entry],
     sim: Option<usize>,
 ) -> Result<(), Mem>
-    ensures { OnOk result (out.new.items ≡ out.old.items ++ last_line (steps_at (sent entries.now) sim)) }
+    ensures { OnOk result (out.new.items ≡ out.old.items
+        ++ last_line (steps_at (sent entries.now) sim)) }
 {
     match sim {
         None => Ok(()),
@@ -96,7 +97,9 @@ fn last_step(entries: &[Entry], sim: usize) -> Option<&Item>
 
 // The second item, if there is one, else the first.
 fn later<'a>(first: Option<&'a Item>, second: Option<&'a Item>) -> Option<&'a Item>
-    ensures { option_map (λ item. item.now) result ≡ later (option_map (λ item. item.now) first.entry) (option_map (λ item. item.now) second.entry) }
+    ensures { option_map (λ item. item.now) result
+        ≡ later (option_map (λ item. item.now) first.entry)
+        (option_map (λ item. item.now) second.entry) }
 {
     match second {
         Some(item) => Some(item),

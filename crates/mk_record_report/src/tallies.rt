@@ -47,7 +47,8 @@ fn empty_tallies(alloc: Global, count: usize) -> Result<Vec<Tally>, Mem>
 fn note(tallies: &mut Vec<Tally>, entry: &Entry)
     requires steps { All (λ t. t.steps < 2 ^ 64 - 1) tallies.old.items }
     requires values { all_values tallies.old.items + (2 ^ 64 - 1) < 2 ^ 128 }
-    ensures each { (count : ℕ) → (J : List Entry) → AreTallies count J tallies.old.items → AreTallies count (J ++ entry.now ∷ []) tallies.new.items }
+    ensures each { (count : ℕ) → (J : List Entry) → AreTallies count J tallies.old.items
+        → AreTallies count (J ++ entry.now ∷ []) tallies.new.items }
     ensures within { all_values tallies.new.items ≤ all_values tallies.old.items + (2 ^ 64 - 1) }
 {
     match entry {

@@ -127,7 +127,8 @@ pub fn put_quoted(alloc: Global, out: &mut Vec<u8>, text: &Text) -> Result<(), M
 }
 
 pub fn put_texts(alloc: Global, out: &mut Vec<u8>, texts: &[Text]) -> Result<(), Mem>
-    ensures written { OnOk result (out.new.items ≡ out.old.items ++ list_text (map quoted texts.now)) }
+    ensures written { OnOk result (out.new.items ≡ out.old.items
+        ++ list_text (map quoted texts.now)) }
     ensures utf8 { OnOk result (list_all is_utf8 texts.now ≡ true) }
 {
     put(out, "[")?;

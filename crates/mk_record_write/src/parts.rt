@@ -91,7 +91,8 @@ fn put_sim(alloc: Global, out: &mut Vec<u8>, sim: &PlanSim) -> Result<(), Mem>
 // The first id, the rank and the initial events, each behind a comma.
 fn put_numbers_of_sim(out: &mut Vec<u8>, sim: &PlanSim) -> Result<(), Mem>
     ensures { OnOk result (out.new.items ≡ out.old.items ++ (44 ∷ join_with_byte 44 (
-        decimal sim.now.first_id ∷ decimal sim.now.rank ∷ list_text (map signed_decimal sim.now.initial) ∷ []))) }
+        decimal sim.now.first_id ∷ decimal sim.now.rank
+        ∷ list_text (map signed_decimal sim.now.initial) ∷ []))) }
 {
     put(out, ",")?;
     put_unsigned(out, sim.first_id)?;
@@ -102,7 +103,8 @@ fn put_numbers_of_sim(out: &mut Vec<u8>, sim: &PlanSim) -> Result<(), Mem>
 }
 
 fn put_models(alloc: Global, out: &mut Vec<u8>, models: &[PlanModel]) -> Result<(), Mem>
-    ensures written { OnOk result (out.new.items ≡ out.old.items ++ flat_map model_line models.now) }
+    ensures written { OnOk result (out.new.items ≡ out.old.items
+        ++ flat_map model_line models.now) }
     ensures utf8 { OnOk result (list_all model_is_text models.now ≡ true) }
 {
     for model in models {
@@ -136,7 +138,8 @@ fn put_attributes(alloc: Global, out: &mut Vec<u8>, model: &PlanModel) -> Result
 }
 
 fn put_entities(alloc: Global, out: &mut Vec<u8>, entities: &[PlanEntity]) -> Result<(), Mem>
-    ensures written { OnOk result (out.new.items ≡ out.old.items ++ flat_map entity_line entities.now) }
+    ensures written { OnOk result (out.new.items ≡ out.old.items
+        ++ flat_map entity_line entities.now) }
     ensures utf8 { OnOk result (list_all (λ e. is_utf8 e.eid) entities.now ≡ true) }
 {
     for entity in entities {

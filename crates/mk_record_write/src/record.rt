@@ -29,7 +29,8 @@ pub fn write_record(alloc: Global, plan: &Plan, journal: &Journal) -> Result<Vec
     requires { list_all is_writable journal.now.entries ≡ true }
     ensures text { IfOk result (λ text. text.items ≡ record_text plan.now journal.now.entries) }
     ensures again { IfOk result (λ text. IsReadable plan.now journal.now.entries
-        → reading text.items ≡ Said plan.now (arrivals journal.now.entries) (Some (steps_of journal.now.entries))) }
+        → reading text.items
+        ≡ Said plan.now (arrivals journal.now.entries) (Some (steps_of journal.now.entries))) }
 {
     let out = bytes_of(alloc, plan, journal)?;
     Ok(out)
@@ -53,7 +54,8 @@ fn bytes_of(alloc: Global, plan: &Plan, journal: &Journal) -> Result<Vec<u8>, Me
 
 // Appends the last line, with the number of lines for entries.
 fn put_end(out: &mut Vec<u8>, count: usize) -> Result<(), Mem>
-    ensures written { OnOk result (out.new.items ≡ out.old.items ++ (codes "end " ++ (decimal count ++ codes "\n"))) }
+    ensures written { OnOk result (out.new.items ≡ out.old.items
+        ++ (codes "end " ++ (decimal count ++ codes "\n"))) }
     ensures few { count < 2 ^ 64 }
 {
     put(out, "end ")?;

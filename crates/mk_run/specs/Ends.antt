@@ -34,7 +34,8 @@ use Rattle.mk_run_laws.specs.Laws.{IsJournalOf}
 use Rattle.mk_run.specs.declared.outcome.Outcome.{Outcome}
 use Rattle.mk_run.specs.declared.outcome.Outcome.TheVariants as outcome
 
--- every item of the journal was queued; but for the last, where it was too long or there was no memory for it
+-- every item of the journal was queued; but for the last, where it was too long or there was no
+-- memory for it
 abbrev pub QueuedAll : Outcome → List Item → List Item → Type 0
 QueuedAll outcome.Done all queued = queued ≡ all
 QueuedAll (outcome.Setup f) all queued = queued ≡ all
@@ -57,7 +58,8 @@ pub record IsLastFaulty (P : Plan) (J : List Entry) (f : CoreFault) : Type 0 whe
   pub fault : (view P J).fault ≡ fault_in f
 
 -- a message of the run was heard on a link that the journal hasn't got
-pub record IsUngot (started : ℕ) (S : Scenario) (J : List Entry) (log : List LogEntry) : Type 0 where
+pub record IsUngot (started : ℕ) (S : Scenario) (J : List Entry)
+    (log : List LogEntry) : Type 0 where
   pub sim : ℕ
   pub link : LinkNo
   pub linked : sim_link started S sim ≡ Some link
@@ -87,7 +89,8 @@ pub record IsFull (P : Plan) (J : List Entry) (f : CoreFault) (left : Type 0) : 
   pub more : NeedsMore P J left
 
 -- all messages of the run that were heard of simulator i were got
-pub record HasGotAll (started : ℕ) (S : Scenario) (log : List LogEntry) (J : List Entry) (i : ℕ) (l : LinkNo) : Type 0 where
+pub record HasGotAll (started : ℕ) (S : Scenario) (log : List LogEntry) (J : List Entry) (i : ℕ)
+    (l : LinkNo) : Type 0 where
   pub linked : sim_link started S i ≡ Some l
   pub all : got J i ≡ run_messages S log i l
 
@@ -105,11 +108,15 @@ pub record IsLongItem (P : Plan) (J : List Entry) (i n : ℕ) : Type 0 where
 abbrev pub ShownBy : ℕ → Scenario → Plan → List Entry → List LogEntry → ℕ → ℕ → Outcome → Type 0
 ShownBy started S P J log faults new_faults outcome.Done = IsDone P (view P J)
 ShownBy started S P J log faults new_faults (outcome.Setup f) = ⊥
-ShownBy started S P J log faults new_faults (outcome.Core f) = IsLastFaulty P J f ⊎ IsFull P J f (IsMessageLeft started S P J log)
+ShownBy started S P J log faults new_faults (outcome.Core f) = IsLastFaulty P J f
+    ⊎ IsFull P J f (IsMessageLeft started S P J log)
 ShownBy started S P J log faults new_faults outcome.Fleet = HasRisen faults new_faults
-ShownBy started S P J log faults new_faults (outcome.Gone i) = (l : LinkNo) × HasGotAll started S log J i.0 l × IsIn (Ended l) log
-ShownBy started S P J log faults new_faults (outcome.Garbled i n) = (l : LinkNo) × HasGotAll started S log J i.0 l × BeginsGarbled (rest_heard (heard_on l log)) n
-ShownBy started S P J log faults new_faults (outcome.LongFrame i n) = (l : LinkNo) × HasGotAll started S log J i.0 l × IsTooLong n (rest_heard (heard_on l log))
+ShownBy started S P J log faults new_faults (outcome.Gone i) = (l : LinkNo)
+    × HasGotAll started S log J i.0 l × IsIn (Ended l) log
+ShownBy started S P J log faults new_faults (outcome.Garbled i n) = (l : LinkNo)
+    × HasGotAll started S log J i.0 l × BeginsGarbled (rest_heard (heard_on l log)) n
+ShownBy started S P J log faults new_faults (outcome.LongFrame i n) = (l : LinkNo)
+    × HasGotAll started S log J i.0 l × IsTooLong n (rest_heard (heard_on l log))
 ShownBy started S P J log faults new_faults (outcome.LongItem i n) = IsLongItem P J i.0 n
 ShownBy started S P J log faults new_faults outcome.Mem = ⊤
 
@@ -127,35 +134,46 @@ IsBrokenOff outcome.Mem = ⊥
 
 -- at each rest of the handshake its clause stands
 abbrev pub SetupRestsWell : ℕ → Scenario → List LogEntry → Type 0
-SetupRestsWell started S log = (before after : List LogEntry) → log ≡ before ++ Rest ∷ after → (AllSetUp started S before → ⊥) → IsWellInSetup started S before
+SetupRestsWell started S log = (before after : List LogEntry) → log ≡ before ++ Rest ∷ after
+    → (AllSetUp started S before → ⊥) → IsWellInSetup started S before
 
 -- each message in the journal has whole numbers that may be written
 abbrev pub AreInRange : List Entry → Type 0
-AreInRange J = (H : List Entry) (s : SimNo) (m : Message) (more : List Entry) → J ≡ H ++ Got s m ∷ more → is_in_range m ≡ true
+AreInRange J = (H : List Entry) (s : SimNo) (m : Message) (more : List Entry)
+    → J ≡ H ++ Got s m ∷ more → is_in_range m ≡ true
 
--- a run with a plan and a journal, over the entries that it added to the log; where it was broken off some request was open
-pub record IsRun (started : ℕ) (S : Scenario) (reply : Replies) (P : Plan) (J : List Entry) (log : List LogEntry) (faults new_faults : ℕ) (end : Outcome) : Type 0 where
+-- a run with a plan and a journal, over the entries that it added to the log; where it was broken
+-- off some request was open
+pub record IsRun (started : ℕ) (S : Scenario) (reply : Replies) (P : Plan) (J : List Entry)
+    (log : List LogEntry) (faults new_faults : ℕ) (end : Outcome) : Type 0 where
   pub replies : SetupReplies
   pub valid : IsValidPlan P
   pub journal : IsJournalOf started S reply P log J
   pub eager : IsEager P J
   pub in_range : AreInRange J
-  pub links : (i : ℕ) (l : LinkNo) → sim_link started S i ≡ Some l → (items : List Item) × IsLinkOfRun S replies J log (HasRisen faults new_faults) i l items × QueuedAll end (sent J i) items
+  pub links : (i : ℕ) (l : LinkNo) → sim_link started S i ≡ Some l → (items : List Item)
+      × IsLinkOfRun S replies J log (HasRisen faults new_faults) i l items
+      × QueuedAll end (sent J i) items
   pub rests : RestsWell started S P J log
   pub setup_rests : SetupRestsWell started S log
   pub shown : ShownBy started S P J log faults new_faults end
   pub unfinished : IsBrokenOff end → SomeOpen P J
 
 -- nothing went wrong that a run can show
-pub record IsFaultless (started : ℕ) (S : Scenario) (P : Plan) (J : List Entry) (log : List LogEntry) (faults new_faults : ℕ) : Type 0 where
+pub record IsFaultless (started : ℕ) (S : Scenario) (P : Plan) (J : List Entry)
+    (log : List LogEntry) (faults new_faults : ℕ) : Type 0 where
   pub no_fault : (view P J).fault ≡ None
   pub roomy : length J ≡ P.entries → NeedsMore P J (IsMessageLeft started S P J log) → ⊥
   pub counts : HasRisen faults new_faults → ⊥
   pub open_links : (i : ℕ) (l : LinkNo) → sim_link started S i ≡ Some l → IsIn (Ended l) log → ⊥
-  pub right_frames : (i : ℕ) (l : LinkNo) (n : ℕ) → sim_link started S i ≡ Some l → BeginsGarbled (rest_heard (heard_on l log)) n ⊎ IsTooLong n (rest_heard (heard_on l log)) → ⊥
+  pub right_frames : (i : ℕ) (l : LinkNo) (n : ℕ) → sim_link started S i ≡ Some l
+      → BeginsGarbled (rest_heard (heard_on l log)) n ⊎ IsTooLong n (rest_heard (heard_on l log))
+      → ⊥
   pub short_items : (i n : ℕ) → IsLongItem P J i n → ⊥
 
 -- then it ended because nothing was left to do, or for want of memory
 abbrev pub Completes : Type 0
-Completes = (started : ℕ) (S : Scenario) (reply : Replies) (P : Plan) (J : List Entry) (log : List LogEntry) (faults new_faults : ℕ) (end : Outcome) → IsRun started S reply P J log faults new_faults end
+Completes = (started : ℕ) (S : Scenario) (reply : Replies) (P : Plan) (J : List Entry)
+    (log : List LogEntry) (faults new_faults : ℕ) (end : Outcome)
+    → IsRun started S reply P J log faults new_faults end
     → IsFaultless started S P J log faults new_faults → (end ≡ outcome.Done) ⊎ (end ≡ outcome.Mem)

@@ -15,7 +15,8 @@ outcome_of (halt.LongFrame sim n) = outcome.LongFrame sim n
 outcome_of (halt.LongItem sim n) = outcome.LongItem sim n
 outcome_of halt.Mem = outcome.Mem
 
--- what may end a run whose simulators are all within the program: that nothing is left to do, a fault of the handshake, one of the core, or want of memory
+-- what may end a run whose simulators are all within the program: that nothing is left to do, a
+-- fault of the handshake, one of the core, or want of memory
 abbrev pub IsWithinOutcome : Outcome → Type 0
 IsWithinOutcome outcome.Done = ⊤
 IsWithinOutcome (outcome.Setup fault) = ⊤

@@ -20,24 +20,33 @@ use Rattle.mk_run.specs.declared.outcome.Outcome.{Outcome}
 use Rattle.mk_run.specs.Ends.{IsRun}
 use Rattle.mk_run.specs.Outcomes.{outcome_of}
 
--- the handshake was made, and what came of the run then: the plan is made of the answers to all requests, those of simulators within the program being their kinds', and each simulator's run begins behind its requests
-pub record HasRun (started : ℕ) (S : Scenario) (ranks : List ℕ) (rows : List Turn) (P : Plan) (J : List Entry) (log : List LogEntry) (faults new_faults : ℕ) (end : Outcome) : Type 0 where
+-- the handshake was made, and what came of the run then: the plan is made of the answers to all
+-- requests, those of simulators within the program being their kinds', and each simulator's run
+-- begins behind its requests
+pub record HasRun (started : ℕ) (S : Scenario) (ranks : List ℕ) (rows : List Turn) (P : Plan)
+    (J : List Entry) (log : List LogEntry) (faults new_faults : ℕ) (end : Outcome) : Type 0 where
   pub answers : List Message
   pub made : IsMade S ranks answers P
   pub kinds : AreKindAnswers rows S answers
   pub first : (i : ℕ) → i < sim_count P → first_id P i ≡ setup_count S i
   pub run : IsRun started S (kind_reply_of rows S) P J log faults new_faults end
-  pub told : (i : ℕ) (l : LinkNo) → sim_link started S i ≡ Some l → run.replies i ≡ answers_to i (setup_requests S) answers
+  pub told : (i : ℕ) (l : LinkNo) → sim_link started S i ≡ Some l
+      → run.replies i ≡ answers_to i (setup_requests S) answers
 
 -- the handshake ended early, or there was no memory for the run
-pub record HasNotRun (started : ℕ) (S : Scenario) (ranks : List ℕ) (rows : List Turn) (log : List LogEntry) (risen : Type 0) (end : Outcome) : Type 0 where
+pub record HasNotRun (started : ℕ) (S : Scenario) (ranks : List ℕ) (rows : List Turn)
+    (log : List LogEntry) (risen : Type 0) (end : Outcome) : Type 0 where
   pub halt : Halt
   pub is : end ≡ outcome_of halt
   pub halted : HasHalted started S ranks rows log risen halt
 
 -- a run with its plan and its journal, or with neither
-abbrev pub RunsAs : ℕ → Scenario → List ℕ → List Turn → Option Plan → Option Journal → List LogEntry → ℕ → ℕ → Outcome → Type 0
-RunsAs started S ranks rows (Some P) (Some J) log faults new_faults end = HasRun started S ranks rows P J.entries log faults new_faults end
+abbrev pub RunsAs : ℕ → Scenario → List ℕ → List Turn → Option Plan → Option Journal → List LogEntry
+    → ℕ → ℕ → Outcome → Type 0
+RunsAs started S ranks rows (Some P)
+    (Some J) log faults new_faults end = HasRun started S ranks rows P J.entries log faults
+    new_faults end
 RunsAs started S ranks rows (Some P) None log faults new_faults end = ⊥
 RunsAs started S ranks rows None (Some J) log faults new_faults end = ⊥
-RunsAs started S ranks rows None None log faults new_faults end = HasNotRun started S ranks rows log (HasRisen faults new_faults) end
+RunsAs started S ranks rows None None log faults new_faults end = HasNotRun started S ranks rows log
+    (HasRisen faults new_faults) end

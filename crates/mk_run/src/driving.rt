@@ -57,7 +57,8 @@ pub fn take(
     requires there { sim.0 < sim_count core.old.plan }
     requires form { is_message_in_range message.now ≡ true }
     requires known { AreOf (rows_in kinds.now) (within_of crew.old) }
-    requires heard { (T : Setting) × (log : List LogEntry) × IsPast T core.old log sim message.now crew.old }
+    requires heard { (T : Setting) × (log : List LogEntry)
+        × IsPast T core.old log sim message.now crew.old }
     ensures taken { TakesAs result sim message.now core.old crew.old core.new crew.new }
     ensures grown { OnOk result (IsLonger core.old core.new) }
     ensures long { IfErr result (IsLinkedIfLong crew.new) }
@@ -90,7 +91,8 @@ fn hear<F: Fleet, R: Wait>(
     ensures same_count { F.started fleet.new ≡ F.started fleet.old }
     ensures same_links { F.open_links fleet.new ≡ F.open_links fleet.old }
     ensures turned { (entries : List LogEntry) × Adds entries (F.log fleet.old) (F.log fleet.new)
-        × TurnsAs result entries (HasRisen (F.faults fleet.old) (F.faults fleet.new)) core.old crew.old core.new crew.new }
+        × TurnsAs result entries
+        (HasRisen (F.faults fleet.old) (F.faults fleet.new)) core.old crew.old core.new crew.new }
     ensures still { IsStill crew.old crew.new }
     ensures unhalted { OnOk result (crew.new.halt ≡ None) }
 {
@@ -111,12 +113,14 @@ fn turn<F: Fleet, R: Wait>(
     requires going { core.old.ended ≡ None }
     requires unhalted { crew.old.halt ≡ None }
     requires known { AreOf (rows_in kinds.now) (within_of crew.old) }
-    requires underway { (T : Setting) × (log : List LogEntry) × GoesOn T core.old log crew.old × AreLinksOpen T (F.open_links fleet.old) }
+    requires underway { (T : Setting) × (log : List LogEntry) × GoesOn T core.old log crew.old
+        × AreLinksOpen T (F.open_links fleet.old) }
     ensures count { F.faults fleet.old ≤ F.faults fleet.new }
     ensures same_count { F.started fleet.new ≡ F.started fleet.old }
     ensures same_links { F.open_links fleet.new ≡ F.open_links fleet.old }
     ensures turned { (entries : List LogEntry) × Adds entries (F.log fleet.old) (F.log fleet.new)
-        × TurnsAs result entries (HasRisen (F.faults fleet.old) (F.faults fleet.new)) core.old crew.old core.new crew.new }
+        × TurnsAs result entries
+        (HasRisen (F.faults fleet.old) (F.faults fleet.new)) core.old crew.old core.new crew.new }
     ensures still { IsStill crew.old crew.new }
     ensures unhalted { OnOk result (crew.new.halt ≡ None) }
 {
@@ -135,12 +139,14 @@ pub fn drive<F: Fleet, R: Wait>(
     requires going { core.old.ended ≡ None }
     requires unhalted { crew.old.halt ≡ None }
     requires known { AreOf (rows_in kinds.now) (within_of crew.old) }
-    requires underway { (T : Setting) × (log : List LogEntry) × GoesOn T core.old log crew.old × AreLinksOpen T (F.open_links fleet.old) }
+    requires underway { (T : Setting) × (log : List LogEntry) × GoesOn T core.old log crew.old
+        × AreLinksOpen T (F.open_links fleet.old) }
     ensures count { F.faults fleet.old ≤ F.faults fleet.new }
     ensures same_count { F.started fleet.new ≡ F.started fleet.old }
     ensures same_links { F.open_links fleet.new ≡ F.open_links fleet.old }
     ensures ended { (entries : List LogEntry) × Adds entries (F.log fleet.old) (F.log fleet.new)
-        × TurnsAs (Err result) entries (HasRisen (F.faults fleet.old) (F.faults fleet.new)) core.old crew.old core.new crew.new }
+        × TurnsAs (Err result) entries
+        (HasRisen (F.faults fleet.old) (F.faults fleet.new)) core.old crew.old core.new crew.new }
     ensures still { IsStill crew.old crew.new }
 {
     for _ in rt.forever() {

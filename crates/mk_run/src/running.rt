@@ -50,9 +50,13 @@ pub fn run<F: Fleet, R: Wait>(
     requires prepared { IsPrepared scenario (map name_of (rows_in kinds.now)) }
     ensures count { F.faults fleet.old ≤ F.faults fleet.new }
     ensures ran { (entries : List LogEntry) × Adds entries (F.log fleet.old) (F.log fleet.new)
-        × RunsAs (F.started fleet.old) scenario ranks (rows_in kinds.now) result.plan result.journal entries (F.faults fleet.old) (F.faults fleet.new) result.outcome }
-    ensures closed { AreNumbered (F.started fleet.old) (F.open_links fleet.old) → F.open_links fleet.new ≡ F.open_links fleet.old }
-    ensures within { is_wholly_within scenario ≡ true → (fleet.new ≡ fleet.old) × IsWithinOutcome result.outcome }
+        × RunsAs (F.started fleet.old) scenario ranks
+        (rows_in kinds.now) result.plan result.journal entries (F.faults fleet.old)
+        (F.faults fleet.new) result.outcome }
+    ensures closed { AreNumbered (F.started fleet.old) (F.open_links fleet.old)
+        → F.open_links fleet.new ≡ F.open_links fleet.old }
+    ensures within { is_wholly_within scenario ≡ true → (fleet.new ≡ fleet.old)
+        × IsWithinOutcome result.outcome }
 {
     if is_wholly_within(&scenario) {
         return run_local(alloc, scenario, ranks, kinds);
@@ -79,11 +83,15 @@ fn run_plan<F: Fleet, R: Wait>(
     requires valid { IsValidPlan plan }
     requires unhalted { crew.halt ≡ None }
     requires known { AreOf (rows_in kinds.now) (within_of crew) }
-    requires underway { (T : Setting) × (log : List LogEntry) × IsUnderway T plan [] log (crew_of crew) crew.sims × AreLinksOpen T (F.open_links fleet.old) }
+    requires underway { (T : Setting) × (log : List LogEntry)
+        × IsUnderway T plan [] log (crew_of crew) crew.sims
+        × AreLinksOpen T (F.open_links fleet.old) }
     ensures count { F.faults fleet.old ≤ F.faults fleet.new }
     ensures ran { (entries : List LogEntry) × Adds entries (F.log fleet.old) (F.log fleet.new)
-        × PlanRunsAs plan crew entries (F.faults fleet.old) (F.faults fleet.new) result.plan result.journal result.outcome }
-    ensures closed { F.open_links fleet.new ≡ without_all (links_in crew.places) (F.open_links fleet.old) }
+        × PlanRunsAs plan crew entries (F.faults fleet.old)
+        (F.faults fleet.new) result.plan result.journal result.outcome }
+    ensures closed { F.open_links fleet.new
+        ≡ without_all (links_in crew.places) (F.open_links fleet.old) }
 {
     let mut crew = crew;
     match Core::new(alloc, plan) {

@@ -22,12 +22,15 @@ pub fn send_last(core: &Core, crew: &mut Crew, kinds: &Registry, sim: SimNo) -> 
     requires there { sim.0 < sim_count core.now.plan }
     requires known { AreOf (rows_in kinds.now) (within_of crew.old) }
     requires due { CanSend core.now sim crew.old }
-    ensures sent { OnOk result ((item : Item) → (id : ℕ) → EndsWithItem core.now sim item id → SendsAs sim.0 item id crew.old crew.new) }
-    ensures unsent { IfErr result (λ end. (item : Item) → (id : ℕ) → EndsWithItem core.now sim item id → IsUnsent end sim.0 item crew.old) }
+    ensures sent { OnOk result ((item : Item) → (id : ℕ) → EndsWithItem core.now sim item id
+        → SendsAs sim.0 item id crew.old crew.new) }
+    ensures unsent { IfErr result (λ end. (item : Item) → (id : ℕ)
+        → EndsWithItem core.now sim item id → IsUnsent end sim.0 item crew.old) }
     ensures err { OnErr result (crew.new ≡ crew.old) }
     ensures same_places { crew.new.places ≡ crew.old.places }
     ensures same_halt { crew.new.halt ≡ crew.old.halt }
-    ensures kinds { (rows : List Turn) → AreOf rows (within_of crew.old) → AreOf rows (within_of crew.new) }
+    ensures kinds { (rows : List Turn) → AreOf rows (within_of crew.old)
+        → AreOf rows (within_of crew.new) }
 {
     let Some(id) = core.id_of(sim) else {
         unreachable!()

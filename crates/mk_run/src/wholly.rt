@@ -29,7 +29,8 @@ fn take_next(core: &mut Core, crew: &mut Crew, kinds: &Registry) -> Result<(), O
     requires going { core.old.ended ≡ None }
     requires known { AreOf (rows_in kinds.now) (within_of crew.old) }
     requires waits { Waits core.old }
-    requires underway { (T : Setting) × GoesOn T core.old [] crew.old × (is_wholly_within T.scenario ≡ true) }
+    requires underway { (T : Setting) × GoesOn T core.old [] crew.old
+        × (is_wholly_within T.scenario ≡ true) }
     ensures turned { TurnsAs result [] ⊥ core.old crew.old core.new crew.new }
     ensures grown { OnOk result (IsLonger core.old core.new) }
     ensures long { IfErr result (IsLinkedIfLong crew.new) }
@@ -45,7 +46,8 @@ fn take_next(core: &mut Core, crew: &mut Crew, kinds: &Registry) -> Result<(), O
 fn turn_within(core: &mut Core, crew: &mut Crew, kinds: &Registry) -> Result<(), Outcome>
     requires going { core.old.ended ≡ None }
     requires known { AreOf (rows_in kinds.now) (within_of crew.old) }
-    requires underway { (T : Setting) × GoesOn T core.old [] crew.old × (is_wholly_within T.scenario ≡ true) }
+    requires underway { (T : Setting) × GoesOn T core.old [] crew.old
+        × (is_wholly_within T.scenario ≡ true) }
     ensures turned { TurnsAs result [] ⊥ core.old crew.old core.new crew.new }
     ensures grown { OnOk result (IsLonger core.old core.new) }
     ensures long { IfErr result (IsLinkedIfLong crew.new) }
@@ -59,7 +61,8 @@ fn turn_within(core: &mut Core, crew: &mut Crew, kinds: &Registry) -> Result<(),
 fn drive_within(core: &mut Core, crew: &mut Crew, kinds: &Registry) -> Outcome
     requires going { core.old.ended ≡ None }
     requires known { AreOf (rows_in kinds.now) (within_of crew.old) }
-    requires underway { (T : Setting) × GoesOn T core.old [] crew.old × (is_wholly_within T.scenario ≡ true) }
+    requires underway { (T : Setting) × GoesOn T core.old [] crew.old
+        × (is_wholly_within T.scenario ≡ true) }
     ensures ended { TurnsAs (Err result) [] ⊥ core.old crew.old core.new crew.new }
     ensures long { IsLinkedIfLong crew.new result }
 {
@@ -75,8 +78,10 @@ fn drive_within(core: &mut Core, crew: &mut Crew, kinds: &Registry) -> Outcome
 fn run_plan_within(alloc: Global, plan: Plan, crew: Crew, kinds: &Registry) -> Ran
     requires valid { IsValidPlan plan }
     requires known { AreOf (rows_in kinds.now) (within_of crew) }
-    requires underway { (T : Setting) × IsUnderway T plan [] [] (crew_of crew) crew.sims × (is_wholly_within T.scenario ≡ true) }
-    ensures ran { (faults : ℕ) → PlanRunsAs plan crew [] faults faults result.plan result.journal result.outcome }
+    requires underway { (T : Setting) × IsUnderway T plan [] [] (crew_of crew) crew.sims
+        × (is_wholly_within T.scenario ≡ true) }
+    ensures ran { (faults : ℕ)
+        → PlanRunsAs plan crew [] faults faults result.plan result.journal result.outcome }
     ensures within { IsWithinOutcome result.outcome }
 {
     let mut crew = crew;
@@ -108,7 +113,9 @@ pub fn run_local(alloc: Global, scenario: Scenario, ranks: List<u32>, kinds: &Re
     requires ranked { AreRanksOf scenario ranks }
     requires prepared { IsPrepared scenario (map name_of (rows_in kinds.now)) }
     requires wholly { is_wholly_within scenario ≡ true }
-    ensures ran { (started faults : ℕ) → RunsAs started scenario ranks (rows_in kinds.now) result.plan result.journal [] faults faults result.outcome }
+    ensures ran { (started faults : ℕ)
+        → RunsAs started scenario ranks
+        (rows_in kinds.now) result.plan result.journal [] faults faults result.outcome }
     ensures within { IsWithinOutcome result.outcome }
 {
     match Crew::begin_within(alloc, scenario, ranks, kinds) {

@@ -20,23 +20,34 @@ use Rattle.mk_run_local.specs.Made.{first_at}
 abbrev pub answers_to : ℕ → List Request → List Message → List Message
 answers_to i [] answers = []
 answers_to i (r ∷ requests) [] = []
-answers_to i (r ∷ requests) (m ∷ answers) = if r.sim == i then m ∷ answers_to i requests answers else answers_to i requests answers
+answers_to i (r ∷ requests) (m ∷ answers) = if r.sim == i then m ∷ answers_to i requests answers
+    else answers_to i requests answers
 
 -- simulator i after those of the first k requests that go to it, if it is within the program
 abbrev pub sim_after : List Turn → Scenario → ℕ → ℕ → Option Simulator
-sim_after rows S k i = option_map (λ (L : Simulator). fold after_call L (filter_map (call_to i) (take k (setup_requests S)))) (first_at rows S i)
+sim_after rows S k i = option_map
+    (λ (L : Simulator). fold after_call L (filter_map (call_to i) (take k (setup_requests S))))
+    (first_at rows S i)
 
 -- the message is the reply of the request's simulator, within the program, to request number k
-pub record IsKindAnswer (rows : List Turn) (S : Scenario) (k : ℕ) (r : Request) (m : Message) : Type 0 where
+pub record IsKindAnswer (rows : List Turn) (S : Scenario) (k : ℕ) (r : Request)
+    (m : Message) : Type 0 where
   pub sim : Simulator
   pub before : sim_after rows S k r.sim ≡ Some sim
   pub reply : call_reply sim (id_before S k r.sim) r.call ≡ Some m
 
 -- each answer of a simulator within the program is its kind's
 abbrev pub AreKindAnswers : List Turn → Scenario → List Message → Type 0
-AreKindAnswers rows S answers = (k : ℕ) (r : Request) (m : Message) → slice_get (setup_requests S) k ≡ Some r → slice_get answers k ≡ Some m → is_within S r.sim ≡ true → IsKindAnswer rows S k r m
+AreKindAnswers rows S answers = (k : ℕ) (r : Request) (m : Message)
+    → slice_get (setup_requests S) k ≡ Some r → slice_get answers k ≡ Some m
+    → is_within S r.sim ≡ true → IsKindAnswer rows S k r m
 
--- the answers to the first requests, and the message that came last if it was none, are the first that were heard on each link, and those of kinds
-pub record AreHeard (started : ℕ) (S : Scenario) (rows : List Turn) (log : List LogEntry) (answers : List Message) (last : Option Arrival) : Type 0 where
-  pub links : (i : ℕ) (l : LinkNo) → sim_link started S i ≡ Some l → BeginsWith (messages_heard (heard_on l log)) (answers_to i (setup_requests S) answers ++ kept_of i (option_to_list last))
-  pub kinds : AreKindAnswers rows S (answers ++ map (λ (a : Arrival). a.message) (option_to_list last))
+-- the answers to the first requests, and the message that came last if it was none, are the first
+-- that were heard on each link, and those of kinds
+pub record AreHeard (started : ℕ) (S : Scenario) (rows : List Turn) (log : List LogEntry)
+    (answers : List Message) (last : Option Arrival) : Type 0 where
+  pub links : (i : ℕ) (l : LinkNo) → sim_link started S i ≡ Some l
+      → BeginsWith (messages_heard (heard_on l log)) (answers_to i (setup_requests S) answers
+      ++ kept_of i (option_to_list last))
+  pub kinds : AreKindAnswers rows S (answers
+      ++ map (λ (a : Arrival). a.message) (option_to_list last))

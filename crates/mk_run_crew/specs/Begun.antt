@@ -20,21 +20,28 @@ use Rattle.mk_run_local.specs.Seen.{AreOf, sim_at}
 use Rattle.mk_run_crew.specs.Answers.{answers_to, AreKindAnswers}
 use Rattle.mk_run_crew.specs.Seen.{CrewSeen, crew_of, within_of}
 
--- the handshake is over: the plan is made of the answers to all requests, which were heard on the links over the log, or are those of kinds; where the fleet rested, what was asked by then had been said; and each simulator within the program is what its setup made of it
-pub record HasBegun (started : ℕ) (S : Scenario) (ranks : List ℕ) (rows : List Turn) (log : List LogEntry) (C : CrewSeen) (P : Plan) : Type 0 where
+-- the handshake is over: the plan is made of the answers to all requests, which were heard on the
+-- links over the log, or are those of kinds; where the fleet rested, what was asked by then had
+-- been said; and each simulator within the program is what its setup made of it
+pub record HasBegun (started : ℕ) (S : Scenario) (ranks : List ℕ) (rows : List Turn)
+    (log : List LogEntry) (C : CrewSeen) (P : Plan) : Type 0 where
   pub answers : List Message
   pub made : IsMade S ranks answers P
   pub kinds : AreKindAnswers rows S answers
   pub replies : SetupReplies
-  pub told : (i : ℕ) (l : LinkNo) → sim_link started S i ≡ Some l → replies i ≡ answers_to i (setup_requests S) answers
-  pub counts : (i : ℕ) (l : LinkNo) → sim_link started S i ≡ Some l → length (replies i) ≡ setup_count S i
+  pub told : (i : ℕ) (l : LinkNo) → sim_link started S i ≡ Some l
+      → replies i ≡ answers_to i (setup_requests S) answers
+  pub counts : (i : ℕ) (l : LinkNo) → sim_link started S i ≡ Some l
+      → length (replies i) ≡ setup_count S i
   pub begun : IsBegun started S replies log (crew_of C)
-  pub rests : (before after : List LogEntry) → log ≡ before ++ Rest ∷ after → IsWellInSetup started S before
+  pub rests : (before after : List LogEntry) → log ≡ before ++ Rest ∷ after
+      → IsWellInSetup started S before
   pub valid : IsValidPlan P
   pub sims : sim_count P ≡ length S.sims
   pub first : (i : ℕ) → i < length S.sims → first_id P i ≡ setup_count S i
   pub within : (i : ℕ) → sim_at (within_of C) i ≡ setups.made rows S i
   pub known : AreOf rows (within_of C)
-  pub back : (i : ℕ) (w : Line) → line_at (crew_of C) i ≡ Some w → (l : LinkNo) × (sim_link started S i ≡ Some l)
+  pub back : (i : ℕ) (w : Line) → line_at (crew_of C) i ≡ Some w → (l : LinkNo)
+      × (sim_link started S i ≡ Some l)
   pub places : C.places ≡ places started S.sims
   pub halt : C.halt ≡ None

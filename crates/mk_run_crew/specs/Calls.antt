@@ -22,9 +22,11 @@ use Rattle.mk_run_crew.specs.Seen.{CrewSeen, crew_of, within_of, is_here}
 
 -- simulator i has a link, and the id is the next one of its line where the item takes one
 abbrev pub HasNext : Item → ℕ → ℕ → CrewSeen → Type 0
-HasNext item id i C = (w : Line) × (line_at (crew_of C) i ≡ Some w) × (takes_id item ≡ true → id ≡ w.next)
+HasNext item id i C = (w : Line) × (line_at (crew_of C) i ≡ Some w)
+    × (takes_id item ≡ true → id ≡ w.next)
 
--- the reply of simulator s, within the program, to the item is kept, and that simulator has come on by the item
+-- the reply of simulator s, within the program, to the item is kept, and that simulator has come on
+-- by the item
 pub record SendsWithin (s : ℕ) (item : Item) (id : ℕ) (old new : CrewSeen) : Type 0 where
   pub sim : Simulator
   pub there : sim_at (within_of old) s ≡ Some sim
@@ -36,20 +38,23 @@ pub record SendsWithin (s : ℕ) (item : Item) (id : ℕ) (old new : CrewSeen) :
 -- an item was sent to simulator s
 pub record SendsAs (s : ℕ) (item : Item) (id : ℕ) (old new : CrewSeen) : Type 0 where
   pub within : is_here old s ≡ true → SendsWithin s item id old new
-  pub on_link : is_here old s ≡ false → IsSentOnLink s item id (crew_of old) (crew_of new) × (new.sims ≡ old.sims)
+  pub on_link : is_here old s ≡ false → IsSentOnLink s item id (crew_of old) (crew_of new)
+      × (new.sims ≡ old.sims)
 
 -- the payload of the item to simulator s is allowed, where it has a link
 abbrev pub IsAllowed : ℕ → Item → CrewSeen → Type 0
 IsAllowed s item C = is_here C s ≡ false → (n : ℕ) × IsLengthOf n item s C.lines × (n ≤ limit)
 
--- why an item wasn't sent: the payload of so many bytes to this simulator's link is more than a frame may have, or memory was wanting
+-- why an item wasn't sent: the payload of so many bytes to this simulator's link is more than a
+-- frame may have, or memory was wanting
 abbrev pub ShowsUnsent : Halt → ℕ → Item → CrewSeen → Type 0
 ShowsUnsent (halt.Setup fault) s item C = ⊥
 ShowsUnsent halt.Fleet s item C = ⊥
 ShowsUnsent (halt.Gone sim) s item C = ⊥
 ShowsUnsent (halt.Garbled sim test) s item C = ⊥
 ShowsUnsent (halt.LongFrame sim n) s item C = ⊥
-ShowsUnsent (halt.LongItem sim n) s item C = (sim.0 ≡ s) × (is_here C s ≡ false) × IsLengthOf n item s C.lines × (limit < n)
+ShowsUnsent (halt.LongItem sim n) s item C = (sim.0 ≡ s) × (is_here C s ≡ false)
+    × IsLengthOf n item s C.lines × (limit < n)
 ShowsUnsent halt.Mem s item C = ⊤
 
 -- a reply is kept, or there is a link

@@ -28,14 +28,17 @@ abbrev pub count_to : ℕ → List Request → ℕ
 count_to i requests = length (filter_map (call_to i) requests)
 
 -- what was heard makes this fault of the handshake
-pub record IsSetupFault (started : ℕ) (S : Scenario) (ranks : List ℕ) (rows : List Turn) (log : List LogEntry) (fault : SetupFault) : Type 0 where
+pub record IsSetupFault (started : ℕ) (S : Scenario) (ranks : List ℕ) (rows : List Turn)
+    (log : List LogEntry) (fault : SetupFault) : Type 0 where
   pub answers : List Message
   pub last : Option Arrival
   pub faulty : IsFaultyAfter S ranks answers last fault
   pub heard : AreHeard started S rows log answers last
 
--- the payload of the first of the requests that are left, to simulator s with a link, has n bytes, which is more than a frame may have
-pub record IsLongRequest (started : ℕ) (S : Scenario) (queued later : List Request) (s n : ℕ) : Type 0 where
+-- the payload of the first of the requests that are left, to simulator s with a link, has n bytes,
+-- which is more than a frame may have
+pub record IsLongRequest (started : ℕ) (S : Scenario) (queued later : List Request)
+    (s n : ℕ) : Type 0 where
   pub now : Request
   pub more : List Request
   pub first : later ≡ now ∷ more
@@ -45,22 +48,36 @@ pub record IsLongRequest (started : ℕ) (S : Scenario) (queued later : List Req
   pub bytes : n ≡ length (call_text (count_to s queued) now.call)
   pub beyond : limit < n
 
--- why there is no crew: the handshake has a fault; the count of faults rose; a link ended, or what came on it behind its messages begins with something else; a request was too long; or memory was wanting
-abbrev pub ShowsCause : ℕ → Scenario → List ℕ → List Turn → List LogEntry → Type 0 → List Request → List Request → Halt → Type 0
-ShowsCause started S ranks rows log risen queued later (halt.Setup fault) = IsSetupFault started S ranks rows log fault
+-- why there is no crew: the handshake has a fault; the count of faults rose; a link ended, or what
+-- came on it behind its messages begins with something else; a request was too long; or memory was
+-- wanting
+abbrev pub ShowsCause : ℕ → Scenario → List ℕ → List Turn → List LogEntry → Type 0 → List Request
+    → List Request → Halt → Type 0
+ShowsCause started S ranks rows log risen queued later
+    (halt.Setup fault) = IsSetupFault started S ranks rows log fault
 ShowsCause started S ranks rows log risen queued later halt.Fleet = risen
-ShowsCause started S ranks rows log risen queued later (halt.Gone sim) = (l : LinkNo) × (sim_link started S sim.0 ≡ Some l) × IsIn (Ended l) log
-ShowsCause started S ranks rows log risen queued later (halt.Garbled sim test) = (l : LinkNo) × (sim_link started S sim.0 ≡ Some l) × BeginsGarbled (rest_heard (heard_on l log)) test
-ShowsCause started S ranks rows log risen queued later (halt.LongFrame sim n) = (l : LinkNo) × (sim_link started S sim.0 ≡ Some l) × IsTooLong n (rest_heard (heard_on l log))
-ShowsCause started S ranks rows log risen queued later (halt.LongItem sim n) = IsLongRequest started S queued later sim.0 n
+ShowsCause started S ranks rows log risen queued later (halt.Gone sim) = (l : LinkNo)
+    × (sim_link started S sim.0 ≡ Some l) × IsIn (Ended l) log
+ShowsCause started S ranks rows log risen queued later (halt.Garbled sim test) = (l : LinkNo)
+    × (sim_link started S sim.0 ≡ Some l) × BeginsGarbled (rest_heard (heard_on l log)) test
+ShowsCause started S ranks rows log risen queued later (halt.LongFrame sim n) = (l : LinkNo)
+    × (sim_link started S sim.0 ≡ Some l) × IsTooLong n (rest_heard (heard_on l log))
+ShowsCause started S ranks rows log risen queued later
+    (halt.LongItem sim n) = IsLongRequest started S queued later sim.0 n
 ShowsCause started S ranks rows log risen queued later halt.Mem = ⊤
 
--- the handshake ended early: on each link a beginning of the frames of the first requests and of a stop was said, and but for want of memory all of it, unless a write took nothing or the count of faults rose; where the fleet rested, what was asked by then had been said, and not all had set up
-pub record HasHalted (started : ℕ) (S : Scenario) (ranks : List ℕ) (rows : List Turn) (log : List LogEntry) (risen : Type 0) (h : Halt) : Type 0 where
+-- the handshake ended early: on each link a beginning of the frames of the first requests and of a
+-- stop was said, and but for want of memory all of it, unless a write took nothing or the count of
+-- faults rose; where the fleet rested, what was asked by then had been said, and not all had set up
+pub record HasHalted (started : ℕ) (S : Scenario) (ranks : List ℕ) (rows : List Turn)
+    (log : List LogEntry) (risen : Type 0) (h : Halt) : Type 0 where
   pub queued : List Request
   pub later : List Request
   pub parts : setup_requests S ≡ queued ++ later
-  pub says : (reply : Replies) (i : ℕ) (l : LinkNo) → sim_link started S i ≡ Some l → SaysRight started S reply None log i l (count_to i queued) [] true
-  pub whole : (h ≡ halt.Mem → ⊥) → (i : ℕ) (l : LinkNo) → sim_link started S i ≡ Some l → SaidWhole S log risen i l (count_to i queued) []
-  pub rests : (before after : List LogEntry) → log ≡ before ++ Rest ∷ after → IsWellInSetup started S before × (AllSetUp started S before → ⊥)
+  pub says : (reply : Replies) (i : ℕ) (l : LinkNo) → sim_link started S i ≡ Some l
+      → SaysRight started S reply None log i l (count_to i queued) [] true
+  pub whole : (h ≡ halt.Mem → ⊥) → (i : ℕ) (l : LinkNo) → sim_link started S i ≡ Some l
+      → SaidWhole S log risen i l (count_to i queued) []
+  pub rests : (before after : List LogEntry) → log ≡ before ++ Rest ∷ after
+      → IsWellInSetup started S before × (AllSetUp started S before → ⊥)
   pub cause : ShowsCause started S ranks rows log risen queued later h

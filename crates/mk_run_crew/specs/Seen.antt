@@ -8,7 +8,8 @@ use Rattle.mk_run_links.specs.declared.answers.LinkHalt.{LinkHalt}
 use Rattle.mk_run_links.specs.Places.{Lines}
 use Rattle.mk_run_local.specs.Seen.{WithinState, sim_at}
 
--- the places of its links, their lines, the simulators within the program, the replies of theirs that are kept, and the halt that it answers again
+-- the places of its links, their lines, the simulators within the program, the replies of theirs
+-- that are kept, and the halt that it answers again
 pub record CrewSeen : Type 0 where
   pub places : List (Option LinkNo)
   pub lines : Lines

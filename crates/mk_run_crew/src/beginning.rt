@@ -69,8 +69,10 @@ fn start<F: Fleet>(
     ensures started { IfOk result (λ places. AreStarted scenario.now.sims
         (record { started = F.started fleet.old; links = F.open_links fleet.old })
         (record { started = F.started fleet.new; links = F.open_links fleet.new }) places) }
-    ensures cause { IfErr result (λ h. (h ≡ halts.Mem) ⊎ ((h ≡ halts.Fleet) × HasRisen (F.faults fleet.old) (F.faults fleet.new))) }
-    ensures closed { OnErr result (AreNumbered (F.started fleet.old) (F.open_links fleet.old) → F.open_links fleet.new ≡ F.open_links fleet.old) }
+    ensures cause { IfErr result (λ h. (h ≡ halts.Mem)
+        ⊎ ((h ≡ halts.Fleet) × HasRisen (F.faults fleet.old) (F.faults fleet.new))) }
+    ensures closed { OnErr result (AreNumbered (F.started fleet.old) (F.open_links fleet.old)
+        → F.open_links fleet.new ≡ F.open_links fleet.old) }
     ensures count { F.faults fleet.old ≤ F.faults fleet.new }
     ensures logged { Adds [] (F.log fleet.old) (F.log fleet.new) }
 {
@@ -102,7 +104,8 @@ pub fn make_parts(
     requires prepared { IsPrepared scenario (map name_of (rows_in kinds.now)) }
     requires few { length places.now < 2 ^ 32 }
     requires distinct { AreDistinct places.now }
-    ensures links { IfOk result (λ p. p.links ≡ record { lines = new_lines places.now; halt = None }) }
+    ensures links { IfOk result (λ p. p.links
+        ≡ record { lines = new_lines places.now; halt = None }) }
     ensures within { IfOk result (λ p. p.within ≡ new_within (rows_in kinds.now) scenario) }
     ensures known { IfOk result (λ p. AreOf (rows_in kinds.now) p.within) }
     ensures setup { IfOk result (λ p. p.setup ≡ begun scenario ranks) }
@@ -130,13 +133,18 @@ impl Crew {
         requires range { is_call_in_range call.now ≡ true }
         requires going { self.old.halt ≡ None }
         ensures count { F.faults fleet.old ≤ F.faults fleet.new }
-        ensures cause { result ≡ Err Halt.Fleet → HasRisen (F.faults fleet.old) (F.faults fleet.new) }
+        ensures cause { result ≡ Err Halt.Fleet
+            → HasRisen (F.faults fleet.old) (F.faults fleet.new) }
         ensures same_count { F.started fleet.new ≡ F.started fleet.old }
         ensures same_links { F.open_links fleet.new ≡ F.open_links fleet.old }
         ensures same_places { self.new.places ≡ self.old.places }
         ensures open { AreOpen self.new.lines (F.open_links fleet.new) }
-        ensures ok { IfOk result (λ r. (entries : List LogEntry) × Adds entries (F.log fleet.old) (F.log fleet.new) × AsksOnLink sim.0 call.now id r.0.0 r.1 entries self.old self.new) }
-        ensures err { IfErr result (λ h. (entries : List LogEntry) × Adds entries (F.log fleet.old) (F.log fleet.new) × AsksFail h sim.0 call.now id entries self.old self.new) }
+        ensures ok { IfOk result (λ r. (entries : List LogEntry)
+            × Adds entries (F.log fleet.old) (F.log fleet.new)
+            × AsksOnLink sim.0 call.now id r.0.0 r.1 entries self.old self.new) }
+        ensures err { IfErr result (λ h. (entries : List LogEntry)
+            × Adds entries (F.log fleet.old) (F.log fleet.new)
+            × AsksFail h sim.0 call.now id entries self.old self.new) }
     {
         let Some(next) = id.checked_add(1) else {
             return Err(Halt::Mem);
@@ -161,19 +169,25 @@ impl Crew {
         call: &Call,
         id: u64,
     ) -> Result<(SimNo, Message), Halt>
-        requires linked { is_here self.old sim.0 ≡ false → (w : Line) × (at self.old.lines sim.0 ≡ Some w) }
+        requires linked { is_here self.old sim.0 ≡ false → (w : Line)
+            × (at self.old.lines sim.0 ≡ Some w) }
         requires open { AreOpen self.old.lines (F.open_links fleet.old) }
         requires replied { IsCallReplied call.now }
         requires range { is_call_in_range call.now ≡ true }
         requires going { self.old.halt ≡ None }
         ensures count { F.faults fleet.old ≤ F.faults fleet.new }
-        ensures cause { result ≡ Err Halt.Fleet → HasRisen (F.faults fleet.old) (F.faults fleet.new) }
+        ensures cause { result ≡ Err Halt.Fleet
+            → HasRisen (F.faults fleet.old) (F.faults fleet.new) }
         ensures same_count { F.started fleet.new ≡ F.started fleet.old }
         ensures same_links { F.open_links fleet.new ≡ F.open_links fleet.old }
         ensures same_places { self.new.places ≡ self.old.places }
         ensures open { AreOpen self.new.lines (F.open_links fleet.new) }
-        ensures ok { IfOk result (λ r. (entries : List LogEntry) × Adds entries (F.log fleet.old) (F.log fleet.new) × Asks sim.0 call.now id r.0.0 r.1 entries self.old self.new) }
-        ensures err { IfErr result (λ h. (entries : List LogEntry) × Adds entries (F.log fleet.old) (F.log fleet.new) × AsksFail h sim.0 call.now id entries self.old self.new) }
+        ensures ok { IfOk result (λ r. (entries : List LogEntry)
+            × Adds entries (F.log fleet.old) (F.log fleet.new)
+            × Asks sim.0 call.now id r.0.0 r.1 entries self.old self.new) }
+        ensures err { IfErr result (λ h. (entries : List LogEntry)
+            × Adds entries (F.log fleet.old) (F.log fleet.new)
+            × AsksFail h sim.0 call.now id entries self.old self.new) }
     {
         if self.within.has(sim) {
             let message = self.within.answer_call(kinds, sim, call, id)?;
@@ -191,7 +205,8 @@ impl Crew {
         setup: &mut Setup,
         request: (SimNo, Call, u64),
     ) -> Result<(), Halt>
-        requires linked { is_here self.old request.0.0 ≡ false → (w : Line) × (at self.old.lines request.0.0 ≡ Some w) }
+        requires linked { is_here self.old request.0.0 ≡ false → (w : Line)
+            × (at self.old.lines request.0.0 ≡ Some w) }
         requires open { AreOpen self.old.lines (F.open_links fleet.old) }
         requires replied { IsCallReplied request.1 }
         requires range { is_call_in_range request.1 ≡ true }
@@ -201,9 +216,14 @@ impl Crew {
         ensures same_links { F.open_links fleet.new ≡ F.open_links fleet.old }
         ensures same_places { self.new.places ≡ self.old.places }
         ensures open { AreOpen self.new.lines (F.open_links fleet.new) }
-        ensures ok { OnOk result ((entries : List LogEntry) × Adds entries (F.log fleet.old) (F.log fleet.new) × Answers request.0.0 request.1 request.2 entries self.old self.new setup.old setup.new) }
-        ensures err { IfErr result (λ h. (entries : List LogEntry) × Adds entries (F.log fleet.old) (F.log fleet.new)
-            × AnswersNot (HasRisen (F.faults fleet.old) (F.faults fleet.new)) h request.0.0 request.1 request.2 entries self.old self.new setup.old) }
+        ensures ok { OnOk result ((entries : List LogEntry)
+            × Adds entries (F.log fleet.old) (F.log fleet.new)
+            × Answers request.0.0 request.1 request.2 entries self.old self.new setup.old
+            setup.new) }
+        ensures err { IfErr result (λ h. (entries : List LogEntry)
+            × Adds entries (F.log fleet.old) (F.log fleet.new)
+            × AnswersNot (HasRisen (F.faults fleet.old) (F.faults fleet.new)) h request.0.0
+            request.1 request.2 entries self.old self.new setup.old) }
     {
         let (sim, call, id) = request;
         let (from, message) = self.ask(rt, kinds, fleet, sim, &call, id)?;
@@ -224,17 +244,26 @@ impl Crew {
         requires begun { setup.old ≡ begun setup.old.scenario setup.old.ranks }
         requires wellformed { IsWellformed setup.old.scenario }
         requires prepared { IsPrepared setup.old.scenario (map name_of (rows_in kinds.now)) }
-        requires new { (started : ℕ) × IsNewCrew started (rows_in kinds.now) setup.old.scenario (F.open_links fleet.old) self.old }
+        requires new { (started : ℕ)
+            × IsNewCrew started (rows_in kinds.now) setup.old.scenario
+            (F.open_links fleet.old) self.old }
         ensures count { F.faults fleet.old ≤ F.faults fleet.new }
         ensures same_count { F.started fleet.new ≡ F.started fleet.old }
         ensures same_links { F.open_links fleet.new ≡ F.open_links fleet.old }
         ensures same_places { self.new.places ≡ self.old.places }
         ensures open { AreOpen self.new.lines (F.open_links fleet.new) }
-        ensures ok { IfOk result (λ P. (started : ℕ) → IsNewCrew started (rows_in kinds.now) setup.old.scenario (F.open_links fleet.old) self.old
-            → (entries : List LogEntry) × Adds entries (F.log fleet.old) (F.log fleet.new) × HasBegun started setup.old.scenario setup.old.ranks (rows_in kinds.now) entries self.new P) }
-        ensures err { IfErr result (λ h. (started : ℕ) → IsNewCrew started (rows_in kinds.now) setup.old.scenario (F.open_links fleet.old) self.old
+        ensures ok { IfOk result (λ P. (started : ℕ)
+            → IsNewCrew started (rows_in kinds.now) setup.old.scenario
+            (F.open_links fleet.old) self.old
             → (entries : List LogEntry) × Adds entries (F.log fleet.old) (F.log fleet.new)
-            × IsHalting started setup.old.scenario setup.old.ranks (rows_in kinds.now) entries (HasRisen (F.faults fleet.old) (F.faults fleet.new)) h self.new) }
+            × HasBegun started setup.old.scenario setup.old.ranks
+            (rows_in kinds.now) entries self.new P) }
+        ensures err { IfErr result (λ h. (started : ℕ)
+            → IsNewCrew started (rows_in kinds.now) setup.old.scenario
+            (F.open_links fleet.old) self.old
+            → (entries : List LogEntry) × Adds entries (F.log fleet.old) (F.log fleet.new)
+            × IsHalting started setup.old.scenario setup.old.ranks (rows_in kinds.now) entries
+            (HasRisen (F.faults fleet.old) (F.faults fleet.new)) h self.new) }
     {
         replies_make();
         for _ in rt.forever() {
@@ -268,16 +297,22 @@ impl Crew {
         requires ranked { AreRanksOf scenario ranks }
         requires prepared { IsPrepared scenario (map name_of (rows_in kinds.now)) }
         ensures count { F.faults fleet.old ≤ F.faults fleet.new }
-        ensures begun { IfOk result (λ r. (entries : List LogEntry) × Adds entries (F.log fleet.old) (F.log fleet.new)
+        ensures begun { IfOk result (λ r. (entries : List LogEntry)
+            × Adds entries (F.log fleet.old) (F.log fleet.new)
             × HasBegun (F.started fleet.old) scenario ranks (rows_in kinds.now) entries r.0 r.1) }
         ensures started { IfOk result (λ r. AreStarted scenario.sims
             (record { started = F.started fleet.old; links = F.open_links fleet.old })
             (record { started = F.started fleet.new; links = F.open_links fleet.new }) r.0.places) }
-        ensures others { IfOk result (λ r. AreNumbered (F.started fleet.old) (F.open_links fleet.old) → without_all (links_in r.0.places) (F.open_links fleet.new) ≡ F.open_links fleet.old) }
+        ensures others { IfOk result
+            (λ r. AreNumbered (F.started fleet.old) (F.open_links fleet.old)
+            → without_all (links_in r.0.places) (F.open_links fleet.new) ≡ F.open_links fleet.old) }
         ensures open { IfOk result (λ r. AreOpen r.0.lines (F.open_links fleet.new)) }
-        ensures halted { IfErr result (λ h. (entries : List LogEntry) × Adds entries (F.log fleet.old) (F.log fleet.new)
-            × HasHalted (F.started fleet.old) scenario ranks (rows_in kinds.now) entries (HasRisen (F.faults fleet.old) (F.faults fleet.new)) h) }
-        ensures closed { OnErr result (AreNumbered (F.started fleet.old) (F.open_links fleet.old) → F.open_links fleet.new ≡ F.open_links fleet.old) }
+        ensures halted { IfErr result (λ h. (entries : List LogEntry)
+            × Adds entries (F.log fleet.old) (F.log fleet.new)
+            × HasHalted (F.started fleet.old) scenario ranks (rows_in kinds.now) entries
+            (HasRisen (F.faults fleet.old) (F.faults fleet.new)) h) }
+        ensures closed { OnErr result (AreNumbered (F.started fleet.old) (F.open_links fleet.old)
+            → F.open_links fleet.new ≡ F.open_links fleet.old) }
     {
         places_are_distinct();
         let places = match start(alloc, &scenario, fleet) {

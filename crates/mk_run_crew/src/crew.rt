@@ -49,7 +49,13 @@ impl Model for Crew {
 
     ghost coded = { Prim.hlevel (codes, json.the_row.coded) };
 
-    ghost view = { λ a. record { places = a.places; lines = a.links.lines; sims = a.within.sims; kept = a.within.kept; halt = a.links.halt } };
+    ghost view = { λ a. record {
+      places = a.places;
+      lines = a.links.lines;
+      sims = a.within.sims;
+      kept = a.within.kept;
+      halt = a.links.halt;
+    } };
 
     ghost invariant = { λ a. IsPlaced a.places a.links.lines };
 }
@@ -81,7 +87,8 @@ impl Crew {
         ensures err { OnErr result (self.new ≡ self.old) }
         ensures same_places { self.new.places ≡ self.old.places }
         ensures same_halt { self.new.halt ≡ self.old.halt }
-        ensures kinds { (rows : List Turn) → AreOf rows (within_of self.old) → AreOf rows (within_of self.new) }
+        ensures kinds { (rows : List Turn) → AreOf rows (within_of self.old)
+            → AreOf rows (within_of self.new) }
     {
         if self.within.has(sim) {
             self.within.answer_item(kinds, sim, item, id)?;
@@ -103,16 +110,22 @@ impl Crew {
         requires open { AreOpen self.old.lines (F.open_links fleet.old) }
         requires some { CanHear self.old }
         ensures count { F.faults fleet.old ≤ F.faults fleet.new }
-        ensures cause { self.old.halt ≡ None → result ≡ Err Halt.Fleet → HasRisen (F.faults fleet.old) (F.faults fleet.new) }
+        ensures cause { self.old.halt ≡ None → result ≡ Err Halt.Fleet
+            → HasRisen (F.faults fleet.old) (F.faults fleet.new) }
         ensures same_count { F.started fleet.new ≡ F.started fleet.old }
         ensures same_links { F.open_links fleet.new ≡ F.open_links fleet.old }
         ensures same_places { self.new.places ≡ self.old.places }
         ensures same_sims { self.new.sims ≡ self.old.sims }
-        ensures kinds { (rows : List Turn) → AreOf rows (within_of self.old) → AreOf rows (within_of self.new) }
-        ensures fit { (k : Arrival) → (more : List Arrival) → self.old.kept ≡ k ∷ more → IfOk result (λ p. IsFitSuccess p.1) }
-        ensures again { (why : LinkHalt) → self.old.halt ≡ Some why → (result ≡ Err (halt_of why)) × (self.new ≡ self.old) × (fleet.new ≡ fleet.old) }
+        ensures kinds { (rows : List Turn) → AreOf rows (within_of self.old)
+            → AreOf rows (within_of self.new) }
+        ensures fit { (k : Arrival) → (more : List Arrival) → self.old.kept ≡ k ∷ more
+            → IfOk result (λ p. IsFitSuccess p.1) }
+        ensures again { (why : LinkHalt) → self.old.halt ≡ Some why → (result ≡ Err (halt_of why))
+            × (self.new ≡ self.old) × (fleet.new ≡ fleet.old) }
         ensures lasts { self.old.halt ≡ None → self.new.halt ≡ lasting result }
-        ensures heard { self.old.halt ≡ None → (entries : List LogEntry) × Adds entries (F.log fleet.old) (F.log fleet.new) × HearsAs result entries self.old self.new }
+        ensures heard { self.old.halt ≡ None → (entries : List LogEntry)
+            × Adds entries (F.log fleet.old) (F.log fleet.new)
+            × HearsAs result entries self.old self.new }
     {
         if let Some(why) = self.links.halt() {
             return Err(halt_of(why));
@@ -129,13 +142,16 @@ impl Crew {
     /// Takes the oldest reply that is kept of a simulator within the program; `None` exactly where none is. It takes no memory,
     /// and waits for nobody.
     pub fn take_kept(&mut self) -> Option<(SimNo, Message)>
-        ensures taken { MatchOption result ((self.old.kept ≡ []) × (self.new ≡ self.old)) (λ r. IsHeard [] r.0.0 r.1 (crew_of self.old) (crew_of self.new)) }
+        ensures taken { MatchOption result ((self.old.kept ≡ [])
+            × (self.new ≡ self.old))
+            (λ r. IsHeard [] r.0.0 r.1 (crew_of self.old) (crew_of self.new)) }
         ensures fit { IfSome result (λ r. IsFitSuccess r.1) }
         ensures same_lines { self.new.lines ≡ self.old.lines }
         ensures same_places { self.new.places ≡ self.old.places }
         ensures same_sims { self.new.sims ≡ self.old.sims }
         ensures same_halt { self.new.halt ≡ self.old.halt }
-        ensures kinds { (rows : List Turn) → AreOf rows (within_of self.old) → AreOf rows (within_of self.new) }
+        ensures kinds { (rows : List Turn) → AreOf rows (within_of self.old)
+            → AreOf rows (within_of self.new) }
     {
         self.within.take()
     }
@@ -146,9 +162,12 @@ impl Crew {
         requires { AreOpen self.lines (F.open_links fleet.old) }
         ensures count { F.faults fleet.old ≤ F.faults fleet.new }
         ensures same_count { F.started fleet.new ≡ F.started fleet.old }
-        ensures closed { F.open_links fleet.new ≡ without_all (links_in self.places) (F.open_links fleet.old) }
-        ensures stopped { (entries : List LogEntry) × Adds entries (F.log fleet.old) (F.log fleet.new)
-            × AreStopped entries (HasRisen (F.faults fleet.old) (F.faults fleet.new)) (crew_of self) × IsRestless entries }
+        ensures closed { F.open_links fleet.new
+            ≡ without_all (links_in self.places) (F.open_links fleet.old) }
+        ensures stopped { (entries : List LogEntry)
+            × Adds entries (F.log fleet.old) (F.log fleet.new)
+            × AreStopped entries (HasRisen (F.faults fleet.old) (F.faults fleet.new)) (crew_of self)
+            × IsRestless entries }
     {
         self.links.stop(fleet);
         close_all(self.places.as_slice(), fleet);

@@ -73,7 +73,8 @@ impl Crew {
         requires here { is_here self.old sim.0 ≡ true }
         requires replied { IsCallReplied call.now }
         ensures ok { IfOk result (λ r. Asks sim.0 call.now id r.0.0 r.1 [] self.old self.new) }
-        ensures err { IfErr result (λ h. (h ≡ halts.Mem) × AsksFail h sim.0 call.now id [] self.old self.new) }
+        ensures err { IfErr result (λ h. (h ≡ halts.Mem)
+            × AsksFail h sim.0 call.now id [] self.old self.new) }
         ensures same_lines { self.new.lines ≡ self.old.lines }
         ensures same_places { self.new.places ≡ self.old.places }
     {
@@ -90,8 +91,10 @@ impl Crew {
     ) -> Result<(), Halt>
         requires here { is_here self.old request.0.0 ≡ true }
         requires replied { IsCallReplied request.1 }
-        ensures ok { OnOk result (Answers request.0.0 request.1 request.2 [] self.old self.new setup.old setup.new) }
-        ensures err { IfErr result (λ h. AnswersNot ⊥ h request.0.0 request.1 request.2 [] self.old self.new setup.old) }
+        ensures ok { OnOk result
+            (Answers request.0.0 request.1 request.2 [] self.old self.new setup.old setup.new) }
+        ensures err { IfErr result
+            (λ h. AnswersNot ⊥ h request.0.0 request.1 request.2 [] self.old self.new setup.old) }
         ensures cause { IfErr result IsWithinHalt }
         ensures same_lines { self.new.lines ≡ self.old.lines }
         ensures same_places { self.new.places ≡ self.old.places }
@@ -109,9 +112,14 @@ impl Crew {
         requires begun { setup.old ≡ begun setup.old.scenario setup.old.ranks }
         requires prepared { IsPrepared setup.old.scenario (map name_of (rows_in kinds.now)) }
         requires wholly { is_wholly_within setup.old.scenario ≡ true }
-        requires new { (started : ℕ) → IsNewCrew started (rows_in kinds.now) setup.old.scenario [] self.old }
-        ensures ok { IfOk result (λ P. (started : ℕ) → HasBegun started setup.old.scenario setup.old.ranks (rows_in kinds.now) [] self.new P) }
-        ensures err { IfErr result (λ h. (started : ℕ) → IsHalting started setup.old.scenario setup.old.ranks (rows_in kinds.now) [] ⊥ h self.new) }
+        requires new { (started : ℕ)
+            → IsNewCrew started (rows_in kinds.now) setup.old.scenario [] self.old }
+        ensures ok { IfOk result (λ P. (started : ℕ)
+            → HasBegun started setup.old.scenario setup.old.ranks
+            (rows_in kinds.now) [] self.new P) }
+        ensures err { IfErr result (λ h. (started : ℕ)
+            → IsHalting started setup.old.scenario setup.old.ranks
+            (rows_in kinds.now) [] ⊥ h self.new) }
         ensures cause { IfErr result IsWithinHalt }
         ensures same_lines { self.new.lines ≡ self.old.lines }
         ensures same_places { self.new.places ≡ self.old.places }
@@ -145,9 +153,12 @@ impl Crew {
         requires ranked { AreRanksOf scenario ranks }
         requires prepared { IsPrepared scenario (map name_of (rows_in kinds.now)) }
         requires wholly { is_wholly_within scenario ≡ true }
-        ensures begun { IfOk result (λ r. (started : ℕ) → HasBegun started scenario ranks (rows_in kinds.now) [] r.0 r.1) }
+        ensures begun { IfOk result (λ r. (started : ℕ)
+            → HasBegun started scenario ranks (rows_in kinds.now) [] r.0 r.1) }
         ensures linkless { IfOk result (λ r. (i : ℕ) → at r.0.lines i ≡ None) }
-        ensures halted { IfErr result (λ h. (started faults new_faults : ℕ) → HasHalted started scenario ranks (rows_in kinds.now) [] (HasRisen faults new_faults) h) }
+        ensures halted { IfErr result (λ h. (started faults new_faults : ℕ)
+            → HasHalted started scenario ranks (rows_in kinds.now) []
+            (HasRisen faults new_faults) h) }
         ensures cause { IfErr result IsWithinHalt }
     {
         places_are_distinct();

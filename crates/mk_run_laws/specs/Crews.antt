@@ -1,4 +1,5 @@
--- A crew: the lines of a run's simulators and the replies that are kept, and what its calls do to them.
+-- A crew: the lines of a run's simulators and the replies that are kept, and what its calls do to
+-- them.
 use Rattle.std.specs.Prelude.{◌≡◌, ℕ, ◌==◌, true, List, [], ◌∷◌, ◌++◌, filter_map, Option, Some, None, option_and_then, slice_get, if◌then◌else◌, ⊤}
 use Rattle.mk_plan.specs.declared.Item.{Item}
 use Rattle.mk_plan.specs.declared.Message.{Message}
@@ -9,7 +10,8 @@ use Rattle.mk_outside.specs.declared.fleet.LogEntry.TheVariants.{Rest}
 use Rattle.mk_run_laws.specs.Payloads.{id_after}
 use Rattle.mk_run_laws.specs.Lines.{Line, IsMoved, queued, IsStopped}
 
--- the line of each simulator that has a link, and the replies of simulators within the program that were not heard yet, the oldest first
+-- the line of each simulator that has a link, and the replies of simulators within the program that
+-- were not heard yet, the oldest first
 pub record CrewState : Type 0 where
   pub lines : List (Option Line)
   pub kept : List Arrival
@@ -39,18 +41,27 @@ given_by s m i = if s == i then m ∷ [] else []
 
 -- the lines came from old to new and gave these messages
 abbrev pub AreMoved : List LogEntry → (ℕ → List Message) → CrewState → CrewState → Type 0
-AreMoved entries given old new = (i : ℕ) → IsMovedAt entries (given i) (line_at old i) (line_at new i)
+AreMoved entries given old new = (i : ℕ)
+    → IsMovedAt entries (given i) (line_at old i) (line_at new i)
 
 -- at each rest among these entries every line was parked, and had given nothing
 abbrev pub AreParkedAtRests : List LogEntry → CrewState → Type 0
-AreParkedAtRests entries old = (before after : List LogEntry) → entries ≡ before ++ Rest ∷ after → (i : ℕ) (w : Line) → line_at old i ≡ Some w → (mid : Line) × IsMoved before [] w mid × (mid.parked ≡ true)
+AreParkedAtRests entries old = (before after : List LogEntry) → entries ≡ before ++ Rest ∷ after
+    → (i : ℕ) (w : Line) → line_at old i ≡ Some w → (mid : Line) × IsMoved before [] w mid
+    × (mid.parked ≡ true)
 
--- a message was heard: the oldest reply that was kept, or where none was kept the next message of a link
-pub data IsHeard (entries : List LogEntry) (s : ℕ) (m : Message) (old new : CrewState) : Type 0 where
-  kept : old.kept ≡ record { sim = s; message = m } ∷ new.kept → new.lines ≡ old.lines → entries ≡ [] → IsHeard entries s m old new
-  on_link : old.kept ≡ [] → new.kept ≡ [] → (w : Line) → line_at old s ≡ Some w → AreMoved entries (given_by s m) old new → AreParkedAtRests entries old → IsHeard entries s m old new
+-- a message was heard: the oldest reply that was kept, or where none was kept the next message of a
+-- link
+pub data IsHeard (entries : List LogEntry) (s : ℕ) (m : Message)
+    (old new : CrewState) : Type 0 where
+  kept : old.kept ≡ record { sim = s; message = m } ∷ new.kept → new.lines ≡ old.lines
+      → entries ≡ [] → IsHeard entries s m old new
+  on_link : old.kept ≡ [] → new.kept ≡ [] → (w : Line) → line_at old s ≡ Some w
+      → AreMoved entries (given_by s m) old new → AreParkedAtRests entries old
+      → IsHeard entries s m old new
 
--- nothing was heard: the fleet failed, there was no memory, or a link ended or began with something else than a message
+-- nothing was heard: the fleet failed, there was no memory, or a link ended or began with something
+-- else than a message
 pub record IsUnheard (entries : List LogEntry) (old new : CrewState) : Type 0 where
   pub kept : new.kept ≡ old.kept
   pub none_kept : old.kept ≡ []

@@ -15,9 +15,11 @@ pub record Request : Type 0 where
   pub sim : ℕ
   pub call : Call
 
--- the requests in order: init to each simulator, create for each group, setup_done to each simulator
+-- the requests in order: init to each simulator, create for each group, setup_done to each
+-- simulator
 abbrev pub setup_requests : Scenario → List Request
-setup_requests S = map (λ n. record { sim = n.0; call = Init n.1.id n.1.params }) (enumerate_from 0 S.sims)
+setup_requests S = map (λ n. record { sim = n.0; call = Init n.1.id n.1.params })
+    (enumerate_from 0 S.sims)
     ++ map (λ g. record { sim = g.sim.0; call = Create g.num g.model g.params }) S.groups
     ++ map (λ n. record { sim = n.0; call = SetupDone }) (enumerate_from 0 S.sims)
 
@@ -54,8 +56,12 @@ has_link s = not (is_local s.begin)
 
 -- simulator i runs within the program
 abbrev pub is_within : Scenario → ℕ → Bool
-is_within S i = unwrap_or (option_map (λ (s : SimPart). is_local s.begin) (slice_get S.sims i)) false
+is_within S i = unwrap_or
+    (option_map (λ (s : SimPart). is_local s.begin) (slice_get S.sims i)) false
 
--- the link of simulator i, where links are started in order of the simulators, and so many were started before
+-- the link of simulator i, where links are started in order of the simulators, and so many were
+-- started before
 abbrev pub sim_link : ℕ → Scenario → ℕ → Option LinkNo
-sim_link started S i = option_and_then (λ (s : SimPart). if has_link s then Some (record { 0 = started + length (filter has_link (take i S.sims)) }) else None) (slice_get S.sims i)
+sim_link started S i = option_and_then (λ (s : SimPart). if has_link s
+    then Some (record { 0 = started + length (filter has_link (take i S.sims)) })
+    else None) (slice_get S.sims i)

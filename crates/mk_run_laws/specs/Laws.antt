@@ -31,43 +31,64 @@ use Rattle.mk_run_laws.specs.Runs.{IsPossible, IsPossibleUpTo, IsLinkOfRun, Says
 
 -- however messages are taken off bytes, they are the first that were heard
 abbrev pub TakenAreHeard : Type 0
-TakenAreHeard = (held : List ℕ) (ms : List Message) (left : List ℕ) → Takes held ms left → (messages_heard held ≡ ms ++ messages_heard left) × (rest_heard held ≡ rest_heard left)
+TakenAreHeard = (held : List ℕ) (ms : List Message) (left : List ℕ) → Takes held ms left
+    → (messages_heard held ≡ ms ++ messages_heard left) × (rest_heard held ≡ rest_heard left)
 
--- the journal J of a run of S over the log: it is orderly, it keeps to the kinds, and of each link it got the first messages of the run
-pub record IsJournalOf (started : ℕ) (S : Scenario) (reply : Replies) (P : Plan) (log : List LogEntry) (J : List Entry) : Type 0 where
+-- the journal J of a run of S over the log: it is orderly, it keeps to the kinds, and of each link
+-- it got the first messages of the run
+pub record IsJournalOf (started : ℕ) (S : Scenario) (reply : Replies) (P : Plan)
+    (log : List LogEntry) (J : List Entry) : Type 0 where
   pub sims : sim_count P ≡ length S.sims
   pub orderly : IsOrderlySoFar IsReady IsAdvance P J
   pub kinds : KeepsToKinds reply (is_within S) P J
-  pub links : (i : ℕ) (l : LinkNo) → sim_link started S i ≡ Some l → BeginsWith (run_messages S log i l) (got J i)
+  pub links : (i : ℕ) (l : LinkNo) → sim_link started S i ≡ Some l
+      → BeginsWith (run_messages S log i l) (got J i)
 
 -- what is said on a run's link is right
 abbrev pub LinksSayRight : Plan → Type 0
-LinksSayRight P = (started : ℕ) (S : Scenario) (reply : Replies) (log : List LogEntry) (J : List Entry) → IsJournalOf started S reply P log J → (replies : SetupReplies) (faults new_faults i : ℕ) (l : LinkNo) (items : List Item)
-    → IsLinkOfRun S replies J log (HasRisen faults new_faults) i l items → SaysRight started S reply (Some P) log i l (setup_count S i) items true
+LinksSayRight P = (started : ℕ) (S : Scenario) (reply : Replies) (log : List LogEntry)
+    (J : List Entry) → IsJournalOf started S reply P log J
+    → (replies : SetupReplies) (faults new_faults i : ℕ) (l : LinkNo) (items : List Item)
+    → IsLinkOfRun S replies J log (HasRisen faults new_faults) i l items
+    → SaysRight started S reply (Some P) log i l (setup_count S i) items true
 
--- where nothing is left to do, sequential execution over all messages that may come sends what was sent, and cuts no turn
+-- where nothing is left to do, sequential execution over all messages that may come sends what was
+-- sent, and cuts no turn
 abbrev pub DoneIsAll : Plan → Type 0
-DoneIsAll P = (started : ℕ) (S : Scenario) (reply : Replies) (log : List LogEntry) (J : List Entry) → IsJournalOf started S reply P log J → IsDone P (view P J) → (R : Messages) → IsPossible started S reply P log R
+DoneIsAll P = (started : ℕ) (S : Scenario) (reply : Replies) (log : List LogEntry) (J : List Entry)
+    → IsJournalOf started S reply P log J → IsDone P (view P J) → (R : Messages)
+    → IsPossible started S reply P log R
     → (i : ℕ) → (map bare (sent J i) ≡ run_items P R i) × (all_ended (sequential P R i) ≡ true)
 
 -- and whatever goes on with the journal answers by kind, so there are such messages
 abbrev pub DoneAnswers : Plan → Type 0
-DoneAnswers P = (started : ℕ) (S : Scenario) (reply : Replies) (log : List LogEntry) (J : List Entry) → IsJournalOf started S reply P log J → IsDone P (view P J) → (R : Messages) → Continues P J R → AnswersByKind reply (is_within S) P R
+DoneAnswers P = (started : ℕ) (S : Scenario) (reply : Replies) (log : List LogEntry)
+    (J : List Entry) → IsJournalOf started S reply P log J → IsDone P (view P J) → (R : Messages)
+    → Continues P J R → AnswersByKind reply (is_within S) P R
 
 -- the max_advance of each Step is a promise over all messages that may come
 abbrev pub StepsPromise : Plan → Type 0
-StepsPromise P = (started : ℕ) (S : Scenario) (reply : Replies) (log : List LogEntry) (J : List Entry) → IsJournalOf started S reply P log J → (H : List Entry) (s : SimNo) (x : Tier) (inputs : List Input) (advance : ℤ) (more : List Entry)
-    → J ≡ H ++ Sent s (Step x inputs advance) ∷ more → s.0 < sim_count P → (R : Messages) → IsPossibleUpTo started S reply P log H s.0 R → IsPromised P R s.0 x.time advance
+StepsPromise P = (started : ℕ) (S : Scenario) (reply : Replies) (log : List LogEntry)
+    (J : List Entry) → IsJournalOf started S reply P log J
+    → (H : List Entry) (s : SimNo) (x : Tier) (inputs : List Input) (advance : ℤ)
+    (more : List Entry)
+    → J ≡ H ++ Sent s (Step x inputs advance) ∷ more → s.0 < sim_count P → (R : Messages)
+    → IsPossibleUpTo started S reply P log H s.0 R → IsPromised P R s.0 x.time advance
 
 -- what stood at each rest of a run, said of the run's own journal
 abbrev pub RestsAreWell : Type 0
-RestsAreWell = (started : ℕ) (S : Scenario) (replies : SetupReplies) → ((i : ℕ) (l : LinkNo) → sim_link started S i ≡ Some l → length (replies i) ≡ setup_count S i) → (P : Plan) (J : List Entry) (log : List LogEntry)
+RestsAreWell = (started : ℕ) (S : Scenario) (replies : SetupReplies)
+    → ((i : ℕ) (l : LinkNo) → sim_link started S i ≡ Some l → length (replies i) ≡ setup_count S i)
+    → (P : Plan) (J : List Entry) (log : List LogEntry)
     → RestsEnd started S replies P J log → RestsWell started S P J log
 
--- where the kinds' replies are right, there are messages that answer by kind, whatever the other simulators send
+-- where the kinds' replies are right, there are messages that answer by kind, whatever the other
+-- simulators send
 abbrev pub KindsAnswer : Plan → Type 0
-KindsAnswer P = (reply : Replies) (within : ℕ → Bool) → RepliesAreRight reply within P → AreThere reply within P
+KindsAnswer P = (reply : Replies) (within : ℕ → Bool) → RepliesAreRight reply within P
+    → AreThere reply within P
 
 -- the places of links that a start leaves are the simulators' links
 abbrev pub PlacesAreLinks : Type 0
-PlacesAreLinks = (started : ℕ) (S : Scenario) (i : ℕ) → i < length S.sims → slice_get (places started S.sims) i ≡ Some (sim_link started S i)
+PlacesAreLinks = (started : ℕ) (S : Scenario) (i : ℕ) → i < length S.sims
+    → slice_get (places started S.sims) i ≡ Some (sim_link started S i)

@@ -11,7 +11,8 @@ use Rattle.mk_outside.specs.declared.fleet.LogEntry.TheVariants.{NotHeard, NotSa
 use Rattle.mk_outside.specs.Logs.{heard_on, said_on, last_read, last_write}
 use Rattle.mk_run_laws.specs.Hearing.{Takes}
 
--- the link, the bytes heard and not yet given, the bytes unsent, whether it is parked, and the next id
+-- the link, the bytes heard and not yet given, the bytes unsent, whether it is parked, and the next
+-- id
 pub record Line : Type 0 where
   pub link : LinkNo
   pub held : List ℕ
@@ -19,7 +20,8 @@ pub record Line : Type 0 where
   pub parked : Bool
   pub next : ℕ
 
--- by the last read nothing had come, all is said or the last write took nothing, and no whole frame is held
+-- by the last read nothing had come, all is said or the last write took nothing, and no whole frame
+-- is held
 pub record IsParkedIn (log : List LogEntry) (line : Line) : Type 0 where
   pub heard_all : last_read line.link log ≡ Some (NotHeard line.link)
   pub said_all : (line.unsent ≡ []) ⊎ (last_write line.link log ≡ Some (NotSaid line.link))
@@ -40,8 +42,10 @@ pub record IsMoved (entries : List LogEntry) (given : List Message) (old new : L
   pub taken : Takes (old.held ++ heard_on old.link entries) given new.held
   pub parked : new.parked ≡ true → IsParkedIn entries new ⊎ IsLeft entries old new
 
--- over the whole log the line gave these messages, these payloads were queued on it, and this is the next id
-pub record IsLineAt (log : List LogEntry) (messages : List Message) (payloads : List (List ℕ)) (next : ℕ) (line : Line) : Type 0 where
+-- over the whole log the line gave these messages, these payloads were queued on it, and this is
+-- the next id
+pub record IsLineAt (log : List LogEntry) (messages : List Message) (payloads : List (List ℕ))
+    (next : ℕ) (line : Line) : Type 0 where
   pub heard : Takes (heard_on line.link log) messages line.held
   pub said : said_on line.link log ++ line.unsent ≡ frames_of payloads
   pub next_id : line.next ≡ next
@@ -49,14 +53,23 @@ pub record IsLineAt (log : List LogEntry) (messages : List Message) (payloads : 
 
 -- the line with one more payload to be said
 abbrev pub queued : List ℕ → ℕ → Line → Line
-queued payload next line = record { link = line.link; held = line.held; unsent = line.unsent ++ frame_of payload; parked = false; next = next }
+queued payload next line = record {
+  link = line.link;
+  held = line.held;
+  unsent = line.unsent
+      ++ frame_of payload;
+  parked = false;
+  next = next;
+}
 
 -- what is still to be said on a line that is stopped: what is unsent, and a stop
 abbrev pub last_bytes : Line → List ℕ
 last_bytes line = line.unsent ++ frame_of (call_text line.next Stop)
 
--- by these entries the line was stopped: nothing was heard, and a beginning of its last bytes was said; all of them, but where a write took nothing or the count of faults rose
+-- by these entries the line was stopped: nothing was heard, and a beginning of its last bytes was
+-- said; all of them, but where a write took nothing or the count of faults rose
 pub record IsStopped (entries : List LogEntry) (risen : Type 0) (line : Line) : Type 0 where
   pub unheard : heard_on line.link entries ≡ []
   pub said : BeginsWith (last_bytes line) (said_on line.link entries)
-  pub whole : (said_on line.link entries ≡ last_bytes line) ⊎ ((last_write line.link entries ≡ Some (NotSaid line.link)) ⊎ risen)
+  pub whole : (said_on line.link entries ≡ last_bytes line)
+      ⊎ ((last_write line.link entries ≡ Some (NotSaid line.link)) ⊎ risen)

@@ -28,6 +28,8 @@ abbrev pub stop_payloads : Bool → ℕ → List (List ℕ)
 stop_payloads true id = call_text id Stop ∷ []
 stop_payloads false id = []
 
--- what is said to simulator i: the first n requests of its handshake, these items, and a stop if there is one
+-- what is said to simulator i: the first n requests of its handshake, these items, and a stop if
+-- there is one
 abbrev pub link_payloads : Scenario → ℕ → ℕ → List Item → Bool → List (List ℕ)
-link_payloads S i n items stopped = take n (setup_payloads S i) ++ item_payloads n items ++ stop_payloads stopped (id_after n items)
+link_payloads S i n items stopped = take n (setup_payloads S i) ++ item_payloads n items
+    ++ stop_payloads stopped (id_after n items)

@@ -22,7 +22,8 @@ use Rattle.mk_run_laws.specs.Payloads.{item_payloads}
 abbrev pub with_number : ℕ → Option ℕ → (ℕ → Option ℕ) → ℕ → Option ℕ
 with_number s n left i = if i == s then n else left i
 
--- the longest beginning of a journal in which no simulator has more messages than these; None sets no bound
+-- the longest beginning of a journal in which no simulator has more messages than these; None sets
+-- no bound
 abbrev pub within : (ℕ → Option ℕ) → List Entry → List Entry
 within left [] = []
 within left (Sent s item ∷ J) = Sent s item ∷ within left J
@@ -37,7 +38,8 @@ run_messages S log i l = drop (setup_count S i) (messages_heard (heard_on l log)
 
 -- how many they are, where it has a link
 abbrev pub heard_counts : ℕ → Scenario → List LogEntry → ℕ → Option ℕ
-heard_counts started S log i = option_map (λ (l : LinkNo). length (run_messages S log i l)) (sim_link started S i)
+heard_counts started S log i = option_map (λ (l : LinkNo). length (run_messages S log i l))
+    (sim_link started S i)
 
 -- of a run's journal, what was there at the rest behind these entries
 abbrev pub at_rest : ℕ → Scenario → List LogEntry → List Entry → List Entry
@@ -45,7 +47,8 @@ at_rest started S before J = within (heard_counts started S before) J
 
 -- the links' simulators have all replied to their handshake
 abbrev pub AllSetUp : ℕ → Scenario → List LogEntry → Type 0
-AllSetUp started S log = (i : ℕ) (l : LinkNo) → sim_link started S i ≡ Some l → setup_count S i ≤ length (messages_heard (heard_on l log))
+AllSetUp started S log = (i : ℕ) (l : LinkNo) → sim_link started S i ≡ Some l
+    → setup_count S i ≤ length (messages_heard (heard_on l log))
 
 -- the frames of all that simulator i was sent with these items
 abbrev pub all_frames : Scenario → ℕ → List Item → List ℕ
@@ -53,14 +56,20 @@ all_frames S i items = frames_of (setup_payloads S i ++ item_payloads (setup_cou
 
 -- the bytes said are these, or a proper prefix of them after which a write took nothing
 abbrev pub SaysAll : LinkNo → List LogEntry → List ℕ → Type 0
-SaysAll l log bytes = (said_on l log ≡ bytes) ⊎ (IsProperPrefix (said_on l log) bytes × (last_write l log ≡ Some (NotSaid l)))
+SaysAll l log bytes = (said_on l log ≡ bytes)
+    ⊎ (IsProperPrefix (said_on l log) bytes × (last_write l log ≡ Some (NotSaid l)))
 
--- where a run rests, J being its journal: what was there by then has all messages heard by then, nobody is ready in it, all of its items were said, and nothing more had come
-pub record IsWellAtRest (started : ℕ) (S : Scenario) (P : Plan) (J : List Entry) (before : List LogEntry) : Type 0 where
-  pub has_all : (i : ℕ) (l : LinkNo) → sim_link started S i ≡ Some l → got (at_rest started S before J) i ≡ run_messages S before i l
+-- where a run rests, J being its journal: what was there by then has all messages heard by then,
+-- nobody is ready in it, all of its items were said, and nothing more had come
+pub record IsWellAtRest (started : ℕ) (S : Scenario) (P : Plan) (J : List Entry)
+    (before : List LogEntry) : Type 0 where
+  pub has_all : (i : ℕ) (l : LinkNo) → sim_link started S i ≡ Some l
+      → got (at_rest started S before J) i ≡ run_messages S before i l
   pub nobody : (i : ℕ) (x : Tier) → IsReady P (view P (at_rest started S before J)) i x → ⊥
-  pub said : (i : ℕ) (l : LinkNo) → sim_link started S i ≡ Some l → SaysAll l before (all_frames S i (sent (at_rest started S before J) i))
-  pub heard_all : (i : ℕ) (l : LinkNo) → sim_link started S i ≡ Some l → last_read l before ≡ Some (NotHeard l)
+  pub said : (i : ℕ) (l : LinkNo) → sim_link started S i ≡ Some l
+      → SaysAll l before (all_frames S i (sent (at_rest started S before J) i))
+  pub heard_all : (i : ℕ) (l : LinkNo) → sim_link started S i ≡ Some l
+      → last_read l before ≡ Some (NotHeard l)
 
 -- these requests up to the first whose reply isn't among so many messages, that one included
 abbrev pub asked : (ℕ → Option ℕ) → List Request → List Request
@@ -72,13 +81,19 @@ asked heard (r ∷ rs) = elim (heard r.sim) [
 
 -- how many messages were heard of simulator i, where it has a link
 abbrev pub all_counts : ℕ → Scenario → List LogEntry → ℕ → Option ℕ
-all_counts started S log i = option_map (λ (l : LinkNo). length (messages_heard (heard_on l log))) (sim_link started S i)
+all_counts started S log i = option_map (λ (l : LinkNo). length (messages_heard (heard_on l log)))
+    (sim_link started S i)
 
 -- where the handshake rests: each request was said up to the first whose reply hadn't come
 pub record IsWellInSetup (started : ℕ) (S : Scenario) (before : List LogEntry) : Type 0 where
-  pub said : (i : ℕ) (l : LinkNo) → sim_link started S i ≡ Some l → SaysAll l before (frames_of (call_payloads 0 (filter_map (call_to i) (asked (all_counts started S before) (setup_requests S)))))
-  pub heard_all : (i : ℕ) (l : LinkNo) → sim_link started S i ≡ Some l → last_read l before ≡ Some (NotHeard l)
+  pub said : (i : ℕ) (l : LinkNo) → sim_link started S i ≡ Some l
+      → SaysAll l before (frames_of
+      (call_payloads 0 (filter_map (call_to i)
+      (asked (all_counts started S before) (setup_requests S)))))
+  pub heard_all : (i : ℕ) (l : LinkNo) → sim_link started S i ≡ Some l
+      → last_read l before ≡ Some (NotHeard l)
 
 -- at each rest of a run's whole log: the run's clause where all had set up, else the handshake's
 abbrev pub RestsWell : ℕ → Scenario → Plan → List Entry → List LogEntry → Type 0
-RestsWell started S P J log = (before after : List LogEntry) → log ≡ before ++ Rest ∷ after → AllSetUp started S before → IsWellAtRest started S P J before
+RestsWell started S P J log = (before after : List LogEntry) → log ≡ before ++ Rest ∷ after
+    → AllSetUp started S before → IsWellAtRest started S P J before

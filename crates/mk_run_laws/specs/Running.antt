@@ -23,30 +23,43 @@ use Rattle.mk_run_laws.specs.Crews.{CrewState, line_at}
 abbrev pub SetupReplies : Type 0
 SetupReplies = ℕ → List Message
 
--- over the log the line of simulator i gave its setup replies and these messages, and these items were queued on it
-abbrev pub IsInStep : Scenario → SetupReplies → List LogEntry → ℕ → List Message → List Item → Line → Type 0
-IsInStep S replies log i messages items w = IsLineAt log (replies i ++ messages) (setup_payloads S i ++ item_payloads (setup_count S i) items) (id_after (setup_count S i) items) w
+-- over the log the line of simulator i gave its setup replies and these messages, and these items
+-- were queued on it
+abbrev pub IsInStep : Scenario → SetupReplies → List LogEntry → ℕ → List Message → List Item → Line
+    → Type 0
+IsInStep S replies log i messages items w = IsLineAt log (replies i ++ messages) (setup_payloads S i
+    ++ item_payloads (setup_count S i) items) (id_after (setup_count S i) items) w
 
--- when the fleet rested behind these entries, the journal was a beginning of J, nobody was ready, and each line was parked, in step with that journal
-pub record IsRestOf (started : ℕ) (S : Scenario) (replies : SetupReplies) (P : Plan) (J : List Entry) (before : List LogEntry) : Type 0 where
+-- when the fleet rested behind these entries, the journal was a beginning of J, nobody was ready,
+-- and each line was parked, in step with that journal
+pub record IsRestOf (started : ℕ) (S : Scenario) (replies : SetupReplies) (P : Plan)
+    (J : List Entry) (before : List LogEntry) : Type 0 where
   pub at : List Entry
   pub more : List Entry
   pub parts : J ≡ at ++ more
   pub nobody : (i : ℕ) (x : Tier) → IsReady P (view P at) i x → ⊥
-  pub line : (i : ℕ) (l : LinkNo) → sim_link started S i ≡ Some l → (w : Line) × (w.link ≡ l) × (w.parked ≡ true) × IsInStep S replies before i (got at i) (sent at i) w
+  pub line : (i : ℕ) (l : LinkNo) → sim_link started S i ≡ Some l → (w : Line) × (w.link ≡ l)
+      × (w.parked ≡ true) × IsInStep S replies before i (got at i) (sent at i) w
 
 -- these entries begin with a message of a link
 abbrev pub BeginsOnLink : ℕ → Scenario → List Entry → Type 0
-BeginsOnLink started S more = (s : SimNo) × (m : Message) × (later : List Entry) × (l : LinkNo) × (more ≡ Got s m ∷ later) × (sim_link started S s.0 ≡ Some l)
+BeginsOnLink started S more = (s : SimNo) × (m : Message) × (later : List Entry) × (l : LinkNo)
+    × (more ≡ Got s m ∷ later) × (sim_link started S s.0 ≡ Some l)
 
 -- after each rest of the run a message of a link came, if anything did
 abbrev pub RestsEnd : ℕ → Scenario → SetupReplies → Plan → List Entry → List LogEntry → Type 0
-RestsEnd started S replies P J log = (before after : List LogEntry) → log ≡ before ++ Rest ∷ after → AllSetUp started S before
+RestsEnd started S replies P J log = (before after : List LogEntry) → log ≡ before ++ Rest ∷ after
+    → AllSetUp started S before
     → (r : IsRestOf started S replies P J before) × ((r.more ≡ []) ⊎ BeginsOnLink started S r.more)
 
--- when the handshake is over: each line gave its setup replies, only its handshake was queued on it, nothing is kept, and at no rest had all replied
-pub record IsBegun (started : ℕ) (S : Scenario) (replies : SetupReplies) (log : List LogEntry) (C : CrewState) : Type 0 where
-  pub lines : (i : ℕ) (l : LinkNo) → sim_link started S i ≡ Some l → (w : Line) × (line_at C i ≡ Some w) × (w.link ≡ l) × IsLineAt log (replies i) (setup_payloads S i) (setup_count S i) w
+-- when the handshake is over: each line gave its setup replies, only its handshake was queued on
+-- it, nothing is kept, and at no rest had all replied
+pub record IsBegun (started : ℕ) (S : Scenario) (replies : SetupReplies) (log : List LogEntry)
+    (C : CrewState) : Type 0 where
+  pub lines : (i : ℕ) (l : LinkNo) → sim_link started S i ≡ Some l → (w : Line)
+      × (line_at C i ≡ Some w) × (w.link ≡ l)
+      × IsLineAt log (replies i) (setup_payloads S i) (setup_count S i) w
   pub no_line : (i : ℕ) → is_within S i ≡ true → line_at C i ≡ None
   pub none_kept : C.kept ≡ []
-  pub setting_up : (before after : List LogEntry) → log ≡ before ++ Rest ∷ after → AllSetUp started S before → ⊥
+  pub setting_up : (before after : List LogEntry) → log ≡ before ++ Rest ∷ after
+      → AllSetUp started S before → ⊥

@@ -1,4 +1,5 @@
--- What the log of a whole run means: what is said on each link, what is heard, and what both have to do with its journal.
+-- What the log of a whole run means: what is said on each link, what is heard, and what both have
+-- to do with its journal.
 use Rattle.std.specs.Prelude.{◌≡◌, ℕ, ◌<◌, ◌≤◌, ◌⊎◌, Bool, true, List, [], map, take, Option, Some, IsSome}
 use Rattle.mk_base.specs.declared.LinkNo.{LinkNo}
 use Rattle.mk_base.specs.Lists.{BeginsWith}
@@ -20,36 +21,54 @@ use Rattle.mk_run_laws.specs.Kinds.{Replies, AnswersByKind}
 use Rattle.mk_run_laws.specs.Rests.{run_messages}
 use Rattle.mk_run_laws.specs.Running.{SetupReplies}
 
--- messages that may come: on each link those that were heard, and whatever goes on; of the simulators within the program what their kinds answer
-pub record IsPossible (started : ℕ) (S : Scenario) (reply : Replies) (P : Plan) (log : List LogEntry) (R : Messages) : Type 0 where
+-- messages that may come: on each link those that were heard, and whatever goes on; of the
+-- simulators within the program what their kinds answer
+pub record IsPossible (started : ℕ) (S : Scenario) (reply : Replies) (P : Plan)
+    (log : List LogEntry) (R : Messages) : Type 0 where
   pub by_kind : AnswersByKind reply (is_within S) P R
-  pub links : (i : ℕ) (l : LinkNo) → sim_link started S i ≡ Some l → BeginsWith (R i) (run_messages S log i l)
+  pub links : (i : ℕ) (l : LinkNo) → sim_link started S i ≡ Some l
+      → BeginsWith (R i) (run_messages S log i l)
 
 -- the same, but that simulator s, on link k, sends no more than its messages in J
-pub record IsPossibleUpTo (started : ℕ) (S : Scenario) (reply : Replies) (P : Plan) (log : List LogEntry) (J : List Entry) (s : ℕ) (R : Messages) : Type 0 where
+pub record IsPossibleUpTo (started : ℕ) (S : Scenario) (reply : Replies) (P : Plan)
+    (log : List LogEntry) (J : List Entry) (s : ℕ) (R : Messages) : Type 0 where
   pub by_kind : AnswersByKind reply (is_within S) P R
-  pub links : (i : ℕ) (l : LinkNo) → sim_link started S i ≡ Some l → (i ≡ s → ⊥) → BeginsWith (R i) (run_messages S log i l)
+  pub links : (i : ℕ) (l : LinkNo) → sim_link started S i ≡ Some l → (i ≡ s → ⊥)
+      → BeginsWith (R i) (run_messages S log i l)
   pub ends : R s ≡ got J s
 
 -- the frames of a handshake, of these items and of a stop
 abbrev pub run_frames : Scenario → ℕ → List Item → List ℕ
 run_frames S i items = frames_of (link_payloads S i (setup_count S i) items true)
 
--- the link of a run with the journal J: its first messages are the setup replies, those got are the first of the others; what was said is a beginning of the frames of the handshake, of these first items of the journal, and of a stop, and all of it but where a write took nothing or the count of faults rose
-pub record IsLinkOfRun (S : Scenario) (replies : SetupReplies) (J : List Entry) (log : List LogEntry) (risen : Type 0) (i : ℕ) (l : LinkNo) (items : List Item) : Type 0 where
+-- the link of a run with the journal J: its first messages are the setup replies, those got are the
+-- first of the others; what was said is a beginning of the frames of the handshake, of these first
+-- items of the journal, and of a stop, and all of it but where a write took nothing or the count of
+-- faults rose
+pub record IsLinkOfRun (S : Scenario) (replies : SetupReplies) (J : List Entry)
+    (log : List LogEntry) (risen : Type 0) (i : ℕ) (l : LinkNo) (items : List Item) : Type 0 where
   pub replied : take (setup_count S i) (messages_heard (heard_on l log)) ≡ replies i
   pub got : BeginsWith (run_messages S log i l) (got J i)
   pub items_sent : BeginsWith (sent J i) items
   pub said : BeginsWith (run_frames S i items) (said_on l log)
-  pub whole : (said_on l log ≡ run_frames S i items) ⊎ ((last_write l log ≡ Some (NotSaid l)) ⊎ risen)
+  pub whole : (said_on l log ≡ run_frames S i items)
+      ⊎ ((last_write l log ≡ Some (NotSaid l)) ⊎ risen)
 
--- the clause of a run on what is said to simulator i on its link, for every end of the call: a beginning of the frames of the first requests of its handshake, of items, and of a stop; items only behind the whole handshake and where the plan is there, and these begin what sequential execution sends it
-pub record SaysRight (started : ℕ) (S : Scenario) (reply : Replies) (plan : Option Plan) (log : List LogEntry) (i : ℕ) (l : LinkNo) (asked : ℕ) (items : List Item) (stopped : Bool) : Type 0 where
+-- the clause of a run on what is said to simulator i on its link, for every end of the call: a
+-- beginning of the frames of the first requests of its handshake, of items, and of a stop; items
+-- only behind the whole handshake and where the plan is there, and these begin what sequential
+-- execution sends it
+pub record SaysRight (started : ℕ) (S : Scenario) (reply : Replies) (plan : Option Plan)
+    (log : List LogEntry) (i : ℕ) (l : LinkNo) (asked : ℕ) (items : List Item)
+    (stopped : Bool) : Type 0 where
   pub handshake : asked ≤ setup_count S i
   pub behind : (items ≡ []) ⊎ ((asked ≡ setup_count S i) × IsSome plan)
   pub said : BeginsWith (frames_of (link_payloads S i asked items stopped)) (said_on l log)
-  pub as_executed : (P : Plan) → plan ≡ Some P → (R : Messages) → IsPossible started S reply P log R → i < sim_count P → BeginsWith (run_items P R i) (map bare items)
+  pub as_executed : (P : Plan) → plan ≡ Some P → (R : Messages) → IsPossible started S reply P log R
+      → i < sim_count P → BeginsWith (run_items P R i) (map bare items)
 
 -- all of it was said, but where a write took nothing or the count of faults rose
 abbrev pub SaidWhole : Scenario → List LogEntry → Type 0 → ℕ → LinkNo → ℕ → List Item → Type 0
-SaidWhole S log risen i l asked items = (said_on l log ≡ frames_of (link_payloads S i asked items true)) ⊎ ((last_write l log ≡ Some (NotSaid l)) ⊎ risen)
+SaidWhole S log risen i l asked items = (said_on l log
+    ≡ frames_of (link_payloads S i asked items true))
+    ⊎ ((last_write l log ≡ Some (NotSaid l)) ⊎ risen)

@@ -13,7 +13,8 @@ use Rattle.mk_run_links.specs.Places.{Lines, at, crew}
 
 -- the payload of an item to simulator s, with the next id of its line, has n bytes
 abbrev pub IsLengthOf : ℕ → Item → ℕ → Lines → Type 0
-IsLengthOf n item s lines = (w : Line) × (at lines s ≡ Some w) × (n ≡ length (item_text w.next item))
+IsLengthOf n item s lines = (w : Line) × (at lines s ≡ Some w)
+    × (n ≡ length (item_text w.next item))
 
 -- a message was heard; or nothing was, for this cause
 abbrev pub HearsAs : Result (SimNo × Message) LinkHalt → List LogEntry → Lines → Lines → Type 0

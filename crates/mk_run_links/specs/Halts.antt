@@ -14,12 +14,14 @@ use Rattle.mk_run_links.specs.declared.answers.LinkHalt.{LinkHalt}
 use Rattle.mk_run_links.specs.declared.answers.LinkHalt.TheVariants as halt
 use Rattle.mk_run_links.specs.Places.{Lines, at}
 
--- why no message was heard: the link has ended where no whole frame was held, or what is held begins with something else
+-- why no message was heard: the link has ended where no whole frame was held, or what is held
+-- begins with something else
 abbrev pub ShowsHeard : Heard → List LogEntry → Line → Type 0
 ShowsHeard (heard.Message message) entries w = ⊤
 ShowsHeard (heard.Garbled test) entries w = BeginsGarbled w.held test
 ShowsHeard (heard.TooLong n) entries w = IsTooLong n w.held
-ShowsHeard heard.Closed entries w = IsUnfinished w.held × (last_read w.link entries ≡ Some (Ended w.link))
+ShowsHeard heard.Closed entries w = IsUnfinished w.held
+    × (last_read w.link entries ≡ Some (Ended w.link))
 ShowsHeard heard.Failed entries w = ⊤
 ShowsHeard heard.Mem entries w = ⊤
 

@@ -45,7 +45,8 @@ new_line link = record { link = link; held = []; unsent = []; parked = false; ne
 
 -- no link stands at two places
 abbrev pub AreDistinct : List (Option LinkNo) → Type 0
-AreDistinct links = (i j : ℕ) (l : LinkNo) → slice_get links i ≡ Some (Some l) → slice_get links j ≡ Some (Some l) → i ≡ j
+AreDistinct links = (i j : ℕ) (l : LinkNo) → slice_get links i ≡ Some (Some l)
+    → slice_get links j ≡ Some (Some l) → i ≡ j
 
 -- the lines of a crew that begins, of the links at these places
 abbrev pub new_lines : List (Option LinkNo) → Lines

@@ -12,7 +12,8 @@ use mk_outside::Fleet;
 pub fn close_all<F: Fleet>(links: &[Option<LinkNo>], fleet: &mut F)
     requires open { Each (λ link. IsIn link (F.open_links fleet.old)) (links_in links.now) }
     requires distinct { AreDistinct links.now }
-    ensures closed { F.open_links fleet.new ≡ without_all (links_in links.now) (F.open_links fleet.old) }
+    ensures closed { F.open_links fleet.new
+        ≡ without_all (links_in links.now) (F.open_links fleet.old) }
     ensures same_count { F.started fleet.new ≡ F.started fleet.old }
     ensures count { F.faults fleet.old ≤ F.faults fleet.new }
     ensures logged { Adds [] (F.log fleet.old) (F.log fleet.new) }
@@ -25,7 +26,8 @@ pub fn close_all<F: Fleet>(links: &[Option<LinkNo>], fleet: &mut F)
 // Closes the link of a place, if it has one.
 fn close_place<F: Fleet>(place: &Option<LinkNo>, fleet: &mut F)
     requires { IfSome place.now (λ link. IsIn link (F.open_links fleet.old)) }
-    ensures closed { F.open_links fleet.new ≡ without_all (option_to_list place.now) (F.open_links fleet.old) }
+    ensures closed { F.open_links fleet.new
+        ≡ without_all (option_to_list place.now) (F.open_links fleet.old) }
     ensures same_count { F.started fleet.new ≡ F.started fleet.old }
     ensures count { F.faults fleet.old ≤ F.faults fleet.new }
     ensures logged { Adds [] (F.log fleet.old) (F.log fleet.new) }

@@ -29,7 +29,13 @@ impl Model for CrewLine {
 
     ghost Value = { Line };
 
-    ghost view = { λ a. record { link = a.session.link; held = a.session.held; unsent = a.session.unsent; parked = a.parked; next = a.next } };
+    ghost view = { λ a. record {
+      link = a.session.link;
+      held = a.session.held;
+      unsent = a.session.unsent;
+      parked = a.parked;
+      next = a.next;
+    } };
 }
 
 fn is_pending(polled: &Polled) -> bool
@@ -67,7 +73,13 @@ impl CrewLine {
 
     // The link is no longer parked.
     pub fn wake(&mut self)
-        ensures { self.new ≡ record { link = self.old.link; held = self.old.held; unsent = self.old.unsent; parked = false; next = self.old.next } }
+        ensures { self.new ≡ record {
+          link = self.old.link;
+          held = self.old.held;
+          unsent = self.old.unsent;
+          parked = false;
+          next = self.old.next;
+        } }
     {
         self.parked = false;
     }
@@ -90,10 +102,13 @@ impl CrewLine {
     pub fn poll<F: Fleet>(&mut self, fleet: &mut F) -> Polled
         requires { IsIn self.old.link (F.open_links fleet.old) }
         ensures count { F.faults fleet.old ≤ F.faults fleet.new }
-        ensures cause { result ≡ Polled.Ready Heard.Failed → HasRisen (F.faults fleet.old) (F.faults fleet.new) }
+        ensures cause { result ≡ Polled.Ready Heard.Failed
+            → HasRisen (F.faults fleet.old) (F.faults fleet.new) }
         ensures same_count { F.started fleet.new ≡ F.started fleet.old }
         ensures same_links { F.open_links fleet.new ≡ F.open_links fleet.old }
-        ensures polled { (entries : List LogEntry) × Adds entries (F.log fleet.old) (F.log fleet.new) × PollsLine result self.old entries self.new }
+        ensures polled { (entries : List LogEntry)
+            × Adds entries (F.log fleet.old) (F.log fleet.new)
+            × PollsLine result self.old entries self.new }
     {
         let polled = self.session.poll(fleet);
         self.parked = is_pending(&polled);
@@ -106,7 +121,10 @@ impl CrewLine {
         ensures count { F.faults fleet.old ≤ F.faults fleet.new }
         ensures same_count { F.started fleet.new ≡ F.started fleet.old }
         ensures same_links { F.open_links fleet.new ≡ F.open_links fleet.old }
-        ensures flushed { (entries : List LogEntry) × Adds entries (F.log fleet.old) (F.log fleet.new) × FlushesLine self.now last.now (HasRisen (F.faults fleet.old) (F.faults fleet.new)) entries }
+        ensures flushed { (entries : List LogEntry)
+            × Adds entries (F.log fleet.old) (F.log fleet.new)
+            × FlushesLine self.now last.now
+            (HasRisen (F.faults fleet.old) (F.faults fleet.new)) entries }
     {
         self.session.flush(fleet, last);
     }
@@ -117,7 +135,9 @@ impl CrewLine {
         ensures count { F.faults fleet.old ≤ F.faults fleet.new }
         ensures same_count { F.started fleet.new ≡ F.started fleet.old }
         ensures same_links { F.open_links fleet.new ≡ F.open_links fleet.old }
-        ensures stopped { (entries : List LogEntry) × Adds entries (F.log fleet.old) (F.log fleet.new) × StopsLine self.now (HasRisen (F.faults fleet.old) (F.faults fleet.new)) entries }
+        ensures stopped { (entries : List LogEntry)
+            × Adds entries (F.log fleet.old) (F.log fleet.new)
+            × StopsLine self.now (HasRisen (F.faults fleet.old) (F.faults fleet.new)) entries }
     {
         let frame = stop_frame(self.next);
         self.flush(fleet, frame.as_slice());

@@ -44,7 +44,8 @@ fn is_on(line: &Option<CrewLine>, link: LinkNo) -> bool
 
 // Adds the link of a line, if there is one.
 fn add_link(links: &mut Vec<LinkNo>, line: &Option<CrewLine>) -> Result<(), Mem>
-    ensures { OnOk result (links.new.items ≡ links.old.items ++ filter_map link_of (line.now ∷ [])) }
+    ensures { OnOk result (links.new.items ≡ links.old.items
+        ++ filter_map link_of (line.now ∷ [])) }
 {
     if let Some(line) = line {
         links.push(line.link())?;
@@ -103,8 +104,10 @@ impl CrewLines {
 
     // The simulator whose line is on this link.
     pub fn sim_on(&self, link: LinkNo) -> Option<SimNo>
-        ensures some { IfSome result (λ sim. (w : Line) × (at self.now sim.0 ≡ Some w) × (w.link ≡ link)) }
-        ensures none { result ≡ None → (i : ℕ) (w : Line) → at self.now i ≡ Some w → w.link ≡ link → ⊥ }
+        ensures some { IfSome result (λ sim. (w : Line) × (at self.now sim.0 ≡ Some w)
+            × (w.link ≡ link)) }
+        ensures none { result ≡ None → (i : ℕ) (w : Line) → at self.now i ≡ Some w → w.link ≡ link
+            → ⊥ }
     {
         let i = self.lines.iter().position(|line| is_on(line, link))?;
         Some(SimNo(i as u32))
@@ -136,7 +139,8 @@ impl CrewLines {
     // changed.
     pub fn queue(&mut self, sim: SimNo, payload: &[u8], next: u64) -> Result<(), QueueFault>
         requires { IsLinked sim.0 self.old }
-        ensures ok { OnOk result ((w : Line) × IsSet sim.0 w (queued payload.now next w) self.old self.new) }
+        ensures ok { OnOk result ((w : Line)
+            × IsSet sim.0 w (queued payload.now next w) self.old self.new) }
         ensures allowed { OnOk result (length payload.now ≤ limit) }
         ensures too_long { (n : ℕ) → result ≡ Err (QueueFault.TooLong n) → n ≡ length payload.now }
         ensures too_long_only { (n : ℕ) → result ≡ Err (QueueFault.TooLong n) → limit < n }
@@ -153,10 +157,13 @@ impl CrewLines {
         requires there { IsLinked sim.0 self.old }
         requires open { IsOpenAt sim.0 self.old (F.open_links fleet.old) }
         ensures count { F.faults fleet.old ≤ F.faults fleet.new }
-        ensures cause { result ≡ Polled.Ready Heard.Failed → HasRisen (F.faults fleet.old) (F.faults fleet.new) }
+        ensures cause { result ≡ Polled.Ready Heard.Failed
+            → HasRisen (F.faults fleet.old) (F.faults fleet.new) }
         ensures same_count { F.started fleet.new ≡ F.started fleet.old }
         ensures same_links { F.open_links fleet.new ≡ F.open_links fleet.old }
-        ensures polled { (entries : List LogEntry) × Adds entries (F.log fleet.old) (F.log fleet.new) × PollsAt result sim.0 self.old entries self.new }
+        ensures polled { (entries : List LogEntry)
+            × Adds entries (F.log fleet.old) (F.log fleet.new)
+            × PollsAt result sim.0 self.old entries self.new }
     {
         match &mut self.lines[sim.0 as usize] {
             Some(line) => line.poll(fleet),
@@ -171,7 +178,9 @@ impl CrewLines {
         ensures count { F.faults fleet.old ≤ F.faults fleet.new }
         ensures same_count { F.started fleet.new ≡ F.started fleet.old }
         ensures same_links { F.open_links fleet.new ≡ F.open_links fleet.old }
-        ensures stopped { (entries : List LogEntry) × Adds entries (F.log fleet.old) (F.log fleet.new) × StopsAt sim.0 self.now (HasRisen (F.faults fleet.old) (F.faults fleet.new)) entries }
+        ensures stopped { (entries : List LogEntry)
+            × Adds entries (F.log fleet.old) (F.log fleet.new)
+            × StopsAt sim.0 self.now (HasRisen (F.faults fleet.old) (F.faults fleet.new)) entries }
     {
         match &self.lines[sim.0 as usize] {
             Some(line) => line.stop(fleet),

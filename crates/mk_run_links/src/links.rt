@@ -149,7 +149,8 @@ impl Links {
     /// Queues a payload on a simulator's link, after which this is its next id. After a fault nothing has changed.
     pub fn queue(&mut self, sim: SimNo, payload: &[u8], next: u64) -> Result<(), QueueFault>
         requires { IsLinked sim.0 self.old.lines }
-        ensures ok { OnOk result ((w : Line) × IsSet sim.0 w (queued payload.now next w) self.old.lines self.new.lines) }
+        ensures ok { OnOk result ((w : Line)
+            × IsSet sim.0 w (queued payload.now next w) self.old.lines self.new.lines) }
         ensures allowed { OnOk result (length payload.now ≤ limit) }
         ensures too_long { (n : ℕ) → result ≡ Err (QueueFault.TooLong n) → n ≡ length payload.now }
         ensures too_long_only { (n : ℕ) → result ≡ Err (QueueFault.TooLong n) → limit < n }
@@ -167,9 +168,12 @@ impl Links {
     /// `Mem` comes for want of memory, and where the next id would be 2^64. After a fault nothing has changed.
     pub fn send(&mut self, alloc: Global, sim: SimNo, item: &Item) -> Result<(), QueueFault>
         requires { IsLinked sim.0 self.old.lines }
-        ensures ok { OnOk result ((w : Line) × (at self.old.lines sim.0 ≡ Some w) × IsSentOnLink sim.0 item.now w.next (crew self.old.lines) (crew self.new.lines)) }
-        ensures allowed { OnOk result ((n : ℕ) × IsLengthOf n item.now sim.0 self.old.lines × (n ≤ limit)) }
-        ensures too_long { (n : ℕ) → result ≡ Err (QueueFault.TooLong n) → IsLengthOf n item.now sim.0 self.old.lines × (limit < n) }
+        ensures ok { OnOk result ((w : Line) × (at self.old.lines sim.0 ≡ Some w)
+            × IsSentOnLink sim.0 item.now w.next (crew self.old.lines) (crew self.new.lines)) }
+        ensures allowed { OnOk result ((n : ℕ) × IsLengthOf n item.now sim.0 self.old.lines
+            × (n ≤ limit)) }
+        ensures too_long { (n : ℕ) → result ≡ Err (QueueFault.TooLong n)
+            → IsLengthOf n item.now sim.0 self.old.lines × (limit < n) }
         ensures err { OnErr result (self.new ≡ self.old) }
         ensures same_halt { self.new.halt ≡ self.old.halt }
     {
@@ -188,11 +192,14 @@ impl Links {
     fn look<F: Fleet>(&mut self, fleet: &mut F) -> Looked
         requires { AreOpen self.old.lines (F.open_links fleet.old) }
         ensures count { F.faults fleet.old ≤ F.faults fleet.new }
-        ensures cause { (sim : SimNo) → result ≡ Looked.Heard sim Heard.Failed → HasRisen (F.faults fleet.old) (F.faults fleet.new) }
+        ensures cause { (sim : SimNo) → result ≡ Looked.Heard sim Heard.Failed
+            → HasRisen (F.faults fleet.old) (F.faults fleet.new) }
         ensures same_count { F.started fleet.new ≡ F.started fleet.old }
         ensures same_links { F.open_links fleet.new ≡ F.open_links fleet.old }
         ensures same_halt { self.new.halt ≡ self.old.halt }
-        ensures looked { (entries : List LogEntry) × Adds entries (F.log fleet.old) (F.log fleet.new) × LooksAs result entries self.old.lines self.new.lines }
+        ensures looked { (entries : List LogEntry)
+            × Adds entries (F.log fleet.old) (F.log fleet.new)
+            × LooksAs result entries self.old.lines self.new.lines }
     {
         let Some(link) = self.turns.take() else {
             return Looked::Quiet;
@@ -241,11 +248,14 @@ impl Links {
         requires open { AreOpen self.old.lines (F.open_links fleet.old) }
         requires some { (i : ℕ) × IsLinked i self.old.lines }
         ensures count { F.faults fleet.old ≤ F.faults fleet.new }
-        ensures cause { result ≡ Err LinkHalt.Fleet → HasRisen (F.faults fleet.old) (F.faults fleet.new) }
+        ensures cause { result ≡ Err LinkHalt.Fleet
+            → HasRisen (F.faults fleet.old) (F.faults fleet.new) }
         ensures same_count { F.started fleet.new ≡ F.started fleet.old }
         ensures same_links { F.open_links fleet.new ≡ F.open_links fleet.old }
         ensures same_halt { self.new.halt ≡ self.old.halt }
-        ensures rested { (entries : List LogEntry) × Adds entries (F.log fleet.old) (F.log fleet.new) × RestsAs result entries self.old.lines self.new.lines }
+        ensures rested { (entries : List LogEntry)
+            × Adds entries (F.log fleet.old) (F.log fleet.new)
+            × RestsAs result entries self.old.lines self.new.lines }
     {
         let links = self.lines.links(alloc)?;
         let mut marks = unmarked(alloc, links.len())?;
@@ -264,11 +274,13 @@ impl Links {
         requires open { AreOpen self.old.lines (F.open_links fleet.old) }
         requires some { (i : ℕ) × IsLinked i self.old.lines }
         ensures count { F.faults fleet.old ≤ F.faults fleet.new }
-        ensures cause { result ≡ Round.Halted LinkHalt.Fleet → HasRisen (F.faults fleet.old) (F.faults fleet.new) }
+        ensures cause { result ≡ Round.Halted LinkHalt.Fleet
+            → HasRisen (F.faults fleet.old) (F.faults fleet.new) }
         ensures same_count { F.started fleet.new ≡ F.started fleet.old }
         ensures same_links { F.open_links fleet.new ≡ F.open_links fleet.old }
         ensures same_halt { self.new.halt ≡ self.old.halt }
-        ensures went { (entries : List LogEntry) × Adds entries (F.log fleet.old) (F.log fleet.new) × GoesAs result entries self.old.lines self.new.lines }
+        ensures went { (entries : List LogEntry) × Adds entries (F.log fleet.old) (F.log fleet.new)
+            × GoesAs result entries self.old.lines self.new.lines }
     {
         match self.look(fleet) {
             Looked::Heard(sim, heard) => round_of(sim, heard),
@@ -290,11 +302,13 @@ impl Links {
         requires open { AreOpen self.old.lines (F.open_links fleet.old) }
         requires some { (i : ℕ) × IsLinked i self.old.lines }
         ensures count { F.faults fleet.old ≤ F.faults fleet.new }
-        ensures cause { result ≡ Err LinkHalt.Fleet → HasRisen (F.faults fleet.old) (F.faults fleet.new) }
+        ensures cause { result ≡ Err LinkHalt.Fleet
+            → HasRisen (F.faults fleet.old) (F.faults fleet.new) }
         ensures same_count { F.started fleet.new ≡ F.started fleet.old }
         ensures same_links { F.open_links fleet.new ≡ F.open_links fleet.old }
         ensures same_halt { self.new.halt ≡ self.old.halt }
-        ensures heard { (entries : List LogEntry) × Adds entries (F.log fleet.old) (F.log fleet.new) × HearsAs result entries self.old.lines self.new.lines }
+        ensures heard { (entries : List LogEntry) × Adds entries (F.log fleet.old) (F.log fleet.new)
+            × HearsAs result entries self.old.lines self.new.lines }
     {
         for _ in rt.forever() {
             match self.round(alloc, fleet) {
@@ -317,12 +331,16 @@ impl Links {
         requires open { AreOpen self.old.lines (F.open_links fleet.old) }
         requires some { (i : ℕ) × IsLinked i self.old.lines }
         ensures count { F.faults fleet.old ≤ F.faults fleet.new }
-        ensures cause { self.old.halt ≡ None → result ≡ Err LinkHalt.Fleet → HasRisen (F.faults fleet.old) (F.faults fleet.new) }
+        ensures cause { self.old.halt ≡ None → result ≡ Err LinkHalt.Fleet
+            → HasRisen (F.faults fleet.old) (F.faults fleet.new) }
         ensures same_count { F.started fleet.new ≡ F.started fleet.old }
         ensures same_links { F.open_links fleet.new ≡ F.open_links fleet.old }
-        ensures again { (h : LinkHalt) → self.old.halt ≡ Some h → (result ≡ Err h) × (self.new ≡ self.old) × (fleet.new ≡ fleet.old) }
+        ensures again { (h : LinkHalt) → self.old.halt ≡ Some h → (result ≡ Err h)
+            × (self.new ≡ self.old) × (fleet.new ≡ fleet.old) }
         ensures lasts { self.old.halt ≡ None → self.new.halt ≡ lasting result }
-        ensures heard { self.old.halt ≡ None → (entries : List LogEntry) × Adds entries (F.log fleet.old) (F.log fleet.new) × HearsAs result entries self.old.lines self.new.lines }
+        ensures heard { self.old.halt ≡ None → (entries : List LogEntry)
+            × Adds entries (F.log fleet.old) (F.log fleet.new)
+            × HearsAs result entries self.old.lines self.new.lines }
     {
         if let Some(halt) = self.halt {
             return Err(halt);
@@ -338,7 +356,8 @@ impl Links {
         ensures count { F.faults fleet.old ≤ F.faults fleet.new }
         ensures same_count { F.started fleet.new ≡ F.started fleet.old }
         ensures same_links { F.open_links fleet.new ≡ F.open_links fleet.old }
-        ensures stopped { (entries : List LogEntry) × Adds entries (F.log fleet.old) (F.log fleet.new)
+        ensures stopped { (entries : List LogEntry)
+            × Adds entries (F.log fleet.old) (F.log fleet.new)
             × StopsAll entries (HasRisen (F.faults fleet.old) (F.faults fleet.new)) self.now.lines }
     {
         for i in 0..self.lines.len() {

@@ -28,4 +28,5 @@ no_reply = Success 0 tree.Null
 
 -- the last message that simulator i sends where these items come after its setup
 abbrev pub kind_reply_of : List Turn → Scenario → Replies
-kind_reply_of rows S i items = unwrap_or (option_and_then (λ L. last_of (replies L (setup_count S i) items)) (made rows S i)) no_reply
+kind_reply_of rows S i items = unwrap_or
+    (option_and_then (λ L. last_of (replies L (setup_count S i) items)) (made rows S i)) no_reply

@@ -12,7 +12,8 @@ use Rattle.mk_local.specs.declared.turn.Turn.{Turn}
 use Rattle.mk_local.specs.Kinds.{kind_named}
 use Rattle.mk_local.specs.Simulators.{Simulator, new_simulator}
 
--- one place for each simulator of the scenario, which has none where it has a link; and the kept replies, the oldest first
+-- one place for each simulator of the scenario, which has none where it has a link; and the kept
+-- replies, the oldest first
 pub record WithinState : Type 0 where
   pub sims : List (Option Simulator)
   pub kept : List Arrival

@@ -39,7 +39,8 @@ impl Model for Within {
 
     ghost view = { λ a. record { sims = a.sims.items; kept = map arrival a.kept.items } };
 
-    ghost invariant = { λ a. Stands (record { sims = a.sims.items; kept = map arrival a.kept.items }) };
+    ghost invariant = { λ a.
+        Stands (record { sims = a.sims.items; kept = map arrival a.kept.items }) };
 }
 
 // The simulator that is begun so, before any request, if it is within the program.
@@ -144,7 +145,8 @@ impl Within {
 
     /// Takes the oldest reply that is kept; `None` exactly where none is. It takes no memory.
     pub fn take(&mut self) -> Option<(SimNo, Message)>
-        ensures taken { MatchOption result ((self.old.kept ≡ []) × (self.new ≡ self.old)) (λ r. IsTaken self.old r.0.0 r.1 self.new) }
+        ensures taken { MatchOption result ((self.old.kept ≡ [])
+            × (self.new ≡ self.old)) (λ r. IsTaken self.old r.0.0 r.1 self.new) }
         ensures fit { IfSome result (λ r. IsFitSuccess r.1) }
         ensures kinds { (rows : List Turn) → AreOf rows self.old → AreOf rows self.new }
     {

@@ -73,9 +73,12 @@ sides_pair m n = (n == 1) || (m == 1) || (m == n)
 -- the manner in which a table of this path says that the connection delivers
 abbrev pub manner_said : List ℕ → Json → Result Manner ScenarioFault
 manner_said path table =
-    passed (optional None (key_in path (codes "time_shifted")) some_width (member (codes "time_shifted") table)) (λ width.
-    passed (optional false (key_in path (codes "weak")) truth (member (codes "weak") table)) (λ weak.
-    passed (optional false (key_in path (codes "async_requests")) truth (member (codes "async_requests") table)) (λ asks.
+    passed (optional None (key_in path (codes "time_shifted")) some_width
+    (member (codes "time_shifted") table)) (λ width.
+    passed (optional false (key_in path (codes "weak")) truth (member (codes "weak") table))
+    (λ weak.
+    passed (optional false (key_in path (codes "async_requests")) truth
+    (member (codes "async_requests") table)) (λ asks.
     Ok (record { width = width; weak = weak; asks = asks }))))
 
 -- what the table of this path says
@@ -84,24 +87,37 @@ block_said path table =
     no_text (λ key. UnknownKey (key_in path key)) (first_unknown block_keys table) (
     passed (required (key_in path (codes "from")) text (member (codes "from") table)) (λ from.
     passed (required (key_in path (codes "to")) text (member (codes "to") table)) (λ to.
-    passed (optional [] (key_in path (codes "attrs")) pairs (member (codes "attrs") table)) (λ attrs.
+    passed (optional [] (key_in path (codes "attrs")) pairs (member (codes "attrs") table))
+    (λ attrs.
     passed (manner_said path table) (λ manner.
-    passed (optional (tree.Object []) (key_in path (codes "initial_data")) values (member (codes "initial_data") table)) (λ initial.
+    passed (optional (tree.Object []) (key_in path (codes "initial_data")) values
+    (member (codes "initial_data") table)) (λ initial.
     Ok (record { from = from; to = to; attrs = attrs; manner = manner; initial = initial })))))))
 
 -- the initial values of the block that a table of this path says, which fits between these places
 abbrev pub block_fits : List Group → List ℕ → BlockSaid → Place → Place → Result Json ScenarioFault
 block_fits groups path said from to =
-    held (TwoKinds path) (at_most_one (is_some said.manner.width) said.manner.weak said.manner.asks) (
-    passed (initial_fits (key_in path (codes "initial_data")) (is_some said.manner.width || said.manner.weak) said.attrs said.initial) (λ initial.
-    held (Uneven path (size_of groups from) (size_of groups to)) (sides_pair (size_of groups from) (size_of groups to)) (
+    held (TwoKinds path) (at_most_one (is_some said.manner.width) said.manner.weak said.manner.asks)
+    (
+    passed (initial_fits (key_in path (codes "initial_data")) (is_some said.manner.width
+    || said.manner.weak) said.attrs said.initial) (λ initial.
+    held (Uneven path (size_of groups from) (size_of groups to))
+    (sides_pair (size_of groups from) (size_of groups to)) (
     Ok initial)))
 
 -- the block that a table of this path says, between these places
-abbrev pub block_between : List Group → List ℕ → BlockSaid → Place → Place → Result Block ScenarioFault
+abbrev pub block_between : List Group → List ℕ → BlockSaid → Place → Place
+    → Result Block ScenarioFault
 block_between groups path said from to =
     passed (block_fits groups path said from to) (λ initial.
-    Ok (record { from = from; to = to; attrs = said.attrs; via = via_of said.manner.width said.manner.weak; async_requests = said.manner.asks; initial = initial }))
+    Ok (record {
+      from = from;
+      to = to;
+      attrs = said.attrs;
+      via = via_of said.manner.width said.manner.weak;
+      async_requests = said.manner.asks;
+      initial = initial;
+    }))
 
 -- the block that a table of this path says
 abbrev pub block_made : List (List ℕ) → List Group → List ℕ → BlockSaid → Result Block ScenarioFault

@@ -16,7 +16,8 @@ use Rattle.mk_scenario.specs.declared.groups.GroupSaid.{GroupSaid}
 
 -- the simulator of this id
 abbrev pub sim_of_id : List (List ℕ) → List ℕ → List ℕ → Result SimNo ScenarioFault
-sim_of_id sims path id = found (UnknownSim path id) (option_map (λ n. record { 0 = n }) (place_in sims id))
+sim_of_id sims path id = found (UnknownSim path id)
+    (option_map (λ n. record { 0 = n }) (place_in sims id))
 
 -- what the table of this path says
 abbrev pub group_said : List ℕ → Json → Result GroupSaid ScenarioFault
@@ -25,19 +26,30 @@ group_said path table =
     passed (required (key_in path (codes "id")) name (member (codes "id") table)) (λ id.
     passed (required (key_in path (codes "sim")) text (member (codes "sim") table)) (λ sim.
     passed (required (key_in path (codes "model")) text (member (codes "model") table)) (λ model.
-    passed (optional 1 (key_in path (codes "num")) (count_within 1 10000) (member (codes "num") table)) (λ num.
-    passed (optional (tree.Object []) (key_in path (codes "params")) values (member (codes "params") table)) (λ params.
+    passed (optional 1 (key_in path (codes "num")) (count_within 1 10000)
+    (member (codes "num") table)) (λ num.
+    passed (optional (tree.Object []) (key_in path (codes "params")) values
+    (member (codes "params") table)) (λ params.
     Ok (record { id = id; sim = sim; model = model; num = num; params = params })))))))
 
 -- the simulator of the group that a table of this path says, where these ids are taken
-abbrev pub said_sim : List (List ℕ) → List (List ℕ) → List ℕ → GroupSaid → Result SimNo ScenarioFault
-said_sim sims taken path said = held (Taken said.id) (not (is_among taken said.id)) (sim_of_id sims (key_in path (codes "sim")) said.sim)
+abbrev pub said_sim : List (List ℕ) → List (List ℕ) → List ℕ → GroupSaid
+    → Result SimNo ScenarioFault
+said_sim sims taken path said = held (Taken said.id) (not (is_among taken said.id))
+    (sim_of_id sims (key_in path (codes "sim")) said.sim)
 
 -- the group that a table of this path says, where these ids are taken
-abbrev pub group_made : List (List ℕ) → List (List ℕ) → List ℕ → GroupSaid → Result Group ScenarioFault
+abbrev pub group_made : List (List ℕ) → List (List ℕ) → List ℕ → GroupSaid
+    → Result Group ScenarioFault
 group_made sims taken path said =
     passed (said_sim sims taken path said) (λ no.
-    Ok (record { id = said.id; sim = no; model = said.model; num = said.num; params = said.params }))
+    Ok (record {
+      id = said.id;
+      sim = no;
+      model = said.model;
+      num = said.num;
+      params = said.params;
+    }))
 
 -- the group of the table of this path, where these ids are taken
 abbrev pub group_after : List (List ℕ) → List (List ℕ) → List ℕ → Json → Result Group ScenarioFault

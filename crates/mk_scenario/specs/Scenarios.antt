@@ -19,23 +19,37 @@ abbrev pub ids_of : List SimPart → List (List ℕ)
 ids_of sims = map (λ (s : SimPart). s.id) sims
 
 -- the scenario of these limits and tables: each simulator, each group and each block in order
-abbrev pub with_parts : ℤ → ℕ → ℕ → List Json → List Json → List Json → Result Scenario ScenarioFault
+abbrev pub with_parts : ℤ → ℕ → ℕ → List Json → List Json → List Json
+    → Result Scenario ScenarioFault
 with_parts until loops entries sim_tables group_tables block_tables =
     passed (each_after sim_in sim_tables) (λ sims.
     passed (each_after (group_in (ids_of sims)) group_tables) (λ groups.
     passed (each_at (block_in (ids_of sims) groups) block_tables) (λ blocks.
-    Ok (record { until = until; loops = loops; entries = entries; sims = sims; groups = groups; blocks = blocks }))))
+    Ok (record {
+      until = until;
+      loops = loops;
+      entries = entries;
+      sims = sims;
+      groups = groups;
+      blocks = blocks;
+    }))))
 
 -- the tests of a document: the top table's, and then those of its parts
 abbrev pub scenario_in : Json → Result Scenario ScenarioFault
 scenario_in document =
     no_text UnknownKey (first_unknown top_keys document) (
-    passed (required (codes "until") (whole_within (pos 1) (pos 1000000000)) (member (codes "until") document)) (λ until.
-    passed (optional 100 (codes "max_loop_iterations") (count_within 1 1000) (member (codes "max_loop_iterations") document)) (λ loops.
-    passed (optional 2000000 (codes "max_entries") (count_within 1 20000000) (member (codes "max_entries") document)) (λ entries.
-    passed (required (codes "sim") (tables_within 1 200) (member (codes "sim") document)) (λ sim_tables.
-    passed (optional [] (codes "entities") (tables_within 0 10000) (member (codes "entities") document)) (λ group_tables.
-    passed (optional [] (codes "connect") (tables_within 0 100000) (member (codes "connect") document)) (λ block_tables.
+    passed (required (codes "until") (whole_within (pos 1) (pos 1000000000))
+    (member (codes "until") document)) (λ until.
+    passed (optional 100 (codes "max_loop_iterations") (count_within 1 1000)
+    (member (codes "max_loop_iterations") document)) (λ loops.
+    passed (optional 2000000 (codes "max_entries") (count_within 1 20000000)
+    (member (codes "max_entries") document)) (λ entries.
+    passed (required (codes "sim") (tables_within 1 200) (member (codes "sim") document))
+    (λ sim_tables.
+    passed (optional [] (codes "entities") (tables_within 0 10000)
+    (member (codes "entities") document)) (λ group_tables.
+    passed (optional [] (codes "connect") (tables_within 0 100000)
+    (member (codes "connect") document)) (λ block_tables.
     with_parts until loops entries sim_tables group_tables block_tables)))))))
 
 -- the scenario that the bytes of a file are: they are TOML, and the document passes its tests

@@ -53,7 +53,8 @@ IsPlace sims groups (Whole n) = n < length groups
 IsPlace sims groups (One n i) = (n < length groups) × (i < num_at groups n)
 IsPlace sims groups (Full sim eid) = sim.0 < sims
 
--- a block between so many simulators with these groups: it is delayed or asynchronous, not both, and initial values stand only where it is delayed, under its source attributes
+-- a block between so many simulators with these groups: it is delayed or asynchronous, not both,
+-- and initial values stand only where it is delayed, under its source attributes
 pub record IsWellformedBlock (sims : ℕ) (groups : List Group) (b : Block) : Type 0 where
   pub from : IsPlace sims groups b.from
   pub to : IsPlace sims groups b.to
@@ -62,7 +63,8 @@ pub record IsWellformedBlock (sims : ℕ) (groups : List Group) (b : Block) : Ty
   pub width : HasWidth b.via
   pub initial : IsObjectOfData b.initial
   pub delayed : b.via ≡ Plain → members_of b.initial ≡ []
-  pub fed : Each (λ (m : List ℕ × Json). IsIn m.0 (map (λ (p : AttrPair). p.from) b.attrs)) (members_of b.initial)
+  pub fed : Each (λ (m : List ℕ × Json). IsIn m.0 (map (λ (p : AttrPair). p.from) b.attrs))
+      (members_of b.initial)
 
 -- what every caller relies on
 pub record IsWellformed (S : Scenario) : Type 0 where

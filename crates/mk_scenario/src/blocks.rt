@@ -47,8 +47,10 @@ pub fn blocks_of(
     groups: &List<Group>,
     tables: &[Json],
 ) -> Result<List<Block>, ScenarioFault>
-    ensures ok { IfOk result (λ found. each_at (blocks.block_in (ids_of sims.now) groups.now) tables.now ≡ Ok found) }
-    ensures refused { IfErr result (λ e. IsFaultOf (each_at (blocks.block_in (ids_of sims.now) groups.now) tables.now) e) }
+    ensures ok { IfOk result
+        (λ found. each_at (blocks.block_in (ids_of sims.now) groups.now) tables.now ≡ Ok found) }
+    ensures refused { IfErr result
+        (λ e. IsFaultOf (each_at (blocks.block_in (ids_of sims.now) groups.now) tables.now) e) }
 {
     let sims = ids_of(alloc, sims.as_slice())?;
     let groups = groups.as_slice();
@@ -76,8 +78,10 @@ fn blocks_among(
     tables: &[Json],
 ) -> Result<List<Block>, ScenarioFault>
     requires { ids.now ≡ group_ids groups.now }
-    ensures ok { IfOk result (λ found. each_at (blocks.block_in sims.now groups.now) tables.now ≡ Ok found) }
-    ensures refused { IfErr result (λ e. IsFaultOf (each_at (blocks.block_in sims.now groups.now) tables.now) e) }
+    ensures ok { IfOk result (λ found. each_at (blocks.block_in sims.now groups.now) tables.now
+        ≡ Ok found) }
+    ensures refused { IfErr result
+        (λ e. IsFaultOf (each_at (blocks.block_in sims.now groups.now) tables.now) e) }
 {
     let mut found = List::new(alloc);
     for (i, table) in tables.iter().enumerate() {
@@ -97,7 +101,8 @@ fn block_in(
 ) -> Result<Block, ScenarioFault>
     requires { ids.now ≡ group_ids groups.now }
     ensures ok { IfOk result (λ block. blocks.block_in sims.now groups.now i table.now ≡ Ok block) }
-    ensures refused { IfErr result (λ e. IsFaultOf (blocks.block_in sims.now groups.now i table.now) e) }
+    ensures refused { IfErr result
+        (λ e. IsFaultOf (blocks.block_in sims.now groups.now i table.now) e) }
 {
     let path = item_in(alloc, &Text::of(alloc, "connect")?, i)?;
     block_at(alloc, sims, ids, groups, &path, table)
@@ -114,8 +119,10 @@ fn block_at(
     table: &Json,
 ) -> Result<Block, ScenarioFault>
     requires { ids.now ≡ group_ids groups.now }
-    ensures ok { IfOk result (λ block. blocks.block_at sims.now groups.now path.now table.now ≡ Ok block) }
-    ensures refused { IfErr result (λ e. IsFaultOf (blocks.block_at sims.now groups.now path.now table.now) e) }
+    ensures ok { IfOk result (λ block. blocks.block_at sims.now groups.now path.now table.now
+        ≡ Ok block) }
+    ensures refused { IfErr result
+        (λ e. IsFaultOf (blocks.block_at sims.now groups.now path.now table.now) e) }
 {
     let said = block_said(alloc, path, table)?;
     block_made(alloc, sims, ids, groups, path, said)
@@ -145,7 +152,14 @@ fn said_of(
     manner: Manner,
     initial: Json,
 ) -> Result<BlockSaid, Mem>
-    ensures { IfOk result (λ said. said ≡ record { from = from.now; to = to.now; attrs = attrs; manner = manner; initial = initial }) }
+    ensures { IfOk result (λ said. said
+        ≡ record {
+          from = from.now;
+          to = to.now;
+          attrs = attrs;
+          manner = manner;
+          initial = initial;
+        }) }
 {
     Ok(BlockSaid {
         from: from.copy()?,
@@ -169,8 +183,12 @@ fn manner_said(alloc: Global, path: &Text, table: &Json) -> Result<Manner, Scena
 
 // The pairs of attributes of the table of this path, none where it says none.
 fn pairs_or_none(alloc: Global, path: &Text, table: &Json) -> Result<List<AttrPair>, ScenarioFault>
-    ensures ok { IfOk result (λ found. keys.optional [] (key_in path.now (codes "attrs")) blocks.pairs (member (codes "attrs") table.now) ≡ Ok found) }
-    ensures refused { IfErr result (λ e. IsFaultOf (keys.optional [] (key_in path.now (codes "attrs")) blocks.pairs (member (codes "attrs") table.now)) e) }
+    ensures ok { IfOk result
+        (λ found. keys.optional [] (key_in path.now (codes "attrs")) blocks.pairs
+        (member (codes "attrs") table.now) ≡ Ok found) }
+    ensures refused { IfErr result
+        (λ e. IsFaultOf (keys.optional [] (key_in path.now (codes "attrs")) blocks.pairs
+        (member (codes "attrs") table.now)) e) }
 {
     match table.member("attrs") {
         Some(value) => pairs(alloc, &key_in(alloc, path, "attrs")?, value),
@@ -187,8 +205,13 @@ fn pairs(alloc: Global, path: &Text, value: &Json) -> Result<List<AttrPair>, Sce
 }
 
 fn pairs_among(alloc: Global, path: &Text, items: &[Json]) -> Result<List<AttrPair>, ScenarioFault>
-    ensures ok { IfOk result (λ pairs. each_at (λ i item. found (faults.WrongKind (item_in path.now i)) (blocks.pair_in item)) items.now ≡ Ok pairs) }
-    ensures refused { IfErr result (λ e. IsFaultOf (each_at (λ i item. found (faults.WrongKind (item_in path.now i)) (blocks.pair_in item)) items.now) e) }
+    ensures ok { IfOk result
+        (λ pairs. each_at (λ i item.
+        found (faults.WrongKind (item_in path.now i)) (blocks.pair_in item)) items.now ≡ Ok pairs) }
+    ensures refused { IfErr result
+        (λ e. IsFaultOf (each_at
+        (λ i item. found (faults.WrongKind (item_in path.now i)) (blocks.pair_in item)) items.now)
+        e) }
 {
     let mut pairs = List::new(alloc);
     for (i, item) in items.iter().enumerate() {
@@ -228,7 +251,9 @@ fn two_of(items: &[Json]) -> Result<Option<AttrPair>, Mem>
 }
 
 fn two_names(from: Option<&Text>, to: Option<&Text>) -> Result<Option<AttrPair>, Mem>
-    ensures { IfOk result (λ pair. pair ≡ blocks.two_names (option_map (λ t. t.now) from.entry) (option_map (λ t. t.now) to.entry)) }
+    ensures { IfOk result (λ pair. pair
+        ≡ blocks.two_names (option_map (λ t. t.now) from.entry)
+        (option_map (λ t. t.now) to.entry)) }
 {
     match (from, to) {
         (Some(from), Some(to)) => Ok(Some(AttrPair {
@@ -249,8 +274,10 @@ fn block_made(
     said: BlockSaid,
 ) -> Result<Block, ScenarioFault>
     requires { ids.now ≡ group_ids groups.now }
-    ensures ok { IfOk result (λ block. blocks.block_made sims.now groups.now path.now said ≡ Ok block) }
-    ensures refused { IfErr result (λ e. IsFaultOf (blocks.block_made sims.now groups.now path.now said) e) }
+    ensures ok { IfOk result (λ block. blocks.block_made sims.now groups.now path.now said
+        ≡ Ok block) }
+    ensures refused { IfErr result
+        (λ e. IsFaultOf (blocks.block_made sims.now groups.now path.now said) e) }
 {
     let from = place_under(alloc, sims, ids, groups, path, "from", &said.from)?;
     let to = place_under(alloc, sims, ids, groups, path, "to", &said.to)?;
@@ -268,8 +295,10 @@ fn place_under(
     text: &Text,
 ) -> Result<Place, ScenarioFault>
     requires { ids.now ≡ group_ids groups.now }
-    ensures ok { IfOk result (λ place. place_of sims.now groups.now (key_in path.now key.now) text.now ≡ Ok place) }
-    ensures refused { IfErr result (λ e. IsFaultOf (place_of sims.now groups.now (key_in path.now key.now) text.now) e) }
+    ensures ok { IfOk result
+        (λ place. place_of sims.now groups.now (key_in path.now key.now) text.now ≡ Ok place) }
+    ensures refused { IfErr result
+        (λ e. IsFaultOf (place_of sims.now groups.now (key_in path.now key.now) text.now) e) }
 {
     place_of(alloc, sims, ids, groups, &key_in(alloc, path, key)?, text)
 }
@@ -283,8 +312,10 @@ fn block_between(
     from: Place,
     to: Place,
 ) -> Result<Block, ScenarioFault>
-    ensures ok { IfOk result (λ block. blocks.block_between groups.now path.now said from to ≡ Ok block) }
-    ensures refused { IfErr result (λ e. IsFaultOf (blocks.block_between groups.now path.now said from to) e) }
+    ensures ok { IfOk result (λ block. blocks.block_between groups.now path.now said from to
+        ≡ Ok block) }
+    ensures refused { IfErr result
+        (λ e. IsFaultOf (blocks.block_between groups.now path.now said from to) e) }
 {
     block_fits(alloc, groups, path, &said, &from, &to)?;
     Ok(Block {
@@ -306,8 +337,10 @@ fn block_fits(
     from: &Place,
     to: &Place,
 ) -> Result<(), ScenarioFault>
-    ensures ok { IfOk result (λ _. blocks.block_fits groups.now path.now said.now from.now to.now ≡ Ok said.now.initial) }
-    ensures refused { IfErr result (λ e. IsFaultOf (blocks.block_fits groups.now path.now said.now from.now to.now) e) }
+    ensures ok { IfOk result (λ _. blocks.block_fits groups.now path.now said.now from.now to.now
+        ≡ Ok said.now.initial) }
+    ensures refused { IfErr result
+        (λ e. IsFaultOf (blocks.block_fits groups.now path.now said.now from.now to.now) e) }
 {
     let manner = said.manner;
     if !at_most_one(manner.width.is_some(), manner.weak, manner.asks) {
@@ -358,8 +391,10 @@ fn initial_fits(
     attrs: &[AttrPair],
     initial: &Json,
 ) -> Result<(), ScenarioFault>
-    ensures ok { IfOk result (λ _. blocks.initial_fits path.now delayed attrs.now initial.now ≡ Ok initial.now) }
-    ensures refused { IfErr result (λ e. IsFaultOf (blocks.initial_fits path.now delayed attrs.now initial.now) e) }
+    ensures ok { IfOk result (λ _. blocks.initial_fits path.now delayed attrs.now initial.now
+        ≡ Ok initial.now) }
+    ensures refused { IfErr result
+        (λ e. IsFaultOf (blocks.initial_fits path.now delayed attrs.now initial.now) e) }
 {
     if !(delayed || is_empty(initial)) {
         return Err(ScenarioFault::UnknownKey(path.copy()?));
@@ -390,7 +425,9 @@ fn first_unfed<'a>(attrs: &[AttrPair], initial: &'a Json) -> Option<&'a Text>
 }
 
 fn first_unfed_of<'a>(attrs: &[AttrPair], members: &'a Members<Json>) -> Option<&'a Text>
-    ensures { option_map (λ t. t.now) result ≡ find (λ key. not (keys.is_among (source_names attrs.now) key)) (map (λ (m : List ℕ × Json). m.0) members.now) }
+    ensures { option_map (λ t. t.now) result
+        ≡ find (λ key. not (keys.is_among (source_names attrs.now) key))
+        (map (λ (m : List ℕ × Json). m.0) members.now) }
 {
     for (name, _) in members.entries() {
         if !is_source(attrs, name) {

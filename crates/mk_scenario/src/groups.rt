@@ -35,8 +35,10 @@ pub fn groups_of(
     sims: &List<SimPart>,
     tables: &[Json],
 ) -> Result<List<Group>, ScenarioFault>
-    ensures ok { IfOk result (λ found. each_after (groups.group_in (ids_of sims.now)) tables.now ≡ Ok found) }
-    ensures refused { IfErr result (λ e. IsFaultOf (each_after (groups.group_in (ids_of sims.now)) tables.now) e) }
+    ensures ok { IfOk result (λ found. each_after (groups.group_in (ids_of sims.now)) tables.now
+        ≡ Ok found) }
+    ensures refused { IfErr result
+        (λ e. IsFaultOf (each_after (groups.group_in (ids_of sims.now)) tables.now) e) }
 {
     let ids = ids_of(alloc, sims.as_slice())?;
     groups_among(alloc, &ids, tables)
@@ -55,8 +57,10 @@ pub fn ids_of(alloc: Global, sims: &[SimPart]) -> Result<Names, Mem>
 
 // The groups of these tables, among simulators of these ids.
 fn groups_among(alloc: Global, sims: &Names, tables: &[Json]) -> Result<List<Group>, ScenarioFault>
-    ensures ok { IfOk result (λ found. each_after (groups.group_in sims.now) tables.now ≡ Ok found) }
-    ensures refused { IfErr result (λ e. IsFaultOf (each_after (groups.group_in sims.now) tables.now) e) }
+    ensures ok { IfOk result (λ found. each_after (groups.group_in sims.now) tables.now
+        ≡ Ok found) }
+    ensures refused { IfErr result
+        (λ e. IsFaultOf (each_after (groups.group_in sims.now) tables.now) e) }
 {
     let mut taken = Names::new(alloc);
     let mut found = List::new(alloc);
@@ -76,8 +80,10 @@ fn group_next(
     i: usize,
     table: &Json,
 ) -> Result<Group, ScenarioFault>
-    ensures ok { IfOk result (λ group. groups.group_next sims.now taken.now i table.now ≡ Ok group) }
-    ensures refused { IfErr result (λ e. IsFaultOf (groups.group_next sims.now taken.now i table.now) e) }
+    ensures ok { IfOk result (λ group. groups.group_next sims.now taken.now i table.now
+        ≡ Ok group) }
+    ensures refused { IfErr result
+        (λ e. IsFaultOf (groups.group_next sims.now taken.now i table.now) e) }
     ensures named { IfOk result (λ group. id_in table.now ≡ Some group.id) }
 {
     let path = item_in(alloc, &Text::of(alloc, "entities")?, i)?;
@@ -92,8 +98,10 @@ fn group_after(
     path: &Text,
     table: &Json,
 ) -> Result<Group, ScenarioFault>
-    ensures ok { IfOk result (λ group. groups.group_after sims.now taken.now path.now table.now ≡ Ok group) }
-    ensures refused { IfErr result (λ e. IsFaultOf (groups.group_after sims.now taken.now path.now table.now) e) }
+    ensures ok { IfOk result (λ group. groups.group_after sims.now taken.now path.now table.now
+        ≡ Ok group) }
+    ensures refused { IfErr result
+        (λ e. IsFaultOf (groups.group_after sims.now taken.now path.now table.now) e) }
     ensures named { IfOk result (λ group. id_in table.now ≡ Some group.id) }
 {
     let said = group_said(alloc, path, table)?;
@@ -119,7 +127,8 @@ fn group_said(alloc: Global, path: &Text, table: &Json) -> Result<GroupSaid, Sce
 
 // What a table says by these words.
 fn said_of(id: &Text, sim: &Text, model: &Text, num: u32, params: Json) -> Result<GroupSaid, Mem>
-    ensures { IfOk result (λ said. said ≡ record { id = id.now; sim = sim.now; model = model.now; num = num; params = params }) }
+    ensures { IfOk result (λ said. said
+        ≡ record { id = id.now; sim = sim.now; model = model.now; num = num; params = params }) }
 {
     Ok(GroupSaid {
         id: id.copy()?,
@@ -132,8 +141,12 @@ fn said_of(id: &Text, sim: &Text, model: &Text, num: u32, params: Json) -> Resul
 
 // How many entities the table of this path asks for.
 fn num_of(alloc: Global, path: &Text, table: &Json) -> Result<u32, ScenarioFault>
-    ensures ok { IfOk result (λ n. keys.optional 1 (key_in path.now (codes "num")) (keys.count_within 1 10000) (member (codes "num") table.now) ≡ Ok n) }
-    ensures refused { IfErr result (λ e. IsFaultOf (keys.optional 1 (key_in path.now (codes "num")) (keys.count_within 1 10000) (member (codes "num") table.now)) e) }
+    ensures ok { IfOk result
+        (λ n. keys.optional 1 (key_in path.now (codes "num")) (keys.count_within 1 10000)
+        (member (codes "num") table.now) ≡ Ok n) }
+    ensures refused { IfErr result
+        (λ e. IsFaultOf (keys.optional 1 (key_in path.now (codes "num")) (keys.count_within 1 10000)
+        (member (codes "num") table.now)) e) }
 {
     count_or(
         alloc,
@@ -165,7 +178,8 @@ fn said_sim(
     said: &GroupSaid,
 ) -> Result<SimNo, ScenarioFault>
     ensures ok { IfOk result (λ no. groups.said_sim sims.now taken.now path.now said.now ≡ Ok no) }
-    ensures refused { IfErr result (λ e. IsFaultOf (groups.said_sim sims.now taken.now path.now said.now) e) }
+    ensures refused { IfErr result
+        (λ e. IsFaultOf (groups.said_sim sims.now taken.now path.now said.now) e) }
 {
     if taken.has(said.id.as_str()) {
         return Err(ScenarioFault::Taken(said.id.copy()?));
@@ -181,8 +195,10 @@ fn group_made(
     path: &Text,
     said: GroupSaid,
 ) -> Result<Group, ScenarioFault>
-    ensures ok { IfOk result (λ group. groups.group_made sims.now taken.now path.now said ≡ Ok group) }
-    ensures refused { IfErr result (λ e. IsFaultOf (groups.group_made sims.now taken.now path.now said) e) }
+    ensures ok { IfOk result (λ group. groups.group_made sims.now taken.now path.now said
+        ≡ Ok group) }
+    ensures refused { IfErr result
+        (λ e. IsFaultOf (groups.group_made sims.now taken.now path.now said) e) }
     ensures named { IfOk result (λ group. group.id ≡ said.id) }
 {
     let sim = said_sim(alloc, sims, taken, path, &said)?;

@@ -70,7 +70,9 @@ impl Names {
 
 // Puts this place under a text that has none.
 fn put(alloc: Global, places: &mut IndexMap<String, u32>, id: &str, place: usize) -> Result<(), Mem>
-    ensures { OnOk result ((text : List ℕ) → get_by_text places.new text ≡ update same_text (get_by_text places.old) id.now (Some place) text) }
+    ensures { OnOk result ((text : List ℕ)
+        → get_by_text places.new text
+        ≡ update same_text (get_by_text places.old) id.now (Some place) text) }
 {
     match u32::try_from(place) {
         Ok(place) => {

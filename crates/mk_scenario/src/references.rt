@@ -25,8 +25,10 @@ pub fn place_of(
     text: &Text,
 ) -> Result<Place, ScenarioFault>
     requires { ids.now ≡ references.group_ids groups.now }
-    ensures ok { IfOk result (λ place. references.place_of sims.now groups.now path.now text.now ≡ Ok place) }
-    ensures refused { IfErr result (λ e. IsFaultOf (references.place_of sims.now groups.now path.now text.now) e) }
+    ensures ok { IfOk result (λ place. references.place_of sims.now groups.now path.now text.now
+        ≡ Ok place) }
+    ensures refused { IfErr result
+        (λ e. IsFaultOf (references.place_of sims.now groups.now path.now text.now) e) }
 {
     match around_point(text.as_str()) {
         Some((sim, eid)) => entity_of(alloc, sims, path, sim, eid),
@@ -37,7 +39,8 @@ pub fn place_of(
 // What stands before and after the first point; none exactly where the text has no point.
 #[tactic(auto, using(crate::proofs::Placing::any_lies))]
 fn around_point(text: &str) -> Option<(&str, &str)>
-    ensures { MatchOption result (references.has_byte 46 text.now ≡ false) (λ x. IsAround 46 text.now x.0.now x.1.now) }
+    ensures { MatchOption result (references.has_byte 46 text.now
+        ≡ false) (λ x. IsAround 46 text.now x.0.now x.1.now) }
 {
     text.split_once('.')
 }
@@ -45,7 +48,8 @@ fn around_point(text: &str) -> Option<(&str, &str)>
 // What stands before and after the first opening bracket; none exactly where the text has none.
 #[tactic(auto, using(crate::proofs::Placing::any_lies))]
 fn around_bracket(text: &str) -> Option<(&str, &str)>
-    ensures { MatchOption result (references.has_byte 91 text.now ≡ false) (λ x. IsAround 91 text.now x.0.now x.1.now) }
+    ensures { MatchOption result (references.has_byte 91 text.now
+        ≡ false) (λ x. IsAround 91 text.now x.0.now x.1.now) }
 {
     text.split_once('[')
 }
@@ -58,8 +62,10 @@ fn entity_of(
     sim: &str,
     eid: &str,
 ) -> Result<Place, ScenarioFault>
-    ensures ok { IfOk result (λ place. references.entity_of sims.now path.now sim.now eid.now ≡ Ok place) }
-    ensures refused { IfErr result (λ e. IsFaultOf (references.entity_of sims.now path.now sim.now eid.now) e) }
+    ensures ok { IfOk result (λ place. references.entity_of sims.now path.now sim.now eid.now
+        ≡ Ok place) }
+    ensures refused { IfErr result
+        (λ e. IsFaultOf (references.entity_of sims.now path.now sim.now eid.now) e) }
 {
     let no = sim_of_id(alloc, sims, path, sim)?;
     Ok(Place::Full(no, Text::of(alloc, eid)?))
@@ -74,8 +80,10 @@ fn in_group(
     text: &Text,
 ) -> Result<Place, ScenarioFault>
     requires { ids.now ≡ references.group_ids groups.now }
-    ensures ok { IfOk result (λ place. references.in_group groups.now path.now text.now ≡ Ok place) }
-    ensures refused { IfErr result (λ e. IsFaultOf (references.in_group groups.now path.now text.now) e) }
+    ensures ok { IfOk result (λ place. references.in_group groups.now path.now text.now
+        ≡ Ok place) }
+    ensures refused { IfErr result
+        (λ e. IsFaultOf (references.in_group groups.now path.now text.now) e) }
 {
     match around_bracket(text.as_str()) {
         Some((id, rest)) => {
@@ -126,8 +134,10 @@ fn entity_at(
     digits: &[u8],
 ) -> Result<Place, ScenarioFault>
     requires { ids.now ≡ references.group_ids groups.now }
-    ensures ok { IfOk result (λ place. references.entity_at groups.now path.now text.now id.now digits.now ≡ Ok place) }
-    ensures refused { IfErr result (λ e. IsFaultOf (references.entity_at groups.now path.now text.now id.now digits.now) e) }
+    ensures ok { IfOk result
+        (λ place. references.entity_at groups.now path.now text.now id.now digits.now ≡ Ok place) }
+    ensures refused { IfErr result
+        (λ e. IsFaultOf (references.entity_at groups.now path.now text.now id.now digits.now) e) }
 {
     let n = group_of_id(alloc, ids, path, id)?;
     match index_below(num_at(groups, n), digits) {
@@ -147,7 +157,8 @@ fn whole(alloc: Global, ids: &Names, path: &Text, text: &Text) -> Result<Place, 
 // The group of this id, by its place among these.
 fn group_of_id(alloc: Global, ids: &Names, path: &Text, id: &str) -> Result<u32, ScenarioFault>
     ensures ok { IfOk result (λ n. references.group_of_id ids.now path.now id.now ≡ Ok n) }
-    ensures refused { IfErr result (λ e. IsFaultOf (references.group_of_id ids.now path.now id.now) e) }
+    ensures refused { IfErr result
+        (λ e. IsFaultOf (references.group_of_id ids.now path.now id.now) e) }
 {
     match ids.place_of(id) {
         Some(n) => Ok(n),

@@ -66,8 +66,13 @@ fn sim_made(
     port: Option<u16>,
     local: Option<&Text>,
 ) -> Result<SimPart, ScenarioFault>
-    ensures ok { IfOk result (λ part. sims.sim_made path.now earlier.now table.now name.now (option_map (λ t. t.now) command.entry) port (option_map (λ t. t.now) local.entry) ≡ Ok part) }
-    ensures refused { IfErr result (λ e. IsFaultOf (sims.sim_made path.now earlier.now table.now name.now (option_map (λ t. t.now) command.entry) port (option_map (λ t. t.now) local.entry)) e) }
+    ensures ok { IfOk result
+        (λ part. sims.sim_made path.now earlier.now table.now name.now
+        (option_map (λ t. t.now) command.entry) port (option_map (λ t. t.now) local.entry)
+        ≡ Ok part) }
+    ensures refused { IfErr result
+        (λ e. IsFaultOf (sims.sim_made path.now earlier.now table.now name.now
+        (option_map (λ t. t.now) command.entry) port (option_map (λ t. t.now) local.entry)) e) }
 {
     let params = values_or_none(alloc, path, "params", table)?;
     let initial = times_or_none(alloc, path, "initial_events", table)?;
@@ -95,7 +100,8 @@ fn own_params(alloc: Global, path: &Text, params: &Json) -> Result<(), ScenarioF
 
 // The path of the time resolution among the parameters of the table of this path: it is always 1.
 fn resolution_in(alloc: Global, path: &Text) -> Result<Text, Mem>
-    ensures { IfOk result (λ t. t ≡ key_in (key_in path.now (codes "params")) (codes "time_resolution")) }
+    ensures { IfOk result (λ t. t
+        ≡ key_in (key_in path.now (codes "params")) (codes "time_resolution")) }
 {
     key_in(alloc, &key_in(alloc, path, "params")?, "time_resolution")
 }
@@ -108,8 +114,12 @@ fn begin_of(
     port: Option<u16>,
     local: Option<&Text>,
 ) -> Result<Begin, ScenarioFault>
-    ensures ok { IfOk result (λ begin. sims.begin_of path.now (option_map (λ t. t.now) command.entry) port (option_map (λ t. t.now) local.entry) ≡ Ok begin) }
-    ensures refused { IfErr result (λ e. IsFaultOf (sims.begin_of path.now (option_map (λ t. t.now) command.entry) port (option_map (λ t. t.now) local.entry)) e) }
+    ensures ok { IfOk result
+        (λ begin. sims.begin_of path.now (option_map (λ t. t.now) command.entry) port
+        (option_map (λ t. t.now) local.entry) ≡ Ok begin) }
+    ensures refused { IfErr result
+        (λ e. IsFaultOf (sims.begin_of path.now (option_map (λ t. t.now) command.entry) port
+        (option_map (λ t. t.now) local.entry)) e) }
 {
     match (command, port, local) {
         (Some(command), None, None) => Ok(Begin::Command(command.copy()?)),
@@ -122,7 +132,8 @@ fn begin_of(
 
 // The id of a simulator of this name after those of these tables: the name, `-`, and how many of them have the same name.
 fn sim_id(alloc: Global, earlier: &[Json], name: &Text) -> Result<Text, Mem>
-    ensures { IfOk result (λ t. t ≡ sims.sim_id (sims.texts_under (codes "name") earlier.now) name.now) }
+    ensures { IfOk result (λ t. t
+        ≡ sims.sim_id (sims.texts_under (codes "name") earlier.now) name.now) }
 {
     let number = named_so(earlier, name);
     let name = name.as_str();
@@ -132,7 +143,8 @@ fn sim_id(alloc: Global, earlier: &[Json], name: &Text) -> Result<Text, Mem>
 
 // How many of these tables have this name.
 fn named_so(tables: &[Json], name: &Text) -> usize
-    ensures { result ≡ length (filter (λ n. same_text n name.now) (sims.texts_under (codes "name") tables.now)) }
+    ensures { result ≡ length
+        (filter (λ n. same_text n name.now) (sims.texts_under (codes "name") tables.now)) }
 {
     let mut number = 0;
     for table in tables {
@@ -144,7 +156,9 @@ fn named_so(tables: &[Json], name: &Text) -> usize
 }
 
 fn is_named(table: &Json, name: &Text) -> bool
-    ensures { result ≡ unwrap_or (option_map (λ n. same_text n name.now) (option_and_then text_in (member (codes "name") table.now))) false }
+    ensures { result ≡ unwrap_or
+        (option_map (λ n. same_text n name.now)
+        (option_and_then text_in (member (codes "name") table.now))) false }
 {
     match table.member("name") {
         Some(value) => match value.as_text() {

@@ -66,8 +66,12 @@ fn with_parts(
     group_tables: &[Json],
     block_tables: &[Json],
 ) -> Result<Scenario, ScenarioFault>
-    ensures ok { IfOk result (λ s. scenarios.with_parts until loops entries sim_tables.now group_tables.now block_tables.now ≡ Ok s) }
-    ensures refused { IfErr result (λ e. IsFaultOf (scenarios.with_parts until loops entries sim_tables.now group_tables.now block_tables.now) e) }
+    ensures ok { IfOk result
+        (λ s. scenarios.with_parts until loops entries sim_tables.now group_tables.now
+        block_tables.now ≡ Ok s) }
+    ensures refused { IfErr result
+        (λ e. IsFaultOf (scenarios.with_parts until loops entries sim_tables.now group_tables.now
+        block_tables.now) e) }
 {
     let sims = sims_of(alloc, sim_tables)?;
     let groups = groups_of(alloc, &sims, group_tables)?;
@@ -90,8 +94,12 @@ fn count_at(
     key: &str,
     document: &Json,
 ) -> Result<u32, ScenarioFault>
-    ensures ok { IfOk result (λ n. keys.optional instead key.now (keys.count_within 1 most) (member key.now document.now) ≡ Ok n) }
-    ensures refused { IfErr result (λ e. IsFaultOf (keys.optional instead key.now (keys.count_within 1 most) (member key.now document.now)) e) }
+    ensures ok { IfOk result
+        (λ n. keys.optional instead key.now (keys.count_within 1 most) (member key.now document.now)
+        ≡ Ok n) }
+    ensures refused { IfErr result
+        (λ e. IsFaultOf (keys.optional instead key.now (keys.count_within 1 most)
+        (member key.now document.now)) e) }
 {
     count_or(alloc, instead, most, &Text::of(alloc, key)?, key, document)
 }

@@ -11,12 +11,14 @@ use Rattle.mk_scenario_keys.specs.declared.fault.ScenarioFault.{ScenarioFault}
 use Rattle.mk_scenario_keys.specs.declared.fault.ScenarioFault.TheVariants.{Missing, WrongKind, OutOfRange}
 
 -- a key that must stand there
-abbrev pub required : {A : Type 0} → List ℕ → (List ℕ → Json → Result A ScenarioFault) → Option Json → Result A ScenarioFault
+abbrev pub required : {A : Type 0} → List ℕ → (List ℕ → Json → Result A ScenarioFault) → Option Json
+    → Result A ScenarioFault
 required path read None = Err (Missing path)
 required path read (Some value) = read path value
 
 -- a key that may be left out, and what stands for it then
-abbrev pub optional : {A : Type 0} → A → List ℕ → (List ℕ → Json → Result A ScenarioFault) → Option Json → Result A ScenarioFault
+abbrev pub optional : {A : Type 0} → A → List ℕ → (List ℕ → Json → Result A ScenarioFault)
+    → Option Json → Result A ScenarioFault
 optional instead path read None = Ok instead
 optional instead path read (Some value) = read path value
 
@@ -30,11 +32,13 @@ is_among texts text = list_any (λ t. same_text text t) texts
 
 -- the first key of the table that is none of these
 abbrev pub first_unknown : List (List ℕ) → Json → Option (List ℕ)
-first_unknown keys table = find (λ key. not (is_among keys key)) (map (λ (m : List ℕ × Json). m.0) (members_of table))
+first_unknown keys table = find (λ key. not (is_among keys key))
+    (map (λ (m : List ℕ × Json). m.0) (members_of table))
 
 -- a number in this range
 abbrev pub within : ℤ → ℤ → List ℕ → ℤ → Result ℤ ScenarioFault
-within least most path n = held (OutOfRange path (signed_decimal n)) (int_le least n && int_le n most) (Ok n)
+within least most path n = held (OutOfRange path (signed_decimal n)) (int_le least n
+    && int_le n most) (Ok n)
 
 -- a whole number
 abbrev pub whole : List ℕ → Json → Result ℤ ScenarioFault
@@ -46,7 +50,8 @@ whole_within least most path value = passed (whole path value) (within least mos
 
 -- a count in this range
 abbrev pub count_within : ℕ → ℕ → List ℕ → Json → Result ℕ ScenarioFault
-count_within least most path value = passed (whole_within (pos least) (pos most) path value) (λ n. Ok (nat_abs n))
+count_within least most path value = passed (whole_within (pos least) (pos most) path value)
+    (λ n. Ok (nat_abs n))
 
 -- a truth value
 abbrev pub truth : List ℕ → Json → Result Bool ScenarioFault
@@ -57,7 +62,8 @@ abbrev pub width_by : Option Bool → List ℕ → Json → Result (Option ℕ) 
 width_by (Some shifted) path value = Ok (if shifted then Some 1 else None)
 width_by None path value = passed (count_within 1 1000000 path value) (λ width. Ok (Some width))
 
--- a time shift's width, of a key that may be left out: false for no shift, true for 1, or a number from 1 to 1,000,000
+-- a time shift's width, of a key that may be left out: false for no shift, true for 1, or a number
+-- from 1 to 1,000,000
 abbrev pub some_width : List ℕ → Json → Result (Option ℕ) ScenarioFault
 some_width path value = width_by (bool_in value) path value
 
@@ -75,7 +81,8 @@ name path value = passed (text path value) (λ t. held (OutOfRange path t) (is_n
 
 -- the port of an address on this machine, of a key that may be left out
 abbrev pub some_port : List ℕ → Json → Result (Option ℕ) ScenarioFault
-some_port path value = passed (text path value) (λ t. passed (found (OutOfRange path t) (port_of t)) (λ port. Ok (Some port)))
+some_port path value = passed (text path value)
+    (λ t. passed (found (OutOfRange path t) (port_of t)) (λ port. Ok (Some port)))
 
 -- a list
 abbrev pub items : List ℕ → Json → Result (List Json) ScenarioFault
@@ -97,12 +104,14 @@ abbrev pub tables_within : ℕ → ℕ → List ℕ → Json → Result (List Js
 tables_within least most path value =
     passed (items path value) (λ members.
     passed (each_at (λ i member. table (item_in path i) member) members) (λ tables.
-    held (OutOfRange path (decimal (length tables))) (nat_le least (length tables) && nat_le (length tables) most) (
+    held (OutOfRange path (decimal (length tables))) (nat_le least (length tables)
+    && nat_le (length tables) most) (
     Ok tables)))
 
 -- the first key of the table whose value has a number that isn't whole, or nests too deep
 abbrev pub first_unfit : Json → Option (List ℕ)
-first_unfit table = option_map (λ (m : List ℕ × Json). m.0) (find (λ (m : List ℕ × Json). not (is_datum m.1)) (members_of table))
+first_unfit table = option_map (λ (m : List ℕ × Json). m.0)
+    (find (λ (m : List ℕ × Json). not (is_datum m.1)) (members_of table))
 
 -- a table of parameters or of values, each whole and not too deep
 abbrev pub values : List ℕ → Json → Result Json ScenarioFault
@@ -113,4 +122,5 @@ values path value =
 
 -- an object, each value of which is whole and not too deep, its numbers in range
 abbrev pub IsObjectOfData : Json → Type 0
-IsObjectOfData tree = IsTrue (is_object tree) × IsTrue (is_in_range tree) × Each (λ (m : List ℕ × Json). IsTrue (is_datum m.1)) (members_of tree)
+IsObjectOfData tree = IsTrue (is_object tree) × IsTrue (is_in_range tree)
+    × Each (λ (m : List ℕ × Json). IsTrue (is_datum m.1)) (members_of tree)

@@ -21,7 +21,8 @@ longest_name = 64
 
 -- a letter or `_`, then letters, digits and `_`, at most 64 in all
 abbrev pub is_name : List ℕ → Bool
-is_name text = starts_well text && list_all (λ b. begins_name b || is_digit b) text && nat_le (length text) longest_name
+is_name text = starts_well text && list_all (λ b. begins_name b || is_digit b) text
+    && nat_le (length text) longest_name
 
 -- the number of these decimal digits
 abbrev pub number_of : List ℕ → ℕ
@@ -29,11 +30,13 @@ number_of digits = fold (λ n d. n * 10 + (d - 48)) 0 digits
 
 -- the number that the text spells by at least one and at most so many decimal digits
 abbrev pub spelled : ℕ → List ℕ → Option ℕ
-spelled most text = if nat_le 1 (length text) && nat_le (length text) most && list_all is_digit text then Some (number_of text) else None
+spelled most text = if nat_le 1 (length text) && nat_le (length text) most && list_all is_digit text
+    then Some (number_of text) else None
 
 -- the port that the text spells without a leading zero
 abbrev pub port_number : List ℕ → Option ℕ
-port_number text = option_and_then (λ n. if nat_le 1 n && nat_le n 65535 && same_text (decimal n) text then Some n else None) (spelled 5 text)
+port_number text = option_and_then (λ n. if nat_le 1 n && nat_le n 65535
+    && same_text (decimal n) text then Some n else None) (spelled 5 text)
 
 -- the hosts of this machine that a simulator may be reached at
 abbrev pub is_loopback : List ℕ → Bool
@@ -41,4 +44,5 @@ is_loopback host = same_text host (codes "127.0.0.1") || same_text host (codes "
 
 -- the port of an address on this machine: host, colon, port
 abbrev pub port_of : List ℕ → Option ℕ
-port_of address = if is_loopback (before_first (λ b. b == 58) address) then port_number (after_first (λ b. b == 58) address) else None
+port_of address = if is_loopback (before_first (λ b. b == 58) address)
+    then port_number (after_first (λ b. b == 58) address) else None

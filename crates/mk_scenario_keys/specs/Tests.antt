@@ -10,16 +10,19 @@ abbrev pub IsFaultOf : {A : Type 0} → Result A ScenarioFault → ScenarioFault
 IsFaultOf verdict fault = (fault ≡ Mem) ⊎ (verdict ≡ Err fault)
 
 -- what follows a test that gives something
-abbrev pub passed : {A B : Type 0} → Result A ScenarioFault → (A → Result B ScenarioFault) → Result B ScenarioFault
+abbrev pub passed : {A B : Type 0} → Result A ScenarioFault → (A → Result B ScenarioFault)
+    → Result B ScenarioFault
 passed (Ok x) next = next x
 passed (Err fault) next = Err fault
 
 -- what follows a test that holds, and the fault where it doesn't
-abbrev pub held : {B : Type 0} → ScenarioFault → Bool → Result B ScenarioFault → Result B ScenarioFault
+abbrev pub held : {B : Type 0} → ScenarioFault → Bool → Result B ScenarioFault
+    → Result B ScenarioFault
 held fault holds next = if holds then next else Err fault
 
 -- what follows a test that no text fails, and the fault of the one that does
-abbrev pub no_text : {B : Type 0} → (List ℕ → ScenarioFault) → Option (List ℕ) → Result B ScenarioFault → Result B ScenarioFault
+abbrev pub no_text : {B : Type 0} → (List ℕ → ScenarioFault) → Option (List ℕ)
+    → Result B ScenarioFault → Result B ScenarioFault
 no_text fault None next = next
 no_text fault (Some text) next = Err (fault text)
 
@@ -40,15 +43,18 @@ all_well (Err fault ∷ more) = Err fault
 all_well (Ok x ∷ more) = before x (all_well more)
 
 -- what the items give, each by its place
-abbrev pub each_at : {X A : Type 0} → (ℕ → X → Result A ScenarioFault) → List X → Result (List A) ScenarioFault
+abbrev pub each_at : {X A : Type 0} → (ℕ → X → Result A ScenarioFault) → List X
+    → Result (List A) ScenarioFault
 each_at {X} test items = all_well (map (λ (p : ℕ × X). test p.0 p.1) (enumerate_from 0 items))
 
 -- the test of an item at a place of these, by those before it
-abbrev pub by_earlier : {X A : Type 0} → (List X → ℕ → X → Result A ScenarioFault) → List X → ℕ → X → Result A ScenarioFault
+abbrev pub by_earlier : {X A : Type 0} → (List X → ℕ → X → Result A ScenarioFault) → List X → ℕ → X
+    → Result A ScenarioFault
 by_earlier test items i item = test (take i items) i item
 
 -- what the items give, each by those before it
-abbrev pub each_after : {X A : Type 0} → (List X → ℕ → X → Result A ScenarioFault) → List X → Result (List A) ScenarioFault
+abbrev pub each_after : {X A : Type 0} → (List X → ℕ → X → Result A ScenarioFault) → List X
+    → Result (List A) ScenarioFault
 each_after test items = each_at (by_earlier test items) items
 
 -- the path of a key in the table of that path

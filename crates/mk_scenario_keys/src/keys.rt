@@ -21,8 +21,12 @@ pub fn required_text<'a>(
     key: &str,
     table: &'a Json,
 ) -> Result<&'a Text, ScenarioFault>
-    ensures ok { IfOk result (λ t. keys.required (key_in path.now key.now) keys.text (member key.now table.now) ≡ Ok t.now) }
-    ensures refused { IfErr result (λ e. IsFaultOf (keys.required (key_in path.now key.now) keys.text (member key.now table.now)) e) }
+    ensures ok { IfOk result
+        (λ t. keys.required (key_in path.now key.now) keys.text (member key.now table.now)
+        ≡ Ok t.now) }
+    ensures refused { IfErr result
+        (λ e. IsFaultOf (keys.required (key_in path.now key.now) keys.text
+        (member key.now table.now)) e) }
 {
     let path = key_in(alloc, path, key)?;
     match table.member(key) {
@@ -39,8 +43,12 @@ pub fn required_name<'a>(
     key: &str,
     table: &'a Json,
 ) -> Result<&'a Text, ScenarioFault>
-    ensures ok { IfOk result (λ t. keys.required (key_in path.now key.now) keys.name (member key.now table.now) ≡ Ok t.now) }
-    ensures refused { IfErr result (λ e. IsFaultOf (keys.required (key_in path.now key.now) keys.name (member key.now table.now)) e) }
+    ensures ok { IfOk result
+        (λ t. keys.required (key_in path.now key.now) keys.name (member key.now table.now)
+        ≡ Ok t.now) }
+    ensures refused { IfErr result
+        (λ e. IsFaultOf (keys.required (key_in path.now key.now) keys.name
+        (member key.now table.now)) e) }
 {
     let path = key_in(alloc, path, key)?;
     match table.member(key) {
@@ -56,8 +64,12 @@ pub fn optional_text<'a>(
     key: &str,
     table: &'a Json,
 ) -> Result<Option<&'a Text>, ScenarioFault>
-    ensures ok { IfOk result (λ t. keys.optional None (key_in path.now key.now) keys.some_text (member key.now table.now) ≡ Ok (option_map (λ x. x.now) t)) }
-    ensures refused { IfErr result (λ e. IsFaultOf (keys.optional None (key_in path.now key.now) keys.some_text (member key.now table.now)) e) }
+    ensures ok { IfOk result
+        (λ t. keys.optional None (key_in path.now key.now) keys.some_text (member key.now table.now)
+        ≡ Ok (option_map (λ x. x.now) t)) }
+    ensures refused { IfErr result
+        (λ e. IsFaultOf (keys.optional None (key_in path.now key.now) keys.some_text
+        (member key.now table.now)) e) }
 {
     match table.member(key) {
         Some(value) => Ok(Some(values::text(&key_in(alloc, path, key)?, value)?)),
@@ -73,8 +85,12 @@ pub fn optional_port(
     key: &str,
     table: &Json,
 ) -> Result<Option<u16>, ScenarioFault>
-    ensures ok { IfOk result (λ port. keys.optional None (key_in path.now key.now) keys.some_port (member key.now table.now) ≡ Ok port) }
-    ensures refused { IfErr result (λ e. IsFaultOf (keys.optional None (key_in path.now key.now) keys.some_port (member key.now table.now)) e) }
+    ensures ok { IfOk result
+        (λ port. keys.optional None (key_in path.now key.now) keys.some_port
+        (member key.now table.now) ≡ Ok port) }
+    ensures refused { IfErr result
+        (λ e. IsFaultOf (keys.optional None (key_in path.now key.now) keys.some_port
+        (member key.now table.now)) e) }
 {
     match table.member(key) {
         Some(value) => Ok(Some(values::port(&key_in(alloc, path, key)?, value)?)),
@@ -89,8 +105,12 @@ pub fn truth_or_false(
     key: &str,
     table: &Json,
 ) -> Result<bool, ScenarioFault>
-    ensures ok { IfOk result (λ b. keys.optional false (key_in path.now key.now) keys.truth (member key.now table.now) ≡ Ok b) }
-    ensures refused { IfErr result (λ e. IsFaultOf (keys.optional false (key_in path.now key.now) keys.truth (member key.now table.now)) e) }
+    ensures ok { IfOk result
+        (λ b. keys.optional false (key_in path.now key.now) keys.truth (member key.now table.now)
+        ≡ Ok b) }
+    ensures refused { IfErr result
+        (λ e. IsFaultOf (keys.optional false (key_in path.now key.now) keys.truth
+        (member key.now table.now)) e) }
 {
     match table.member(key) {
         Some(value) => values::truth(&key_in(alloc, path, key)?, value),
@@ -106,8 +126,12 @@ pub fn width_or_none(
     key: &str,
     table: &Json,
 ) -> Result<Option<u32>, ScenarioFault>
-    ensures ok { IfOk result (λ width. keys.optional None (key_in path.now key.now) keys.some_width (member key.now table.now) ≡ Ok width) }
-    ensures refused { IfErr result (λ e. IsFaultOf (keys.optional None (key_in path.now key.now) keys.some_width (member key.now table.now)) e) }
+    ensures ok { IfOk result
+        (λ width. keys.optional None (key_in path.now key.now) keys.some_width
+        (member key.now table.now) ≡ Ok width) }
+    ensures refused { IfErr result
+        (λ e. IsFaultOf (keys.optional None (key_in path.now key.now) keys.some_width
+        (member key.now table.now)) e) }
 {
     match table.member(key) {
         Some(value) => values::width(alloc, &key_in(alloc, path, key)?, value),
@@ -124,8 +148,12 @@ pub fn values_or_none(
     key: &str,
     table: &Json,
 ) -> Result<Json, ScenarioFault>
-    ensures ok { IfOk result (λ t. keys.optional (tree.Object []) (key_in path.now key.now) keys.values (member key.now table.now) ≡ Ok t) }
-    ensures refused { IfErr result (λ e. IsFaultOf (keys.optional (tree.Object []) (key_in path.now key.now) keys.values (member key.now table.now)) e) }
+    ensures ok { IfOk result
+        (λ t. keys.optional (tree.Object []) (key_in path.now key.now) keys.values
+        (member key.now table.now) ≡ Ok t) }
+    ensures refused { IfErr result
+        (λ e. IsFaultOf (keys.optional (tree.Object []) (key_in path.now key.now) keys.values
+        (member key.now table.now)) e) }
 {
     match table.member(key) {
         Some(value) => Ok(values::values(alloc, &key_in(alloc, path, key)?, value)?.copy(alloc)?),
@@ -143,8 +171,12 @@ pub fn count_or(
     key: &str,
     table: &Json,
 ) -> Result<u32, ScenarioFault>
-    ensures ok { IfOk result (λ n. keys.optional instead path.now (keys.count_within 1 most) (member key.now table.now) ≡ Ok n) }
-    ensures refused { IfErr result (λ e. IsFaultOf (keys.optional instead path.now (keys.count_within 1 most) (member key.now table.now)) e) }
+    ensures ok { IfOk result
+        (λ n. keys.optional instead path.now (keys.count_within 1 most) (member key.now table.now)
+        ≡ Ok n) }
+    ensures refused { IfErr result
+        (λ e. IsFaultOf (keys.optional instead path.now (keys.count_within 1 most)
+        (member key.now table.now)) e) }
 {
     match table.member(key) {
         Some(value) => values::count_within(alloc, most, path, value),
@@ -160,8 +192,12 @@ pub fn times_or_none(
     key: &str,
     table: &Json,
 ) -> Result<List<i64>, ScenarioFault>
-    ensures ok { IfOk result (λ ns. keys.optional [] (key_in path.now key.now) (keys.wholes_within (pos 0) (pos 1000000000)) (member key.now table.now) ≡ Ok ns) }
-    ensures refused { IfErr result (λ e. IsFaultOf (keys.optional [] (key_in path.now key.now) (keys.wholes_within (pos 0) (pos 1000000000)) (member key.now table.now)) e) }
+    ensures ok { IfOk result
+        (λ ns. keys.optional [] (key_in path.now key.now)
+        (keys.wholes_within (pos 0) (pos 1000000000)) (member key.now table.now) ≡ Ok ns) }
+    ensures refused { IfErr result
+        (λ e. IsFaultOf (keys.optional [] (key_in path.now key.now)
+        (keys.wholes_within (pos 0) (pos 1000000000)) (member key.now table.now)) e) }
 {
     match table.member(key) {
         Some(value) => values::times(alloc, &key_in(alloc, path, key)?, value),
@@ -172,8 +208,12 @@ pub fn times_or_none(
 /// The time, from 1 to 1,000,000,000, under a key that must stand in the top table. Errors: `Missing` without it, `WrongKind` of another
 /// value, `OutOfRange` of another number; `Mem`.
 pub fn required_time(alloc: Global, key: &str, document: &Json) -> Result<i64, ScenarioFault>
-    ensures ok { IfOk result (λ n. keys.required key.now (keys.whole_within (pos 1) (pos 1000000000)) (member key.now document.now) ≡ Ok n) }
-    ensures refused { IfErr result (λ e. IsFaultOf (keys.required key.now (keys.whole_within (pos 1) (pos 1000000000)) (member key.now document.now)) e) }
+    ensures ok { IfOk result
+        (λ n. keys.required key.now (keys.whole_within (pos 1) (pos 1000000000))
+        (member key.now document.now) ≡ Ok n) }
+    ensures refused { IfErr result
+        (λ e. IsFaultOf (keys.required key.now (keys.whole_within (pos 1) (pos 1000000000))
+        (member key.now document.now)) e) }
 {
     let path = Text::of(alloc, key)?;
     match document.member(key) {
@@ -190,8 +230,12 @@ pub fn required_tables<'a>(
     key: &str,
     document: &'a Json,
 ) -> Result<&'a [Json], ScenarioFault>
-    ensures ok { IfOk result (λ ts. keys.required key.now (keys.tables_within 1 most) (member key.now document.now) ≡ Ok ts.now) }
-    ensures refused { IfErr result (λ e. IsFaultOf (keys.required key.now (keys.tables_within 1 most) (member key.now document.now)) e) }
+    ensures ok { IfOk result
+        (λ ts. keys.required key.now (keys.tables_within 1 most) (member key.now document.now)
+        ≡ Ok ts.now) }
+    ensures refused { IfErr result
+        (λ e. IsFaultOf (keys.required key.now (keys.tables_within 1 most)
+        (member key.now document.now)) e) }
 {
     let path = Text::of(alloc, key)?;
     match document.member(key) {
@@ -208,8 +252,12 @@ pub fn tables_or_none<'a>(
     key: &str,
     document: &'a Json,
 ) -> Result<&'a [Json], ScenarioFault>
-    ensures ok { IfOk result (λ ts. keys.optional [] key.now (keys.tables_within 0 most) (member key.now document.now) ≡ Ok ts.now) }
-    ensures refused { IfErr result (λ e. IsFaultOf (keys.optional [] key.now (keys.tables_within 0 most) (member key.now document.now)) e) }
+    ensures ok { IfOk result
+        (λ ts. keys.optional [] key.now (keys.tables_within 0 most) (member key.now document.now)
+        ≡ Ok ts.now) }
+    ensures refused { IfErr result
+        (λ e. IsFaultOf (keys.optional [] key.now (keys.tables_within 0 most)
+        (member key.now document.now)) e) }
 {
     match document.member(key) {
         Some(value) => values::tables_within(alloc, 0, most, &Text::of(alloc, key)?, value),

@@ -27,7 +27,9 @@ pub fn first_unknown(table: Table, value: &Json) -> Option<&Text>
 }
 
 fn first_unknown_of(table: Table, members: &Members<Json>) -> Option<&Text>
-    ensures { option_map (λ t. t.now) result ≡ find (λ key. not (is_among (keys_of table) key)) (map (λ (m : List ℕ × Json). m.0) members.now) }
+    ensures { option_map (λ t. t.now) result
+        ≡ find (λ key. not (is_among (keys_of table) key))
+        (map (λ (m : List ℕ × Json). m.0) members.now) }
 {
     for (key, _) in members.entries() {
         if !is_key(table, key.as_str()) {

@@ -87,7 +87,8 @@ pub fn port_of(address: &str) -> Option<u16>
 }
 
 fn port_at(host: &str, port: &str) -> Option<u16>
-    ensures { result ≡ (if spelling.is_loopback host.now then spelling.port_number port.now else None) }
+    ensures { result ≡ (if spelling.is_loopback host.now then spelling.port_number port.now
+        else None) }
 {
     if is_loopback(host) {
         port_number(port)
@@ -113,7 +114,8 @@ fn port_number(text: &str) -> Option<u16>
 }
 
 fn port_in_range(n: u64, text: &str) -> Option<u16>
-    ensures { result ≡ (if nat_le 1 n && nat_le n 65535 && same_text (decimal n) text.now then Some n else None) }
+    ensures { result ≡ (if nat_le 1 n && nat_le n 65535 && same_text (decimal n) text.now
+        then Some n else None) }
 {
     if 1 <= n && n <= 65535 && is_decimal(n, text) {
         Some(n as u16)

@@ -45,7 +45,8 @@ pub fn whole_within(
     value: &Json,
 ) -> Result<i64, ScenarioFault>
     ensures ok { IfOk result (λ x. keys.whole_within least most path.now value.now ≡ Ok x) }
-    ensures refused { IfErr result (λ e. IsFaultOf (keys.whole_within least most path.now value.now) e) }
+    ensures refused { IfErr result
+        (λ e. IsFaultOf (keys.whole_within least most path.now value.now) e) }
 {
     match value.as_whole() {
         Some(n) => within(alloc, least, most, path, n),
@@ -61,7 +62,8 @@ pub fn count_within(
     value: &Json,
 ) -> Result<u32, ScenarioFault>
     ensures ok { IfOk result (λ n. keys.count_within 1 most path.now value.now ≡ Ok n) }
-    ensures refused { IfErr result (λ e. IsFaultOf (keys.count_within 1 most path.now value.now) e) }
+    ensures refused { IfErr result
+        (λ e. IsFaultOf (keys.count_within 1 most path.now value.now) e) }
 {
     let n = whole_within(alloc, 1, i64::from(most), path, value)?;
     Ok(n as u32)
@@ -170,7 +172,9 @@ fn first_unfit(table: &Json) -> Option<&Text>
 }
 
 fn first_unfit_of(members: &Members<Json>) -> Option<&Text>
-    ensures { option_map (λ t. t.now) result ≡ option_map (λ (m : List ℕ × Json). m.0) (find (λ (m : List ℕ × Json). not (is_datum m.1)) members.now) }
+    ensures { option_map (λ t. t.now) result
+        ≡ option_map (λ (m : List ℕ × Json). m.0)
+        (find (λ (m : List ℕ × Json). not (is_datum m.1)) members.now) }
 {
     for (key, value) in members.entries() {
         if !is_datum(value) {
@@ -188,8 +192,10 @@ fn is_datum(value: &Json) -> bool
 
 // The times in the list that the value is, each from 0 to the latest.
 pub fn times(alloc: Global, path: &Text, value: &Json) -> Result<List<i64>, ScenarioFault>
-    ensures ok { IfOk result (λ ns. keys.wholes_within (pos 0) (pos 1000000000) path.now value.now ≡ Ok ns) }
-    ensures refused { IfErr result (λ e. IsFaultOf (keys.wholes_within (pos 0) (pos 1000000000) path.now value.now) e) }
+    ensures ok { IfOk result (λ ns. keys.wholes_within (pos 0) (pos 1000000000) path.now value.now
+        ≡ Ok ns) }
+    ensures refused { IfErr result
+        (λ e. IsFaultOf (keys.wholes_within (pos 0) (pos 1000000000) path.now value.now) e) }
 {
     let items = items(path, value)?;
     let numbers = wholes(alloc, path, items)?;
@@ -197,8 +203,10 @@ pub fn times(alloc: Global, path: &Text, value: &Json) -> Result<List<i64>, Scen
 }
 
 fn wholes(alloc: Global, path: &Text, items: &List<Json>) -> Result<List<i128>, ScenarioFault>
-    ensures ok { IfOk result (λ ns. each_at (λ i item. keys.whole (item_in path.now i) item) items.now ≡ Ok ns) }
-    ensures refused { IfErr result (λ e. IsFaultOf (each_at (λ i item. keys.whole (item_in path.now i) item) items.now) e) }
+    ensures ok { IfOk result
+        (λ ns. each_at (λ i item. keys.whole (item_in path.now i) item) items.now ≡ Ok ns) }
+    ensures refused { IfErr result
+        (λ e. IsFaultOf (each_at (λ i item. keys.whole (item_in path.now i) item) items.now) e) }
 {
     let mut numbers = List::new(alloc);
     for (i, item) in items.as_slice().iter().enumerate() {
@@ -211,8 +219,12 @@ fn wholes(alloc: Global, path: &Text, items: &List<Json>) -> Result<List<i128>, 
 }
 
 fn all_times(alloc: Global, path: &Text, numbers: &List<i128>) -> Result<List<i64>, ScenarioFault>
-    ensures ok { IfOk result (λ ns. each_at (λ i n. keys.within (pos 0) (pos 1000000000) (item_in path.now i) n) numbers.now ≡ Ok ns) }
-    ensures refused { IfErr result (λ e. IsFaultOf (each_at (λ i n. keys.within (pos 0) (pos 1000000000) (item_in path.now i) n) numbers.now) e) }
+    ensures ok { IfOk result
+        (λ ns. each_at (λ i n.
+        keys.within (pos 0) (pos 1000000000) (item_in path.now i) n) numbers.now ≡ Ok ns) }
+    ensures refused { IfErr result
+        (λ e. IsFaultOf (each_at
+        (λ i n. keys.within (pos 0) (pos 1000000000) (item_in path.now i) n) numbers.now) e) }
 {
     let mut found = List::new(alloc);
     for (i, n) in numbers.as_slice().iter().enumerate() {
@@ -223,8 +235,10 @@ fn all_times(alloc: Global, path: &Text, numbers: &List<i128>) -> Result<List<i6
 
 // The time that the number at a place of the list is.
 fn time_at(alloc: Global, path: &Text, i: usize, n: i128) -> Result<i64, ScenarioFault>
-    ensures ok { IfOk result (λ x. keys.within (pos 0) (pos 1000000000) (item_in path.now i) n ≡ Ok x) }
-    ensures refused { IfErr result (λ e. IsFaultOf (keys.within (pos 0) (pos 1000000000) (item_in path.now i) n) e) }
+    ensures ok { IfOk result (λ x. keys.within (pos 0) (pos 1000000000) (item_in path.now i) n
+        ≡ Ok x) }
+    ensures refused { IfErr result
+        (λ e. IsFaultOf (keys.within (pos 0) (pos 1000000000) (item_in path.now i) n) e) }
 {
     within(alloc, 0, LATEST, &item_in(alloc, path, i)?, n)
 }
@@ -238,7 +252,8 @@ pub fn tables_within<'a>(
     value: &'a Json,
 ) -> Result<&'a [Json], ScenarioFault>
     ensures ok { IfOk result (λ ts. keys.tables_within least most path.now value.now ≡ Ok ts.now) }
-    ensures refused { IfErr result (λ e. IsFaultOf (keys.tables_within least most path.now value.now) e) }
+    ensures refused { IfErr result
+        (λ e. IsFaultOf (keys.tables_within least most path.now value.now) e) }
 {
     let items = items(path, value)?.as_slice();
     all_tables(alloc, path, items)?;
@@ -251,8 +266,10 @@ pub fn tables_within<'a>(
 
 // Each item is a table.
 fn all_tables(alloc: Global, path: &Text, items: &[Json]) -> Result<(), ScenarioFault>
-    ensures ok { IfOk result (λ _. each_at (λ i item. keys.table (item_in path.now i) item) items.now ≡ Ok items.now) }
-    ensures refused { IfErr result (λ e. IsFaultOf (each_at (λ i item. keys.table (item_in path.now i) item) items.now) e) }
+    ensures ok { IfOk result
+        (λ _. each_at (λ i item. keys.table (item_in path.now i) item) items.now ≡ Ok items.now) }
+    ensures refused { IfErr result
+        (λ e. IsFaultOf (each_at (λ i item. keys.table (item_in path.now i) item) items.now) e) }
 {
     for (i, item) in items.iter().enumerate() {
         if !item.is_object() {

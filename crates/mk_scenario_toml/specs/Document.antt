@@ -5,7 +5,8 @@ use Rattle.toml.specs.Data as value
 use Rattle.toml.specs.Parse.{parse_document}
 use Rattle.mk_base.specs.declared.json.Json as tree
 
--- the tree of a value of `toml`: what is neither an integer, a truth value, a text, an array nor a table is odd
+-- the tree of a value of `toml`: what is neither an integer, a truth value, a text, an array nor a
+-- table is odd
 abbrev mutual
   pub tree_of : value.Data → tree.Json
   tree_of (value.string s) = tree.Text s

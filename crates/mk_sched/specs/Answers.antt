@@ -61,7 +61,8 @@ pub record IsAsked (old : CoreState) (sim : SimNo) (new : CoreState) : Type 0 wh
   pub at : Tier
   pub inputs : List Input
   pub advance : ℤ
-  pub allowed : IsAllowed IsReady IsAdvance old.plan (view old.plan old.entries) (Sent sim (Step at inputs advance))
+  pub allowed : IsAllowed IsReady IsAdvance old.plan (view old.plan old.entries)
+      (Sent sim (Step at inputs advance))
   pub moved : new ≡ moved old (old.entries ++ Sent sim (Step at inputs advance) ∷ []) None
 
 -- nobody is ready, and some request is open
@@ -93,7 +94,8 @@ NextOf old Wait new = IsWaiting old new
 NextOf old Done new = IsOver old new
 NextOf old (Fault fault) new = WasFaulty old fault new ⊎ IsFull old fault new
 
--- want of memory: the core has not met a fault before; its plan and its entries are as they were, and it has ended
+-- want of memory: the core has not met a fault before; its plan and its entries are as they were,
+-- and it has ended
 pub record IsOutOfMemory (old new : CoreState) : Type 0 where
   pub no_fault : (fault : CoreFault) → old.ended ≡ Some (Faulty fault) → ⊥
   pub ended : new ≡ moved old old.entries (Some OutOfMemory)
@@ -112,14 +114,16 @@ pub record HasRoom (core : CoreState) : Type 0 where
   pub room : length core.entries < core.plan.entries
 
 -- the message is right, and nothing is owed after it
-pub record IsQuiet (old : CoreState) (sim : SimNo) (message : Message) (new : CoreState) : Type 0 where
+pub record IsQuiet (old : CoreState) (sim : SimNo) (message : Message)
+    (new : CoreState) : Type 0 where
   pub room : HasRoom old
   pub no_fault : (seen_with old sim message).fault ≡ None
   pub none_owed : (seen_with old sim message).owed ≡ None
   pub moved : new ≡ moved old (with_message old sim message) None
 
 -- the message is right, and the journal now ends with the item that is owed after it
-pub record IsAnswered (old : CoreState) (sim : SimNo) (message : Message) (new : CoreState) : Type 0 where
+pub record IsAnswered (old : CoreState) (sim : SimNo) (message : Message)
+    (new : CoreState) : Type 0 where
   pub room : HasRoom old
   pub no_fault : (seen_with old sim message).fault ≡ None
   pub item : Item
@@ -127,7 +131,8 @@ pub record IsAnswered (old : CoreState) (sim : SimNo) (message : Message) (new :
   pub moved : new ≡ moved old (with_message old sim message ++ Sent sim item ∷ []) None
 
 -- the message makes a fault
-pub record IsFaulty (old : CoreState) (sim : SimNo) (message : Message) (fault : CoreFault) (new : CoreState) : Type 0 where
+pub record IsFaulty (old : CoreState) (sim : SimNo) (message : Message) (fault : CoreFault)
+    (new : CoreState) : Type 0 where
   pub room : HasRoom old
   pub named : IsSome (fault_in fault)
   pub made : (seen_with old sim message).fault ≡ fault_in fault
@@ -141,7 +146,8 @@ pub record IsUntaken (old : CoreState) (fault : CoreFault) (new : CoreState) : T
   pub ended : new ≡ moved old old.entries (Some (Faulty fault))
 
 -- the message is right, and there is no room for the item that is owed after it
-pub record IsUnanswered (old : CoreState) (sim : SimNo) (message : Message) (fault : CoreFault) (new : CoreState) : Type 0 where
+pub record IsUnanswered (old : CoreState) (sim : SimNo) (message : Message) (fault : CoreFault)
+    (new : CoreState) : Type 0 where
   pub room : HasRoom old
   pub no_fault : (seen_with old sim message).fault ≡ None
   pub owed : IsSome (seen_with old sim message).owed
@@ -153,7 +159,9 @@ pub record IsUnanswered (old : CoreState) (sim : SimNo) (message : Message) (fau
 abbrev pub ArriveOf : CoreState → SimNo → Message → Taken → CoreState → Type 0
 ArriveOf old sim message taken.Quiet new = IsQuiet old sim message new
 ArriveOf old sim message taken.Send new = IsAnswered old sim message new
-ArriveOf old sim message (taken.Fault fault) new = WasFaulty old fault new ⊎ (IsUntaken old fault new ⊎ (IsFaulty old sim message fault new ⊎ IsUnanswered old sim message fault new))
+ArriveOf old sim message (taken.Fault fault) new = WasFaulty old fault new
+    ⊎ (IsUntaken old fault new
+    ⊎ (IsFaulty old sim message fault new ⊎ IsUnanswered old sim message fault new))
 
 -- the id of what is open
 abbrev pub id_at : Place → Option ℕ

@@ -17,7 +17,8 @@ pub record CoreState : Type 0 where
   pub entries : List Entry
   pub ended : Option Ended
 
--- the plan is valid; the journal is orderly, agrees with sequential execution, and keeps to the limit of entries
+-- the plan is valid; the journal is orderly, agrees with sequential execution, and keeps to the
+-- limit of entries
 pub record Stands (P : Plan) (J : List Entry) : Type 0 where
   pub valid : IsValidPlan P
   pub orderly : IsOrderly P J

@@ -48,8 +48,12 @@ pub fn advance(plan: &Plan, kept: &mut Kept, journal: &mut Journal) -> Result<Ne
 fn ask(kept: &mut Kept, journal: &mut Journal, ready: Ready) -> Result<(), Mem>
     requires sims { ready.sim.0 < length kept.old.sims }
     requires queues { ready.sim.0 < length kept.old.agenda.queues }
-    ensures ok { (P : Plan) → IsKept P journal.old.entries kept.old None → length journal.old.entries ≢ P.entries → IsFirstReady IsReady IsAdvance P (view P journal.old.entries) ready.sim.0 ready.at
-        → IfOk result (λ _. IsKept P journal.new.entries kept.new None × IsAsked (core_of P journal.old.entries None) ready.sim (core_of P journal.new.entries None)) }
+    ensures ok { (P : Plan) → IsKept P journal.old.entries kept.old None
+        → length journal.old.entries ≢ P.entries
+        → IsFirstReady IsReady IsAdvance P (view P journal.old.entries) ready.sim.0 ready.at
+        → IfOk result (λ _. IsKept P journal.new.entries kept.new None
+        × IsAsked (core_of P journal.old.entries None) ready.sim
+        (core_of P journal.new.entries None)) }
     ensures err { IfErr result (λ _. journal.new.entries ≡ journal.old.entries) }
 {
     let Ready { sim, at } = ready;

@@ -47,7 +47,8 @@ impl Model for Core {
 
     ghost view = { λ a. record { plan = a.plan; entries = a.journal.entries; ended = a.ended } };
 
-    ghost invariant = { λ a. IsKept a.plan a.journal.entries a.kept a.ended × IsSettled a.plan a.journal.entries a.kept a.ended };
+    ghost invariant = { λ a. IsKept a.plan a.journal.entries a.kept a.ended
+        × IsSettled a.plan a.journal.entries a.kept a.ended };
 }
 
 impl Core {
@@ -131,8 +132,10 @@ impl Core {
     /// than `m`, which is any time before which there is neither the run's end, nor an outstanding step, nor a step that may
     /// still come.
     pub fn kept(&self) -> usize
-        ensures few { self.now.ended ≡ None → (SomeReady self.now.plan self.now.entries → ⊥) → (m : Tier) → IsFloor self.now.plan (view self.now.plan self.now.entries) m
-            → result ≤ most_kept self.now.plan (supply self.now.plan (view self.now.plan self.now.entries).acts) m }
+        ensures few { self.now.ended ≡ None → (SomeReady self.now.plan self.now.entries → ⊥)
+            → (m : Tier) → IsFloor self.now.plan (view self.now.plan self.now.entries) m
+            → result ≤ most_kept self.now.plan
+            (supply self.now.plan (view self.now.plan self.now.entries).acts) m }
     {
         self.kept.stock.kept()
     }

@@ -31,8 +31,10 @@ pub fn end_turn(
     place: Place,
 ) -> Result<Taken, Mem>
     requires taking { IsTaking plan.now journal.old.entries kept.old sim message.now }
-    requires judged { IsJudged plan.now (view plan.now journal.old.entries) sim.0 message.now place None }
-    ensures { HasTaken plan.now journal.old.entries sim message.now result kept.new journal.new.entries }
+    requires judged { IsJudged plan.now
+        (view plan.now journal.old.entries) sim.0 message.now place None }
+    ensures { HasTaken plan.now journal.old.entries sim message.now result kept.new
+        journal.new.entries }
 {
     match (place, message) {
         (Place::Stepping { at, id: _, asks: _ }, Message::Success { id: _, content: _ }) => {
@@ -57,7 +59,8 @@ fn end_step(
 ) -> Result<Taken, Mem>
     requires taking { IsTaking plan.now journal.old.entries kept.old sim message.now }
     requires ends { EndsStep plan.now (view plan.now journal.old.entries) sim.0 message.now at }
-    ensures { HasTaken plan.now journal.old.entries sim message.now result kept.new journal.new.entries }
+    ensures { HasTaken plan.now journal.old.entries sim message.now result kept.new
+        journal.new.entries }
 {
     ends_of_turns();
     stock_stays();
@@ -86,7 +89,8 @@ fn end_fetch(
     requires taking { IsTaking plan.now journal.old.entries kept.old sim message.now }
     requires ends { EndsFetch plan.now (view plan.now journal.old.entries) sim.0 message.now at }
     requires content { content_of message.now ≡ Some content.now }
-    ensures { HasTaken plan.now journal.old.entries sim message.now result kept.new journal.new.entries }
+    ensures { HasTaken plan.now journal.old.entries sim message.now result kept.new
+        journal.new.entries }
 {
     ends_of_turns();
     let made = made_at(at, content);

@@ -38,7 +38,8 @@ pub fn push_message(
     sim: SimNo,
     message: &Message,
 ) -> Result<(), Mem>
-    ensures ok { IfOk result (λ _. journal.new.entries ≡ journal.old.entries ++ Got sim message.now ∷ []) }
+    ensures ok { IfOk result (λ _. journal.new.entries ≡ journal.old.entries
+        ++ Got sim message.now ∷ []) }
     ensures err { IfErr result (λ _. journal.new.entries ≡ journal.old.entries) }
 {
     let entry = Entry::Got(sim, message.copy(alloc)?);
@@ -53,7 +54,8 @@ pub fn push_answered(
     message: &Message,
     item: Item,
 ) -> Result<(), Mem>
-    ensures ok { IfOk result (λ _. journal.new.entries ≡ journal.old.entries ++ Got sim message.now ∷ [] ++ Sent sim item ∷ []) }
+    ensures ok { IfOk result (λ _. journal.new.entries ≡ journal.old.entries
+        ++ Got sim message.now ∷ [] ++ Sent sim item ∷ []) }
     ensures err { IfErr result (λ _. journal.new.entries ≡ journal.old.entries) }
 {
     push_message(alloc, journal, sim, message)?;

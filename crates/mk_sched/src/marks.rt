@@ -21,7 +21,8 @@ use mk_sched_supply::Stock;
 pub fn settle(plan: &Plan, kept: &mut Kept, ended: Option<Ended>)
     requires valid { IsValidPlan plan.now }
     requires whole { ended ≡ None → sim_count plan.now ≤ length kept.old.agenda.queues }
-    ensures { (J : List Entry) → IsKept plan.now J kept.old ended → IsKept plan.now J kept.new ended × IsSettled plan.now J kept.new ended }
+    ensures { (J : List Entry) → IsKept plan.now J kept.old ended → IsKept plan.now J kept.new ended
+        × IsSettled plan.now J kept.new ended }
 {
     if ended.is_some() {
         return;
@@ -36,8 +37,10 @@ pub fn settle(plan: &Plan, kept: &mut Kept, ended: Option<Ended>)
 fn forget(plan: &Plan, agenda: &Agenda, stock: &mut Stock)
     requires valid { IsValidPlan plan.now }
     requires whole { sim_count plan.now ≤ length agenda.now.queues }
-    ensures stock { (V : View) → Mirrors plan.now V agenda.now → IsStockOf plan.now V stock.old → IsStockOf plan.now V stock.new }
-    ensures told { (V : View) → Mirrors plan.now V agenda.now → IsStockOf plan.now V stock.old → IsTold plan.now V stock.new }
+    ensures stock { (V : View) → Mirrors plan.now V agenda.now → IsStockOf plan.now V stock.old
+        → IsStockOf plan.now V stock.new }
+    ensures told { (V : View) → Mirrors plan.now V agenda.now → IsStockOf plan.now V stock.old
+        → IsTold plan.now V stock.new }
 {
     for number in 0..plan.sims.len() {
         forget_of(plan, agenda, stock, SimNo(number as u32));
@@ -49,8 +52,11 @@ fn forget_of(plan: &Plan, agenda: &Agenda, stock: &mut Stock, sim: SimNo)
     requires valid { IsValidPlan plan.now }
     requires there { sim.0 < sim_count plan.now }
     requires whole { sim_count plan.now ≤ length agenda.now.queues }
-    ensures stock { (V : View) → Mirrors plan.now V agenda.now → IsStockOf plan.now V stock.old → IsStockOf plan.now V stock.new }
-    ensures told { (V : View) → Mirrors plan.now V agenda.now → IsStockOf plan.now V stock.old → (m : Tier) → IsFloor plan.now V m → AreMarked stock.old sim.0 m → AreMarked stock.new (sim.0 + 1) m }
+    ensures stock { (V : View) → Mirrors plan.now V agenda.now → IsStockOf plan.now V stock.old
+        → IsStockOf plan.now V stock.new }
+    ensures told { (V : View) → Mirrors plan.now V agenda.now → IsStockOf plan.now V stock.old
+        → (m : Tier) → IsFloor plan.now V m → AreMarked stock.old sim.0 m
+        → AreMarked stock.new (sim.0 + 1) m }
 {
     let end = Tier {
         time: plan.until,

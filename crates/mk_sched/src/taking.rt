@@ -40,7 +40,8 @@ pub fn take(
     requires kept { IsKept plan.now journal.old.entries kept.old None }
     requires there { sim.0 < sim_count plan.now }
     requires form { is_message_in_range message.now ≡ true }
-    ensures { HasTaken plan.now journal.old.entries sim message.now result kept.new journal.new.entries }
+    ensures { HasTaken plan.now journal.old.entries sim message.now result kept.new
+        journal.new.entries }
 {
     if is_full(plan, journal) {
         return Ok(Taken::Fault(too_long(plan)));
@@ -85,8 +86,10 @@ fn go_on(
     next: Place,
 ) -> Result<Taken, Mem>
     requires taking { IsTaking plan.now journal.old.entries kept.old sim message.now }
-    requires judged { IsJudged plan.now (view plan.now journal.old.entries) sim.0 message.now place (Some next) }
-    ensures { HasTaken plan.now journal.old.entries sim message.now result kept.new journal.new.entries }
+    requires judged { IsJudged plan.now (view plan.now journal.old.entries) sim.0 message.now place
+        (Some next) }
+    ensures { HasTaken plan.now journal.old.entries sim message.now result kept.new
+        journal.new.entries }
 {
     if has_last_room(plan, journal) {
         push_message(alloc, journal, sim, message)?;
@@ -125,8 +128,15 @@ fn owed_after(
     requires asked { IsInStep plan.now sim.0 at stock.old }
     requires run { IsInRun at }
     requires form { is_message_in_range message.now ≡ true }
-    ensures { (J : List Entry) → (T : OpenTurn) → (q : Place) → MayCome plan.now J (Got sim message.now) → IsRight plan.now (view plan.now J) sim.0 message.now T (Some q) → T.at ≡ at → IsStockOf plan.now (view plan.now J) stock.old
-        → IfOk result (λ item. (item ≡ response plan.now (supply plan.now (view plan.now J).acts) sim.0 T.at T.place message.now) × IsStockOf plan.now (note_sent plan.now (note_right plan.now (view plan.now J) sim.0 message.now T (Some q)) sim.0 item) stock.new) }
+    ensures { (J : List Entry) → (T : OpenTurn) → (q : Place)
+        → MayCome plan.now J (Got sim message.now)
+        → IsRight plan.now (view plan.now J) sim.0 message.now T (Some q) → T.at ≡ at
+        → IsStockOf plan.now (view plan.now J) stock.old
+        → IfOk result (λ item. (item
+        ≡ response plan.now (supply plan.now (view plan.now J).acts) sim.0 T.at T.place message.now)
+        × IsStockOf plan.now
+        (note_sent plan.now (note_right plan.now (view plan.now J) sim.0 message.now T (Some q))
+        sim.0 item) stock.new) }
 {
     stock_stays();
     match message {

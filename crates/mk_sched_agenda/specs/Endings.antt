@@ -21,8 +21,10 @@ use Rattle.mk_sched_agenda.specs.Mirrors.{AgendaState, Mirrors}
 abbrev pub given_by : Plan → ℕ → Act → List Bool
 given_by P s f = map (λ c. is_some (output P f c.from c.from_attr)) (triggering_from P s)
 
--- the message is right, and the last of the turn T of s, whose outputs are made then and go to the given ones of its triggering connections, and which returned this next time
-pub record IsLast (P : Plan) (J : List Entry) (s : SimNo) (T : OpenTurn) (m : Message) (x : Tier) (n : Option ℤ) (flags : List Bool) : Type 0 where
+-- the message is right, and the last of the turn T of s, whose outputs are made then and go to the
+-- given ones of its triggering connections, and which returned this next time
+pub record IsLast (P : Plan) (J : List Entry) (s : SimNo) (T : OpenTurn) (m : Message) (x : Tier)
+    (n : Option ℤ) (flags : List Bool) : Type 0 where
   pub valid : IsValidPlan P
   pub orderly : IsOrderlySoFar IsReady IsAdvance P J
   pub allowed : IsAllowed IsReady IsAdvance P (view P J) (Got s m)
@@ -43,7 +45,10 @@ pub record CanBeMade (x : Tier) : Type 0 where
 abbrev pub fault_of : Beyond → Fault
 fault_of b = LoopLimit b.sim.0 b.time
 
--- after the last message of a turn: either something is triggered beyond the loop limit, and the agenda is as before; or it mirrors what the view has become
-abbrev pub EndOf : Plan → List Entry → SimNo → OpenTurn → Message → AgendaState → Option Beyond → AgendaState → Type 0
+-- after the last message of a turn: either something is triggered beyond the loop limit, and the
+-- agenda is as before; or it mirrors what the view has become
+abbrev pub EndOf : Plan → List Entry → SimNo → OpenTurn → Message → AgendaState → Option Beyond
+    → AgendaState → Type 0
 EndOf P J s T m A (Some b) B = (loop_fault P s.0 (ended_turn T m) ≡ Some (fault_of b)) × (B ≡ A)
-EndOf P J s T m A None B = (loop_fault P s.0 (ended_turn T m) ≡ None) × Mirrors P (note P (view P J) (Got s m)) B
+EndOf P J s T m A None B = (loop_fault P s.0 (ended_turn T m) ≡ None)
+    × Mirrors P (note P (view P J) (Got s m)) B

@@ -15,7 +15,8 @@ use Rattle.mk_sched_agenda.specs.declared.outlets.Outlet.{Outlet}
 use Rattle.mk_sched_agenda.specs.Outlets.{AreOutletsOf, triggering_from, outlets_in}
 use Rattle.mk_sched_agenda.specs.Dues.{limits_of, queue_in, last_in}
 
--- an agenda: the limits of the run, each simulator's triggering connections, the steps to come of each, its last step, and the bounds of their starts
+-- an agenda: the limits of the run, each simulator's triggering connections, the steps to come of
+-- each, its last step, and the bounds of their starts
 pub record AgendaState : Type 0 where
   pub limits : Limits
   pub outlets : List (List Outlet)
@@ -31,10 +32,12 @@ flag_of d = d.triggered
 pub record IsOfPlan (P : Plan) (A : AgendaState) : Type 0 where
   pub limits : A.limits ≡ limits_of P
   pub count : length A.queues ≡ sim_count P
-  pub outlets : (i : ℕ) → i < sim_count P → AreOutletsOf P (triggering_from P i) (outlets_in A.outlets i)
+  pub outlets : (i : ℕ) → i < sim_count P
+      → AreOutletsOf P (triggering_from P i) (outlets_in A.outlets i)
   pub bounds : IsOf P A.bounds
 
--- the steps to come of each simulator are those that are due and that it has not been asked for, marked where something that came triggers them;
+-- the steps to come of each simulator are those that are due and that it has not been asked for,
+-- marked where something that came triggers them;
 -- last steps and starts are those of the view, and starts are outstanding where a turn is open
 pub record Mirrors (P : Plan) (V : View) (A : AgendaState) : Type 0 where
   pub plan : IsOfPlan P A

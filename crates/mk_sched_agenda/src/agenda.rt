@@ -53,9 +53,17 @@ impl Model for Agenda {
 
     ghost Value = { AgendaState };
 
-    ghost view = { λ a. record { limits = a.limits; outlets = a.outlets.items; queues = a.dues.queues.items; lasts = a.dues.lasts.items; bounds = a.dues.bounds } };
+    ghost view = { λ a. record {
+      limits = a.limits;
+      outlets = a.outlets.items;
+      queues = a.dues.queues.items;
+      lasts = a.dues.lasts.items;
+      bounds = a.dues.bounds;
+    } };
 
-    ghost invariant = { λ a. IsSound a.limits a.outlets.items a.dues.queues.items × IsTidy a.dues.queues.items a.dues.opened.items a.dues.bounds × (length a.dues.lasts.items ≡ length a.dues.queues.items) };
+    ghost invariant = { λ a. IsSound a.limits a.outlets.items a.dues.queues.items
+        × IsTidy a.dues.queues.items a.dues.opened.items a.dues.bounds
+        × (length a.dues.lasts.items ≡ length a.dues.queues.items) };
 }
 
 impl Agenda {
@@ -85,7 +93,8 @@ impl Agenda {
     /// The least-numbered simulator that may be asked for a step, and when; `None` exactly where none may.
     pub fn first_ready(&self) -> Option<Ready>
         ensures { (P : Plan) → (V : View) → IsValidPlan P → Mirrors P V self.now
-            → MatchOption result ((i : ℕ) → (x : Tier) → IsReady P V i x → ⊥) (λ r. IsFirstReady IsReady IsAdvance P V r.sim.0 r.at) }
+            → MatchOption result ((i : ℕ) → (x : Tier) → IsReady P V i x
+            → ⊥) (λ r. IsFirstReady IsReady IsAdvance P V r.sim.0 r.at) }
     {
         let sim = self.dues.bounds.first_ready()?;
         let at = self.dues.first_step(sim)?;
@@ -94,15 +103,18 @@ impl Agenda {
 
     /// The last step that a simulator was asked for; `None` exactly where it was asked for none.
     pub fn last_step(&self, sim: SimNo) -> Option<Tier>
-        ensures { (P : Plan) → (V : View) → Mirrors P V self.now → sim.0 < sim_count P → result ≡ last_step V sim.0 }
+        ensures { (P : Plan) → (V : View) → Mirrors P V self.now → sim.0 < sim_count P
+            → result ≡ last_step V sim.0 }
     {
         self.dues.last_step(sim)
     }
 
     /// Whether the turn of some simulator is open.
     pub fn is_any_open(&self) -> bool
-        ensures some { result ≡ true → (P : Plan) → (V : View) → Mirrors P V self.now → (i : ℕ) × (i < sim_count P) × (is_some (V.open_at i) ≡ true) }
-        ensures none { result ≡ false → (P : Plan) → (V : View) → Mirrors P V self.now → (i : ℕ) → i < sim_count P → V.open_at i ≡ None }
+        ensures some { result ≡ true → (P : Plan) → (V : View) → Mirrors P V self.now → (i : ℕ)
+            × (i < sim_count P) × (is_some (V.open_at i) ≡ true) }
+        ensures none { result ≡ false → (P : Plan) → (V : View) → Mirrors P V self.now → (i : ℕ)
+            → i < sim_count P → V.open_at i ≡ None }
     {
         self.dues.is_any_open()
     }
@@ -111,7 +123,9 @@ impl Agenda {
     pub fn max_advance(&mut self, sim: SimNo, at: Tier) -> i64
         requires { sim.0 < length self.old.queues }
         ensures same { self.new ≡ self.old }
-        ensures advance { (P : Plan) → (J : List Entry) → IsValidPlan P → IsOrderlySoFar IsReady IsAdvance P J → (view P J).fault ≡ None → IsReady P (view P J) sim.0 at
+        ensures advance { (P : Plan) → (J : List Entry) → IsValidPlan P
+            → IsOrderlySoFar IsReady IsAdvance P J → (view P J).fault ≡ None
+            → IsReady P (view P J) sim.0 at
             → Mirrors P (view P J) self.old → IsAdvance P (view P J) sim.0 at result }
     {
         let trigger = self.dues.queues[sim.0 as usize].least_trigger_after(at);
@@ -124,7 +138,8 @@ impl Agenda {
     pub fn earliest(&self, sim: SimNo) -> Option<Tier>
         requires { sim.0 < length self.now.queues }
         ensures { (P : Plan) → (V : View) → IsValidPlan P → Mirrors P V self.now
-            → MatchOption result ((y : Tier) → Reach P (start P V) nobody sim.0 y → ⊥) (λ e. IsEarliest P (start P V) sim.0 e) }
+            → MatchOption result ((y : Tier) → Reach P (start P V) nobody sim.0 y
+            → ⊥) (λ e. IsEarliest P (start P V) sim.0 e) }
     {
         self.dues.bounds.earliest(sim)
     }
@@ -134,7 +149,9 @@ impl Agenda {
         requires { sim.0 < length self.old.queues }
         ensures count { length self.new.queues ≡ length self.old.queues }
         ensures outlets { self.new.outlets ≡ self.old.outlets }
-        ensures mirrors { (P : Plan) → (V : View) → (x : Tier) → (ins : List Input) → (advance : ℤ) → IsReady P V sim.0 x → Mirrors P V self.old → Mirrors P (note_sent P V sim.0 (Step x ins advance)) self.new }
+        ensures mirrors { (P : Plan) → (V : View) → (x : Tier) → (ins : List Input) → (advance : ℤ)
+            → IsReady P V sim.0 x → Mirrors P V self.old
+            → Mirrors P (note_sent P V sim.0 (Step x ins advance)) self.new }
     {
         self.dues.begin_turn(sim);
     }
@@ -155,7 +172,8 @@ impl Agenda {
         requires given { length given.now ≡ length (outlets_in self.old.outlets sim.0) }
         ensures count { length self.new.queues ≡ length self.old.queues }
         ensures outlets { self.new.outlets ≡ self.old.outlets }
-        ensures ends { (P : Plan) → (J : List Entry) → (T : OpenTurn) → (m : Message) → IsLast P J sim T m made next given.now → Mirrors P (view P J) self.old
+        ensures ends { (P : Plan) → (J : List Entry) → (T : OpenTurn) → (m : Message)
+            → IsLast P J sim T m made next given.now → Mirrors P (view P J) self.old
             → IfOk result (λ beyond. EndOf P J sim T m self.old beyond self.new) }
     {
         let outlets = self.outlets[sim.0 as usize].as_slice();

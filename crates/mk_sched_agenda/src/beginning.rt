@@ -22,7 +22,9 @@ pub fn first_dues(alloc: Global, plan: &Plan, limits: &Limits) -> Result<Dues, M
     requires valid { IsValidPlan plan.now }
     requires limits { limits.now ≡ limits_of plan.now }
     ensures lasts { IfOk result (λ dues. AreNone (length plan.now.sims) dues.lasts.items) }
-    ensures begun { IfOk result (λ dues. AreBegun plan.now (length plan.now.sims) dues.queues.items dues.opened.items dues.bounds) }
+    ensures begun { IfOk result
+        (λ dues. AreBegun plan.now
+        (length plan.now.sims) dues.queues.items dues.opened.items dues.bounds) }
 {
     let mut dues = Dues {
         queues: Vec::new(alloc),
@@ -48,10 +50,12 @@ fn begin(
     requires until { limits.now.until ≤ℤ pos 1000000000 }
     requires loops { limits.now.loops ≤ 1000 }
     requires events { All (λ (e : ℤ). pos 0 ≤ℤ e) sim.now.initial }
-    ensures queues { OnOk result (dues.new.queues.items ≡ dues.old.queues.items ++ first_queue limits.now sim.now ∷ []) }
+    ensures queues { OnOk result (dues.new.queues.items ≡ dues.old.queues.items
+        ++ first_queue limits.now sim.now ∷ []) }
     ensures lasts { OnOk result (dues.new.lasts.items ≡ dues.old.lasts.items ++ None ∷ []) }
     ensures opened { OnOk result (dues.new.opened.items ≡ dues.old.opened.items ++ false ∷ []) }
-    ensures bounds { OnOk result (dues.new.bounds ≡ with_start dues.old.bounds number.0 (least (first_queue limits.now sim.now)) false) }
+    ensures bounds { OnOk result (dues.new.bounds
+        ≡ with_start dues.old.bounds number.0 (least (first_queue limits.now sim.now)) false) }
     ensures plan { (P : Plan) → IsOf P dues.old.bounds → IsOf P dues.new.bounds }
 {
     let queue = first_queue(alloc, limits, sim)?;
@@ -76,7 +80,8 @@ fn first_queue(alloc: Global, limits: &Limits, sim: &PlanSim) -> Result<Queue, M
 
 // The steps that its initial events ask for.
 fn event_queue(alloc: Global, limits: &Limits, sim: &PlanSim) -> Result<Queue, Mem>
-    ensures { IfOk result (λ queue. queue ≡ fold (with_own limits.now) [] (map moment sim.now.initial)) }
+    ensures { IfOk result (λ queue. queue
+        ≡ fold (with_own limits.now) [] (map moment sim.now.initial)) }
 {
     let mut queue = Queue::new(alloc);
     for time in sim.initial.as_slice() {

@@ -57,9 +57,12 @@ impl Dues {
         requires lasts { sim.0 < length self.old.lasts.items }
         requires tidy { IsTidy self.old.queues.items self.old.opened.items self.old.bounds }
         ensures tidy { IsTidy self.new.queues.items self.new.opened.items self.new.bounds }
-        ensures queues { self.new.queues.items ≡ slice_set self.old.queues.items sim.0 (later (queue_in self.old.queues.items sim.0)) }
-        ensures lasts { self.new.lasts.items ≡ slice_set self.old.lasts.items sim.0 (least (queue_in self.old.queues.items sim.0)) }
-        ensures bounds { self.new.bounds ≡ with_start self.old.bounds sim.0 (least (queue_in self.old.queues.items sim.0)) true }
+        ensures queues { self.new.queues.items
+            ≡ slice_set self.old.queues.items sim.0 (later (queue_in self.old.queues.items sim.0)) }
+        ensures lasts { self.new.lasts.items
+            ≡ slice_set self.old.lasts.items sim.0 (least (queue_in self.old.queues.items sim.0)) }
+        ensures bounds { self.new.bounds
+            ≡ with_start self.old.bounds sim.0 (least (queue_in self.old.queues.items sim.0)) true }
         ensures plan { (P : Plan) → IsOf P self.old.bounds → IsOf P self.new.bounds }
     {
         let at = self.queues[sim.0 as usize].take();
@@ -77,9 +80,13 @@ impl Dues {
         requires next { ForSome next (λ n. pos 0 ≤ℤ n) }
         ensures tidy { IsTidy self.new.queues.items self.new.opened.items self.new.bounds }
         ensures count { length self.new.queues.items ≡ length self.old.queues.items }
-        ensures queues { OnOk result (self.new.queues.items ≡ slice_set self.old.queues.items sim.0 (with_next limits.now (queue_in self.old.queues.items sim.0) next)) }
+        ensures queues { OnOk result (self.new.queues.items
+            ≡ slice_set self.old.queues.items sim.0
+            (with_next limits.now (queue_in self.old.queues.items sim.0) next)) }
         ensures lasts { self.new.lasts.items ≡ self.old.lasts.items }
-        ensures bounds { OnOk result (self.new.bounds ≡ with_start self.old.bounds sim.0 (least (queue_in self.new.queues.items sim.0)) false) }
+        ensures bounds { OnOk result (self.new.bounds
+            ≡ with_start self.old.bounds sim.0
+            (least (queue_in self.new.queues.items sim.0)) false) }
         ensures plan { (P : Plan) → IsOf P self.old.bounds → IsOf P self.new.bounds }
     {
         let queue = &mut self.queues[sim.0 as usize];
@@ -97,9 +104,13 @@ impl Dues {
         requires own { IsOwn (Some at) }
         ensures tidy { IsTidy self.new.queues.items self.new.opened.items self.new.bounds }
         ensures count { length self.new.queues.items ≡ length self.old.queues.items }
-        ensures queues { OnOk result (self.new.queues.items ≡ slice_set self.old.queues.items to.0 (added true at (queue_in self.old.queues.items to.0))) }
+        ensures queues { OnOk result (self.new.queues.items
+            ≡ slice_set self.old.queues.items to.0
+            (added true at (queue_in self.old.queues.items to.0))) }
         ensures lasts { self.new.lasts.items ≡ self.old.lasts.items }
-        ensures bounds { OnOk result (self.new.bounds ≡ with_trigger self.old.bounds self.old.opened.items (queue_in self.old.queues.items to.0) to.0 at) }
+        ensures bounds { OnOk result (self.new.bounds
+            ≡ with_trigger self.old.bounds self.old.opened.items
+            (queue_in self.old.queues.items to.0) to.0 at) }
         ensures plan { (P : Plan) → IsOf P self.old.bounds → IsOf P self.new.bounds }
         ensures opened { self.new.opened.items ≡ self.old.opened.items }
     {
@@ -118,7 +129,9 @@ impl Dues {
         ensures queues { self.new.queues.items ≡ self.old.queues.items }
         ensures opened { self.new.opened.items ≡ self.old.opened.items }
         ensures lasts { self.new.lasts.items ≡ self.old.lasts.items }
-        ensures bounds { self.new.bounds ≡ (if is_first && not (is_open self.old.opened.items to.0) then with_start self.old.bounds to.0 (Some at) false else self.old.bounds) }
+        ensures bounds { self.new.bounds
+            ≡ (if is_first && not (is_open self.old.opened.items to.0)
+            then with_start self.old.bounds to.0 (Some at) false else self.old.bounds) }
         ensures plan { (P : Plan) → IsOf P self.old.bounds → IsOf P self.new.bounds }
     {
         if is_first && !self.opened[to.0 as usize] {

@@ -69,13 +69,17 @@ pub fn bring_all(
     requires until { limits.now.until ≤ℤ pos 1000000000 }
     requires loops { limits.now.loops ≤ 1000 }
     requires count { length given.now ≡ length outlets.now }
-    requires outlets { All (λ o. (o.to.0 < length dues.old.queues.items) × HasWidth o.via) outlets.now }
+    requires outlets { All (λ o. (o.to.0 < length dues.old.queues.items)
+        × HasWidth o.via) outlets.now }
     requires made { CanBeMade made_at }
     ensures tidy { IsTidy dues.new.queues.items dues.new.opened.items dues.new.bounds }
     ensures count { length dues.new.queues.items ≡ length dues.old.queues.items }
     ensures lasts { dues.new.lasts.items ≡ dues.old.lasts.items }
-    ensures come { (P : Plan) → (V : View) → (s : ℕ) → (f : Act) → IsEnding P s f limits.now outlets.now given.now made_at → HasCome P V s f [] dues.old.queues.items dues.old.bounds
-        → OnOk result (HasCome P V s f (triggering_from P s) dues.new.queues.items dues.new.bounds) }
+    ensures come { (P : Plan) → (V : View) → (s : ℕ) → (f : Act)
+        → IsEnding P s f limits.now outlets.now given.now made_at
+        → HasCome P V s f [] dues.old.queues.items dues.old.bounds
+        → OnOk result (HasCome P V s f
+        (triggering_from P s) dues.new.queues.items dues.new.bounds) }
 {
     for (place, outlet) in outlets.iter().enumerate() {
         bring(dues, limits, outlet, given[place], made_at)?;
@@ -100,8 +104,12 @@ fn bring(
     ensures tidy { IsTidy dues.new.queues.items dues.new.opened.items dues.new.bounds }
     ensures count { length dues.new.queues.items ≡ length dues.old.queues.items }
     ensures lasts { dues.new.lasts.items ≡ dues.old.lasts.items }
-    ensures come { (P : Plan) → (V : View) → (s : ℕ) → (f : Act) → (cs : List Conn) → (c : Conn) → IsOutletOf P c outlet.now → IsIn c (triggering_from P s) → given ≡ is_some (output P f c.from c.from_attr) → made_at ≡ made f
-        → limits.now ≡ limits_of P → IsInLimit P s f → HasCome P V s f cs dues.old.queues.items dues.old.bounds → OnOk result (HasCome P V s f (cs ++ c ∷ []) dues.new.queues.items dues.new.bounds) }
+    ensures come { (P : Plan) → (V : View) → (s : ℕ) → (f : Act) → (cs : List Conn) → (c : Conn)
+        → IsOutletOf P c outlet.now → IsIn c (triggering_from P s)
+        → given ≡ is_some (output P f c.from c.from_attr) → made_at ≡ made f
+        → limits.now ≡ limits_of P → IsInLimit P s f
+        → HasCome P V s f cs dues.old.queues.items dues.old.bounds
+        → OnOk result (HasCome P V s f (cs ++ c ∷ []) dues.new.queues.items dues.new.bounds) }
 {
     let at = made_at.after(outlet.via);
     if is_brought(limits, given, at) {

@@ -29,8 +29,10 @@ IsTurn free n s (Some T) = IsOpened free n s T
 abbrev pub free_id : Plan → ℕ → List Act → ℕ
 free_id P i acts = first_id P i + ids_used acts
 
--- what is kept of simulator i, in a journal of n entries, is what follows from its acts and from what is open at it
-pub record IsSimOf (P : Plan) (acts : List Act) (o : Option OpenTurn) (n i : ℕ) (s : Sim) : Type 0 where
+-- what is kept of simulator i, in a journal of n entries, is what follows from its acts and from
+-- what is open at it
+pub record IsSimOf (P : Plan) (acts : List Act) (o : Option OpenTurn) (n i : ℕ)
+    (s : Sim) : Type 0 where
   pub turn : IsTurn (free_id P i acts) n s o
   pub heard : s.heard ≡ length (messages_in acts ++ messages_of o)
   pub few : s.heard ≤ n
@@ -38,4 +40,5 @@ pub record IsSimOf (P : Plan) (acts : List Act) (o : Option OpenTurn) (n i : ℕ
 -- the same of each simulator
 pub record AreSimsOf (P : Plan) (V : View) (n : ℕ) (sims : List Sim) : Type 0 where
   pub count : length sims ≡ sim_count P
-  pub each : (i : ℕ) (s : Sim) → slice_get sims i ≡ Some s → IsSimOf P (V.acts i) (V.open_at i) n i s
+  pub each : (i : ℕ) (s : Sim) → slice_get sims i ≡ Some s
+      → IsSimOf P (V.acts i) (V.open_at i) n i s

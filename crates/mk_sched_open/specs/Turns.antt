@@ -12,8 +12,10 @@ use Rattle.mk_plan.specs.Acts.{content_of}
 use Rattle.mk_plan.specs.Sequential.{ids_used}
 use Rattle.mk_plan.specs.Journals.{View, OpenTurn}
 
--- the message is right in the open turn T of s, and this place follows, or none where the turn has ended
-pub record IsRight (P : Plan) (V : View) (s : ℕ) (m : Message) (T : OpenTurn) (q : Option Place) : Type 0 where
+-- the message is right in the open turn T of s, and this place follows, or none where the turn has
+-- ended
+pub record IsRight (P : Plan) (V : View) (s : ℕ) (m : Message) (T : OpenTurn)
+    (q : Option Place) : Type 0 where
   pub opened : V.open_at s ≡ Some T
   pub right : wrong P s T.place m ≡ None
   pub goes : next_place P s T.place m ≡ q
@@ -48,7 +50,8 @@ pub record IsStepping (free n : ℕ) (at : Tier) (id : ℕ) (T : OpenTurn) : Typ
   pub few : id + 1 ≤ 1000000 + n
 
 -- a GetData is open, after a Step that returned this next time
-pub record IsFetching (free n : ℕ) (at : Tier) (id : ℕ) (next : Option ℤ) (T : OpenTurn) : Type 0 where
+pub record IsFetching (free n : ℕ) (at : Tier) (id : ℕ) (next : Option ℤ)
+    (T : OpenTurn) : Type 0 where
   pub time : T.at ≡ at
   pub run : IsInRun at
   pub content : Json

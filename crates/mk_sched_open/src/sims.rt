@@ -64,8 +64,10 @@ impl Sims {
     /// What is open at a simulator.
     pub fn place(&self, sim: SimNo) -> Place
         requires { sim.0 < length self.now }
-        ensures place { (P : Plan) → (V : View) → (n : ℕ) → AreSimsOf P V n self.now → result ≡ place_at (V.open_at sim.0) }
-        ensures run { (P : Plan) → (V : View) → (n : ℕ) → n ≤ 20000000 → AreSimsOf P V n self.now → IsPlaceInRun result }
+        ensures place { (P : Plan) → (V : View) → (n : ℕ) → AreSimsOf P V n self.now
+            → result ≡ place_at (V.open_at sim.0) }
+        ensures run { (P : Plan) → (V : View) → (n : ℕ) → n ≤ 20000000 → AreSimsOf P V n self.now
+            → IsPlaceInRun result }
     {
         self.kept.at(sim.0 as usize).place
     }
@@ -73,7 +75,8 @@ impl Sims {
     /// How many right messages came from a simulator.
     pub fn heard(&self, sim: SimNo) -> u64
         requires { sim.0 < length self.now }
-        ensures { (P : Plan) → (V : View) → (n : ℕ) → AreSimsOf P V n self.now → result ≡ length (heard V sim.0) }
+        ensures { (P : Plan) → (V : View) → (n : ℕ) → AreSimsOf P V n self.now
+            → result ≡ length (heard V sim.0) }
     {
         self.kept.at(sim.0 as usize).heard
     }
@@ -81,7 +84,9 @@ impl Sims {
     /// The next time that a simulator's open turn returned with the reply to its Step, where that reply came.
     pub fn next(&self, sim: SimNo) -> Option<i64>
         requires { sim.0 < length self.now }
-        ensures { (P : Plan) → (V : View) → (n : ℕ) → (T : OpenTurn) → (x : Tier) → (id : ℕ) → (m : Message) → AreSimsOf P V n self.now → V.open_at sim.0 ≡ Some T → T.place ≡ Fetching x id → result ≡ next_time (ended_turn T m) }
+        ensures { (P : Plan) → (V : View) → (n : ℕ) → (T : OpenTurn) → (x : Tier) → (id : ℕ)
+            → (m : Message) → AreSimsOf P V n self.now → V.open_at sim.0 ≡ Some T
+            → T.place ≡ Fetching x id → result ≡ next_time (ended_turn T m) }
     {
         self.kept.at(sim.0 as usize).next
     }
@@ -90,7 +95,8 @@ impl Sims {
     pub fn begin(&mut self, sim: SimNo, at: Tier)
         requires { sim.0 < length self.old }
         ensures count { length self.new ≡ length self.old }
-        ensures sims { (P : Plan) → (V : View) → (n : ℕ) → (ins : List Input) → (advance : ℤ) → AreSimsOf P V n self.old → V.open_at sim.0 ≡ None → IsInRun at
+        ensures sims { (P : Plan) → (V : View) → (n : ℕ) → (ins : List Input) → (advance : ℤ)
+            → AreSimsOf P V n self.old → V.open_at sim.0 ≡ None → IsInRun at
             → AreSimsOf P (note_sent P V sim.0 (Step at ins advance)) (n + 1) self.new }
     {
         let begun = begun_sim(self.kept.at(sim.0 as usize), at);
@@ -102,8 +108,11 @@ impl Sims {
     pub fn go_on(&mut self, sim: SimNo, place: Place, next: Option<i64>)
         requires { sim.0 < length self.old }
         ensures count { length self.new ≡ length self.old }
-        ensures sims { (P : Plan) → (V : View) → (n : ℕ) → (m : Message) → (T : OpenTurn) → n ≤ 20000000 → AreSimsOf P V n self.old → IsRight P V sim.0 m T (Some place) → next ≡ next_in m
-            → AreSimsOf P (note_sent P (note_right P V sim.0 m T (Some place)) sim.0 (response P (supply P V.acts) sim.0 T.at T.place m)) (n + 2) self.new }
+        ensures sims { (P : Plan) → (V : View) → (n : ℕ) → (m : Message) → (T : OpenTurn)
+            → n ≤ 20000000 → AreSimsOf P V n self.old → IsRight P V sim.0 m T (Some place)
+            → next ≡ next_in m
+            → AreSimsOf P (note_sent P (note_right P V sim.0 m T (Some place)) sim.0
+            (response P (supply P V.acts) sim.0 T.at T.place m)) (n + 2) self.new }
     {
         let further = gone_on(self.kept.at(sim.0 as usize), place, next);
         self.kept.set(sim.0 as usize, further);
@@ -113,7 +122,8 @@ impl Sims {
     pub fn end(&mut self, sim: SimNo)
         requires { sim.0 < length self.old }
         ensures count { length self.new ≡ length self.old }
-        ensures sims { (P : Plan) → (V : View) → (n : ℕ) → (m : Message) → (T : OpenTurn) → n ≤ 20000000 → AreSimsOf P V n self.old → IsRight P V sim.0 m T None
+        ensures sims { (P : Plan) → (V : View) → (n : ℕ) → (m : Message) → (T : OpenTurn)
+            → n ≤ 20000000 → AreSimsOf P V n self.old → IsRight P V sim.0 m T None
             → AreSimsOf P (note_right P V sim.0 m T None) (n + 1) self.new }
     {
         let ended = ended_sim(self.kept.at(sim.0 as usize));
@@ -163,7 +173,8 @@ fn gone_on(sim: &Sim, place: Place, next: Option<i64>) -> Sim
 
 // The simulator after its turn.
 fn ended_sim(sim: &Sim) -> Sim
-    ensures { sim.now.heard < 2 ^ 32 → open_id sim.now.place sim.now.next_id < 2 ^ 32 → result ≡ ended_sim sim.now }
+    ensures { sim.now.heard < 2 ^ 32 → open_id sim.now.place sim.now.next_id < 2 ^ 32
+        → result ≡ ended_sim sim.now }
 {
     Sim {
         place: Place::Idle,

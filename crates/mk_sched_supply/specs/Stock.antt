@@ -26,7 +26,8 @@ taken P c = record { eid = eid_of P c.from; attr = c.from_attr }
 
 -- these are the places, among the wants of s, of what each of these connections takes
 abbrev pub ArePlaces : Plan → ℕ → List Conn → List ℕ → Type 0
-ArePlaces P s cs places = map (λ p. slice_get (wanted P s) p) places ≡ map (λ c. Some (taken P c)) cs
+ArePlaces P s cs places = map (λ p. slice_get (wanted P s) p) places
+    ≡ map (λ c. Some (taken P c)) cs
 
 -- what s is wanted to give, and where the triggering connections find it
 pub record IsFeedOf (P : Plan) (s : ℕ) (f : Feed) : Type 0 where
@@ -39,7 +40,8 @@ pub record IsStockFor (P : Plan) (k : Stock) : Type 0 where
   pub count : length k.feeds.items ≡ sim_count P
   pub feeds : (s : ℕ) (f : Feed) → slice_get k.feeds.items s ≡ Some f → IsFeedOf P s f
 
--- the stock is the plan's, its buffers stand for what acts and open turns have given so far, and nothing is asked before a simulator's mark
+-- the stock is the plan's, its buffers stand for what acts and open turns have given so far, and
+-- nothing is asked before a simulator's mark
 pub record IsStockOf (P : Plan) (V : View) (k : Stock) : Type 0 where
   pub plan : IsStockFor P k
   pub supplied : (S : Supply) × Stands P k.buffers S × SameSupply P S (given_so_far P V)

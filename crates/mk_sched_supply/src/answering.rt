@@ -53,9 +53,18 @@ impl Stock {
         requires low { at.tier ≤ 1000000 }
         requires range { list_all is_in_range args.now ≡ true }
         ensures item { (V : View) (T : OpenTurn) → IsStockOf plan.now V self.old
-            → IfOk result (λ item. item ≡ response plan.now (supply plan.now V.acts) sim.0 at T.place (Ask id name.now args.now named.now)) }
-        ensures stock { (J : List Entry) (T : OpenTurn) (q : Place) → MayCome plan.now J (Got sim (Ask id name.now args.now named.now)) → IsRight plan.now (view plan.now J) sim.0 (Ask id name.now args.now named.now) T (Some q) → T.at ≡ at
-            → IsStockOf plan.now (view plan.now J) self.old → IfOk result (λ item. IsStockOf plan.now (note_sent plan.now (note_right plan.now (view plan.now J) sim.0 (Ask id name.now args.now named.now) T (Some q)) sim.0 item) self.new) }
+            → IfOk result (λ item. item
+            ≡ response plan.now (supply plan.now V.acts) sim.0 at T.place
+            (Ask id name.now args.now named.now)) }
+        ensures stock { (J : List Entry) (T : OpenTurn) (q : Place)
+            → MayCome plan.now J (Got sim (Ask id name.now args.now named.now))
+            → IsRight plan.now (view plan.now J) sim.0 (Ask id name.now args.now named.now) T
+            (Some q) → T.at ≡ at
+            → IsStockOf plan.now (view plan.now J) self.old
+            → IfOk result (λ item.
+            IsStockOf plan.now (note_sent plan.now
+            (note_right plan.now (view plan.now J) sim.0 (Ask id name.now args.now named.now) T
+            (Some q)) sim.0 item) self.new) }
     {
         match judge(plan, &self.names, sim, name, args, named) {
             Ok(asked) => self.answer_judged(plan, at, id, &asked),
@@ -69,14 +78,19 @@ impl Stock {
         requires names { AreNamesOf plan.now self.old.names }
         requires form { IsSome (asked_in asked.now) }
         requires range { is_asked_in_range asked.now ≡ true }
-        requires known { (s : ℕ) × (option_map (knows plan.now s) (asked_in asked.now) ≡ Some true) }
+        requires known { (s : ℕ)
+            × (option_map (knows plan.now s) (asked_in asked.now) ≡ Some true) }
         requires stands { (S : Supply) × Stands plan.now self.old.buffers S }
         requires reached { wants_data asked.now ≡ true → IsUpTo (least_mark self.old.buffers) at }
         requires early { pos 0 ≤ℤ at.time }
         requires late { at.time ≤ℤ pos 1000000000000000000 }
         requires low { at.tier ≤ 1000000 }
-        ensures item { (S : Supply) → Stands plan.now self.old.buffers S → IfOk result (λ item. IsAnswerBy plan.now (value_at S at) asked.now id item) }
-        ensures given { (s : ℕ) (S : Supply) → option_map (knows plan.now s) (asked_in asked.now) ≡ Some true → Stands plan.now self.old.buffers S → IfOk result (λ item. HasGivenOf plan.now at asked.now S self.new.buffers) }
+        ensures item { (S : Supply) → Stands plan.now self.old.buffers S
+            → IfOk result (λ item. IsAnswerBy plan.now (value_at S at) asked.now id item) }
+        ensures given { (s : ℕ) (S : Supply)
+            → option_map (knows plan.now s) (asked_in asked.now) ≡ Some true
+            → Stands plan.now self.old.buffers S
+            → IfOk result (λ item. HasGivenOf plan.now at asked.now S self.new.buffers) }
         ensures rest { HasSameRest self.old self.new }
     {
         let content = self.content_of(plan, at, asked)?;
@@ -90,10 +104,13 @@ impl Stock {
         requires references { RefersInside plan.now }
         requires names { AreNamesOf plan.now self.now.names }
         requires form { IsSome (asked_in asked.now) }
-        requires known { (s : ℕ) × (option_map (knows plan.now s) (asked_in asked.now) ≡ Some true) }
+        requires known { (s : ℕ)
+            × (option_map (knows plan.now s) (asked_in asked.now) ≡ Some true) }
         requires stands { (S : Supply) × Stands plan.now self.now.buffers S }
         requires reached { wants_data asked.now ≡ true → IsUpTo (least_mark self.now.buffers) at }
-        ensures { (S : Supply) → Stands plan.now self.now.buffers S → IfOk result (λ text. option_map (content_text plan.now (value_at S at)) (asked_in asked.now) ≡ Some text) }
+        ensures { (S : Supply) → Stands plan.now self.now.buffers S
+            → IfOk result (λ text.
+            option_map (content_text plan.now (value_at S at)) (asked_in asked.now) ≡ Some text) }
     {
         if let Asked::Get(wants) = asked {
             return data_content(self.alloc, plan, &self.names, &self.buffers, at, wants);
@@ -109,7 +126,9 @@ impl Stock {
         requires early { pos 0 ≤ℤ at.time }
         requires late { at.time ≤ℤ pos 1000000000000000000 }
         requires low { at.tier ≤ 1000000 }
-        ensures given { (P : Plan) (s : ℕ) (S : Supply) → Stands P self.old.buffers S → All (IsGivenBy P s) sets → OnOk result (HasGivenAll P (gifts_in at sets) S self.new.buffers) }
+        ensures given { (P : Plan) (s : ℕ) (S : Supply) → Stands P self.old.buffers S
+            → All (IsGivenBy P s) sets
+            → OnOk result (HasGivenAll P (gifts_in at sets) S self.new.buffers) }
         ensures rest { HasSameRest self.old self.new }
     {
         let next = at.after(Via::Shift(1));

@@ -67,7 +67,8 @@ fn add_conn(plan: &Plan, feeds: &mut Vec<Feed>, place: usize, conn: &Conn) -> Re
 
 // The place of a want among these.
 fn place_of(wants: &[Want], eid: &Text, attr: &Text) -> usize
-    ensures { IsStrictlySortedBy by_names wants.now → IsIn (names_of eid.now attr.now) wants.now → slice_get wants.now result ≡ Some (names_of eid.now attr.now) }
+    ensures { IsStrictlySortedBy by_names wants.now → IsIn (names_of eid.now attr.now) wants.now
+        → slice_get wants.now result ≡ Some (names_of eid.now attr.now) }
 {
     match search(wants, eid, attr) {
         Ok(place) => place,
@@ -78,7 +79,8 @@ fn place_of(wants: &[Want], eid: &Text, attr: &Text) -> usize
 // Where the want stands, or else the place before which it belongs.
 fn search(wants: &[Want], eid: &Text, attr: &Text) -> Result<usize, usize>
     ensures within { IsSearchInRange result (length wants.now) }
-    ensures found { IsBinarySearchResult (λ w. by_names w (names_of eid.now attr.now)) wants.now result }
+    ensures found { IsBinarySearchResult
+        (λ w. by_names w (names_of eid.now attr.now)) wants.now result }
 {
     wants.binary_search_by(|want| order_of(want, eid, attr))
 }

@@ -33,8 +33,10 @@ impl<'a> Outputs<'a> {
 
 // What the data give the wants and triggering connections of a feed.
 pub fn outputs_of<'a>(alloc: Global, feed: &Feed, content: &'a Json) -> Result<Outputs<'a>, Mem>
-    ensures values { IfOk result (λ outs. values_in outs ≡ map (value_for content.now) feed.now.wants) }
-    ensures given { IfOk result (λ outs. outs.given.items ≡ are_given (values_in outs) feed.now.triggers.items) }
+    ensures values { IfOk result (λ outs. values_in outs
+        ≡ map (value_for content.now) feed.now.wants) }
+    ensures given { IfOk result (λ outs. outs.given.items
+        ≡ are_given (values_in outs) feed.now.triggers.items) }
 {
     let values = values_of(alloc, &feed.wants, content)?;
     let given = given_of(alloc, values.as_slice(), feed.triggers.as_slice())?;
@@ -47,7 +49,8 @@ fn values_of<'a>(
     wants: &List<Want>,
     content: &'a Json,
 ) -> Result<Vec<Option<&'a Json>>, Mem>
-    ensures { IfOk result (λ values. map (option_map (λ v. v.now)) values.items ≡ map (value_for content.now) wants.now) }
+    ensures { IfOk result (λ values. map (option_map (λ v. v.now)) values.items
+        ≡ map (value_for content.now) wants.now) }
 {
     let mut values = Vec::with_capacity(alloc, wants.len())?;
     for want in wants.as_slice() {
@@ -58,7 +61,8 @@ fn values_of<'a>(
 
 // Whether there is a value at each of these places.
 fn given_of(alloc: Global, values: &[Option<&Json>], places: &[usize]) -> Result<Vec<bool>, Mem>
-    ensures { IfOk result (λ given. given.items ≡ are_given (map (option_map (λ v. v.now)) values.now) places.now) }
+    ensures { IfOk result (λ given. given.items
+        ≡ are_given (map (option_map (λ v. v.now)) values.now) places.now) }
 {
     let mut given = Vec::with_capacity(alloc, places.len())?;
     for place in places {

@@ -80,7 +80,8 @@ impl Stock {
         previous: Option<Tier>,
         at: Tier,
     ) -> Result<List<Input>, Mem>
-        ensures { (P : Plan) (V : View) → IsStockOf P V self.now → IsReady P V sim.0 at → previous ≡ last_time (V.acts sim.0)
+        ensures { (P : Plan) (V : View) → IsStockOf P V self.now → IsReady P V sim.0 at
+            → previous ≡ last_time (V.acts sim.0)
             → IfOk result (λ ins. ins ≡ inputs P (supply P V.acts) sim.0 previous at) }
     {
         let mut inputs = self.buffers.inputs_at(sim, previous, at)?;
@@ -92,8 +93,10 @@ impl Stock {
     /// plan order whether it is given one. Each value is read once, in the order of the wants; of data that are right each
     /// is one that a simulator may give.
     pub fn outputs<'a>(&self, sim: SimNo, content: &'a Json) -> Result<Outputs<'a>, Mem>
-        ensures outputs { (P : Plan) → IsStockFor P self.now → sim.0 < sim_count P → IfOk result (λ outs. AreOutputsIn P sim.0 content.now outs) }
-        ensures data { (P : Plan) (at : Tier) → IsStockFor P self.now → sim.0 < sim_count P → is_in_range content.now ≡ true → wrong_data (wanted P sim.0) at content.now ≡ None
+        ensures outputs { (P : Plan) → IsStockFor P self.now → sim.0 < sim_count P
+            → IfOk result (λ outs. AreOutputsIn P sim.0 content.now outs) }
+        ensures data { (P : Plan) (at : Tier) → IsStockFor P self.now → sim.0 < sim_count P
+            → is_in_range content.now ≡ true → wrong_data (wanted P sim.0) at content.now ≡ None
             → IfOk result (λ outs. AreData (values_in outs)) }
     {
         match self.feeds.get(sim.0 as usize) {
@@ -109,8 +112,12 @@ impl Stock {
         requires late { made.time ≤ℤ pos 1000000000000000000 }
         requires low { made.tier ≤ 1000000 }
         requires data { AreData (values_in outputs.now) }
-        ensures { (P : Plan) (J : List Entry) (m : Message) (T : OpenTurn) (content : Json) → MayCome P J (Got sim m) → IsRight P (view P J) sim.0 m T None → outputs_in (ended_turn T m) ≡ Some content
-            → made ≡ acts.made (ended_turn T m) → AreOutputsIn P sim.0 content outputs.now → IsStockOf P (view P J) self.old → OnOk result (IsStockOf P (note_right P (view P J) sim.0 m T None) self.new) }
+        ensures { (P : Plan) (J : List Entry) (m : Message) (T : OpenTurn) (content : Json)
+            → MayCome P J (Got sim m) → IsRight P (view P J) sim.0 m T None
+            → outputs_in (ended_turn T m) ≡ Some content
+            → made ≡ acts.made (ended_turn T m) → AreOutputsIn P sim.0 content outputs.now
+            → IsStockOf P (view P J) self.old
+            → OnOk result (IsStockOf P (note_right P (view P J) sim.0 m T None) self.new) }
     {
         for place in 0..outputs.values.len() {
             self.take_output(sim, made, place, outputs.values[place])?;
@@ -130,8 +137,10 @@ impl Stock {
         requires late { made.time ≤ℤ pos 1000000000000000000 }
         requires low { made.tier ≤ 1000000 }
         requires data { IfSome value (λ v. (is_datum v.now ≡ true) × (is_in_range v.now ≡ true)) }
-        ensures given { (P : Plan) (S : Supply) (w : Want) → Stands P self.old.buffers S → sim.0 < sim_count P → slice_get (wanted P sim.0) place ≡ Some w
-            → OnOk result (HasGiven P sim.0 made w (option_map (λ v. v.now) value.entry) S self.new.buffers) }
+        ensures given { (P : Plan) (S : Supply) (w : Want) → Stands P self.old.buffers S
+            → sim.0 < sim_count P → slice_get (wanted P sim.0) place ≡ Some w
+            → OnOk result (HasGiven P sim.0 made w
+            (option_map (λ v. v.now) value.entry) S self.new.buffers) }
         ensures rest { HasSameRest self.old self.new }
     {
         if let Some(value) = value {
@@ -145,8 +154,10 @@ impl Stock {
 
     /// Tells that nothing is asked of the simulator before `at`; takes no memory.
     pub fn forget_before(&mut self, sim: SimNo, at: Tier)
-        ensures stock { (P : Plan) (V : View) → IsStockOf P V self.old → sim.0 < sim_count P → IsMarkOf P V sim.0 at → IsStockOf P V self.new }
-        ensures marks { (P : Plan) (V : View) → IsStockOf P V self.old → sim.0 < sim_count P → HasRaised sim.0 at self.old.buffers self.new.buffers }
+        ensures stock { (P : Plan) (V : View) → IsStockOf P V self.old → sim.0 < sim_count P
+            → IsMarkOf P V sim.0 at → IsStockOf P V self.new }
+        ensures marks { (P : Plan) (V : View) → IsStockOf P V self.old → sim.0 < sim_count P
+            → HasRaised sim.0 at self.old.buffers self.new.buffers }
     {
         self.buffers.forget_before(sim, at);
     }
@@ -156,7 +167,8 @@ impl Stock {
     /// later than the least mark.
     pub fn kept(&self) -> usize
         ensures count { result ≡ min (outputs_held self.now.buffers) 18446744073709551615 }
-        ensures few { (P : Plan) (V : View) → IsStockOf P V self.now → result ≤ most_kept P (supply P V.acts) (least_mark self.now.buffers) }
+        ensures few { (P : Plan) (V : View) → IsStockOf P V self.now
+            → result ≤ most_kept P (supply P V.acts) (least_mark self.now.buffers) }
     {
         self.buffers.kept()
     }

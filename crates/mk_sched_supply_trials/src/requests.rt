@@ -78,7 +78,8 @@ fn judged<'a>(
     requires references { RefersInside plan.now }
     requires names { AreNamesOf plan.now names.now }
     ensures form { IfOk result (λ asked. IsSome (asked_in asked)) }
-    ensures range { list_all is_in_range args.now ≡ true → IfOk result (λ asked. is_asked_in_range asked ≡ true) }
+    ensures range { list_all is_in_range args.now ≡ true
+        → IfOk result (λ asked. is_asked_in_range asked ≡ true) }
 {
     judge(plan, names, SimNo(1), name, args, named)
 }

@@ -16,8 +16,10 @@ use Rattle.mk_setup.specs.Replies.{after_reply}
 use Rattle.mk_setup.specs.Requests.{id_before, request_of}
 use Rattle.mk_setup.specs.Seen.{SetupState}
 
--- the next request, which passes its test, is made: it is this call of this simulator, and its id is how many went there before
-pub record IsRequested (U : SetupState) (sim : SimNo) (call : Call) (id : ℕ) (V : SetupState) : Type 0 where
+-- the next request, which passes its test, is made: it is this call of this simulator, and its id
+-- is how many went there before
+pub record IsRequested (U : SetupState) (sim : SimNo) (call : Call) (id : ℕ)
+    (V : SetupState) : Type 0 where
   pub going : U.fault ≡ None
   pub resting : U.asked ≡ false
   pub request : request_of U ≡ Some (record { sim = sim.0; call = call })
@@ -54,7 +56,8 @@ NextOf U (Ready P) V = IsReady U P V
 abbrev pub IsUnchanged : SetupState → SetupFault → SetupState → Type 0
 IsUnchanged U e V = (e ≡ Mem) × (V ≡ U)
 
--- the fault that stands in the way, no request being outstanding, or that was met before; it is answered from now on
+-- the fault that stands in the way, no request being outstanding, or that was met before; it is
+-- answered from now on
 pub record IsStopped (U : SetupState) (e : SetupFault) (V : SetupState) : Type 0 where
   pub resting : U.fault ≡ None → U.asked ≡ false
   pub fault : fault_before U ≡ Some e

@@ -21,7 +21,8 @@ abbrev pub refusal : Result Plan ConnectFault → Option ConnectFault
 refusal (Ok P) = None
 refusal (Err e) = Some e
 
--- the first test that fails before a call: a group's before its `create`, the connections' before a `setup_done`
+-- the first test that fails before a call: a group's before its `create`, the connections' before a
+-- `setup_done`
 abbrev pub call_fault : SetupState → Request → Call → Option ConnectFault
 call_fault U r (Init id params) = None
 call_fault U r (Create num model params) = fault_of_group U.scenario (group_of U) (meta_of U r.sim)

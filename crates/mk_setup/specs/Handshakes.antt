@@ -13,10 +13,19 @@ use Rattle.mk_setup.specs.Seen.{SetupState}
 
 -- before any request
 abbrev pub begun : Scenario → List ℕ → SetupState
-begun S ranks = record { scenario = S; ranks = ranks; metas = []; entities = []; answered = 0; asked = false; fault = None }
+begun S ranks = record {
+  scenario = S;
+  ranks = ranks;
+  metas = [];
+  entities = [];
+  answered = 0;
+  asked = false;
+  fault = None;
+}
 
 -- what follows a state, and the fault where there is one
-abbrev pub passed : Result SetupState SetupFault → (SetupState → Result SetupState SetupFault) → Result SetupState SetupFault
+abbrev pub passed : Result SetupState SetupFault → (SetupState → Result SetupState SetupFault)
+    → Result SetupState SetupFault
 passed (Ok U) next = next U
 passed (Err fault) next = Err fault
 
@@ -42,7 +51,8 @@ asked_after S ranks answers = passed (reached S ranks answers) after_asking
 
 -- the replies lead to this state, or so does the request that is made after them
 abbrev pub IsReached : Scenario → List ℕ → List Message → SetupState → Type 0
-IsReached S ranks answers U = (reached S ranks answers ≡ Ok U) ⊎ (asked_after S ranks answers ≡ Ok U)
+IsReached S ranks answers U = (reached S ranks answers ≡ Ok U)
+    ⊎ (asked_after S ranks answers ≡ Ok U)
 
 -- these are the replies to all requests, and this is the plan of what they leave
 pub record IsMade (S : Scenario) (ranks : List ℕ) (answers : List Message) (P : Plan) : Type 0 where
@@ -52,13 +62,15 @@ pub record IsMade (S : Scenario) (ranks : List ℕ) (answers : List Message) (P 
   pub plan : plan_of state ≡ Ok P
 
 -- after these replies the next request can't be made, or no plan
-pub record IsStuckAfter (S : Scenario) (ranks : List ℕ) (answers : List Message) (fault : SetupFault) : Type 0 where
+pub record IsStuckAfter (S : Scenario) (ranks : List ℕ) (answers : List Message)
+    (fault : SetupFault) : Type 0 where
   pub state : SetupState
   pub reached : reached S ranks answers ≡ Ok state
   pub why : after_asking state ≡ Err fault
 
 -- after these replies the next request was made, and the message that came makes the fault
-pub record IsRefusedAfter (S : Scenario) (ranks : List ℕ) (answers : List Message) (a : Arrival) (fault : SetupFault) : Type 0 where
+pub record IsRefusedAfter (S : Scenario) (ranks : List ℕ) (answers : List Message) (a : Arrival)
+    (fault : SetupFault) : Type 0 where
   pub state : SetupState
   pub asked : asked_after S ranks answers ≡ Ok state
   pub why : after_reply state a ≡ Err fault

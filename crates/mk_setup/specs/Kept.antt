@@ -6,4 +6,12 @@ use Rattle.mk_setup.specs.Seen.{SetupState}
 
 -- the state of what is kept, with the fault that was met
 abbrev pub state_of : Progress → Option SetupFault → SetupState
-state_of p fault = record { scenario = p.scenario; ranks = p.ranks; metas = p.metas; entities = p.entities; answered = p.answered; asked = p.asked; fault = fault }
+state_of p fault = record {
+  scenario = p.scenario;
+  ranks = p.ranks;
+  metas = p.metas;
+  entities = p.entities;
+  answered = p.answered;
+  asked = p.asked;
+  fault = fault;
+}

@@ -20,7 +20,8 @@ use Rattle.mk_setup.specs.Requests.{id_before, request_of}
 use Rattle.mk_setup.specs.Seen.{SetupState}
 
 -- what is sure of a state that these replies lead to
-pub record IsOfReplies (S : Scenario) (ranks : List ℕ) (answers : List Message) (U : SetupState) : Type 0 where
+pub record IsOfReplies (S : Scenario) (ranks : List ℕ) (answers : List Message)
+    (U : SetupState) : Type 0 where
   pub scenario : U.scenario ≡ S
   pub ranked : U.ranks ≡ ranks
   pub going : U.fault ≡ None
@@ -42,16 +43,31 @@ pub record IsKindSaid (answers : List Message) (P : Plan) (sim : ℕ) : Type 0 w
   pub read : meta_in content ≡ Ok meta
   pub kind : kind_of P sim ≡ meta.kind
 
--- from the beginning on: a request that is made, and a message that is taken, lead to what the replies make; the plan at the end, and each fault, are theirs
+-- from the beginning on: a request that is made, and a message that is taken, lead to what the
+-- replies make; the plan at the end, and each fault, are theirs
 pub record RepliesMake : Type 0 where
   pub begins : (S : Scenario) (ranks : List ℕ) → IsReached S ranks [] (begun S ranks)
-  pub asks : (S : Scenario) (ranks : List ℕ) (answers : List Message) (U V : SetupState) (sim : SimNo) (call : Call) (id : ℕ) → IsReached S ranks answers U → IsRequested U sim call id V → IsReached S ranks answers V
-  pub takes : (S : Scenario) (ranks : List ℕ) (answers : List Message) (U V : SetupState) (a : Arrival) → IsReached S ranks answers U → after_reply U a ≡ Ok V → IsReached S ranks (answers ++ a.message ∷ []) V
-  pub comes : (U V : SetupState) (a : Arrival) → after_reply U a ≡ Ok V → (call : Call) × (request_of U ≡ Some (record { sim = a.sim; call = call })) × (U.asked ≡ true)
+  pub asks : (S : Scenario) (ranks : List ℕ) (answers : List Message) (U V : SetupState)
+      (sim : SimNo) (call : Call) (id : ℕ) → IsReached S ranks answers U
+      → IsRequested U sim call id V → IsReached S ranks answers V
+  pub takes : (S : Scenario) (ranks : List ℕ) (answers : List Message) (U V : SetupState)
+      (a : Arrival) → IsReached S ranks answers U → after_reply U a ≡ Ok V
+      → IsReached S ranks (answers ++ a.message ∷ []) V
+  pub comes : (U V : SetupState) (a : Arrival) → after_reply U a ≡ Ok V → (call : Call)
+      × (request_of U ≡ Some (record { sim = a.sim; call = call })) × (U.asked ≡ true)
   pub rests : (U V : SetupState) (a : Arrival) → after_reply U a ≡ Ok V → V.asked ≡ false
-  pub makes : (S : Scenario) (ranks : List ℕ) (answers : List Message) (U V : SetupState) (P : Plan) → IsReached S ranks answers U → IsReady U P V → IsMade S ranks answers P
-  pub stops : (S : Scenario) (ranks : List ℕ) (answers : List Message) (U V : SetupState) (e : SetupFault) → IsReached S ranks answers U → IsStopped U e V → IsFaultyAfter S ranks answers None e
-  pub refuses : (S : Scenario) (ranks : List ℕ) (answers : List Message) (U : SetupState) (a : Arrival) (e : SetupFault) → IsReached S ranks answers U → U.asked ≡ true → after_reply U a ≡ Err e → IsFaultyAfter S ranks answers (Some a) e
-  pub stands : (S : Scenario) (ranks : List ℕ) (answers : List Message) (U : SetupState) → IsReached S ranks answers U → IsOfReplies S ranks answers U
-  pub replies : (S : Scenario) (ranks : List ℕ) (answers : List Message) (U : SetupState) → IsReached S ranks answers U → (k : ℕ) (message : Message) → slice_get answers k ≡ Some message → IsReplyTo S k message
-  pub kinds : (S : Scenario) (ranks : List ℕ) (answers : List Message) (P : Plan) → IsMade S ranks answers P → (i : ℕ) → i < length S.sims → IsKindSaid answers P i
+  pub makes : (S : Scenario) (ranks : List ℕ) (answers : List Message) (U V : SetupState) (P : Plan)
+      → IsReached S ranks answers U → IsReady U P V → IsMade S ranks answers P
+  pub stops : (S : Scenario) (ranks : List ℕ) (answers : List Message) (U V : SetupState)
+      (e : SetupFault) → IsReached S ranks answers U → IsStopped U e V
+      → IsFaultyAfter S ranks answers None e
+  pub refuses : (S : Scenario) (ranks : List ℕ) (answers : List Message) (U : SetupState)
+      (a : Arrival) (e : SetupFault) → IsReached S ranks answers U → U.asked ≡ true
+      → after_reply U a ≡ Err e → IsFaultyAfter S ranks answers (Some a) e
+  pub stands : (S : Scenario) (ranks : List ℕ) (answers : List Message) (U : SetupState)
+      → IsReached S ranks answers U → IsOfReplies S ranks answers U
+  pub replies : (S : Scenario) (ranks : List ℕ) (answers : List Message) (U : SetupState)
+      → IsReached S ranks answers U → (k : ℕ) (message : Message)
+      → slice_get answers k ≡ Some message → IsReplyTo S k message
+  pub kinds : (S : Scenario) (ranks : List ℕ) (answers : List Message) (P : Plan)
+      → IsMade S ranks answers P → (i : ℕ) → i < length S.sims → IsKindSaid answers P i

@@ -6,7 +6,8 @@ use Rattle.mk_cycles.specs.Outcomes.{IsEachOnce, IsRising}
 use Rattle.mk_scenario.specs.declared.parts.Scenario.{Scenario}
 use Rattle.mk_connect.specs.Edges.{edges_of}
 
--- the ranks are those of the scenario's edges: each number is the rank of one simulator, and ranks rise along edges
+-- the ranks are those of the scenario's edges: each number is the rank of one simulator, and ranks
+-- rise along edges
 pub record AreRanksOf (S : Scenario) (ranks : List ℕ) : Type 0 where
   pub ranking : IsRanking (has_edge (edges_of S)) (length S.sims) ranks
   pub each_once : IsEachOnce (length S.sims) ranks

@@ -33,14 +33,16 @@ with_meta U sim (Ok meta) = Ok (record (moved U) { metas = U.metas ++ meta ∷ [
 with_meta U sim (Err e) = Err (fault.Meta sim e)
 
 -- the group's entities are there
-abbrev pub with_entities : SetupState → SimNo → Result (List EntityInfo) CreateFault → Result SetupState SetupFault
+abbrev pub with_entities : SetupState → SimNo → Result (List EntityInfo) CreateFault
+    → Result SetupState SetupFault
 with_entities U sim (Ok entities) = Ok (record (moved U) { entities = entities })
 with_entities U sim (Err e) = Err (fault.Create sim e)
 
 -- what the content of a success reply to a call of a simulator adds
 abbrev pub with_reply : SetupState → SimNo → Call → Json → Result SetupState SetupFault
 with_reply U sim (Init id params) content = with_meta U sim (meta_in content)
-with_reply U sim (Create num model params) content = with_entities U sim (entities_added U.entities sim (group_of U) num model (meta_of U sim.0) content)
+with_reply U sim (Create num model params) content = with_entities U sim
+    (entities_added U.entities sim (group_of U) num model (meta_of U sim.0) content)
 with_reply U sim SetupDone content = Ok (moved U)
 with_reply U sim Stop content = Ok (moved U)
 
@@ -51,8 +53,10 @@ is_reply U r sim id = (sim == r.sim) && (id == id_before U.scenario U.answered r
 -- what a message of a simulator adds where this request is outstanding
 abbrev pub after_message : SetupState → Request → SimNo → Message → Result SetupState SetupFault
 after_message U r sim (Ask id name args named) = Err (fault.Unasked sim)
-after_message U r sim (Success id content) = if is_reply U r sim.0 id then with_reply U sim r.call content else Err (fault.Unasked sim)
-after_message U r sim (Failure id text) = Err (if is_reply U r sim.0 id then fault.Failed sim text else fault.Unasked sim)
+after_message U r sim (Success id content) = if is_reply U r sim.0 id
+    then with_reply U sim r.call content else Err (fault.Unasked sim)
+after_message U r sim (Failure id text) = Err (if is_reply U r sim.0 id then fault.Failed sim text
+    else fault.Unasked sim)
 
 -- the request that was made and isn't answered
 abbrev pub outstanding : SetupState → Option Request
@@ -63,10 +67,12 @@ after_any U None sim message = Err (fault.Unasked sim)
 after_any U (Some r) sim message = after_message U r sim message
 
 -- what follows unless there was a fault before
-abbrev pub unless_faulty : Option SetupFault → Result SetupState SetupFault → Result SetupState SetupFault
+abbrev pub unless_faulty : Option SetupFault → Result SetupState SetupFault
+    → Result SetupState SetupFault
 unless_faulty None next = next
 unless_faulty (Some f) next = Err f
 
 -- the state after a message, or the fault that it makes
 abbrev pub after_reply : SetupState → Arrival → Result SetupState SetupFault
-after_reply U a = unless_faulty U.fault (after_any U (outstanding U) (record { 0 = a.sim }) a.message)
+after_reply U a = unless_faulty U.fault
+    (after_any U (outstanding U) (record { 0 = a.sim }) a.message)

@@ -19,7 +19,8 @@ first_ids S = map (setup_count S) (range_with_len 0 (length S.sims))
 abbrev pub request_of : SetupState → Option Request
 request_of U = slice_get (setup_requests U.scenario) U.answered
 
--- the group whose `create` that request is: the requests before the groups' are one for each simulator
+-- the group whose `create` that request is: the requests before the groups' are one for each
+-- simulator
 abbrev pub group_of : SetupState → ℕ
 group_of U = U.answered - length U.scenario.sims
 

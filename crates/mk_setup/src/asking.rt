@@ -21,8 +21,10 @@ use mk_plan::Call;
 pub fn go_on(progress: &mut Progress) -> Result<SetupNext, SetupFault>
     requires { IsKept progress.old }
     ensures kept { IsKept progress.new }
-    ensures ok { IfOk result (λ next. NextOf (state_of progress.old None) next (state_of progress.new None)) }
-    ensures hindered { IfErr result (λ e. IsHindered (state_of progress.old None) e (state_of progress.new None)) }
+    ensures ok { IfOk result
+        (λ next. NextOf (state_of progress.old None) next (state_of progress.new None)) }
+    ensures hindered { IfErr result
+        (λ e. IsHindered (state_of progress.old None) e (state_of progress.new None)) }
 {
     if progress.asked {
         return Ok(SetupNext::Wait);
@@ -40,8 +42,10 @@ fn ask(progress: &mut Progress, sim: SimNo, call: Call) -> SetupNext
     requires kept { IsKept progress.old }
     requires resting { progress.old.asked ≡ false }
     requires there { sim.0 < length progress.old.scenario.sims }
-    requires request { request_of (state_of progress.old None) ≡ Some (record { sim = sim.0; call = call }) }
-    requires tested { test_before (state_of progress.old None) (request_of (state_of progress.old None)) ≡ None }
+    requires request { request_of (state_of progress.old None)
+        ≡ Some (record { sim = sim.0; call = call }) }
+    requires tested { test_before (state_of progress.old None)
+        (request_of (state_of progress.old None)) ≡ None }
     ensures kept { IsKept progress.new }
     ensures asked { NextOf (state_of progress.old None) result (state_of progress.new None) }
 {
@@ -56,8 +60,10 @@ fn ask_init(progress: &mut Progress, sim: u32) -> Result<SetupNext, SetupFault>
     requires stage { progress.old.answered ≡ sim }
     requires there { sim < length progress.old.scenario.sims }
     ensures kept { IsKept progress.new }
-    ensures ok { IfOk result (λ next. NextOf (state_of progress.old None) next (state_of progress.new None)) }
-    ensures hindered { IfErr result (λ e. IsHindered (state_of progress.old None) e (state_of progress.new None)) }
+    ensures ok { IfOk result
+        (λ next. NextOf (state_of progress.old None) next (state_of progress.new None)) }
+    ensures hindered { IfErr result
+        (λ e. IsHindered (state_of progress.old None) e (state_of progress.new None)) }
 {
     let part = progress.scenario.sims.at(sim as usize);
     let call = init_call(progress.alloc, part)?;
@@ -70,8 +76,10 @@ fn ask_create(progress: &mut Progress, group: u32) -> Result<SetupNext, SetupFau
     requires stage { progress.old.answered ≡ length progress.old.scenario.sims + group }
     requires there { group < length progress.old.scenario.groups }
     ensures kept { IsKept progress.new }
-    ensures ok { IfOk result (λ next. NextOf (state_of progress.old None) next (state_of progress.new None)) }
-    ensures hindered { IfErr result (λ e. IsHindered (state_of progress.old None) e (state_of progress.new None)) }
+    ensures ok { IfOk result
+        (λ next. NextOf (state_of progress.old None) next (state_of progress.new None)) }
+    ensures hindered { IfErr result
+        (λ e. IsHindered (state_of progress.old None) e (state_of progress.new None)) }
 {
     if let Err(fault) = test_group(progress, group) {
         return Err(connect_fault(fault));
@@ -87,8 +95,12 @@ fn test_group(progress: &Progress, group: u32) -> Result<(), ConnectFault>
     requires kept { IsKept progress.now }
     requires stage { progress.now.answered ≡ length progress.now.scenario.sims + group }
     requires there { group < length progress.now.scenario.groups }
-    ensures ok { OnOk result (test_before (state_of progress.now None) (request_of (state_of progress.now None)) ≡ None) }
-    ensures refused { IfErr result (λ e. (e ≡ ConnectFault.Mem) ⊎ (test_before (state_of progress.now None) (request_of (state_of progress.now None)) ≡ Some e)) }
+    ensures ok { OnOk result
+        (test_before (state_of progress.now None) (request_of (state_of progress.now None))
+        ≡ None) }
+    ensures refused { IfErr result (λ e. (e ≡ ConnectFault.Mem)
+        ⊎ (test_before (state_of progress.now None) (request_of (state_of progress.now None))
+        ≡ Some e)) }
 {
     let part = progress.scenario.groups.at(group as usize);
     let meta = progress.metas.at(part.sim.0 as usize);
@@ -98,11 +110,14 @@ fn test_group(progress: &Progress, group: u32) -> Result<(), ConnectFault>
 fn ask_done(progress: &mut Progress, sim: u32) -> Result<SetupNext, SetupFault>
     requires kept { IsKept progress.old }
     requires resting { progress.old.asked ≡ false }
-    requires stage { progress.old.answered ≡ length progress.old.scenario.sims + length progress.old.scenario.groups + sim }
+    requires stage { progress.old.answered
+        ≡ length progress.old.scenario.sims + length progress.old.scenario.groups + sim }
     requires there { sim < length progress.old.scenario.sims }
     ensures kept { IsKept progress.new }
-    ensures ok { IfOk result (λ next. NextOf (state_of progress.old None) next (state_of progress.new None)) }
-    ensures hindered { IfErr result (λ e. IsHindered (state_of progress.old None) e (state_of progress.new None)) }
+    ensures ok { IfOk result
+        (λ next. NextOf (state_of progress.old None) next (state_of progress.new None)) }
+    ensures hindered { IfErr result
+        (λ e. IsHindered (state_of progress.old None) e (state_of progress.new None)) }
 {
     match make_plan(progress) {
         Ok(()) => Ok(ask(progress, SimNo(sim), Call::SetupDone)),
@@ -113,10 +128,14 @@ fn ask_done(progress: &mut Progress, sim: u32) -> Result<SetupNext, SetupFault>
 fn finish(progress: &mut Progress) -> Result<SetupNext, SetupFault>
     requires kept { IsKept progress.old }
     requires resting { progress.old.asked ≡ false }
-    requires stage { progress.old.answered ≡ length progress.old.scenario.sims + length progress.old.scenario.groups + length progress.old.scenario.sims }
+    requires stage { progress.old.answered
+        ≡ length progress.old.scenario.sims + length progress.old.scenario.groups + length
+        progress.old.scenario.sims }
     ensures kept { IsKept progress.new }
-    ensures ok { IfOk result (λ next. NextOf (state_of progress.old None) next (state_of progress.new None)) }
-    ensures hindered { IfErr result (λ e. IsHindered (state_of progress.old None) e (state_of progress.new None)) }
+    ensures ok { IfOk result
+        (λ next. NextOf (state_of progress.old None) next (state_of progress.new None)) }
+    ensures hindered { IfErr result
+        (λ e. IsHindered (state_of progress.old None) e (state_of progress.new None)) }
 {
     match take_plan(progress) {
         Ok(plan) => Ok(SetupNext::Ready(plan)),

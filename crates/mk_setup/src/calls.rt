@@ -16,7 +16,8 @@ pub fn init_call(alloc: Global, part: &SimPart) -> Result<Call, Mem>
 }
 
 pub fn create_call(alloc: Global, group: &Group) -> Result<Call, Mem>
-    ensures { IfOk result (λ call. call ≡ Call.Create group.now.num group.now.model group.now.params) }
+    ensures { IfOk result (λ call. call
+        ≡ Call.Create group.now.num group.now.model group.now.params) }
 {
     Ok(Call::Create {
         num: group.num,

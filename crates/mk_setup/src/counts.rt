@@ -22,7 +22,8 @@ pub fn equal_counts(alloc: Global, sims: usize, count: u64) -> Result<List<u64>,
 pub fn count_one(counts: &mut List<u64>, sim: usize)
     requires there { sim < length counts.old }
     requires few { (n : ℕ) → slice_get counts.old sim ≡ Some n → n < 2 ^ 32 }
-    ensures { (n : ℕ) → slice_get counts.old sim ≡ Some n → counts.new ≡ slice_set counts.old sim (n + 1) }
+    ensures { (n : ℕ) → slice_get counts.old sim ≡ Some n
+        → counts.new ≡ slice_set counts.old sim (n + 1) }
 {
     let next = *counts.at(sim) + 1;
     counts.set(sim, next);

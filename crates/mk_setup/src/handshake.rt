@@ -92,7 +92,8 @@ impl Setup {
     /// of memory each call answers that fault or want of memory; after want of memory nothing has changed.
     pub fn arrive(&mut self, sim: SimNo, message: &Message) -> Result<(), SetupFault>
         ensures ok { OnOk result (after_reply self.old (arrival sim message.now) ≡ Ok self.new) }
-        ensures refused { IfErr result (λ e. IsRefused self.old (arrival sim message.now) e self.new) }
+        ensures refused { IfErr result
+            (λ e. IsRefused self.old (arrival sim message.now) e self.new) }
     {
         if let Some(fault) = &self.fault {
             return Err(repeated(fault));

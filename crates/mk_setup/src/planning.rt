@@ -13,7 +13,8 @@ use mk_plan::Plan;
 
 fn plan_of(progress: &Progress) -> Result<Plan, ConnectFault>
     requires kept { IsKept progress.now }
-    requires created { length progress.now.scenario.sims + length progress.now.scenario.groups ≤ progress.now.answered }
+    requires created { length progress.now.scenario.sims + length progress.now.scenario.groups ≤
+        progress.now.answered }
     ensures ok { IfOk result (λ P. IsPlanOf (state_of progress.now None) P) }
     ensures refused { IfErr result (λ e. IsFaultOf (plan_of (state_of progress.now None)) e) }
 {
@@ -31,7 +32,8 @@ fn plan_of(progress: &Progress) -> Result<Plan, ConnectFault>
 // Makes the plan, unless it is there.
 pub fn make_plan(progress: &mut Progress) -> Result<(), ConnectFault>
     requires kept { IsKept progress.old }
-    requires created { length progress.old.scenario.sims + length progress.old.scenario.groups ≤ progress.old.answered }
+    requires created { length progress.old.scenario.sims + length progress.old.scenario.groups ≤
+        progress.old.answered }
     ensures kept { IsKept progress.new }
     ensures same { state_of progress.new None ≡ state_of progress.old None }
     ensures ok { OnOk result (refusal (plan_of (state_of progress.old None)) ≡ None) }
@@ -48,7 +50,8 @@ pub fn make_plan(progress: &mut Progress) -> Result<(), ConnectFault>
 // Gives the plan away.
 pub fn take_plan(progress: &mut Progress) -> Result<Plan, ConnectFault>
     requires kept { IsKept progress.old }
-    requires created { length progress.old.scenario.sims + length progress.old.scenario.groups ≤ progress.old.answered }
+    requires created { length progress.old.scenario.sims + length progress.old.scenario.groups ≤
+        progress.old.answered }
     ensures kept { IsKept progress.new }
     ensures same { state_of progress.new None ≡ state_of progress.old None }
     ensures ok { IfOk result (λ P. IsPlanOf (state_of progress.old None) P) }

@@ -32,7 +32,8 @@ pub struct Progress {
 // The stage of the next request, or of the one that is outstanding.
 pub fn stage(progress: &Progress) -> Stage
     requires { IsWellformed progress.now.scenario }
-    ensures { IsStage (length progress.now.scenario.sims) (length progress.now.scenario.groups) progress.now.answered result }
+    ensures { IsStage (length progress.now.scenario.sims)
+        (length progress.now.scenario.groups) progress.now.answered result }
 {
     stage_of(
         progress.scenario.sims.len(),
@@ -45,7 +46,12 @@ pub fn stage(progress: &Progress) -> Stage
 pub fn note_reply(progress: &mut Progress, sim: SimNo)
     requires counted { IsCounted progress.old.scenario progress.old.answered progress.old.ids }
     requires next { IsToSim progress.old.scenario progress.old.answered sim.0 }
-    ensures moved { progress.new ≡ record progress.old { ids = progress.new.ids; answered = progress.old.answered + 1; asked = false } }
+    ensures moved { progress.new
+        ≡ record progress.old {
+          ids = progress.new.ids;
+          answered = progress.old.answered + 1;
+          asked = false;
+        } }
     ensures counted { IsCounted progress.old.scenario (progress.old.answered + 1) progress.new.ids }
 {
     count_one(&mut progress.ids, sim.0 as usize);

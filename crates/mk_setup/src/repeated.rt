@@ -87,7 +87,8 @@ pub fn repeated(fault: &SetupFault) -> SetupFault
 // Keeps a copy of a fault other than want of memory, and gives the fault; or want of memory.
 pub fn keep(kept: &mut Option<SetupFault>, fault: SetupFault) -> SetupFault
     requires { kept.old ≡ None }
-    ensures { ((result ≡ SetupFault.Mem) × (kept.new ≡ None)) ⊎ ((result ≡ fault) × (kept.new ≡ Some fault) × (fault ≢ SetupFault.Mem)) }
+    ensures { ((result ≡ SetupFault.Mem) × (kept.new ≡ None))
+        ⊎ ((result ≡ fault) × (kept.new ≡ Some fault) × (fault ≢ SetupFault.Mem)) }
 {
     match copy_fault(&fault) {
         Err(Mem) | Ok(SetupFault::Mem) => SetupFault::Mem,
@@ -100,7 +101,8 @@ pub fn keep(kept: &mut Option<SetupFault>, fault: SetupFault) -> SetupFault
 
 // Why a reply to `init` isn't taken.
 pub fn meta_fault(sim: SimNo, fault: MetaFault) -> SetupFault
-    ensures { (result ≡ SetupFault.Mem) ⊎ ((result ≡ SetupFault.Meta sim fault) × (fault ≢ MetaFault.Mem)) }
+    ensures { (result ≡ SetupFault.Mem)
+        ⊎ ((result ≡ SetupFault.Meta sim fault) × (fault ≢ MetaFault.Mem)) }
 {
     match fault {
         MetaFault::Mem => SetupFault::Mem,
@@ -110,7 +112,8 @@ pub fn meta_fault(sim: SimNo, fault: MetaFault) -> SetupFault
 
 // Why a reply to `create` isn't taken.
 pub fn create_fault(sim: SimNo, fault: CreateFault) -> SetupFault
-    ensures { (result ≡ SetupFault.Mem) ⊎ ((result ≡ SetupFault.Create sim fault) × (fault ≢ CreateFault.Mem)) }
+    ensures { (result ≡ SetupFault.Mem)
+        ⊎ ((result ≡ SetupFault.Create sim fault) × (fault ≢ CreateFault.Mem)) }
 {
     match fault {
         CreateFault::Mem => SetupFault::Mem,
@@ -120,7 +123,8 @@ pub fn create_fault(sim: SimNo, fault: CreateFault) -> SetupFault
 
 // Why a request isn't made.
 pub fn connect_fault(fault: ConnectFault) -> SetupFault
-    ensures { (result ≡ SetupFault.Mem) ⊎ ((result ≡ SetupFault.Connect fault) × (fault ≢ ConnectFault.Mem)) }
+    ensures { (result ≡ SetupFault.Mem)
+        ⊎ ((result ≡ SetupFault.Connect fault) × (fault ≢ ConnectFault.Mem)) }
 {
     match fault {
         ConnectFault::Mem => SetupFault::Mem,

@@ -20,8 +20,11 @@ use mk_plan::Message;
 pub fn take(progress: &mut Progress, sim: SimNo, message: &Message) -> Result<(), SetupFault>
     requires { IsKept progress.old }
     ensures kept { IsKept progress.new }
-    ensures ok { OnOk result (after_reply (state_of progress.old None) (arrival sim message.now) ≡ Ok (state_of progress.new None)) }
-    ensures untaken { IfErr result (λ e. IsUntaken (after_reply (state_of progress.old None) (arrival sim message.now)) (state_of progress.old None) e (state_of progress.new None)) }
+    ensures ok { OnOk result (after_reply (state_of progress.old None) (arrival sim message.now)
+        ≡ Ok (state_of progress.new None)) }
+    ensures untaken { IfErr result
+        (λ e. IsUntaken (after_reply (state_of progress.old None) (arrival sim message.now))
+        (state_of progress.old None) e (state_of progress.new None)) }
 {
     match message {
         Message::Ask { .. } => Err(SetupFault::Unasked(sim)),
@@ -88,9 +91,12 @@ fn take_content(progress: &mut Progress, sim: SimNo, content: &Json) -> Result<(
     requires next { IsToSim progress.old.scenario progress.old.answered sim.0 }
     ensures kept { IsKept progress.new }
     ensures ok { OnOk result ((r : Request) → IsAwaitedBy (state_of progress.old None) sim.0 r
-        → with_reply (state_of progress.old None) sim r.call content.now ≡ Ok (state_of progress.new None)) }
-    ensures untaken { IfErr result (λ e. (r : Request) → IsAwaitedBy (state_of progress.old None) sim.0 r
-        → IsUntaken (with_reply (state_of progress.old None) sim r.call content.now) (state_of progress.old None) e (state_of progress.new None)) }
+        → with_reply (state_of progress.old None) sim r.call content.now
+        ≡ Ok (state_of progress.new None)) }
+    ensures untaken { IfErr result (λ e. (r : Request)
+        → IsAwaitedBy (state_of progress.old None) sim.0 r
+        → IsUntaken (with_reply (state_of progress.old None) sim r.call content.now)
+        (state_of progress.old None) e (state_of progress.new None)) }
 {
     match stage(progress) {
         Stage::Init(_) => take_meta(progress, sim, content),
@@ -113,8 +119,11 @@ fn take_meta(progress: &mut Progress, sim: SimNo, content: &Json) -> Result<(), 
     requires stage { progress.old.answered ≡ sim.0 }
     requires there { sim.0 < length progress.old.scenario.sims }
     ensures kept { IsKept progress.new }
-    ensures ok { OnOk result (with_meta (state_of progress.old None) sim (meta_in content.now) ≡ Ok (state_of progress.new None)) }
-    ensures untaken { IfErr result (λ e. IsUntaken (with_meta (state_of progress.old None) sim (meta_in content.now)) (state_of progress.old None) e (state_of progress.new None)) }
+    ensures ok { OnOk result (with_meta (state_of progress.old None) sim (meta_in content.now)
+        ≡ Ok (state_of progress.new None)) }
+    ensures untaken { IfErr result
+        (λ e. IsUntaken (with_meta (state_of progress.old None) sim (meta_in content.now))
+        (state_of progress.old None) e (state_of progress.new None)) }
 {
     match read_meta(progress.alloc, content) {
         Ok(meta) => {
@@ -139,9 +148,14 @@ fn take_entities(
     requires there { IsGroupOf progress.old.scenario group sim.0 }
     ensures kept { IsKept progress.new }
     ensures ok { OnOk result ((g : Group) → slice_get progress.old.scenario.groups group ≡ Some g
-        → with_entities (state_of progress.old None) sim (added_by (state_of progress.old None) sim group g content.now) ≡ Ok (state_of progress.new None)) }
-    ensures untaken { IfErr result (λ e. (g : Group) → slice_get progress.old.scenario.groups group ≡ Some g
-        → IsUntaken (with_entities (state_of progress.old None) sim (added_by (state_of progress.old None) sim group g content.now)) (state_of progress.old None) e (state_of progress.new None)) }
+        → with_entities (state_of progress.old None) sim
+        (added_by (state_of progress.old None) sim group g content.now)
+        ≡ Ok (state_of progress.new None)) }
+    ensures untaken { IfErr result (λ e. (g : Group)
+        → slice_get progress.old.scenario.groups group ≡ Some g
+        → IsUntaken (with_entities (state_of progress.old None) sim
+        (added_by (state_of progress.old None) sim group g content.now))
+        (state_of progress.old None) e (state_of progress.new None)) }
 {
     let part = progress.scenario.groups.at(group as usize);
     let meta = progress.metas.at(sim.0 as usize);
@@ -161,7 +175,8 @@ fn take_entities(
 fn take_done(progress: &mut Progress, sim: SimNo)
     requires kept { IsKept progress.old }
     requires asked { progress.old.asked ≡ true }
-    requires stage { length progress.old.scenario.sims + length progress.old.scenario.groups ≤ progress.old.answered }
+    requires stage { length progress.old.scenario.sims + length progress.old.scenario.groups ≤
+        progress.old.answered }
     requires next { IsToSim progress.old.scenario progress.old.answered sim.0 }
     ensures kept { IsKept progress.new }
     ensures moved { state_of progress.new None ≡ moved (state_of progress.old None) }

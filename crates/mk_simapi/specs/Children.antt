@@ -16,7 +16,8 @@ use Rattle.mk_simapi.specs.Serving.{Serves}
 abbrev pub asked : List Turn → List (List ℕ) → Option (List ℕ × ℕ)
 asked rows [] = None
 asked rows (kind ∷ []) = None
-asked rows (kind ∷ address ∷ []) = if has_kind kind rows then option_map (λ port. let p : List ℕ × ℕ = (kind, port) in p) (port_of address) else None
+asked rows (kind ∷ address ∷ []) = if has_kind kind rows
+    then option_map (λ port. let p : List ℕ × ℕ = (kind, port) in p) (port_of address) else None
 asked rows (kind ∷ address ∷ word ∷ more) = None
 
 -- the status by which each end is told
@@ -29,25 +30,32 @@ status_of (served.TooLong n) = 5
 status_of (served.LongReply n) = 7
 status_of served.Mem = 8
 
--- the fleet failed to start a link, or there was no memory for one; none was started, and nothing was heard or said
-pub record IsUnstarted (started_before started_after : ℕ) (before after : List LinkNo) (old new : Option (List LogEntry)) (answer : ℕ) : Type 0 where
+-- the fleet failed to start a link, or there was no memory for one; none was started, and nothing
+-- was heard or said
+pub record IsUnstarted (started_before started_after : ℕ) (before after : List LinkNo)
+    (old new : Option (List LogEntry)) (answer : ℕ) : Type 0 where
   pub status : (answer ≡ 6) ⊎ (answer ≡ 8)
   pub number : started_after ≡ started_before
   pub links : after ≡ before
   pub silent : Adds [] old new
 
--- one link was started, a simulator of the kind of this name was served on it, and the link was closed again; the status is that of the serving's end
-pub record HasServed (rows : List Turn) (kind : List ℕ) (started_before started_after : ℕ) (before after : List LinkNo) (old new : Option (List LogEntry)) (answer : ℕ) : Type 0 where
+-- one link was started, a simulator of the kind of this name was served on it, and the link was
+-- closed again; the status is that of the serving's end
+pub record HasServed (rows : List Turn) (kind : List ℕ) (started_before started_after : ℕ)
+    (before after : List LinkNo) (old new : Option (List LogEntry)) (answer : ℕ) : Type 0 where
   pub link : LinkNo
   pub end : Served
   pub entries : List LogEntry
   pub adds : Adds entries old new
-  pub serves : (row : Turn) → kind_named kind rows ≡ Some row → Serves (new_simulator row) link end entries
+  pub serves : (row : Turn) → kind_named kind rows ≡ Some row
+      → Serves (new_simulator row) link end entries
   pub number : started_after ≡ started_before + 1
   pub links : after ≡ without link (before ++ link ∷ [])
   pub status : answer ≡ status_of end
 
 -- what the program did
-abbrev pub HasEnded : List Turn → List ℕ → ℕ → ℕ → List LinkNo → List LinkNo → Option (List LogEntry) → Option (List LogEntry) → ℕ → Type 0
+abbrev pub HasEnded : List Turn → List ℕ → ℕ → ℕ → List LinkNo → List LinkNo
+    → Option (List LogEntry) → Option (List LogEntry) → ℕ → Type 0
 HasEnded rows kind started_before started_after before after old new answer =
-    IsUnstarted started_before started_after before after old new answer ⊎ HasServed rows kind started_before started_after before after old new answer
+    IsUnstarted started_before started_after before after old new answer
+    ⊎ HasServed rows kind started_before started_after before after old new answer

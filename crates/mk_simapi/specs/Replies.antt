@@ -44,7 +44,8 @@ call_answer L id item (Some call) = call_reply L id call
 
 -- the reply to a message: to a stop there is none, and replies are ignored
 abbrev pub reply_to : Simulator → Message → Option Message
-reply_to L (Ask id name args named) = call_answer L id (item_in name args named) (call_in name args named)
+reply_to L (Ask id name args named) = call_answer L id (item_in name args named)
+    (call_in name args named)
 reply_to L (Success id content) = None
 reply_to L (Failure id text) = None
 
@@ -59,14 +60,16 @@ after_called L item (Some call) = after_call L call
 
 -- the simulator after a message
 abbrev pub after_message : Simulator → Message → Simulator
-after_message L (Ask id name args named) = after_called L (item_in name args named) (call_in name args named)
+after_message L (Ask id name args named) = after_called L (item_in name args named)
+    (call_in name args named)
 after_message L (Success id content) = L
 after_message L (Failure id text) = L
 
 -- the replies to these messages in order, up to a stop
 abbrev pub replies : Simulator → List Message → List Message
 replies L [] = []
-replies L (m ∷ ms) = if is_stop m then [] else option_to_list (reply_to L m) ++ replies (after_message L m) ms
+replies L (m ∷ ms) = if is_stop m then [] else option_to_list (reply_to L m)
+    ++ replies (after_message L m) ms
 
 -- and their payloads
 abbrev pub payloads : Simulator → List Message → List (List ℕ)

@@ -1,4 +1,5 @@
--- What a request that was heard asks a simulator for: a call before the run or the stop, or an item of the run. A request that has neither form is unknown.
+-- What a request that was heard asks a simulator for: a call before the run or the stop, or an item
+-- of the run. A request that has neither form is unknown.
 use Rattle.std.specs.Prelude.{ℕ, pos, negsuc, Bool, false, ◌&&◌, ◌==◌, List, [], ◌∷◌, map, length, Option, Some, None, nat_abs, unwrap_or, option_map, option_and_then, if◌then◌else◌, codes}
 use Rattle.std.specs.List.{flat_map}
 use Rattle.mk_base.specs.declared.json.Json.{Json}
@@ -30,7 +31,8 @@ two_of (a ∷ b ∷ c ∷ more) = None
 
 -- there is no keyword argument
 abbrev pub is_unnamed : Json → Bool
-is_unnamed named = unwrap_or (option_map (λ (ms : List (List ℕ × Json)). length ms == 0) (members_in named)) false
+is_unnamed named = unwrap_or
+    (option_map (λ (ms : List (List ℕ × Json)). length ms == 0) (members_in named)) false
 
 -- there is no argument at all
 abbrev pub is_bare : List Json → Json → Bool
@@ -44,7 +46,9 @@ init_in args named = option_map (λ sim. Init sim named) (option_and_then text_i
 
 -- how many, of a model
 abbrev pub create_of : Json → Json → Json → Option Call
-create_of num model named = option_and_then (λ n. option_map (λ name. Create (nat_abs n) name named) (text_in model)) (whole_from_to (pos 0) (pos 4294967295) num)
+create_of num model named = option_and_then
+    (λ n. option_map (λ name. Create (nat_abs n) name named) (text_in model))
+    (whole_from_to (pos 0) (pos 4294967295) num)
 
 -- the same, and the model's parameters by keyword
 abbrev pub create_in : List Json → Json → Option Call
@@ -65,21 +69,30 @@ call_in name args named = if same_text name (codes "init") then init_in args nam
 
 -- the inputs of a step: {eid: {attribute: {source: value}}}, each value a datum
 abbrev pub inputs_of : List (Named (List (Named (List (Named Json))))) → List Input
-inputs_of entities = flat_map (λ e. flat_map (λ a. map (λ s. record { eid = e.name; attr = a.name; source = s.name; value = text_of s.value }) a.value) e.value) entities
+inputs_of entities = flat_map
+    (λ e. flat_map (λ a. map
+    (λ s. record { eid = e.name; attr = a.name; source = s.name; value = text_of s.value }) a.value)
+    e.value) entities
 
 abbrev pub inputs_in : Json → Option (List Input)
 inputs_in tree = option_map inputs_of (members_by (members_by (members_by datum_in)) tree)
 
 -- a time from 0 to 10^9, the inputs, and how far time may advance
 abbrev pub step_of : Json → Json → Json → Option Item
-step_of time inputs advance = option_and_then (λ t. option_and_then (λ ins. option_map (λ a. Step (record { time = t; tier = 0 }) ins a) (whole_from_to (negsuc 9223372036854775807) (pos 9223372036854775807) advance)) (inputs_in inputs)) (whole_from_to (pos 0) (pos 1000000000) time)
+step_of time inputs advance = option_and_then
+    (λ t. option_and_then
+    (λ ins. option_map (λ a. Step (record { time = t; tier = 0 }) ins a)
+    (whole_from_to (negsuc 9223372036854775807) (pos 9223372036854775807) advance))
+    (inputs_in inputs)) (whole_from_to (pos 0) (pos 1000000000) time)
 
 abbrev pub step_in : List Json → Json → Option Item
-step_in args named = if is_unnamed named then option_and_then (λ (p : Json × Json × Json). step_of p.0 p.1 p.2) (three_of args) else None
+step_in args named = if is_unnamed named
+    then option_and_then (λ (p : Json × Json × Json). step_of p.0 p.1 p.2) (three_of args) else None
 
 -- what is wanted: {eid: [attribute, ..]}
 abbrev pub wants_of : List (Named (List (List ℕ))) → List Want
-wants_of entities = flat_map (λ e. map (λ attr. record { eid = e.name; attr = attr }) e.value) entities
+wants_of entities = flat_map
+    (λ e. map (λ attr. record { eid = e.name; attr = attr }) e.value) entities
 
 abbrev pub wants_in : Json → Option (List Want)
 wants_in tree = option_map wants_of (members_by texts_in tree)

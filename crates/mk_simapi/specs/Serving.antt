@@ -1,4 +1,5 @@
--- What is heard and said on a link that a simulator of a kind is served on, and why the serving ends.
+-- What is heard and said on a link that a simulator of a kind is served on, and why the serving
+-- ends.
 use Rattle.std.specs.Prelude.{◌≡◌, ℕ, ◌<◌, ◌≤◌, true, false, List, [], ◌∷◌, ◌++◌, length, fold, Some, ⊤}
 use Rattle.mk_base.specs.declared.LinkNo.{LinkNo}
 use Rattle.mk_base.specs.Lists.{Each, BeginsWith}
@@ -39,7 +40,8 @@ pub record IsStopped (L : Simulator) (link : LinkNo) (log : List LogEntry) : Typ
   pub short : AreShort L before
   pub said : SaysAll link log (frames_of (payloads L before))
 
--- a message was heard whose reply has n bytes, which is more than a frame may have, and all replies before it are short
+-- a message was heard whose reply has n bytes, which is more than a frame may have, and all replies
+-- before it are short
 pub record IsLong (L : Simulator) (link : LinkNo) (log : List LogEntry) (n : ℕ) : Type 0 where
   pub before : List Message
   pub asks : Message
@@ -60,14 +62,18 @@ pub record IsUnstopped (L : Simulator) (link : LinkNo) (log : List LogEntry) : T
 -- the cause by which the serving ended
 abbrev pub EndsBy : Simulator → LinkNo → Served → List LogEntry → Type 0
 EndsBy L link served.Stopped log = IsStopped L link log
-EndsBy L link served.Closed log = IsUnstopped L link log × IsUnfinished (rest_heard (heard_on link log)) × (last_read link log ≡ Some (Ended link))
+EndsBy L link served.Closed log = IsUnstopped L link log
+    × IsUnfinished (rest_heard (heard_on link log)) × (last_read link log ≡ Some (Ended link))
 EndsBy L link served.Failed log = ⊤
-EndsBy L link (served.Garbled test) log = IsUnstopped L link log × BeginsGarbled (rest_heard (heard_on link log)) test
-EndsBy L link (served.TooLong n) log = IsUnstopped L link log × IsTooLong n (rest_heard (heard_on link log))
+EndsBy L link (served.Garbled test) log = IsUnstopped L link log
+    × BeginsGarbled (rest_heard (heard_on link log)) test
+EndsBy L link (served.TooLong n) log = IsUnstopped L link log
+    × IsTooLong n (rest_heard (heard_on link log))
 EndsBy L link (served.LongReply n) log = IsLong L link log n
 EndsBy L link served.Mem log = ⊤
 
--- where the serving rests: no stop was heard so far, all replies were said, or the last write took nothing, and nothing more had come
+-- where the serving rests: no stop was heard so far, all replies were said, or the last write took
+-- nothing, and nothing more had come
 pub record IsWellAtRest (L : Simulator) (link : LinkNo) (before : List LogEntry) : Type 0 where
   pub going : IsGoing (heard_of link before)
   pub said : SaysAll link before (frames_of (payloads L (heard_of link before)))
@@ -75,10 +81,13 @@ pub record IsWellAtRest (L : Simulator) (link : LinkNo) (before : List LogEntry)
 
 -- at each rest of the log
 abbrev pub RestsWell : Simulator → LinkNo → List LogEntry → Type 0
-RestsWell L link log = (before after : List LogEntry) → log ≡ before ++ Rest ∷ after → IsWellAtRest L link before
+RestsWell L link log = (before after : List LogEntry) → log ≡ before ++ Rest ∷ after
+    → IsWellAtRest L link before
 
--- by these entries the simulator was served: what was said is a beginning of the frames of the replies to what was heard, in order and up to a stop
-pub record Serves (L : Simulator) (link : LinkNo) (end : Served) (log : List LogEntry) : Type 0 where
+-- by these entries the simulator was served: what was said is a beginning of the frames of the
+-- replies to what was heard, in order and up to a stop
+pub record Serves (L : Simulator) (link : LinkNo) (end : Served)
+    (log : List LogEntry) : Type 0 where
   pub said : BeginsWith (frames_of (payloads L (heard_of link log))) (said_on link log)
   pub rests : RestsWell L link log
   pub ended : EndsBy L link end log

@@ -87,7 +87,8 @@ fn put_attribute(
     tree: &Json,
 ) -> Result<(), Mem>
     requires { is_object_of is_value tree.now ≡ true }
-    ensures { OnOk result (inputs.new ≡ inputs.old ++ inputs_at eid.now attr.now (members_of tree.now)) }
+    ensures { OnOk result (inputs.new ≡ inputs.old
+        ++ inputs_at eid.now attr.now (members_of tree.now)) }
 {
     match tree.as_object() {
         Some(members) => put_sources(alloc, inputs, eid, attr, members),
@@ -121,7 +122,9 @@ fn put_source(
     value: &Json,
 ) -> Result<(), Mem>
     requires { is_value value.now ≡ true }
-    ensures { OnOk result (inputs.new ≡ inputs.old ++ record { eid = eid.now; attr = attr.now; source = source.now; value = text_of value.now } ∷ []) }
+    ensures { OnOk result (inputs.new ≡ inputs.old
+        ++ record { eid = eid.now; attr = attr.now; source = source.now; value = text_of value.now }
+        ∷ []) }
 {
     let input = Input {
         eid: eid.copy()?,
@@ -201,7 +204,8 @@ fn put_wants(
 
 // Appends one attribute of an entity.
 fn put_want(alloc: Global, wants: &mut List<Want>, eid: &Text, attr: &Json) -> Result<(), Mem>
-    ensures { OnOk result (wants.new ≡ wants.old ++ record { eid = eid.now; attr = text_or_empty attr.now } ∷ []) }
+    ensures { OnOk result (wants.new ≡ wants.old
+        ++ record { eid = eid.now; attr = text_or_empty attr.now } ∷ []) }
 {
     let want = Want {
         eid: eid.copy()?,

@@ -31,7 +31,8 @@ struct Asked<'a> {
 
 // What the words ask for; `None` where they aren't a kind's name and an address on this machine.
 fn read_words<'a>(words: &'a [String], kinds: &Registry) -> Option<Asked<'a>>
-    ensures { option_map (λ a. let p : List ℕ × ℕ = (a.kind.now, a.port) in p) result ≡ asked (rows_in kinds.now) (map string_bytes words.now) }
+    ensures { option_map (λ a. let p : List ℕ × ℕ = (a.kind.now, a.port) in p) result
+        ≡ asked (rows_in kinds.now) (map string_bytes words.now) }
 {
     match words {
         [kind, address] => at_address(kind.as_str(), address.as_str(), kinds),
@@ -40,7 +41,8 @@ fn read_words<'a>(words: &'a [String], kinds: &Registry) -> Option<Asked<'a>>
 }
 
 fn at_address<'a>(kind: &'a str, address: &str, kinds: &Registry) -> Option<Asked<'a>>
-    ensures { option_map (λ a. let p : List ℕ × ℕ = (a.kind.now, a.port) in p) result ≡ asked (rows_in kinds.now) (kind.now ∷ address.now ∷ []) }
+    ensures { option_map (λ a. let p : List ℕ × ℕ = (a.kind.now, a.port) in p) result
+        ≡ asked (rows_in kinds.now) (kind.now ∷ address.now ∷ []) }
 {
     if !kinds.has(kind) {
         return None;
@@ -80,9 +82,13 @@ pub fn child<F: Fleet, R: Wait>(
     ensures usage { (result ≡ 2) ↔ (asked (rows_in kinds.now) (map string_bytes words.now) ≡ None) }
     ensures count { F.faults fleet.old ≤ F.faults fleet.new }
     ensures cause { result ≡ 6 → HasRisen (F.faults fleet.old) (F.faults fleet.new) }
-    ensures unasked { asked (rows_in kinds.now) (map string_bytes words.now) ≡ None → fleet.new ≡ fleet.old }
-    ensures ended { (kind : List ℕ) → (port : ℕ) → asked (rows_in kinds.now) (map string_bytes words.now) ≡ Some (kind, port)
-        → HasEnded (rows_in kinds.now) kind (F.started fleet.old) (F.started fleet.new) (F.open_links fleet.old) (F.open_links fleet.new) (F.log fleet.old) (F.log fleet.new) result }
+    ensures unasked { asked (rows_in kinds.now) (map string_bytes words.now) ≡ None
+        → fleet.new ≡ fleet.old }
+    ensures ended { (kind : List ℕ) → (port : ℕ)
+        → asked (rows_in kinds.now) (map string_bytes words.now) ≡ Some (kind, port)
+        → HasEnded (rows_in kinds.now) kind (F.started fleet.old) (F.started fleet.new)
+        (F.open_links fleet.old) (F.open_links fleet.new) (F.log fleet.old)
+        (F.log fleet.new) result }
 {
     let Some(asked) = read_words(words, kinds) else {
         return USAGE;

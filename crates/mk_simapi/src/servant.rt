@@ -95,8 +95,10 @@ impl Servant {
     ) -> Result<Answer, Mem>
         requires there { IsIn self.old.kind (rows_in kinds.now) }
         requires range { list_all trees.is_in_range args.now ≡ true }
-        ensures answer { IfOk result (λ a. AnswersAs a self.old (Message.Ask id name.now args.now named.now)) }
-        ensures after { OnOk result (self.new ≡ after_message self.old (Message.Ask id name.now args.now named.now)) }
+        ensures answer { IfOk result
+            (λ a. AnswersAs a self.old (Message.Ask id name.now args.now named.now)) }
+        ensures after { OnOk result (self.new
+            ≡ after_message self.old (Message.Ask id name.now args.now named.now)) }
         ensures kind { self.new.kind ≡ self.old.kind }
     {
         match call_in(alloc, name, args, named)? {

@@ -36,10 +36,12 @@ pub struct Service {
 fn rest<F: Fleet>(fleet: &mut F, link: LinkNo) -> Option<Served>
     requires { IsIn link (F.open_links fleet.old) }
     ensures count { F.faults fleet.old ≤ F.faults fleet.new }
-    ensures cause { result ≡ Some Served.Failed → HasRisen (F.faults fleet.old) (F.faults fleet.new) }
+    ensures cause { result ≡ Some Served.Failed
+        → HasRisen (F.faults fleet.old) (F.faults fleet.new) }
     ensures same_count { F.started fleet.new ≡ F.started fleet.old }
     ensures same_links { F.open_links fleet.new ≡ F.open_links fleet.old }
-    ensures rested { (entries : List LogEntry) × Adds entries (F.log fleet.old) (F.log fleet.new) × RestsAs result entries }
+    ensures rested { (entries : List LogEntry) × Adds entries (F.log fleet.old) (F.log fleet.new)
+        × RestsAs result entries }
 {
     let mut ready = [false];
     match fleet.wait(&[link], &mut ready) {
@@ -53,9 +55,14 @@ impl Service {
     // A simulator of the kind of this name, before anything was heard on the link.
     fn new(alloc: Global, kinds: &Registry, kind: &Text, link: LinkNo) -> Result<Service, Mem>
         requires { has_kind kind.now (rows_in kinds.now) ≡ true }
-        ensures named { IfOk result (λ s. kind_named kind.now (rows_in kinds.now) ≡ Some s.servant.kind) }
+        ensures named { IfOk result (λ s. kind_named kind.now (rows_in kinds.now)
+            ≡ Some s.servant.kind) }
         ensures there { IfOk result (λ s. IsIn s.servant.kind (rows_in kinds.now)) }
-        ensures new { IfOk result (λ s. s ≡ record { servant = new_simulator s.servant.kind; session = record { link = link; held = []; unsent = [] } }) }
+        ensures new { IfOk result (λ s. s
+            ≡ record {
+              servant = new_simulator s.servant.kind;
+              session = record { link = link; held = []; unsent = [] };
+            }) }
     {
         Ok(Service {
             servant: Servant::new(alloc, kinds, kind)?,
@@ -70,7 +77,9 @@ impl Service {
         ensures kind { self.new.servant.kind ≡ self.old.servant.kind }
         ensures link { self.new.session.link ≡ self.old.session.link }
         ensures working { result ≡ Some Served.Failed → ⊥ }
-        ensures reacts { (L : Simulator) → (log : List LogEntry) → (before : List Message) → IsAsked L self.old.session.link log before message.now self.old.servant self.old.session
+        ensures reacts { (L : Simulator) → (log : List LogEntry) → (before : List Message)
+            → IsAsked L self.old.session.link log before message.now self.old.servant
+            self.old.session
             → GoesOn L self.old.session.link log result self.new.servant self.new.session }
     {
         match self.servant.answer(alloc, kinds, message) {
@@ -114,8 +123,11 @@ impl Service {
         ensures kind { self.new.servant.kind ≡ self.old.servant.kind }
         ensures link { self.new.session.link ≡ self.old.session.link }
         ensures failed { result ≡ Some Served.Failed → heard ≡ Heard.Failed }
-        ensures takes { (L : Simulator) → (log : List LogEntry) → (entries : List LogEntry) → (before : List Message) → (s : Session) → IsServing L s.link log before self.old.servant s
-            → Polls (Polled.Ready heard) s entries self.old.session → GoesOn L s.link (log ++ entries) result self.new.servant self.new.session }
+        ensures takes { (L : Simulator) → (log : List LogEntry) → (entries : List LogEntry)
+            → (before : List Message) → (s : Session)
+            → IsServing L s.link log before self.old.servant s
+            → Polls (Polled.Ready heard) s entries self.old.session
+            → GoesOn L s.link (log ++ entries) result self.new.servant self.new.session }
     {
         match heard {
             Heard::Message(message) => self.react(alloc, kinds, &message),
@@ -132,14 +144,17 @@ impl Service {
         requires there { IsIn self.old.servant.kind (rows_in kinds.now) }
         requires open { IsIn self.old.session.link (F.open_links fleet.old) }
         ensures count { F.faults fleet.old ≤ F.faults fleet.new }
-        ensures cause { result ≡ Some Served.Failed → HasRisen (F.faults fleet.old) (F.faults fleet.new) }
+        ensures cause { result ≡ Some Served.Failed
+            → HasRisen (F.faults fleet.old) (F.faults fleet.new) }
         ensures same_count { F.started fleet.new ≡ F.started fleet.old }
         ensures same_links { F.open_links fleet.new ≡ F.open_links fleet.old }
         ensures kind { self.new.servant.kind ≡ self.old.servant.kind }
         ensures link { self.new.session.link ≡ self.old.session.link }
         ensures went { (entries : List LogEntry) × Adds entries (F.log fleet.old) (F.log fleet.new)
-            × ((L : Simulator) → (log : List LogEntry) → (before : List Message) → IsServing L self.old.session.link log before self.old.servant self.old.session
-            → GoesOn L self.old.session.link (log ++ entries) result self.new.servant self.new.session) }
+            × ((L : Simulator) → (log : List LogEntry) → (before : List Message)
+            → IsServing L self.old.session.link log before self.old.servant self.old.session
+            → GoesOn L self.old.session.link (log
+            ++ entries) result self.new.servant self.new.session) }
     {
         match self.session.poll(fleet) {
             Polled::Pending => rest(fleet, self.session.link()),
@@ -161,14 +176,17 @@ impl Service {
         requires there { IsIn self.old.servant.kind (rows_in kinds.now) }
         requires open { IsIn self.old.session.link (F.open_links fleet.old) }
         ensures count { F.faults fleet.old ≤ F.faults fleet.new }
-        ensures cause { result ≡ Step.Ended Served.Failed → HasRisen (F.faults fleet.old) (F.faults fleet.new) }
+        ensures cause { result ≡ Step.Ended Served.Failed
+            → HasRisen (F.faults fleet.old) (F.faults fleet.new) }
         ensures same_count { F.started fleet.new ≡ F.started fleet.old }
         ensures same_links { F.open_links fleet.new ≡ F.open_links fleet.old }
         ensures kind { self.new.servant.kind ≡ self.old.servant.kind }
         ensures link { self.new.session.link ≡ self.old.session.link }
         ensures went { (entries : List LogEntry) × Adds entries (F.log fleet.old) (F.log fleet.new)
-            × ((L : Simulator) → (log : List LogEntry) → (before : List Message) → IsServing L self.old.session.link log before self.old.servant self.old.session
-            → GoesOn L self.old.session.link (log ++ entries) (end_of result) self.new.servant self.new.session) }
+            × ((L : Simulator) → (log : List LogEntry) → (before : List Message)
+            → IsServing L self.old.session.link log before self.old.servant self.old.session
+            → GoesOn L self.old.session.link (log
+            ++ entries) (end_of result) self.new.servant self.new.session) }
     {
         match self.round(alloc, kinds, fleet) {
             Some(end) => Step::Ended(end),
@@ -195,7 +213,8 @@ pub fn serve<F: Fleet, R: Wait>(
     ensures same_count { F.started fleet.new ≡ F.started fleet.old }
     ensures same_links { F.open_links fleet.new ≡ F.open_links fleet.old }
     ensures served { (entries : List LogEntry) × Adds entries (F.log fleet.old) (F.log fleet.new)
-        × ((row : Turn) → kind_named kind.now (rows_in kinds.now) ≡ Some row → Serves (new_simulator row) link result entries) }
+        × ((row : Turn) → kind_named kind.now (rows_in kinds.now) ≡ Some row
+        → Serves (new_simulator row) link result entries) }
 {
     let Ok(mut service) = Service::new(alloc, kinds, kind, link) else {
         return Served::Mem;

@@ -15,9 +15,15 @@ pub record FolderSeen : Type 0 where
 
 -- that of a folder before and after, by what is told of it
 abbrev pub folder_seen : {D : Type 0} → (D → Option Files) → (D → ℕ) → D → D → FolderSeen
-folder_seen files faults old new = record { files = files old; files_after = files new; faults = faults old; new_faults = faults new }
+folder_seen files faults old new = record {
+  files = files old;
+  files_after = files new;
+  faults = faults old;
+  new_faults = faults new;
+}
 
--- an output around a call: what it has taken, and its counts of faults and of wants of memory, before and after
+-- an output around a call: what it has taken, and its counts of faults and of wants of memory,
+-- before and after
 pub record OutputSeen : Type 0 where
   pub before : Option (List ℕ)
   pub after : Option (List ℕ)
@@ -27,10 +33,19 @@ pub record OutputSeen : Type 0 where
   pub new_wants : ℕ
 
 -- that of an output before and after, by what is told of it
-abbrev pub output_seen : {K : Type 0} → (K → Option (List ℕ)) → (K → ℕ) → (K → ℕ) → K → K → OutputSeen
-output_seen written faults wants old new = record { before = written old; after = written new; faults = faults old; new_faults = faults new; wants = wants old; new_wants = wants new }
+abbrev pub output_seen : {K : Type 0} → (K → Option (List ℕ)) → (K → ℕ) → (K → ℕ) → K → K
+    → OutputSeen
+output_seen written faults wants old new = record {
+  before = written old;
+  after = written new;
+  faults = faults old;
+  new_faults = faults new;
+  wants = wants old;
+  new_wants = wants new;
+}
 
--- the words of a call, the kinds within the program and what happened at its fleet, its folder and its output
+-- the words of a call, the kinds within the program and what happened at its fleet, its folder and
+-- its output
 pub record Around : Type 0 where
   pub words : List (List ℕ)
   pub outside : Outside
@@ -48,9 +63,11 @@ pub record IsUntouched (S : Around) : Type 0 where
   pub unput : S.output.after ≡ S.output.before
   pub aside : IsAside S
 
--- why the output has only a beginning of the text: it failed, or found no memory; that it failed may have to be said as want of memory
+-- why the output has only a beginning of the text: it failed, or found no memory; that it failed
+-- may have to be said as want of memory
 abbrev pub IsCutBy : OutputSeen → Ending → Type 0
-IsCutBy out e = ((e ≡ Output) × HasRisen out.faults out.new_faults) ⊎ ((e ≡ Mem) × (HasRisen out.faults out.new_faults ⊎ HasRisen out.wants out.new_wants))
+IsCutBy out e = ((e ≡ Output) × HasRisen out.faults out.new_faults)
+    ⊎ ((e ≡ Mem) × (HasRisen out.faults out.new_faults ⊎ HasRisen out.wants out.new_wants))
 
 -- this ending is said, or that memory is wanting
 abbrev pub IsSaidAs : Ending → Ending → Type 0

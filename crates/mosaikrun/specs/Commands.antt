@@ -24,10 +24,12 @@ file_of (Check scenario) = Some scenario
 file_of (Demo size) = None
 file_of (Migrate old new) = Some old
 
--- what a command that prints something of its file makes of the file's bytes, the program having these kinds: the text that it prints, or why there is none
+-- what a command that prints something of its file makes of the file's bytes, the program having
+-- these kinds: the text that it prints, or why there is none
 abbrev pub IsOutcomeOf : List Turn → Request → List ℕ → Result (List ℕ) Ending → Type 0
 IsOutcomeOf kinds (Replay name order) bytes outcome = reports.IsOutcome bytes order outcome
-IsOutcomeOf kinds (Check scenario) bytes outcome = checks.IsOutcome (map name_of kinds) bytes outcome
+IsOutcomeOf kinds (Check scenario) bytes outcome = checks.IsOutcome
+    (map name_of kinds) bytes outcome
 IsOutcomeOf kinds (Run scenario saved) bytes outcome = ⊥
 IsOutcomeOf kinds (Demo size) bytes outcome = ⊥
 IsOutcomeOf kinds (Migrate old new) bytes outcome = ⊥
@@ -38,7 +40,8 @@ IsUnasked words e = (e ≡ ends.Mem) ⊎ ((e ≡ ends.Usage) × ((R : Request) �
 
 -- the file of this name has these bytes, no more than a file may have, if the folder tells
 abbrev pub IsHeld : Option Files → List ℕ → List ℕ → Type 0
-IsHeld files name bytes = IfSome files (λ held. (held name ≡ Some bytes) × (length bytes ≤ file_limit))
+IsHeld files name bytes = IfSome files (λ held. (held name ≡ Some bytes)
+    × (length bytes ≤ file_limit))
 
 -- the file isn't there, or is longer than a file may be
 abbrev pub IsNoFile : Option (List ℕ) → Type 0
@@ -51,4 +54,6 @@ IsUnreadable files name risen e =
     (e ≡ ends.Mem)
     ⊎ ((e ≡ ends.Folder) × risen
     ⊎ ((e ≡ ends.Missing name) × IfSome files (λ held. held name ≡ None)
-    ⊎ (count : ℕ) × (e ≡ ends.TooLong name count) × IfSome files (λ held. (bytes : List ℕ) × (held name ≡ Some bytes) × (length bytes ≡ count) × (file_limit < count))))
+    ⊎ (count : ℕ) × (e ≡ ends.TooLong name count)
+    × IfSome files (λ held. (bytes : List ℕ) × (held name ≡ Some bytes) × (length bytes ≡ count)
+    × (file_limit < count))))

@@ -9,7 +9,8 @@ use Rattle.mosaikrun.specs.Commands.{IsAsked}
 
 -- the words ask for no run
 abbrev pub IsNoRun : List (List ℕ) → Type 0
-IsNoRun words = (scenario : List ℕ) (saved : Option (List ℕ)) → IsAsked words (Run scenario saved) → ⊥
+IsNoRun words = (scenario : List ℕ) (saved : Option (List ℕ)) → IsAsked words (Run scenario saved)
+    → ⊥
 
 -- the bytes are a scenario whose simulators are all within the program
 pub record IsWithin (bytes : List ℕ) : Type 0 where

@@ -9,14 +9,20 @@ use Rattle.mosaikrun_records.specs.Migrations.{IsMigration}
 use Rattle.mosaikrun.specs.Commands.{IsAsked, IsHeld}
 use Rattle.mosaikrun.specs.Around.{Around, FolderSeen, IsSaidAs}
 
--- what an answer says of a migration to this name, of which this record or this ending came: the record was saved under the name, all other files being as before; or all files are as before, since the folder failed, memory was wanting, or there is no record
-abbrev pub MigrationAnswer : FolderSeen → List ℕ → Result (List ℕ) Ending → Result (Unit {0}) Ending → Type 0
-MigrationAnswer folder name (Ok text) (Ok done) = folder.files_after ≡ option_map (with_file name text) folder.files
-MigrationAnswer folder name (Ok text) (Err e) = (folder.files_after ≡ folder.files) × (((e ≡ Folder) × HasRisen folder.faults folder.new_faults) ⊎ (e ≡ Mem))
+-- what an answer says of a migration to this name, of which this record or this ending came: the
+-- record was saved under the name, all other files being as before; or all files are as before,
+-- since the folder failed, memory was wanting, or there is no record
+abbrev pub MigrationAnswer : FolderSeen → List ℕ → Result (List ℕ) Ending → Result (Unit {0}) Ending
+    → Type 0
+MigrationAnswer folder name (Ok text) (Ok done) = folder.files_after
+    ≡ option_map (with_file name text) folder.files
+MigrationAnswer folder name (Ok text) (Err e) = (folder.files_after ≡ folder.files)
+    × (((e ≡ Folder) × HasRisen folder.faults folder.new_faults) ⊎ (e ≡ Mem))
 MigrationAnswer folder name (Err why) (Ok done) = ⊥
 MigrationAnswer folder name (Err why) (Err e) = (folder.files_after ≡ folder.files) × IsSaidAs why e
 
--- the words ask for the migration of a record, whose file was read, to a name, and this came of it; nothing was put to the output, and nothing done with the fleet
+-- the words ask for the migration of a record, whose file was read, to a name, and this came of it;
+-- nothing was put to the output, and nothing done with the fleet
 pub record HasMigrated (S : Around) (answer : Result (Unit {0}) Ending) : Type 0 where
   pub source : List ℕ
   pub name : List ℕ

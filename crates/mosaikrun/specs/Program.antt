@@ -71,15 +71,18 @@ HasPerformed S answer = HasRunAs S answer ⊎ (HasSummed S answer ⊎ HasMigrate
 -- what an answer says
 abbrev pub Ended : Around → Result (Unit {0}) Ending → Type 0
 Ended S (Ok done) = IsPrinted S ⊎ HasPerformed S (Ok done)
-Ended S (Err e) = IsMisused S e ⊎ (IsUnread S e ⊎ (IsTextless S e ⊎ (IsCutShort S e ⊎ HasPerformed S (Err e))))
+Ended S (Err e) = IsMisused S e
+    ⊎ (IsUnread S e ⊎ (IsTextless S e ⊎ (IsCutShort S e ⊎ HasPerformed S (Err e))))
 
 -- the words ask for a run that saves its record under this name, or for a migration to it
 abbrev pub IsNamed : List (List ℕ) → List ℕ → Type 0
-IsNamed words name = ((scenario : List ℕ) × IsAsked words (Run scenario (Some name))) ⊎ ((source : List ℕ) × IsAsked words (Migrate source name))
+IsNamed words name = ((scenario : List ℕ) × IsAsked words (Run scenario (Some name)))
+    ⊎ ((source : List ℕ) × IsAsked words (Migrate source name))
 
 -- the folder is as before, or one file was saved, under a name that the words give for it
 abbrev pub KeepsOthers : List (List ℕ) → Option Files → Option Files → Type 0
-KeepsOthers words old new = (new ≡ old) ⊎ ((name bytes : List ℕ) × IsNamed words name × (new ≡ option_map (with_file name bytes) old))
+KeepsOthers words old new = (new ≡ old)
+    ⊎ ((name bytes : List ℕ) × IsNamed words name × (new ≡ option_map (with_file name bytes) old))
 
 -- the status of an answer
 abbrev pub status : Result (Unit {0}) Ending → ℕ
@@ -95,14 +98,17 @@ abbrev pub Told : Result (Unit {0}) Ending → Type 0 → Option (List ℕ) → 
 Told (Ok done) failed old new = new ≡ old
 Told (Err e) failed old new = TookLine (line_of e) failed old new
 
--- the program has ended with this status: by some answer, which holds and was told at the error output; and the record of a run is kept
-pub record EndsWith (S : Around) (failed : Type 0) (err_before err_after : Option (List ℕ)) (n : ℕ) : Type 0 where
+-- the program has ended with this status: by some answer, which holds and was told at the error
+-- output; and the record of a run is kept
+pub record EndsWith (S : Around) (failed : Type 0) (err_before err_after : Option (List ℕ))
+    (n : ℕ) : Type 0 where
   pub answer : Result (Unit {0}) Ending
   pub is : n ≡ status answer
   pub ended : Ended S answer
   pub told : Told answer failed err_before err_after
   pub recorded : IsRecordKept S answer n
 
--- the status that goes with an outcome, or that of a folder or an output that failed, or of want of memory
+-- the status that goes with an outcome, or that of a folder or an output that failed, or of want of
+-- memory
 abbrev pub IsStatusOr : ℕ → ℕ → Type 0
 IsStatusOr wanted n = (n ≡ wanted) ⊎ ((n ≡ 6) ⊎ (n ≡ 8))

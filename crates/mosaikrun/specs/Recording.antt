@@ -10,7 +10,8 @@ use Rattle.mosaikrun_run.specs.Records.{HasRecord, IsSettled, IsStepSaid}
 use Rattle.mosaikrun.specs.Around.{Around}
 use Rattle.mosaikrun.specs.Commands.{IsAsked}
 
--- the bytes are a scenario, the file of this name holds the record of the plan and the journal of a run of it, and all other files are as before
+-- the bytes are a scenario, the file of this name holds the record of the plan and the journal of a
+-- run of it, and all other files are as before
 pub record HoldsRecord (S : Around) (bytes name : List ℕ) : Type 0 where
   pub scenario : Scenario
   pub read : scenario_of bytes ≡ Ok scenario
@@ -18,12 +19,19 @@ pub record HoldsRecord (S : Around) (bytes name : List ℕ) : Type 0 where
   pub record_ : HasRecord S.outside scenario (Some text)
   pub saved : S.folder.files_after ≡ option_map (with_file name text) S.folder.files
 
--- the file of this name holds such a record wherever all is done, the run met a fault, or the whole frame of a Step was said on a link; else it holds one, or all files are as before
-pub record KeepsRecord (S : Around) (answer : Result (Unit {0}) Ending) (bytes name : List ℕ) : Type 0 where
+-- the file of this name holds such a record wherever all is done, the run met a fault, or the whole
+-- frame of a Step was said on a link; else it holds one, or all files are as before
+pub record KeepsRecord (S : Around) (answer : Result (Unit {0}) Ending)
+    (bytes name : List ℕ) : Type 0 where
   pub either : (S.folder.files_after ≡ S.folder.files) ⊎ HoldsRecord S bytes name
   pub settled : IsSettled answer → HoldsRecord S bytes name
-  pub said : (scenario : Scenario) → scenario_of bytes ≡ Ok scenario → IsStepSaid S.outside.started scenario S.outside.log → HoldsRecord S bytes name
+  pub said : (scenario : Scenario) → scenario_of bytes ≡ Ok scenario
+      → IsStepSaid S.outside.started scenario S.outside.log → HoldsRecord S bytes name
 
--- so it is where the words ask for a run of a scenario, whose file has these bytes, and give this name for its record, the folder tells, its count of faults didn't rise, and the status isn't 8
+-- so it is where the words ask for a run of a scenario, whose file has these bytes, and give this
+-- name for its record, the folder tells, its count of faults didn't rise, and the status isn't 8
 abbrev pub IsRecordKept : Around → Result (Unit {0}) Ending → ℕ → Type 0
-IsRecordKept S answer n = IfSome S.folder.files (λ held. (scenario name bytes : List ℕ) → IsAsked S.words (Run scenario (Some name)) → held scenario ≡ Some bytes → (HasRisen S.folder.faults S.folder.new_faults → ⊥) → (n ≡ 8 → ⊥) → KeepsRecord S answer bytes name)
+IsRecordKept S answer n = IfSome S.folder.files (λ held. (scenario name bytes : List ℕ)
+    → IsAsked S.words (Run scenario (Some name)) → held scenario ≡ Some bytes
+    → (HasRisen S.folder.faults S.folder.new_faults → ⊥) → (n ≡ 8 → ⊥)
+    → KeepsRecord S answer bytes name)

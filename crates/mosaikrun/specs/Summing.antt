@@ -7,7 +7,8 @@ use Rattle.mosaikrun_demo.specs.Outcomes.{IsDemoOutcome}
 use Rattle.mosaikrun.specs.Commands.{IsAsked}
 use Rattle.mosaikrun.specs.Around.{Around, IsCutBy, IsSaidAs, OutputSeen}
 
--- what an answer says of a demo, of which this summary or this ending came: the summary was put out; or the output has taken a beginning of it; or there is none, and nothing was put
+-- what an answer says of a demo, of which this summary or this ending came: the summary was put
+-- out; or the output has taken a beginning of it; or there is none, and nothing was put
 abbrev pub DemoAnswer : OutputSeen → Result (List ℕ) Ending → Result (Unit {0}) Ending → Type 0
 DemoAnswer out (Ok text) (Ok done) = out.after ≡ appended text out.before
 DemoAnswer out (Ok text) (Err e) = TookBeginning text out.before out.after × IsCutBy out e

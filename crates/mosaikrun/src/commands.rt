@@ -59,8 +59,10 @@ pub fn outcome(
     requires no_run { command_of request.now ≡ Command.Run → ⊥ }
     requires no_demo { command_of request.now ≡ Command.Demo → ⊥ }
     requires no_migration { command_of request.now ≡ Command.Migrate → ⊥ }
-    ensures text { IfOk result (λ text. IsOutcomeOf (rows_in kinds.now) request.now bytes.now (Ok text.items)) }
-    ensures none { IfErr result (λ ending. IsOutcomeOf (rows_in kinds.now) request.now bytes.now (Err ending)) }
+    ensures text { IfOk result
+        (λ text. IsOutcomeOf (rows_in kinds.now) request.now bytes.now (Ok text.items)) }
+    ensures none { IfErr result
+        (λ ending. IsOutcomeOf (rows_in kinds.now) request.now bytes.now (Err ending)) }
 {
     match request {
         Request::Replay { record: _, order } => reported(alloc, bytes, *order),

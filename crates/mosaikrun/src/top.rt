@@ -56,26 +56,39 @@ pub fn program<D: Folder, F: Fleet, K: Sink, E: Sink, R: Wait>(
     out: &mut K,
     err: &mut E,
 ) -> u8
-    ensures ended { (entries : List LogEntry) × Adds entries (F.log fleet.old) (F.log fleet.new) × EndsWith
+    ensures ended { (entries : List LogEntry) × Adds entries (F.log fleet.old) (F.log fleet.new)
+        × EndsWith
         (record {
           words = map string_bytes words.now;
           outside = outside F.started F.faults (rows_in kinds.now) fleet.old fleet.new entries;
           folder = folder_seen D.files D.faults folder.old folder.new;
           output = output_seen K.written K.faults K.shortages out.old out.new;
         })
-        (HasRisen (E.faults err.old) (E.faults err.new) ⊎ HasRisen (E.shortages err.old) (E.shortages err.new))
+        (HasRisen (E.faults err.old) (E.faults err.new)
+        ⊎ HasRisen (E.shortages err.old) (E.shortages err.new))
         (E.written err.old) (E.written err.new) result }
     ensures usage { (result ≡ 2) → (R : Request) → IsAsked (map string_bytes words.now) R → ⊥ }
-    ensures useless { ((R : Request) → IsAsked (map string_bytes words.now) R → ⊥) → IsStatusOr 2 result }
-    ensures decided { IfSome (D.files folder.old) (λ held. (R : Request) → (name : List ℕ) → (bytes : List ℕ) → (o : Result (List ℕ) Ending) → IsAsked (map string_bytes words.now) R
-        → file_of R ≡ Some name → held name ≡ Some bytes → length bytes ≤ file_limit → IsOutcomeOf (rows_in kinds.now) R bytes o → (o ≡ Err ends.Mem → ⊥) → IsStatusOr (outcome_status o) result) }
-    ensures unreadable { IfSome (D.files folder.old) (λ held. (R : Request) → (name : List ℕ) → IsAsked (map string_bytes words.now) R
+    ensures useless { ((R : Request) → IsAsked (map string_bytes words.now) R → ⊥)
+        → IsStatusOr 2 result }
+    ensures decided { IfSome (D.files folder.old) (λ held. (R : Request) → (name : List ℕ)
+        → (bytes : List ℕ) → (o : Result (List ℕ) Ending) → IsAsked (map string_bytes words.now) R
+        → file_of R ≡ Some name → held name ≡ Some bytes → length bytes ≤ file_limit
+        → IsOutcomeOf (rows_in kinds.now) R bytes o → (o ≡ Err ends.Mem → ⊥)
+        → IsStatusOr (outcome_status o) result) }
+    ensures unreadable { IfSome (D.files folder.old) (λ held. (R : Request) → (name : List ℕ)
+        → IsAsked (map string_bytes words.now) R
         → file_of R ≡ Some name → IsNoFile (held name) → IsStatusOr 3 result) }
-    ensures migrated { IfSome (D.files folder.old) (λ held. (source : List ℕ) → (name : List ℕ) → (bytes : List ℕ) → (o : Result (List ℕ) Ending) → IsAsked (map string_bytes words.now) (requests.Migrate source name)
-        → held source ≡ Some bytes → length bytes ≤ file_limit → IsMigration bytes o → (o ≡ Err ends.Mem → ⊥) → IsStatusOr (outcome_status o) result) }
-    ensures others_kept { KeepsOthers (map string_bytes words.now) (D.files folder.old) (D.files folder.new) }
-    ensures links_closed { AreNumbered (F.started fleet.old) (F.open_links fleet.old) → F.open_links fleet.new ≡ F.open_links fleet.old }
-    ensures fleet_unused { NeedsNoFleet (map string_bytes words.now) (D.files folder.old) → fleet.new ≡ fleet.old }
+    ensures migrated { IfSome (D.files folder.old) (λ held. (source : List ℕ) → (name : List ℕ)
+        → (bytes : List ℕ) → (o : Result (List ℕ) Ending)
+        → IsAsked (map string_bytes words.now) (requests.Migrate source name)
+        → held source ≡ Some bytes → length bytes ≤ file_limit → IsMigration bytes o
+        → (o ≡ Err ends.Mem → ⊥) → IsStatusOr (outcome_status o) result) }
+    ensures others_kept { KeepsOthers (map string_bytes words.now) (D.files folder.old)
+        (D.files folder.new) }
+    ensures links_closed { AreNumbered (F.started fleet.old) (F.open_links fleet.old)
+        → F.open_links fleet.new ≡ F.open_links fleet.old }
+    ensures fleet_unused { NeedsNoFleet (map string_bytes words.now) (D.files folder.old)
+        → fleet.new ≡ fleet.old }
     ensures folder_count { D.faults folder.old ≤ D.faults folder.new }
     ensures fleet_count { F.faults fleet.old ≤ F.faults fleet.new }
     ensures out_count { K.faults out.old ≤ K.faults out.new }
@@ -97,14 +110,17 @@ fn answer<D: Folder, F: Fleet, K: Sink, R: Wait>(
     kinds: &Registry,
     out: &mut K,
 ) -> Result<(), Ending>
-    ensures ended { (entries : List LogEntry) × Adds entries (F.log fleet.old) (F.log fleet.new) × Ended (record {
-      words = map string_bytes words.now;
-      outside = outside F.started F.faults (rows_in kinds.now) fleet.old fleet.new entries;
-      folder = folder_seen D.files D.faults folder.old folder.new;
-      output = output_seen K.written K.faults K.shortages out.old out.new;
-    }) result }
-    ensures links_closed { AreNumbered (F.started fleet.old) (F.open_links fleet.old) → F.open_links fleet.new ≡ F.open_links fleet.old }
-    ensures fleet_unused { NeedsNoFleet (map string_bytes words.now) (D.files folder.old) → fleet.new ≡ fleet.old }
+    ensures ended { (entries : List LogEntry) × Adds entries (F.log fleet.old) (F.log fleet.new)
+        × Ended (record {
+          words = map string_bytes words.now;
+          outside = outside F.started F.faults (rows_in kinds.now) fleet.old fleet.new entries;
+          folder = folder_seen D.files D.faults folder.old folder.new;
+          output = output_seen K.written K.faults K.shortages out.old out.new;
+        }) result }
+    ensures links_closed { AreNumbered (F.started fleet.old) (F.open_links fleet.old)
+        → F.open_links fleet.new ≡ F.open_links fleet.old }
+    ensures fleet_unused { NeedsNoFleet (map string_bytes words.now) (D.files folder.old)
+        → fleet.new ≡ fleet.old }
     ensures folder_count { D.faults folder.old ≤ D.faults folder.new }
     ensures fleet_count { F.faults fleet.old ≤ F.faults fleet.new }
     ensures out_count { K.faults out.old ≤ K.faults out.new }
@@ -140,12 +156,13 @@ fn make<D: Folder, K: Sink>(
     requires no_run { command_of request.now ≡ Command.Run → ⊥ }
     requires no_demo { command_of request.now ≡ Command.Demo → ⊥ }
     requires no_migration { command_of request.now ≡ Command.Migrate → ⊥ }
-    ensures made { (words : List (List ℕ)) → (started : ℕ) → (faults : ℕ) → IsAsked words request.now → Ended (record {
-      words = words;
-      outside = unused (rows_in kinds.now) started faults;
-      folder = folder_seen D.files D.faults folder.old folder.new;
-      output = output_seen K.written K.faults K.shortages out.old out.new;
-    }) result }
+    ensures made { (words : List (List ℕ)) → (started : ℕ) → (faults : ℕ)
+        → IsAsked words request.now → Ended (record {
+          words = words;
+          outside = unused (rows_in kinds.now) started faults;
+          folder = folder_seen D.files D.faults folder.old folder.new;
+          output = output_seen K.written K.faults K.shortages out.old out.new;
+        }) result }
     ensures folder_count { D.faults folder.old ≤ D.faults folder.new }
     ensures out_count { K.faults out.old ≤ K.faults out.new }
 {
@@ -165,13 +182,16 @@ fn play<D: Folder, F: Fleet, K: Sink, R: Wait>(
     kinds: &Registry,
     out: &mut K,
 ) -> Result<(), Ending>
-    ensures played { (words : List (List ℕ)) → IsAsked words (requests.Run scenario.now name.now) → (entries : List LogEntry) × Adds entries (F.log fleet.old) (F.log fleet.new) × Ended (record {
-      words = words;
-      outside = outside F.started F.faults (rows_in kinds.now) fleet.old fleet.new entries;
-      folder = folder_seen D.files D.faults folder.old folder.new;
-      output = output_seen K.written K.faults K.shortages out.old out.new;
-    }) result }
-    ensures links_closed { AreNumbered (F.started fleet.old) (F.open_links fleet.old) → F.open_links fleet.new ≡ F.open_links fleet.old }
+    ensures played { (words : List (List ℕ)) → IsAsked words (requests.Run scenario.now name.now)
+        → (entries : List LogEntry) × Adds entries (F.log fleet.old) (F.log fleet.new)
+        × Ended (record {
+          words = words;
+          outside = outside F.started F.faults (rows_in kinds.now) fleet.old fleet.new entries;
+          folder = folder_seen D.files D.faults folder.old folder.new;
+          output = output_seen K.written K.faults K.shortages out.old out.new;
+        }) result }
+    ensures links_closed { AreNumbered (F.started fleet.old) (F.open_links fleet.old)
+        → F.open_links fleet.new ≡ F.open_links fleet.old }
     ensures within { IsHeldWithin (D.files folder.old) scenario.now → fleet.new ≡ fleet.old }
     ensures folder_count { D.faults folder.old ≤ D.faults folder.new }
     ensures fleet_count { F.faults fleet.old ≤ F.faults fleet.new }
@@ -200,13 +220,17 @@ fn sum_up<F: Fleet, K: Sink, R: Wait>(
 ) -> Result<(), Ending>
     requires low { 1 ≤ size }
     requires high { size ≤ 100 }
-    ensures summed { (words : List (List ℕ)) → (folder : FolderSeen) → folder.files_after ≡ folder.files → IsAsked words (requests.Demo size) → (entries : List LogEntry) × Adds entries (F.log fleet.old) (F.log fleet.new) × HasSummed (record {
-      words = words;
-      outside = outside F.started F.faults (rows_in kinds.now) fleet.old fleet.new entries;
-      folder = folder;
-      output = output_seen K.written K.faults K.shortages out.old out.new;
-    }) result }
-    ensures links_closed { AreNumbered (F.started fleet.old) (F.open_links fleet.old) → F.open_links fleet.new ≡ F.open_links fleet.old }
+    ensures summed { (words : List (List ℕ)) → (folder : FolderSeen)
+        → folder.files_after ≡ folder.files → IsAsked words (requests.Demo size)
+        → (entries : List LogEntry) × Adds entries (F.log fleet.old) (F.log fleet.new)
+        × HasSummed (record {
+          words = words;
+          outside = outside F.started F.faults (rows_in kinds.now) fleet.old fleet.new entries;
+          folder = folder;
+          output = output_seen K.written K.faults K.shortages out.old out.new;
+        }) result }
+    ensures links_closed { AreNumbered (F.started fleet.old) (F.open_links fleet.old)
+        → F.open_links fleet.new ≡ F.open_links fleet.old }
     ensures alone { fleet.new ≡ fleet.old }
     ensures fleet_count { F.faults fleet.old ≤ F.faults fleet.new }
     ensures out_count { K.faults out.old ≤ K.faults out.new }
@@ -217,7 +241,8 @@ fn sum_up<F: Fleet, K: Sink, R: Wait>(
 
 // Reads a record's file, and saves the record of its replay under this name.
 fn migrate<D: Folder>(alloc: Global, source: &str, name: &str, folder: &mut D) -> Result<(), Ending>
-    ensures migrated { (words : List (List ℕ)) → (outside : Outside) → (output : OutputSeen) → outside.log ≡ [] → outside.new_faults ≡ outside.faults → output.after ≡ output.before
+    ensures migrated { (words : List (List ℕ)) → (outside : Outside) → (output : OutputSeen)
+        → outside.log ≡ [] → outside.new_faults ≡ outside.faults → output.after ≡ output.before
         → IsAsked words (requests.Migrate source.now name.now) → Ended (record {
           words = words;
           outside = outside;
@@ -233,9 +258,11 @@ fn migrate<D: Folder>(alloc: Global, source: &str, name: &str, folder: &mut D) -
 
 // Saves a file, or says why it isn't saved.
 fn save<D: Folder>(folder: &mut D, name: &str, bytes: &[u8]) -> Result<(), Ending>
-    ensures kept { OnOk result (D.files folder.new ≡ option_map (with_file name.now bytes.now) (D.files folder.old)) }
+    ensures kept { OnOk result (D.files folder.new
+        ≡ option_map (with_file name.now bytes.now) (D.files folder.old)) }
     ensures unsaved { OnErr result (D.files folder.new ≡ D.files folder.old) }
-    ensures cause { IfErr result (λ e. ((e ≡ ends.Folder) × HasRisen (D.faults folder.old) (D.faults folder.new)) ⊎ (e ≡ ends.Mem)) }
+    ensures cause { IfErr result (λ e. ((e ≡ ends.Folder)
+        × HasRisen (D.faults folder.old) (D.faults folder.new)) ⊎ (e ≡ ends.Mem)) }
     ensures count { D.faults folder.old ≤ D.faults folder.new }
 {
     match folder.save(name, bytes) {
@@ -247,8 +274,11 @@ fn save<D: Folder>(folder: &mut D, name: &str, bytes: &[u8]) -> Result<(), Endin
 
 // Saves the record of a run, if there is one, under the name, if one is given.
 fn keep<D: Folder>(folder: &mut D, name: &Option<Text>, bytes: &Option<Vec<u8>>) -> FileSave
-    ensures kept { result ≡ FileSave.Kept → IsFolderAfter name.now (option_map (λ b. b.items) bytes.now) (D.files folder.old) (D.files folder.new) }
-    ensures failed { result ≡ FileSave.Failed → (D.files folder.new ≡ D.files folder.old) × HasRisen (D.faults folder.old) (D.faults folder.new) }
+    ensures kept { result ≡ FileSave.Kept
+        → IsFolderAfter name.now (option_map (λ b. b.items) bytes.now) (D.files folder.old)
+        (D.files folder.new) }
+    ensures failed { result ≡ FileSave.Failed → (D.files folder.new ≡ D.files folder.old)
+        × HasRisen (D.faults folder.old) (D.faults folder.new) }
     ensures wanting { result ≡ FileSave.Mem → D.files folder.new ≡ D.files folder.old }
     ensures count { D.faults folder.old ≤ D.faults folder.new }
 {
@@ -261,7 +291,9 @@ fn keep<D: Folder>(folder: &mut D, name: &Option<Text>, bytes: &Option<Vec<u8>>)
 // A file's bytes, or why there are none.
 fn file_bytes<D: Folder>(alloc: Global, folder: &mut D, name: &str) -> Result<Vec<u8>, Ending>
     ensures read { IfOk result (λ bytes. IsHeld (D.files folder.old) name.now bytes.items) }
-    ensures unread { IfErr result (λ e. IsUnreadable (D.files folder.old) name.now (HasRisen (D.faults folder.old) (D.faults folder.new)) e) }
+    ensures unread { IfErr result
+        (λ e. IsUnreadable (D.files folder.old) name.now
+        (HasRisen (D.faults folder.old) (D.faults folder.new)) e) }
     ensures kept { D.files folder.new ≡ D.files folder.old }
     ensures count { D.faults folder.old ≤ D.faults folder.new }
 {
@@ -284,7 +316,9 @@ fn file_bytes<D: Folder>(alloc: Global, folder: &mut D, name: &str) -> Result<Ve
 fn print<K: Sink>(out: &mut K, text: &[u8]) -> Result<(), Ending>
     ensures put { OnOk result (K.written out.new ≡ appended text.now (K.written out.old)) }
     ensures cut { OnErr result (TookBeginning text.now (K.written out.old) (K.written out.new)) }
-    ensures cause { IfErr result (λ e. ((e ≡ ends.Output) × HasRisen (K.faults out.old) (K.faults out.new)) ⊎ ((e ≡ ends.Mem) × HasRisen (K.shortages out.old) (K.shortages out.new))) }
+    ensures cause { IfErr result (λ e. ((e ≡ ends.Output)
+        × HasRisen (K.faults out.old) (K.faults out.new))
+        ⊎ ((e ≡ ends.Mem) × HasRisen (K.shortages out.old) (K.shortages out.new))) }
     ensures count { K.faults out.old ≤ K.faults out.new }
 {
     match put_all(out, text) {
@@ -297,7 +331,9 @@ fn print<K: Sink>(out: &mut K, text: &[u8]) -> Result<(), Ending>
 // Says why there is no text, and answers the status. Where there is no memory for the line it says that.
 fn tell<E: Sink>(alloc: Global, ending: &Ending, err: &mut E) -> u8
     ensures told { (e : Ending) × ((e ≡ ending.now) ⊎ (e ≡ ends.Mem)) × (result ≡ status_of e)
-        × TookLine (line_of e) (HasRisen (E.faults err.old) (E.faults err.new) ⊎ HasRisen (E.shortages err.old) (E.shortages err.new)) (E.written err.old) (E.written err.new) }
+        × TookLine (line_of e) (HasRisen (E.faults err.old) (E.faults err.new)
+        ⊎ HasRisen (E.shortages err.old) (E.shortages err.new)) (E.written err.old)
+        (E.written err.new) }
     ensures count { E.faults err.old ≤ E.faults err.new }
 {
     match ending.line(alloc) {
@@ -314,7 +350,9 @@ fn tell<E: Sink>(alloc: Global, ending: &Ending, err: &mut E) -> u8
 
 // Puts a line, or a beginning of it where the sink fails or finds no memory.
 fn put_line<E: Sink>(err: &mut E, line: &[u8])
-    ensures told { TookLine line.now (HasRisen (E.faults err.old) (E.faults err.new) ⊎ HasRisen (E.shortages err.old) (E.shortages err.new)) (E.written err.old) (E.written err.new) }
+    ensures told { TookLine line.now (HasRisen (E.faults err.old) (E.faults err.new)
+        ⊎ HasRisen (E.shortages err.old) (E.shortages err.new)) (E.written err.old)
+        (E.written err.new) }
     ensures count { E.faults err.old ≤ E.faults err.new }
 {
     match put_all(err, line) {

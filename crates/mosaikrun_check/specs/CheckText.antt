@@ -24,5 +24,6 @@ ids_by_rank S ranks n = flat_map (λ r. 32 ∷ id_at S (sim_of_rank ranks r)) (r
 -- how many simulators, groups and blocks there are, and the simulators' ids in rising rank
 abbrev pub check_text : Scenario → List ℕ → List ℕ
 check_text S ranks =
-    counted (codes "sims") (length S.sims) ++ counted (codes "groups") (length S.groups) ++ counted (codes "blocks") (length S.blocks)
+    counted (codes "sims") (length S.sims) ++ counted (codes "groups") (length S.groups)
+    ++ counted (codes "blocks") (length S.blocks)
     ++ codes "order" ++ ids_by_rank S ranks (length S.sims) ++ codes "\n"

@@ -1,4 +1,5 @@
--- What `check` finds of a scenario file's bytes, the kinds of simulators within the program having certain names.
+-- What `check` finds of a scenario file's bytes, the kinds of simulators within the program having
+-- certain names.
 use Rattle.std.specs.Prelude.{◌≡◌, ◌⊎◌, ℕ, List, Result, Ok, Err}
 use Rattle.mk_scenario_keys.specs.declared.fault.ScenarioFault.{ScenarioFault}
 use Rattle.mk_scenario.specs.declared.parts.Scenario.{Scenario}
@@ -20,7 +21,8 @@ pub record IsChecked (kinds : List (List ℕ)) (bytes text : List ℕ) : Type 0 
 
 -- why the bytes are no scenario: the first test that they fail, or want of memory
 abbrev pub IsUnread : List ℕ → Ending → Type 0
-IsUnread bytes e = (e ≡ ends.Mem) ⊎ ((fault : ScenarioFault) × (e ≡ ends.Scenario fault) × (scenario_of bytes ≡ Err fault))
+IsUnread bytes e = (e ≡ ends.Mem)
+    ⊎ ((fault : ScenarioFault) × (e ≡ ends.Scenario fault) × (scenario_of bytes ≡ Err fault))
 
 -- the bytes are a scenario that can't be run
 pub record IsStuck (kinds : List (List ℕ)) (bytes : List ℕ) (ending : Ending) : Type 0 where

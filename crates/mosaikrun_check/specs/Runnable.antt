@@ -1,4 +1,5 @@
--- Which scenarios can be run, the kinds of simulators within the program having certain names, and why others can't.
+-- Which scenarios can be run, the kinds of simulators within the program having certain names, and
+-- why others can't.
 use Rattle.std.specs.Prelude.{◌≡◌, ◌⊎◌, ℕ, List, length, map}
 use Rattle.mk_base.specs.declared.SimNo.{SimNo}
 use Rattle.mk_cycles.specs.Cycles.{IsCycle}
@@ -17,7 +18,8 @@ use Rattle.mosaikrun_check.specs.CheckText.{id_at}
 abbrev pub AreRanks : Scenario → List ℕ → Type 0
 AreRanks S ranks = IsRanking (has_edge (edges_of S)) (length S.sims) ranks
 
--- the scenario has these ranks, so they are 0 to the count, each once, and rise along its edges; and each of its simulators can be begun
+-- the scenario has these ranks, so they are 0 to the count, each once, and rise along its edges;
+-- and each of its simulators can be begun
 pub record IsRunnable (kinds : List (List ℕ)) (S : Scenario) (ranks : List ℕ) : Type 0 where
   pub ranked : AreRanks S ranks
   pub each_once : IsEachOnce (length S.sims) ranks

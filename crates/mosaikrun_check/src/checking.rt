@@ -71,7 +71,8 @@ pub fn ranked(alloc: Global, kinds: &List<Text>, scenario: &Scenario) -> Result<
 fn prepared(alloc: Global, scenario: &Scenario, kinds: &List<Text>) -> Result<(), Ending>
     requires { length scenario.now.sims < 2 ^ 32 }
     ensures prepared { OnOk result (IsPrepared scenario.now kinds.now) }
-    ensures unprepared { IfErr result (λ ending. (ending ≡ ends.Mem) ⊎ IsUnbegun scenario.now kinds.now ending) }
+    ensures unprepared { IfErr result (λ ending. (ending ≡ ends.Mem)
+        ⊎ IsUnbegun scenario.now kinds.now ending) }
 {
     match prepare(alloc, scenario, kinds) {
         Ok(()) => Ok(()),
@@ -102,6 +103,8 @@ fn ids_of(alloc: Global, scenario: &Scenario, walk: &List<SimNo>) -> Result<List
 /// One file has one status: two texts or endings that `check` may answer of the same bytes, with the same kinds, have the same,
 /// want of memory aside.
 pub fn scenario_has_one_status()
-    ensures { (kinds : List (List ℕ)) → (bytes : List ℕ) → (o : Result (List ℕ) Ending) → (p : Result (List ℕ) Ending)
-        → IsOutcome kinds bytes o → IsOutcome kinds bytes p → (o ≡ Err ends.Mem → ⊥) → (p ≡ Err ends.Mem → ⊥) → outcome_status o ≡ outcome_status p }
+    ensures { (kinds : List (List ℕ)) → (bytes : List ℕ) → (o : Result (List ℕ) Ending)
+        → (p : Result (List ℕ) Ending)
+        → IsOutcome kinds bytes o → IsOutcome kinds bytes p → (o ≡ Err ends.Mem → ⊥)
+        → (p ≡ Err ends.Mem → ⊥) → outcome_status o ≡ outcome_status p }
 {}

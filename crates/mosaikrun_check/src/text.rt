@@ -28,7 +28,8 @@ fn put_order(
     ranks: &[u32],
     count: u32,
 ) -> Result<(), AllocError>
-    ensures { OnOk result (out.new.items ≡ out.old.items ++ ids_by_rank scenario.now ranks.now count) }
+    ensures { OnOk result (out.new.items ≡ out.old.items
+        ++ ids_by_rank scenario.now ranks.now count) }
 {
     for rank in 0..count {
         put(out, " ")?;

@@ -8,5 +8,6 @@ ghost use Rattle.mosaikrun_demo.specs.Outcomes.{IsDemoOutcome};
 
 /// No simulator of the demo scenario has a link, so no ending of its run names one.
 pub fn no_link_is_named()
-    ensures { (O : Outside) → (size : ℕ) → (sim : List ℕ) → (fault : LinkFault) → IsDemoOutcome O size (Err (ends.Link sim fault)) → ⊥ }
+    ensures { (O : Outside) → (size : ℕ) → (sim : List ℕ) → (fault : LinkFault)
+        → IsDemoOutcome O size (Err (ends.Link sim fault)) → ⊥ }
 {}

@@ -28,12 +28,17 @@ pub fn summed<F: Fleet, R: Wait>(
     requires low { 1 ≤ size }
     requires high { size ≤ 100 }
     ensures count { F.faults fleet.old ≤ F.faults fleet.new }
-    ensures closed { AreNumbered (F.started fleet.old) (F.open_links fleet.old) → F.open_links fleet.new ≡ F.open_links fleet.old }
+    ensures closed { AreNumbered (F.started fleet.old) (F.open_links fleet.old)
+        → F.open_links fleet.new ≡ F.open_links fleet.old }
     ensures unused { fleet.new ≡ fleet.old }
-    ensures text { IfOk result (λ text. (entries : List LogEntry) × Adds entries (F.log fleet.old) (F.log fleet.new)
-        × IsDemoOutcome (outside F.started F.faults (rows_in kinds.now) fleet.old fleet.new entries) size (Ok text.items)) }
-    ensures none { IfErr result (λ e. (entries : List LogEntry) × Adds entries (F.log fleet.old) (F.log fleet.new)
-        × IsDemoOutcome (outside F.started F.faults (rows_in kinds.now) fleet.old fleet.new entries) size (Err e)) }
+    ensures text { IfOk result (λ text. (entries : List LogEntry)
+        × Adds entries (F.log fleet.old) (F.log fleet.new)
+        × IsDemoOutcome (outside F.started F.faults (rows_in kinds.now) fleet.old fleet.new entries)
+        size (Ok text.items)) }
+    ensures none { IfErr result (λ e. (entries : List LogEntry)
+        × Adds entries (F.log fleet.old) (F.log fleet.new)
+        × IsDemoOutcome (outside F.started F.faults (rows_in kinds.now) fleet.old fleet.new entries)
+        size (Err e)) }
 {
     let scenario = demo_scenario(alloc, size)?;
     played(rt, alloc, kinds, scenario, fleet, Form::Summary, false).text

@@ -10,25 +10,32 @@ use Rattle.mosaikrun_endings.specs.Setups.{text_of_setup}
 
 -- what is said of it
 abbrev pub text_of : Ending → List ℕ
-text_of Usage = codes "usage: run SCENARIO [--record FILE] or replay RECORD [--order N] or check SCENARIO or demo N or migrate OLD NEW"
+text_of Usage = codes
+    "usage: run SCENARIO [--record FILE] or replay RECORD [--order N] or check SCENARIO or demo N or migrate OLD NEW"
 text_of (Missing name) = name ++ codes ": no such file"
-text_of (TooLong name count) = name ++ codes ": " ++ decimal count ++ codes " bytes, limit 536870912"
+text_of (TooLong name count) = name ++ codes ": " ++ decimal count
+    ++ codes " bytes, limit 536870912"
 text_of (Scenario fault) = text_of_scenario fault
 text_of (Cycle sims) = codes "connect 8: cycle" ++ flat_map (λ id. 32 ∷ id) sims
 text_of (Launch sim fault) = text_of_launch sim fault
 text_of (Setup setup) = text_of_setup setup
-text_of (Record line fault) = codes "record: line " ++ decimal line ++ codes " fault " ++ decimal fault
-text_of (Wrong sim place cause) = codes "run 1: " ++ sim ++ codes " message " ++ decimal place ++ codes " cause " ++ decimal cause
+text_of (Record line fault) = codes "record: line " ++ decimal line ++ codes " fault "
+    ++ decimal fault
+text_of (Wrong sim place cause) = codes "run 1: " ++ sim ++ codes " message " ++ decimal place
+    ++ codes " cause " ++ decimal cause
 text_of (Failed sim text) = codes "run 2: " ++ sim ++ codes " failed: " ++ text
-text_of (LoopLimit sim time) = codes "run 3: " ++ sim ++ codes " loop limit at " ++ signed_decimal time
+text_of (LoopLimit sim time) = codes "run 3: " ++ sim ++ codes " loop limit at "
+    ++ signed_decimal time
 text_of (Link sim fault) = text_of_link sim fault
-text_of (Short outstanding) = codes "run 8: record ends with " ++ decimal outstanding ++ codes " outstanding"
+text_of (Short outstanding) = codes "run 8: record ends with " ++ decimal outstanding
+    ++ codes " outstanding"
 text_of (Differs entry) = codes "run 9: record entry " ++ decimal entry ++ codes " differs"
 text_of Fleet = codes "outside: fleet"
 text_of Folder = codes "outside: folder"
 text_of Output = codes "outside: output"
 text_of (Entries entries) = codes "limit: " ++ decimal entries ++ codes " entries"
-text_of (LongItem sim length) = codes "limit: " ++ sim ++ codes " message of " ++ decimal length ++ codes " bytes"
+text_of (LongItem sim length) = codes "limit: " ++ sim ++ codes " message of " ++ decimal length
+    ++ codes " bytes"
 text_of Mem = codes "out of memory"
 
 -- a line feed or carriage return as a space

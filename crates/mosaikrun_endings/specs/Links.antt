@@ -7,5 +7,7 @@ use Rattle.mosaikrun_endings.specs.declared.links.LinkFault.TheVariants.{Closed,
 -- by the simulator's id, and why
 abbrev pub text_of_link : List ℕ → LinkFault → List ℕ
 text_of_link sim Closed = codes "run 5: " ++ sim ++ codes " closed its link"
-text_of_link sim (Garbled test) = codes "run 6: " ++ sim ++ codes " sent no message (" ++ decimal test ++ codes ")"
-text_of_link sim (LongFrame length) = codes "run 7: " ++ sim ++ codes " frame of " ++ decimal length ++ codes " bytes"
+text_of_link sim (Garbled test) = codes "run 6: " ++ sim ++ codes " sent no message ("
+    ++ decimal test ++ codes ")"
+text_of_link sim (LongFrame length) = codes "run 7: " ++ sim ++ codes " frame of " ++ decimal length
+    ++ codes " bytes"

@@ -20,18 +20,23 @@ text_of_meta sim meta.NoVersion = codes "meta 1:" ++ spaced sim
 text_of_meta sim (meta.Version text) = codes "meta 2:" ++ spaced sim ++ spaced text
 text_of_meta sim (meta.BadType text) = codes "meta 3:" ++ spaced sim ++ spaced text
 text_of_meta sim meta.NoModels = codes "meta 4:" ++ spaced sim
-text_of_meta sim (meta.Model model member) = codes "meta 5:" ++ spaced sim ++ spaced model ++ spaced member
-text_of_meta sim (meta.TriggerUnknown model name) = codes "meta 6:" ++ spaced sim ++ spaced model ++ spaced name
+text_of_meta sim (meta.Model model member) = codes "meta 5:" ++ spaced sim ++ spaced model
+    ++ spaced member
+text_of_meta sim (meta.TriggerUnknown model name) = codes "meta 6:" ++ spaced sim ++ spaced model
+    ++ spaced name
 text_of_meta sim meta.Mem = codes "out of memory"
 
 -- of a reply to `create`, by the simulator's id
 abbrev pub text_of_create : List ℕ → CreateFault → List ℕ
-text_of_create sim (create.Count wanted count) = codes "create 1:" ++ spaced sim ++ spaced (decimal wanted) ++ spaced (decimal count)
+text_of_create sim (create.Count wanted count) = codes "create 1:" ++ spaced sim
+    ++ spaced (decimal wanted) ++ spaced (decimal count)
 text_of_create sim (create.NoEid place) = codes "create 2:" ++ spaced sim ++ spaced (decimal place)
 text_of_create sim (create.TwiceEid eid) = codes "create 3:" ++ spaced sim ++ spaced eid
 text_of_create sim (create.OfType eid) = codes "create 4:" ++ spaced sim ++ spaced eid
-text_of_create sim (create.Related eid named) = codes "create 5:" ++ spaced sim ++ spaced eid ++ spaced named
-text_of_create sim (create.TooMany count) = codes "create 6:" ++ spaced sim ++ spaced (decimal count)
+text_of_create sim (create.Related eid named) = codes "create 5:" ++ spaced sim ++ spaced eid
+    ++ spaced named
+text_of_create sim (create.TooMany count) = codes "create 6:" ++ spaced sim
+    ++ spaced (decimal count)
 text_of_create sim create.Mem = codes "out of memory"
 
 -- of groups and connections, whose entities are named by their full ids
@@ -40,8 +45,10 @@ text_of_connect (connect.NoEntity id) = codes "connect 1:" ++ spaced id
 text_of_connect (connect.NoSourceAttr id attr) = codes "connect 2:" ++ spaced id ++ spaced attr
 text_of_connect (connect.NoTargetAttr id attr) = codes "connect 3:" ++ spaced id ++ spaced attr
 text_of_connect (connect.NotPublic sim model) = codes "connect 4:" ++ spaced sim ++ spaced model
-text_of_connect (connect.UnknownParam model param) = codes "connect 5:" ++ spaced model ++ spaced param
-text_of_connect (connect.Twice id attr source) = codes "connect 6:" ++ spaced id ++ spaced attr ++ spaced source
+text_of_connect (connect.UnknownParam model param) = codes "connect 5:" ++ spaced model
+    ++ spaced param
+text_of_connect (connect.Twice id attr source) = codes "connect 6:" ++ spaced id ++ spaced attr
+    ++ spaced source
 text_of_connect (connect.NoInitial id attr) = codes "connect 7:" ++ spaced id ++ spaced attr
 text_of_connect (connect.TooMany count) = codes "connect 9:" ++ spaced (decimal count)
 text_of_connect connect.Mem = codes "out of memory"

@@ -104,7 +104,8 @@ impl Ending {
 // Puts into an empty text what is said of simulators that lead in a circle.
 fn put_cycle(out: &mut Vec<u8>, sims: &List<Text>) -> Result<(), AllocError>
     requires { out.old.items ≡ [] }
-    ensures { OnOk result (out.new.items ≡ codes "connect 8: cycle" ++ flat_map (λ id. 32 ∷ id) sims.now) }
+    ensures { OnOk result (out.new.items ≡ codes "connect 8: cycle"
+        ++ flat_map (λ id. 32 ∷ id) sims.now) }
 {
     put(out, "connect 8: cycle")?;
     for sim in sims.as_slice() {
@@ -123,7 +124,8 @@ fn put_wrong(
     cause: u8,
 ) -> Result<(), AllocError>
     requires { out.old.items ≡ [] }
-    ensures { OnOk result (out.new.items ≡ codes "run 1: " ++ sim.now ++ codes " message " ++ decimal place ++ codes " cause " ++ decimal cause) }
+    ensures { OnOk result (out.new.items ≡ codes "run 1: " ++ sim.now ++ codes " message "
+        ++ decimal place ++ codes " cause " ++ decimal cause) }
 {
     put(out, "run 1: ")?;
     put(out, sim.as_str())?;

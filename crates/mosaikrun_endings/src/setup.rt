@@ -154,7 +154,8 @@ fn put_three(
     third: &Text,
 ) -> Result<(), AllocError>
     requires { out.old.items ≡ [] }
-    ensures { OnOk result (out.new.items ≡ words.now ++ spaced text.now ++ spaced other.now ++ spaced third.now) }
+    ensures { OnOk result (out.new.items ≡ words.now ++ spaced text.now ++ spaced other.now
+        ++ spaced third.now) }
 {
     put_two(out, words, text, other)?;
     put_spaced(out, third)

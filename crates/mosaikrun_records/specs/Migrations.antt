@@ -30,7 +30,9 @@ IsLost A J (ends.Short n) = IsLeft A J
 IsLost A J (ends.Core fault) = IsLeft A J
 IsLost A J (ends.Other n) = ⊤
 
--- the bytes are a record of a valid plan; no entry differs in its replay, which comes to a journal with all its messages; the text is the record of that plan and journal, and says the plan, the same messages, and the journal's Steps
+-- the bytes are a record of a valid plan; no entry differs in its replay, which comes to a journal
+-- with all its messages; the text is the record of that plan and journal, and says the plan, the
+-- same messages, and the journal's Steps
 pub record IsRecordOf (bytes : List ℕ) (text : List ℕ) : Type 0 where
   pub plan : Plan
   pub arrivals : List Arrival
@@ -44,7 +46,8 @@ pub record IsRecordOf (bytes : List ℕ) (text : List ℕ) : Type 0 where
   pub written : text ≡ record_text plan journal
   pub again : reading text ≡ Said plan arrivals (Some (steps_of journal))
 
--- the bytes are a record of a valid plan; an entry differs in its replay, or that doesn't come to all its messages; and its end is as is said
+-- the bytes are a record of a valid plan; an entry differs in its replay, or that doesn't come to
+-- all its messages; and its end is as is said
 pub record IsNoRecordOf (bytes : List ℕ) (e : Ending) : Type 0 where
   pub plan : Plan
   pub arrivals : List Arrival

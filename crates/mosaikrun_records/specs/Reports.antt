@@ -17,12 +17,16 @@ use Rattle.mosaikrun_endings.specs.Stops.{stop_of}
 use Rattle.mosaikrun_endings.specs.declared.ending.Ending.{Ending}
 use Rattle.mosaikrun_endings.specs.declared.ending.Ending.TheVariants.{Usage, Missing, TooLong, Scenario, Cycle, Launch, Setup, Record, Wrong, Failed, LoopLimit, Link, Short, Differs, Fleet, Folder, Output, Entries, LongItem, Mem}
 
--- the replay in this order comes to a journal in which all is done; one of the messages as they came, which begins with the steps and messages of a record of version 2, or one of them in the order of a number
+-- the replay in this order comes to a journal in which all is done; one of the messages as they
+-- came, which begins with the steps and messages of a record of version 2, or one of them in the
+-- order of a number
 abbrev pub IsDoneBy : Plan → List Arrival → Option (List Asked) → Option ℕ → List Entry → Type 0
 IsDoneBy P A steps None J = IsReplay P A J × IsOther A steps J None × IsWhole P A J
 IsDoneBy P A steps (Some N) J = IsReplayInOrder P A N J ends.Done
 
--- the bytes are a record of a valid plan; its replay in this order comes to a journal in which all is done; and the text is the report of the sequential execution of the plan over the record's messages, in which each message is used and no turn is cut
+-- the bytes are a record of a valid plan; its replay in this order comes to a journal in which all
+-- is done; and the text is the report of the sequential execution of the plan over the record's
+-- messages, in which each message is used and no turn is cut
 pub record IsReportOf (bytes : List ℕ) (order : Option ℕ) (text : List ℕ) : Type 0 where
   pub plan : Plan
   pub arrivals : List Arrival
@@ -31,8 +35,10 @@ pub record IsReportOf (bytes : List ℕ) (order : Option ℕ) (text : List ℕ) 
   pub read : reading bytes ≡ Said plan arrivals steps
   pub valid : IsValidPlan plan
   pub done : IsDoneBy plan arrivals steps order journal
-  pub used : (i : ℕ) → i < sim_count plan → messages_in (sequential plan (messages_from arrivals) i) ≡ messages_from arrivals i
-  pub uncut : (i : ℕ) → i < sim_count plan → all_ended (sequential plan (messages_from arrivals) i) ≡ true
+  pub used : (i : ℕ) → i < sim_count plan
+      → messages_in (sequential plan (messages_from arrivals) i) ≡ messages_from arrivals i
+  pub uncut : (i : ℕ) → i < sim_count plan
+      → all_ended (sequential plan (messages_from arrivals) i) ≡ true
   pub reported : text ≡ report plan (run_items plan (messages_from arrivals))
 
 -- what is said of a replay that doesn't end with all done

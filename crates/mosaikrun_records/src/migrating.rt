@@ -46,7 +46,8 @@ pub fn migrated(alloc: Global, bytes: &[u8]) -> Result<Vec<u8>, Ending>
 // The record of a replay.
 fn rewritten(alloc: Global, replayed: &Replayed) -> Result<Vec<u8>, Mem>
     requires { list_all is_writable replayed.now.journal.entries ≡ true }
-    ensures { IfOk result (λ text. text.items ≡ record_text replayed.now.plan replayed.now.journal.entries) }
+    ensures { IfOk result (λ text. text.items
+        ≡ record_text replayed.now.plan replayed.now.journal.entries) }
 {
     write_record(alloc, &replayed.plan, &replayed.journal)
 }
@@ -88,5 +89,6 @@ fn is_message(entry: &Entry) -> bool
 /// same.
 pub fn record_has_one_migration()
     ensures { (bytes : List ℕ) → (o : Result (List ℕ) Ending) → (p : Result (List ℕ) Ending)
-        → IsMigration bytes o → IsMigration bytes p → (o ≡ Err ends.Mem → ⊥) → (p ≡ Err ends.Mem → ⊥) → o ≡ p }
+        → IsMigration bytes o → IsMigration bytes p → (o ≡ Err ends.Mem → ⊥)
+        → (p ≡ Err ends.Mem → ⊥) → o ≡ p }
 {}

@@ -30,8 +30,11 @@ pub fn reported(alloc: Global, bytes: &[u8], order: Option<u32>) -> Result<Vec<u
 /// One record has one outcome in each order, want of memory aside: two texts or endings that `replay` may answer of the same
 /// bytes in the same order are the same. And it has one report: two texts that it may answer are the same, whatever the orders.
 pub fn record_has_one_outcome()
-    ensures outcome { (bytes : List ℕ) → (order : Option ℕ) → (o : Result (List ℕ) Ending) → (p : Result (List ℕ) Ending)
-        → IsOutcome bytes order o → IsOutcome bytes order p → (o ≡ Err ends.Mem → ⊥) → (p ≡ Err ends.Mem → ⊥) → o ≡ p }
-    ensures report { (bytes : List ℕ) → (order : Option ℕ) → (other : Option ℕ) → (text : List ℕ) → (same : List ℕ)
+    ensures outcome { (bytes : List ℕ) → (order : Option ℕ) → (o : Result (List ℕ) Ending)
+        → (p : Result (List ℕ) Ending)
+        → IsOutcome bytes order o → IsOutcome bytes order p → (o ≡ Err ends.Mem → ⊥)
+        → (p ≡ Err ends.Mem → ⊥) → o ≡ p }
+    ensures report { (bytes : List ℕ) → (order : Option ℕ) → (other : Option ℕ) → (text : List ℕ)
+        → (same : List ℕ)
         → IsReportOf bytes order text → IsReportOf bytes other same → text ≡ same }
 {}

@@ -16,22 +16,44 @@ use Rattle.mosaikrun_run.specs.Outcomes.{IsPlayed, IsRunOutcome, IsScenarioOutco
 use Rattle.mosaikrun_run.specs.Records.{HasRecord, IsSettled, IsStepSaid}
 use Rattle.mosaikrun_run.specs.Sayings.{text_of}
 
--- the report of a run, or its summary, is that of what sequential execution of its plan sends each simulator, over all messages that the links have brought and whatever may still come, those of simulators within the program being their kinds'; and no turn in it is cut
+-- the report of a run, or its summary, is that of what sequential execution of its plan sends each
+-- simulator, over all messages that the links have brought and whatever may still come, those of
+-- simulators within the program being their kinds'; and no turn in it is cut
 abbrev pub TextsAreSequential : Type 0
-TextsAreSequential = (O : Outside) (form : Form) (wanted : Bool) (S : Scenario) (text : List ℕ) (record_ : Option (List ℕ)) → (played : IsPlayed O form wanted S (Ok text) record_)
+TextsAreSequential = (O : Outside) (form : Form) (wanted : Bool) (S : Scenario) (text : List ℕ)
+    (record_ : Option (List ℕ)) → (played : IsPlayed O form wanted S (Ok text) record_)
     → (R : Messages) → IsPossible O.started S (kind_reply_of O.kinds S) played.plan O.log R
-    → (text ≡ text_of form played.plan (run_items played.plan R)) × ((i : ℕ) → i < sim_count played.plan → all_ended (sequential played.plan R i) ≡ true)
+    → (text ≡ text_of form played.plan (run_items played.plan R))
+    × ((i : ℕ) → i < sim_count played.plan → all_ended (sequential played.plan R i) ≡ true)
 
--- where a record is wanted and memory isn't wanting: it is there where there is a text, where the run met a fault, and where the whole frame of a Step was said on a link; and where there is one, it is that of a run
+-- where a record is wanted and memory isn't wanting: it is there where there is a text, where the
+-- run met a fault, and where the whole frame of a Step was said on a link; and where there is one,
+-- it is that of a run
 pub record RecordsAreThere : Type 0 where
-  pub there : (O : Outside) (form : Form) (S : Scenario) (text : Result (List ℕ) Ending) (kept : Option (List ℕ)) → IsScenarioOutcome O form true S text kept → (text ≡ Err Mem → ⊥) → IsSettled text ⊎ IsStepSaid O.started S O.log → HasRecord O S kept
-  pub only : (O : Outside) (form : Form) (S : Scenario) (text : Result (List ℕ) Ending) (kept : Option (List ℕ)) → IsScenarioOutcome O form true S text kept → (kept ≡ None) ⊎ HasRecord O S kept
+  pub there : (O : Outside) (form : Form) (S : Scenario) (text : Result (List ℕ) Ending)
+      (kept : Option (List ℕ)) → IsScenarioOutcome O form true S text kept → (text ≡ Err Mem → ⊥)
+      → IsSettled text ⊎ IsStepSaid O.started S O.log → HasRecord O S kept
+  pub only : (O : Outside) (form : Form) (S : Scenario) (text : Result (List ℕ) Ending)
+      (kept : Option (List ℕ)) → IsScenarioOutcome O form true S text kept → (kept ≡ None)
+      ⊎ HasRecord O S kept
 
--- all simulators of a scenario being within the program, two runs of it that have texts have the same, whatever fleets they are over, so the report is a function of the bytes of the scenario's file; and they have the same plan, and all that is said with each simulator is the same
+-- all simulators of a scenario being within the program, two runs of it that have texts have the
+-- same, whatever fleets they are over, so the report is a function of the bytes of the scenario's
+-- file; and they have the same plan, and all that is said with each simulator is the same
 pub record WithinIsOneText : Type 0 where
-  pub scenarios : (O Q : Outside) (form : Form) (wanted also : Bool) (S : Scenario) (text other : List ℕ) (kept saved : Option (List ℕ)) → Q.kinds ≡ O.kinds → IsWellformed S → is_wholly_within S ≡ true
-      → IsScenarioOutcome O form wanted S (Ok text) kept → IsScenarioOutcome Q form also S (Ok other) saved → text ≡ other
-  pub files : (O Q : Outside) (wanted also : Bool) (bytes text other : List ℕ) (kept saved : Option (List ℕ)) → Q.kinds ≡ O.kinds → ((S : Scenario) → scenario_of bytes ≡ Ok S → is_wholly_within S ≡ true)
-      → IsRunOutcome O wanted bytes (Ok text) kept → IsRunOutcome Q also bytes (Ok other) saved → text ≡ other
-  pub talks : (O Q : Outside) (form : Form) (wanted also : Bool) (S : Scenario) (text other : List ℕ) (kept saved : Option (List ℕ)) → Q.kinds ≡ O.kinds → IsWellformed S → is_wholly_within S ≡ true
-      → (p : IsPlayed O form wanted S (Ok text) kept) → (q : IsPlayed Q form also S (Ok other) saved) → (q.plan ≡ p.plan) × ((i : ℕ) → run_talk p.plan (got p.journal) i ≡ run_talk q.plan (got q.journal) i)
+  pub scenarios : (O Q : Outside) (form : Form) (wanted also : Bool) (S : Scenario)
+      (text other : List ℕ) (kept saved : Option (List ℕ)) → Q.kinds ≡ O.kinds → IsWellformed S
+      → is_wholly_within S ≡ true
+      → IsScenarioOutcome O form wanted S (Ok text) kept
+      → IsScenarioOutcome Q form also S (Ok other) saved → text ≡ other
+  pub files : (O Q : Outside) (wanted also : Bool) (bytes text other : List ℕ)
+      (kept saved : Option (List ℕ)) → Q.kinds ≡ O.kinds
+      → ((S : Scenario) → scenario_of bytes ≡ Ok S → is_wholly_within S ≡ true)
+      → IsRunOutcome O wanted bytes (Ok text) kept → IsRunOutcome Q also bytes (Ok other) saved
+      → text ≡ other
+  pub talks : (O Q : Outside) (form : Form) (wanted also : Bool) (S : Scenario)
+      (text other : List ℕ) (kept saved : Option (List ℕ)) → Q.kinds ≡ O.kinds → IsWellformed S
+      → is_wholly_within S ≡ true
+      → (p : IsPlayed O form wanted S (Ok text) kept)
+      → (q : IsPlayed Q form also S (Ok other) saved) → (q.plan ≡ p.plan)
+      × ((i : ℕ) → run_talk p.plan (got p.journal) i ≡ run_talk q.plan (got q.journal) i)

@@ -22,7 +22,8 @@ use Rattle.mosaikrun_run.specs.declared.sayings.Form.{Form}
 use Rattle.mosaikrun_run.specs.declared.sayings.Form.TheVariants.{Report}
 use Rattle.mosaikrun_run.specs.Sayings.{halt_ending, record_of, saying_of}
 
--- what lies around a run: the kinds within the program, how many links the fleet had started, the entries by which its log grew, and its counts of faults before and after
+-- what lies around a run: the kinds within the program, how many links the fleet had started, the
+-- entries by which its log grew, and its counts of faults before and after
 pub record Outside : Type 0 where
   pub kinds : List Turn
   pub started : ℕ
@@ -30,9 +31,16 @@ pub record Outside : Type 0 where
   pub faults : ℕ
   pub new_faults : ℕ
 
--- that of a call with these kinds over a fleet, by what it tells before and after the call, and these entries
+-- that of a call with these kinds over a fleet, by what it tells before and after the call, and
+-- these entries
 abbrev pub outside : {F : Type 0} → (F → ℕ) → (F → ℕ) → List Turn → F → F → List LogEntry → Outside
-outside started faults kinds old new entries = record { kinds = kinds; started = started old; log = entries; faults = faults old; new_faults = faults new }
+outside started faults kinds old new entries = record {
+  kinds = kinds;
+  started = started old;
+  log = entries;
+  faults = faults old;
+  new_faults = faults new;
+}
 
 -- nothing was done with the fleet, and there is no record
 pub record IsIdle (O : Outside) (record_ : Option (List ℕ)) : Type 0 where
@@ -45,14 +53,16 @@ abbrev pub IsSaid : Result (List ℕ) Ending → Result (List ℕ) Ending → Ty
 IsSaid wanted text = (text ≡ wanted) ⊎ (text ≡ Err ends.Mem)
 
 -- the scenario can't be run, and nothing was done
-pub record IsUnready (O : Outside) (S : Scenario) (text : Result (List ℕ) Ending) (record_ : Option (List ℕ)) : Type 0 where
+pub record IsUnready (O : Outside) (S : Scenario) (text : Result (List ℕ) Ending)
+    (record_ : Option (List ℕ)) : Type 0 where
   pub ending : Ending
   pub is : text ≡ Err ending
   pub cause : IsUnrunnable (map name_of O.kinds) S ending
   pub idle : IsIdle O record_
 
 -- the scenario can be run, but wasn't: the handshake ended early, or memory was wanting
-pub record IsUnrun (O : Outside) (S : Scenario) (text : Result (List ℕ) Ending) (record_ : Option (List ℕ)) : Type 0 where
+pub record IsUnrun (O : Outside) (S : Scenario) (text : Result (List ℕ) Ending)
+    (record_ : Option (List ℕ)) : Type 0 where
   pub ranks : List ℕ
   pub runnable : IsRunnable (map name_of O.kinds) S ranks
   pub halt : Halt
@@ -60,8 +70,11 @@ pub record IsUnrun (O : Outside) (S : Scenario) (text : Result (List ℕ) Ending
   pub said : IsSaid (Err (halt_ending (ids_of S) halt)) text
   pub unrecorded : record_ ≡ None
 
--- the scenario was run, by this plan, with this journal and this outcome; what is said is its text in this form, or why there is none; and the record is made where it is wanted, but for want of memory, which is then said
-pub record IsPlayed (O : Outside) (form : Form) (wanted : Bool) (S : Scenario) (text : Result (List ℕ) Ending) (record_ : Option (List ℕ)) : Type 0 where
+-- the scenario was run, by this plan, with this journal and this outcome; what is said is its text
+-- in this form, or why there is none; and the record is made where it is wanted, but for want of
+-- memory, which is then said
+pub record IsPlayed (O : Outside) (form : Form) (wanted : Bool) (S : Scenario)
+    (text : Result (List ℕ) Ending) (record_ : Option (List ℕ)) : Type 0 where
   pub ranks : List ℕ
   pub runnable : IsRunnable (map name_of O.kinds) S ranks
   pub plan : Plan
@@ -69,26 +82,34 @@ pub record IsPlayed (O : Outside) (form : Form) (wanted : Bool) (S : Scenario) (
   pub outcome : Outcome
   pub run : HasRun O.started S ranks O.kinds plan journal O.log O.faults O.new_faults outcome
   pub said : IsSaid (saying_of form (ids_of S) plan journal outcome) text
-  pub recorded : (record_ ≡ record_of wanted plan journal) ⊎ ((record_ ≡ None) × (text ≡ Err ends.Mem))
+  pub recorded : (record_ ≡ record_of wanted plan journal)
+      ⊎ ((record_ ≡ None) × (text ≡ Err ends.Mem))
 
--- what comes of a scenario whose text is wanted in this form, a record being wanted or not: the text or why there is none, and the record
-abbrev pub IsScenarioOutcome : Outside → Form → Bool → Scenario → Result (List ℕ) Ending → Option (List ℕ) → Type 0
-IsScenarioOutcome O form wanted S text record_ = IsUnready O S text record_ ⊎ (IsUnrun O S text record_ ⊎ IsPlayed O form wanted S text record_)
+-- what comes of a scenario whose text is wanted in this form, a record being wanted or not: the
+-- text or why there is none, and the record
+abbrev pub IsScenarioOutcome : Outside → Form → Bool → Scenario → Result (List ℕ) Ending
+    → Option (List ℕ) → Type 0
+IsScenarioOutcome O form wanted S text record_ = IsUnready O S text record_
+    ⊎ (IsUnrun O S text record_ ⊎ IsPlayed O form wanted S text record_)
 
 -- the bytes are no scenario, and nothing was done
-pub record IsNoScenario (O : Outside) (bytes : List ℕ) (text : Result (List ℕ) Ending) (record_ : Option (List ℕ)) : Type 0 where
+pub record IsNoScenario (O : Outside) (bytes : List ℕ) (text : Result (List ℕ) Ending)
+    (record_ : Option (List ℕ)) : Type 0 where
   pub ending : Ending
   pub is : text ≡ Err ending
   pub cause : IsUnread bytes ending
   pub idle : IsIdle O record_
 
 -- the bytes are a scenario, which is well-formed, and this comes of it
-pub record HasScenario (O : Outside) (wanted : Bool) (bytes : List ℕ) (text : Result (List ℕ) Ending) (record_ : Option (List ℕ)) : Type 0 where
+pub record HasScenario (O : Outside) (wanted : Bool) (bytes : List ℕ)
+    (text : Result (List ℕ) Ending) (record_ : Option (List ℕ)) : Type 0 where
   pub scenario : Scenario
   pub read : scenario_of bytes ≡ Ok scenario
   pub wellformed : IsWellformed scenario
   pub outcome : IsScenarioOutcome O Report wanted scenario text record_
 
 -- what `run` makes of the bytes, a record being wanted or not
-abbrev pub IsRunOutcome : Outside → Bool → List ℕ → Result (List ℕ) Ending → Option (List ℕ) → Type 0
-IsRunOutcome O wanted bytes text record_ = IsNoScenario O bytes text record_ ⊎ HasScenario O wanted bytes text record_
+abbrev pub IsRunOutcome : Outside → Bool → List ℕ → Result (List ℕ) Ending → Option (List ℕ)
+    → Type 0
+IsRunOutcome O wanted bytes text record_ = IsNoScenario O bytes text record_
+    ⊎ HasScenario O wanted bytes text record_

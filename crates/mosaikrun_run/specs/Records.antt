@@ -20,14 +20,16 @@ use Rattle.mosaikrun_endings.specs.declared.ending.Ending.{Ending}
 use Rattle.mosaikrun_endings.specs.declared.ending.Ending.TheVariants as ends
 use Rattle.mosaikrun_run.specs.Outcomes.{Outside}
 
--- the whole frame of a Step was said on a link of simulator i: what was said there begins with the frames of some first requests of its handshake, and of a Step
+-- the whole frame of a Step was said on a link of simulator i: what was said there begins with the
+-- frames of some first requests of its handshake, and of a Step
 pub record HasSaidStep (S : Scenario) (log : List LogEntry) (i : ℕ) (l : LinkNo) : Type 0 where
   pub requests : ℕ
   pub id : ℕ
   pub at : Tier
   pub inputs : List Input
   pub advance : ℤ
-  pub said : BeginsWith (said_on l log) (frames_of (take requests (setup_payloads S i) ++ item_text id (Step at inputs advance) ∷ []))
+  pub said : BeginsWith (said_on l log)
+      (frames_of (take requests (setup_payloads S i) ++ item_text id (Step at inputs advance) ∷ []))
 
 -- it was said on the link of some simulator, so many links having been started before
 pub record IsStepSaid (started : ℕ) (S : Scenario) (log : List LogEntry) : Type 0 where
@@ -36,7 +38,8 @@ pub record IsStepSaid (started : ℕ) (S : Scenario) (log : List LogEntry) : Typ
   pub linked : sim_link started S sim ≡ Some link
   pub step : HasSaidStep S log sim link
 
--- the ending is a fault that a run met: a wrong message, a failure, the loop limit, or the limit of entries
+-- the ending is a fault that a run met: a wrong message, a failure, the loop limit, or the limit of
+-- entries
 abbrev pub IsRunFault : Ending → Type 0
 IsRunFault ends.Usage = ⊥
 IsRunFault (ends.Missing name) = ⊥

@@ -33,7 +33,8 @@ abbrev pub text_of : Form → Plan → (ℕ → List Item) → List ℕ
 text_of Report P items = report P items
 text_of Summary P items = summary P items
 
--- what is said of a run with this plan and journal: its text in this form where all is done, or why there is none
+-- what is said of a run with this plan and journal: its text in this form where all is done, or why
+-- there is none
 abbrev pub saying_of : Form → List (List ℕ) → Plan → List Entry → Outcome → Result (List ℕ) Ending
 saying_of form ids P J outcome.Done = Ok (text_of form P (sent J))
 saying_of form ids P J (outcome.Setup e) = Err (setup_ending ids e)

@@ -68,12 +68,18 @@ pub fn ran<F: Fleet, R: Wait>(
     is_recorded: bool,
 ) -> Told
     ensures count { F.faults fleet.old ≤ F.faults fleet.new }
-    ensures closed { AreNumbered (F.started fleet.old) (F.open_links fleet.old) → F.open_links fleet.new ≡ F.open_links fleet.old }
-    ensures within { (S : Scenario) → scenario_of bytes.now ≡ Ok S → is_wholly_within S ≡ true → fleet.new ≡ fleet.old }
-    ensures text { IfOk result.text (λ text. (entries : List LogEntry) × Adds entries (F.log fleet.old) (F.log fleet.new)
-        × IsRunOutcome (outside F.started F.faults (rows_in kinds.now) fleet.old fleet.new entries) is_recorded bytes.now (Ok text.items) (option_map (λ r. r.items) result.record)) }
-    ensures none { IfErr result.text (λ e. (entries : List LogEntry) × Adds entries (F.log fleet.old) (F.log fleet.new)
-        × IsRunOutcome (outside F.started F.faults (rows_in kinds.now) fleet.old fleet.new entries) is_recorded bytes.now (Err e) (option_map (λ r. r.items) result.record)) }
+    ensures closed { AreNumbered (F.started fleet.old) (F.open_links fleet.old)
+        → F.open_links fleet.new ≡ F.open_links fleet.old }
+    ensures within { (S : Scenario) → scenario_of bytes.now ≡ Ok S → is_wholly_within S ≡ true
+        → fleet.new ≡ fleet.old }
+    ensures text { IfOk result.text (λ text. (entries : List LogEntry)
+        × Adds entries (F.log fleet.old) (F.log fleet.new)
+        × IsRunOutcome (outside F.started F.faults (rows_in kinds.now) fleet.old fleet.new entries)
+        is_recorded bytes.now (Ok text.items) (option_map (λ r. r.items) result.record)) }
+    ensures none { IfErr result.text (λ e. (entries : List LogEntry)
+        × Adds entries (F.log fleet.old) (F.log fleet.new)
+        × IsRunOutcome (outside F.started F.faults (rows_in kinds.now) fleet.old fleet.new entries)
+        is_recorded bytes.now (Err e) (option_map (λ r. r.items) result.record)) }
 {
     match scenario_of(alloc, bytes) {
         Ok(scenario) => played(rt, alloc, kinds, scenario, fleet, Form::Report, is_recorded),
@@ -95,12 +101,19 @@ pub fn played<F: Fleet, R: Wait>(
 ) -> Told
     requires wellformed { IsWellformed scenario }
     ensures count { F.faults fleet.old ≤ F.faults fleet.new }
-    ensures closed { AreNumbered (F.started fleet.old) (F.open_links fleet.old) → F.open_links fleet.new ≡ F.open_links fleet.old }
+    ensures closed { AreNumbered (F.started fleet.old) (F.open_links fleet.old)
+        → F.open_links fleet.new ≡ F.open_links fleet.old }
     ensures within { is_wholly_within scenario ≡ true → fleet.new ≡ fleet.old }
-    ensures text { IfOk result.text (λ text. (entries : List LogEntry) × Adds entries (F.log fleet.old) (F.log fleet.new)
-        × IsScenarioOutcome (outside F.started F.faults (rows_in kinds.now) fleet.old fleet.new entries) form is_recorded scenario (Ok text.items) (option_map (λ r. r.items) result.record)) }
-    ensures none { IfErr result.text (λ e. (entries : List LogEntry) × Adds entries (F.log fleet.old) (F.log fleet.new)
-        × IsScenarioOutcome (outside F.started F.faults (rows_in kinds.now) fleet.old fleet.new entries) form is_recorded scenario (Err e) (option_map (λ r. r.items) result.record)) }
+    ensures text { IfOk result.text (λ text. (entries : List LogEntry)
+        × Adds entries (F.log fleet.old) (F.log fleet.new)
+        × IsScenarioOutcome (outside F.started F.faults
+        (rows_in kinds.now) fleet.old fleet.new entries) form is_recorded scenario (Ok text.items)
+        (option_map (λ r. r.items) result.record)) }
+    ensures none { IfErr result.text (λ e. (entries : List LogEntry)
+        × Adds entries (F.log fleet.old) (F.log fleet.new)
+        × IsScenarioOutcome (outside F.started F.faults
+        (rows_in kinds.now) fleet.old fleet.new entries) form is_recorded scenario (Err e)
+        (option_map (λ r. r.items) result.record)) }
 {
     match accept(alloc, kinds, &scenario) {
         Ok(accepted) => play(
@@ -127,9 +140,11 @@ struct Accepted {
 // The ranks and ids of a scenario's simulators, or why it can't be run.
 fn accept(alloc: Global, kinds: &Registry, scenario: &Scenario) -> Result<Accepted, Ending>
     requires { IsWellformed scenario.now }
-    ensures runnable { IfOk result (λ a. IsRunnable (map name_of (rows_in kinds.now)) scenario.now a.ranks) }
+    ensures runnable { IfOk result
+        (λ a. IsRunnable (map name_of (rows_in kinds.now)) scenario.now a.ranks) }
     ensures ids { IfOk result (λ a. a.ids ≡ ids_of scenario.now) }
-    ensures unready { IfErr result (λ e. IsUnrunnable (map name_of (rows_in kinds.now)) scenario.now e) }
+    ensures unready { IfErr result
+        (λ e. IsUnrunnable (map name_of (rows_in kinds.now)) scenario.now e) }
 {
     let names = kinds.names(alloc)?;
     let ranks = ranked(alloc, &names, scenario)?;
@@ -152,12 +167,19 @@ fn play<F: Fleet, R: Wait>(
     requires runnable { IsRunnable (map name_of (rows_in kinds.now)) scenario accepted.ranks }
     requires ids { accepted.ids ≡ ids_of scenario }
     ensures count { F.faults fleet.old ≤ F.faults fleet.new }
-    ensures closed { AreNumbered (F.started fleet.old) (F.open_links fleet.old) → F.open_links fleet.new ≡ F.open_links fleet.old }
+    ensures closed { AreNumbered (F.started fleet.old) (F.open_links fleet.old)
+        → F.open_links fleet.new ≡ F.open_links fleet.old }
     ensures within { is_wholly_within scenario ≡ true → fleet.new ≡ fleet.old }
-    ensures text { IfOk result.text (λ text. (entries : List LogEntry) × Adds entries (F.log fleet.old) (F.log fleet.new)
-        × IsScenarioOutcome (outside F.started F.faults (rows_in kinds.now) fleet.old fleet.new entries) form is_recorded scenario (Ok text.items) (option_map (λ r. r.items) result.record)) }
-    ensures none { IfErr result.text (λ e. (entries : List LogEntry) × Adds entries (F.log fleet.old) (F.log fleet.new)
-        × IsScenarioOutcome (outside F.started F.faults (rows_in kinds.now) fleet.old fleet.new entries) form is_recorded scenario (Err e) (option_map (λ r. r.items) result.record)) }
+    ensures text { IfOk result.text (λ text. (entries : List LogEntry)
+        × Adds entries (F.log fleet.old) (F.log fleet.new)
+        × IsScenarioOutcome (outside F.started F.faults
+        (rows_in kinds.now) fleet.old fleet.new entries) form is_recorded scenario (Ok text.items)
+        (option_map (λ r. r.items) result.record)) }
+    ensures none { IfErr result.text (λ e. (entries : List LogEntry)
+        × Adds entries (F.log fleet.old) (F.log fleet.new)
+        × IsScenarioOutcome (outside F.started F.faults
+        (rows_in kinds.now) fleet.old fleet.new entries) form is_recorded scenario (Err e)
+        (option_map (λ r. r.items) result.record)) }
 {
     let Accepted { ranks, ids } = accepted;
     let Ran {
@@ -177,7 +199,8 @@ fn play<F: Fleet, R: Wait>(
 // What is said of a run that had no plan, or that memory is wanting.
 fn unrun(alloc: Global, ids: &List<Text>, outcome: Outcome) -> Ending
     requires { IsHalt outcome }
-    ensures { (h : Halt) → outcome ≡ outcome_of h → IsSaid (Err (halt_ending ids.now h)) (Err result) }
+    ensures { (h : Halt) → outcome ≡ outcome_of h
+        → IsSaid (Err (halt_ending ids.now h)) (Err result) }
 {
     match halt_ending(alloc, ids, outcome) {
         Ok(ending) => ending,
@@ -196,9 +219,14 @@ fn tell(
     is_recorded: bool,
 ) -> Told
     requires { list_all is_writable journal.now.entries ≡ true }
-    ensures text { IfOk result.text (λ text. IsSaid (saying_of form ids.now plan.now journal.now.entries outcome) (Ok text.items)) }
-    ensures none { IfErr result.text (λ e. IsSaid (saying_of form ids.now plan.now journal.now.entries outcome) (Err e)) }
-    ensures recorded { (option_map (λ r. r.items) result.record ≡ record_of is_recorded plan.now journal.now.entries) ⊎ ((result.record ≡ None) × (result.text ≡ Err ends.Mem)) }
+    ensures text { IfOk result.text
+        (λ text. IsSaid (saying_of form ids.now plan.now journal.now.entries outcome)
+        (Ok text.items)) }
+    ensures none { IfErr result.text
+        (λ e. IsSaid (saying_of form ids.now plan.now journal.now.entries outcome) (Err e)) }
+    ensures recorded { (option_map (λ r. r.items) result.record
+        ≡ record_of is_recorded plan.now journal.now.entries)
+        ⊎ ((result.record ≡ None) × (result.text ≡ Err ends.Mem)) }
 {
     match record_of(alloc, plan, journal, is_recorded) {
         Ok(record) => Told {
@@ -217,7 +245,8 @@ fn record_of(
     is_recorded: bool,
 ) -> Result<Option<Vec<u8>>, Mem>
     requires { list_all is_writable journal.now.entries ≡ true }
-    ensures { IfOk result (λ record_. option_map (λ r. r.items) record_ ≡ record_of is_recorded plan.now journal.now.entries) }
+    ensures { IfOk result (λ record_. option_map (λ r. r.items) record_
+        ≡ record_of is_recorded plan.now journal.now.entries) }
 {
     if is_recorded {
         Ok(Some(write_record(alloc, plan, journal)?))

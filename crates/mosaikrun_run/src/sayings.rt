@@ -80,8 +80,10 @@ pub fn saying(
     plan: &Plan,
     journal: &Journal,
 ) -> Result<Vec<u8>, Ending>
-    ensures text { IfOk result (λ text. saying_of form ids.now plan.now journal.now.entries outcome ≡ Ok text.items) }
-    ensures none { IfErr result (λ e. IsSaid (saying_of form ids.now plan.now journal.now.entries outcome) (Err e)) }
+    ensures text { IfOk result (λ text. saying_of form ids.now plan.now journal.now.entries outcome
+        ≡ Ok text.items) }
+    ensures none { IfErr result
+        (λ e. IsSaid (saying_of form ids.now plan.now journal.now.entries outcome) (Err e)) }
 {
     match outcome {
         Outcome::Done => Ok(text_of(alloc, form, plan, journal)?),

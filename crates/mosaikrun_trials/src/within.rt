@@ -59,7 +59,8 @@ fn read(alloc: Global, text: &str) -> Option<Scenario>
 
 fn ranks_of(alloc: Global, kinds: &Registry, scenario: &Scenario) -> Option<List<u32>>
     requires { IsWellformed scenario.now }
-    ensures { IfSome result (λ ranks. IsRunnable (map name_of (rows_in kinds.now)) scenario.now ranks) }
+    ensures { IfSome result
+        (λ ranks. IsRunnable (map name_of (rows_in kinds.now)) scenario.now ranks) }
 {
     let names = kinds.names(alloc).ok()?;
     ranked(alloc, &names, scenario).ok()

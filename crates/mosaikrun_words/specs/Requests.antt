@@ -8,8 +8,10 @@ use Rattle.mosaikrun_words.specs.declared.request.Request.TheVariants.{Run, Repl
 use Rattle.mosaikrun_words.specs.Numbers.{IsNumber}
 use Rattle.mosaikrun_words.specs.Words.{Text, Given, is_value, spellings}
 
--- the words are the command's name and a spelling of these positional words and options, each of which may be a value
-pub record IsSpelled (name : Text) (plain : List Text) (given : List Given) (words : List Text) : Type 0 where
+-- the words are the command's name and a spelling of these positional words and options, each of
+-- which may be a value
+pub record IsSpelled (name : Text) (plain : List Text) (given : List Given)
+    (words : List Text) : Type 0 where
   pub rest : List Text
   pub is : words ≡ name ∷ rest
   pub spelled : IsIn rest (spellings plain given)
@@ -24,15 +26,22 @@ if_given name (Some value) = (name, value) ∷ []
 -- the text writes the number that is asked for, if one is
 pub data IsNumberGiven (least most : ℕ) : Option Text → Option ℕ → Type 0 where
   missing : IsNumberGiven least most None None
-  there : (text : Text) (n : ℕ) → IsNumber least most n text → IsNumberGiven least most (Some text) (Some n)
+  there : (text : Text) (n : ℕ) → IsNumber least most n text
+      → IsNumberGiven least most (Some text) (Some n)
 
 -- the words are this request
 pub data IsRequest (words : List Text) : Request → Type 0 where
-  is_run : (s : Text) (f : Option Text) → IsSpelled (codes "run") (s ∷ []) (if_given (codes "record") f) words → IsRequest words (Run s f)
-  is_replay : (r : Text) (t : Option Text) (n : Option ℕ) → IsSpelled (codes "replay") (r ∷ []) (if_given (codes "order") t) words → IsNumberGiven 0 4294967295 t n → IsRequest words (Replay r n)
+  is_run : (s : Text) (f : Option Text)
+      → IsSpelled (codes "run") (s ∷ []) (if_given (codes "record") f) words
+      → IsRequest words (Run s f)
+  is_replay : (r : Text) (t : Option Text) (n : Option ℕ)
+      → IsSpelled (codes "replay") (r ∷ []) (if_given (codes "order") t) words
+      → IsNumberGiven 0 4294967295 t n → IsRequest words (Replay r n)
   is_check : (s : Text) → IsSpelled (codes "check") (s ∷ []) [] words → IsRequest words (Check s)
-  is_demo : (t : Text) (n : ℕ) → IsSpelled (codes "demo") (t ∷ []) [] words → IsNumber 1 100 n t → IsRequest words (Demo n)
-  is_migrate : (a b : Text) → IsSpelled (codes "migrate") (a ∷ b ∷ []) [] words → IsRequest words (Migrate a b)
+  is_demo : (t : Text) (n : ℕ) → IsSpelled (codes "demo") (t ∷ []) [] words → IsNumber 1 100 n t
+      → IsRequest words (Demo n)
+  is_migrate : (a b : Text) → IsSpelled (codes "migrate") (a ∷ b ∷ []) [] words
+      → IsRequest words (Migrate a b)
 
 -- the request's command
 abbrev pub command_of : Request → Command

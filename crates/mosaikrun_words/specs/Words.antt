@@ -26,6 +26,8 @@ placings x (y ∷ ys) = (x ∷ y ∷ ys) ∷ map (λ l. y ∷ l) (placings x ys)
 abbrev pub with_option : List (List (List Text)) → Given → List (List (List Text))
 with_option all g = flat_map (λ form. flat_map (placings form) all) (forms g)
 
--- all spellings of the words after the command: the positional words in order, and each option in one of its forms anywhere among them
+-- all spellings of the words after the command: the positional words in order, and each option in
+-- one of its forms anywhere among them
 abbrev pub spellings : List Text → List Given → List (List Text)
-spellings plain given = map (flat_map (λ form. form)) (fold with_option (map (λ p. p ∷ []) plain ∷ []) given)
+spellings plain given = map (flat_map (λ form. form))
+    (fold with_option (map (λ p. p ∷ []) plain ∷ []) given)

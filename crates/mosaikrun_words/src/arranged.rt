@@ -59,7 +59,9 @@ fn alone(alloc: Global, word: &str) -> Result<Option<Found>, Mem>
 
 // A word beside an option that is one word with its value.
 fn beside(alloc: Global, option: OptionName, a: &str, b: &str) -> Result<Option<Found>, Mem>
-    ensures { IfOk result (λ found. found ≡ (if is_value a.now then pair a.now (value_after (start (name_of option)) b.now) else pair b.now (value_after (start (name_of option)) a.now))) }
+    ensures { IfOk result (λ found. found
+        ≡ (if is_value a.now then pair a.now (value_after (start (name_of option)) b.now)
+        else pair b.now (value_after (start (name_of option)) a.now))) }
 {
     if is_value(a) {
         pair(alloc, option, a, value_after(start(option), b))
@@ -70,7 +72,9 @@ fn beside(alloc: Global, option: OptionName, a: &str, b: &str) -> Result<Option<
 
 // A word before or behind an option and its value.
 fn among(alloc: Global, option: OptionName, a: &str, b: &str, c: &str) -> Result<Option<Found>, Mem>
-    ensures { IfOk result (λ found. found ≡ (if is_value a.now then pair a.now (behind (name_of option) b.now c.now) else pair c.now (behind (name_of option) a.now b.now))) }
+    ensures { IfOk result (λ found. found
+        ≡ (if is_value a.now then pair a.now (behind (name_of option) b.now c.now)
+        else pair c.now (behind (name_of option) a.now b.now))) }
 {
     if is_value(a) {
         pair(alloc, option, a, behind(option, b, c))
@@ -121,7 +125,8 @@ fn value_after<'a>(start: &str, word: &'a str) -> Option<&'a str>
 
 // What follows the beginning, if the word has it: said of the word.
 fn stripped<'a>(start: &str, word: &'a str) -> Option<&'a str>
-    ensures { MatchOption result ((v : List ℕ) → word.entry.now ≡ start.now ++ v → ⊥) (λ v. word.entry.now ≡ start.now ++ v.now) }
+    ensures { MatchOption result ((v : List ℕ) → word.entry.now ≡ start.now ++ v
+        → ⊥) (λ v. word.entry.now ≡ start.now ++ v.now) }
 {
     word.strip_prefix(start)
 }

@@ -19,7 +19,8 @@ pub fn read_words(
     commands: &[Command],
     words: &[String],
 ) -> Result<Option<Request>, Mem>
-    ensures { IfOk result (λ found. (R : Request) → (found ≡ Some R) ↔ IsRequestAmong commands.now (map string_bytes words.now) R) }
+    ensures { IfOk result (λ found. (R : Request)
+        → (found ≡ Some R) ↔ IsRequestAmong commands.now (map string_bytes words.now) R) }
 {
     request_of(alloc, commands, words)
 }
@@ -40,7 +41,8 @@ fn request_among(
     word: &str,
     rest: &[String],
 ) -> Result<Option<Request>, Mem>
-    ensures { IfOk result (λ found. found ≡ request_among commands.now word.now (map string_bytes rest.now)) }
+    ensures { IfOk result (λ found. found
+        ≡ request_among commands.now word.now (map string_bytes rest.now)) }
 {
     for command in commands {
         if word == word_of(*command) {

@@ -55,7 +55,8 @@ want_text P look m = member_text m.0 (object_text (values_of P look m.0 m.1))
 
 -- the content
 abbrev pub wants_text : Plan → Lookup → Members → List ℕ
-wants_text P look ms = object_text (map (λ (m : List ℕ × Json). let p : List ℕ × List ℕ = (m.0, object_text (values_of P look m.0 m.1)) in p) ms)
+wants_text P look ms = object_text (map (λ (m : List ℕ × Json). let p : List ℕ
+    × List ℕ = (m.0, object_text (values_of P look m.0 m.1)) in p) ms)
 
 -- each value that is found is the text of a value
 abbrev pub FindsValues : Lookup → Type 0

@@ -28,4 +28,5 @@ abbrev pub texts_of : List Json → Option Request
 texts_of trees = option_map RelatedOfEach (all_there (map text_in trees))
 
 abbrev pub related_form : Json → Option Request
-related_form tree = if is_some (text_in tree) then option_map Related (text_in tree) else texts_form tree
+related_form tree = if is_some (text_in tree) then option_map Related (text_in tree)
+    else texts_form tree

@@ -22,14 +22,20 @@ abbrev pub members_of : Json → Members
 members_of tree = unwrap_or (members_in tree) []
 
 abbrev pub set_value : Plan → List ℕ → List ℕ → List ℕ → Json → SetValue
-set_value P source id attr value = record { source = source; entity = unwrap_or (entity_of P id) 0; attr = attr; value = text_of value }
+set_value P source id attr value = record {
+  source = source;
+  entity = unwrap_or (entity_of P id) 0;
+  attr = attr;
+  value = text_of value;
+}
 
 -- the values for one destination, from one source, and of all
 abbrev pub values_to : Plan → List ℕ → List ℕ → Members → List SetValue
 values_to P source id ms = map (λ (m : List ℕ × Json). set_value P source id m.0 m.1) ms
 
 abbrev pub values_from : Plan → List ℕ → Members → List SetValue
-values_from P source ms = flat_map (λ (m : List ℕ × Json). values_to P source m.0 (members_of m.1)) ms
+values_from P source ms = flat_map (λ (m : List ℕ
+    × Json). values_to P source m.0 (members_of m.1)) ms
 
 abbrev pub values_in : Plan → Members → List SetValue
 values_in P ms = flat_map (λ (m : List ℕ × Json). values_from P m.0 (members_of m.1)) ms

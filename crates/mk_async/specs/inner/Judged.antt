@@ -7,4 +7,5 @@ use Rattle.mk_async.specs.inner.Known.{knows_asked, permits_asked}
 
 -- the number of the first of the two that fails
 abbrev pub tested : Plan → ℕ → Asked → Option ℕ
-tested P s asked = if not (knows_asked P s asked) then Some unknown_name else if not (permits_asked P s asked) then Some no_pair else None
+tested P s asked = if not (knows_asked P s asked) then Some unknown_name
+    else if not (permits_asked P s asked) then Some no_pair else None

@@ -12,7 +12,8 @@ use Rattle.mk_async.specs.inner.Known.{Members}
 
 -- members that are put in one after another
 abbrev pub gathered_by : {A : Type 0} → (A → List ℕ) → (A → tree.Json) → Members → List A → Members
-gathered_by {A} key value done xs = fold (λ (ms : Members) (x : A). insert_entry text_order ms (key x) (value x)) done xs
+gathered_by {A} key value done xs = fold
+    (λ (ms : Members) (x : A). insert_entry text_order ms (key x) (value x)) done xs
 
 -- an entity's description
 abbrev pub type_tree : Plan → ℕ → tree.Json

@@ -1,4 +1,5 @@
--- For proofs alone. How the tables of new buffers come about, a connection's source after the other.
+-- For proofs alone. How the tables of new buffers come about, a connection's source after the
+-- other.
 use Rattle.std.specs.Prelude.{◌≡◌, ◌≢◌, ◌⊎◌, sum_by, ℕ, ◌+◌, ◌<◌, ◌≤◌, true, false, nat_lt, nat_le, List, [], ◌∷◌, ◌++◌, length, Some, slice_get, slice_set, ◌==◌, if◌then◌else◌}
 use Rattle.std.specs.List.Sorted.{IsStrictlySortedBy, IsPartitionPoint}
 use Rattle.std.specs.Ordering.{ordering_then, nat_cmp}
@@ -16,11 +17,13 @@ use Rattle.mk_buffers.specs.declared.outlets.Part.{Part}
 
 -- no item is greater than a later one
 abbrev pub AreRising : {X : Type 0} → (X → X → Ordering) → List X → Type 0
-AreRising {X} order xs = (i j : ℕ) (x y : X) → i < j → slice_get xs i ≡ Some x → slice_get xs j ≡ Some y → order x y ≢ Greater
+AreRising {X} order xs = (i j : ℕ) (x y : X) → i < j → slice_get xs i ≡ Some x
+    → slice_get xs j ≡ Some y → order x y ≢ Greater
 
 -- by simulator, then the entity's name, then the attribute's
 abbrev pub source_order : Source → Source → Ordering
-source_order a b = ordering_then (nat_cmp a.sim b.sim) (ordering_then (text_order a.eid.now b.eid.now) (text_order a.attr.now b.attr.now))
+source_order a b = ordering_then (nat_cmp a.sim b.sim)
+    (ordering_then (text_order a.eid.now b.eid.now) (text_order a.attr.now b.attr.now))
 
 -- the source of a connection of the plan
 pub record IsSource (P : Plan) (s : Source) : Type 0 where
@@ -45,7 +48,8 @@ pub record AreSources (P : Plan) (xs : List Source) : Type 0 where
 
 -- by simulator, then the entity's name, then the attribute's
 abbrev pub outlet_order : Plan → Outlet → Outlet → Ordering
-outlet_order P a b = ordering_then (nat_cmp a.sim b.sim) (ordering_then (text_order (eid_of P a.entity) (eid_of P b.entity)) (text_order a.attr b.attr))
+outlet_order P a b = ordering_then (nat_cmp a.sim b.sim)
+    (ordering_then (text_order (eid_of P a.entity) (eid_of P b.entity)) (text_order a.attr b.attr))
 
 -- a new outlet of that source
 pub record IsOutletOf (s : Source) (o : Outlet) : Type 0 where
@@ -75,9 +79,12 @@ pub record AreOutlets (P : Plan) (done joined : List Source) (b : Outlets) : Typ
   pub sorted : IsStrictlySortedBy (outlet_order P) b.all.items
   pub each : (o : Outlet) → IsIn o b.all.items → (s : Source) × IsIn s done × IsOutletOf s o
   pub conns : (s : Source) → IsIn s joined → HasOutlet b s
-  pub entities : (i : ℕ) (o : Outlet) → slice_get b.all.items i ≡ Some o → (part : Part) × (slice_get b.of_entity.items o.entity ≡ Some part) × (part.first ≤ i) × (i < part.end)
-  pub begun : (e : ℕ) (part : Part) → slice_get b.of_entity.items e ≡ Some part → part.first ≤ length b.all.items
-  pub delays : (o : Outlet) (v : Via) → IsIn o b.all.items → IsIn v o.vias.items → (s : Source) × IsIn s joined × IsDelayOf s o v
+  pub entities : (i : ℕ) (o : Outlet) → slice_get b.all.items i ≡ Some o → (part : Part)
+      × (slice_get b.of_entity.items o.entity ≡ Some part) × (part.first ≤ i) × (i < part.end)
+  pub begun : (e : ℕ) (part : Part) → slice_get b.of_entity.items e ≡ Some part
+      → part.first ≤ length b.all.items
+  pub delays : (o : Outlet) (v : Via) → IsIn o b.all.items → IsIn v o.vias.items → (s : Source)
+      × IsIn s joined × IsDelayOf s o v
   pub few : sum_by (λ o. length o.vias.items) b.all.items ≤ length joined
   pub conn_count : length b.of_conn.items ≡ length P.conns
   pub entity_count : length b.of_entity.items ≡ length P.entities
@@ -98,7 +105,8 @@ reached o place end = record { first = if o.first == o.end then place else o.fir
 pub record HasReached (old new : List Part) (part place end : ℕ) : Type 0 where
   pub count : length new ≡ length old
   pub others : (j : ℕ) → j ≢ part → slice_get new j ≡ slice_get old j
-  pub here : (o : Part) → slice_get old part ≡ Some o → slice_get new part ≡ Some (reached o place end)
+  pub here : (o : Part) → slice_get old part ≡ Some o
+      → slice_get new part ≡ Some (reached o place end)
 
 -- one more outlet
 pub record HasAdded (s : Source) (old new : Outlets) : Type 0 where
@@ -107,7 +115,8 @@ pub record HasAdded (s : Source) (old new : Outlets) : Type 0 where
   pub is : IsOutletOf s outlet
   pub vias : outlet.vias.items ≡ []
   pub of_conn : new.of_conn.items ≡ old.of_conn.items
-  pub of_entity : HasReached old.of_entity.items new.of_entity.items s.entity (length old.all.items) (length old.all.items + 1)
+  pub of_entity : HasReached old.of_entity.items new.of_entity.items s.entity (length old.all.items)
+      (length old.all.items + 1)
 
 -- an outlet with one more delay
 pub record HasVia (via : Via) (old new : Outlet) : Type 0 where
@@ -125,13 +134,16 @@ pub record HasJoined (s : Source) (old new : Outlets) (n : ℕ) (o : Outlet) : T
   pub outlet : Outlet
   pub all : new.all.items ≡ slice_set old.all.items n outlet
   pub via : HasVia s.via o outlet
-  pub of_conn : s.place < length old.of_conn.items → new.of_conn.items ≡ slice_set old.of_conn.items s.place n
+  pub of_conn : s.place < length old.of_conn.items
+      → new.of_conn.items ≡ slice_set old.of_conn.items s.place n
   pub of_entity : new.of_entity.items ≡ old.of_entity.items
 
 -- the outlets of a simulator are those from the first up to the end
 pub record IsPartOf (all : List Outlet) (sim : ℕ) (part : Part) : Type 0 where
-  pub first : IsPartitionPoint (λ (o : Outlet). nat_lt o.sim sim ≡ true) (λ (o : Outlet). nat_lt o.sim sim ≡ false) all part.first
-  pub end : IsPartitionPoint (λ (o : Outlet). nat_le o.sim sim ≡ true) (λ (o : Outlet). nat_le o.sim sim ≡ false) all part.end
+  pub first : IsPartitionPoint (λ (o : Outlet). nat_lt o.sim sim
+      ≡ true) (λ (o : Outlet). nat_lt o.sim sim ≡ false) all part.first
+  pub end : IsPartitionPoint (λ (o : Outlet). nat_le o.sim sim
+      ≡ true) (λ (o : Outlet). nat_le o.sim sim ≡ false) all part.end
 
 -- the same of each simulator
 pub record AreParts (sims : ℕ) (all : List Outlet) (parts : List Part) : Type 0 where

@@ -28,7 +28,8 @@ pub record HasTaken (until : ℤ) (mark : Tier) (t : Timed) (old new : Outlet) :
   pub entity : new.entity ≡ old.entity
   pub attr : new.attr ≡ old.attr
   pub vias : new.vias.items ≡ old.vias.items
-  pub answers : (hs : List Timed) → AnswersFrom old.vias.items until mark old.log hs → AnswersFrom old.vias.items until mark new.log (hs ++ t ∷ [])
+  pub answers : (hs : List Timed) → AnswersFrom old.vias.items until mark old.log hs
+      → AnswersFrom old.vias.items until mark new.log (hs ++ t ∷ [])
   pub among : (hs : List Timed) → IsAmong old.log hs → IsAmong new.log (hs ++ t ∷ [])
 
 abbrev pub IsKeyAt : List Outlet → ℕ → List ℕ → ℕ → Type 0
@@ -36,4 +37,5 @@ IsKeyAt outlets e attr i = has_key outlets e attr i ≡ true
 
 -- none of these places has the outlet of this attribute
 abbrev pub IsKeyless : List Outlet → ℕ → List ℕ → ℕ → ℕ → Type 0
-IsKeyless outlets e attr first end = (i : ℕ) → first ≤ i → i < end → has_key outlets e attr i ≡ false
+IsKeyless outlets e attr first end = (i : ℕ) → first ≤ i → i < end
+    → has_key outlets e attr i ≡ false

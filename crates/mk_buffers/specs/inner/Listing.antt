@@ -16,7 +16,10 @@ use Rattle.mk_buffers.specs.Listing.{inlet_order}
 
 -- by simulator, then the entity's name, then the attribute's, then the source's
 abbrev pub target_order : Target → Target → Ordering
-target_order a b = ordering_then (nat_cmp a.sim b.sim) (ordering_then (text_order a.eid.now b.eid.now) (ordering_then (text_order a.conn.now.to_attr b.conn.now.to_attr) (text_order a.source.now b.source.now)))
+target_order a b = ordering_then (nat_cmp a.sim b.sim)
+    (ordering_then (text_order a.eid.now b.eid.now)
+    (ordering_then (text_order a.conn.now.to_attr b.conn.now.to_attr)
+    (text_order a.source.now b.source.now)))
 
 -- the target of a connection
 pub record IsTarget (P : Plan) (c : Conn) (outlet : ℕ) (t : Target) : Type 0 where
@@ -42,7 +45,8 @@ HasTargets P outlets ts = (p : ℕ) (t : Target) → slice_get ts p ≡ Some t �
 pub record AreTargets (P : Plan) (outlets : List ℕ) (ts : List Target) : Type 0 where
   pub each : (t : Target) → IsIn t ts → (p : ℕ) × IsTargetAt P outlets p t
   pub all : (p : ℕ) → p < length P.conns → (t : Target) × IsIn t ts × IsTargetAt P outlets p t
-  pub sorted : (i j : ℕ) (x y : Target) → i < j → slice_get ts i ≡ Some x → slice_get ts j ≡ Some y → target_order x y ≡ Less
+  pub sorted : (i j : ℕ) (x y : Target) → i < j → slice_get ts i ≡ Some x → slice_get ts j ≡ Some y
+      → target_order x y ≡ Less
 
 -- the inlet of that target
 pub record IsInletOf (t : Target) (i : Inlet) : Type 0 where

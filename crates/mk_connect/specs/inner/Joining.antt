@@ -13,4 +13,5 @@ put_all i j lists = by_place (put_at i j) 0 lists
 
 -- both ends of a pair of different places are put to one another
 abbrev pub joined : List (List ℕ) → ℕ × ℕ → List (List ℕ)
-joined lists p = if not (p.0 == p.1) && nat_lt p.0 (length lists) && nat_lt p.1 (length lists) then put_all p.1 p.0 (put_all p.0 p.1 lists) else lists
+joined lists p = if not (p.0 == p.1) && nat_lt p.0 (length lists) && nat_lt p.1 (length lists)
+    then put_all p.1 p.0 (put_all p.0 p.1 lists) else lists

@@ -38,13 +38,17 @@ IsKeyOf sim name k = (k.0 ≡ sim) × (string_bytes k.1 ≡ name)
 
 -- under each simulator and name the map has the number of their model among these
 abbrev pub HasNumbers : {S Y : Type 0} → HashMap (ℕ × String Y) ℕ S → List SimModel → Type 0
-HasNumbers {S} {Y} numbers models = (sim : ℕ) (name : List ℕ) → lookup (is_key {Y = Y} sim name) numbers.entries ≡ position (is_model (record { 0 = sim }) name) models
+HasNumbers {S} {Y} numbers models = (sim : ℕ) (name : List ℕ)
+    → lookup (is_key {Y = Y} sim name) numbers.entries
+    ≡ position (is_model (record { 0 = sim }) name) models
 
 -- the number, if it is one of the group's
 abbrev pub number_in : Option ℕ → ℕ → ℕ → List ℕ
 number_in group number g = if unwrap_or (option_map (nat_eq g) group) false then number ∷ [] else []
 
 -- the number stands last under its group, if there is such a group, and all else stays
-pub record HasMember (old : List (List ℕ)) (group : Option ℕ) (number : ℕ) (new : List (List ℕ)) : Type 0 where
+pub record HasMember (old : List (List ℕ)) (group : Option ℕ) (number : ℕ)
+    (new : List (List ℕ)) : Type 0 where
   pub count : length new ≡ length old
-  pub each : (g : ℕ) → slice_get new g ≡ option_map (λ numbers. numbers ++ number_in group number g) (slice_get old g)
+  pub each : (g : ℕ) → slice_get new g
+      ≡ option_map (λ numbers. numbers ++ number_in group number g) (slice_get old g)

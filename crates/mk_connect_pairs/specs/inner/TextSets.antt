@@ -11,4 +11,5 @@ HasTexts known texts = (text : List ℕ) → contains_text known text ≡ is_amo
 
 -- the set has one text more
 abbrev pub HasMore : {S Y : Type 0} → HashSet (String Y) S → List ℕ → HashSet (String Y) S → Type 0
-HasMore old text new = (other : List ℕ) → contains_text new other ≡ contains_text old other || same_text text other
+HasMore old text new = (other : List ℕ)
+    → contains_text new other ≡ contains_text old other || same_text text other

@@ -11,7 +11,8 @@ pub record IsSquare (sims : ℕ) (set : List Bool) : Type 0 where
   pub small : sims < 2 ^ 32
 
 abbrev pub is_set : ℕ → List Bool → ℕ → ℕ → Bool
-is_set sims set from to = nat_lt from sims && (nat_lt to sims && slice_index_or set (to * sims + from) false)
+is_set sims set from to = nat_lt from sims
+    && (nat_lt to sims && slice_index_or set (to * sims + from) false)
 
 -- whether the table has an edge
 abbrev pub leads : Rows → ℕ → ℕ → Bool

@@ -20,10 +20,12 @@ abbrev pub with_numbers : List ℕ → List ℕ → List ℕ
 with_numbers numbers more = fold (insert_key nat_cmp) numbers more
 
 abbrev pub related_by : (List ℕ → Option ℕ) → Described → List ℕ
-related_by number entity = with_numbers [] (filter_map number (unwrap_or entity.rel [] ++ entity.children))
+related_by number entity = with_numbers []
+    (filter_map number (unwrap_or entity.rel [] ++ entity.children))
 
 abbrev pub made_by : (List ℕ → Option ℕ) → SimNo → ℕ → Described → EntityInfo
-made_by number sim group entity = record (draft sim group entity) { related = related_by number entity }
+made_by number sim group entity = record
+    (draft sim group entity) { related = related_by number entity }
 
 -- the eids of a reply's entities, numbered from n
 abbrev pub named_from : ℕ → List Described → List (List ℕ × ℕ)
@@ -31,11 +33,15 @@ named_from n [] = []
 named_from n (e ∷ es) = (unwrap_or e.eid [], n) ∷ named_from (suc n) es
 
 -- the first test that the reply's n-th entity fails, where the simulator had these names
-abbrev pub fault_at : List (List ℕ × ℕ) → ℕ → List ℕ → Meta → List Described → ℕ → Option CreateFault
-fault_at names count model meta entities n = option_and_then (entity_fault (number_in (names ++ named_from count (take n entities))) (count + n) model meta n) (slice_get entities n)
+abbrev pub fault_at : List (List ℕ × ℕ) → ℕ → List ℕ → Meta → List Described → ℕ
+    → Option CreateFault
+fault_at names count model meta entities n = option_and_then
+    (entity_fault (number_in (names ++ named_from count (take n entities)))
+    (count + n) model meta n) (slice_get entities n)
 
 abbrev pub first_fault : List (List ℕ × ℕ) → ℕ → List ℕ → Meta → List Described → Option CreateFault
-first_fault names count model meta entities = first_there (map (fault_at names count model meta entities) (range_with_len 0 (length entities)))
+first_fault names count model meta entities = first_there
+    (map (fault_at names count model meta entities) (range_with_len 0 (length entities)))
 
 -- the entities, or the fault
 abbrev pub outcome : List EntityInfo → Option CreateFault → Result (List EntityInfo) CreateFault

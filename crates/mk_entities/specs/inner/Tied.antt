@@ -8,13 +8,15 @@ use Rattle.mk_entities.specs.Tied.{IsFound}
 -- the eids of simulator s among entities that are numbered from n
 abbrev pub numbered : ℕ → ℕ → List EntityInfo → List (List ℕ × ℕ)
 numbered s n [] = []
-numbered s n (e ∷ es) = if e.sim.0 == s then (e.eid, n) ∷ numbered s (suc n) es else numbered s (suc n) es
+numbered s n (e ∷ es) = if e.sim.0 == s then (e.eid, n) ∷ numbered s (suc n) es
+    else numbered s (suc n) es
 
 -- the names at place s
 abbrev pub names_at : List (List (List ℕ × ℕ)) → ℕ → List (List ℕ × ℕ)
 names_at names s = unwrap_or (slice_get names s) []
 
--- there are few enough entities, each is found by its eid and has what it must have, and each simulator's names are theirs
+-- there are few enough entities, each is found by its eid and has what it must have, and each
+-- simulator's names are theirs
 pub record IsTied (entities : List EntityInfo) (names : List (List (List ℕ × ℕ))) : Type 0 where
   pub few : length entities ≤ most_entities
   pub distinct : IsFound entities

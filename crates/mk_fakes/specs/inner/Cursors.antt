@@ -12,7 +12,12 @@ cut at (c ∷ cs) = without_front at c ∷ cs
 
 -- the link of this number
 abbrev pub line_of : List Chunk → ℕ → Cursor → Line
-line_of chunks number cursor = record { rest = cut cursor.at (chunks_of (record { 0 = number }) (drop cursor.next chunks)); said = cursor.said; held_up = cursor.held_up }
+line_of chunks number cursor = record {
+  rest = cut cursor.at
+      (chunks_of (record { 0 = number }) (drop cursor.next chunks));
+  said = cursor.said;
+  held_up = cursor.held_up;
+}
 
 -- the links of this number and the next ones
 abbrev pub lines_from : List Chunk → ℕ → List Cursor → List Line

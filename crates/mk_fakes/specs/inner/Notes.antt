@@ -35,4 +35,5 @@ all_length (n ∷ ns) = note_length n + all_length ns
 -- the entries of notes, whose bytes stand one after the other
 abbrev pub entries_of : List Note → List ℕ → List LogEntry
 entries_of [] bytes = []
-entries_of (n ∷ ns) bytes = entry_of n (take (note_length n) bytes) ∷ entries_of ns (drop (note_length n) bytes)
+entries_of (n ∷ ns) bytes = entry_of n (take (note_length n) bytes)
+    ∷ entries_of ns (drop (note_length n) bytes)

@@ -1,4 +1,5 @@
--- For proofs alone. The value of `json` that a tree is written as: a whole number as its digits, and any other as 0.5.
+-- For proofs alone. The value of `json` that a tree is written as: a whole number as its digits,
+-- and any other as 0.5.
 use Rattle.std.specs.Prelude.{ℕ, List, [], ◌∷◌, codes}
 use Rattle.std.specs.Fmt.{signed_decimal}
 use Rattle.json.specs.Json as json

@@ -1,7 +1,9 @@
--- For proofs alone. What a reader of a template has read so far. Only private contracts and proofs need it.
+-- For proofs alone. What a reader of a template has read so far. Only private contracts and proofs
+-- need it.
 use Rattle.std.specs.Prelude.{ℕ, List, Option}
 
--- the address; whole words; the word that goes on; and the part that goes on, by its quotation mark and where it was opened
+-- the address; whole words; the word that goes on; and the part that goes on, by its quotation mark
+-- and where it was opened
 pub record Reading : Type 0 where
   pub address : List ℕ
   pub done : List (List ℕ)

@@ -23,7 +23,8 @@ AreSame old new = (new.started ≡ old.started) × (new.links ≡ old.links)
 
 -- this place was given
 abbrev pub IsGiven : Option LinkNo → Links → Links → Type 0
-IsGiven place old new = (new.started ≡ old.started + link_count place) × (new.links ≡ old.links ++ option_to_list place)
+IsGiven place old new = (new.started ≡ old.started + link_count place)
+    × (new.links ≡ old.links ++ option_to_list place)
 
 -- a simulator was begun so
 abbrev pub BegunAs : Begun → Begin → Links → Links → Type 0

@@ -8,11 +8,13 @@ use Rattle.mk_launch.specs.inner.Reading.{Reading}
 
 -- what a character by itself stands for
 abbrev pub front_of : ℕ → Front
-front_of c = if c == 32 then Space else if (c == 34) || (c == 39) then Quote c else if c == 37 then Stray else Letter c
+front_of c = if c == 32 then Space else if (c == 34) || (c == 39) then Quote c else if c == 37
+    then Stray else Letter c
 
 -- the text begins with neither of the places
 abbrev pub IsNoPlace : List ℕ → Type 0
-IsNoPlace text = ((v : List ℕ) → text ≡ codes "%(addr)s" ++ v → ⊥) × ((v : List ℕ) → text ≡ codes "%%" ++ v → ⊥)
+IsNoPlace text = ((v : List ℕ) → text ≡ codes "%(addr)s" ++ v → ⊥)
+    × ((v : List ℕ) → text ≡ codes "%%" ++ v → ⊥)
 
 -- what stands at the text's front, and the text after it
 abbrev pub FrontOf : List ℕ → Front → List ℕ → Type 0
@@ -39,7 +41,8 @@ after_space (Some p) s = with_letters (encode_utf8 32) s
 -- after a quotation mark
 abbrev pub after_quote : ℕ → ℕ → Option (ℕ × ℕ) → Reading → Reading
 after_quote q at None s = record s { word = Some (unwrap_or s.word []); part = Some (q, at) }
-after_quote q at (Some p) s = if p.0 == q then record s { part = None } else with_letters (encode_utf8 q) s
+after_quote q at (Some p) s = if p.0 == q then record s { part = None }
+    else with_letters (encode_utf8 q) s
 
 -- after what stands at a byte
 abbrev pub after_front : Front → ℕ → Reading → Reading

@@ -20,7 +20,8 @@ rest_of S p (x ∷ xs) = S.next p x ++ rest_of S x xs
 abbrev pub keyed : {X : Type 0} → (X → List ℕ) → Stream X → Stream X
 keyed key S = record {
   first = λ x. codes "{" ++ (quoted (key x) ++ codes ":") ++ S.first x;
-  next = λ p x. if same_text (key p) (key x) then S.next p x else (S.last ++ codes "," ++ (quoted (key x) ++ codes ":") ++ S.first x);
+  next = λ p x. if same_text (key p) (key x) then S.next p x
+      else (S.last ++ codes "," ++ (quoted (key x) ++ codes ":") ++ S.first x);
   last = S.last ++ codes "}";
 }
 
@@ -29,7 +30,12 @@ abbrev pub source_member : Input → List ℕ
 source_member n = (quoted n.source ++ codes ":") ++ n.value
 
 abbrev pub by_source : Stream Input
-by_source = record { first = λ n. codes "{" ++ source_member n; next = λ p n. codes "," ++ source_member n; last = codes "}" }
+by_source = record {
+  first = λ n. codes "{" ++ source_member n;
+  next = λ p n. codes ","
+      ++ source_member n;
+  last = codes "}";
+}
 
 abbrev pub by_attribute : Stream Input
 by_attribute = keyed (λ n. n.attr) by_source
@@ -38,7 +44,12 @@ abbrev pub by_entity : Stream Input
 by_entity = keyed (λ n. n.eid) by_attribute
 
 abbrev pub attributes : Stream Want
-attributes = record { first = λ w. codes "[" ++ quoted w.attr; next = λ p w. codes "," ++ quoted w.attr; last = codes "]" }
+attributes = record {
+  first = λ w. codes "[" ++ quoted w.attr;
+  next = λ p w. codes ","
+      ++ quoted w.attr;
+  last = codes "]";
+}
 
 abbrev pub wanted_by_entity : Stream Want
 wanted_by_entity = keyed (λ w. w.eid) attributes

@@ -1,4 +1,5 @@
--- For proofs alone. What tells connections and entities apart, and the order by which it is sorted. Only proofs need it.
+-- For proofs alone. What tells connections and entities apart, and the order by which it is sorted.
+-- Only proofs need it.
 use Rattle.std.specs.Prelude.{ℕ, Bool, true, false, not, ◌&&◌, List, [], ◌∷◌}
 use Rattle.std.specs.Ordering.{nat_cmp, is_lt}
 use Rattle.std.specs.Cmp.Lexicographic.{slice_cmp}

@@ -17,13 +17,17 @@ AreFirstIds P n ids = map string_bytes ids ≡ map (full_id P) (range_with_len 0
 
 -- the sets have the attributes that these connections take
 abbrev pub AreAttrsOf : {S Y : Type 0} → List Conn → List (IndexSet (String Y) S) → Type 0
-AreAttrsOf cs sets = (e : ℕ) (attr : List ℕ) → has_at sets e attr ≡ list_any (λ c. (c.from == e) && same_text c.from_attr attr) cs
+AreAttrsOf cs sets = (e : ℕ) (attr : List ℕ)
+    → has_at sets e attr ≡ list_any (λ c. (c.from == e) && same_text c.from_attr attr) cs
 
 -- there are as many sets, and that of the connection's source has its attribute too
-pub record HasSource {S Y : Type 0} (old : List (IndexSet (String Y) S)) (c : Conn) (new : List (IndexSet (String Y) S)) : Type 0 where
+pub record HasSource {S Y : Type 0} (old : List (IndexSet (String Y) S)) (c : Conn)
+    (new : List (IndexSet (String Y) S)) : Type 0 where
   pub count : length new ≡ length old
-  pub each : (e : ℕ) (attr : List ℕ) → has_at new e attr ≡ has_at old e attr || ((c.from == e) && same_text c.from_attr attr)
+  pub each : (e : ℕ) (attr : List ℕ)
+      → has_at new e attr ≡ has_at old e attr || ((c.from == e) && same_text c.from_attr attr)
 
 -- the pairs are these
 abbrev pub ArePairsOf : List AsyncPair → List (ℕ × ℕ) → Type 0
-ArePairsOf asyncs pairs = (from to : ℕ) → is_paired pairs from to ≡ list_any (λ p. (p.from.0 == from) && (p.to.0 == to)) asyncs
+ArePairsOf asyncs pairs = (from to : ℕ)
+    → is_paired pairs from to ≡ list_any (λ p. (p.from.0 == from) && (p.to.0 == to)) asyncs

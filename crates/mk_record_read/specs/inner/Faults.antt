@@ -11,7 +11,8 @@ abbrev pub IsFaultOf : {Y : Type 0} → Result Y ℕ → LineFault → Type 0
 IsFaultOf r (Bad n) = r ≡ Err n
 IsFaultOf r Mem = ⊤
 
--- what was looked for isn't there, so the answer is that the line isn't of its form, but for want of memory
+-- what was looked for isn't there, so the answer is that the line isn't of its form, but for want
+-- of memory
 abbrev pub IsMissing : {X : Type 0} → Option X → LineFault → Type 0
 IsMissing o (Bad n) = (o ≡ None) × (n ≡ misformed)
 IsMissing o Mem = ⊤

@@ -13,7 +13,8 @@ use Rattle.mk_record_read.specs.Seen.{came}
 use Rattle.mk_record_read.specs.inner.Seen.{state_of}
 use Rattle.mk_record_read.specs.Steps.{IsKnown}
 
--- the step that was found from S ends the record, and the same is kept, or goes on with what is kept now
+-- the step that was found from S ends the record, and the same is kept, or goes on with what is
+-- kept now
 abbrev pub IsStep : State → Step → Bool → Progress → Type 0
 IsStep S step true kept = (step ≡ Ended) × (state_of kept ≡ S)
 IsStep S step false kept = step ≡ Going (state_of kept)
@@ -23,7 +24,8 @@ abbrev pub IsBadStep : Step → LineFault → Type 0
 IsBadStep step (fault.Bad n) = step ≡ Bad n
 IsBadStep step fault.Mem = ⊤
 
--- what holds of the lines so far: from the first `ask` or `got` line on the plan is valid, before it no message came, and each message is known
+-- what holds of the lines so far: from the first `ask` or `got` line on the plan is valid, before
+-- it no message came, and each message is known
 pub record IsSound (p : Progress) : Type 0 where
   pub valid : 8 ≤ p.last → IsValidPlan p.plan
   pub early : p.last < 8 → p.arrivals ≡ []

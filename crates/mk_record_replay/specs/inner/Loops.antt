@@ -28,7 +28,8 @@ CanArrive P a = (a.sim.0 < sim_count P) × (is_message_in_range a.message ≡ tr
 
 -- no message came while a simulator was ready
 abbrev pub IsPatient : Plan → List Entry → Type 0
-IsPatient P J = (H : List Entry) (s : SimNo) (m : Message) (more : List Entry) → J ≡ H ++ Got s m ∷ more → (i : ℕ) (x : Tier) → IsReady P (view P H) i x → ⊥
+IsPatient P J = (H : List Entry) (s : SimNo) (m : Message) (more : List Entry)
+    → J ≡ H ++ Got s m ∷ more → (i : ℕ) (x : Tier) → IsReady P (view P H) i x → ⊥
 
 -- the messages A were given, and there is no fault
 pub record IsGiven (P : Plan) (A : List journals.Arrival) (J : List Entry) : Type 0 where
@@ -49,18 +50,22 @@ pub record GoesOn (old new : CoreState) : Type 0 where
   pub more : List Entry
   pub longer : new.entries ≡ old.entries ++ more
   pub sent_only : arrivals more ≡ []
-  pub on_way : (A : List journals.Arrival) → IsOnWay old.plan A old.entries → IsOnWay old.plan A new.entries
+  pub on_way : (A : List journals.Arrival) → IsOnWay old.plan A old.entries
+      → IsOnWay old.plan A new.entries
 
 -- nobody is ready
 abbrev pub IsUnready : CoreState → Type 0
 IsUnready core = SomeReady core.plan core.entries → ⊥
 
--- nobody is to be asked any more: a message is waited for, nothing is left to do, or there is no room for a Step
+-- nobody is to be asked any more: a message is waited for, nothing is left to do, or there is no
+-- room for a Step
 abbrev pub SettledBy : CoreState → Next → Type 0
 SettledBy core (Ask s) = ⊥
 SettledBy core Wait = (core.ended ≡ None) × IsUnready core × SomeOpen core.plan core.entries
-SettledBy core Done = (core.ended ≡ None) × IsDone core.plan (view core.plan core.entries) × IsFinished core.plan core.entries
-SettledBy core (Fault f) = (f ≡ TooLong core.plan.entries) × (length core.entries ≡ core.plan.entries) × SomeReady core.plan core.entries
+SettledBy core Done = (core.ended ≡ None) × IsDone core.plan (view core.plan core.entries)
+    × IsFinished core.plan core.entries
+SettledBy core (Fault f) = (f ≡ TooLong core.plan.entries)
+    × (length core.entries ≡ core.plan.entries) × SomeReady core.plan core.entries
 
 -- whoever was ready was asked
 pub record IsSettled (old : CoreState) (next : Next) (new : CoreState) : Type 0 where
@@ -69,18 +74,23 @@ pub record IsSettled (old : CoreState) (next : Next) (new : CoreState) : Type 0 
   pub by : SettledBy new next
 
 -- a fault ends the replay of the messages A
-pub record IsStopped (P : Plan) (A : List journals.Arrival) (f : CoreFault) (new : CoreState) : Type 0 where
+pub record IsStopped (P : Plan) (A : List journals.Arrival) (f : CoreFault)
+    (new : CoreState) : Type 0 where
   pub plan : new.plan ≡ P
   pub replay : IsReplay P A new.entries
   pub by : IsLastFaulty P new.entries f ⊎ IsTooLong P A new.entries f
 
 -- a message was given, or a fault ended the replay
 abbrev pub GivenBy : CoreState → journals.Arrival → Option CoreFault → CoreState → Type 0
-GivenBy old a None new = (new.ended ≡ None) × (new.plan ≡ old.plan) × ((A : List journals.Arrival) → IsOnWay old.plan A old.entries → IsOnWay old.plan (A ++ a ∷ []) new.entries)
-GivenBy old a (Some f) new = (A more : List journals.Arrival) → IsOnWay old.plan A old.entries → IsStopped old.plan (A ++ a ∷ more) f new
+GivenBy old a None new = (new.ended ≡ None) × (new.plan ≡ old.plan)
+    × ((A : List journals.Arrival) → IsOnWay old.plan A old.entries
+    → IsOnWay old.plan (A ++ a ∷ []) new.entries)
+GivenBy old a (Some f) new = (A more : List journals.Arrival) → IsOnWay old.plan A old.entries
+    → IsStopped old.plan (A ++ a ∷ more) f new
 
 -- the replay of the messages A came to its end
-pub record IsRun (P : Plan) (A : List journals.Arrival) (end : ReplayEnd) (new : CoreState) : Type 0 where
+pub record IsRun (P : Plan) (A : List journals.Arrival) (end : ReplayEnd)
+    (new : CoreState) : Type 0 where
   pub plan : new.plan ≡ P
   pub replay : IsReplay P A new.entries
   pub ends : EndsBy P A new.entries end

@@ -19,7 +19,8 @@ pub record EndsWithItem (core : CoreState) (s : SimNo) (item : Item) (id : ℕ) 
   pub last : core.entries ≡ before ++ Sent s item ∷ []
   pub opened : open_id core s.0 ≡ Some id
 
--- the crew takes the item with this id: a simulator within the program replies to it, or the id is the next one of the simulator's link
+-- the crew takes the item with this id: a simulator within the program replies to it, or the id is
+-- the next one of the simulator's link
 pub record CanTake (s : ℕ) (item : Item) (id : ℕ) (C : CrewSeen) : Type 0 where
   pub replied : is_here C s ≡ true → IsItemReplied item
   pub linked : is_here C s ≡ false → HasNext item id s C

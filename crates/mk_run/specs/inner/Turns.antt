@@ -39,7 +39,8 @@ Waits core = (SomeReady core.plan core.entries → ⊥) × SomeOpen core.plan co
 
 -- the links of all simulators are open
 abbrev pub AreLinksOpen : Setting → List LinkNo → Type 0
-AreLinksOpen T open_links = (i : ℕ) (l : LinkNo) → sim_link T.started T.scenario i ≡ Some l → IsIn l open_links
+AreLinksOpen T open_links = (i : ℕ) (l : LinkNo) → sim_link T.started T.scenario i ≡ Some l
+    → IsIn l open_links
 
 -- the crew has its places and its kinds still
 pub record IsStill (old new : CrewSeen) : Type 0 where
@@ -61,24 +62,40 @@ abbrev pub IsLinkedIfLong : CrewSeen → Outcome → Type 0
 IsLinkedIfLong C end = (i : SimNo) (n : ℕ) → end ≡ outcome.LongItem i n → IsLinked i.0 C.lines
 
 -- whoever was ready was asked, and now a message is waited for; or the run came to an outcome
-abbrev pub SettlesAs : Result (Unit {0}) Outcome → CoreState → CrewSeen → CoreState → CrewSeen → Type 0
-SettlesAs (Ok done) old C new D = (new.ended ≡ None) × Waits new × ((T : Setting) (log : List LogEntry) → GoesOn T old log C → GoesOn T new log D)
-SettlesAs (Err end) old C new D = (T : Setting) (log : List LogEntry) → GoesOn T old log C → IsStopping ⊥ T new log D end
+abbrev pub SettlesAs : Result (Unit {0}) Outcome → CoreState → CrewSeen → CoreState → CrewSeen
+    → Type 0
+SettlesAs (Ok done) old C new D = (new.ended ≡ None) × Waits new
+    × ((T : Setting) (log : List LogEntry) → GoesOn T old log C → GoesOn T new log D)
+SettlesAs (Err end) old C new D = (T : Setting) (log : List LogEntry) → GoesOn T old log C
+    → IsStopping ⊥ T new log D end
 
--- the core took the message that was heard, and what it owed was sent; or the run came to an outcome
-abbrev pub TakesAs : Result (Unit {0}) Outcome → SimNo → Message → CoreState → CrewSeen → CoreState → CrewSeen → Type 0
-TakesAs (Ok done) sim m old C new D = (new.ended ≡ None) × ((T : Setting) (log : List LogEntry) → IsPast T old log sim m C → GoesOn T new log D)
-TakesAs (Err end) sim m old C new D = (T : Setting) (log : List LogEntry) → IsPast T old log sim m C → IsStopping ⊥ T new log D end
+-- the core took the message that was heard, and what it owed was sent; or the run came to an
+-- outcome
+abbrev pub TakesAs : Result (Unit {0}) Outcome → SimNo → Message → CoreState → CrewSeen → CoreState
+    → CrewSeen → Type 0
+TakesAs (Ok done) sim m old C new D = (new.ended ≡ None)
+    × ((T : Setting) (log : List LogEntry) → IsPast T old log sim m C → GoesOn T new log D)
+TakesAs (Err end) sim m old C new D = (T : Setting) (log : List LogEntry) → IsPast T old log sim m C
+    → IsStopping ⊥ T new log D end
 
 -- by these entries the run went on; or it came to an outcome
-abbrev pub TurnsAs : Result (Unit {0}) Outcome → List LogEntry → Type 0 → CoreState → CrewSeen → CoreState → CrewSeen → Type 0
-TurnsAs (Ok done) entries risen old C new D = (new.ended ≡ None) × ((T : Setting) (log : List LogEntry) → GoesOn T old log C → GoesOn T new (log ++ entries) D)
-TurnsAs (Err end) entries risen old C new D = (T : Setting) (log : List LogEntry) → GoesOn T old log C → IsStopping risen T new (log ++ entries) D end
+abbrev pub TurnsAs : Result (Unit {0}) Outcome → List LogEntry → Type 0 → CoreState → CrewSeen
+    → CoreState → CrewSeen → Type 0
+TurnsAs (Ok done) entries risen old C new D = (new.ended ≡ None)
+    × ((T : Setting) (log : List LogEntry) → GoesOn T old log C → GoesOn T new (log ++ entries) D)
+TurnsAs (Err end) entries risen old C new D = (T : Setting) (log : List LogEntry)
+    → GoesOn T old log C → IsStopping risen T new (log ++ entries) D end
 
--- what a run of a plan over a crew comes to, whatever came before: its plan and its journal, and what the whole run means; or there was no memory for it, and its crew was stopped
-abbrev pub PlanRunsAs : Plan → CrewSeen → List LogEntry → ℕ → ℕ → Option Plan → Option Journal → Outcome → Type 0
-PlanRunsAs plan C entries faults new_faults (Some P) (Some J) end = (T : Setting) (log : List LogEntry) (before : ℕ) → before ≤ faults → IsUnderway T plan [] log (crew_of C) C.sims
-    → (P ≡ plan) × (r : IsRun T.started T.scenario (reply_in T) P J.entries (log ++ entries) before new_faults end) × (r.replies ≡ T.replies)
+-- what a run of a plan over a crew comes to, whatever came before: its plan and its journal, and
+-- what the whole run means; or there was no memory for it, and its crew was stopped
+abbrev pub PlanRunsAs : Plan → CrewSeen → List LogEntry → ℕ → ℕ → Option Plan → Option Journal
+    → Outcome → Type 0
+PlanRunsAs plan C entries faults new_faults (Some P) (Some J) end = (T : Setting)
+    (log : List LogEntry) (before : ℕ) → before ≤ faults
+    → IsUnderway T plan [] log (crew_of C) C.sims
+    → (P ≡ plan) × (r : IsRun T.started T.scenario (reply_in T) P J.entries (log
+    ++ entries) before new_faults end) × (r.replies ≡ T.replies)
 PlanRunsAs plan C entries faults new_faults (Some P) None end = ⊥
 PlanRunsAs plan C entries faults new_faults None (Some J) end = ⊥
-PlanRunsAs plan C entries faults new_faults None None end = (end ≡ outcome.Mem) × AreStopped entries (HasRisen faults new_faults) (crew_of C) × IsRestless entries
+PlanRunsAs plan C entries faults new_faults None None end = (end ≡ outcome.Mem)
+    × AreStopped entries (HasRisen faults new_faults) (crew_of C) × IsRestless entries

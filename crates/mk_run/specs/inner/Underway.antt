@@ -35,7 +35,8 @@ use Rattle.mk_run.specs.declared.outcome.Outcome.{Outcome}
 use Rattle.mk_run.specs.declared.outcome.Outcome.TheVariants as outcome
 use Rattle.mk_run.specs.Ends.{AreInRange, QueuedAll, IsBrokenOff, IsLastFaulty, IsOpenWithin, IsFull, IsLongItem, SetupRestsWell}
 
--- how many links were started before the run, its scenario, the kinds at hand, the replies of each simulator to its handshake, and the plan that these make
+-- how many links were started before the run, its scenario, the kinds at hand, the replies of each
+-- simulator to its handshake, and the plan that these make
 pub record Setting : Type 0 where
   pub started : ℕ
   pub scenario : Scenario
@@ -47,16 +48,19 @@ pub record Setting : Type 0 where
 abbrev pub reply_in : Setting → Replies
 reply_in T = kind_reply_of T.rows T.scenario
 
--- the plan is that of the setting: it has the scenario's simulators, and each one's run begins behind its handshake
+-- the plan is that of the setting: it has the scenario's simulators, and each one's run begins
+-- behind its handshake
 pub record Suits (T : Setting) (P : Plan) : Type 0 where
   pub same : P ≡ T.plan
   pub sims : sim_count P ≡ length T.scenario.sims
   pub first : (i : ℕ) → i < sim_count P → first_id P i ≡ setup_count T.scenario i
-  pub counts : (i : ℕ) (l : LinkNo) → sim_link T.started T.scenario i ≡ Some l → length (T.replies i) ≡ setup_count T.scenario i
+  pub counts : (i : ℕ) (l : LinkNo) → sim_link T.started T.scenario i ≡ Some l
+      → length (T.replies i) ≡ setup_count T.scenario i
 
 -- each line is that of a simulator with a link
 abbrev pub HasNoOther : Setting → CrewState → Type 0
-HasNoOther T C = (i : ℕ) (w : Line) → line_at C i ≡ Some w → (l : LinkNo) × (sim_link T.started T.scenario i ≡ Some l)
+HasNoOther T C = (i : ℕ) (w : Line) → line_at C i ≡ Some w → (l : LinkNo)
+    × (sim_link T.started T.scenario i ≡ Some l)
 
 -- simulator i, if it is within the program
 abbrev pub local_at : List (Option Simulator) → ℕ → Option Simulator
@@ -64,14 +68,17 @@ local_at sims i = option_and_then (λ (o : Option Simulator). o) (slice_get sims
 
 -- each simulator within the program has come on by the items that the journal sent it
 abbrev pub HaveCome : Setting → List Entry → List (Option Simulator) → Type 0
-HaveCome T J sims = (i : ℕ) → is_within T.scenario i ≡ true → (L : Simulator) × (local_at sims i ≡ Some L) × HasCome T.rows T.scenario i (sent J i) L
+HaveCome T J sims = (i : ℕ) → is_within T.scenario i ≡ true → (L : Simulator)
+    × (local_at sims i ≡ Some L) × HasCome T.rows T.scenario i (sent J i) L
 
 -- no message came while a simulator was ready
 abbrev pub IsPatient : Plan → List Entry → Type 0
-IsPatient P J = (H : List Entry) (s : SimNo) (m : Message) (more : List Entry) → J ≡ H ++ Got s m ∷ more → (i : ℕ) (x : Tier) → IsReady P (view P H) i x → ⊥
+IsPatient P J = (H : List Entry) (s : SimNo) (m : Message) (more : List Entry)
+    → J ≡ H ++ Got s m ∷ more → (i : ℕ) (x : Tier) → IsReady P (view P H) i x → ⊥
 
 -- the journal, the log and the crew have come about together, and there is no fault
-pub record IsUnderway (T : Setting) (P : Plan) (J : List Entry) (log : List LogEntry) (C : CrewState) (sims : List (Option Simulator)) : Type 0 where
+pub record IsUnderway (T : Setting) (P : Plan) (J : List Entry) (log : List LogEntry)
+    (C : CrewState) (sims : List (Option Simulator)) : Type 0 where
   pub suits : Suits T P
   pub stands : Stands P J
   pub patient : IsPatient P J
@@ -83,8 +90,10 @@ pub record IsUnderway (T : Setting) (P : Plan) (J : List Entry) (log : List LogE
   pub only_within : (i : ℕ) → is_within T.scenario i ≡ false → local_at sims i ≡ None
   pub setup_rests : SetupRestsWell T.started T.scenario log
 
--- nobody was ready, and a message was heard that the core hasn't taken: the oldest reply that was kept, which is a success, or a message of a link
-pub record HasHeard (T : Setting) (P : Plan) (J : List Entry) (log : List LogEntry) (s : ℕ) (m : Message) (D : CrewState) (sims : List (Option Simulator)) : Type 0 where
+-- nobody was ready, and a message was heard that the core hasn't taken: the oldest reply that was
+-- kept, which is a success, or a message of a link
+pub record HasHeard (T : Setting) (P : Plan) (J : List Entry) (log : List LogEntry) (s : ℕ)
+    (m : Message) (D : CrewState) (sims : List (Option Simulator)) : Type 0 where
   pub before : List LogEntry
   pub entries : List LogEntry
   pub parts : log ≡ before ++ entries
@@ -94,8 +103,10 @@ pub record HasHeard (T : Setting) (P : Plan) (J : List Entry) (log : List LogEnt
   pub heard : IsHeard entries s m crew D
   pub fit : (k : Arrival) (more : List Arrival) → crew.kept ≡ k ∷ more → IsFitSuccess m
 
--- a line at the end: the messages that it gave go on from those of the journal, and the items queued on it are the first of the journal's
-pub record IsLastLine (T : Setting) (J : List Entry) (log : List LogEntry) (C : CrewState) (end : Outcome) (i : ℕ) (l : LinkNo) : Type 0 where
+-- a line at the end: the messages that it gave go on from those of the journal, and the items
+-- queued on it are the first of the journal's
+pub record IsLastLine (T : Setting) (J : List Entry) (log : List LogEntry) (C : CrewState)
+    (end : Outcome) (i : ℕ) (l : LinkNo) : Type 0 where
   pub messages : List Message
   pub items : List Item
   pub line : HasLine T.scenario T.replies log i l messages items C
@@ -104,39 +115,50 @@ pub record IsLastLine (T : Setting) (J : List Entry) (log : List LogEntry) (C : 
   pub queued_all : QueuedAll end (sent J i) items
 
 -- the line of simulator i gave all messages that the journal got, and holds no further one
-pub record HasGiven (T : Setting) (J : List Entry) (log : List LogEntry) (C : CrewState) (i : ℕ) (l : LinkNo) : Type 0 where
+pub record HasGiven (T : Setting) (J : List Entry) (log : List LogEntry) (C : CrewState) (i : ℕ)
+    (l : LinkNo) : Type 0 where
   pub linked : sim_link T.started T.scenario i ≡ Some l
   pub line : HasLine T.scenario T.replies log i l (got J i) (sent J i) C
   pub none_held : first_message line.line.held ≡ None
 
--- a message was heard on a link that the journal hasn't got: the line gave it behind those that the journal got
-pub record IsAhead (T : Setting) (J : List Entry) (log : List LogEntry) (C : CrewState) : Type 0 where
+-- a message was heard on a link that the journal hasn't got: the line gave it behind those that the
+-- journal got
+pub record IsAhead (T : Setting) (J : List Entry) (log : List LogEntry)
+    (C : CrewState) : Type 0 where
   pub sim : SimNo
   pub message : Message
   pub link : LinkNo
   pub linked : sim_link T.started T.scenario sim.0 ≡ Some link
-  pub line : HasLine T.scenario T.replies log sim.0 link (got (J ++ Got sim message ∷ []) sim.0) (sent (J ++ Got sim message ∷ []) sim.0) C
+  pub line : HasLine T.scenario T.replies log sim.0 link (got (J ++ Got sim message ∷ []) sim.0)
+      (sent (J ++ Got sim message ∷ []) sim.0) C
 
 -- what the outcome shows before the run is stopped
-abbrev pub EndsBy : Type 0 → Setting → Plan → List Entry → List LogEntry → CrewState → Outcome → Type 0
+abbrev pub EndsBy : Type 0 → Setting → Plan → List Entry → List LogEntry → CrewState → Outcome
+    → Type 0
 EndsBy risen T P J log C outcome.Done = IsDone P (view P J)
 EndsBy risen T P J log C (outcome.Setup f) = ⊥
-EndsBy risen T P J log C (outcome.Core f) = IsLastFaulty P J f ⊎ IsFull P J f (IsAhead T J log C ⊎ IsOpenWithin T.scenario P J)
+EndsBy risen T P J log C (outcome.Core f) = IsLastFaulty P J f
+    ⊎ IsFull P J f (IsAhead T J log C ⊎ IsOpenWithin T.scenario P J)
 EndsBy risen T P J log C outcome.Fleet = risen
-EndsBy risen T P J log C (outcome.Gone i) = (l : LinkNo) × HasGiven T J log C i.0 l × IsIn (Ended l) log
-EndsBy risen T P J log C (outcome.Garbled i n) = (l : LinkNo) × (g : HasGiven T J log C i.0 l) × BeginsGarbled g.line.line.held n
-EndsBy risen T P J log C (outcome.LongFrame i n) = (l : LinkNo) × (g : HasGiven T J log C i.0 l) × IsTooLong n g.line.line.held
+EndsBy risen T P J log C (outcome.Gone i) = (l : LinkNo) × HasGiven T J log C i.0 l
+    × IsIn (Ended l) log
+EndsBy risen T P J log C (outcome.Garbled i n) = (l : LinkNo) × (g : HasGiven T J log C i.0 l)
+    × BeginsGarbled g.line.line.held n
+EndsBy risen T P J log C (outcome.LongFrame i n) = (l : LinkNo) × (g : HasGiven T J log C i.0 l)
+    × IsTooLong n g.line.line.held
 EndsBy risen T P J log C (outcome.LongItem i n) = IsLongItem P J i.0 n
 EndsBy risen T P J log C outcome.Mem = ⊤
 
 -- the run has come to its outcome, and its crew is still to be stopped
-pub record HasEnded (risen : Type 0) (T : Setting) (P : Plan) (J : List Entry) (log : List LogEntry) (C : CrewState) (end : Outcome) : Type 0 where
+pub record HasEnded (risen : Type 0) (T : Setting) (P : Plan) (J : List Entry) (log : List LogEntry)
+    (C : CrewState) (end : Outcome) : Type 0 where
   pub suits : Suits T P
   pub stands : Stands P J
   pub patient : IsPatient P J
   pub in_range : AreInRange J
   pub kinds : KeepsToKinds (reply_in T) (is_within T.scenario) P J
-  pub lines : (i : ℕ) (l : LinkNo) → sim_link T.started T.scenario i ≡ Some l → IsLastLine T J log C end i l
+  pub lines : (i : ℕ) (l : LinkNo) → sim_link T.started T.scenario i ≡ Some l
+      → IsLastLine T J log C end i l
   pub no_other : HasNoOther T C
   pub rests : RestsEnd T.started T.scenario T.replies P J log
   pub setup_rests : SetupRestsWell T.started T.scenario log

@@ -38,7 +38,8 @@ use Rattle.mk_run_crew.specs.Halted.{ShowsCause, count_to}
 use Rattle.mk_run_crew.specs.Seen.{CrewSeen, within_of, is_here}
 
 -- simulator i, within the program, answered at once
-pub record AsksWithin (i : ℕ) (call : Call) (id from : ℕ) (m : Message) (entries : List LogEntry) (old new : CrewSeen) : Type 0 where
+pub record AsksWithin (i : ℕ) (call : Call) (id from : ℕ) (m : Message) (entries : List LogEntry)
+    (old new : CrewSeen) : Type 0 where
   pub here : is_here old i ≡ true
   pub same_sim : from ≡ i
   pub quiet : entries ≡ []
@@ -48,7 +49,8 @@ pub record AsksWithin (i : ℕ) (call : Call) (id from : ℕ) (m : Message) (ent
   pub halt : new.halt ≡ old.halt
 
 -- the request was queued on the line of simulator i, and this message was heard of a link
-pub record AsksOnLink (i : ℕ) (call : Call) (id from : ℕ) (m : Message) (entries : List LogEntry) (old new : CrewSeen) : Type 0 where
+pub record AsksOnLink (i : ℕ) (call : Call) (id from : ℕ) (m : Message) (entries : List LogEntry)
+    (old new : CrewSeen) : Type 0 where
   pub away : is_here old i ≡ false
   pub mid : Lines
   pub line : Line
@@ -60,7 +62,8 @@ pub record AsksOnLink (i : ℕ) (call : Call) (id from : ℕ) (m : Message) (ent
 
 -- the answer to a request, or another message in its place
 abbrev pub Asks : ℕ → Call → ℕ → ℕ → Message → List LogEntry → CrewSeen → CrewSeen → Type 0
-Asks i call id from m entries old new = AsksWithin i call id from m entries old new ⊎ AsksOnLink i call id from m entries old new
+Asks i call id from m entries old new = AsksWithin i call id from m entries old new
+    ⊎ AsksOnLink i call id from m entries old new
 
 -- the payload is longer than a frame may be
 pub record IsTooLongToAsk (h : Halt) (i : ℕ) (call : Call) (id : ℕ) (old : CrewSeen) : Type 0 where
@@ -73,13 +76,15 @@ pub record IsTooLongToAsk (h : Halt) (i : ℕ) (call : Call) (id : ℕ) (old : C
   pub beyond : limit < bytes
 
 -- the request wasn't made
-pub record AsksNot (h : Halt) (i : ℕ) (call : Call) (id : ℕ) (entries : List LogEntry) (old new : CrewSeen) : Type 0 where
+pub record AsksNot (h : Halt) (i : ℕ) (call : Call) (id : ℕ) (entries : List LogEntry)
+    (old new : CrewSeen) : Type 0 where
   pub quiet : entries ≡ []
   pub same : new ≡ old
   pub cause : (h ≡ halt.Mem) ⊎ IsTooLongToAsk h i call id old
 
 -- the request was queued, and nothing was heard
-pub record AsksInVain (h : Halt) (i : ℕ) (call : Call) (id : ℕ) (entries : List LogEntry) (old new : CrewSeen) : Type 0 where
+pub record AsksInVain (h : Halt) (i : ℕ) (call : Call) (id : ℕ) (entries : List LogEntry)
+    (old new : CrewSeen) : Type 0 where
   pub away : is_here old i ≡ false
   pub mid : Lines
   pub line : Line
@@ -90,7 +95,8 @@ pub record AsksInVain (h : Halt) (i : ℕ) (call : Call) (id : ℕ) (entries : L
   pub shown : ShowsHalt why entries new.lines
 
 abbrev pub AsksFail : Halt → ℕ → Call → ℕ → List LogEntry → CrewSeen → CrewSeen → Type 0
-AsksFail h i call id entries old new = AsksNot h i call id entries old new ⊎ AsksInVain h i call id entries old new
+AsksFail h i call id entries old new = AsksNot h i call id entries old new
+    ⊎ AsksInVain h i call id entries old new
 
 -- the halt that a fault of the handshake is
 abbrev pub setup_halt : SetupFault → Halt
@@ -102,14 +108,16 @@ setup_halt (fault.Failed sim text) = halt.Setup (fault.Failed sim text)
 setup_halt fault.Mem = halt.Mem
 
 -- a request was made, and the setup took what came
-pub record Answers (i : ℕ) (call : Call) (id : ℕ) (entries : List LogEntry) (old new : CrewSeen) (U V : SetupState) : Type 0 where
+pub record Answers (i : ℕ) (call : Call) (id : ℕ) (entries : List LogEntry) (old new : CrewSeen)
+    (U V : SetupState) : Type 0 where
   pub from : SimNo
   pub message : Message
   pub asks : Asks i call id from.0 message entries old new
   pub taken : after_reply U (arrival from message) ≡ Ok V
 
 -- a request was made, and the setup didn't take what came
-pub record IsNotTaken (h : Halt) (i : ℕ) (call : Call) (id : ℕ) (entries : List LogEntry) (old new : CrewSeen) (U : SetupState) : Type 0 where
+pub record IsNotTaken (h : Halt) (i : ℕ) (call : Call) (id : ℕ) (entries : List LogEntry)
+    (old new : CrewSeen) (U : SetupState) : Type 0 where
   pub from : SimNo
   pub message : Message
   pub asks : Asks i call id from.0 message entries old new
@@ -119,11 +127,15 @@ pub record IsNotTaken (h : Halt) (i : ℕ) (call : Call) (id : ℕ) (entries : L
   pub refused : IsRefused U (arrival from message) fault state
 
 -- or nothing came
-abbrev pub AnswersNot : Type 0 → Halt → ℕ → Call → ℕ → List LogEntry → CrewSeen → CrewSeen → SetupState → Type 0
-AnswersNot risen h i call id entries old new U = (AsksFail h i call id entries old new × (h ≡ halt.Fleet → risen)) ⊎ IsNotTaken h i call id entries old new U
+abbrev pub AnswersNot : Type 0 → Halt → ℕ → Call → ℕ → List LogEntry → CrewSeen → CrewSeen
+    → SetupState → Type 0
+AnswersNot risen h i call id entries old new U = (AsksFail h i call id entries old new
+    × (h ≡ halt.Fleet → risen)) ⊎ IsNotTaken h i call id entries old new U
 
--- a crew before its first request: the links, so many having been started before, are open, and their lines are new; and no simulator within the program has been asked
-pub record IsNewCrew (started : ℕ) (rows : List Turn) (S : Scenario) (open_links : List LinkNo) (C : CrewSeen) : Type 0 where
+-- a crew before its first request: the links, so many having been started before, are open, and
+-- their lines are new; and no simulator within the program has been asked
+pub record IsNewCrew (started : ℕ) (rows : List Turn) (S : Scenario) (open_links : List LinkNo)
+    (C : CrewSeen) : Type 0 where
   pub places : C.places ≡ places started S.sims
   pub lines : C.lines ≡ new_lines C.places
   pub within : within_of C ≡ new_within rows S
@@ -132,20 +144,26 @@ pub record IsNewCrew (started : ℕ) (rows : List Turn) (S : Scenario) (open_lin
   pub are_open : (i : ℕ) (l : LinkNo) → sim_link started S i ≡ Some l → IsIn l open_links
 
 -- after these answers
-pub record IsAnswered (started : ℕ) (S : Scenario) (rows : List Turn) (log : List LogEntry) (answers : List Message) (C : CrewSeen) : Type 0 where
+pub record IsAnswered (started : ℕ) (S : Scenario) (rows : List Turn) (log : List LogEntry)
+    (answers : List Message) (C : CrewSeen) : Type 0 where
   pub replies : SetupReplies
-  pub between : IsBetween started S replies log (crew C.lines) (take (length answers) (setup_requests S)) (drop (length answers) (setup_requests S))
-  pub told : (i : ℕ) (l : LinkNo) → sim_link started S i ≡ Some l → replies i ≡ answers_to i (setup_requests S) answers
+  pub between : IsBetween started S replies log (crew C.lines)
+      (take (length answers) (setup_requests S)) (drop (length answers) (setup_requests S))
+  pub told : (i : ℕ) (l : LinkNo) → sim_link started S i ≡ Some l
+      → replies i ≡ answers_to i (setup_requests S) answers
   pub kinds : AreKindAnswers rows S answers
   pub sims : (i : ℕ) → sim_at (within_of C) i ≡ sim_after rows S (length answers) i
   pub known : AreOf rows (within_of C)
-  pub back : (i : ℕ) (w : Line) → at C.lines i ≡ Some w → (l : LinkNo) × (sim_link started S i ≡ Some l)
+  pub back : (i : ℕ) (w : Line) → at C.lines i ≡ Some w → (l : LinkNo)
+      × (sim_link started S i ≡ Some l)
   pub kept : C.kept ≡ []
   pub halt : C.halt ≡ None
   pub places : C.places ≡ places started S.sims
 
--- the handshake so far: these entries were added, and the setup and the crew have come about together by the answers
-pub record GoesSoFar (started : ℕ) (S : Scenario) (ranks : List ℕ) (rows : List Turn) (old new : Option (List LogEntry)) (C : CrewSeen) (U : SetupState) : Type 0 where
+-- the handshake so far: these entries were added, and the setup and the crew have come about
+-- together by the answers
+pub record GoesSoFar (started : ℕ) (S : Scenario) (ranks : List ℕ) (rows : List Turn)
+    (old new : Option (List LogEntry)) (C : CrewSeen) (U : SetupState) : Type 0 where
   pub entries : List LogEntry
   pub adds : Adds entries old new
   pub answers : List Message
@@ -154,11 +172,14 @@ pub record GoesSoFar (started : ℕ) (S : Scenario) (ranks : List ℕ) (rows : L
   pub answered : IsAnswered started S rows entries answers C
 
 -- the handshake has ended early, and the crew is still to be stopped
-pub record IsHalting (started : ℕ) (S : Scenario) (ranks : List ℕ) (rows : List Turn) (log : List LogEntry) (risen : Type 0) (h : Halt) (C : CrewSeen) : Type 0 where
+pub record IsHalting (started : ℕ) (S : Scenario) (ranks : List ℕ) (rows : List Turn)
+    (log : List LogEntry) (risen : Type 0) (h : Halt) (C : CrewSeen) : Type 0 where
   pub queued : List Request
   pub later : List Request
   pub parts : setup_requests S ≡ queued ++ later
   pub lines : (i : ℕ) (l : LinkNo) → sim_link started S i ≡ Some l
-      → (ms : List Message) × (w : Line) × (at C.lines i ≡ Some w) × (w.link ≡ l) × IsLineAt log ms (call_payloads 0 (filter_map (call_to i) queued)) (count_to i queued) w
-  pub rests : (before after : List LogEntry) → log ≡ before ++ Rest ∷ after → IsWellInSetup started S before × (AllSetUp started S before → ⊥)
+      → (ms : List Message) × (w : Line) × (at C.lines i ≡ Some w) × (w.link ≡ l)
+      × IsLineAt log ms (call_payloads 0 (filter_map (call_to i) queued)) (count_to i queued) w
+  pub rests : (before after : List LogEntry) → log ≡ before ++ Rest ∷ after
+      → IsWellInSetup started S before × (AllSetUp started S before → ⊥)
   pub cause : ShowsCause started S ranks rows log risen queued later h

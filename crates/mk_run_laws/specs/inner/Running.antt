@@ -19,49 +19,69 @@ use Rattle.mk_run_laws.specs.Crews.{CrewState, line_at, kept_of}
 use Rattle.mk_run_laws.specs.Running.{SetupReplies, IsInStep, IsRestOf, BeginsOnLink}
 
 -- the line is there, and has given what the journal got and was sent
-pub record HasLine (S : Scenario) (replies : SetupReplies) (log : List LogEntry) (i : ℕ) (l : LinkNo) (messages : List Message) (items : List Item) (C : CrewState) : Type 0 where
+pub record HasLine (S : Scenario) (replies : SetupReplies) (log : List LogEntry) (i : ℕ)
+    (l : LinkNo) (messages : List Message) (items : List Item) (C : CrewState) : Type 0 where
   pub line : Line
   pub there : line_at C i ≡ Some line
   pub link : line.link ≡ l
   pub in_step : IsInStep S replies log i messages items line
 
--- the reply that is awaited of simulator i, if it runs within the program and a request is open at it
+-- the reply that is awaited of simulator i, if it runs within the program and a request is open at
+-- it
 abbrev pub awaited : Scenario → Replies → Plan → List Entry → ℕ → List Message
-awaited S reply P J i = if is_within S i && is_some ((view P J).open_at i) then reply i (map bare (sent J i)) ∷ [] else []
+awaited S reply P J i = if is_within S i && is_some ((view P J).open_at i)
+    then reply i (map bare (sent J i)) ∷ [] else []
 
 -- and something did
 abbrev pub RestsOver : ℕ → Scenario → SetupReplies → Plan → List Entry → List LogEntry → Type 0
-RestsOver started S replies P J log = (before after : List LogEntry) → log ≡ before ++ Rest ∷ after → AllSetUp started S before
+RestsOver started S replies P J log = (before after : List LogEntry) → log ≡ before ++ Rest ∷ after
+    → AllSetUp started S before
     → (r : IsRestOf started S replies P J before) × BeginsOnLink started S r.more
 
 -- the crew and the journal J have come about together over the log, and these replies are kept
-pub record IsRunningWith (awaits : ℕ → List Message) (started : ℕ) (S : Scenario) (replies : SetupReplies) (reply : Replies) (P : Plan) (J : List Entry) (log : List LogEntry) (C : CrewState) : Type 0 where
-  pub lines : (i : ℕ) (l : LinkNo) → sim_link started S i ≡ Some l → HasLine S replies log i l (got J i) (sent J i) C
+pub record IsRunningWith (awaits : ℕ
+    → List Message) (started : ℕ) (S : Scenario) (replies : SetupReplies) (reply : Replies)
+    (P : Plan) (J : List Entry) (log : List LogEntry) (C : CrewState) : Type 0 where
+  pub lines : (i : ℕ) (l : LinkNo) → sim_link started S i ≡ Some l
+      → HasLine S replies log i l (got J i) (sent J i) C
   pub no_line : (i : ℕ) → is_within S i ≡ true → line_at C i ≡ None
   pub kept : (i : ℕ) → kept_of i C.kept ≡ awaits i
   pub kinds : KeepsToKinds reply (is_within S) P J
   pub rests : RestsOver started S replies P J log
 
 -- and these are the replies that are awaited
-abbrev pub IsRunning : ℕ → Scenario → SetupReplies → Replies → Plan → List Entry → List LogEntry → CrewState → Type 0
-IsRunning started S replies reply P J = IsRunningWith (awaited S reply P J) started S replies reply P J
+abbrev pub IsRunning : ℕ → Scenario → SetupReplies → Replies → Plan → List Entry → List LogEntry
+    → CrewState → Type 0
+IsRunning started S replies reply P J = IsRunningWith
+    (awaited S reply P J) started S replies reply P J
 
 -- nobody is ready after these entries
 abbrev pub IsUnready : Plan → List Entry → Type 0
 IsUnready P J = (i : ℕ) (x : Tier) → IsReady P (view P J) i x → ⊥
 
--- while the handshake goes on: these requests were queued, whose replies have come, and then one whose reply is awaited; others come later
-pub record IsSettingUp (started : ℕ) (S : Scenario) (replies : SetupReplies) (log : List LogEntry) (C : CrewState) (done : List Request) (now : Request) (later : List Request) : Type 0 where
+-- while the handshake goes on: these requests were queued, whose replies have come, and then one
+-- whose reply is awaited; others come later
+pub record IsSettingUp (started : ℕ) (S : Scenario) (replies : SetupReplies) (log : List LogEntry)
+    (C : CrewState) (done : List Request) (now : Request) (later : List Request) : Type 0 where
   pub parts : setup_requests S ≡ done ++ now ∷ later
   pub linked : (l : LinkNo) × (sim_link started S now.sim ≡ Some l)
-  pub counts : (i : ℕ) (l : LinkNo) → sim_link started S i ≡ Some l → length (replies i) ≡ length (filter_map (call_to i) done)
+  pub counts : (i : ℕ) (l : LinkNo) → sim_link started S i ≡ Some l
+      → length (replies i) ≡ length (filter_map (call_to i) done)
   pub lines : (i : ℕ) (l : LinkNo) → sim_link started S i ≡ Some l
-      → (w : Line) × (line_at C i ≡ Some w) × (w.link ≡ l) × IsLineAt log (replies i) (call_payloads 0 (filter_map (call_to i) (done ++ now ∷ []))) (length (filter_map (call_to i) (done ++ now ∷ []))) w
+      → (w : Line) × (line_at C i ≡ Some w) × (w.link ≡ l)
+      × IsLineAt log (replies i) (call_payloads 0 (filter_map (call_to i) (done ++ now ∷ [])))
+      (length (filter_map (call_to i) (done ++ now ∷ []))) w
 
--- between two requests of the handshake: these were queued and answered, and at each rest so far the handshake's clause stood and not all had replied
-pub record IsBetween (started : ℕ) (S : Scenario) (replies : SetupReplies) (log : List LogEntry) (C : CrewState) (done later : List Request) : Type 0 where
+-- between two requests of the handshake: these were queued and answered, and at each rest so far
+-- the handshake's clause stood and not all had replied
+pub record IsBetween (started : ℕ) (S : Scenario) (replies : SetupReplies) (log : List LogEntry)
+    (C : CrewState) (done later : List Request) : Type 0 where
   pub parts : setup_requests S ≡ done ++ later
-  pub counts : (i : ℕ) (l : LinkNo) → sim_link started S i ≡ Some l → length (replies i) ≡ length (filter_map (call_to i) done)
+  pub counts : (i : ℕ) (l : LinkNo) → sim_link started S i ≡ Some l
+      → length (replies i) ≡ length (filter_map (call_to i) done)
   pub lines : (i : ℕ) (l : LinkNo) → sim_link started S i ≡ Some l
-      → (w : Line) × (line_at C i ≡ Some w) × (w.link ≡ l) × IsLineAt log (replies i) (call_payloads 0 (filter_map (call_to i) done)) (length (filter_map (call_to i) done)) w
-  pub rests : (before after : List LogEntry) → log ≡ before ++ Rest ∷ after → IsWellInSetup started S before × (AllSetUp started S before → ⊥)
+      → (w : Line) × (line_at C i ≡ Some w) × (w.link ≡ l)
+      × IsLineAt log (replies i) (call_payloads 0 (filter_map (call_to i) done))
+      (length (filter_map (call_to i) done)) w
+  pub rests : (before after : List LogEntry) → log ≡ before ++ Rest ∷ after
+      → IsWellInSetup started S before × (AllSetUp started S before → ⊥)

@@ -39,18 +39,22 @@ Shows (polled.Ready h) entries w = ShowsHeard h entries w
 Shows polled.Pending entries w = ⊤
 
 -- by these entries, which are of the line's link alone, a poll moved the line
-pub record PollsLine (answer : Polled) (old : Line) (entries : List LogEntry) (new : Line) : Type 0 where
+pub record PollsLine (answer : Polled) (old : Line) (entries : List LogEntry)
+    (new : Line) : Type 0 where
   pub on_link : Each (IsOf old.link) entries
   pub moved : IsMoved entries (given_in answer) old new
   pub parked : new.parked ≡ is_pending answer
   pub shown : Shows answer entries new
 
--- by these entries, which are of the line's link alone, what is unsent and then these bytes were said: a beginning of them, and all but where a write took nothing or the count of faults rose
-pub record FlushesLine (w : Line) (last : List ℕ) (risen : Type 0) (entries : List LogEntry) : Type 0 where
+-- by these entries, which are of the line's link alone, what is unsent and then these bytes were
+-- said: a beginning of them, and all but where a write took nothing or the count of faults rose
+pub record FlushesLine (w : Line) (last : List ℕ) (risen : Type 0)
+    (entries : List LogEntry) : Type 0 where
   pub on_link : Each (IsOf w.link) entries
   pub unheard : heard_on w.link entries ≡ []
   pub said : BeginsWith (w.unsent ++ last) (said_on w.link entries)
-  pub whole : (said_on w.link entries ≡ w.unsent ++ last) ⊎ ((last_write w.link entries ≡ Some (NotSaid w.link)) ⊎ risen)
+  pub whole : (said_on w.link entries ≡ w.unsent ++ last)
+      ⊎ ((last_write w.link entries ≡ Some (NotSaid w.link)) ⊎ risen)
 
 -- by these entries, which are of the line's link alone, the line was stopped
 pub record StopsLine (w : Line) (risen : Type 0) (entries : List LogEntry) : Type 0 where
@@ -68,10 +72,17 @@ link_of o = option_map (λ (w : Line). w.link) o
 
 -- the line, not parked
 abbrev pub unparked : Line → Line
-unparked w = record { link = w.link; held = w.held; unsent = w.unsent; parked = false; next = w.next }
+unparked w = record {
+  link = w.link;
+  held = w.held;
+  unsent = w.unsent;
+  parked = false;
+  next = w.next;
+}
 
 -- the line of simulator s was polled with this answer, and all others stand
-pub record PollsAt (answer : Polled) (s : ℕ) (old : Lines) (entries : List LogEntry) (new : Lines) : Type 0 where
+pub record PollsAt (answer : Polled) (s : ℕ) (old : Lines) (entries : List LogEntry)
+    (new : Lines) : Type 0 where
   pub line : Line
   pub after : Line
   pub set : IsSet s line after old new

@@ -24,9 +24,12 @@ only_by s given i = if s == i then given else []
 
 -- one link was polled, and its line moved; or all lines are parked, and nothing was done
 abbrev pub LooksAs : Looked → List LogEntry → Lines → Lines → Type 0
-LooksAs (looked.Heard sim h) entries old new = AreMoved entries (only_by sim.0 (message_in h)) (crew old) (crew new) × IsRestless entries × IsLinked sim.0 old × HeardOf sim.0 h entries new
-LooksAs looked.Parked entries old new = AreMoved entries (λ i. []) (crew old) (crew new) × IsRestless entries
-LooksAs looked.Quiet entries old new = (new ≡ old) × (entries ≡ []) × ((i : ℕ) (w : Line) → at old i ≡ Some w → w.parked ≡ true)
+LooksAs (looked.Heard sim h) entries old new = AreMoved entries (only_by sim.0 (message_in h))
+    (crew old) (crew new) × IsRestless entries × IsLinked sim.0 old × HeardOf sim.0 h entries new
+LooksAs looked.Parked entries old new = AreMoved entries (λ i. []) (crew old) (crew new)
+    × IsRestless entries
+LooksAs looked.Quiet entries old new = (new ≡ old) × (entries ≡ [])
+    × ((i : ℕ) (w : Line) → at old i ≡ Some w → w.parked ≡ true)
 
 -- what a round answers where this was heard of a simulator
 abbrev pub round_of : SimNo → Heard → Round
@@ -39,11 +42,13 @@ round_of sim heard.Mem = round.Halted halt.Mem
 
 -- the fleet rested and all lines stand, but that some are no longer parked; or nothing was done
 abbrev pub RestsAs : Result (Unit {0}) LinkHalt → List LogEntry → Lines → Lines → Type 0
-RestsAs (Ok done) entries old new = (entries ≡ Rest ∷ []) × AreMoved (Rest ∷ []) (λ i. []) (crew old) (crew new)
+RestsAs (Ok done) entries old new = (entries ≡ Rest ∷ [])
+    × AreMoved (Rest ∷ []) (λ i. []) (crew old) (crew new)
 RestsAs (Err h) entries old new = (entries ≡ []) × (new ≡ old) × ShowsHalt h [] new
 
 -- a message was heard; or nothing was, for this cause; or nothing was heard so far
 abbrev pub GoesAs : Round → List LogEntry → Lines → Lines → Type 0
 GoesAs (round.Message sim m) entries old new = IsHeard entries sim.0 m (crew old) (crew new)
-GoesAs (round.Halted h) entries old new = IsUnheard entries (crew old) (crew new) × ShowsHalt h entries new
+GoesAs (round.Halted h) entries old new = IsUnheard entries (crew old) (crew new)
+    × ShowsHalt h entries new
 GoesAs round.Again entries old new = IsUnheard entries (crew old) (crew new)

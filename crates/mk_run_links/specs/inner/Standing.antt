@@ -11,7 +11,8 @@ HasTurn t w = IsIn w.link t.ready ⊎ ((w.parked ≡ true) × IsIn w.link t.park
 
 -- each link is that of one simulator
 abbrev pub AreApart : Lines → Type 0
-AreApart lines = (i j : ℕ) (v w : Line) → at lines i ≡ Some v → at lines j ≡ Some w → v.link.0 ≡ w.link.0 → i ≡ j
+AreApart lines = (i j : ℕ) (v w : Line) → at lines i ≡ Some v → at lines j ≡ Some w
+    → v.link.0 ≡ w.link.0 → i ≡ j
 
 -- all lines but that of simulator s have their turns, and no link is taken
 pub record StandsBut (s : ℕ) (lines : Lines) (t : Turning) : Type 0 where

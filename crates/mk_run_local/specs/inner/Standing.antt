@@ -1,4 +1,5 @@
--- What holds of the simulators within the program and of the replies that are kept. For proofs alone.
+-- What holds of the simulators within the program and of the replies that are kept. For proofs
+-- alone.
 use Rattle.std.specs.Prelude.{◌≡◌, ℕ, ℤ, pos, negsuc, ◌≤ℤ◌, Option, Some, None, ⊤}
 use Rattle.mk_base.specs.Lists.{Each}
 use Rattle.mk_plan.specs.Journals.{Arrival}

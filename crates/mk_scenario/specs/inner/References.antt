@@ -6,4 +6,5 @@ use Rattle.mk_scenario.specs.References.{has_byte}
 -- the text has this byte, and these stand before and after the first
 abbrev pub IsAround : ℕ → List ℕ → List ℕ → List ℕ → Type 0
 IsAround byte text before after =
-    (has_byte byte text ≡ true) × (before ≡ before_first (λ b. b == byte) text) × (after ≡ after_first (λ b. b == byte) text)
+    (has_byte byte text ≡ true) × (before ≡ before_first (λ b. b == byte) text)
+    × (after ≡ after_first (λ b. b == byte) text)

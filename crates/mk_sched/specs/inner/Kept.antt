@@ -35,7 +35,8 @@ use Rattle.mk_sched.specs.Cores.{CoreState, is_message_in_range}
 use Rattle.mk_sched.specs.Answers.{NextOf, ArriveOf}
 use Rattle.mk_sched.specs.inner.Holding.{IsSettled}
 
--- what is kept stands for the view of a journal of n entries; nothing is owed, and there is no fault
+-- what is kept stands for the view of a journal of n entries; nothing is owed, and there is no
+-- fault
 pub record IsCurrent (P : Plan) (V : View) (n : ℕ) (K : Kept) : Type 0 where
   pub sims : AreSimsOf P V n K.sims
   pub agenda : Mirrors P V K.agenda
@@ -69,27 +70,34 @@ end_after_arrive (Ok (taken.Fault fault)) = Some (Faulty fault)
 end_after_arrive (Err e) = Some OutOfMemory
 
 -- what `next` leaves
-pub record HasAdvanced (P : Plan) (J : List Entry) (answer : Result Next Mem) (L : Kept) (M : List Entry) : Type 0 where
+pub record HasAdvanced (P : Plan) (J : List Entry) (answer : Result Next Mem) (L : Kept)
+    (M : List Entry) : Type 0 where
   pub kept : IsKept P M L (end_after_next answer)
   pub settled : IsSettled P M L (end_after_next answer)
-  pub ok : IfOk answer (λ next. NextOf (core_of P J None) next (core_of P M (end_after_next answer)))
+  pub ok : IfOk answer
+      (λ next. NextOf (core_of P J None) next (core_of P M (end_after_next answer)))
   pub err : IfErr answer (λ _. M ≡ J)
 
 -- what `arrive` leaves
-pub record HasTaken (P : Plan) (J : List Entry) (sim : SimNo) (m : Message) (answer : Result Taken Mem) (L : Kept) (M : List Entry) : Type 0 where
+pub record HasTaken (P : Plan) (J : List Entry) (sim : SimNo) (m : Message)
+    (answer : Result Taken Mem) (L : Kept) (M : List Entry) : Type 0 where
   pub kept : IsKept P M L (end_after_arrive answer)
-  pub ok : IfOk answer (λ taken. ArriveOf (core_of P J None) sim m taken (core_of P M (end_after_arrive answer)))
+  pub ok : IfOk answer
+      (λ taken. ArriveOf (core_of P J None) sim m taken (core_of P M (end_after_arrive answer)))
   pub err : IfErr answer (λ _. M ≡ J)
 
 -- there is room for the message
-pub record IsTaking (P : Plan) (J : List Entry) (K : Kept) (sim : SimNo) (m : Message) : Type 0 where
+pub record IsTaking (P : Plan) (J : List Entry) (K : Kept) (sim : SimNo)
+    (m : Message) : Type 0 where
   pub kept : IsKept P J K None
   pub there : sim.0 < sim_count P
   pub room : length J ≢ P.entries
   pub form : is_message_in_range m ≡ true
 
--- the message is right at the place of what is open at s, and this place follows, or none where the turn has ended
-pub record IsJudged (P : Plan) (V : View) (s : ℕ) (m : Message) (place : Place) (q : Option Place) : Type 0 where
+-- the message is right at the place of what is open at s, and this place follows, or none where the
+-- turn has ended
+pub record IsJudged (P : Plan) (V : View) (s : ℕ) (m : Message) (place : Place)
+    (q : Option Place) : Type 0 where
   pub turn : OpenTurn
   pub right : IsRight P V s m turn q
   pub same : turn.place ≡ place
@@ -123,4 +131,6 @@ limit_by b = LoopLimit b.sim b.time
 
 -- when the outputs of a step at x are made, where its data have this content
 abbrev pub made_at : Tier → Json → Tier
-made_at x content = unwrap_or (option_map (λ (o : ℤ). if int_lt x.time o then moment o else x) (option_and_then whole_in (time_in content))) x
+made_at x content = unwrap_or
+    (option_map (λ (o : ℤ). if int_lt x.time o then moment o
+    else x) (option_and_then whole_in (time_in content))) x

@@ -14,7 +14,8 @@ pub record AreNone (k : ℕ) (lasts : List (Option Tier)) : Type 0 where
   pub none : (i : ℕ) → last_in lasts i ≡ None
 
 -- the first k simulators have the steps that they begin with, and starts by them; no turn is open
-pub record AreBegun (P : Plan) (k : ℕ) (Q : List (List Due)) (opened : List Bool) (B : Seen) : Type 0 where
+pub record AreBegun (P : Plan) (k : ℕ) (Q : List (List Due)) (opened : List Bool)
+    (B : Seen) : Type 0 where
   pub plan : IsOf P B
   pub queues : Q ≡ map (first_queue (limits_of P)) (take k P.sims)
   pub opens : length opened ≡ k

@@ -1,4 +1,5 @@
--- While a turn ends: what of its act has come about, and the search for a trigger beyond the loop limit. For proofs alone.
+-- While a turn ends: what of its act has come about, and the search for a trigger beyond the loop
+-- limit. For proofs alone.
 use Rattle.std.specs.Prelude.{◌≡◌, ℕ, ◌+◌, ◌<◌, Bool, true, false, ◌&&◌, List, [], ◌∷◌, length, Option, Some, None, is_some, int_lt, ◌==◌, if◌then◌else◌}
 use Rattle.mk_base.specs.declared.tier.Tier.{Tier}
 use Rattle.mk_base.specs.Tiers.{delayed}
@@ -22,18 +23,22 @@ use Rattle.mk_sched_agenda.specs.Mirrors.{flag_of}
 use Rattle.mk_sched_agenda.specs.Endings.{given_by}
 
 -- the act of s, which stays within the loop limit, is told by these
-pub record IsEnding (P : Plan) (s : ℕ) (f : Act) (L : Limits) (os : List Outlet) (flags : List Bool) (x : Tier) : Type 0 where
+pub record IsEnding (P : Plan) (s : ℕ) (f : Act) (L : Limits) (os : List Outlet) (flags : List Bool)
+    (x : Tier) : Type 0 where
   pub limits : L ≡ limits_of P
   pub outlets : AreOutletsOf P (triggering_from P s) os
   pub given : flags ≡ given_by P s f
   pub made : x ≡ made f
   pub kept : IsInLimit P s f
 
--- the turn of s has closed, its next time has come, and so has what these connections bring by its act
-pub record HasCome (P : Plan) (V : View) (s : ℕ) (f : Act) (cs : List Conn) (Q : List (List Due)) (B : Seen) : Type 0 where
+-- the turn of s has closed, its next time has come, and so has what these connections bring by its
+-- act
+pub record HasCome (P : Plan) (V : View) (s : ℕ) (f : Act) (cs : List Conn) (Q : List (List Due))
+    (B : Seen) : Type 0 where
   pub plan : IsOf P B
   pub count : length Q ≡ sim_count P
-  pub queues : (j : ℕ) → j < sim_count P → PendsWith P time_of flag_of V s f true cs j (queue_in Q j)
+  pub queues : (j : ℕ) → j < sim_count P
+      → PendsWith P time_of flag_of V s f true cs j (queue_in Q j)
   pub closed : is_busy_in B s ≡ false
   pub others : (j : ℕ) → (j ≡ s → ⊥) → is_busy_in B j ≡ is_some (V.open_at j)
   pub kept : (j : ℕ) → (j ≡ s → ⊥) → is_busy_in B j ≡ true → start_in B j ≡ start P V j
@@ -46,7 +51,8 @@ is_beyond L x = int_lt x.time L.until && (x.tier == L.loops + 1)
 
 -- what an output made at x triggers over the outlet beyond the loop limit, if it is given
 abbrev pub beyond_over : Limits → Tier → Outlet → Bool → Option Beyond
-beyond_over L x o g = if g && is_beyond L (delayed x o.via) then Some (let b : Beyond = record { sim = o.to; time = (delayed x o.via).time } in b) else None
+beyond_over L x o g = if g && is_beyond L (delayed x o.via)
+    then Some (let b : Beyond = record { sim = o.to; time = (delayed x o.via).time } in b) else None
 
 -- the first one, or else the other
 abbrev pub either : Option Beyond → Option Beyond → Option Beyond

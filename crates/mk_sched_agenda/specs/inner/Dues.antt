@@ -38,30 +38,41 @@ first_queue L sim = fold (with_own L) [] (first_times sim)
 
 -- the bounds with this start of a simulator, outstanding or not
 abbrev pub with_start : Seen → ℕ → Option Tier → Bool → Seen
-with_start B i own busy = record { triggers = B.triggers; waits = B.waits; owns = slice_set B.owns i own; busy = slice_set B.busy i busy }
+with_start B i own busy = record {
+  triggers = B.triggers;
+  waits = B.waits;
+  owns = slice_set B.owns i own;
+  busy = slice_set B.busy i busy;
+}
 
 -- a step then would be the first
 abbrev pub is_first : Tier → List Due → Bool
 is_first x [] = true
 is_first x (d ∷ ds) = not (up_to d.at x)
 
--- the bounds after a trigger of i at x: where no turn of i is open and the step is the first, it is the start
+-- the bounds after a trigger of i at x: where no turn of i is open and the step is the first, it is
+-- the start
 abbrev pub with_trigger : Seen → List Bool → List Due → ℕ → Tier → Seen
-with_trigger B opened q i x = if is_first x q && not (is_open opened i) then with_start B i (Some x) false else B
+with_trigger B opened q i x = if is_first x q && not (is_open opened i)
+    then with_start B i (Some x) false else B
 
--- steps to come are in order and within the limits of all plans; where no turn is open, the first of them is the simulator's start
+-- steps to come are in order and within the limits of all plans; where no turn is open, the first
+-- of them is the simulator's start
 pub record IsTidy (queues : List (List Due)) (opened : List Bool) (B : Seen) : Type 0 where
   pub owns : length B.owns ≡ length queues
   pub opens : length opened ≡ length queues
   pub busies : length B.busy ≡ length queues
   pub busy : (i : ℕ) → is_busy_in B i ≡ is_open opened i
-  pub starts : (i : ℕ) → i < length queues → is_open opened i ≡ false → start_in B i ≡ least (queue_in queues i)
+  pub starts : (i : ℕ) → i < length queues → is_open opened i ≡ false
+      → start_in B i ≡ least (queue_in queues i)
   pub rising : (i : ℕ) → IsRising time_of (queue_in queues i)
   pub within : (i : ℕ) (d : Due) → IsIn d (queue_in queues i) → IsOwn (Some d.at)
 
 -- the limits are those that a plan may have, and outlets lead to simulators
-pub record IsSound (L : Limits) (rows : List (List Outlet)) (queues : List (List Due)) : Type 0 where
+pub record IsSound (L : Limits) (rows : List (List Outlet))
+    (queues : List (List Due)) : Type 0 where
   pub until : L.until ≤ℤ pos 1000000000
   pub loops : L.loops ≤ 1000
   pub count : length rows ≡ length queues
-  pub outlets : (i : ℕ) (o : Outlet) → IsIn o (outlets_in rows i) → (o.to.0 < length queues) × HasWidth o.via
+  pub outlets : (i : ℕ) (o : Outlet) → IsIn o (outlets_in rows i) → (o.to.0 < length queues)
+      × HasWidth o.via

@@ -8,4 +8,5 @@ use Rattle.mk_sched_agenda.specs.Outlets.{outlets_in, triggering_in, AreOutletsO
 -- the rows are the outlets of each simulator, as far as the first k connections
 pub record AreRowsOf (P : Plan) (k : ℕ) (rows : List (List Outlet)) : Type 0 where
   pub count : length rows ≡ sim_count P
-  pub each : (i : ℕ) → i < sim_count P → AreOutletsOf P (triggering_in P i (take k P.conns)) (outlets_in rows i)
+  pub each : (i : ℕ) → i < sim_count P
+      → AreOutletsOf P (triggering_in P i (take k P.conns)) (outlets_in rows i)

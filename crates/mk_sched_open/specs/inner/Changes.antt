@@ -25,4 +25,8 @@ open_id (Fetching at id) otherwise = id
 
 -- its turn ends
 abbrev pub ended_sim : Sim → Sim
-ended_sim s = record s { place = Idle; next_id = open_id s.place s.next_id + 1; heard = s.heard + 1 }
+ended_sim s = record s {
+  place = Idle;
+  next_id = open_id s.place s.next_id + 1;
+  heard = s.heard + 1;
+}

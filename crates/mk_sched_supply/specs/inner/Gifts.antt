@@ -24,7 +24,8 @@ gifts_in x ws = map (λ w. record { at = delayed x (Shift 1); given = w }) ws
 -- the second supply has these gifts behind those of the first, each under its entity
 pub record HasGifts (P : Plan) (gifts : List Gift) (S T : Supply) : Type 0 where
   pub outputs : T.outputs ≡ S.outputs
-  pub behind : (e : ℕ) → e < length P.entities → T.gifts e ≡ S.gifts e ++ filter (λ g. same_text g.given.source (full_id P e)) gifts
+  pub behind : (e : ℕ) → e < length P.entities
+      → T.gifts e ≡ S.gifts e ++ filter (λ g. same_text g.given.source (full_id P e)) gifts
 
 -- the buffers stand for such a supply
 pub record HasGivenAll (P : Plan) (gifts : List Gift) (S : Supply) (b : Buffers) : Type 0 where
@@ -33,13 +34,15 @@ pub record HasGivenAll (P : Plan) (gifts : List Gift) (S : Supply) (b : Buffers)
   pub more : HasGifts P gifts S supply
 
 -- the buffers have taken what is set by what was asked at x
-pub record HasGivenOf (P : Plan) (x : Tier) (asked : Asked) (S : Supply) (b : Buffers) : Type 0 where
+pub record HasGivenOf (P : Plan) (x : Tier) (asked : Asked) (S : Supply)
+    (b : Buffers) : Type 0 where
   pub values : List SetValue
   pub set : option_map (sets_in P) (asked_in asked) ≡ Some values
   pub given : HasGivenAll P (gifts_in x values) S b
 
 -- the item is the answer to what was asked, by the values that are found
-pub record IsAnswerBy (P : Plan) (look : Lookup) (asked : Asked) (id : ℕ) (item : Item) : Type 0 where
+pub record IsAnswerBy (P : Plan) (look : Lookup) (asked : Asked) (id : ℕ)
+    (item : Item) : Type 0 where
   pub text : List ℕ
   pub content : option_map (content_text P look) (asked_in asked) ≡ Some text
   pub is : item ≡ Answer id text

@@ -45,7 +45,8 @@ pub record AreFeedsOf (P : Plan) (k : ℕ) (feeds : List Feed) : Type 0 where
 -- the feeds of the first n simulators before any connection
 pub record HasNoTriggers (P : Plan) (n : ℕ) (feeds : List Feed) : Type 0 where
   pub count : length feeds ≡ n
-  pub each : (s : ℕ) (f : Feed) → slice_get feeds s ≡ Some f → (f.wants ≡ wanted P s) × (f.triggers.items ≡ [])
+  pub each : (s : ℕ) (f : Feed) → slice_get feeds s ≡ Some f → (f.wants ≡ wanted P s)
+      × (f.triggers.items ≡ [])
 
 -- nothing but the outputs that are held has changed
 pub record HasSameRest (old new : Stock) : Type 0 where
@@ -53,7 +54,9 @@ pub record HasSameRest (old new : Stock) : Type 0 where
   pub feeds : new.feeds ≡ old.feeds
   pub marks : new.buffers.marks ≡ old.buffers.marks
 
--- the buffers stand for the supply, with the value of what is wanted of s, if there is one, as an output of one of its entities
+-- the buffers stand for the supply, with the value of what is wanted of s, if there is one, as an
+-- output of one of its entities
 abbrev pub HasGiven : Plan → ℕ → Tier → Want → Option Json → Supply → Buffers → Type 0
 HasGiven P s x w None S b = Stands P b S
-HasGiven P s x w (Some v) S b = (e : ℕ) × (owner P e ≡ s) × (eid_of P e ≡ w.eid) × Stands P b (with_output S e w.attr (record { at = x; value = text_of v }))
+HasGiven P s x w (Some v) S b = (e : ℕ) × (owner P e ≡ s) × (eid_of P e ≡ w.eid)
+    × Stands P b (with_output S e w.attr (record { at = x; value = text_of v }))

@@ -7,8 +7,10 @@ use Rattle.mk_session.specs.declared.inbox.Given.TheVariants as given
 
 -- a payload with a message is given up, every other one is kept
 abbrev pub JudgedAs : Given → Vec ℕ → Option (Vec ℕ) → Type 0
-JudgedAs (given.Message message) payload kept = (message_of payload.items ≡ Ok message) × (kept ≡ None)
-JudgedAs (given.Garbled test) payload kept = (message_of payload.items ≡ Err test) × (kept ≡ Some payload)
+JudgedAs (given.Message message) payload kept = (message_of payload.items ≡ Ok message)
+    × (kept ≡ None)
+JudgedAs (given.Garbled test) payload kept = (message_of payload.items ≡ Err test)
+    × (kept ≡ Some payload)
 JudgedAs (given.TooLong n) payload kept = ⊥
 JudgedAs given.NotYet payload kept = ⊥
 JudgedAs given.Mem payload kept = kept ≡ Some payload

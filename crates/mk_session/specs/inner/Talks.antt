@@ -14,14 +14,18 @@ use Rattle.mk_session.specs.Talks.{IsHeldUp, Writes, IsSaidOut, FoundAs, ReadsLa
 
 -- all bytes were said, or so many of them before a write that took nothing or failed
 abbrev pub SaidAs : LinkNo → Said → List ℕ → List LogEntry → Type 0
-SaidAs link said.All bytes entries = Writes link entries bytes × (¬ IsHeldUp link (last_write link entries))
-SaidAs link (said.NotYet n) bytes entries = (n < length bytes) × Writes link entries (take n bytes) × IsHeldUp link (last_write link entries)
+SaidAs link said.All bytes entries = Writes link entries bytes
+    × (¬ IsHeldUp link (last_write link entries))
+SaidAs link (said.NotYet n) bytes entries = (n < length bytes) × Writes link entries (take n bytes)
+    × IsHeldUp link (last_write link entries)
 SaidAs link (said.Failed n) bytes entries = (n < length bytes) × Writes link entries (take n bytes)
 
 -- the front of what was unsent was said, and the rest is unsent
 abbrev pub SpokenAs : LinkNo → Bool → List ℕ → List ℕ → List LogEntry → Type 0
-SpokenAs link true old new entries = (bytes : List ℕ) × Writes link entries bytes × (bytes ++ new ≡ old) × IsSaidOut link (last_write link entries) new
-SpokenAs link false old new entries = (bytes : List ℕ) × Writes link entries bytes × (bytes ++ new ≡ old)
+SpokenAs link true old new entries = (bytes : List ℕ) × Writes link entries bytes
+    × (bytes ++ new ≡ old) × IsSaidOut link (last_write link entries) new
+SpokenAs link false old new entries = (bytes : List ℕ) × Writes link entries bytes
+    × (bytes ++ new ≡ old)
 
 -- entries of reads of one link alone, by which these bytes were heard
 pub record Reads (link : LinkNo) (entries : List LogEntry) (bytes : List ℕ) : Type 0 where
@@ -32,12 +36,18 @@ pub record Reads (link : LinkNo) (entries : List LogEntry) (bytes : List ℕ) : 
 
 -- what one read did to the bytes held
 abbrev pub ListenedAs : LinkNo → Listened → List ℕ → List ℕ → List LogEntry → Type 0
-ListenedAs link listened.Got old new entries = (bytes : List ℕ) × (0 < length bytes) × Reads link entries bytes × (new ≡ old ++ bytes) × (length entries ≤ 1)
-ListenedAs link listened.NotYet old new entries = Reads link entries [] × (new ≡ old) × (last_read link entries ≡ Some (NotHeard link)) × (length entries ≤ 1)
-ListenedAs link listened.Closed old new entries = Reads link entries [] × (new ≡ old) × (last_read link entries ≡ Some (Ended link)) × (length entries ≤ 1)
-ListenedAs link listened.Failed old new entries = Reads link entries [] × (new ≡ old) × (length entries ≤ 1)
-ListenedAs link listened.Mem old new entries = Reads link entries [] × (new ≡ old) × (length entries ≤ 1)
+ListenedAs link listened.Got old new entries = (bytes : List ℕ) × (0 < length bytes)
+    × Reads link entries bytes × (new ≡ old ++ bytes) × (length entries ≤ 1)
+ListenedAs link listened.NotYet old new entries = Reads link entries [] × (new ≡ old)
+    × (last_read link entries ≡ Some (NotHeard link)) × (length entries ≤ 1)
+ListenedAs link listened.Closed old new entries = Reads link entries [] × (new ≡ old)
+    × (last_read link entries ≡ Some (Ended link)) × (length entries ≤ 1)
+ListenedAs link listened.Failed old new entries = Reads link entries [] × (new ≡ old)
+    × (length entries ≤ 1)
+ListenedAs link listened.Mem old new entries = Reads link entries [] × (new ≡ old)
+    × (length entries ≤ 1)
 
 -- reads until there is a message, or none can be had, each read where no whole frame is held
 abbrev pub HeardAs : LinkNo → Polled → List ℕ → List ℕ → List LogEntry → Type 0
-HeardAs link answer old new entries = (bytes : List ℕ) × Reads link entries bytes × FoundAs link answer (old ++ bytes) new (last_read link entries) × ReadsLate link old entries
+HeardAs link answer old new entries = (bytes : List ℕ) × Reads link entries bytes
+    × FoundAs link answer (old ++ bytes) new (last_read link entries) × ReadsLate link old entries

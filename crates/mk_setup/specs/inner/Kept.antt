@@ -22,13 +22,15 @@ use Rattle.mk_setup.specs.Kept.{state_of}
 abbrev pub IsKept : Progress → Type 0
 IsKept p = Stands (state_of p None) p.ids p.plan
 
--- nothing has changed, for want of memory or by the fault that stands in the way of the next request
+-- nothing has changed, for want of memory or by the fault that stands in the way of the next
+-- request
 pub record IsHindered (U : SetupState) (e : SetupFault) (V : SetupState) : Type 0 where
   pub same : V ≡ U
   pub fault : (e ≡ Mem) ⊎ ((U.asked ≡ false) × (fault_before U ≡ Some e))
 
 -- nothing has changed, for want of memory or by the verdict's fault
-pub record IsUntaken (verdict : Result SetupState SetupFault) (U : SetupState) (e : SetupFault) (V : SetupState) : Type 0 where
+pub record IsUntaken (verdict : Result SetupState SetupFault) (U : SetupState) (e : SetupFault)
+    (V : SetupState) : Type 0 where
   pub same : V ≡ U
   pub fault : (e ≡ Mem) ⊎ (verdict ≡ Err e)
 
@@ -38,7 +40,8 @@ awaited_sim U = option_map (λ (r : Request). r.sim) (outstanding U)
 
 -- the request that is outstanding is to this simulator and has this id
 abbrev pub is_awaited : SetupState → ℕ → ℕ → Bool
-is_awaited U sim id = unwrap_or (option_map (λ (r : Request). is_reply U r sim id) (outstanding U)) false
+is_awaited U sim id = unwrap_or
+    (option_map (λ (r : Request). is_reply U r sim id) (outstanding U)) false
 
 -- this request is outstanding, and goes to the simulator
 pub record IsAwaitedBy (U : SetupState) (sim : ℕ) (r : Request) : Type 0 where
@@ -51,4 +54,5 @@ IsGroupOf S group sim = (g : Group) × (slice_get S.groups group ≡ Some g) × 
 
 -- the entities after the reply to the `create` of this group
 abbrev pub added_by : SetupState → SimNo → ℕ → Group → Json → Result (List EntityInfo) CreateFault
-added_by U sim group g content = entities_added U.entities sim group g.num g.model (meta_of U sim.0) content
+added_by U sim group g content = entities_added U.entities sim group g.num g.model
+    (meta_of U sim.0) content

@@ -22,14 +22,16 @@ pub record IsPlanOf (U : SetupState) (P : Plan) : Type 0 where
   pub sims : sim_count P ≡ length U.scenario.sims
   pub first : (i : ℕ) → i < length U.scenario.sims → first_id P i ≡ setup_count U.scenario i
 
--- the scenario is well-formed and ranked; each id is how many requests were answered; an outstanding request has passed its test; and entities are of models and groups
+-- the scenario is well-formed and ranked; each id is how many requests were answered; an
+-- outstanding request has passed its test; and entities are of models and groups
 pub record Stands (U : SetupState) (ids : List ℕ) (plan : Option Plan) : Type 0 where
   pub wellformed : IsWellformed U.scenario
   pub ranked : AreRanksOf U.scenario U.ranks
   pub within : U.answered ≤ length (setup_requests U.scenario)
   pub awaited : U.asked ≡ true → U.answered < length (setup_requests U.scenario)
   pub tested : U.asked ≡ true → test_before U (request_of U) ≡ None
-  pub numbered : ids ≡ map (id_before U.scenario U.answered) (range_with_len 0 (length U.scenario.sims))
+  pub numbered : ids ≡ map (id_before U.scenario U.answered)
+      (range_with_len 0 (length U.scenario.sims))
   pub said : length U.metas ≡ min U.answered (length U.scenario.sims)
   pub listed : Each (λ (m : Meta). IsListed m.models) U.metas
   pub of_models : Each (IsOfModel U.metas) U.entities

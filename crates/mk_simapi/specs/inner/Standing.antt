@@ -17,8 +17,10 @@ use Rattle.mk_simapi.specs.declared.servant.Answer.TheVariants as answer
 use Rattle.mk_simapi.specs.Replies.{after_message, payloads}
 use Rattle.mk_simapi.specs.Serving.{IsGoing, AreShort, RestsWell, Serves}
 
--- by this log these messages were heard, and all of them were answered; M is the simulator then, and s the session
-pub record IsServing (L : Simulator) (link : LinkNo) (log : List LogEntry) (ms : List Message) (M : Simulator) (s : Session) : Type 0 where
+-- by this log these messages were heard, and all of them were answered; M is the simulator then,
+-- and s the session
+pub record IsServing (L : Simulator) (link : LinkNo) (log : List LogEntry) (ms : List Message)
+    (M : Simulator) (s : Session) : Type 0 where
   pub on : s.link ≡ link
   pub heard : Takes (heard_on link log) ms s.held
   pub said : said_on link log ++ s.unsent ≡ frames_of (payloads L ms)
@@ -28,7 +30,8 @@ pub record IsServing (L : Simulator) (link : LinkNo) (log : List LogEntry) (ms :
   pub rests : RestsWell L link log
 
 -- the same, but that one more message was heard and isn't answered yet
-pub record IsAsked (L : Simulator) (link : LinkNo) (log : List LogEntry) (ms : List Message) (m : Message) (M : Simulator) (s : Session) : Type 0 where
+pub record IsAsked (L : Simulator) (link : LinkNo) (log : List LogEntry) (ms : List Message)
+    (m : Message) (M : Simulator) (s : Session) : Type 0 where
   pub on : s.link ≡ link
   pub heard : Takes (heard_on link log) (ms ++ m ∷ []) s.held
   pub said : said_on link log ++ s.unsent ≡ frames_of (payloads L ms)
@@ -39,7 +42,8 @@ pub record IsAsked (L : Simulator) (link : LinkNo) (log : List LogEntry) (ms : L
   pub rests : RestsWell L link log
 
 -- the serving goes on, or it has ended
-abbrev pub GoesOn : Simulator → LinkNo → List LogEntry → Option Served → Simulator → Session → Type 0
+abbrev pub GoesOn : Simulator → LinkNo → List LogEntry → Option Served → Simulator → Session
+    → Type 0
 GoesOn L link log None M s = (ms : List Message) × IsServing L link log ms M s
 GoesOn L link log (Some end) M s = Serves L link end log
 
@@ -56,7 +60,9 @@ RestsAs (Some served.Mem) entries = entries ≡ []
 
 -- a payload was queued, or it is too long, or there was no memory for it
 abbrev pub QueuesAs : List ℕ → Session → Option Served → Session → Type 0
-QueuesAs payload old None new = (new ≡ record { link = old.link; held = old.held; unsent = old.unsent ++ frame_of payload }) × (length payload ≤ limit)
+QueuesAs payload old None new = (new
+    ≡ record { link = old.link; held = old.held; unsent = old.unsent ++ frame_of payload })
+    × (length payload ≤ limit)
 QueuesAs payload old (Some served.Stopped) new = ⊥
 QueuesAs payload old (Some served.Closed) new = ⊥
 QueuesAs payload old (Some served.Failed) new = ⊥

@@ -31,7 +31,8 @@ pub record IsNet (n : ℕ) (ins outs : List (List Arc)) : Type 0 where
   pub outs_count : length outs ≡ n
   pub ins_below : (v : ℕ) → IsBelow n (row ins v)
   pub outs_below : (v : ℕ) → IsBelow n (row outs v)
-  pub mirrored : (v u way : ℕ) → v < n → IsIn (record { sim = u; way = way }) (row ins v) → IsIn (record { sim = v; way = way }) (row outs u)
+  pub mirrored : (v u way : ℕ) → v < n → IsIn (record { sim = u; way = way }) (row ins v)
+      → IsIn (record { sim = v; way = way }) (row outs u)
 
 -- the label is at or before the start and all that comes
 pub record IsLow (ins : List (List Arc)) (owns labels : List ℕ) (v : ℕ) : Type 0 where
@@ -40,15 +41,18 @@ pub record IsLow (ins : List (List Arc)) (owns labels : List ℕ) (v : ℕ) : Ty
 
 -- the label has a reason, if there is one
 abbrev pub HasReason : List (List Arc) → List ℕ → List ℕ → ℕ → Type 0
-HasReason ins owns labels v = (slice_index labels v ≡ never) ⊎ IsHeld (slice_index owns v) (row ins v) labels (slice_index labels v)
+HasReason ins owns labels v = (slice_index labels v ≡ never)
+    ⊎ IsHeld (slice_index owns v) (row ins v) labels (slice_index labels v)
 
 -- but for those in the set, labels have reasons
 abbrev pub HaveReasons : List (List Arc) → List ℕ → List ℕ → Bits → Type 0
-HaveReasons ins owns labels doubted = (v : ℕ) → v < length labels → has doubted v ≡ false → HasReason ins owns labels v
+HaveReasons ins owns labels doubted = (v : ℕ) → v < length labels → has doubted v ≡ false
+    → HasReason ins owns labels v
 
 -- but for those in the set and for one simulator, labels are low
 abbrev pub AreLow : List (List Arc) → List ℕ → List ℕ → ℕ → Bits → Type 0
-AreLow ins owns labels skip loose = (v : ℕ) → v < length labels → (v ≡ skip → ⊥) → has loose v ≡ false → IsLow ins owns labels v
+AreLow ins owns labels skip loose = (v : ℕ) → v < length labels → (v ≡ skip → ⊥)
+    → has loose v ≡ false → IsLow ins owns labels v
 
 -- only numbers below n are in the set
 abbrev pub IsWithin : ℕ → Bits → Type 0
@@ -60,8 +64,10 @@ HasGrown old new = (i : ℕ) → i < 256 → has old i ≡ true → has new i �
 
 -- but for those in the set, labels are as they were
 abbrev pub AreKept : List ℕ → List ℕ → Bits → Type 0
-AreKept old new moved = (v : ℕ) → v < length old → has moved v ≡ false → slice_index new v ≡ slice_index old v
+AreKept old new moved = (v : ℕ) → v < length old → has moved v ≡ false
+    → slice_index new v ≡ slice_index old v
 
 -- labels are as they were, or there is none now
 abbrev pub AreTaken : List ℕ → List ℕ → Type 0
-AreTaken old new = (v : ℕ) → v < length old → (slice_index new v ≡ slice_index old v) ⊎ (slice_index new v ≡ never)
+AreTaken old new = (v : ℕ) → v < length old → (slice_index new v ≡ slice_index old v)
+    ⊎ (slice_index new v ≡ never)

@@ -10,7 +10,8 @@ use Rattle.mk_tiers.specs.Times.{never, unpacked}
 -- the least of what comes over these arcs, but for the simulator's own
 pub record IsLeastOuter (into : List Arc) (labels : List ℕ) (sim least : ℕ) : Type 0 where
   pub arcs : (a : Arc) → IsIn a into → (a.sim ≡ sim → ⊥) → least ≤ end labels a
-  pub reason : (least ≡ never) ⊎ ((a : Arc) × IsIn a into × (a.sim ≡ sim → ⊥) × (least ≡ end labels a))
+  pub reason : (least ≡ never)
+      ⊎ ((a : Arc) × IsIn a into × (a.sim ≡ sim → ⊥) × (least ≡ end labels a))
 
 -- labels of walks that don't touch the simulator
 pub record IsWithoutSim (net : Net) (owns : List ℕ) (sim : ℕ) (labels : List ℕ) : Type 0 where
@@ -19,7 +20,8 @@ pub record IsWithoutSim (net : Net) (owns : List ℕ) (sim : ℕ) (labels : List
   pub skipped : slice_index labels sim ≡ never
   pub fits : (i : ℕ) → slice_index labels i ≤ never
 
--- where nothing comes back, the labels themselves; else those of walks that don't touch the simulator
+-- where nothing comes back, the labels themselves; else those of walks that don't touch the
+-- simulator
 abbrev pub IsUsed : Net → List ℕ → List ℕ → Bool → ℕ → List ℕ → Type 0
 IsUsed net owns labels false sim used = used ≡ labels
 IsUsed net owns labels true sim used = IsWithoutSim net owns sim used

@@ -20,7 +20,8 @@ pub record AreNets (n : ℕ) (net : Net) : Type 0 where
   pub waits : IsNet n net.waits.ins net.waits.outs
 
 -- the labels fit the starts, and the set says who is clear
-pub record Stands (net : Net) (owns labels : List ℕ) (busy : List Bool) (ready : Bits) : Type 0 where
+pub record Stands (net : Net) (owns labels : List ℕ) (busy : List Bool)
+    (ready : Bits) : Type 0 where
   pub nets : AreNets (length owns) net
   pub labels_count : length labels ≡ length owns
   pub busy_count : length busy ≡ length owns
@@ -33,4 +34,5 @@ pub record Stands (net : Net) (owns labels : List ℕ) (busy : List Bool) (ready
 
 -- it is known where nothing comes back
 abbrev pub IsLoopedIn : ℕ → Net → List Bool → Type 0
-IsLoopedIn n net looped = (v : ℕ) → v < n → slice_index_or looped v true ≡ false → IsApart net.triggers.ins v
+IsLoopedIn n net looped = (v : ℕ) → v < n → slice_index_or looped v true ≡ false
+    → IsApart net.triggers.ins v

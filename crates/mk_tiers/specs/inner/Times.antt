@@ -16,7 +16,8 @@ unfoldable pub over : ℕ → ℕ → ℕ
 over x way =
     if way == 0 then x
     else (if way == 1 then (if nat_lt x never then x + 1 else never)
-    else (if nat_lt (x / 65536 + (way - 1)) end_of_time then (x / 65536 + (way - 1)) * 65536 else never))
+    else (if nat_lt (x / 65536 + (way - 1)) end_of_time then (x / 65536 + (way - 1)) * 65536
+    else never))
 
 -- the number is that of a start within the limits, or there is none
 abbrev pub IsStart : ℕ → Type 0

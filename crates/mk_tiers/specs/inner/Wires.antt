@@ -27,7 +27,9 @@ AreBetween n wires = (w : Wire) → IsIn w wires → (w.from < n) × (w.to < n) 
 pub record IsTable (n : ℕ) (wires : List Wire) (table : List ℕ) : Type 0 where
   pub area : length table ≡ n * 256
   pub low : (w : Wire) → IsIn w wires → slice_index table (w.to * 256 + w.from) ≤ w.way
-  pub held : (to from : ℕ) → to < n → from < n → (slice_index table (to * 256 + from) ≡ none) ⊎ ((w : Wire) × IsIn w wires × (w.from ≡ from) × (w.to ≡ to) × (w.way ≡ slice_index table (to * 256 + from)))
+  pub held : (to from : ℕ) → to < n → from < n → (slice_index table (to * 256 + from) ≡ none)
+      ⊎ ((w : Wire) × IsIn w wires × (w.from ≡ from) × (w.to ≡ to)
+      × (w.way ≡ slice_index table (to * 256 + from)))
 
 -- a is what the table says of a source below m and this target
 pub record IsArcOf (table : List ℕ) (m to : ℕ) (a : Arc) : Type 0 where
@@ -44,6 +46,9 @@ pub record IsRow (table : List ℕ) (m to : ℕ) (arcs : List Arc) : Type 0 wher
 pub record IsCollapsed (n : ℕ) (wires : List Wire) (rows : List (List Arc)) : Type 0 where
   pub count : length rows ≡ n
   pub below : (v : ℕ) (a : Arc) → IsIn a (row rows v) → (v < n) × (a.sim < n)
-  pub sound : (v : ℕ) (a : Arc) → IsIn a (row rows v) → (w : Wire) × IsIn w wires × (w.from ≡ a.sim) × (w.to ≡ v) × (w.way ≡ a.way)
-  pub whole : (w : Wire) → IsIn w wires → (a : Arc) × IsIn a (row rows w.to) × (a.sim ≡ w.from) × (a.way ≤ w.way)
-  pub least : (v : ℕ) (a : Arc) (w : Wire) → IsIn a (row rows v) → IsIn w wires → w.from ≡ a.sim → w.to ≡ v → a.way ≤ w.way
+  pub sound : (v : ℕ) (a : Arc) → IsIn a (row rows v) → (w : Wire) × IsIn w wires × (w.from ≡ a.sim)
+      × (w.to ≡ v) × (w.way ≡ a.way)
+  pub whole : (w : Wire) → IsIn w wires → (a : Arc) × IsIn a (row rows w.to) × (a.sim ≡ w.from)
+      × (a.way ≤ w.way)
+  pub least : (v : ℕ) (a : Arc) (w : Wire) → IsIn a (row rows v) → IsIn w wires → w.from ≡ a.sim
+      → w.to ≡ v → a.way ≤ w.way

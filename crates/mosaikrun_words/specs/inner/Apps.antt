@@ -1,4 +1,5 @@
--- For proofs alone. What `clap` is given: for each form of commands its positional words and options.
+-- For proofs alone. What `clap` is given: for each form of commands its positional words and
+-- options.
 use Rattle.std.specs.Prelude.{true, Some, codes}
 use Rattle.clap.specs.Words.{App, Rule, new_app, new_rule, with_rule}
 use Rattle.clap.specs.declared.builder.ArgAction.TheVariants.{Set}

@@ -38,7 +38,8 @@ alone word = if is_value word then Some (record { word = word; value = None }) e
 -- a word and the value of an option
 abbrev pub pair : Text → Option Text → Option Found
 pair word None = None
-pair word (Some value) = if is_value word && is_value value then Some (record { word = word; value = Some value }) else None
+pair word (Some value) = if is_value word && is_value value
+    then Some (record { word = word; value = Some value }) else None
 
 -- the value, where the word before it is the option of this name
 abbrev pub behind : Text → Text → Text → Option Text
@@ -48,8 +49,10 @@ behind name word value = if same_text word (long name) then Some value else None
 abbrev pub one_word : Text → List Text → Option Found
 one_word name [] = None
 one_word name (a ∷ []) = alone a
-one_word name (a ∷ b ∷ []) = if is_value a then pair a (value_after (start name) b) else pair b (value_after (start name) a)
-one_word name (a ∷ b ∷ c ∷ []) = if is_value a then pair a (behind name b c) else pair c (behind name a b)
+one_word name (a ∷ b ∷ []) = if is_value a then pair a (value_after (start name) b)
+    else pair b (value_after (start name) a)
+one_word name (a ∷ b ∷ c ∷ []) = if is_value a then pair a (behind name b c)
+    else pair c (behind name a b)
 one_word name (a ∷ b ∷ c ∷ d ∷ more) = None
 
 -- one word and nothing else
@@ -59,12 +62,15 @@ only_word words = None
 
 -- two words and nothing else
 abbrev pub two_words : List Text → Option Two
-two_words (a ∷ b ∷ []) = if is_value a && is_value b then Some (record { first = a; second = b }) else None
+two_words (a ∷ b ∷ []) = if is_value a && is_value b then Some (record { first = a; second = b })
+    else None
 two_words words = None
 
 -- the number from the least to the most that the text writes
 abbrev pub number_in : ℕ → ℕ → Text → Option ℕ
-number_in least most text = if nat_le 1 (length text) && nat_le (length text) most_digits && list_all is_digit text && nat_le least (number_of text) && nat_le (number_of text) most then Some (number_of text) else None
+number_in least most text = if nat_le 1 (length text) && nat_le (length text) most_digits
+    && list_all is_digit text && nat_le least (number_of text) && nat_le (number_of text) most
+    then Some (number_of text) else None
 
 abbrev pub run_of : List Text → Option Request
 run_of rest = option_map (λ (f : Found). Run f.word f.value) (one_word (codes "record") rest)
@@ -75,7 +81,8 @@ replay_in name None = Some (Replay name None)
 replay_in name (Some text) = option_map (λ n. Replay name (Some n)) (number_in 0 4294967295 text)
 
 abbrev pub replay_of : List Text → Option Request
-replay_of rest = option_and_then (λ (f : Found). replay_in f.word f.value) (one_word (codes "order") rest)
+replay_of rest = option_and_then (λ (f : Found). replay_in f.word f.value)
+    (one_word (codes "order") rest)
 
 abbrev pub check_of : List Text → Option Request
 check_of rest = option_map Check (only_word rest)
@@ -105,7 +112,8 @@ word_of command.Migrate = codes "migrate"
 -- the request of the first of these commands whose word it is
 abbrev pub request_among : List Command → Text → List Text → Option Request
 request_among [] word rest = None
-request_among (c ∷ commands) word rest = if same_text word (word_of c) then request_by c rest else request_among commands word rest
+request_among (c ∷ commands) word rest = if same_text word (word_of c) then request_by c rest
+    else request_among commands word rest
 
 abbrev pub request_of : List Command → List Text → Option Request
 request_of commands [] = None
