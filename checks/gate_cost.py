@@ -1,0 +1,124 @@
+#!/usr/bin/env python3
+"""What the gate costs: processor seconds of each crate, told apart into its proof, its tests and its edits.
+
+    gate_cost.py run [WORD..]      runs the words, `rt ci` if there are none, and prints the table when they have ended
+    gate_cost.py watch PID         the same of a gate that runs already, from now on, until it has ended
+    gate_cost.py functions FOLDER  the dearest functions of a crate that `rt check --jobs 1` has just proved from nothing: FOLDER
+                                   is its `out/incremental`, whose files are written one by one as they are proved
+
+`rt ci` leaves no times behind. So the table is made by looking, twice a second, at how much processor time each process of the
+prover below it has taken: what is proved is one process a crate, its tests another, and each edit one more.
+"""
+
+from __future__ import annotations
+
+import collections
+import os
+import pathlib
+import subprocess
+import sys
+import time
+
+TICKS = os.sysconf("SC_CLK_TCK")
+PARTS = ("proof", "tests", "edits", "rest")
+
+
+def processes() -> dict[int, tuple[int, float]]:
+    """Returns the parent and the processor seconds of each process, threads that have ended included."""
+    found = {}
+    for file in pathlib.Path("/proc").glob("[0-9]*/stat"):
+        try:
+            text = file.read_text(encoding="utf-8", errors="replace")
+        except OSError:
+            # it has ended meanwhile
+            continue
+        fields = text[text.rindex(")") + 2 :].split()
+        found[int(file.parent.name)] = int(fields[1]), (int(fields[11]) + int(fields[12])) / TICKS
+    return found
+
+
+def below(root: int, found: dict[int, tuple[int, float]]) -> list[int]:
+    """Returns the processes that this one started, and those that they started."""
+    children = collections.defaultdict(list)
+    for process, (parent, _) in found.items():
+        children[parent].append(process)
+    all_of, left = [], [root]
+    while left:
+        started = children[left.pop()]
+        all_of += started
+        left += started
+    return all_of
+
+
+def named(process: int) -> tuple[str, str]:
+    """Returns the crate that a process works on, and the part of the gate that this is."""
+    try:
+        words = pathlib.Path(f"/proc/{process}/cmdline").read_text(encoding="utf-8", errors="replace").split("\0")
+    except OSError:
+        return "", "rest"
+    if "--crate-name" not in words:
+        return "", "rest"
+    crate = words[words.index("--crate-name") + 1]
+    if "--test" in words:
+        return crate, "tests"
+    return crate, "proof" if "build" in words[:3] else "edits"
+
+
+def watched(root: int, ended) -> dict[int, tuple[tuple[str, str], float]]:
+    """Returns what each process below this one worked on, and its processor seconds, when it has ended."""
+    seen: dict[int, tuple[tuple[str, str], float]] = {}
+    while not ended():
+        found = processes()
+        for process in below(root, found):
+            what = seen[process][0] if process in seen else named(process)
+            seen[process] = what if what[0] else named(process), found[process][1]
+        time.sleep(0.5)
+    return seen
+
+
+def table(seen: dict[int, tuple[tuple[str, str], float]], clock: float) -> None:
+    """Prints a line a crate, the dearest first, and the sums in minutes."""
+    costs: dict[str, collections.Counter] = collections.defaultdict(collections.Counter)
+    for (crate, part), seconds in seen.values():
+        costs[crate or "(rt itself)"][part] += seconds
+    print(f"{'seconds of':26}" + "".join(f"{it:>8}" for it in PARTS) + f"{'all':>8}")
+    for crate, parts in sorted(costs.items(), key=lambda it: -sum(it[1].values())):
+        print(f"{crate:26}" + "".join(f"{parts[it]:8.0f}" for it in PARTS) + f"{sum(parts.values()):8.0f}")
+    sums = [sum(it[part] for it in costs.values()) / 60 for part in PARTS]
+    print(f"{'minutes of all':26}" + "".join(f"{it:8.1f}" for it in sums) + f"{sum(sums):8.1f}")
+    print(f"{clock / 60:.1f} minutes by the clock, on {os.cpu_count()} processors")
+
+
+def functions(folder: str) -> None:
+    """Prints the functions on which the proof spent most, by the times at which their files were written."""
+    files = sorted((it.stat().st_mtime, it.name) for it in pathlib.Path(folder).rglob("*.oantt"))
+    costs: collections.Counter = collections.Counter()
+    for (before, _), (at, name) in zip(files, files[1:]):
+        if at - before < 120:
+            costs[name.removeprefix("Rattle-").removesuffix(".oantt").removesuffix(".decls").rpartition(".")[0]] += at - before
+    print(f"{sum(costs.values()):.0f} s, {len(files)} files")
+    for name, seconds in costs.most_common(30):
+        print(f"{seconds:7.1f} {name}")
+
+
+def main() -> int:
+    words = sys.argv[1:]
+    began = time.monotonic()
+    if words[:1] == ["functions"] and len(words) == 2:
+        functions(words[1])
+        return 0
+    if words[:1] == ["watch"] and len(words) == 2 and words[1].isdigit():
+        root = int(words[1])
+        table(watched(root, lambda: not os.path.exists(f"/proc/{root}")), time.monotonic() - began)
+        return 0
+    if words[:1] == ["run"]:
+        with subprocess.Popen(words[1:] or ["rt", "ci"]) as gate:
+            seen = watched(gate.pid, lambda: gate.poll() is not None)
+        table(seen, time.monotonic() - began)
+        return gate.returncode
+    print(__doc__, file=sys.stderr)
+    return 2
+
+
+if __name__ == "__main__":
+    sys.exit(main())
