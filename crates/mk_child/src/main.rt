@@ -1,4 +1,4 @@
-// A simulator of one kind as a program of its own: reads the words KIND ADDRESS, connects to the address and is served there.
+//! A simulator of one kind as a program of its own: reads the words KIND ADDRESS, connects to the address and is served there.
 #![tactic(auto)]
 
 use mk_base::Mem;

@@ -1,4 +1,4 @@
-// Ranks of simulators along edges, or a cycle.
+//! Ranks of simulators along edges, or a cycle.
 #![tactic(auto)]
 
 mod back;

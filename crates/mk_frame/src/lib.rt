@@ -1,4 +1,4 @@
-// Frames over a stream of bytes: a header of four bytes and a payload.
+//! Frames over a stream of bytes: a header of four bytes and a payload.
 #![tactic(auto)]
 
 mod feeder;

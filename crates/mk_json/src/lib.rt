@@ -1,4 +1,4 @@
-// JSON, read and written with `serde_json`.
+//! JSON, read and written with `serde_json`.
 #![tactic(auto)]
 
 mod data;

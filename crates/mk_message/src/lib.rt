@@ -1,4 +1,4 @@
-// Messages, items and calls, as they stand on a link.
+//! Messages, items and calls, as they stand on a link.
 #![tactic(auto)]
 
 mod calls;

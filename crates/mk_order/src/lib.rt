@@ -1,4 +1,4 @@
-// The theorems of the scheduler, at any valid plan.
+//! The theorems of the scheduler, at any valid plan.
 #![tactic(auto)]
 
 ghost use Rattle.std.specs.Prelude.{◌≡◌, ◌⊎◌, ◌<◌, ℕ, ℤ, List, None, Some, [], ◌++◌, ◌∷◌, true, false};
@@ -19,20 +19,20 @@ ghost use Rattle.mk_plan.specs.Agreement.{Agrees, Continues, IsFinished, Alike};
 
 use mk_plan::Plan;
 
-// Over all messages that may still come, each simulator was sent the beginning of what sequential execution sends it.
+/// Over all messages that may still come, each simulator was sent the beginning of what sequential execution sends it.
 pub fn agreement(plan: &Plan)
     requires { IsValidPlan plan.now }
     ensures { (J : List Entry) → IsOrderly plan.now J → Agrees plan.now J }
 {}
 
-// A journal at whose end nothing is open and nothing is pending has all of it.
+/// A journal at whose end nothing is open and nothing is pending has all of it.
 pub fn completion(plan: &Plan)
     requires { IsValidPlan plan.now }
     ensures { (J : List Entry) → IsOrderly plan.now J → IsDone plan.now (view plan.now J)
         → IsFinished plan.now J }
 {}
 
-// No trigger from outside comes after a Step's time and at or before its max_advance.
+/// No trigger from outside comes after a Step's time and at or before its max_advance.
 pub fn promise(plan: &Plan)
     requires { IsValidPlan plan.now }
     ensures { (J : List Entry) → IsOrderlySoFar IsReady IsAdvance plan.now J
@@ -42,7 +42,7 @@ pub fn promise(plan: &Plan)
         → IsPromised plan.now R s x.time m }
 {}
 
-// Where nothing is open and something is pending, somebody is ready.
+/// Where nothing is open and something is pending, somebody is ready.
 pub fn progress(plan: &Plan)
     requires { IsValidPlan plan.now }
     ensures { (J : List Entry) → IsOrderlySoFar IsReady IsAdvance plan.now J
@@ -52,7 +52,7 @@ pub fn progress(plan: &Plan)
         × IsReady plan.now (view plan.now J) s x }
 {}
 
-// Over two families of messages that cut no turn and that agree wherever both have a message after the same talk, all that is said is the same. A finished journal's messages are such a family.
+/// Over two families of messages that cut no turn and that agree wherever both have a message after the same talk, all that is said is the same. A finished journal's messages are such a family.
 pub fn comparison(plan: &Plan)
     requires { IsValidPlan plan.now }
     ensures { (R : Messages) → (Q : Messages)
@@ -61,14 +61,14 @@ pub fn comparison(plan: &Plan)
         → Alike plan.now R Q → (i : ℕ) → run_talk plan.now R i ≡ run_talk plan.now Q i }
 {}
 
-// Of two eager journals one begins with the other, if so do the messages that came.
+/// Of two eager journals one begins with the other, if so do the messages that came.
 pub fn replaying(plan: &Plan)
     ensures { (J : List Entry) → (K : List Entry) → IsEager plan.now J → IsEager plan.now K
         → BeginsWith (arrivals K) (arrivals J) ⊎ BeginsWith (arrivals J) (arrivals K)
         → BeginsWith K J ⊎ BeginsWith J K }
 {}
 
-// While the arrivals of a finished record come in another order, an open turn has a right message left.
+/// While the arrivals of a finished record come in another order, an open turn has a right message left.
 pub fn reordering(plan: &Plan)
     requires { IsValidPlan plan.now }
     ensures { (R : Messages)
@@ -81,7 +81,7 @@ pub fn reordering(plan: &Plan)
         × (is_wrong plan.now i T.place m ≡ false) }
 {}
 
-// Where nothing is left to do, all messages of such a record came.
+/// Where nothing is left to do, all messages of such a record came.
 pub fn emptying(plan: &Plan)
     requires { IsValidPlan plan.now }
     ensures { (R : Messages)

@@ -1,4 +1,4 @@
-// Ids of requests on a link, of which at most one awaits its answer.
+//! Ids of requests on a link, of which at most one awaits its answer.
 #![tactic(auto)]
 
 mod numbers;

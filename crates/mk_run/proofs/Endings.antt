@@ -42,7 +42,7 @@ use Rattle.mk_run_crew.specs.Seen.{CrewSeen, crew_of}
 use Rattle.mk_run_crew.specs.Calls.{ShowsUnsent, halt_of}
 use Rattle.mk_run.specs.declared.outcome.Outcome.{Outcome}
 use Rattle.mk_run.specs.declared.outcome.Outcome.TheVariants as outcome
-use Rattle.mk_run.specs.Ends.{AreInRange, QueuedAll, IsBrokenOff, IsLongItem, SetupRestsWell}
+use Rattle.mk_run.specs.Ends.{AreInRange, QueuedAll, IsAwaiting, IsBrokenOff, IsLongItem, SetupRestsWell}
 use Rattle.mk_run.specs.inner.Underway.{Setting, reply_in, Suits, HasNoOther, IsPatient, IsUnderway, HasHeard, IsLastLine, HasGiven, EndsBy, HasEnded}
 use Rattle.mk_run.specs.Outcomes.{outcome_of}
 use Rattle.mk_run.specs.inner.Sendings.{IsUnsent}
@@ -89,7 +89,7 @@ module _ (T : Setting) where
   }
 
   -- the run ends where it is
-  pub ends_here : (risen : Type 0) (P : Plan) (J : List Entry) (log : List LogEntry) (C : CrewState) (sims : _) (end : Outcome) → IsUnderway T P J log C sims → (IsBrokenOff end → SomeOpen P J) → EndsBy risen T P J log C end → HasEnded risen T P J log C end
+  pub ends_here : (risen : Type 0) (P : Plan) (J : List Entry) (log : List LogEntry) (C : CrewState) (sims : _) (end : Outcome) → IsUnderway T P J log C sims → (IsBrokenOff end → IsAwaiting P J) → EndsBy risen T P J log C end → HasEnded risen T P J log C end
   ends_here risen P J log C sims end u unfinished ends = record {
     suits = u.suits;
     stands = u.stands;
@@ -146,7 +146,7 @@ module _ (T : Setting) where
         }
 
     by_halt : (h : Halt) → ShowsUnsent h s.0 item C
-        → ((i : ℕ) → QueuedAll (outcome_of h) (sent (K ++ Sent s item ∷ []) i) (sent K i)) × (IsBrokenOff (outcome_of h) → SomeOpen P (K ++ Sent s item ∷ [])) × EndsBy risen T P (K ++ Sent s item ∷ []) log (crew_of C) (outcome_of h)
+        → ((i : ℕ) → QueuedAll (outcome_of h) (sent (K ++ Sent s item ∷ []) i) (sent K i)) × (IsBrokenOff (outcome_of h) → IsAwaiting P (K ++ Sent s item ∷ [])) × EndsBy risen T P (K ++ Sent s item ∷ []) log (crew_of C) (outcome_of h)
     by_halt (halt.Setup fault) shown = absurd shown
     by_halt halt.Fleet shown = absurd shown
     by_halt (halt.Gone sim) shown = absurd shown
@@ -192,7 +192,7 @@ module _ (T : Setting) where
         go (IsHeard.on_link none after w there moved parked) = rests_at_end T.started T.scenario T.replies (reply_in T) core.plan core.entries h.before h.entries h.crew u.running (λ i x ready. h.nobody (i, x, ready)) parked
 
     -- the core hasn't taken it
-    pub untaken_ends : (end : Outcome) → (IsBrokenOff end → SomeOpen core.plan core.entries) → EndsBy risen T core.plan core.entries log D end → HasEnded risen T core.plan core.entries log D end
+    pub untaken_ends : (end : Outcome) → (IsBrokenOff end → IsAwaiting core.plan core.entries) → EndsBy risen T core.plan core.entries log D end → HasEnded risen T core.plan core.entries log D end
     untaken_ends end unfinished ends = record {
       suits = u.suits;
       stands = u.stands;
@@ -215,7 +215,7 @@ module _ (T : Setting) where
     }
 
     -- it is the journal's last entry
-    pub faulty_ends : (end : Outcome) → Stands core.plan (core.entries ++ Got s m ∷ []) → (IsBrokenOff end → SomeOpen core.plan (core.entries ++ Got s m ∷ [])) → EndsBy risen T core.plan (core.entries ++ Got s m ∷ []) log D end → HasEnded risen T core.plan (core.entries ++ Got s m ∷ []) log D end
+    pub faulty_ends : (end : Outcome) → Stands core.plan (core.entries ++ Got s m ∷ []) → (IsBrokenOff end → IsAwaiting core.plan (core.entries ++ Got s m ∷ [])) → EndsBy risen T core.plan (core.entries ++ Got s m ∷ []) log D end → HasEnded risen T core.plan (core.entries ++ Got s m ∷ []) log D end
     faulty_ends end stands unfinished ends = record {
       suits = u.suits;
       stands = stands;
@@ -303,5 +303,5 @@ module _ (T : Setting) where
       rests = rests_at_end T.started T.scenario T.replies (reply_in T) P J log entries (crew_of C) u.running (λ i x ready. nobody (i, x, ready)) un.parked;
       setup_rests = setup_rests_on T P J log entries (crew_of C) u.suits u.running u.setup_rests;
       ends = by_link why cause shown;
-      unfinished = λ broken. opened;
+      unfinished = λ broken. (opened, nobody);
     }

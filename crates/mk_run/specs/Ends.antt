@@ -137,13 +137,17 @@ abbrev pub SetupRestsWell : ℕ → Scenario → List LogEntry → Type 0
 SetupRestsWell started S log = (before after : List LogEntry) → log ≡ before ++ Rest ∷ after
     → (AllSetUp started S before → ⊥) → IsWellInSetup started S before
 
+-- some request is open, and nobody is ready
+abbrev pub IsAwaiting : Plan → List Entry → Type 0
+IsAwaiting P J = SomeOpen P J × (SomeReady P J → ⊥)
+
 -- each message in the journal has whole numbers that may be written
 abbrev pub AreInRange : List Entry → Type 0
 AreInRange J = (H : List Entry) (s : SimNo) (m : Message) (more : List Entry)
     → J ≡ H ++ Got s m ∷ more → is_in_range m ≡ true
 
 -- a run with a plan and a journal, over the entries that it added to the log; where it was broken
--- off some request was open
+-- off some request was open, and nobody was ready
 pub record IsRun (started : ℕ) (S : Scenario) (reply : Replies) (P : Plan) (J : List Entry)
     (log : List LogEntry) (faults new_faults : ℕ) (end : Outcome) : Type 0 where
   pub replies : SetupReplies
@@ -157,7 +161,7 @@ pub record IsRun (started : ℕ) (S : Scenario) (reply : Replies) (P : Plan) (J 
   pub rests : RestsWell started S P J log
   pub setup_rests : SetupRestsWell started S log
   pub shown : ShownBy started S P J log faults new_faults end
-  pub unfinished : IsBrokenOff end → SomeOpen P J
+  pub unfinished : IsBrokenOff end → IsAwaiting P J
 
 -- nothing went wrong that a run can show
 pub record IsFaultless (started : ℕ) (S : Scenario) (P : Plan) (J : List Entry)

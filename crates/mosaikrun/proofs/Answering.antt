@@ -160,10 +160,10 @@ is_memory (LongItem sim length) = inr (λ wrong. cc)
 is_memory Mem = inl refl
 
 -- want of memory has the status 8, and is an answer besides each
-memory : (wanted : ℕ) (e : Ending) → e ≡ Mem → IsStatusOr wanted (status_of e)
+pub memory : (wanted : ℕ) (e : Ending) → e ≡ Mem → IsStatusOr wanted (status_of e)
 memory wanted e mem = inr (inr (ap status_of mem))
 
-cut_status : (out : OutputSeen) (wanted : ℕ) (e : Ending) → IsCutBy out e → IsStatusOr wanted (status_of e)
+pub cut_status : (out : OutputSeen) (wanted : ℕ) (e : Ending) → IsCutBy out e → IsStatusOr wanted (status_of e)
 cut_status out wanted e (inl failed) = inr (inl (ap status_of failed.0))
 cut_status out wanted e (inr short) = memory wanted e short.0
 
@@ -180,7 +180,7 @@ unasked_status : (words : List (List ℕ)) (e : Ending) → IsUnasked words e �
 unasked_status words e (inl mem) = memory 2 e mem
 unasked_status words e (inr usage) = inl (ap status_of usage.0)
 
-unasked_not : (words : List (List ℕ)) (e : Ending) → IsUnasked words e → (wanted : ℕ) → (R : Request) → IsAsked words R → IsStatusOr wanted (status_of e)
+pub unasked_not : (words : List (List ℕ)) (e : Ending) → IsUnasked words e → (wanted : ℕ) → (R : Request) → IsAsked words R → IsStatusOr wanted (status_of e)
 unasked_not words e (inl mem) wanted R asked = memory wanted e mem
 unasked_not words e (inr usage) wanted R asked = absurd (usage.1 R asked)
 
@@ -248,7 +248,7 @@ useless_words S (Err e) (inr (inr (inr (inr performed)))) none = let asked = per
 -- the file of what is asked for, where the folder tells
 module _ (S : Around) (held : Files) (told : S.folder.files ≡ Some held) (R : Request) (asked : IsAsked S.words R) (name : List ℕ) (named : file_of R ≡ Some name) where
   -- whatever is asked for and reads a file is this, and reads this file
-  same_name : (Q : Request) (other : List ℕ) → Q ≡ R → file_of Q ≡ Some other → other ≡ name
+  pub same_name : (Q : Request) (other : List ℕ) → Q ≡ R → file_of Q ≡ Some other → other ≡ name
   same_name Q other same its = let there : Some other ≡ Some name = sym its ∙ ap file_of same ∙ named in cc
 
   -- what was read is that file
@@ -273,7 +273,7 @@ module _ (S : Around) (held : Files) (told : S.folder.files ≡ Some held) (R : 
         subst (λ (b : List ℕ). IsOutcomeOf S.outside.kinds R b o) (same_bytes other here.1) (subst (λ (X : Request). IsOutcomeOf S.outside.kinds X other o) here.0 outcome)
 
     -- a file that is there, and short enough, is read, but for a folder that failed and want of memory
-    unread_status : (other : List ℕ) (e : Ending) (wanted : ℕ) → other ≡ name → IsUnreadable S.folder.files other (HasRisen S.folder.faults S.folder.new_faults) e → IsStatusOr wanted (status_of e)
+    pub unread_status : (other : List ℕ) (e : Ending) (wanted : ℕ) → other ≡ name → IsUnreadable S.folder.files other (HasRisen S.folder.faults S.folder.new_faults) e → IsStatusOr wanted (status_of e)
     unread_status other e wanted same (inl mem) = memory wanted e mem
     unread_status other e wanted same (inr (inl failed)) = inr (inl (ap status_of failed.0))
     unread_status other e wanted same (inr (inr (inl missing))) =

@@ -1,7 +1,9 @@
 mod Answering
+mod EndingRuns
 mod Fleetless
 mod Migrating
 mod NeverUsage
 mod Playing
 mod Recording
+mod RightCalls
 mod Summing

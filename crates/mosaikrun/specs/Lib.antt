@@ -1,6 +1,8 @@
 pub mod Around
 pub mod Commands
+pub mod Complete
 pub mod Fleetless
+pub mod Headline
 pub mod Migrating
 pub mod Program
 pub mod Recording

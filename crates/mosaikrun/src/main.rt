@@ -1,5 +1,5 @@
-// Reads the words and does what they ask: runs a scenario over the system's sockets and child programs, replays a record, or
-// checks a scenario.
+//! The program mosaikrun: reads the words of the command line and does what they ask, over the system's files, streams, sockets
+//! and child programs: runs a scenario or the demo, replays or migrates a record, checks a scenario.
 #![tactic(auto)]
 
 mod commands;
@@ -50,10 +50,15 @@ fn run<W: Wait>(rt: &HostRuntime, waits: &W, alloc: Global) -> Result<u8, Mem> {
         Turn::Controller,
         Box::new(alloc, |s: EntityStep| controller_turn(s))?,
     ))?;
-    // Words that can't be read are no command.
+    // Words that can't be read are no command, but for want of memory.
     let words = match words_of(rt) {
         Ok(words) => words,
-        Err(_) => Vec::new(alloc),
+        Err(error) => {
+            if matches!(error.kind(), io::ErrorKind::OutOfMemory) {
+                return Err(Mem);
+            }
+            Vec::new(alloc)
+        }
     };
     let mut folder = RealFolder::new(rt);
     let mut fleet = MioFleet::new(alloc, rt);

@@ -20,7 +20,9 @@ ghost use Rattle.mosaikrun_records.specs.Migrations.{IsMigration};
 ghost use Rattle.mosaikrun.specs.Around.{FolderSeen, OutputSeen, folder_seen, output_seen};
 ghost use Rattle.mosaikrun.specs.inner.Around.{unused};
 ghost use Rattle.mosaikrun.specs.Commands.{IsAsked, IsHeld, IsOutcomeOf, IsNoFile, IsUnreadable, file_of};
+ghost use Rattle.mosaikrun.specs.Complete.{EndsRun};
 ghost use Rattle.mosaikrun.specs.Fleetless.{IsHeldWithin, NeedsNoFleet};
+ghost use Rattle.mosaikrun.specs.Headline.{IsRightCall};
 ghost use Rattle.mosaikrun.specs.Running.{IsFolderAfter};
 ghost use Rattle.mosaikrun.specs.Summing.{HasSummed};
 ghost use Rattle.mosaikrun.specs.Program.{Ended, EndsWith, IsStatusOr, KeepsOthers, TookLine};
@@ -56,6 +58,15 @@ pub fn program<D: Folder, F: Fleet, K: Sink, E: Sink, R: Wait>(
     out: &mut K,
     err: &mut E,
 ) -> u8
+    ensures headline { (entries : List LogEntry) × Adds entries (F.log fleet.old) (F.log fleet.new)
+        × IsRightCall
+        (record {
+          words = map string_bytes words.now;
+          outside = outside F.started F.faults (rows_in kinds.now) fleet.old fleet.new entries;
+          folder = folder_seen D.files D.faults folder.old folder.new;
+          output = output_seen K.written K.faults K.shortages out.old out.new;
+        })
+        result }
     ensures ended { (entries : List LogEntry) × Adds entries (F.log fleet.old) (F.log fleet.new)
         × EndsWith
         (record {
@@ -67,6 +78,15 @@ pub fn program<D: Folder, F: Fleet, K: Sink, E: Sink, R: Wait>(
         (HasRisen (E.faults err.old) (E.faults err.new)
         ⊎ HasRisen (E.shortages err.old) (E.shortages err.new))
         (E.written err.old) (E.written err.new) result }
+    ensures completes { (entries : List LogEntry) × Adds entries (F.log fleet.old) (F.log fleet.new)
+        × EndsRun
+        (record {
+          words = map string_bytes words.now;
+          outside = outside F.started F.faults (rows_in kinds.now) fleet.old fleet.new entries;
+          folder = folder_seen D.files D.faults folder.old folder.new;
+          output = output_seen K.written K.faults K.shortages out.old out.new;
+        })
+        result }
     ensures usage { (result ≡ 2) → (R : Request) → IsAsked (map string_bytes words.now) R → ⊥ }
     ensures useless { ((R : Request) → IsAsked (map string_bytes words.now) R → ⊥)
         → IsStatusOr 2 result }

@@ -77,7 +77,7 @@ each_at P (y ∷ ys) zero x (first, others) there = let same : y ≡ x = cc in s
 each_at P (y ∷ ys) (suc i) x (first, others) there = each_at P ys i x others there
 
 -- a scenario with ranks, whose simulators can all be begun, can be run
-runnable_or_not : (kinds : List (List ℕ)) (S : parts.Scenario) (ranks : List ℕ) (e : Ending) → AreRanks S ranks → IsPrepared S kinds → IsUnrunnable kinds S e → e ≡ Mem
+pub runnable_or_not : (kinds : List (List ℕ)) (S : parts.Scenario) (ranks : List ℕ) (e : Ending) → AreRanks S ranks → IsPrepared S kinds → IsUnrunnable kinds S e → e ≡ Mem
 runnable_or_not kinds S ranks e ranked prepared (inl mem) = mem
 runnable_or_not kinds S ranks e ranked prepared (inr (inl circle)) = absurd (ranked_no_cycle (has_edge (edges_of S)) (length S.sims) ranks (numbers circle.walk) ranked circle.cycle)
 runnable_or_not kinds S ranks e ranked prepared (inr (inr unprepared)) =

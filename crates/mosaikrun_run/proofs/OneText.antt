@@ -1,5 +1,6 @@
--- Two runs of a scenario whose simulators are all within the program say the same.
+-- Two runs of a scenario whose simulators are all within the program say the same, and so do two whose simulators answer alike.
 use Rattle.std.proofs.Common.{◌≡◌, inl, inr, ℕ, zero, suc, ◌+◌, ◌<◌, ◌≤◌, Bool, true, false, List, [], ◌∷◌, ◌++◌, length, take, map, slice_get, Option, Some, Result, Ok, refl, sym, ap, ◌∙◌, subst, arith}
+use Rattle.std.proofs.Math.Path.{fun_ext}
 use Rattle.std.proofs.lemmas.List.{take_all}
 use Rattle.std.specs.List.{enumerate_from}
 use Rattle.mk_base.specs.Lists.{Each}
@@ -13,7 +14,7 @@ use Rattle.mk_plan.specs.declared.Plan.{Plan}
 use Rattle.mk_plan.specs.Agreement.{Alike}
 use Rattle.mk_plan.specs.Journals.{got}
 use Rattle.mk_plan.specs.Plans.{sim_count}
-use Rattle.mk_plan.specs.Sequential.{Messages, all_ended, run_items, run_talk, sequential}
+use Rattle.mk_plan.specs.Sequential.{Messages, all_ended, items, run_items, run_talk, sequential}
 use Rattle.mk_order.proofs.Going.{same_runs}
 use Rattle.mk_scenario.specs.declared.parts.Group.{Group}
 use Rattle.mk_scenario.specs.declared.parts.Scenario.{Scenario}
@@ -39,7 +40,7 @@ use Rattle.mk_run.proofs.RunRight.{runs_right}
 use Rattle.mosaikrun_endings.specs.Sayings.{ids_of}
 use Rattle.mosaikrun_run.specs.declared.sayings.Form.{Form}
 use Rattle.mosaikrun_run.specs.declared.sayings.Form.TheVariants.{Report}
-use Rattle.mosaikrun_run.specs.Laws.{WithinIsOneText}
+use Rattle.mosaikrun_run.specs.Laws.{AlikeIsOneText, WithinIsOneText}
 use Rattle.mosaikrun_run.specs.Outcomes.{IsPlayed, IsRunOutcome, IsScenarioOutcome, Outside}
 use Rattle.mosaikrun_run.specs.Sayings.{text_of}
 use Rattle.mosaikrun_run.proofs.Reporting.{said_is_done, texts_sequential}
@@ -200,3 +201,18 @@ one_text fits = record {
   files = same_of_files fits;
   talks = λ O Q form wanted also S text other kept saved kinds wellformed all p q. (plan fits O Q form wanted also S text other kept saved kinds wellformed all p q, talks fits O Q form wanted also S text other kept saved kinds wellformed all p q);
 }
+
+-- ---- simulators that answer alike
+
+pub alike_text : AlikeIsOneText
+alike_text O Q form wanted also S text other kept saved p q answers R T may also_may alike =
+    let ranks : q.ranks ≡ p.ranks = one_ranking (has_edge (edges_of S)) (length S.sims) q.ranks p.ranks q.runnable.ranked p.runnable.ranked in
+    let plan : q.plan ≡ p.plan = one_plan S p.ranks p.run.answers q.plan p.plan
+    (subst (λ (r : List ℕ). IsMade S r p.run.answers q.plan) ranks (subst (λ (a : List Message). IsMade S q.ranks a q.plan) answers q.run.made)) p.run.made in
+    let ours = texts_sequential O form wanted S text kept p R may in
+    let theirs = texts_sequential Q form also S other saved q T also_may in
+    let ended : (j : ℕ) → j < sim_count p.plan → all_ended (sequential p.plan T j) ≡ true =
+    subst (λ (P : Plan). (j : ℕ) → j < sim_count P → all_ended (sequential P T j) ≡ true) plan theirs.1 in
+    let talks = same_runs p.plan p.run.run.valid R T ours.1 ended alike in
+    let sent : run_items p.plan R ≡ run_items p.plan T = fun_ext (λ i. ap items (talks i)) in
+    ours.0 ∙ ap (text_of form p.plan) sent ∙ ap (λ (P : Plan). text_of form P (run_items P T)) (sym plan) ∙ sym theirs.0

@@ -1,5 +1,6 @@
 -- What the text of a run is, and where its record is there.
 use Rattle.std.specs.Prelude.{◌≡◌, ◌⊎◌, ℕ, ◌<◌, Bool, true, List, Option, None, Result, Ok, Err}
+use Rattle.mk_plan.specs.Agreement.{Alike}
 use Rattle.mk_plan.specs.Journals.{got}
 use Rattle.mk_plan.specs.Plans.{sim_count}
 use Rattle.mk_plan.specs.Sequential.{Messages, all_ended, run_items, run_talk, sequential}
@@ -25,6 +26,18 @@ TextsAreSequential = (O : Outside) (form : Form) (wanted : Bool) (S : Scenario) 
     → (R : Messages) → IsPossible O.started S (kind_reply_of O.kinds S) played.plan O.log R
     → (text ≡ text_of form played.plan (run_items played.plan R))
     × ((i : ℕ) → i < sim_count played.plan → all_ended (sequential played.plan R i) ≡ true)
+
+-- two runs of one scenario, whatever fleets they are over and whichever simulators answer first: where
+-- the replies to the handshake are the same, and over some messages that may come in each the
+-- simulators answer alike wherever they were told the same, both have one text, if each has one
+abbrev pub AlikeIsOneText : Type 0
+AlikeIsOneText = (O Q : Outside) (form : Form) (wanted also : Bool) (S : Scenario)
+    (text other : List ℕ) (kept saved : Option (List ℕ))
+    → (p : IsPlayed O form wanted S (Ok text) kept)
+    → (q : IsPlayed Q form also S (Ok other) saved) → q.run.answers ≡ p.run.answers
+    → (R T : Messages) → IsPossible O.started S (kind_reply_of O.kinds S) p.plan O.log R
+    → IsPossible Q.started S (kind_reply_of Q.kinds S) q.plan Q.log T → Alike p.plan R T
+    → text ≡ other
 
 -- where a record is wanted and memory isn't wanting: it is there where there is a text, where the
 -- run met a fault, and where the whole frame of a Step was said on a link; and where there is one,

@@ -1,5 +1,5 @@
 // What holds of the text and of the record of every run.
-ghost use Rattle.mosaikrun_run.specs.Laws.{RecordsAreThere, TextsAreSequential, WithinIsOneText};
+ghost use Rattle.mosaikrun_run.specs.Laws.{AlikeIsOneText, RecordsAreThere, TextsAreSequential, WithinIsOneText};
 
 use mk_run::kinds_fit;
 
@@ -7,6 +7,12 @@ use mk_run::kinds_fit;
 /// and whatever may still come on them.
 pub fn texts_are_sequential()
     ensures { TextsAreSequential }
+{}
+
+/// Two runs of one scenario over whatever fleets, with the same replies to the handshake, have one text, if each has one, where
+/// the simulators answer alike: whichever simulator answered first.
+pub fn alike_is_one_text()
+    ensures { AlikeIsOneText }
 {}
 
 /// Where a record is wanted it is there, but for want of memory, wherever all is done, the run met a fault, or the whole frame of

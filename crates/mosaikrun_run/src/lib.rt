@@ -6,6 +6,6 @@ mod laws;
 mod running;
 mod sayings;
 
-pub use laws::{records_are_there, texts_are_sequential, within_is_one_text};
+pub use laws::{alike_is_one_text, records_are_there, texts_are_sequential, within_is_one_text};
 pub use running::{Told, played, ran};
 pub use sayings::Form;

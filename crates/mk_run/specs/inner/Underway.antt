@@ -18,7 +18,7 @@ use Rattle.mk_outside.specs.declared.fleet.LogEntry.{LogEntry}
 use Rattle.mk_outside.specs.declared.fleet.LogEntry.TheVariants.{Ended}
 use Rattle.mk_session.specs.Fronts.{BeginsGarbled}
 use Rattle.mk_sched.specs.Cores.{Stands}
-use Rattle.mk_sched.specs.Answers.{SomeReady, SomeOpen}
+use Rattle.mk_sched.specs.Answers.{SomeReady}
 use Rattle.mk_local.specs.declared.turn.Turn.{Turn}
 use Rattle.mk_local.specs.Simulators.{Simulator}
 use Rattle.mk_run_laws.specs.Hearing.{first_message}
@@ -33,7 +33,7 @@ use Rattle.mk_run_local.specs.Laws.{HasCome}
 use Rattle.mk_run_local.specs.Made.{kind_reply_of}
 use Rattle.mk_run.specs.declared.outcome.Outcome.{Outcome}
 use Rattle.mk_run.specs.declared.outcome.Outcome.TheVariants as outcome
-use Rattle.mk_run.specs.Ends.{AreInRange, QueuedAll, IsBrokenOff, IsLastFaulty, IsOpenWithin, IsFull, IsLongItem, SetupRestsWell}
+use Rattle.mk_run.specs.Ends.{AreInRange, QueuedAll, IsAwaiting, IsBrokenOff, IsLastFaulty, IsOpenWithin, IsFull, IsLongItem, SetupRestsWell}
 
 -- how many links were started before the run, its scenario, the kinds at hand, the replies of each
 -- simulator to its handshake, and the plan that these make
@@ -163,4 +163,4 @@ pub record HasEnded (risen : Type 0) (T : Setting) (P : Plan) (J : List Entry) (
   pub rests : RestsEnd T.started T.scenario T.replies P J log
   pub setup_rests : SetupRestsWell T.started T.scenario log
   pub ends : EndsBy risen T P J log C end
-  pub unfinished : IsBrokenOff end → SomeOpen P J
+  pub unfinished : IsBrokenOff end → IsAwaiting P J

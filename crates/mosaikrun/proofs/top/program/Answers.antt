@@ -6,6 +6,8 @@ use Rattle.mosaikrun.specs.Around.{Around, folder_seen, output_seen}
 use Rattle.mosaikrun.specs.Program.{IsStatusOr}
 use Rattle.mosaikrun.proofs.Answering.{keeps_others, said_ended, told_decided, told_migrated, told_no_file, usage_only, useless_words}
 use Rattle.mosaikrun.proofs.Recording.{record_kept}
+use Rattle.mosaikrun.proofs.EndingRuns.{ends_run}
+use Rattle.mosaikrun.proofs.RightCalls.{right_call}
 use Rattle.mosaikrun.proofs.top.program.Goals as goal
 
 pub returns-in-Ok : goal.returns-in-Ok
@@ -18,7 +20,9 @@ returns-in-Ok g c =
       output = output_seen g.K.Sink.written g.K.Sink.faults g.K.Sink.shortages c.args.out.now c.answer.new.out;
     } in
     record {
+      headline = (ended.0, ended.1, right_call S (Ok tt) 0 refl ended.2);
       ended = (ended.0, ended.1, record { answer = Ok tt; is = refl; ended = ended.2; told = refl; recorded = record_kept S (Ok tt) 0 refl ended.2 });
+      completes = (ended.0, ended.1, ends_run S S.folder.files (Ok tt) 0 refl refl ended.2);
       usage = λ two. usage_only S (Ok tt) ended.2 two;
       useless = useless_words S (Ok tt) ended.2;
       decided = told_decided S S.folder.files (Ok tt) 0 refl refl ended.2;
@@ -45,7 +49,9 @@ returns-in-Err g c =
     let told = c.tell.ensures.told in
     let said = said_ended S told.0 c.in-Err.ending ended.2 told.1 in
     record {
+      headline = (ended.0, ended.1, right_call S (Err told.0) c.tell.result told.2 said);
       ended = (ended.0, ended.1, record { answer = Err told.0; is = told.2; ended = said; told = told.3; recorded = record_kept S (Err told.0) c.tell.result told.2 said });
+      completes = (ended.0, ended.1, ends_run S S.folder.files (Err told.0) c.tell.result refl told.2 said);
       usage = λ two. usage_only S (Err told.0) said (sym told.2 ∙ two);
       useless = λ none. subst (IsStatusOr 2) (sym told.2) (useless_words S (Err told.0) said none);
       decided = told_decided S S.folder.files (Err told.0) c.tell.result refl told.2 said;
