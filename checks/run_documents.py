@@ -4,8 +4,8 @@
 `run_documents.py PROGRAM [--builds] [DOCUMENT ..]` reads README.md, docs/tutorial.md and docs/from-mosaik.md (where it
 is there), or the documents that are named, and runs each block that is fenced with ```sh by `bash -e`, in a copy of
 this repository's files, with PROGRAM on the path as `mosaikrun`, and `mk_child`, which lies in PROGRAM's folder or
-where its own crate makes it. A block goes on in the folder where the one before it ended; the first is run at the root.
-Where a block fenced with ```text follows, with blank lines alone between, it has to be what the commands print,
+where its own crate makes it. A block goes on in the folder where the one before it ended; the first is run at the
+root. Where a block fenced with ```text follows, with blank lines alone between, it has to be what the commands print,
 standard output and standard error together; a line `...` in it stands for any lines. Marks are comments, each on a line
 of its own before the block that it is for, which a reader of the page doesn't see:
 

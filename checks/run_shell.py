@@ -1,11 +1,11 @@
 #!/usr/bin/env python3
 """Tries what helps at the command line: the manual page, and the completion of words in bash and zsh.
 
-`run_shell.py PROGRAM` takes the forms of the commands from the line that PROGRAM prints where it has no words: each has to
-stand in the manual page, and each command and option in both completions. The page is set by groff without a warning. The
-completions are called with words typed so far: bash's function in a folder with some files, zsh's in a shell of its own at
-a terminal of its own, with the tabulator key. Where groff or zsh isn't there, that part is left out, which is said. Ends
-with 'N passed, M failed'.
+`run_shell.py PROGRAM` takes the forms of the commands from the line that PROGRAM prints where it has no words: each has
+to stand in the manual page, and each command and option in both completions. The page is set by groff without a
+warning. The completions are called with words typed so far: bash's function in a folder with some files, zsh's in a
+shell of its own at a terminal of its own, with the tabulator key. Where groff or zsh isn't there, that part is left
+out, which is said. It prints what fails, and ends with 'N passed, M failed'.
 """
 import os
 import pathlib

@@ -68,6 +68,7 @@ class Record:
     def got(self, part: Any) -> Iterator[list[Any]]:
         """A message of a simulator: gives the rows of its values."""
         sim, (kind, _, content) = part
+        name = self.sims[sim]
         awaited = self.awaited.get(sim, "step" if self.version == 1 else "")
         if kind == 1 and awaited == "step":
             self.step.get(sim, [""] * 5)[4] = "" if content is None else content
@@ -76,7 +77,7 @@ class Record:
             self.awaited[sim] = "step" if self.version == 1 else ""
             yield from self.values(sim, content)
         elif kind == 2 and awaited:
-            raise ValueError(f"{self.sims[sim]} failed: {content}")
+            raise ValueError(f"{name} failed: {content}")
 
     def values(self, sim: int, content: Any) -> Iterator[list[Any]]:
         """The rows of the values that some connection takes."""
