@@ -9,8 +9,8 @@ root. Where a block fenced with ```text follows, with blank lines alone between,
 standard output and standard error together; a line `...` in it stands for any lines. Marks are comments, each on a line
 of its own before the block that it is for, which a reader of the page doesn't see:
 
-    <!-- builds -->             these commands build: they are left out unless --builds is given; a block that calls `rt`
-                                or `.ci/run`, or goes into `crates`, and has no such mark fails
+    <!-- builds -->             these commands build: they are left out unless --builds is given; a block that calls
+                                `rt` or `.ci/run`, or goes into `crates`, and has no such mark fails
     <!-- not run -->            these commands are never tried
     <!-- status N -->           the commands end with this status; without it, with 0
     <!-- at FOLDER -->          they are run in this folder, from the root
