@@ -129,7 +129,7 @@ REPORTS = [
     ("sim A-0\nend 0\n", "", []),
     ('sim A-0\nstep 0:1 {"e":{"p":{"B-0.f":"x","B-0.g":null}}}\nanswer 3 {"B-0.f":{}}\nrefuse 4 1\nend 1\n',
      "0,1,A-0.e,p,B-0.f,x\n0,1,A-0.e,p,B-0.g,null\n", []),
-    ("printed by a simulator\nsim A-0\nstep 0:0 {}\nend 2\n", "",
+    ("of another text\nsim A-0\nstep 0:0 {}\nend 2\n", "",
      [f"line 1 {LEFT}", "the end line says 2 steps, and there are 1"]),
     ('sim A-0\nstep 0:0 {"e":{"p":{"B-0.f":4}}}\nstep 1:0 {"e":{"p"', "0,0,A-0.e,p,B-0.f,4\n",
      [f"line 3 {LEFT}", ENDLESS]),
