@@ -1,13 +1,14 @@
 #!/usr/bin/env python3
 """Tries the commands of the documents with a built program, so that they stay true.
 
-`run_documents.py PROGRAM [--builds] [DOCUMENT ..]` reads README.md, docs/tutorial.md and docs/from-mosaik.md (where it
-is there), or the documents that are named, and runs each block that is fenced with ```sh by `bash -e`, in a copy of
-this repository's files, with PROGRAM on the path as `mosaikrun`, and `mk_child`, which lies in PROGRAM's folder or
+`run_documents.py PROGRAM [--builds] [DOCUMENT ..]` reads README.md, docs/tutorial.md and docs/from-mosaik.md (where
+it is there), or the documents that are named, and runs each block that is fenced with ```sh by `bash -e`, in a copy
+of this repository's files, with PROGRAM on the path as `mosaikrun`, and `mk_child`, which lies in PROGRAM's folder or
 where its own crate makes it. A block goes on in the folder where the one before it ended; the first is run at the
-root. Where a block fenced with ```text follows, with blank lines alone between, it has to be what the commands print,
-standard output and standard error together; a line `...` in it stands for any lines. Marks are comments, each on a line
-of its own before the block that it is for, which a reader of the page doesn't see:
+root, that of docs/from-mosaik.md in examples. Where a block fenced with ```text follows, with blank lines alone
+between, it has to be what the commands print, standard output and standard error together; a line `...` in it stands
+for any lines. Marks are comments, each on a line of its own before the block that it is for, which a reader of the
+page doesn't see:
 
     <!-- builds -->             these commands build: they are left out unless --builds is given; a block that calls
                                 `rt` or `.ci/run`, or goes into `crates`, and has no such mark fails
@@ -30,7 +31,8 @@ import tempfile
 from typing import NamedTuple, Optional
 
 ROOT = pathlib.Path(__file__).resolve().parent.parent
-DOCUMENTS = ["README.md", "docs/tutorial.md", "docs/from-mosaik.md"]
+# the documents, each with the folder in which its reader begins
+DOCUMENTS = {"README.md": ".", "docs/tutorial.md": ".", "docs/from-mosaik.md": "examples"}
 BUILDS = re.compile(r"(^|[\s;&|(])(rt|\.ci/run)([\s;&|)]|$)|\bcd\s+\S*crates\b", re.MULTILINE)
 MARK = re.compile(r"<!--\s*(builds|not run|status|at|file)\b\s*(.*?)\s*-->\s*")
 SECONDS = 120
@@ -114,7 +116,7 @@ def document(name: str, room: pathlib.Path, path: str, builds: bool) -> tuple[in
     root = room / "root"
     left = [".git", "out"] + ([] if builds else ["crates"])
     shutil.copytree(ROOT, root, ignore=shutil.ignore_patterns(*left), symlinks=True)
-    folder, passed, failed = str(root), 0, 0
+    folder, passed, failed = str(root / DOCUMENTS.get(name, ".")), 0, 0
     for block in blocks((ROOT / name).read_text(encoding="utf-8")):
         if "file" in block.marks:
             wrong = compared(block)
@@ -136,7 +138,7 @@ def main() -> int:
     """Tries the documents with the program that is named."""
     words = [word for word in sys.argv[1:] if word != "--builds"]
     program = pathlib.Path(words[0]).resolve()
-    names = words[1:] or [name for name in DOCUMENTS if (ROOT / name).is_file() or name != DOCUMENTS[-1]]
+    names = words[1:] or [name for name in DOCUMENTS if (ROOT / name).is_file() or name != "docs/from-mosaik.md"]
     passed = failed = 0
     with tempfile.TemporaryDirectory() as text:
         room = pathlib.Path(text)
