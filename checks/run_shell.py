@@ -3,8 +3,8 @@
 
 `run_shell.py PROGRAM` takes the forms of the commands from the line that PROGRAM prints where it has no words: each has
 to stand in the manual page, and each command and option in both completions. The page is set by groff without a
-warning. The completions are called with words typed so far: bash's function in a folder with some files, zsh's in a
-shell of its own at a terminal of its own, with the tabulator key. Where groff or zsh isn't there, that part is left
+warning. The completions are tried in a folder with some files: bash's function is called with words, and both shells,
+each at a terminal of its own, are given words and the tabulator key. Where groff or zsh isn't there, that part is left
 out, which is said. It prints what fails, and ends with 'N passed, M failed'.
 """
 import os
@@ -12,6 +12,7 @@ import pathlib
 import pty
 import re
 import select
+import shlex
 import shutil
 import subprocess
 import sys
@@ -45,23 +46,29 @@ BASH: list[tuple[list[str], list[str]]] = [
     (["migrate", "a", "b", ""], []),
     (["nothing", ""], []),
 ]
-# what is typed, and what stands there after the tabulator key
-ZSH: list[tuple[str, str]] = [
+# what is typed, and what stands there after the tabulator key, in each shell
+KEYS: list[tuple[str, str]] = [
     ("mosaikrun rep", "mosaikrun replay "),
     ("mosaikrun m", "mosaikrun migrate "),
     ("mosaikrun check d", "mosaikrun check day.toml "),
     ("mosaikrun run my", "mosaikrun run my\\ study.toml "),
     ("mosaikrun run sub/", "mosaikrun run sub/inner.toml "),
-    ("mosaikrun run --r", "mosaikrun run --record="),
     ("mosaikrun run day.toml --record n", "mosaikrun run day.toml --record notes.txt "),
-    ("mosaikrun replay --o", "mosaikrun replay --order="),
+    ("mosaikrun run --record=n", "mosaikrun run --record=notes.txt "),
     ("mosaikrun replay --order 3 day.r", "mosaikrun replay --order 3 day.record "),
     ("mosaikrun migrate day.record n", "mosaikrun migrate day.record notes.txt "),
 ]
-SETUP = """PS1=; unset zle_bracketed_paste; autoload -Uz compinit; compinit -u -D
+# what a shell is told first: the key control-T writes what stands there into the file `line`
+SETUPS = {
+    "zsh": """PS1=; unset zle_bracketed_paste; fpath=(COMPLETION $fpath); autoload -Uz compinit; compinit -u -D
 show() { print -r -- "$BUFFER" > shown; mv shown line; BUFFER= }
-zle -N show; bindkey '^I' complete-word '^X' show; print -r -- ready > line
-"""
+zle -N show; bindkey '^I' complete-word '^T' show; print -r -- ready > line
+""",
+    "bash": """PS1=; . COMPLETION/mosaikrun.bash
+show() { printf '%s\\n' "$READLINE_LINE" > shown; mv shown line; READLINE_LINE=; }
+bind -x '"\\C-t": show'; echo ready > line
+""",
+}
 
 
 def page(forms: list[str]) -> dict[str, bool]:
@@ -99,34 +106,28 @@ def shown(folder: pathlib.Path, terminal: int, seconds: float = 20) -> str:
     return ""
 
 
-def zsh(folder: pathlib.Path) -> dict[str, bool]:
-    """What is asked of zsh's completion, and whether it holds."""
-    if shutil.which("zsh") is None:
-        print("zsh isn't there: its completion wasn't tried")
+def typed_at(name: str, words: list[str], folder: pathlib.Path) -> dict[str, bool]:
+    """What is asked of the completion of this shell at a terminal, and whether it holds."""
+    if shutil.which(name) is None:
+        print(f"{name} isn't there: its completion wasn't tried")
         return {}
     near, far = pty.openpty()
-    environment = {**os.environ, "TERM": "dumb", "FPATH": f"{ROOT / 'completion'}:{default_path()}"}
+    environment = {**os.environ, "TERM": "dumb"}
     streams = {"stdin": far, "stdout": far, "stderr": far}
     found = {}
-    with subprocess.Popen(["zsh", "-f", "-i"], cwd=folder, env=environment, start_new_session=True, **streams) as shell:
+    with subprocess.Popen(words, cwd=folder, env=environment, start_new_session=True, **streams) as shell:
         os.close(far)
-        os.write(near, SETUP.encode())
+        os.write(near, SETUPS[name].replace("COMPLETION", shlex.quote(str(ROOT / "completion"))).encode())
         if shown(folder, near) == "ready":
-            for typed, wanted in ZSH:
+            for typed, wanted in KEYS:
                 os.write(near, f"{typed}\t".encode())
-                time.sleep(0.3)
-                os.write(near, b"\x18")
+                time.sleep(0.2)
+                os.write(near, b"\x14")
                 got = shown(folder, near)
-                found[f"zsh: {typed!r} becomes {got!r}, and should {wanted!r}"] = got == wanted
+                found[f"{name}: {typed!r} becomes {got!r}, and should {wanted!r}"] = got == wanted
         shell.kill()
     os.close(near)
-    return found or {"zsh isn't ready": False}
-
-
-def default_path() -> str:
-    """The folders of zsh's own functions."""
-    words = ["zsh", "-f", "-c", "print -r -- $FPATH"]
-    return subprocess.run(words, capture_output=True, text=True, check=True).stdout.strip()
+    return found or {f"{name} isn't ready": False}
 
 
 def main() -> int:
@@ -146,7 +147,8 @@ def main() -> int:
         for typed, wanted in BASH:
             got = bash(typed, room)
             held[f"bash: {typed} gives {got}, and should {wanted}"] = sorted(got) == sorted(wanted)
-        held.update(zsh(folder))
+        held.update(typed_at("bash", ["bash", "--norc", "--noprofile", "-i"], folder))
+        held.update(typed_at("zsh", ["zsh", "-f", "-i"], folder))
     for what in (what for what, holds in held.items() if not holds):
         print(what)
     failed = sum(not holds for holds in held.values())
