@@ -58,11 +58,13 @@ KEYS: list[tuple[str, str]] = [
     ("mosaikrun replay --order 3 day.r", "mosaikrun replay --order 3 day.record "),
     ("mosaikrun migrate day.record n", "mosaikrun migrate day.record notes.txt "),
 ]
-# what a shell is told first: the key control-T writes what stands there into the file `line`
+# what a shell reads first, from the file `rc/.zshrc`: the key control-T writes what stands there into the file `line`,
+# and `ready` is written there as soon as keys are read
 SETUPS = {
     "zsh": """PS1=; unset zle_bracketed_paste; fpath=(COMPLETION $fpath); autoload -Uz compinit; compinit -u -D
 show() { print -r -- "$BUFFER" > shown; mv shown line; BUFFER= }
-zle -N show; bindkey '^I' complete-word '^T' show; print -r -- ready > line
+zle-line-init() { print -r -- ready > shown; mv shown line; zle -D zle-line-init }
+zle -N show; zle -N zle-line-init; bindkey '^I' complete-word '^T' show
 """,
     "bash": """PS1=; . COMPLETION/mosaikrun.bash
 show() { printf '%s\\n' "$READLINE_LINE" > shown; mv shown line; READLINE_LINE=; }
@@ -112,12 +114,13 @@ def typed_at(name: str, words: list[str], folder: pathlib.Path) -> dict[str, boo
         print(f"{name} isn't there: its completion wasn't tried")
         return {}
     near, far = pty.openpty()
-    environment = {**os.environ, "TERM": "dumb"}
+    environment = {**os.environ, "TERM": "dumb", "ZDOTDIR": "rc"}
+    setup = SETUPS[name].replace("COMPLETION", shlex.quote(str(ROOT / "completion")))
+    (folder / "rc" / ".zshrc").write_text(setup, encoding="utf-8")
     streams = {"stdin": far, "stdout": far, "stderr": far}
     found = {}
     with subprocess.Popen(words, cwd=folder, env=environment, start_new_session=True, **streams) as shell:
         os.close(far)
-        os.write(near, SETUPS[name].replace("COMPLETION", shlex.quote(str(ROOT / "completion"))).encode())
         if shown(folder, near) == "ready":
             for typed, wanted in KEYS:
                 os.write(near, f"{typed}\t".encode())
@@ -147,8 +150,9 @@ def main() -> int:
         for typed, wanted in BASH:
             got = bash(typed, room)
             held[f"bash: {typed} gives {got}, and should {wanted}"] = sorted(got) == sorted(wanted)
-        held.update(typed_at("bash", ["bash", "--norc", "--noprofile", "-i"], folder))
-        held.update(typed_at("zsh", ["zsh", "-f", "-i"], folder))
+        (folder / "rc").mkdir()
+        held.update(typed_at("bash", ["bash", "--noprofile", "--rcfile", "rc/.zshrc", "-i"], folder))
+        held.update(typed_at("zsh", ["zsh", "-d", "-i"], folder))
     for what in (what for what, holds in held.items() if not holds):
         print(what)
     failed = sum(not holds for holds in held.values())
