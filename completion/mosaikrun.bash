@@ -1,0 +1,45 @@
+# Completion of mosaikrun's words in bash: `. completion/mosaikrun.bash`, or a copy in bash's folder of completions.
+
+# Completes a file's name that fits the pattern, or a folder's.
+_mosaikrun_files() {
+    compopt -o filenames 2>/dev/null
+    mapfile -t COMPREPLY < <({ compgen -d -- "$1"; compgen -f -X "!$2" -- "$1"; } | sort -u)
+}
+
+_mosaikrun() {
+    local current=${COMP_WORDS[COMP_CWORD]} option='' pattern='*' wanted=1 given=0 place
+    COMPREPLY=()
+    if ((COMP_CWORD == 1)); then
+        mapfile -t COMPREPLY < <(compgen -W "run replay check demo migrate" -- "$current")
+        return
+    fi
+    case ${COMP_WORDS[1]} in
+        run) option=--record pattern='*.toml' ;;
+        replay) option=--order ;;
+        check) pattern='*.toml' ;;
+        migrate) wanted=2 ;;
+        *) return ;;
+    esac
+    for ((place = 2; place < COMP_CWORD; place++)); do
+        if [[ -n $option && ${COMP_WORDS[place]} == "$option" ]]; then
+            # its value is the next word; in --record=FILE bash makes a word of the mark between
+            [[ ${COMP_WORDS[place + 1]} == "=" ]] && ((place++))
+            ((place++))
+            if ((place >= COMP_CWORD)); then
+                [[ $current == "=" ]] && current=''
+                [[ $option == --record ]] && _mosaikrun_files "$current" '*'
+                return
+            fi
+            option=''
+        else
+            ((given++))
+        fi
+    done
+    if [[ $current != -* ]] && ((given < wanted)); then
+        _mosaikrun_files "$current" "$pattern"
+    elif [[ -n $option ]]; then
+        mapfile -t COMPREPLY < <(compgen -W "$option" -- "$current")
+    fi
+}
+
+complete -F _mosaikrun mosaikrun
