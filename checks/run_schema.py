@@ -134,14 +134,14 @@ def is_hidden(fault: int, rest: str, scenario: Any) -> bool:
 
 
 def is_wanted(line: str, scenario: Any) -> Optional[bool]:
-    """Says by the line that the program prints whether the schema has to accept a scenario; None where it may do both."""
-    found = re.match(r"mosaikrun: (scenario|launch) (\d+): (.*)", line, re.DOTALL)
-    if found is None:
+    """Says by the line that the program prints whether a scenario has to be accepted; None where either will do."""
+    found = re.match(r"mosaikrun: (scenario|launch|connect) (\d+): (.*)", line, re.DOTALL)
+    word, fault, rest = (found[1], int(found[2]), found[3].rstrip("\n")) if found else ("", 0, "")
+    if word == "" or word == "connect" and fault != 8:
         return True
-    word, fault, rest = found[1], int(found[2]), found[3].rstrip("\n")
-    if word == "launch":
-        # of commands it says nothing, and a kind that isn't known may come behind one
-        return False if fault == 4 else None
+    if word != "scenario":
+        # of commands and cycles it says nothing, and a kind that isn't known may stand behind one
+        return False if (word, fault) == ("launch", 4) else None
     if fault == 8:
         return False
     if fault not in (2, 3, 4, 5):
@@ -256,7 +256,7 @@ def check_key(part: Dict[str, Any], key: str, kind: str, rule: str) -> str:
 
 
 def check_table(schema: Dict[str, Any]) -> List[str]:
-    """Compares the schema's keys with the table of docs/formats.md; returns a line for each key, empty where it fits."""
+    """Compares the keys with the table of docs/formats.md; returns a line for each key, empty where it fits."""
     parts = {**{name: schema["definitions"][name] for name in ("sim", "entities", "connect")}, "top": schema}
     row = re.compile(r"\| (top|`sim`|`entities`|`connect`) \| (`.*?`) \| (.*?) \| (.*) \|")
     results, named = [], set()
