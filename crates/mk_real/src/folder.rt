@@ -1,6 +1,7 @@
 // The system's files, by their paths.
 ghost use Rattle.std.specs.Prelude.{◌≡◌, ◌≢◌, IfOk};
 
+use crate::anew::write_anew;
 use mk_outside::{FileRead, FileSave, Folder};
 use std::fs::{self, Files, OpenFile};
 use std::io::{self, ErrorKind, Read};
@@ -24,7 +25,7 @@ impl<'a, R> RealFolder<'a, R> {
     }
 }
 
-impl<'a, R: Files> Folder for RealFolder<'a, R> {
+impl<'a, R: Files + AllocGlobal> Folder for RealFolder<'a, R> {
     ghost use Rattle.std.specs.Prelude.{None};
 
     ghost faults = { λ f. f.faults };
@@ -49,7 +50,7 @@ impl<'a, R: Files> Folder for RealFolder<'a, R> {
     }
 
     fn save(&mut self, name: &str, bytes: &[u8]) -> FileSave {
-        match fs::write(self.rt, name, bytes) {
+        match write_anew(self.rt, name, bytes) {
             Ok(()) => FileSave::Kept,
             Err(e) if e.kind() == ErrorKind::OutOfMemory => FileSave::Mem,
             Err(_) => {

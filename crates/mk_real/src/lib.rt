@@ -2,6 +2,7 @@
 // says what they hold.
 #![tactic(auto)]
 
+mod anew;
 mod desk;
 mod door;
 mod fleet;

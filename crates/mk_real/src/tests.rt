@@ -9,6 +9,7 @@ use mk_outside::{
 };
 use std::alloc::Global;
 use std::fs;
+use std::os::unix::fs as unix;
 use std::test::Fail;
 use std::time::Duration;
 
@@ -104,5 +105,39 @@ fn keeps_a_file_and_prints(rt: HostRuntime) -> Result<(), Fail> {
     bytes.clear();
     assert_eq!(rt; folder.read(name, &mut bytes), FileRead::Missing);
     assert_eq!(rt; RealSink::new(&rt, true).put(b"some\n"), Wrote::Took(5));
+    Ok(())
+}
+
+#[test]
+fn puts_a_file_in_the_place_of_another(rt: HostRuntime) -> Result<(), Fail> {
+    let mut folder = RealFolder::new(&rt);
+    let mut bytes = Vec::new(rt.alloc());
+    fs::write(&rt, "replaced-by-a-test", "old, and longer\n")?;
+    unix::symlink(&rt, "replaced-by-a-test", "link-of-a-test")?;
+    assert_eq!(rt; folder.save("link-of-a-test", b"new\n"), FileSave::Kept);
+    let is_link = fs::symlink_metadata(&rt, "link-of-a-test")?.is_symlink();
+    let has_part = fs::exists(&rt, "replaced-by-a-test.part")?;
+    let read = folder.read("replaced-by-a-test", &mut bytes);
+    fs::remove_file(&rt, "link-of-a-test")?;
+    fs::remove_file(&rt, "replaced-by-a-test")?;
+    assert!(rt; is_link && !has_part);
+    assert_eq!(rt; read, FileRead::Whole);
+    assert_eq!(rt; bytes.as_slice(), b"new\n".as_slice());
+    Ok(())
+}
+
+#[test]
+fn leaves_the_old_file_where_a_save_fails(rt: HostRuntime) -> Result<(), Fail> {
+    let mut folder = RealFolder::new(&rt);
+    let mut bytes = Vec::new(rt.alloc());
+    // so long that nothing stands beside it
+    let name = "a".repeat(rt.alloc(), 252)?;
+    fs::write(&rt, name.as_str(), "old\n")?;
+    let saved = folder.save(name.as_str(), b"new\n");
+    let read = folder.read(name.as_str(), &mut bytes);
+    fs::remove_file(&rt, name.as_str())?;
+    assert_eq!(rt; saved, FileSave::Failed);
+    assert_eq!(rt; read, FileRead::Whole);
+    assert_eq!(rt; bytes.as_slice(), b"old\n".as_slice());
     Ok(())
 }
