@@ -1,7 +1,7 @@
 -- The headline: whichever simulator answers first, a study comes out the same. What a call of the
 -- program has said on the links of its simulators, and what it has put out, is what sequential
 -- execution of the scenario's plan sends; in which order messages came stands nowhere in it.
-use Rattle.std.specs.Prelude.{◌≡◌, ℕ, ◌⊎◌, List, [], map, option_map, take, Option, Some, None, IsSome, IfSome, Ok}
+use Rattle.std.specs.Prelude.{◌≡◌, ℕ, ◌⊎◌, true, List, [], map, option_map, take, Option, Some, None, IsSome, IfSome, Ok}
 use Rattle.mk_base.specs.declared.LinkNo.{LinkNo}
 use Rattle.mk_plan.specs.declared.Plan.{Plan}
 use Rattle.mk_plan.specs.declared.Item.{Item}

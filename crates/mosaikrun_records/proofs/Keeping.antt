@@ -20,7 +20,7 @@ use Rattle.mk_record.specs.Asked.{Asked}
 use Rattle.mk_record.specs.Writable.{is_writable}
 use Rattle.mk_record.specs.Again.{steps_of}
 use Rattle.mk_record_laws.proofs.Whole.{read_again}
-use Rattle.mk_record_laws.proofs.Whole.{recordable}
+use Rattle.mk_record_laws.proofs.Recorded.{recordable}
 use Rattle.mk_sched.specs.declared.faults.CoreFault.{CoreFault}
 use Rattle.mk_sched.specs.declared.faults.CoreFault.TheVariants as core
 use Rattle.mk_record.specs.Replays.{EndsBy, IsEndOf, IsLeft, end_with}

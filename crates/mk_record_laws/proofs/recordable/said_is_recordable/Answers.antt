@@ -1,5 +1,5 @@
-use Rattle.mk_record_laws.proofs.Whole.{recordable}
-use Rattle.mk_record_laws.proofs.law.said_is_recordable.Goals as goal
+use Rattle.mk_record_laws.proofs.Recorded.{recordable}
+use Rattle.mk_record_laws.proofs.recordable.said_is_recordable.Goals as goal
 
 pub returns : goal.returns
 returns c bytes P A steps J read valid eager given within = recordable bytes P A steps J read valid eager given within

@@ -1,5 +1,5 @@
 use Rattle.mk_record_laws.proofs.Whole.{read_again}
-use Rattle.mk_record_laws.proofs.law.written_is_read.Goals as goal
+use Rattle.mk_record_laws.proofs.written.written_is_read.Goals as goal
 
 pub returns : goal.returns
 returns c P J ok = read_again P J ok
