@@ -10,10 +10,8 @@ use mk_base::{Datum, Json, List, Mem, Members, Text, Tier};
 use mk_json::{datum, read_json};
 use mk_local::{
     EntityStep, EntityTurn, Kind, LocalSim, Registry, Turn, battery_turn, constant_turn,
-    controller_turn, counter_turn, metadata_is_accepted, numbers_are_read, relay_turn,
-    replies_are_right, sum_turn,
+    controller_turn, counter_turn, relay_turn, sum_turn,
 };
-use mk_meta::read_meta;
 use mk_plan::{Call, Input, Item, Message, Want};
 use std::alloc::Global;
 
@@ -75,13 +73,6 @@ fn create(
         params: params(alloc, name, value)?,
     };
     called(alloc, kinds, sim, &call)
-}
-
-// The reply to the end of the setup.
-fn set_up(alloc: Global, kinds: &Registry, sim: &mut LocalSim) -> Result<Message, Mem>
-    ensures { sim.new.kind ≡ sim.old.kind }
-{
-    called(alloc, kinds, sim, &Call::SetupDone)
 }
 
 // The reply to a step with one input of the entity 0.
@@ -164,32 +155,6 @@ fn content_in(message: &Message) -> Option<&Json> {
     }
 }
 
-// Whether a reply is a success without a value.
-fn is_null(message: &Message) -> bool {
-    match content_in(message) {
-        Some(content) => content.is_null(),
-        None => false,
-    }
-}
-
-// Whether the only model of which the reply to `init` tells has this name.
-fn tells_of(alloc: Global, message: &Message, model: &str) -> bool {
-    match content_in(message) {
-        Some(content) => has_model(alloc, content, model),
-        None => false,
-    }
-}
-
-fn has_model(alloc: Global, content: &Json, name: &str) -> bool {
-    match read_meta(alloc, content) {
-        Ok(meta) => match meta.models.as_slice() {
-            [model] => model.name.as_str() == name,
-            _ => false,
-        },
-        Err(_) => false,
-    }
-}
-
 // What a success has: a whole number, or that of the only member of the only member; -1 for anything else.
 fn number_of(message: &Message) -> i128 {
     match content_in(message) {
@@ -224,12 +189,8 @@ fn leaf_in(tree: &Json) -> i128 {
 enum Row {
     // an `init` with one parameter, and its failure; empty where it isn't refused
     Init(&'static str, i128, &'static str),
-    // the only model of which the reply to an `init` tells
-    Says(&'static str, i128, &'static str),
     // a `create` of a model with one parameter, and its failure
     Create(&'static str, &'static str, i128, &'static str),
-    // the end of the setup, after which nothing is told
-    SetUp,
     // the next time that the reply to a step with one input gives
     Step(u8, &'static str, i128),
     // the output of an entity; -1 where it gives none
@@ -245,13 +206,9 @@ fn is_so(alloc: Global, kinds: &Registry, sim: &mut LocalSim, row: Row) -> Resul
         Row::Init(name, value, failure) => {
             Ok(failure_in(&init(alloc, kinds, sim, name, value)?) == failure)
         }
-        Row::Says(name, value, model) => {
-            Ok(tells_of(alloc, &init(alloc, kinds, sim, name, value)?, model))
-        }
         Row::Create(model, name, value, failure) => {
             Ok(failure_in(&create(alloc, kinds, sim, model, name, value)?) == failure)
         }
-        Row::SetUp => Ok(is_null(&set_up(alloc, kinds, sim)?)),
         Row::Step(time, attr, next) => {
             Ok(number_of(&step(alloc, kinds, sim, time, attr)?) == next)
         }
@@ -285,13 +242,10 @@ fn count_so(alloc: Global, kinds: &Registry, name: &str, rows: &[Row]) -> Result
     Ok(rows.len())
 }
 
-// What a counter says of itself, what it refuses, and what its entities give.
-const COUNTER: [Row; 10] = [
+// What a counter refuses, and what its entities give.
+const COUNTER: [Row; 7] = [
     Row::Create("Count", "start", 5, ""),
-    Row::Says("step", 3, "Count"),
-    Row::SetUp,
     Row::Init("speed", 1, "bad parameter speed"),
-    Row::Init("step", 0, "bad parameter step"),
     Row::Init("step", 3, ""),
     Row::Create("Sum", "start", 0, "unknown model"),
     Row::Step(7, "in", 10),
@@ -307,52 +261,28 @@ const SUM: [Row; 4] = [
     Row::Output("1", "out", 5),
 ];
 
-// How many kinds are stored, if one that isn't there is said to be missing.
-fn stored(alloc: Global, kinds: &Registry) -> Result<Option<usize>, Mem> {
-    if kinds.has("none") {
-        return Ok(None);
-    }
-    Ok(Some(kinds.names(alloc)?.len()))
-}
-
 // How many kinds are stored, and how many rows of a counter and of a sum come true.
-fn counts(alloc: Global, kinds: &Registry) -> Result<(Option<usize>, usize, usize), Mem> {
-    let stored = stored(alloc, kinds)?;
+fn counts(alloc: Global, kinds: &Registry) -> Result<(usize, usize, usize), Mem> {
+    let stored = kinds.names(alloc)?.len();
     let counter = count_so(alloc, kinds, "counter", &COUNTER)?;
     let sum = count_so(alloc, kinds, "sum", &SUM)?;
     Ok((stored, counter, sum))
 }
 
-// The same of all kinds, which are made as a program's `main` makes them.
-fn with_all(alloc: Global) -> Result<(Option<usize>, usize, usize), Mem> {
+// The same of two kinds, which are made as a program's `main` makes them.
+fn with_two(alloc: Global) -> Result<(usize, usize, usize), Mem> {
     let mut kinds = Registry::new(alloc);
-    kinds.add(Kind::new(
-        Turn::Constant,
-        Box::new(alloc, |s: EntityStep| constant_turn(s))?,
-    ))?;
     kinds.add(Kind::new(
         Turn::Counter,
         Box::new(alloc, |s: EntityStep| counter_turn(s))?,
     ))?;
     kinds.add(Kind::new(Turn::Sum, Box::new(alloc, |s: EntityStep| sum_turn(s))?))?;
-    kinds.add(Kind::new(Turn::Relay, Box::new(alloc, |s: EntityStep| relay_turn(s))?))?;
-    kinds.add(Kind::new(
-        Turn::Battery,
-        Box::new(alloc, |s: EntityStep| battery_turn(s))?,
-    ))?;
-    kinds.add(Kind::new(
-        Turn::Controller,
-        Box::new(alloc, |s: EntityStep| controller_turn(s))?,
-    ))?;
     counts(alloc, &kinds)
 }
 
 #[test]
-fn six_kinds_are_stored_and_called(rt: HostRuntime) {
-    assert_eq!(rt;
-        with_all(rt.alloc()),
-        Ok((Some(6), COUNTER.len(), SUM.len()))
-    );
+fn kinds_are_stored_and_called(rt: HostRuntime) {
+    assert_eq!(rt; with_two(rt.alloc()), Ok((2, COUNTER.len(), SUM.len())));
 }
 
 // The turn of an entity by its row.
@@ -392,39 +322,19 @@ fn turn_of(state: i64, out: Option<i64>, next: Option<i64>, at: Option<i64>) -> 
 fn an_entity_of_each_kind_takes_its_turn(rt: HostRuntime) {
     let seen = step_of(4, 7, true, 9);
     let unseen = step_of(4, 7, false, 0);
-    let idle = step_of(0, 7, true, 9);
     let low = step_of(4, 7, true, 4);
-    let same = step_of(4, 7, true, 5);
-    let most = step_of(4, i64::MAX, true, 9);
     let rows = [
         (Turn::Constant, seen, turn_of(5, Some(7), Some(14), None)),
         (Turn::Counter, unseen, turn_of(5, Some(17), Some(14), None)),
-        (
-            Turn::Counter,
-            most,
-            turn_of(5, Some(i64::MAX), Some(14), None),
-        ),
         (Turn::Sum, seen, turn_of(5, Some(16), Some(14), None)),
-        (Turn::Sum, unseen, turn_of(5, Some(7), Some(14), None)),
         (Turn::Relay, seen, turn_of(5, Some(16), None, Some(14))),
         (Turn::Relay, unseen, turn_of(5, None, None, Some(14))),
-        (Turn::Relay, idle, turn_of(5, Some(16), None, None)),
         (Turn::Battery, seen, turn_of(6, Some(6), None, None)),
         (Turn::Battery, low, turn_of(4, Some(4), None, None)),
-        (Turn::Battery, same, turn_of(5, Some(5), None, None)),
-        (Turn::Battery, unseen, turn_of(5, Some(5), None, None)),
         (Turn::Controller, low, turn_of(5, Some(7), None, None)),
         (Turn::Controller, seen, turn_of(5, None, None, None)),
-        (Turn::Controller, unseen, turn_of(5, None, None, None)),
     ];
     for (turn, step, want) in rows {
         assert_eq!(rt; turned(turn, step), want);
     }
-}
-
-#[test]
-fn the_laws_may_be_called() {
-    replies_are_right();
-    metadata_is_accepted();
-    numbers_are_read();
 }

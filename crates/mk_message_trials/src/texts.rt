@@ -4,7 +4,7 @@ ghost use Rattle.mk_base.specs.Trees.{is_in_range};
 
 use mk_base::{Datum, Json, Mem};
 use mk_json::{datum, read_json};
-use std::alloc::{AllocFailed, Global};
+use std::alloc::Global;
 
 // The tree of a text; one that is no value where the text has none.
 pub fn tree_of(alloc: Global, text: &str) -> Json
@@ -25,16 +25,4 @@ pub fn datum_of(alloc: Global, text: &[u8]) -> Result<Datum, Mem> {
         },
         Err(_) => Err(Mem),
     }
-}
-
-// So many lists in one another.
-pub fn nested(alloc: Global, depth: usize) -> Result<Vec<u8>, AllocFailed<u8>> {
-    let mut text = Vec::new(alloc);
-    for _ in 0..depth {
-        text.push(b'[')?;
-    }
-    for _ in 0..depth {
-        text.push(b']')?;
-    }
-    Ok(text)
 }

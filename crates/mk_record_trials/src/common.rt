@@ -1,12 +1,13 @@
-// What several tests have in common: a counter's plan as lines, its journal, and what a record says of it.
+// What several tests have in common: a counter's plan as lines, records of its three steps, and its journal.
 ghost use Rattle.std.specs.Prelude.{◌≡◌, ◌+◌, length, true, IfOk, OnOk};
 ghost use Rattle.std.specs.List.{list_all};
 ghost use Rattle.mk_record_write.specs.Writable.{is_writable};
 
-use mk_base::{List, Mem, SimKind, SimNo, Text, Tier};
+use mk_base::{List, SimNo, Tier};
 use mk_message::read;
-use mk_plan::{Entry, Item, Journal, Plan, PlanSim};
-use mk_record_read::{Asked, RecordFault, Saved, read_record};
+use mk_plan::{Entry, Item, Journal};
+use mk_record_read::read_record;
+use mk_record_replay::{Replayed, replay};
 use std::alloc::Global;
 use std::test::Fail;
 
@@ -14,41 +15,43 @@ use std::test::Fail;
 pub const PLAN: &str =
     "run [3,100,2000000]\nsim [\"A-0\",\"time-based\",3,0,[]]\nmodel [0,\"Count\",[\"out\"],false]\nentity [0,\"0\",[]]\n";
 
-/// A plan without simulators.
-pub fn empty_plan(alloc: Global) -> Plan {
-    Plan {
-        until: 3,
-        loops: 100,
-        entries: 2_000_000,
-        sims: List::new(alloc),
-        models: List::new(alloc),
-        entities: List::new(alloc),
-        conns: List::new(alloc),
-        asyncs: List::new(alloc),
-    }
+/// The record of its three steps in version 1, in which the steps aren't told.
+pub const NINE_LINES: &[u8] = b"mosaikrun 1
+run [3,100,2000000]
+sim [\"A-0\",\"time-based\",3,0,[]]
+model [0,\"Count\",[\"out\"],false]
+entity [0,\"0\",[]]
+got [0,[1,3,1]]
+got [0,[1,4,2]]
+got [0,[1,5,3]]
+end 3
+";
+
+/// The same in version 2.
+pub const TWELVE_LINES: &[u8] = b"mosaikrun 2
+run [3,100,2000000]
+sim [\"A-0\",\"time-based\",3,0,[]]
+model [0,\"Count\",[\"out\"],false]
+entity [0,\"0\",[]]
+ask [0,0,0,3]
+got [0,[1,3,1]]
+ask [0,1,0,3]
+got [0,[1,4,2]]
+ask [0,2,0,3]
+got [0,[1,5,3]]
+end 6
+";
+
+/// The replay of a record.
+pub fn replayed(alloc: Global, text: &[u8], order: Option<u32>) -> Result<Replayed, Fail> {
+    let saved = read_record(alloc, text)?;
+    Ok(replay(alloc, saved, order)?)
 }
 
-/// A simulator with these initial events.
-pub fn simulator(
-    alloc: Global,
-    id: &str,
-    kind: SimKind,
-    rank: u32,
-    initial: List<i64>,
-) -> Result<PlanSim, Mem> {
-    Ok(PlanSim {
-        id: Text::of(alloc, id)?,
-        kind,
-        first_id: 3,
-        rank,
-        initial,
-    })
-}
-
-/// A Step without inputs.
-pub fn step(alloc: Global, time: i64, tier: u32) -> Item {
+// A Step without inputs.
+fn step(alloc: Global, time: i64) -> Item {
     Item::Step {
-        at: Tier { time, tier },
+        at: Tier { time, tier: 0 },
         inputs: List::new(alloc),
         max_advance: 3,
     }
@@ -61,7 +64,7 @@ fn push_turn(alloc: Global, entries: &mut List<Entry>, time: i64, reply: &[u8]) 
     ensures length { OnOk result (length entries.new ≡ length entries.old + 2) }
 {
     let message = read(alloc, reply)?;
-    entries.push(Entry::Sent(SimNo(0), step(alloc, time, 0)))?;
+    entries.push(Entry::Sent(SimNo(0), step(alloc, time)))?;
     entries.push(Entry::Got(SimNo(0), message))?;
     Ok(())
 }
@@ -76,38 +79,4 @@ pub fn counter_journal(alloc: Global) -> Result<Journal, Fail>
     push_turn(alloc, &mut entries, 1, b"[1,4,2]")?;
     push_turn(alloc, &mut entries, 2, b"[1,5,3]")?;
     Ok(Journal { entries })
-}
-
-// The counter's step at this time, before which it replied as often.
-fn asked(time: u32) -> Asked {
-    Asked {
-        before: time as u64,
-        sim: SimNo(0),
-        at: Tier {
-            time: time as i64,
-            tier: 0,
-        },
-        max_advance: 3,
-    }
-}
-
-// Whether the steps of a record are the counter's at 0, 1 and 2.
-fn has_three_steps(saved: &Saved) -> bool {
-    match &saved.asks {
-        Some(steps) => steps.as_slice() == [asked(0), asked(1), asked(2)].as_slice(),
-        None => false,
-    }
-}
-
-/// What a record says: the end of its plan, how many simulators, entities and messages it has, and whether its steps are the
-/// counter's at 0, 1 and 2.
-pub fn said(alloc: Global, text: &[u8]) -> Result<(i64, usize, usize, usize, bool), RecordFault> {
-    let saved = read_record(alloc, text)?;
-    Ok((
-        saved.plan.until,
-        saved.plan.sims.len(),
-        saved.plan.entities.len(),
-        saved.arrivals.len(),
-        has_three_steps(&saved),
-    ))
 }

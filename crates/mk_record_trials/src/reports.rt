@@ -1,55 +1,30 @@
-// The report and the summary of a small journal.
+// The report and the summary of a counter's replay.
 
-use crate::common::{empty_plan, simulator, step};
-use mk_base::{List, Mem, SimKind, SimNo};
-use mk_plan::{Entry, Item, Journal, Plan};
+use crate::common::{NINE_LINES, replayed};
+use mk_base::Mem;
+use mk_record_replay::Replayed;
 use mk_record_report::{write_report, write_summary};
 use std::alloc::Global;
 use std::test::Fail;
 
-// One simulator.
-fn plan(alloc: Global) -> Result<Plan, Mem> {
-    let mut plan = empty_plan(alloc);
-    let initial = List::new(alloc);
-    plan.sims
-        .push(simulator(alloc, "A-0", SimKind::TimeBased, 0, initial)?)?;
-    Ok(plan)
-}
-
-// A Step, and a request that is refused.
-fn journal(alloc: Global) -> Result<Journal, Mem> {
-    let mut entries = List::new(alloc);
-    entries.push(Entry::Sent(SimNo(0), step(alloc, 0, 2)))?;
-    entries.push(Entry::Sent(SimNo(0), Item::Refuse { id: 9, reason: 4 }))?;
-    Ok(Journal { entries })
-}
-
-fn report(alloc: Global) -> Result<Vec<u8>, Mem> {
-    let plan = plan(alloc)?;
-    let journal = journal(alloc)?;
-    write_report(alloc, &plan, &journal)
-}
-
-fn summary(alloc: Global) -> Result<Vec<u8>, Mem> {
-    let plan = plan(alloc)?;
-    let journal = journal(alloc)?;
-    write_summary(alloc, &plan, &journal)
+// Whether these are the report and the summary of a replay.
+fn are_written(
+    alloc: Global,
+    replayed: &Replayed,
+    report: &[u8],
+    summary: &[u8],
+) -> Result<bool, Mem> {
+    if write_report(alloc, &replayed.plan, &replayed.journal)?.as_slice() != report {
+        return Ok(false);
+    }
+    Ok(write_summary(alloc, &replayed.plan, &replayed.journal)?.as_slice() == summary)
 }
 
 #[test]
-fn the_report_has_a_step_and_a_refusal(rt: HostRuntime) -> Result<(), Fail> {
-    assert_eq!(rt;
-        report(rt.alloc())?.as_slice(),
-        b"sim A-0\nstep 0:2 {}\nrefuse 9 4\nend 1\n".as_slice()
-    );
-    Ok(())
-}
-
-#[test]
-fn the_summary_has_counts_and_the_last_step(rt: HostRuntime) -> Result<(), Fail> {
-    assert_eq!(rt;
-        summary(rt.alloc())?.as_slice(),
-        b"A-0 1 0\ntotal 1 0\nlast step 0:2 {}\n".as_slice()
-    );
+fn a_report_has_all_steps_and_a_summary_their_count(rt: HostRuntime) -> Result<(), Fail> {
+    let replayed = replayed(rt.alloc(), NINE_LINES, None)?;
+    let report = b"sim A-0\nstep 0:0 {}\nstep 1:0 {}\nstep 2:0 {}\nend 3\n";
+    let summary = b"A-0 3 0\ntotal 3 0\nlast step 2:0 {}\n";
+    assert!(rt; are_written(rt.alloc(), &replayed, report, summary)?);
     Ok(())
 }

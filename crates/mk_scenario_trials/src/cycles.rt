@@ -48,57 +48,42 @@ fn outcome(
     Ok(seen)
 }
 
-#[test]
-fn ranks_and_cycles_of_small_graphs(rt: HostRuntime) -> Result<(), Fail> {
-    let alloc = rt.alloc();
-    assert_eq!(rt;
-        outcome(&rt, alloc, 3, &[])?.as_slice(),
-        [0, 1, 2].as_slice(),
-        "no edges"
-    );
-    assert_eq!(rt;
-        outcome(&rt, alloc, 3, &[(2, 1), (1, 0)])?.as_slice(),
-        [2, 1, 0].as_slice(),
-        "a chain against the numbers"
-    );
-    assert_eq!(rt;
-        outcome(&rt, alloc, 4, &[(3, 1), (3, 0), (1, 2), (0, 2)])?.as_slice(),
-        [1, 2, 3, 0].as_slice(),
-        "a diamond"
-    );
-    assert_eq!(rt;
-        outcome(&rt, alloc, 3, &[(2, 0), (2, 0), (2, 0), (2, 0)])?.as_slice(),
-        [2, 0, 1].as_slice(),
-        "an edge given four times"
-    );
-    assert_eq!(rt;
-        outcome(&rt, alloc, 1, &[(0, 0)])?.as_slice(),
-        [1000, 0].as_slice(),
-        "an edge to itself"
-    );
-    assert_eq!(rt;
-        outcome(&rt, alloc, 2, &[(0, 1), (1, 0)])?.as_slice(),
-        [1000, 0, 1].as_slice(),
-        "two in a cycle"
-    );
-    Ok(())
-}
+// How many simulators there are, their edges, and what comes of them.
+const GRAPHS: [(u32, &[(u32, u32)], &[u32]); 7] = [
+    // no edges
+    (3, &[], &[0, 1, 2]),
+    // a chain against the numbers
+    (3, &[(2, 1), (1, 0)], &[2, 1, 0]),
+    // a diamond
+    (4, &[(3, 1), (3, 0), (1, 2), (0, 2)], &[1, 2, 3, 0]),
+    // an edge given four times
+    (3, &[(2, 0), (2, 0), (2, 0), (2, 0)], &[2, 0, 1]),
+    // an edge to itself
+    (1, &[(0, 0)], &[1000, 0]),
+    // two in a cycle
+    (2, &[(0, 1), (1, 0)], &[1000, 0, 1]),
+    // the cycle behind the least one left is named
+    (
+        7,
+        &[
+            (0, 1),
+            (3, 4),
+            (4, 3),
+            (2, 6),
+            (6, 5),
+            (5, 2),
+            (6, 1),
+            (2, 3),
+        ],
+        &[1000, 2, 6, 5],
+    ),
+];
 
 #[test]
-fn the_cycle_behind_the_least_one_left_is_named(rt: HostRuntime) -> Result<(), Fail> {
-    let edges = [
-        (0, 1),
-        (3, 4),
-        (4, 3),
-        (2, 6),
-        (6, 5),
-        (5, 2),
-        (6, 1),
-        (2, 3),
-    ];
-    assert_eq!(rt;
-        outcome(&rt, rt.alloc(), 7, &edges)?.as_slice(),
-        [1000, 2, 6, 5].as_slice()
-    );
+fn ranks_and_cycles_of_small_graphs(rt: HostRuntime) -> Result<(), Fail> {
+    for (sims, edges, want) in &GRAPHS {
+        let seen = outcome(&rt, rt.alloc(), *sims, edges)?;
+        assert!(rt; seen.as_slice() == *want, "{edges:?}");
+    }
     Ok(())
 }

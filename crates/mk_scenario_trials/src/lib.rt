@@ -1,13 +1,11 @@
-//! Before anything runs: words of the command line, scenario files right and with each fault, the demo, ranks and cycles, and
-//! how simulators are begun. The crate has tests alone.
+//! Before anything runs: words of the command line, a scenario file, the demo, ranks and cycles, and how simulators are begun.
+//! The crate has tests alone. Words that ask for nothing and faults of files are among the cases that the built program runs.
 #![tactic(auto)]
 
 #[cfg(test)]
 mod commands;
 #[cfg(test)]
 mod cycles;
-#[cfg(test)]
-mod demos;
 #[cfg(test)]
 mod documents;
 #[cfg(test)]

@@ -1,23 +1,13 @@
 // Buffers of two simulators: a counter that feeds a sum.
 
 use crate::common::{at, lines, sum_plan};
-use mk_base::{Datum, Mem, SimNo, Text, Tier};
+use mk_base::{Datum, Mem, SimNo, Text};
 use mk_buffers::Buffers;
 use mk_plan::{Plan, SetValue};
 use mk_plan_check::{PlanFault, check_plan};
-use mk_plan_samples::{OUT_TO_IN, Tie};
+use mk_plan_samples::OUT_TO_IN;
 use std::alloc::Global;
 use std::test::Fail;
-
-// The plan of a connection from `out` of the counter to `in` of the sum.
-fn plan(alloc: Global, persistent: bool) -> Result<Plan, Mem> {
-    let tie = Tie {
-        persistent,
-        triggering: !persistent,
-        ..OUT_TO_IN
-    };
-    sum_plan(alloc, &[tie])
-}
 
 // The buffers of a plan, if it is valid.
 fn buffers_of(alloc: Global, plan: &Plan) -> Result<Buffers, PlanFault> {
@@ -48,17 +38,6 @@ fn text(value: Option<&Datum>) -> &str {
     }
 }
 
-// The inputs of a step of the sum, as text.
-fn given(
-    alloc: Global,
-    buffers: &Buffers,
-    previous: Option<Tier>,
-    time: u8,
-) -> Result<String, Mem> {
-    let inputs = buffers.inputs_at(SimNo(1), previous, at(time))?;
-    lines(alloc, inputs.as_slice())
-}
-
 // What a row does to the buffers, or what is asked of them, with the answer that it must get.
 #[derive(Clone, Copy)]
 enum Row {
@@ -71,7 +50,7 @@ enum Row {
     // the sum asks for nothing before a time
     Forget(u8),
     // the inputs of a step of the sum, after an earlier one
-    Step(Option<u8>, u8, &'static str),
+    Step(u8, u8, &'static str),
     // the counter's value that counts at a time
     Value(u8, &'static str),
     // how many values are kept
@@ -92,46 +71,21 @@ fn feed(alloc: Global, buffers: &mut Buffers, time: u8, value: u8) -> Result<(),
     buffers.deliver_to(outlet, at(time), number(alloc, value)?)
 }
 
-fn give(
-    alloc: Global,
-    buffers: &mut Buffers,
-    time: u8,
-    source: &str,
-    value: u8,
-) -> Result<(), Mem> {
-    buffers.give(at(time), set_value(alloc, source, value)?)
-}
-
-fn forget(buffers: &mut Buffers, time: u8) {
-    buffers.forget_before(SimNo(1), at(time));
-}
-
 fn is_given(
     alloc: Global,
     buffers: &Buffers,
-    previous: Option<u8>,
+    previous: u8,
     time: u8,
     want: &str,
 ) -> Result<bool, Mem> {
-    let previous = match previous {
-        Some(time) => Some(at(time)),
-        None => None,
-    };
-    let lines = given(alloc, buffers, previous, time)?;
+    let inputs = buffers.inputs_at(SimNo(1), Some(at(previous)), at(time))?;
+    let lines = lines(alloc, inputs.as_slice())?;
     Ok(lines.as_str() == want)
 }
 
 fn is_value(alloc: Global, buffers: &Buffers, time: u8, want: &str) -> Result<bool, Mem> {
     let out = Text::of(alloc, "out")?;
     Ok(text(buffers.value_at(0, &out, at(time))) == want)
-}
-
-fn kept(buffers: &Buffers) -> usize {
-    buffers.kept()
-}
-
-fn sims(buffers: &Buffers) -> usize {
-    buffers.sims()
 }
 
 // Does what the row says, and tells whether the answer is its own.
@@ -146,18 +100,18 @@ fn is_so(alloc: Global, buffers: &mut Buffers, row: Row) -> Result<bool, Mem> {
             Ok(true)
         }
         Row::Give(time, source, value) => {
-            give(alloc, buffers, time, source, value)?;
+            buffers.give(at(time), set_value(alloc, source, value)?)?;
             Ok(true)
         }
         Row::Forget(time) => {
-            forget(buffers, time);
+            buffers.forget_before(SimNo(1), at(time));
             Ok(true)
         }
         Row::Step(previous, time, want) => is_given(alloc, buffers, previous, time, want),
         Row::Value(time, want) => is_value(alloc, buffers, time, want),
-        Row::Kept(count) => Ok(kept(buffers) == count),
-        Row::AtMost(count) => Ok(kept(buffers) <= count),
-        Row::Sims(count) => Ok(sims(buffers) == count),
+        Row::Kept(count) => Ok(buffers.kept() == count),
+        Row::AtMost(count) => Ok(buffers.kept() <= count),
+        Row::Sims(count) => Ok(buffers.sims() == count),
     }
 }
 
@@ -172,43 +126,29 @@ fn count_so(alloc: Global, plan: &Plan, rows: &[Row]) -> Result<usize, PlanFault
     Ok(rows.len())
 }
 
-#[test]
-fn a_step_gets_the_value_of_its_time(rt: HostRuntime) -> Result<(), Fail> {
-    let plan = plan(rt.alloc(), true)?;
-    let rows = [
-        Row::Deliver(0, 0),
-        Row::Deliver(1, 1),
-        Row::Deliver(2, 2),
-        Row::Deliver(3, 3),
-        Row::Deliver(4, 4),
-        Row::Step(Some(0), 3, "0.in A-0.0=3;"),
-        Row::Value(2, "2"),
-        Row::Kept(5),
-        Row::Forget(3),
-        Row::AtMost(3),
-        Row::Step(Some(0), 3, "0.in A-0.0=3;"),
-        Row::Step(Some(3), 4, "0.in A-0.0=4;"),
-    ];
-    assert_eq!(rt; count_so(rt.alloc(), &plan, &rows)?, rows.len());
-    Ok(())
-}
+const ROWS: [Row; 16] = [
+    Row::Sims(2),
+    Row::Feed(0, 0),
+    Row::Deliver(1, 1),
+    Row::Deliver(2, 2),
+    Row::Deliver(3, 3),
+    Row::Deliver(4, 4),
+    Row::Step(0, 3, "0.in A-0.0=3;"),
+    Row::Value(2, "2"),
+    Row::Kept(5),
+    Row::Forget(3),
+    Row::AtMost(3),
+    Row::Step(0, 3, "0.in A-0.0=3;"),
+    Row::Step(0, 4, "0.in A-0.0=4;"),
+    // a value that is set replaces that of a connection with the same source
+    Row::Give(3, "A-0.0", 9),
+    Row::Give(3, "B-0.0", 1),
+    Row::Step(0, 3, "0.in A-0.0=9;0.in B-0.0=1;"),
+];
 
 #[test]
-fn an_event_is_given_once_and_a_set_value_replaces_it(rt: HostRuntime) -> Result<(), Fail> {
-    let plan = plan(rt.alloc(), false)?;
-    let rows = [
-        Row::Sims(2),
-        Row::Feed(0, 4),
-        Row::Feed(1, 5),
-        Row::Feed(2, 6),
-        Row::Step(None, 0, "0.in A-0.0=4;"),
-        Row::Step(Some(0), 3, "0.in A-0.0=6;"),
-        Row::Step(Some(3), 4, ""),
-        Row::Give(3, "A-0.0", 8),
-        Row::Give(3, "A-0.0", 9),
-        Row::Give(3, "B-0.0", 1),
-        Row::Step(Some(0), 3, "0.in A-0.0=9;0.in B-0.0=1;"),
-    ];
-    assert_eq!(rt; count_so(rt.alloc(), &plan, &rows)?, rows.len());
+fn a_step_gets_the_value_of_its_time(rt: HostRuntime) -> Result<(), Fail> {
+    let plan = sum_plan(rt.alloc(), &[OUT_TO_IN])?;
+    assert_eq!(rt; count_so(rt.alloc(), &plan, &ROWS)?, ROWS.len());
     Ok(())
 }

@@ -3,11 +3,11 @@ ghost use Rattle.std.specs.Prelude.{◌≡◌, ◌≤◌, pos, ◌≤ℤ◌, tru
 ghost use Rattle.mk_base.specs.Trees.{is_in_range};
 ghost use Rattle.mk_plan.specs.Plans.{IsValidPlan};
 
-use mk_base::{Json, List, Mem, SimKind, SimNo, Tier};
+use mk_base::{Json, List, Mem, SimKind, SimNo, Text, Tier};
 use mk_json::{JsonFault, read_json};
-use mk_plan::{AsyncPair, Conn, Input, Plan, PlanEntity, PlanModel, PlanSim};
+use mk_plan::{AsyncPair, Input, Plan, PlanEntity, PlanModel, PlanSim};
 use mk_plan_check::{PlanFault, check_plan};
-use mk_plan_samples::{Tie, connections, entities, models, two_simulators};
+use mk_plan_samples::{OUT_TO_IN, Tie, connections, entities, entity, models, two_simulators};
 use std::alloc::Global;
 
 // A-0 and B-0, both of this kind, whose requests begin with this id.
@@ -25,21 +25,49 @@ fn lenders(alloc: Global) -> Result<List<AsyncPair>, Mem> {
     Ok(asyncs)
 }
 
+// Models of A, which take `in`, and of B, which take anything.
+fn two_models(alloc: Global) -> Result<List<PlanModel>, Mem> {
+    let mut attrs = List::new(alloc);
+    attrs.push(Text::of(alloc, "in")?)?;
+    let mut models = List::new(alloc);
+    models.push(PlanModel {
+        sim: SimNo(0),
+        name: Text::of(alloc, "M")?,
+        attrs,
+        any_inputs: false,
+    })?;
+    models.push(PlanModel {
+        sim: SimNo(1),
+        name: Text::of(alloc, "N")?,
+        attrs: List::new(alloc),
+        any_inputs: true,
+    })?;
+    Ok(models)
+}
+
+// Of A the entities `0` and `1`, of B `0` and `a.b`.
+fn four_entities(alloc: Global) -> Result<List<PlanEntity>, Mem> {
+    let mut entities = List::new(alloc);
+    entities.push(entity(alloc, 0, "0", &[2])?)?;
+    entities.push(entity(alloc, 0, "1", &[2, 3, 0])?)?;
+    entities.push(entity(alloc, 1, "0", &[0, 1])?)?;
+    entities.push(entity(alloc, 1, "a.b", &[])?)?;
+    Ok(entities)
+}
+
+// `out` of A's first goes to `in` of B's first.
+const TIES: [Tie; 1] = [Tie { to: 2, ..OUT_TO_IN }];
+
 /// A lends to B, until 3.
-pub fn lending_plan(
-    alloc: Global,
-    models: List<PlanModel>,
-    entities: List<PlanEntity>,
-    conns: List<Conn>,
-) -> Result<Plan, Mem> {
+pub fn lending_plan(alloc: Global) -> Result<Plan, Mem> {
     Ok(Plan {
         until: 3,
         loops: 100,
         entries: 1000,
         sims: simulators(alloc, SimKind::TimeBased, 3)?,
-        models,
-        entities,
-        conns,
+        models: two_models(alloc)?,
+        entities: four_entities(alloc)?,
+        conns: connections(alloc, &TIES)?,
         asyncs: lenders(alloc)?,
     })
 }

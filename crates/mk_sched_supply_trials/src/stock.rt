@@ -9,7 +9,7 @@ use mk_plan::{Message, Place, Plan};
 use mk_plan_check::PlanFault;
 use mk_plan_judge::wrong;
 use mk_plan_samples::{OUT_TO_IN, Tie};
-use mk_sched_supply::{Outputs, Stock};
+use mk_sched_supply::Stock;
 use std::alloc::Global;
 use std::test::Fail;
 
@@ -37,23 +37,14 @@ fn plan(alloc: Global) -> Result<Plan, PlanFault>
     checked(alloc, sum_plan(alloc, &TIES)?)
 }
 
-// A word for each want and one for each triggering connection.
-fn words_of(alloc: Global, outputs: &Outputs) -> Result<String, Mem> {
-    let mut words = String::new(alloc);
-    for value in &outputs.values {
-        words.push_str(if value.is_some() { "value " } else { "none " })?;
-    }
-    for given in &outputs.given {
-        words.push_str(if *given { "given " } else { "not " })?;
-    }
-    Ok(words)
-}
-
-// What the data of the counter give, in words.
-fn found(alloc: Global, stock: &Stock, text: &str) -> Result<String, Fail> {
+// Whether the data of the counter give its `level`, its `out` and what triggers, in this order.
+fn found(alloc: Global, stock: &Stock, text: &str) -> Result<(bool, bool, bool), Fail> {
     let content = read(alloc, text)?;
     let outputs = stock.outputs(COUNTER, &content)?;
-    Ok(words_of(alloc, &outputs)?)
+    match (outputs.values.as_slice(), outputs.given.as_slice()) {
+        ([level, out], [given]) => Ok((level.is_some(), out.is_some(), *given)),
+        _ => Ok((false, false, false)),
+    }
 }
 
 // Takes what the counter gives at a time, if its data are right; another stock of the plan says what that is.
@@ -95,28 +86,11 @@ fn inputs(alloc: Global, stock: &Stock, previous: u8, time: u8) -> Result<String
     lines(alloc, inputs.as_slice())
 }
 
-fn forget(stock: &mut Stock, time: u8) {
-    stock.forget_before(SUM, at(time));
-}
-
-fn kept(stock: &Stock) -> usize {
-    stock.kept()
-}
-
-fn wants(plan: &Plan, stock: &Stock) -> usize
-    requires sims { 0 < sim_count plan.now }
-    requires stock { IsStockFor plan.now stock.now }
-{
-    stock.wants(COUNTER).len()
-}
-
 // What a row does to the stock, or what is asked of it, with the answer that it must get.
 #[derive(Clone, Copy)]
 enum Row {
-    // how many outputs of the counter are wanted
-    Wants(usize),
     // what the data of the counter give
-    Found(&'static str, &'static str),
+    Found(&'static str, (bool, bool, bool)),
     // the counter's data at a time, and whether they are right
     Take(u8, &'static str, bool),
     // the inputs of a step of the sum after an earlier one
@@ -141,8 +115,7 @@ fn is_so(
     requires other { IsStockFor plan.now other.now }
 {
     match row {
-        Row::Wants(count) => Ok(wants(plan, other) == count),
-        Row::Found(text, want) => Ok(found(alloc, other, text)?.as_str() == want),
+        Row::Found(text, want) => Ok(found(alloc, other, text)? == want),
         Row::Take(time, text, right) => {
             Ok(take(alloc, plan, other, stock, time, text)? == right)
         }
@@ -150,11 +123,11 @@ fn is_so(
             Ok(inputs(alloc, stock, previous, time)?.as_str() == want)
         }
         Row::Forget(time) => {
-            forget(stock, time);
+            stock.forget_before(SUM, at(time));
             Ok(true)
         }
-        Row::Kept(count) => Ok(kept(stock) == count),
-        Row::AtMost(count) => Ok(kept(stock) <= count),
+        Row::Kept(count) => Ok(stock.kept() == count),
+        Row::AtMost(count) => Ok(stock.kept() <= count),
     }
 }
 
@@ -177,10 +150,12 @@ fn count_so(
     Ok(rows.len())
 }
 
-const ROWS: [Row; 15] = [
-    Row::Wants(2),
-    Row::Found(r#"{"0": {"out": 4}}"#, "none value given "),
-    Row::Found(r#"{"0": {"level": 1}, "1": {"out": 2}}"#, "value none not "),
+const ROWS: [Row; 13] = [
+    Row::Found(r#"{"0": {"out": 4}}"#, (false, true, true)),
+    Row::Found(
+        r#"{"0": {"level": 1}, "1": {"out": 2}}"#,
+        (true, false, false),
+    ),
     Row::Take(0, r#"{"0": {"level": 7, "out": 0}}"#, true),
     Row::Take(1, r#"{"0": {"out": 1}}"#, true),
     Row::Take(2, r#"{"0": {"out": 2}}"#, true),
@@ -188,7 +163,6 @@ const ROWS: [Row; 15] = [
     Row::Take(4, r#"{"0": {"out": 0.5}}"#, false),
     Row::Kept(6),
     Row::Step(0, 3, "0.in A-0.0=2;0.p A-0.0=7;"),
-    Row::Step(2, 3, "0.p A-0.0=7;"),
     Row::Forget(3),
     Row::AtMost(5),
     Row::Step(0, 3, "0.in A-0.0=2;0.p A-0.0=7;"),

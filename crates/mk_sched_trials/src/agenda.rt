@@ -1,37 +1,17 @@
-// Runs of small plans, step by step.
+// A run of a small plan, step by step.
 ghost use Rattle.std.specs.Prelude.{◌≡◌, ◌<◌, ◌≤ℤ◌, pos, length, IfOk};
 ghost use Rattle.std.specs.Option.{ForSome};
 ghost use Rattle.mk_plan.specs.Plans.{sim_count};
 ghost use Rattle.mk_sched_agenda.specs.Endings.{CanBeMade};
 
-use mk_base::{Mem, SimKind, SimNo, Tier, Via};
+use crate::common::loop_of_two;
+use mk_base::{Mem, SimNo, Tier, Via};
 use mk_plan::Plan;
 use mk_plan_check::{PlanFault, check_plan};
-use mk_plan_samples::{OUT_TO_IN, Tie, Who, connections, number, plan_of, two_simulators};
+use mk_plan_samples::{Who, number};
 use mk_sched_agenda::Agenda;
 use std::alloc::Global;
 use std::test::Fail;
-
-// A triggering connection.
-fn tie(from: u32, to: u32, via: Via, persistent: bool) -> Tie {
-    Tie {
-        from,
-        to,
-        via,
-        persistent,
-        triggering: true,
-        ..OUT_TO_IN
-    }
-}
-
-// Two simulators A and B of these kinds, with an entity each, to the time 20 and with at most two rounds.
-fn plan(alloc: Global, first: SimKind, second: SimKind, ties: &[Tie]) -> Result<Plan, Mem>
-    ensures { IfOk result (λ plan. length plan.sims ≡ 2) }
-{
-    let sims = two_simulators(alloc, (first, 0), (second, 0))?;
-    let conns = connections(alloc, ties)?;
-    plan_of(alloc, 20, 2, sims, conns)
-}
 
 // The agenda of a plan, if it is valid.
 fn agenda_of(alloc: Global, plan: &Plan) -> Result<Agenda, PlanFault>
@@ -148,57 +128,10 @@ fn count_so(alloc: Global, plan: &Plan, rows: &[Row]) -> Result<usize, PlanFault
     Ok(rows.len())
 }
 
-// A counter that steps every ten times triggers a relay.
-fn counter_and_relay(alloc: Global) -> Result<Plan, Mem>
-    ensures { IfOk result (λ plan. length plan.sims ≡ 2) }
-{
-    plan(
-        alloc,
-        SimKind::TimeBased,
-        SimKind::EventBased,
-        &[tie(0, 1, Via::Plain, true)],
-    )
-}
-
-#[test]
-fn a_relay_steps_where_the_counter_triggers_it(rt: HostRuntime) -> Result<(), Fail> {
-    let alloc = rt.alloc();
-    let plan = counter_and_relay(alloc)?;
-    let rows = [
-        Row::Step(Who::A, (0, 0), 20),
-        Row::Nobody(true, Some((0, 0))),
-        Row::End(Who::A, (0, 0), Some(10), true, None),
-        Row::Step(Who::A, (10, 0), 20),
-        Row::Step(Who::B, (0, 0), 9),
-        Row::End(Who::A, (10, 0), Some(20), true, None),
-        Row::Nobody(true, Some((0, 0))),
-        Row::End(Who::B, (0, 0), None, true, None),
-        Row::Step(Who::B, (10, 0), 20),
-        Row::End(Who::B, (10, 0), Some(12), true, None),
-        Row::Step(Who::B, (12, 0), 20),
-        Row::End(Who::B, (12, 0), None, true, None),
-        Row::Nobody(false, None),
-    ];
-    assert_eq!(rt; count_so(alloc, &plan, &rows)?, 13);
-    Ok(())
-}
-
-// Two simulators that trigger one another, the second over a weak connection.
-fn loop_of_two(alloc: Global) -> Result<Plan, Mem>
-    ensures { IfOk result (λ plan. length plan.sims ≡ 2) }
-{
-    plan(
-        alloc,
-        SimKind::Hybrid,
-        SimKind::EventBased,
-        &[tie(0, 1, Via::Plain, false), tie(1, 0, Via::Weak, false)],
-    )
-}
-
 #[test]
 fn a_loop_goes_on_up_to_the_loop_limit(rt: HostRuntime) -> Result<(), Fail> {
     let alloc = rt.alloc();
-    let plan = loop_of_two(alloc)?;
+    let plan = loop_of_two(alloc, Via::Weak)?;
     let rows = [
         Row::Step(Who::A, (0, 0), 20),
         Row::End(Who::A, (0, 0), Some(5), true, None),

@@ -11,12 +11,12 @@ use mk_sched::{Core, Next, Taken};
 use std::alloc::Global;
 use std::test::Fail;
 
-// The counter A-0 feeds the sum B-0.
+// The counter A-0 feeds the sum B-0, which steps at each third time.
 fn sum_plan(alloc: Global) -> Result<Plan, Mem> {
     let kind = (SimKind::TimeBased, 2);
     let sims = two_simulators(alloc, kind, kind)?;
     let conns = connections(alloc, &[OUT_TO_IN])?;
-    plan_of(alloc, 3, 2, sims, conns)
+    plan_of(alloc, 7, 2, sims, conns)
 }
 
 // A core of that plan, if it is valid.
@@ -26,28 +26,14 @@ fn core_of(alloc: Global) -> Result<Core, PlanFault> {
     Ok(Core::new(alloc, plan)?)
 }
 
-// What a core answers, in a word.
-fn next_word(next: Next) -> &'static str {
-    match next {
-        Next::Ask(_) => "ask ",
-        Next::Wait => "wait ",
-        Next::Done => "done ",
-        Next::Fault(_) => "fault ",
-    }
-}
-
-fn taken_word(taken: Taken) -> &'static str {
-    match taken {
-        Taken::Quiet => "quiet ",
-        Taken::Send => "send ",
-        Taken::Fault(_) => "fault ",
-    }
-}
-
 // What is next.
 fn next(core: &mut Core) -> Result<&'static str, Mem> {
-    let next = core.next()?;
-    Ok(next_word(next))
+    match core.next()? {
+        Next::Ask(_) => Ok("ask"),
+        Next::Wait => Ok("wait"),
+        Next::Done => Ok("done"),
+        Next::Fault(_) => Ok("fault"),
+    }
 }
 
 // What follows a message.
@@ -55,10 +41,13 @@ fn take(core: &mut Core, sim: u32, message: &Message) -> Result<&'static str, Me
     requires { is_message_in_range message.now ≡ true }
 {
     if sim as usize >= core.plan().sims.len() {
-        return Ok("nobody ");
+        return Ok("nobody");
     }
-    let taken = core.arrive(SimNo(sim), message)?;
-    Ok(taken_word(taken))
+    match core.arrive(SimNo(sim), message)? {
+        Taken::Quiet => Ok("quiet"),
+        Taken::Send => Ok("send"),
+        Taken::Fault(_) => Ok("fault"),
+    }
 }
 
 // The id of what is open at a simulator, or 0.
@@ -93,66 +82,69 @@ fn act(alloc: Global, core: &mut Core, sim: u32, text: &str) -> Result<&'static 
     }
 }
 
-const LINES: [(u32, &str); 16] = [
-    (0, "next"),
-    (0, "next"),
-    (0, "1"),
-    (0, "{\"0\": {\"out\": 5}}"),
-    (0, "next"),
-    (0, "next"),
-    (1, "2"),
-    (0, "next"),
-    (0, "2"),
-    (0, "{\"0\": {\"out\": 6}}"),
-    (0, "next"),
-    (0, "3"),
-    (0, "{}"),
-    (0, "next"),
-    (1, "4"),
-    (0, "next"),
+// Who says what, or `next`; what the core answers, and how many of the counter's outputs it keeps then. The counter makes all of
+// them before the sum replies for the first time; where nobody is ready, those before the sum's step are given up.
+const LINES: [(u32, &str, &str, usize); 32] = [
+    (0, "next", "ask", 0),
+    (0, "next", "wait", 0),
+    (0, "1", "send", 0),
+    (0, "{\"0\": {\"out\": 0}}", "quiet", 1),
+    (0, "next", "ask", 1),
+    (0, "next", "ask", 1),
+    (0, "2", "send", 1),
+    (0, "{\"0\": {\"out\": 1}}", "quiet", 2),
+    (0, "next", "ask", 2),
+    (0, "3", "send", 2),
+    (0, "{\"0\": {\"out\": 2}}", "quiet", 3),
+    (0, "next", "ask", 3),
+    (0, "4", "send", 3),
+    (0, "{\"0\": {\"out\": 3}}", "quiet", 4),
+    (0, "next", "ask", 4),
+    (0, "5", "send", 4),
+    (0, "{\"0\": {\"out\": 4}}", "quiet", 5),
+    (0, "next", "ask", 5),
+    (0, "6", "send", 5),
+    (0, "{\"0\": {\"out\": 5}}", "quiet", 6),
+    (0, "next", "ask", 6),
+    (0, "7", "send", 6),
+    (0, "{\"0\": {\"out\": 6}}", "quiet", 7),
+    (0, "next", "wait", 7),
+    (1, "3", "quiet", 7),
+    (0, "next", "ask", 7),
+    (0, "next", "wait", 4),
+    (1, "6", "quiet", 4),
+    (0, "next", "ask", 4),
+    (0, "next", "wait", 1),
+    (1, "9", "quiet", 1),
+    (0, "next", "done", 1),
 ];
 
-// A word more where a core holds more than two outputs.
-fn excess(core: &Core) -> &'static str {
-    if core.kept() > 2 { "many " } else { "" }
-}
-
-// What a core answers to all lines.
-fn play(alloc: Global, core: &mut Core) -> Result<String, Fail> {
-    let mut words = String::new(alloc);
-    for line in &LINES {
-        words.push_str(act(alloc, core, line.0, line.1)?)?;
-        words.push_str(excess(core))?;
+// The first line to which a core answers otherwise, or after which it keeps another number of outputs.
+fn first_other(alloc: Global, core: &mut Core) -> Result<Option<usize>, Fail> {
+    for (place, (sim, text, answer, kept)) in LINES.iter().enumerate() {
+        if act(alloc, core, *sim, text)? != *answer || core.kept() != *kept {
+            return Ok(Some(place));
+        }
     }
-    Ok(words)
+    Ok(None)
 }
 
-// How many outputs a core keeps.
-fn kept(core: &Core) -> usize {
-    core.kept()
-}
-
-// How many entries its journal has.
-fn entry_count(core: Core) -> usize {
+// How many entries its journal has, and how many where it is taken apart.
+fn entry_counts(core: Core) -> (usize, usize) {
+    let count = core.journal().entries.len();
     let (_, journal) = core.into_parts();
-    journal.entries.len()
+    (count, journal.entries.len())
 }
 
-// What a core answers to all lines, how many outputs it keeps then, and how many entries its journal has.
-fn played(alloc: Global) -> Result<(String, usize, usize), Fail> {
+// The first line that goes otherwise, and how many entries the journal has then.
+fn played(alloc: Global) -> Result<(Option<usize>, (usize, usize)), Fail> {
     let mut core = core_of(alloc)?;
-    let words = play(alloc, &mut core)?;
-    Ok((words, kept(&core), entry_count(core)))
+    let other = first_other(alloc, &mut core)?;
+    Ok((other, entry_counts(core)))
 }
 
 #[test]
 fn a_sum_gets_what_a_counter_gives(rt: HostRuntime) -> Result<(), Fail> {
-    let (words, kept, entries) = played(rt.alloc())?;
-    assert_eq!(rt;
-        words.as_str(),
-        "ask wait send quiet ask ask quiet wait send quiet ask send quiet ask quiet done "
-    );
-    assert_eq!(rt; kept, 1);
-    assert_eq!(rt; entries, 16);
+    assert_eq!(rt; played(rt.alloc())?, (None, (34, 34)));
     Ok(())
 }

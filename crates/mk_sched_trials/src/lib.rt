@@ -7,6 +7,8 @@ mod agenda;
 #[cfg(test)]
 mod bounds;
 #[cfg(test)]
+mod common;
+#[cfg(test)]
 mod cores;
 #[cfg(test)]
 mod judging;

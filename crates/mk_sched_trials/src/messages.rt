@@ -16,23 +16,18 @@ fn request(alloc: Global) -> Result<Message, Mem> {
     })
 }
 
-// Whether a message is a request with that id, that name and one argument.
-fn is_request(message: &Message) -> bool {
-    match message {
+// Whether the copy of a request has its id, its name and its argument.
+fn is_copied(alloc: Global) -> Result<bool, Mem> {
+    let request = request(alloc)?;
+    match request.copy(alloc)? {
         Message::Ask {
             id,
             name,
             args,
             named: _named,
-        } => *id == 9 && name.as_str() == "get_data" && args.len() == 1,
-        _ => false,
+        } => Ok(id == 9 && name.as_str() == "get_data" && args.len() == 1),
+        _ => Ok(false),
     }
-}
-
-fn is_copied(alloc: Global) -> Result<bool, Mem> {
-    let request = request(alloc)?;
-    let copied = request.copy(alloc)?;
-    Ok(is_request(&copied))
 }
 
 #[test]

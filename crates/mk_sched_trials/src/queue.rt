@@ -11,15 +11,12 @@ fn at(time: i64) -> Tier {
 #[test]
 fn the_least_step_is_taken_first_and_two_reasons_are_one_step(rt: HostRuntime) -> Result<(), Fail> {
     let mut queue = Queue::new(rt.alloc());
-    assert_eq!(rt; queue.least(), None);
-    assert_eq!(rt; queue.take(), None);
     queue.add_self(at(3))?;
     queue.add_trigger(at(5))?;
     queue.add_trigger(at(3))?;
-    assert_eq!(rt; queue.least(), Some(at(3)));
-    assert_eq!(rt; queue.least_trigger_after(at(3)), Some(at(5)));
-    assert_eq!(rt; queue.take(), Some(at(3)));
-    assert_eq!(rt; queue.take(), Some(at(5)));
-    assert_eq!(rt; queue.take(), None);
+    assert!(rt; queue.least() == Some(at(3)) && queue.least_trigger_after(at(3)) == Some(at(5)));
+    for step in [Some(at(3)), Some(at(5)), None] {
+        assert_eq!(rt; queue.take(), step);
+    }
     Ok(())
 }

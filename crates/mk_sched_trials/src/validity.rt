@@ -45,9 +45,22 @@ const ALSO: Tie = Tie {
     ..OUT_TO_IN
 };
 
+// Time shifts of the greatest width and of one more.
+const FAR: Tie = Tie {
+    via: Via::Shift(1_000_000),
+    ..ALSO
+};
+
+const FARTHER: Tie = Tie {
+    via: Via::Shift(1_000_001),
+    ..ALSO
+};
+
 // Up to when a plan goes, the rank of its second simulator, its connections, and what is told of it.
-const PLANS: [(i64, u32, &[Tie], u8); 6] = [
+const PLANS: [(i64, u32, &[Tie], u8); 8] = [
     (7, 1, &[OUT_TO_IN], 0),
+    (7, 1, &[FAR], 0),
+    (7, 1, &[FARTHER], 1),
     (0, 1, &[OUT_TO_IN], 1),
     (7, 1, &[OUT_TO_IN, MORE], 5),
     (7, 1, &[OUT_TO_IN, MORE, ALSO], 4),
@@ -63,42 +76,10 @@ fn each_part_is_told_by_its_number(rt: HostRuntime) -> Result<(), Fail> {
     Ok(())
 }
 
-// A time shift of this width, with an initial value.
-fn shifted(width: u32) -> Tie {
-    Tie {
-        via: Via::Shift(width),
-        initial: true,
-        ..OUT_TO_IN
-    }
-}
+// Lists and objects within one another, around a text that holds brackets, an escaped quote and a backslash.
+const NESTED: &[u8] = b"{\"a\":[[],{\"b\":[1,\"[{[\\\"[\\\\\"]}],\"c\":7}";
 
 #[test]
-fn a_time_shift_has_a_width_within_its_limits(rt: HostRuntime) -> Result<(), Fail> {
-    let rows = [(0, 1), (1, 0), (2, 0), (1_000_000, 0), (1_000_001, 1)];
-    for (width, part) in rows {
-        assert_eq!(rt; told_of(rt.alloc(), 7, 1, &[shifted(width)])?, part);
-    }
-    Ok(())
-}
-
-// As many lists within one another around a text that holds brackets, an escaped quote and a backslash.
-fn nested(alloc: Global, depth: usize) -> Result<Vec<u8>, Mem> {
-    let mut text = Vec::new(alloc);
-    for _ in 0..depth {
-        text.push(b'[')?;
-    }
-    text.extend_from_slice(b"\"[{[\\\"[\\\\\"")?;
-    for _ in 0..depth {
-        text.push(b']')?;
-    }
-    Ok(text)
-}
-
-#[test]
-fn brackets_within_texts_do_not_count(rt: HostRuntime) -> Result<(), Fail> {
-    let alloc = rt.alloc();
-    assert_eq!(rt; text_nesting(&nested(alloc, 100)?), 100);
-    assert_eq!(rt; text_nesting(&nested(alloc, 101)?), 101);
-    assert_eq!(rt; text_nesting(b"{\"a\":[[],{\"b\":[1,2]}],\"c\":7}"), 4);
-    Ok(())
+fn brackets_within_texts_do_not_count(rt: HostRuntime) {
+    assert_eq!(rt; text_nesting(NESTED), 4);
 }

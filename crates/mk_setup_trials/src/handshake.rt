@@ -4,7 +4,6 @@ ghost use Rattle.mk_message.specs.Written.{is_call_in_range};
 ghost use Rattle.mk_scenario.specs.Wellformed.{IsWellformed};
 ghost use Rattle.mk_setup.specs.Ranked.{AreRanksOf};
 
-use crate::faults::put_fault;
 use mk_base::{List, Mem, SimNo};
 use mk_connect::edges;
 use mk_cycles::ranks;
@@ -135,6 +134,17 @@ fn put_end(out: &mut Vec<u8>, fault: SetupFault) -> Result<(), Mem> {
     put_fault(out, &fault)
 }
 
+fn put_fault(out: &mut Vec<u8>, fault: &SetupFault) -> Result<(), Mem> {
+    match fault {
+        SetupFault::Unasked(sim) => {
+            put(out, "unasked ")?;
+            put_sim(out, *sim)?;
+            put(out, "\n")
+        }
+        _ => put(out, "another fault\n"),
+    }
+}
+
 // What becomes of a message, if that is a fault.
 fn put_arrival(
     alloc: Global,
@@ -160,14 +170,14 @@ fn take_in(out: &mut Vec<u8>, setup: &mut Setup, sim: SimNo, message: &Message) 
     }
 }
 
-/// A text, as it is.
-pub fn put(out: &mut Vec<u8>, text: &str) -> Result<(), Mem> {
+// A text, as it is.
+fn put(out: &mut Vec<u8>, text: &str) -> Result<(), Mem> {
     out.extend_from_slice(text.as_bytes())?;
     Ok(())
 }
 
-/// The number of a simulator, of which there are fewer than ten.
-pub fn put_sim(out: &mut Vec<u8>, sim: SimNo) -> Result<(), Mem> {
+// The number of a simulator, of which there are fewer than ten.
+fn put_sim(out: &mut Vec<u8>, sim: SimNo) -> Result<(), Mem> {
     out.push(b'0' + sim.0.min(9) as u8)?;
     Ok(())
 }

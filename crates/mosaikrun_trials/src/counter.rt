@@ -1,7 +1,7 @@
 // A counter over a link, stepped three times: what is said to it byte for byte, however its replies are cut.
 
-use crate::runs::{Outcome, said_on, told_alone, willing};
-use crate::scripts::{Exchange, pieces_of, push_frame, replies_of, requests_of};
+use crate::runs::{Outcome, said_on, told_alone};
+use crate::scripts::{Exchange, push_frame, replies_of, requests_of};
 use mk_base::{LinkNo, List, Mem};
 use mk_fakes::MemFleet;
 use std::alloc::Global;
@@ -20,17 +20,17 @@ model = "Count"
 params = { start = 0 }
 "#;
 
-pub const INIT: Exchange = (
+const INIT: Exchange = (
     r#"[0,0,["init",["A-0"],{"step":1,"time_resolution":1}]]"#,
     r#"[1,0,{"api_version": "3.0.13", "models": {"Count": {"public": true, "params": ["start"], "attrs": ["out"]}}}]"#,
 );
 
-pub const CREATE: Exchange = (
+const CREATE: Exchange = (
     r#"[0,1,["create",[1,"Count"],{"start":0}]]"#,
     r#"[1,1,[{"eid": "0", "type": "Count"}]]"#,
 );
 
-pub const SETUP_DONE: Exchange = (r#"[0,2,["setup_done",[],{}]]"#, "[1,2,null]");
+const SETUP_DONE: Exchange = (r#"[0,2,["setup_done",[],{}]]"#, "[1,2,null]");
 
 /// What is said on its link but for the stop.
 pub const TALK: [Exchange; 6] = [
@@ -44,8 +44,8 @@ pub const TALK: [Exchange; 6] = [
 
 pub const STOP: &str = r#"[0,6,["stop",[],{}]]"#;
 
-/// The text and the record of its run.
-pub const TEXT: &str = "0 sim A-0\nstep 0:0 {}\nstep 1:0 {}\nstep 2:0 {}\nend 3\n";
+// The text and the record of its run.
+const TEXT: &str = "0 sim A-0\nstep 0:0 {}\nstep 1:0 {}\nstep 2:0 {}\nend 3\n";
 
 pub const RECORD: &str = r#"mosaikrun 2
 run [3,100,2000000]
@@ -84,56 +84,56 @@ fn is_said(alloc: Global, fleet: &MemFleet, said: &[u8]) -> Result<bool, Mem> {
     Ok(heard.as_slice() == said)
 }
 
-fn is_done_whole<R: Wait>(rt: &R, alloc: Global) -> Result<bool, Mem> {
-    let said = whole_requests(alloc)?;
-    is_done_saying(rt, alloc, said.as_slice())
-}
-
-// Whether a run over a fleet that takes each write whole is done, and these bytes are said.
-fn is_done_saying<R: Wait>(rt: &R, alloc: Global, said: &[u8]) -> Result<bool, Mem> {
-    let chunks = replies_of(alloc, &TALK)?;
-    let mut fleet = willing(alloc, chunks)?;
-    is_done(rt, alloc, &mut fleet, said)
-}
-
-// All that is said on its link.
-fn whole_requests(alloc: Global) -> Result<Vec<u8>, Mem> {
+/// What is said on its link, with the stop or without it.
+pub fn requests(alloc: Global, stopped: bool) -> Result<Vec<u8>, Mem> {
     let mut said = requests_of(alloc, &TALK)?;
-    push_frame(&mut said, STOP.as_bytes())?;
+    if stopped {
+        push_frame(&mut said, STOP.as_bytes())?;
+    }
     Ok(said)
+}
+
+// Of how many bytes the pieces are in which replies come, how many bytes are taken at a time, at each which write none are, and
+// whether the stop is said. Where none are taken at each second write, the last write of the last request takes the place of an
+// odd number, so the first one of the stop takes nothing.
+type Way = (usize, usize, u64, bool);
+
+const WAYS: [Way; 4] = [
+    (1000, 1_000_000, 0, true),
+    (1, 5, 2, false),
+    (3, 5, 2, false),
+    (1000, 5, 2, false),
+];
+
+fn fleet(alloc: Global, way: Way) -> Result<MemFleet, Mem> {
+    let chunks = replies_of(alloc, &TALK, way.0)?;
+    MemFleet::new(
+        alloc,
+        chunks,
+        List::new(alloc),
+        way.1.max(1),
+        way.2,
+        100_000,
+    )
+}
+
+fn is_done_in_way<R: Wait>(rt: &R, alloc: Global, way: Way) -> Result<bool, Mem> {
+    let said = requests(alloc, way.3)?;
+    let mut fleet = fleet(alloc, way)?;
+    is_done(rt, alloc, &mut fleet, said.as_slice())
+}
+
+// In how many ways it is done, up to the first in which it isn't.
+fn count_done<R: Wait>(rt: &R, alloc: Global) -> Result<usize, Mem> {
+    for (place, way) in WAYS.iter().enumerate() {
+        if !is_done_in_way(rt, alloc, *way)? {
+            return Ok(place);
+        }
+    }
+    Ok(WAYS.len())
 }
 
 #[test]
 fn a_simulator_is_asked_byte_for_byte_and_its_run_recorded(rt: HostRuntime) {
-    assert_eq!(rt; is_done_whole(&rt, rt.alloc()), Ok(true));
-}
-
-// The fleet takes at most five bytes at a time, and none at each second write. The last write of the last request takes the
-// place of an odd number, so the first one of the stop takes nothing.
-fn is_done_in_pieces<R: Wait>(rt: &R, alloc: Global, piece: usize) -> Result<bool, Mem> {
-    let mut fleet = slow(alloc, piece)?;
-    is_done_but_for_stop(rt, alloc, &mut fleet)
-}
-
-fn is_done_but_for_stop<R: Wait>(rt: &R, alloc: Global, fleet: &mut MemFleet) -> Result<bool, Mem> {
-    let said = requests_of(alloc, &TALK)?;
-    is_done(rt, alloc, fleet, said.as_slice())
-}
-
-fn slow(alloc: Global, piece: usize) -> Result<MemFleet, Mem> {
-    let chunks = pieces_of(alloc, &TALK, piece)?;
-    MemFleet::new(alloc, chunks, List::new(alloc), 5, 2, 100_000)
-}
-
-fn are_done_in_pieces<R: Wait>(rt: &R, alloc: Global) -> Result<bool, Mem> {
-    Ok(
-        is_done_in_pieces(rt, alloc, 1)?
-            && is_done_in_pieces(rt, alloc, 3)?
-            && is_done_in_pieces(rt, alloc, 1000)?,
-    )
-}
-
-#[test]
-fn replies_may_come_and_requests_go_in_pieces(rt: HostRuntime) {
-    assert_eq!(rt; are_done_in_pieces(&rt, rt.alloc()), Ok(true));
+    assert_eq!(rt; count_done(&rt, rt.alloc()), Ok(4));
 }

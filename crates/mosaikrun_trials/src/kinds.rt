@@ -1,7 +1,7 @@
 // What is tried with kinds of simulators within the program, which are made as a program's `main` makes them.
 
 use crate::chain::is_long_chain_run;
-use crate::orders::are_orders_equal;
+use crate::orders::is_study_one;
 use crate::served::is_counter_served;
 use mk_base::Mem;
 use mk_local::{
@@ -11,39 +11,19 @@ use mk_local::{
 use std::alloc::Global;
 use std::sync::Wait;
 
-// Whether a counter that is stepped three times and stopped replies as it must.
-fn is_served<R: Wait>(rt: &R, alloc: Global) -> Result<bool, Mem> {
-    let mut kinds = Registry::new(alloc);
-    kinds.add(Kind::new(
-        Turn::Counter,
-        Box::new(alloc, |s: EntityStep| counter_turn(s))?,
-    ))?;
-    is_counter_served(rt, alloc, &kinds)
+// Whether a counter that is stepped three times and stopped replies as it must; whether a long chain is run to its end; and
+// whether a study has one text over links, in each order of replies, and within the program.
+type Right = (bool, bool, bool);
+
+fn are_right<R: Wait>(rt: &R, alloc: Global, kinds: &Registry) -> Result<Right, Mem> {
+    Ok((
+        is_counter_served(rt, alloc, kinds)?,
+        is_long_chain_run(alloc, kinds)?,
+        is_study_one(rt, alloc, kinds)?,
+    ))
 }
 
-#[test]
-fn a_counter_answers_what_the_program_says(rt: HostRuntime) {
-    assert_eq!(rt; is_served(&rt, rt.alloc()), Ok(true));
-}
-
-// Whether a long chain is run to its end.
-fn is_chain_run(alloc: Global) -> Result<bool, Mem> {
-    let mut kinds = Registry::new(alloc);
-    kinds.add(Kind::new(
-        Turn::Counter,
-        Box::new(alloc, |s: EntityStep| counter_turn(s))?,
-    ))?;
-    kinds.add(Kind::new(Turn::Relay, Box::new(alloc, |s: EntityStep| relay_turn(s))?))?;
-    is_long_chain_run(alloc, &kinds)
-}
-
-#[test]
-fn a_long_chain_is_run_to_its_end(rt: HostRuntime) {
-    assert_eq!(rt; is_chain_run(rt.alloc()), Ok(true));
-}
-
-// Whether a study has one text over links, in each order of replies, and within the program.
-fn is_study_one<R: Wait>(rt: &R, alloc: Global) -> Result<bool, Mem> {
+fn are_right_with_kinds<R: Wait>(rt: &R, alloc: Global) -> Result<Right, Mem> {
     let mut kinds = Registry::new(alloc);
     kinds.add(Kind::new(
         Turn::Counter,
@@ -62,10 +42,14 @@ fn is_study_one<R: Wait>(rt: &R, alloc: Global) -> Result<bool, Mem> {
         Turn::Controller,
         Box::new(alloc, |s: EntityStep| controller_turn(s))?,
     ))?;
-    are_orders_equal(rt, alloc, &kinds)
+    kinds.add(Kind::new(Turn::Relay, Box::new(alloc, |s: EntityStep| relay_turn(s))?))?;
+    are_right(rt, alloc, &kinds)
 }
 
 #[test]
-fn a_study_over_links_is_the_study_within_the_program(rt: HostRuntime) {
-    assert_eq!(rt; is_study_one(&rt, rt.alloc()), Ok(true));
+fn a_counter_a_long_chain_and_a_study_are_run_as_they_must(rt: HostRuntime) {
+    assert_eq!(rt;
+        are_right_with_kinds(&rt, rt.alloc()),
+        Ok((true, true, true))
+    );
 }

@@ -82,29 +82,6 @@ pub fn willing(alloc: Global, chunks: List<Chunk>) -> Result<MemFleet, Mem> {
     MemFleet::new(alloc, chunks, List::new(alloc), 1_000_000, 0, 4_000_000)
 }
 
-/// Whether the run of a scenario on whose links this comes, without kinds, has this text.
-pub fn is_told<R: Wait>(
-    rt: &R,
-    alloc: Global,
-    scenario: &str,
-    chunks: List<Chunk>,
-    wanted: &str,
-) -> Result<bool, Mem> {
-    let mut fleet = willing(alloc, chunks)?;
-    is_told_over(rt, alloc, scenario, &mut fleet, wanted)
-}
-
-fn is_told_over<R: Wait>(
-    rt: &R,
-    alloc: Global,
-    scenario: &str,
-    fleet: &mut MemFleet,
-    wanted: &str,
-) -> Result<bool, Mem> {
-    let outcome = told_alone(rt, alloc, scenario, fleet)?;
-    Ok(outcome.text.as_slice() == wanted.as_bytes())
-}
-
 /// What was said on the link.
 pub fn said_on(alloc: Global, fleet: &MemFleet, link: LinkNo) -> Result<Vec<u8>, Mem> {
     let log = fleet.log()?;

@@ -49,16 +49,20 @@ pub fn push_chunk(
     })
 }
 
-/// Appends the frame of a payload to what comes.
-pub fn push_reply(
+// Appends the frame of a payload to what comes, in pieces of so many bytes, at least one.
+fn push_reply(
     alloc: Global,
     chunks: &mut List<Chunk>,
     when: When,
     payload: &str,
+    piece: usize,
 ) -> Result<(), Mem> {
     let mut bytes = Vec::new(alloc);
     push_frame(&mut bytes, payload.as_bytes())?;
-    push_chunk(alloc, chunks, when, bytes.as_slice())
+    for part in bytes.as_slice().chunks(piece.max(1)) {
+        push_chunk(alloc, chunks, when, part)?;
+    }
+    Ok(())
 }
 
 /// The frames of payloads, one behind the other.
@@ -79,8 +83,8 @@ pub fn requests_of(alloc: Global, talk: &[Exchange]) -> Result<Vec<u8>, Mem> {
     Ok(said)
 }
 
-/// How many bytes the frames of the requests have.
-pub fn length_of(talk: &[Exchange]) -> u64 {
+// How many bytes the frames of the requests have.
+fn length_of(talk: &[Exchange]) -> u64 {
     let mut length = 0u64;
     for exchange in talk {
         length = length.saturating_add(exchange.0.len() as u64 + 4);
@@ -88,37 +92,12 @@ pub fn length_of(talk: &[Exchange]) -> u64 {
     length
 }
 
-/// The replies on link 0, each once its request was said.
-pub fn replies_of(alloc: Global, talk: &[Exchange]) -> Result<List<Chunk>, Mem> {
+/// The replies on link 0, each once its request was said, in pieces of so many bytes.
+pub fn replies_of(alloc: Global, talk: &[Exchange], piece: usize) -> Result<List<Chunk>, Mem> {
     let mut chunks = List::new(alloc);
     for i in 0..talk.len() {
-        push_reply(alloc, &mut chunks, once(length_of(&talk[..=i])), talk[i].1)?;
+        let when = once(length_of(&talk[..=i]));
+        push_reply(alloc, &mut chunks, when, talk[i].1, piece)?;
     }
     Ok(chunks)
-}
-
-/// The same in pieces of so many bytes, at least one.
-pub fn pieces_of(alloc: Global, talk: &[Exchange], piece: usize) -> Result<List<Chunk>, Mem> {
-    let chunks = replies_of(alloc, talk)?;
-    pieces_in(alloc, chunks.as_slice(), piece)
-}
-
-fn pieces_in(alloc: Global, chunks: &[Chunk], piece: usize) -> Result<List<Chunk>, Mem> {
-    let mut pieces = List::new(alloc);
-    for chunk in chunks {
-        push_pieces(alloc, &mut pieces, chunk, piece)?;
-    }
-    Ok(pieces)
-}
-
-fn push_pieces(
-    alloc: Global,
-    pieces: &mut List<Chunk>,
-    chunk: &Chunk,
-    piece: usize,
-) -> Result<(), Mem> {
-    for part in chunk.bytes.as_slice().chunks(piece.max(1)) {
-        push_chunk(alloc, pieces, once(chunk.after), part)?;
-    }
-    Ok(())
 }
