@@ -61,7 +61,7 @@ def named(process: int) -> tuple[str, str]:
     crate = words[words.index("--crate-name") + 1]
     if "--test" in words:
         return crate, "tests"
-    return crate, "proof" if "build" in words[:3] else "edits"
+    return crate, "edits" if "--incremental" in words else "proof"
 
 
 def watched(root: int, ended) -> dict[int, tuple[tuple[str, str], float]]:
