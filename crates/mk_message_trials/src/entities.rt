@@ -3,7 +3,7 @@ use crate::texts::tree_of;
 use mk_base::{SimNo, Text};
 use mk_entities::{CreateFault, Entities};
 use mk_meta::{Meta, read_meta};
-use std::alloc::Global;
+use std::alloc::{AllocError, Global};
 use std::test::Fail;
 
 const MODELS: &str =
@@ -49,5 +49,28 @@ fn entities_are_numbered_depth_first(rt: HostRuntime) -> Result<(), Fail> {
     let all = entities.as_slice();
     assert_eq!(rt; all.len(), 5);
     assert_eq!(rt; all[4].eid.as_str(), "d");
+    Ok(())
+}
+
+// A reply of so many entities of model M.
+fn many(alloc: Global, count: u32) -> Result<String, AllocError> {
+    let mut text = String::from_str(alloc, "[")?;
+    for i in 0..count {
+        let comma = if i == 0 { "" } else { "," };
+        let entity = format!(in alloc; "{comma}{{\"eid\":\"{i}\",\"type\":\"M\"}}")?;
+        text.push_str(entity.as_str())?;
+    }
+    text.push_str("]")?;
+    Ok(text)
+}
+
+#[test]
+fn there_are_at_most_ten_thousand(rt: HostRuntime) -> Result<(), Fail> {
+    let meta = read_meta(rt.alloc(), &tree_of(rt.alloc(), MODELS))?;
+    let mut entities = Entities::new(rt.alloc());
+    let reply = many(rt.alloc(), 10001)?;
+    let refused = add(rt.alloc(), &mut entities, &meta, 0, 10001, reply.as_str());
+    assert!(rt; matches!(&refused, Err(CreateFault::TooMany(10001))));
+    assert_eq!(rt; entities.len(), 0);
     Ok(())
 }
