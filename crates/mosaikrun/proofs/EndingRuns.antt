@@ -8,8 +8,7 @@ use Rattle.mk_scenario.specs.Scenarios.{scenario_of}
 use Rattle.mk_scenario_keys.specs.declared.fault.ScenarioFault.{ScenarioFault}
 use Rattle.mk_launch.specs.Ready.{IsPrepared}
 use Rattle.mk_local.specs.Kinds.{name_of}
-use Rattle.mk_run_crew.specs.Completing.{IsFaultlessHandshake}
-use Rattle.mk_run_crew.proofs.Completing.{completes as handshake_completes}
+use Rattle.mk_run_crew.specs.Completing.{HandshakesComplete, IsFaultlessHandshake}
 use Rattle.mk_run.specs.declared.outcome.Outcome.{Outcome}
 use Rattle.mk_run.specs.Ends.{IsFaultless}
 use Rattle.mk_run.specs.Ran.{HasRun}
@@ -62,12 +61,12 @@ not_both S fault verdict a b = let same = sym a ∙ b in cc
 
 module _ (C : Around) (name : Option (List ℕ)) (bytes : List ℕ) (text : Result (List ℕ) Ending) (kept : Option (List ℕ)) (r : Result (Unit {0}) Ending) (said : RunAnswer C name text kept r) where
   -- where nothing goes wrong
-  ended : IsRunOutcome C.outside (is_some name) bytes text kept → IsFaultlessStudy C.outside bytes → IsStatusOr 0 (status r)
-  ended (inl none) f = elim none.cause [
+  ended : HandshakesComplete → IsRunOutcome C.outside (is_some name) bytes text kept → IsFaultlessStudy C.outside bytes → IsStatusOr 0 (status r)
+  ended law (inl none) f = elim none.cause [
     | inl mem ↦ status_of_none C name text kept r said none.ending none.is 0 (inl mem)
     | inr fault ↦ absurd (not_both f.scenario fault.0 (scenario_of bytes) f.read fault.2)
   ]
-  ended (inr has) f = go has.outcome
+  ended law (inr has) f = go has.outcome
     where
       same : f.scenario ≡ has.scenario
       same = one_scenario bytes f.scenario has.scenario f.read has.read
@@ -77,7 +76,7 @@ module _ (C : Around) (name : Option (List ℕ)) (bytes : List ℕ) (text : Resu
           (inl (runnable_or_not (map name_of C.outside.kinds) has.scenario f.ranks unready.ending (subst (λ (X : Scenario). AreRanks X f.ranks) same f.ranked) (subst (λ (X : Scenario). IsPrepared X (map name_of C.outside.kinds)) same f.prepared) unready.cause))
       go (inr (inl u)) =
           let fine = subst (λ (X : Scenario). (any : List ℕ) → AreRanks X any → IsFaultlessHandshake C.outside.started X any C.outside.kinds C.outside.log (HasRisen C.outside.faults C.outside.new_faults)) same f.handshake u.ranks u.runnable.ranked in
-          let mem = handshake_completes C.outside.started has.scenario u.ranks C.outside.kinds C.outside.log C.outside.faults C.outside.new_faults u.halt u.halted fine in
+          let mem = law C.outside.started has.scenario u.ranks C.outside.kinds C.outside.log C.outside.faults C.outside.new_faults u.halt u.halted fine in
           status_of_none C name text kept r said Mem (elim u.said [ inl is ↦ is ∙ ap (λ h. Err (halt_ending (ids_of has.scenario) h)) mem | inr is ↦ is ]) 0 (inl refl)
       go (inr (inr p)) =
           let fine = subst (λ (X : Scenario). (any : List ℕ) (P : Plan) (J : List Entry) (end : Outcome) → HasRun C.outside.started X any C.outside.kinds P J C.outside.log C.outside.faults C.outside.new_faults end → IsFaultless C.outside.started X P J C.outside.log C.outside.faults C.outside.new_faults) same f.run p.ranks p.plan p.journal p.outcome p.run in
@@ -147,16 +146,16 @@ module _ (C : Around) (held : Files) (told : C.folder.files ≡ Some held) (scen
   by_run wanted of_run (Err e) (inr (inr (inr (inr (inr (inl summed)))))) = let wrong = this_run (Demo summed.size) summed.asked in absurd cc
   by_run wanted of_run (Err e) (inr (inr (inr (inr (inr (inr migrated)))))) = let wrong = this_run (Migrate migrated.source migrated.name) migrated.asked in absurd cc
 
-  both : (r : Result (Unit {0}) Ending) → Ended C r → (IsFaultlessStudy C.outside bytes → IsStatusOr 0 (status r)) × ((e : Ending) → IsUnchecked (map name_of C.outside.kinds) bytes e → (e ≡ Mem → ⊥) → IsStatusOr 3 (status r))
-  both r done = (
-    (λ fine. by_run 0 (λ s ran. ended C ran.name bytes ran.text ran.kept s ran.ended (subst (λ (b : List ℕ). IsRunOutcome C.outside (is_some ran.name) b ran.text ran.kept) (these s ran) ran.outcome) fine) r done),
+  both : HandshakesComplete → (r : Result (Unit {0}) Ending) → Ended C r → (IsFaultlessStudy C.outside bytes → IsStatusOr 0 (status r)) × ((e : Ending) → IsUnchecked (map name_of C.outside.kinds) bytes e → (e ≡ Mem → ⊥) → IsStatusOr 3 (status r))
+  both law r done = (
+    (λ fine. by_run 0 (λ s ran. ended C ran.name bytes ran.text ran.kept s ran.ended law (subst (λ (b : List ℕ). IsRunOutcome C.outside (is_some ran.name) b ran.text ran.kept) (these s ran) ran.outcome) fine) r done),
     (λ e un not. by_run 3 (λ s ran. refused C ran.name bytes ran.text ran.kept s ran.ended (subst (λ (b : List ℕ). IsRunOutcome C.outside (is_some ran.name) b ran.text ran.kept) (these s ran) ran.outcome) e un not) r done),
   )
 
 -- the same where the folder may not tell
-pub ends_run : (C : Around) (files : Option Files) (r : Result (Unit {0}) Ending) (n : ℕ) → C.folder.files ≡ files → n ≡ status r → Ended C r
+pub ends_run : HandshakesComplete → (C : Around) (files : Option Files) (r : Result (Unit {0}) Ending) (n : ℕ) → C.folder.files ≡ files → n ≡ status r → Ended C r
     → IfSome files (λ held. (scenario : List ℕ) (saved : Option (List ℕ)) (bytes : List ℕ) → IsAsked C.words (Run scenario saved) → held scenario ≡ Some bytes → length bytes ≤ file_limit
     → (IsFaultlessStudy C.outside bytes → IsStatusOr 0 n) × ((e : Ending) → IsUnchecked (map name_of C.outside.kinds) bytes e → (e ≡ Mem → ⊥) → IsStatusOr 3 n))
-ends_run C None r n told is done = tt
-ends_run C (Some held) r n told is done = λ scenario saved bytes asked there short.
-    subst (λ (m : ℕ). (IsFaultlessStudy C.outside bytes → IsStatusOr 0 m) × ((e : Ending) → IsUnchecked (map name_of C.outside.kinds) bytes e → (e ≡ Mem → ⊥) → IsStatusOr 3 m)) (sym is) (both C held told scenario saved asked bytes there short r done)
+ends_run law C None r n told is done = tt
+ends_run law C (Some held) r n told is done = λ scenario saved bytes asked there short.
+    subst (λ (m : ℕ). (IsFaultlessStudy C.outside bytes → IsStatusOr 0 m) × ((e : Ending) → IsUnchecked (map name_of C.outside.kinds) bytes e → (e ≡ Mem → ⊥) → IsStatusOr 3 m)) (sym is) (both C held told scenario saved asked bytes there short law r done)

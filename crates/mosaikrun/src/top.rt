@@ -31,6 +31,7 @@ use crate::commands::{COMMANDS, asked, file_of, outcome};
 use mk_base::Text;
 use mk_local::Registry;
 use mk_outside::{FileRead, FileSave, Fleet, Folder, PutAll, Sink, put_all};
+use mk_run_crew::handshakes_complete;
 use mosaikrun_demo::summed;
 use mosaikrun_endings::Ending;
 use mosaikrun_records::migrated;
@@ -114,6 +115,8 @@ pub fn program<D: Folder, F: Fleet, K: Sink, E: Sink, R: Wait>(
     ensures out_count { K.faults out.old ≤ K.faults out.new }
     ensures err_count { E.faults err.old ≤ E.faults err.new }
 {
+    // a law, which does nothing: when a run comes to its end
+    handshakes_complete();
     match answer(rt, alloc, words, folder, fleet, kinds, out) {
         Ok(()) => 0,
         Err(ending) => tell(alloc, &ending, err),

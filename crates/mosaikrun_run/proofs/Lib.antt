@@ -1,6 +1,6 @@
 mod OneText
 pub mod Recording
-mod Reporting
+pub mod Reporting
 mod StepFrames
 mod Summarizing
-mod Telling
+pub mod Telling

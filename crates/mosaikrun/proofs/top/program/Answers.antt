@@ -22,7 +22,7 @@ returns-in-Ok g c =
     record {
       headline = (ended.0, ended.1, right_call S (Ok tt) 0 refl ended.2);
       ended = (ended.0, ended.1, record { answer = Ok tt; is = refl; ended = ended.2; told = refl; recorded = record_kept S (Ok tt) 0 refl ended.2 });
-      completes = (ended.0, ended.1, ends_run S S.folder.files (Ok tt) 0 refl refl ended.2);
+      completes = (ended.0, ended.1, ends_run c.handshakes_complete.ensures S S.folder.files (Ok tt) 0 refl refl ended.2);
       usage = λ two. usage_only S (Ok tt) ended.2 two;
       useless = useless_words S (Ok tt) ended.2;
       decided = told_decided S S.folder.files (Ok tt) 0 refl refl ended.2;
@@ -51,7 +51,7 @@ returns-in-Err g c =
     record {
       headline = (ended.0, ended.1, right_call S (Err told.0) c.tell.result told.2 said);
       ended = (ended.0, ended.1, record { answer = Err told.0; is = told.2; ended = said; told = told.3; recorded = record_kept S (Err told.0) c.tell.result told.2 said });
-      completes = (ended.0, ended.1, ends_run S S.folder.files (Err told.0) c.tell.result refl told.2 said);
+      completes = (ended.0, ended.1, ends_run c.handshakes_complete.ensures S S.folder.files (Err told.0) c.tell.result refl told.2 said);
       usage = λ two. usage_only S (Err told.0) said (sym told.2 ∙ two);
       useless = λ none. subst (IsStatusOr 2) (sym told.2) (useless_words S (Err told.0) said none);
       decided = told_decided S S.folder.files (Err told.0) c.tell.result refl told.2 said;
