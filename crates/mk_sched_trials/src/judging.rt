@@ -1,8 +1,8 @@
 // A message judged, the place after it, and what the data give.
 
-use mk_base::{List, Mem, SimKind, SimNo, Tier};
+use mk_base::{Mem, SimKind, SimNo, Tier};
 use mk_json::read_json;
-use mk_plan::{Cause, Message, Place, Plan, Want};
+use mk_plan::{Cause, Message, Place, Plan};
 use mk_plan_judge::{next_place, value_for, wanted, wrong};
 use mk_plan_samples::{OUT_TO_IN, Tie, connections, plan_of, two_simulators};
 use std::alloc::Global;
@@ -27,28 +27,10 @@ fn plan(alloc: Global) -> Result<Plan, Mem> {
     plan_of(alloc, 5, 3, sims, conns)
 }
 
-const STEPPING: Place = Place::Stepping {
-    at: Tier { time: 2, tier: 0 },
-    id: 3,
-    asks: 0,
-};
-
 const FETCHING: Place = Place::Fetching {
     at: Tier { time: 2, tier: 0 },
     id: 4,
 };
-
-fn judged(
-    plan: &Plan,
-    wants: &List<Want>,
-    place: &Place,
-    message: &Message,
-) -> Result<Option<Place>, Cause> {
-    match wrong(plan, wants, SimNo(0), place, message) {
-        Some(cause) => Err(cause),
-        None => Ok(next_place(plan, SimNo(0), place, message)),
-    }
-}
 
 // What is open after a reply to the Step of A-0, or the cause by which the reply is wrong.
 fn judged_of(alloc: Global, text: &str) -> Result<Result<Option<Place>, Cause>, Fail> {
@@ -56,7 +38,15 @@ fn judged_of(alloc: Global, text: &str) -> Result<Result<Option<Place>, Cause>, 
     let wants = wanted(alloc, &plan, SimNo(0))?;
     let content = read_json(alloc, text.as_bytes())?;
     let message = Message::Success { id: 3, content };
-    Ok(judged(&plan, &wants, &STEPPING, &message))
+    let place = Place::Stepping {
+        at: Tier { time: 2, tier: 0 },
+        id: 3,
+        asks: 0,
+    };
+    Ok(match wrong(&plan, &wants, SimNo(0), &place, &message) {
+        Some(cause) => Err(cause),
+        None => Ok(next_place(&plan, SimNo(0), &place, &message)),
+    })
 }
 
 #[test]
