@@ -1,5 +1,5 @@
 -- Every call of the program is right: the headline, from what its answer says.
-use Rattle.std.proofs.Common.{◌≡◌, ℕ, Bool, ◌⊎◌, inl, inr, refl, sym, ap, ◌∙◌, subst, arith, List, [], ◌++◌, map, Option, None, Some, Result, Ok, Err, ◌<◌}
+use Rattle.std.proofs.Common.{◌≡◌, ℕ, Bool, false, ◌⊎◌, inl, inr, refl, sym, ap, ◌∙◌, subst, arith, List, [], ◌++◌, map, Option, None, Some, Result, Ok, Err, ◌<◌}
 use Rattle.std.specs.Prelude.{IfSome, is_some, option_map}
 use Rattle.mk_base.specs.declared.LinkNo.{LinkNo}
 use Rattle.mk_base.specs.Lists.{BeginsWith}
@@ -69,7 +69,7 @@ not_zero (LongItem sim length) zero = omega (arith, zero)
 not_zero Mem zero = omega (arith, zero)
 
 -- messages that may come: those that were heard of whom has a link, and those that were got of others
-coming : Option LinkNo → (LinkNo → List Message) → List Message → List Message
+abbrev coming : Option LinkNo → (LinkNo → List Message) → List Message → List Message
 coming None heard own = own
 coming (Some l) heard own = heard l
 
