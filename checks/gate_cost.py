@@ -3,11 +3,11 @@
 
     gate_cost.py run [WORD..]      runs the words, `rt ci` if there are none, and prints the table when they have ended
     gate_cost.py watch PID         the same of a gate that runs already, from now on, until it has ended
-    gate_cost.py functions FOLDER  the dearest functions of a crate that `rt check --jobs 1` has just proved from nothing: FOLDER
-                                   is its `out/incremental`, whose files are written one by one as they are proved
+    gate_cost.py functions FOLDER  the dearest functions of a crate that `rt check --jobs 1` has just proved from
+                                   nothing: FOLDER is its `out/incremental`, whose files are written one by one
 
-`rt ci` leaves no times behind. So the table is made by looking, twice a second, at how much processor time each process of the
-prover below it has taken: what is proved is one process a crate, its tests another, and each edit one more.
+`rt ci` leaves no times behind. So the table is made by looking, twice a second, at how much processor time each process
+of the prover below it has taken: what is proved is one process a crate, its tests another, and each edit one more.
 """
 
 from __future__ import annotations
@@ -95,7 +95,8 @@ def functions(folder: str) -> None:
     costs: collections.Counter = collections.Counter()
     for (before, _), (at, name) in zip(files, files[1:]):
         if at - before < 120:
-            costs[name.removeprefix("Rattle-").removesuffix(".oantt").removesuffix(".decls").rpartition(".")[0]] += at - before
+            whole = name.removeprefix("Rattle-").removesuffix(".oantt").removesuffix(".decls")
+            costs[whole.rpartition(".")[0]] += at - before
     print(f"{sum(costs.values()):.0f} s, {len(files)} files")
     for name, seconds in costs.most_common(30):
         print(f"{seconds:7.1f} {name}")
