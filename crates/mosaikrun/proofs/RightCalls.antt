@@ -125,6 +125,7 @@ module _ (C : Around) (form : Form) (wanted : Bool) (S : Scenario) (saved : Opti
           within = p.run.kinds;
           journal = p.journal;
           promised = right.promised;
+          setup_rests = p.run.run.setup_rests;
           rests = right.rests;
           possible = λ zero. (
             come,

@@ -23,6 +23,7 @@ use Rattle.mk_run_laws.specs.Runs.{IsPossible, SaidWhole, SaysRight}
 use Rattle.mk_outside.specs.Logs.{heard_on}
 use Rattle.mk_run_local.specs.Made.{kind_reply_of}
 use Rattle.mk_run_crew.specs.Answers.{AreKindAnswers, answers_to}
+use Rattle.mk_run.specs.Ends.{SetupRestsWell}
 use Rattle.mk_run.specs.Laws.{ArePromised}
 use Rattle.mk_setup.specs.Handshakes.{IsMade}
 use Rattle.mk_record.specs.Texts.{record_text}
@@ -58,10 +59,12 @@ pub record IsRightLink (O : Outside) (S : Scenario) (plan : Option Plan) (n i : 
   pub whole : (n ≡ 8 → ⊥) → SaidWhole S O.log (HasRisen O.faults O.new_faults) i l asked items
 
 -- what the simulators were sent by this plan, which is that of the replies to their handshake. Each
--- Step's max_advance is a promise. Wherever the fleet was waited for, all messages heard were in the
--- journal, nobody was ready, and all that was owed was said. At status 0 messages may come, and over
--- all that may, the output has grown by exactly the text of what sequential execution sends; and
--- the record of the plan and the journal was saved under the name that was given for it
+-- Step's max_advance is a promise. Wherever the fleet was waited for: until all had set up, each
+-- request was said up to the first whose reply hadn't come; from then on all messages heard were in
+-- the journal, nobody was ready, and all that was owed was said, in both cases but where a link's
+-- last write took nothing. At status 0 messages may come, and over all that may, the output has
+-- grown by exactly the text of what sequential execution sends; and the record of the plan and the
+-- journal was saved under the name that was given for it
 pub record IsRightRunBy (C : Around) (form : Form) (S : Scenario) (saved : Option (List ℕ)) (n : ℕ)
     (P : Plan) : Type 0 where
   pub ranks : List ℕ
@@ -74,6 +77,7 @@ pub record IsRightRunBy (C : Around) (form : Form) (S : Scenario) (saved : Optio
   pub journal : List Entry
   pub promised : ArePromised C.outside.started S (kind_reply_of C.outside.kinds S) P journal
       C.outside.log
+  pub setup_rests : SetupRestsWell C.outside.started S C.outside.log
   pub rests : RestsWell C.outside.started S P journal C.outside.log
   pub possible : n ≡ 0 → (R : Messages) × MayCome C.outside S P R
   pub text : n ≡ 0 → (R : Messages) → MayCome C.outside S P R
