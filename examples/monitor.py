@@ -1,11 +1,11 @@
 #!/usr/bin/env python3
 """A monitor: a simulator for mosaik 3 or mosaikrun in plain Python, over the low-level API's sockets.
 
-It is begun as `python3 monitor.py HOST:PORT`, connects there, and answers requests until `stop`. Its model `Monitor` has the
-input `load` and the output `peak`, the greatest load so far. In each step it asks for the outputs of the entities that its
-parameter `watched` names, a list of full ids, and writes what it learns to its error output where `verbose` is true.
-A frame is a length of four bytes, most significant first, and a JSON list [type, id, content]: type 0 is a request, 1 a
-success reply, 2 a failure reply.
+It is begun as `python3 monitor.py HOST:PORT`, connects there, and answers requests until `stop`. Its model `Monitor`
+has the input `load` and the output `peak`, the greatest load so far. In each step it asks for the outputs of the
+entities that its parameter `watched` names, a list of full ids, and writes what it learns to its error output where
+`verbose` is true. A frame is a length of four bytes, most significant first, and a JSON list [type, id, content]:
+type 0 is a request, 1 a success reply, 2 a failure reply.
 """
 import json
 import socket
