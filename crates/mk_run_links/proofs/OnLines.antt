@@ -1,15 +1,17 @@
 -- What a session's answers come to for its line.
-use Rattle.std.proofs.Common.{◌≡◌, ℕ, inl, inr, Bool, true, false, List, [], ◌++◌, drop, refl, sym, ap, ◌∙◌}
+use Rattle.std.proofs.Common.{◌≡◌, ◌⊎◌, ℕ, inl, inr, Bool, true, false, List, [], ◌++◌, drop, refl, sym, ap, ◌∙◌}
 use Rattle.std.proofs.lemmas.List.{take-append-drop}
 use Rattle.mk_base.proofs.Lists.{append_nil}
 use Rattle.mk_outside.specs.declared.fleet.LogEntry.{LogEntry}
 use Rattle.mk_outside.specs.Counts.{HasRisen}
-use Rattle.mk_outside.specs.Logs.{said_on}
+use Rattle.mk_outside.specs.Logs.{last_write, said_on}
 use Rattle.mk_session.specs.declared.answers.Heard.TheVariants as heard
 use Rattle.mk_session.specs.declared.answers.Polled.{Polled}
 use Rattle.mk_session.specs.declared.answers.Polled.TheVariants as polled
 use Rattle.mk_session.specs.declared.session.Session.{Session}
 use Rattle.mk_session.specs.Answers.{Polls, FlushedAs}
+use Rattle.mk_session.specs.Talks.{EachTook, IsHeldUp, LastTookNothing}
+use Rattle.mk_session.proofs.OnTalks.{last_is_held_up}
 use Rattle.mk_run_laws.specs.Lines.{Line}
 use Rattle.mk_run_laws.proofs.Polling.{pending_moved, message_moved, nothing_moved}
 use Rattle.mk_run_links.specs.inner.OneLine.{PollsLine, FlushesLine, is_pending}
@@ -76,5 +78,10 @@ flushes_line false w last entries before after f = record {
   on_link = f.2.on_link;
   unheard = f.2.not_heard;
   said = (drop f.0 (w.unsent ++ last), sym (ap (λ (b : List ℕ). b ++ drop f.0 (w.unsent ++ last)) f.2.said ∙ take-append-drop f.0 (w.unsent ++ last)));
-  whole = inr f.3;
+  whole = inr (stopped f.3);
 }
+  where
+    stopped : (LastTookNothing w.link entries ⊎ EachTook w.link entries × HasRisen before after)
+        → (IsHeldUp w.link (last_write w.link entries) ⊎ HasRisen before after)
+    stopped (inl last) = inl (last_is_held_up w.link entries last)
+    stopped (inr (each, risen)) = inr risen

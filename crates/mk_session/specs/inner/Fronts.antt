@@ -1,7 +1,6 @@
 -- For proofs alone. Beside `Fronts`, which has what a reader needs.
 use Rattle.std.specs.Prelude.{◌≡◌, ℕ, List}
 use Rattle.mk_frame.specs.Frames.{IsTooLong, IsUnfinished}
-use Rattle.mk_plan.specs.declared.Message.{Message}
 use Rattle.mk_session.specs.declared.inbox.Given.{Given}
 use Rattle.mk_session.specs.declared.inbox.Given.TheVariants as given
 use Rattle.mk_session.specs.Fronts.{BeginsGarbled, BeginsWithMessage}

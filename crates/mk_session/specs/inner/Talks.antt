@@ -10,15 +10,16 @@ use Rattle.mk_session.specs.declared.saying.Said.{Said}
 use Rattle.mk_session.specs.declared.saying.Said.TheVariants as said
 use Rattle.mk_session.specs.declared.inbox.Listened.{Listened}
 use Rattle.mk_session.specs.declared.inbox.Listened.TheVariants as listened
-use Rattle.mk_session.specs.Talks.{IsHeldUp, Writes, IsSaidOut, FoundAs, ReadsLate}
+use Rattle.mk_session.specs.Talks.{EachTook, IsHeldUp, LastTookNothing, Writes, IsSaidOut, FoundAs, ReadsLate}
 
 -- all bytes were said, or so many of them before a write that took nothing or failed
 abbrev pub SaidAs : LinkNo → Said → List ℕ → List LogEntry → Type 0
 SaidAs link said.All bytes entries = Writes link entries bytes
-    × (¬ IsHeldUp link (last_write link entries))
+    × EachTook link entries
 SaidAs link (said.NotYet n) bytes entries = (n < length bytes) × Writes link entries (take n bytes)
-    × IsHeldUp link (last_write link entries)
+    × IsHeldUp link (last_write link entries) × LastTookNothing link entries
 SaidAs link (said.Failed n) bytes entries = (n < length bytes) × Writes link entries (take n bytes)
+    × EachTook link entries
 
 -- the front of what was unsent was said, and the rest is unsent
 abbrev pub SpokenAs : LinkNo → Bool → List ℕ → List ℕ → List LogEntry → Type 0
