@@ -16,7 +16,7 @@ use Rattle.mk_run_local.specs.Made.{kind_reply_of}
 use Rattle.mk_plan.specs.declared.Plan.{Plan}
 use Rattle.mk_plan.specs.declared.Entry.{Entry}
 use Rattle.mk_plan.specs.Journals.{sent}
-use Rattle.mosaikrun_endings.specs.Sayings.{ids_of}
+use Rattle.mosaikrun_sayings.specs.Sayings.{ids_of}
 use Rattle.mk_run.proofs.Completing.{completes as run_completes}
 use Rattle.mosaikrun_words.specs.declared.request.Request.{Request}
 use Rattle.mosaikrun_words.specs.declared.request.Request.TheVariants.{Run, Demo, Migrate}

@@ -15,8 +15,8 @@ use Rattle.mk_run.specs.declared.outcome.Outcome.TheVariants as outcome
 use Rattle.mosaikrun_endings.specs.declared.ending.Ending.{Ending}
 use Rattle.mosaikrun_endings.specs.declared.ending.Ending.TheVariants.{Usage, Mem}
 use Rattle.mosaikrun_endings.specs.Endings.{status_of}
-use Rattle.mosaikrun_endings.specs.Sayings.{ids_of, setup_ending}
-use Rattle.mosaikrun_endings.specs.Stops.{stop_of}
+use Rattle.mosaikrun_sayings.specs.Sayings.{ids_of, setup_ending}
+use Rattle.mosaikrun_sayings.specs.Stops.{stop_of}
 use Rattle.mosaikrun_check.specs.Checks.{IsUnchecked}
 use Rattle.mosaikrun_check.specs.Runnable.{IsUnrunnable}
 use Rattle.mosaikrun_check.proofs.OneRanking.{fault_status}

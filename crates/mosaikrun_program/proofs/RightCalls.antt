@@ -29,7 +29,7 @@ use Rattle.mosaikrun_words.specs.declared.request.Request.TheVariants.{Run, Repl
 use Rattle.mosaikrun_endings.specs.declared.ending.Ending.{Ending}
 use Rattle.mosaikrun_endings.specs.declared.ending.Ending.TheVariants.{Usage, Missing, TooLong, Scenario as BadScenario, Cycle, Launch, Setup, Record, Wrong, Failed, LoopLimit, Link, Short, Differs, Fleet, Folder, Output, Entries, LongItem, Mem}
 use Rattle.mosaikrun_endings.specs.Endings.{status_of}
-use Rattle.mosaikrun_endings.specs.Sayings.{ids_of}
+use Rattle.mosaikrun_sayings.specs.Sayings.{ids_of}
 use Rattle.mosaikrun_records.specs.Migrations.{IsMigration}
 use Rattle.mosaikrun_run.specs.declared.sayings.Form.{Form}
 use Rattle.mosaikrun_run.specs.declared.sayings.Form.TheVariants.{Report, Summary}

@@ -1,12 +1,11 @@
 // What is said of a fault of the handshake, by the ids of a scenario's simulators.
 ghost use Rattle.std.specs.Prelude.{◌≡◌, IfOk};
-ghost use Rattle.mosaikrun_endings.specs.Sayings.{id_in, ids_of, setup_ending};
+ghost use Rattle.mosaikrun_sayings.specs.Sayings.{id_in, ids_of, setup_ending};
 
-use crate::ending::Ending;
-use crate::setup::SetupEnding;
 use mk_base::{List, Mem, SimNo, Text};
 use mk_scenario::Scenario;
 use mk_setup::SetupFault;
+use mosaikrun_endings::{Ending, SetupEnding};
 use std::alloc::Global;
 
 /// The ids of a scenario's simulators, in order.

@@ -1,12 +1,12 @@
 // What is said of a fault of the core, by which a replay or a run ended.
 ghost use Rattle.std.specs.Prelude.{◌≡◌, IfOk};
 ghost use Rattle.mk_plan.specs.Plans.{sim_id};
-ghost use Rattle.mosaikrun_endings.specs.Stops.{failure_in, last_failure, stop_of};
+ghost use Rattle.mosaikrun_sayings.specs.Stops.{failure_in, last_failure, stop_of};
 
-use crate::ending::Ending;
 use mk_base::{Mem, SimNo, Text};
 use mk_plan::{Entry, Journal, Message, Plan};
 use mk_sched::CoreFault;
+use mosaikrun_endings::Ending;
 use std::alloc::Global;
 
 /// What is said of a fault of the core, by which a replay or a run ended.
