@@ -2,22 +2,17 @@
 //! and child programs: runs a scenario or the demo, replays or migrates a record, checks a scenario.
 #![tactic(auto)]
 
-mod commands;
-#[cfg(test)]
-mod tests;
-mod top;
-
 use mk_base::Mem;
 use mk_local::{
     EntityStep, Kind, Registry, Turn, battery_turn, constant_turn, controller_turn, counter_turn,
     relay_turn, sum_turn,
 };
 use mk_real::{MioFleet, RealFolder, RealSink};
+use mosaikrun_program::program;
 use std::alloc::Global;
 use std::process::ExitCode;
 use std::sync::Wait;
 use std::{env, io};
-use top::program;
 
 fn main(rt: HostRuntime) -> ExitCode {
     match run(&rt, &rt, rt.alloc()) {

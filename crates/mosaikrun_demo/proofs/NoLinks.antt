@@ -21,8 +21,8 @@ use Rattle.mk_run.specs.Ends.{ShownBy}
 use Rattle.mosaikrun_endings.specs.declared.links.LinkFault.{LinkFault}
 use Rattle.mosaikrun_endings.specs.declared.ending.Ending.{Ending}
 use Rattle.mosaikrun_endings.specs.declared.ending.Ending.TheVariants.{Link, Mem}
-use Rattle.mosaikrun_endings.specs.Sayings.{ids_of, setup_ending}
-use Rattle.mosaikrun_endings.specs.Stops.{stop_of}
+use Rattle.mosaikrun_sayings.specs.Sayings.{ids_of, setup_ending}
+use Rattle.mosaikrun_sayings.specs.Stops.{stop_of}
 use Rattle.mosaikrun_check.specs.Runnable.{IsUnrunnable}
 use Rattle.mk_scenario_demo.specs.Demo.{demo_scenario}
 use Rattle.mosaikrun_run.specs.declared.sayings.Form.{Form}

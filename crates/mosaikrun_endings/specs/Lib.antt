@@ -3,5 +3,3 @@ pub mod Launches
 pub mod Scenarios
 pub mod Links
 pub mod Setups
-pub mod Sayings
-pub mod Stops

@@ -28,7 +28,7 @@ use Rattle.mk_record.specs.Orders.{IsReplayBy}
 use Rattle.mk_record.specs.ReplayEnd.{ReplayEnd}
 use Rattle.mk_record.specs.ReplayEnd.TheVariants.{Done, Core, Short, Other}
 use Rattle.mosaikrun_records.specs.Reports.{IsSaidOf}
-use Rattle.mosaikrun_endings.specs.Stops.{stop_of}
+use Rattle.mosaikrun_sayings.specs.Stops.{stop_of}
 use Rattle.mosaikrun_endings.specs.declared.ending.Ending.{Ending}
 use Rattle.mosaikrun_endings.specs.declared.ending.Ending.TheVariants.{Differs}
 use Rattle.mosaikrun_records.specs.Migrations.{IsKept, IsLost, IsRecordOf, IsNoRecordOf, Unmigrated}

@@ -24,7 +24,7 @@ use Rattle.mk_record.specs.ReplayEnd.{ReplayEnd}
 use Rattle.mk_record.specs.ReplayEnd.TheVariants.{Done, Core, Short, Other}
 use Rattle.mk_record_report.proofs.Bare.{report_bare}
 use Rattle.mosaikrun_records.specs.Reports.{IsDoneBy, IsReportOf, IsStopped, Unreported}
-use Rattle.mosaikrun_endings.specs.Stops.{stop_of}
+use Rattle.mosaikrun_sayings.specs.Stops.{stop_of}
 use Rattle.mosaikrun_endings.specs.declared.ending.Ending.{Ending}
 use Rattle.mk_sched.specs.declared.faults.CoreFault.{CoreFault}
 use Rattle.mk_sched.specs.declared.faults.CoreFault.TheVariants as core

@@ -13,7 +13,7 @@ use Rattle.mk_record.specs.Replays.{IsReplay, IsWhole, messages_from}
 use Rattle.mk_record.specs.Orders.{IsReplayBy, IsReplayInOrder}
 use Rattle.mk_record.specs.ReplayEnd.{ReplayEnd}
 use Rattle.mk_record.specs.ReplayEnd.TheVariants as ends
-use Rattle.mosaikrun_endings.specs.Stops.{stop_of}
+use Rattle.mosaikrun_sayings.specs.Stops.{stop_of}
 use Rattle.mosaikrun_endings.specs.declared.ending.Ending.{Ending}
 use Rattle.mosaikrun_endings.specs.declared.ending.Ending.TheVariants.{Usage, Missing, TooLong, Scenario, Cycle, Launch, Setup, Record, Wrong, Failed, LoopLimit, Link, Short, Differs, Fleet, Folder, Output, Entries, LongItem, Mem}
 

@@ -12,7 +12,8 @@ ghost use Rattle.mosaikrun_records.specs.inner.Migrations.{is_message};
 use mk_base::Mem;
 use mk_plan::{Entry, Journal};
 use mk_record::{RecordFault, ReplayEnd, Replayed, read_record, replay, write_record};
-use mosaikrun_endings::{Ending, stopped};
+use mosaikrun_endings::Ending;
+use mosaikrun_sayings::stopped;
 use std::alloc::Global;
 
 /// The record of version 2 of a record that is replayed as its messages came, whatever the replay's end; or why there is none:

@@ -5,7 +5,8 @@ ghost use Rattle.mosaikrun_endings.specs.declared.ending.Ending.TheVariants as e
 ghost use Rattle.mosaikrun_records.specs.Reports.{IsOutcome, IsReportOf, Unreported};
 
 use mk_record::{RecordFault, ReplayEnd, read_record, replay, write_report};
-use mosaikrun_endings::{Ending, stopped};
+use mosaikrun_endings::Ending;
+use mosaikrun_sayings::stopped;
 use std::alloc::Global;
 
 /// The report of a record that is replayed in this order, or as its messages came; or why there is none.

@@ -37,7 +37,7 @@ use Rattle.mk_run_crew.specs.Wholly.{is_wholly_within}
 use Rattle.mk_run_crew.proofs.Unlinked.{never_linked, within_low}
 use Rattle.mk_run.specs.Laws.{HasSentAll, KindsFit}
 use Rattle.mk_run.proofs.RunRight.{runs_right}
-use Rattle.mosaikrun_endings.specs.Sayings.{ids_of}
+use Rattle.mosaikrun_sayings.specs.Sayings.{ids_of}
 use Rattle.mosaikrun_run.specs.declared.sayings.Form.{Form}
 use Rattle.mosaikrun_run.specs.declared.sayings.Form.TheVariants.{Report}
 use Rattle.mosaikrun_run.specs.Laws.{AlikeIsOneText, WithinIsOneText}

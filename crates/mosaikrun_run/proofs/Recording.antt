@@ -23,7 +23,7 @@ use Rattle.mk_run_crew.specs.Halted.{HasHalted, count_to}
 use Rattle.mosaikrun_check.specs.Runnable.{IsUnrunnable}
 use Rattle.mosaikrun_endings.specs.declared.ending.Ending.{Ending}
 use Rattle.mosaikrun_endings.specs.declared.ending.Ending.TheVariants as ends
-use Rattle.mosaikrun_endings.specs.Sayings.{ids_of}
+use Rattle.mosaikrun_sayings.specs.Sayings.{ids_of}
 use Rattle.mosaikrun_run.specs.declared.sayings.Form.{Form}
 use Rattle.mosaikrun_run.specs.Laws.{RecordsAreThere}
 use Rattle.mosaikrun_run.specs.Outcomes.{IsScenarioOutcome, IsUnready, IsUnrun, Outside}

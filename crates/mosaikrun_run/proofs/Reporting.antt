@@ -9,7 +9,7 @@ use Rattle.mk_run.specs.declared.outcome.Outcome.{Outcome}
 use Rattle.mk_run.specs.declared.outcome.Outcome.TheVariants as outcome
 use Rattle.mk_run.proofs.RunRight.{runs_right}
 use Rattle.mk_record_report.proofs.Bare.{report_bare}
-use Rattle.mosaikrun_endings.specs.Sayings.{ids_of}
+use Rattle.mosaikrun_sayings.specs.Sayings.{ids_of}
 use Rattle.mk_run_local.specs.Made.{kind_reply_of}
 use Rattle.mosaikrun_run.specs.declared.sayings.Form.{Form}
 use Rattle.mosaikrun_run.specs.declared.sayings.Form.TheVariants.{Report, Summary}

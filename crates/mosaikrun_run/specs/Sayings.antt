@@ -6,8 +6,8 @@ use Rattle.mk_plan.specs.Journals.{sent}
 use Rattle.mk_plan.specs.declared.Item.{Item}
 use Rattle.mk_plan.specs.Report.{report, summary}
 use Rattle.mk_record.specs.Texts.{record_text}
-use Rattle.mosaikrun_endings.specs.Stops.{stop_of}
-use Rattle.mosaikrun_endings.specs.Sayings.{id_in, setup_ending}
+use Rattle.mosaikrun_sayings.specs.Stops.{stop_of}
+use Rattle.mosaikrun_sayings.specs.Sayings.{id_in, setup_ending}
 use Rattle.mk_run_crew.specs.declared.halt.Halt.{Halt}
 use Rattle.mk_run_crew.specs.declared.halt.Halt.TheVariants as halt
 use Rattle.mk_run.specs.declared.outcome.Outcome.{Outcome}

@@ -17,7 +17,7 @@ ghost use Rattle.mk_run.specs.Ran.{RunsAs};
 ghost use Rattle.mk_record.specs.Writable.{is_writable};
 ghost use Rattle.mk_run_crew.specs.declared.halt.Halt.{Halt};
 ghost use Rattle.mk_run.specs.Outcomes.{outcome_of};
-ghost use Rattle.mosaikrun_endings.specs.Sayings.{ids_of};
+ghost use Rattle.mosaikrun_sayings.specs.Sayings.{ids_of};
 ghost use Rattle.mosaikrun_run.specs.Sayings.{halt_ending, record_of, saying_of};
 ghost use Rattle.mosaikrun_run.specs.inner.Sayings.{IsHalt};
 ghost use Rattle.mosaikrun_run.specs.Outcomes.{IsScenarioOutcome, IsRunOutcome, IsSaid, outside};
@@ -32,7 +32,8 @@ use mk_record::write_record;
 use mk_run::{Outcome, Ran, run};
 use mk_scenario::Scenario;
 use mosaikrun_check::{ranked, scenario_of};
-use mosaikrun_endings::{Ending, ids_of};
+use mosaikrun_endings::Ending;
+use mosaikrun_sayings::ids_of;
 use std::alloc::Global;
 use std::sync::Wait;
 

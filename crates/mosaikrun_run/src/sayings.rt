@@ -3,7 +3,7 @@ ghost use Rattle.std.specs.Prelude.{◌≡◌, IfOk, IfErr, Ok, Err};
 ghost use Rattle.mk_plan.specs.Journals.{sent};
 ghost use Rattle.mk_run_crew.specs.declared.halt.Halt.{Halt};
 ghost use Rattle.mk_run.specs.Outcomes.{outcome_of};
-ghost use Rattle.mosaikrun_endings.specs.Sayings.{id_in};
+ghost use Rattle.mosaikrun_sayings.specs.Sayings.{id_in};
 ghost use Rattle.mosaikrun_run.specs.Sayings.{halt_ending, saying_of, text_of};
 ghost use Rattle.mosaikrun_run.specs.inner.Sayings.{IsHalt};
 ghost use Rattle.mosaikrun_run.specs.Outcomes.{IsSaid};
@@ -12,7 +12,8 @@ use mk_base::{List, Mem, SimNo, Text};
 use mk_plan::{Journal, Plan};
 use mk_record::{write_report, write_summary};
 use mk_run::Outcome;
-use mosaikrun_endings::{Ending, LinkFault, id_in, setup_ending, stopped};
+use mosaikrun_endings::{Ending, LinkFault};
+use mosaikrun_sayings::{id_in, setup_ending, stopped};
 use std::alloc::Global;
 
 /// What is printed of a run in which all is done.

@@ -1,0 +1,161 @@
+-- A run in which nothing goes wrong comes to its end, and one of a scenario that is refused has the status 3.
+use Rattle.std.proofs.Common.{◌≡◌, ℕ, ◌≤◌, ◌⊎◌, inl, inr, refl, sym, ap, ◌∙◌, subst, arith, List, length, map, Option, None, Some, Result, Ok, Err}
+use Rattle.std.specs.Prelude.{IfSome, is_some}
+use Rattle.mk_outside.specs.Counts.{HasRisen}
+use Rattle.mk_outside.specs.Folders.{Files, file_limit}
+use Rattle.mk_scenario.specs.declared.parts.Scenario.{Scenario}
+use Rattle.mk_scenario.specs.Scenarios.{scenario_of}
+use Rattle.mk_scenario_keys.specs.declared.fault.ScenarioFault.{ScenarioFault}
+use Rattle.mk_launch.specs.Ready.{IsPrepared}
+use Rattle.mk_local.specs.Kinds.{name_of}
+use Rattle.mk_run_crew.specs.Completing.{HandshakesComplete, IsFaultlessHandshake}
+use Rattle.mk_run.specs.declared.outcome.Outcome.{Outcome}
+use Rattle.mk_run.specs.Ends.{IsFaultless}
+use Rattle.mk_run.specs.Ran.{HasRun}
+use Rattle.mk_run_local.specs.Made.{kind_reply_of}
+use Rattle.mk_plan.specs.declared.Plan.{Plan}
+use Rattle.mk_plan.specs.declared.Entry.{Entry}
+use Rattle.mk_plan.specs.Journals.{sent}
+use Rattle.mosaikrun_sayings.specs.Sayings.{ids_of}
+use Rattle.mk_run.proofs.Completing.{completes as run_completes}
+use Rattle.mosaikrun_words.specs.declared.request.Request.{Request}
+use Rattle.mosaikrun_words.specs.declared.request.Request.TheVariants.{Run, Demo, Migrate}
+use Rattle.mosaikrun_endings.specs.declared.ending.Ending.{Ending}
+use Rattle.mosaikrun_endings.specs.declared.ending.Ending.TheVariants.{Mem}
+use Rattle.mosaikrun_endings.specs.Endings.{status_of}
+use Rattle.mosaikrun_check.specs.Checks.{IsUnchecked}
+use Rattle.mosaikrun_check.specs.Runnable.{AreRanks}
+use Rattle.mosaikrun_check.proofs.OneRanking.{fault_status, runnable_or_not}
+use Rattle.mosaikrun_run.specs.declared.sayings.Form.TheVariants.{Report}
+use Rattle.mosaikrun_run.specs.Outcomes.{IsRunOutcome, IsScenarioOutcome}
+use Rattle.mosaikrun_run.specs.Sayings.{halt_ending, saying_of, text_of}
+use Rattle.mosaikrun_run.proofs.Telling.{one_scenario}
+use Rattle.mosaikrun_program.specs.Around.{Around}
+use Rattle.mosaikrun_program.specs.Commands.{IsAsked, IsHeld, IsOutcomeOf, IsUnreadable, file_of}
+use Rattle.mosaikrun_program.specs.Complete.{IsFaultlessStudy}
+use Rattle.mosaikrun_program.specs.Program.{Ended, IsRead, IsStatusOr, status}
+use Rattle.mosaikrun_program.specs.Running.{HasRunAs, RunAnswer}
+use Rattle.mosaikrun_program.proofs.Answering.{cut_status, memory, one_request, same_name, unasked_not, unread_status}
+
+-- the status of a run that has a text
+status_of_text : (C : Around) (name : Option (List ℕ)) (text : Result (List ℕ) Ending) (kept : Option (List ℕ)) (r : Result (Unit {0}) Ending) → RunAnswer C name text kept r → (t : List ℕ) → text ≡ Ok t → IsStatusOr 0 (status r)
+status_of_text C name (Ok x) kept (Ok done) said t is = inl refl
+status_of_text C name (Ok x) kept (Err e) (inl unsaved) t is = elim unsaved.2 [ inl folder ↦ inr (inl (ap status_of folder)) | inr mem ↦ memory 0 e mem ]
+status_of_text C name (Ok x) kept (Err e) (inr cut) t is = cut_status C.output 0 e cut.2
+status_of_text C name (Err why) kept r said t is = cc
+
+-- the status of a run that has none
+status_of_none : (C : Around) (name : Option (List ℕ)) (text : Result (List ℕ) Ending) (kept : Option (List ℕ)) (r : Result (Unit {0}) Ending) → RunAnswer C name text kept r → (e : Ending) → text ≡ Err e → (wanted : ℕ) → (e ≡ Mem) ⊎ (status_of e ≡ wanted) → IsStatusOr wanted (status r)
+status_of_none C name (Ok x) kept r said e is wanted why = cc
+status_of_none C name (Err f) kept (Ok done) said e is wanted why = absurd said
+status_of_none C name (Err f) kept (Err g) said e is wanted why =
+    let same : f ≡ e = cc in
+    elim said.1 [
+      | inl told ↦ elim why [ inl mem ↦ memory wanted g (told ∙ same ∙ mem) | inr status ↦ inl (ap status_of (told ∙ same) ∙ status) ]
+      | inr mem ↦ memory wanted g mem
+    ]
+
+-- a file's fault and the scenario that it is exclude one another
+not_both : (S : Scenario) (fault : ScenarioFault) (verdict : Result Scenario ScenarioFault) → verdict ≡ Ok S → verdict ≡ Err fault → ⊥
+not_both S fault verdict a b = let same = sym a ∙ b in cc
+
+module _ (C : Around) (name : Option (List ℕ)) (bytes : List ℕ) (text : Result (List ℕ) Ending) (kept : Option (List ℕ)) (r : Result (Unit {0}) Ending) (said : RunAnswer C name text kept r) where
+  -- where nothing goes wrong
+  ended : HandshakesComplete → IsRunOutcome C.outside (is_some name) bytes text kept → IsFaultlessStudy C.outside bytes → IsStatusOr 0 (status r)
+  ended law (inl none) f = elim none.cause [
+    | inl mem ↦ status_of_none C name text kept r said none.ending none.is 0 (inl mem)
+    | inr fault ↦ absurd (not_both f.scenario fault.0 (scenario_of bytes) f.read fault.2)
+  ]
+  ended law (inr has) f = go has.outcome
+    where
+      same : f.scenario ≡ has.scenario
+      same = one_scenario bytes f.scenario has.scenario f.read has.read
+
+      go : IsScenarioOutcome C.outside Report (is_some name) has.scenario text kept → IsStatusOr 0 (status r)
+      go (inl unready) = status_of_none C name text kept r said unready.ending unready.is 0
+          (inl (runnable_or_not (map name_of C.outside.kinds) has.scenario f.ranks unready.ending (subst (λ (X : Scenario). AreRanks X f.ranks) same f.ranked) (subst (λ (X : Scenario). IsPrepared X (map name_of C.outside.kinds)) same f.prepared) unready.cause))
+      go (inr (inl u)) =
+          let fine = subst (λ (X : Scenario). (any : List ℕ) → AreRanks X any → IsFaultlessHandshake C.outside.started X any C.outside.kinds C.outside.log (HasRisen C.outside.faults C.outside.new_faults)) same f.handshake u.ranks u.runnable.ranked in
+          let mem = law C.outside.started has.scenario u.ranks C.outside.kinds C.outside.log C.outside.faults C.outside.new_faults u.halt u.halted fine in
+          status_of_none C name text kept r said Mem (elim u.said [ inl is ↦ is ∙ ap (λ h. Err (halt_ending (ids_of has.scenario) h)) mem | inr is ↦ is ]) 0 (inl refl)
+      go (inr (inr p)) =
+          let fine = subst (λ (X : Scenario). (any : List ℕ) (P : Plan) (J : List Entry) (end : Outcome) → HasRun C.outside.started X any C.outside.kinds P J C.outside.log C.outside.faults C.outside.new_faults end → IsFaultless C.outside.started X P J C.outside.log C.outside.faults C.outside.new_faults) same f.run p.ranks p.plan p.journal p.outcome p.run in
+          elim (run_completes C.outside.started has.scenario (kind_reply_of C.outside.kinds has.scenario) p.plan p.journal C.outside.log C.outside.faults C.outside.new_faults p.outcome p.run.run fine) [
+            | inl done ↦ elim p.said [
+              | inl is ↦ status_of_text C name text kept r said (text_of Report p.plan (sent p.journal)) (is ∙ ap (saying_of Report (ids_of has.scenario) p.plan p.journal) done)
+              | inr is ↦ status_of_none C name text kept r said Mem is 0 (inl refl)
+            ]
+            | inr mem ↦ elim p.said [
+              | inl is ↦ status_of_none C name text kept r said Mem (is ∙ ap (saying_of Report (ids_of has.scenario) p.plan p.journal) mem) 0 (inl refl)
+              | inr is ↦ status_of_none C name text kept r said Mem is 0 (inl refl)
+            ]
+          ]
+
+  -- a scenario that can be run isn't refused
+  runnable_not : (S : Scenario) (ranks : List ℕ) → scenario_of bytes ≡ Ok S → AreRanks S ranks → IsPrepared S (map name_of C.outside.kinds) → (e : Ending) → IsUnchecked (map name_of C.outside.kinds) bytes e → e ≡ Mem
+  runnable_not S ranks read ranked prepared e (inl (inl mem)) = mem
+  runnable_not S ranks read ranked prepared e (inl (inr fault)) = absurd (not_both S fault.0 (scenario_of bytes) read fault.2)
+  runnable_not S ranks read ranked prepared e (inr stuck) =
+      let same : S ≡ stuck.scenario = one_scenario bytes S stuck.scenario read stuck.read in
+      runnable_or_not (map name_of C.outside.kinds) stuck.scenario ranks e (subst (λ (X : Scenario). AreRanks X ranks) same ranked) (subst (λ (X : Scenario). IsPrepared X (map name_of C.outside.kinds)) same prepared) stuck.cause
+
+  -- where the scenario is refused
+  refused : IsRunOutcome C.outside (is_some name) bytes text kept → (e : Ending) → IsUnchecked (map name_of C.outside.kinds) bytes e → (e ≡ Mem → ⊥) → IsStatusOr 3 (status r)
+  refused (inl none) e un not = status_of_none C name text kept r said none.ending none.is 3 (fault_status (map name_of C.outside.kinds) bytes none.ending (inl none.cause))
+  refused (inr has) e un not = go has.outcome
+    where
+      go : IsScenarioOutcome C.outside Report (is_some name) has.scenario text kept → IsStatusOr 3 (status r)
+      go (inl unready) = status_of_none C name text kept r said unready.ending unready.is 3
+          (fault_status (map name_of C.outside.kinds) bytes unready.ending (inr (record { scenario = has.scenario; read = has.read; cause = unready.cause })))
+      go (inr (inl u)) = absurd (not (runnable_not has.scenario u.ranks has.read u.runnable.ranked u.runnable.prepared e un))
+      go (inr (inr p)) = absurd (not (runnable_not has.scenario p.ranks has.read p.runnable.ranked p.runnable.prepared e un))
+
+-- the run that is asked for, where the folder tells
+module _ (C : Around) (held : Files) (told : C.folder.files ≡ Some held) (scenario : List ℕ) (saved : Option (List ℕ)) (asked : IsAsked C.words (Run scenario saved)) (bytes : List ℕ) (there : held scenario ≡ Some bytes) (short : length bytes ≤ file_limit) where
+  -- nothing else is asked for
+  this_run : (Q : Request) → IsAsked C.words Q → Q ≡ Run scenario saved
+  this_run Q other = one_request C.words Q (Run scenario saved) other asked
+
+  nothing_made : (Q : Request) (other : List ℕ) (o : Result (List ℕ) Ending) → IsRead C Q other → IsOutcomeOf C.outside.kinds Q other o → ⊥
+  nothing_made Q other o read outcome = subst (λ (X : Request). IsOutcomeOf C.outside.kinds X other o) (this_run Q read.asked) outcome
+
+  -- the run is of these bytes
+  these : (r : Result (Unit {0}) Ending) → (ran : HasRunAs C r) → ran.bytes ≡ bytes
+  these r ran =
+      let same = this_run (Run ran.scenario ran.name) ran.asked in
+      let from_here : ran.scenario ≡ scenario = cc in
+      let seen = subst (λ (files : Option Files). IsHeld files ran.scenario ran.bytes) told ran.held in
+      let both : Some ran.bytes ≡ Some bytes = sym seen.0 ∙ ap held from_here ∙ there in
+      cc
+
+  unread_run : (Q : Request) (name : List ℕ) (e : Ending) (wanted : ℕ) → IsAsked C.words Q → file_of Q ≡ Some name → IsUnreadable C.folder.files name (HasRisen C.folder.faults C.folder.new_faults) e → IsStatusOr wanted (status_of e)
+  unread_run Q name e wanted other named cause =
+      unread_status C held told (Run scenario saved) asked scenario refl bytes there short name e wanted (same_name C held told (Run scenario saved) asked scenario refl Q name (this_run Q other) named) cause
+
+  -- what the status of the run is, and the words ask for nothing else
+  by_run : (wanted : ℕ) → ((r : Result (Unit {0}) Ending) → HasRunAs C r → IsStatusOr wanted (status r)) → (r : Result (Unit {0}) Ending) → Ended C r → IsStatusOr wanted (status r)
+  by_run wanted of_run (Ok done) (inl printed) = absurd (nothing_made printed.request printed.bytes (Ok printed.text) printed.read printed.outcome)
+  by_run wanted of_run (Ok done) (inr (inl ran)) = of_run (Ok done) ran
+  by_run wanted of_run (Ok done) (inr (inr (inl summed))) = let wrong = this_run (Demo summed.size) summed.asked in absurd cc
+  by_run wanted of_run (Ok done) (inr (inr (inr migrated))) = let wrong = this_run (Migrate migrated.source migrated.name) migrated.asked in absurd cc
+  by_run wanted of_run (Err e) (inl misused) = unasked_not C.words e misused.cause wanted (Run scenario saved) asked
+  by_run wanted of_run (Err e) (inr (inl unread)) = unread_run unread.request unread.name e wanted unread.asked unread.named unread.cause
+  by_run wanted of_run (Err e) (inr (inr (inl textless))) = absurd (nothing_made textless.request textless.bytes (Err e) textless.read textless.outcome)
+  by_run wanted of_run (Err e) (inr (inr (inr (inl cut)))) = cut_status C.output wanted e cut.cause
+  by_run wanted of_run (Err e) (inr (inr (inr (inr (inl ran))))) = of_run (Err e) ran
+  by_run wanted of_run (Err e) (inr (inr (inr (inr (inr (inl summed)))))) = let wrong = this_run (Demo summed.size) summed.asked in absurd cc
+  by_run wanted of_run (Err e) (inr (inr (inr (inr (inr (inr migrated)))))) = let wrong = this_run (Migrate migrated.source migrated.name) migrated.asked in absurd cc
+
+  both : HandshakesComplete → (r : Result (Unit {0}) Ending) → Ended C r → (IsFaultlessStudy C.outside bytes → IsStatusOr 0 (status r)) × ((e : Ending) → IsUnchecked (map name_of C.outside.kinds) bytes e → (e ≡ Mem → ⊥) → IsStatusOr 3 (status r))
+  both law r done = (
+    (λ fine. by_run 0 (λ s ran. ended C ran.name bytes ran.text ran.kept s ran.ended law (subst (λ (b : List ℕ). IsRunOutcome C.outside (is_some ran.name) b ran.text ran.kept) (these s ran) ran.outcome) fine) r done),
+    (λ e un not. by_run 3 (λ s ran. refused C ran.name bytes ran.text ran.kept s ran.ended (subst (λ (b : List ℕ). IsRunOutcome C.outside (is_some ran.name) b ran.text ran.kept) (these s ran) ran.outcome) e un not) r done),
+  )
+
+-- the same where the folder may not tell
+pub ends_run : HandshakesComplete → (C : Around) (files : Option Files) (r : Result (Unit {0}) Ending) (n : ℕ) → C.folder.files ≡ files → n ≡ status r → Ended C r
+    → IfSome files (λ held. (scenario : List ℕ) (saved : Option (List ℕ)) (bytes : List ℕ) → IsAsked C.words (Run scenario saved) → held scenario ≡ Some bytes → length bytes ≤ file_limit
+    → (IsFaultlessStudy C.outside bytes → IsStatusOr 0 n) × ((e : Ending) → IsUnchecked (map name_of C.outside.kinds) bytes e → (e ≡ Mem → ⊥) → IsStatusOr 3 n))
+ends_run law C None r n told is done = tt
+ends_run law C (Some held) r n told is done = λ scenario saved bytes asked there short.
+    subst (λ (m : ℕ). (IsFaultlessStudy C.outside bytes → IsStatusOr 0 m) × ((e : Ending) → IsUnchecked (map name_of C.outside.kinds) bytes e → (e ≡ Mem → ⊥) → IsStatusOr 3 m)) (sym is) (both C held told scenario saved asked bytes there short law r done)

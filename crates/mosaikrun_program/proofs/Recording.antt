@@ -1,0 +1,131 @@
+-- What becomes of the file that a run saves its record in, by how the program ended.
+use Rattle.std.proofs.Common.{◌≡◌, ◌⊎◌, inl, inr, ℕ, Bool, true, List, [], map, Option, Some, None, option_map, Result, Ok, Err, refl, sym, ap, ◌∙◌, subst}
+use Rattle.std.specs.Prelude.{IfSome, is_some}
+use Rattle.mk_outside.specs.Counts.{HasRisen}
+use Rattle.mk_outside.specs.Folders.{Files, with_file}
+use Rattle.mosaikrun_words.specs.declared.request.Request.{Request}
+use Rattle.mosaikrun_words.specs.declared.request.Request.TheVariants.{Run, Demo, Migrate}
+use Rattle.mk_outside.specs.declared.fleet.LogEntry.{LogEntry}
+use Rattle.mk_record.specs.Texts.{record_text}
+use Rattle.mk_scenario.specs.declared.parts.Scenario.{Scenario}
+use Rattle.mk_scenario.specs.Scenarios.{scenario_of}
+use Rattle.mosaikrun_check.specs.Checks.{IsUnread}
+use Rattle.mosaikrun_endings.specs.declared.ending.Ending.{Ending}
+use Rattle.mosaikrun_endings.specs.declared.ending.Ending.TheVariants as ends
+use Rattle.mosaikrun_endings.specs.Endings.{status_of}
+use Rattle.mosaikrun_run.specs.declared.sayings.Form.TheVariants.{Report}
+use Rattle.mosaikrun_run.specs.Outcomes.{HasScenario, IsNoScenario, IsRunOutcome}
+use Rattle.mosaikrun_run.specs.Records.{HasRecord, IsRunFault, IsSettled, IsStepSaid}
+use Rattle.mosaikrun_run.proofs.Recording.{nothing_said, records_there}
+use Rattle.mosaikrun_program.specs.Around.{Around}
+use Rattle.mosaikrun_program.specs.Commands.{IsAsked, IsHeld, IsOutcomeOf, IsUnasked, IsUnreadable}
+use Rattle.mosaikrun_program.specs.Program.{Ended, HasPerformed, IsRead, status}
+use Rattle.mosaikrun_program.specs.Recording.{HoldsRecord, IsRecordKept, KeepsRecord}
+use Rattle.mosaikrun_program.specs.Running.{IsFolderAfter, IsSaved, RunAnswer}
+use Rattle.mosaikrun_program.proofs.Answering.{one_request}
+
+-- the bytes are one scenario
+one_scenario : (X Y : Scenario) (bytes : List ℕ) → scenario_of bytes ≡ Ok X → scenario_of bytes ≡ Ok Y → X ≡ Y
+one_scenario X Y bytes a b = let both : Ok X ≡ Ok Y = sym a ∙ b in cc
+
+module _ (S : Around) (bytes name : List ℕ) where
+  -- a record that was saved is held
+  held_record : (scenario : Scenario) (kept : Option (List ℕ)) → scenario_of bytes ≡ Ok scenario → HasRecord S.outside scenario kept → IsSaved S (Some name) kept → HoldsRecord S bytes name
+  held_record scenario kept read has saved = record {
+    scenario = scenario;
+    read = read;
+    text = record_text has.plan has.journal;
+    record_ = record { ranks = has.ranks; plan = has.plan; journal = has.journal; outcome = has.outcome; run = has.run; is = refl };
+    saved = subst (λ (k : Option (List ℕ)). IsFolderAfter (Some name) k S.folder.files S.folder.files_after) has.is saved;
+  }
+
+  -- nothing was done
+  untouched : (answer : Result (Unit {0}) Ending) → S.folder.files_after ≡ S.folder.files → S.outside.log ≡ [] → (IsSettled answer → ⊥) → KeepsRecord S answer bytes name
+  untouched answer unsaved quiet not = record {
+    either = inl unsaved;
+    settled = λ settled. absurd (not settled);
+    said = λ scenario read said. absurd (nothing_said S.outside.started scenario S.outside.log quiet said);
+  }
+
+  -- bytes that are no scenario have no fault of a run
+  no_scenario : (e : Ending) → IsUnread bytes e → IsRunFault e → ⊥
+  no_scenario e (inl mem) settled = subst IsRunFault mem settled
+  no_scenario e (inr fault) settled = subst IsRunFault fault.1 settled
+
+  -- what came of the bytes, and that the record, where there is one, was saved
+  came : (answer : Result (Unit {0}) Ending) (text : Result (List ℕ) Ending) (kept : Option (List ℕ)) → IsRunOutcome S.outside true bytes text kept → IsSaved S (Some name) kept → (text ≡ Err ends.Mem → ⊥) → (IsSettled answer → IsSettled text) → KeepsRecord S answer bytes name
+  came answer text kept (inl none) saved not settles = untouched answer (subst (λ (k : Option (List ℕ)). IsFolderAfter (Some name) k S.folder.files S.folder.files_after) none.idle.unrecorded saved) none.idle.quiet
+      (λ settled. no_scenario none.ending none.cause (subst (λ (t : Result (List ℕ) Ending). IsSettled t) none.is (settles settled)))
+  came answer text kept (inr read) saved not settles = record {
+    either = elim (records_there.only S.outside Report read.scenario text kept read.outcome) [
+      | inl none ↦ inl (subst (λ (k : Option (List ℕ)). IsFolderAfter (Some name) k S.folder.files S.folder.files_after) none saved)
+      | inr has ↦ inr (held_record read.scenario kept read.read has saved)
+    ];
+    settled = λ settled. held_record read.scenario kept read.read (records_there.there S.outside Report read.scenario text kept read.outcome not (inl (settles settled))) saved;
+    said = λ scenario is said. held_record read.scenario kept read.read
+        (records_there.there S.outside Report read.scenario text kept read.outcome not (inr (subst (λ (X : Scenario). IsStepSaid S.outside.started X S.outside.log) (one_scenario scenario read.scenario bytes is read.read) said))) saved;
+  }
+
+  module _ (unrisen : HasRisen S.folder.faults S.folder.new_faults → ⊥) where
+    -- what a run's answer says
+    answered : (answer : Result (Unit {0}) Ending) (text : Result (List ℕ) Ending) (kept : Option (List ℕ)) → (answer ≡ Err ends.Mem → ⊥) → IsRunOutcome S.outside true bytes text kept → RunAnswer S (Some name) text kept answer → KeepsRecord S answer bytes name
+    answered (Ok done) (Ok text) kept not outcome said = came (Ok done) (Ok text) kept outcome said.1 (λ wrong. cc) (λ settled. tt)
+    answered (Ok done) (Err why) kept not outcome said = absurd said
+    answered (Err e) (Ok text) kept not outcome (inl unsaved) = elim unsaved.1.1 [ inl rose ↦ absurd (unrisen rose) | inr mem ↦ absurd (not (ap (λ (x : Ending). Err x) mem)) ]
+    answered (Err e) (Ok text) kept not outcome (inr cut) = came (Err e) (Ok text) kept outcome cut.1 (λ wrong. cc) (λ settled. tt)
+    answered (Err e) (Err why) kept not outcome said = elim said.1 [
+      | inr mem ↦ absurd (not (ap (λ (x : Ending). Err x) mem))
+      | inl same ↦ elim said.2 [
+        | inl saved ↦ came (Err e) (Err why) kept outcome saved (λ (wrong : Err why ≡ Err ends.Mem). let short : why ≡ ends.Mem = cc in not (ap (λ (x : Ending). Err x) (same ∙ short))) (λ settled. subst IsRunFault same settled)
+        | inr unsaved ↦ elim unsaved.1 [ inl rose ↦ absurd (unrisen rose) | inr mem ↦ absurd (not (ap (λ (x : Ending). Err x) mem)) ]
+      ]
+    ]
+
+module _ (S : Around) (held : Files) (told : S.folder.files ≡ Some held) (scenario name bytes : List ℕ) (asked : IsAsked S.words (Run scenario (Some name))) (there : held scenario ≡ Some bytes)
+    (unrisen : HasRisen S.folder.faults S.folder.new_faults → ⊥) where
+  this_run : (Q : Request) → IsAsked S.words Q → Q ≡ Run scenario (Some name)
+  this_run Q other = one_request S.words Q (Run scenario (Some name)) other asked
+
+  nothing_made : (Q : Request) (other : List ℕ) (o : Result (List ℕ) Ending) → IsRead S Q other → IsOutcomeOf S.outside.kinds Q other o → ⊥
+  nothing_made Q other o read outcome = subst (λ (X : Request). IsOutcomeOf S.outside.kinds X other o) (this_run Q read.asked) outcome
+
+  performed : (answer : Result (Unit {0}) Ending) → (answer ≡ Err ends.Mem → ⊥) → HasPerformed S answer → KeepsRecord S answer bytes name
+  performed answer not (inl ran) =
+      let same : Run ran.scenario ran.name ≡ Run scenario (Some name) = this_run (Run ran.scenario ran.name) ran.asked in
+      let file : ran.scenario ≡ scenario = cc in
+      let named : ran.name ≡ Some name = cc in
+      let seen = subst (λ (files : Option Files). IsHeld files ran.scenario ran.bytes) told ran.held in
+      let both : Some ran.bytes ≡ Some bytes = sym seen.0 ∙ ap held file ∙ there in
+      let these : ran.bytes ≡ bytes = cc in
+      answered S bytes name unrisen answer ran.text ran.kept not
+      (subst (λ (b : List ℕ). IsRunOutcome S.outside true b ran.text ran.kept) these (subst (λ (n : Option (List ℕ)). IsRunOutcome S.outside (is_some n) ran.bytes ran.text ran.kept) named ran.outcome))
+      (subst (λ (n : Option (List ℕ)). RunAnswer S n ran.text ran.kept answer) named ran.ended)
+  performed answer not (inr (inl summed)) = let wrong = this_run (Demo summed.size) summed.asked in absurd cc
+  performed answer not (inr (inr migrated)) = let wrong = this_run (Migrate migrated.source migrated.name) migrated.asked in absurd cc
+
+  misused_not : (e : Ending) → IsUnasked S.words e → IsRunFault e → ⊥
+  misused_not e (inl mem) settled = subst IsRunFault mem settled
+  misused_not e (inr usage) settled = subst IsRunFault usage.0 settled
+
+  unread_not : (files : Option Files) (other : List ℕ) (risen : Type 0) (e : Ending) → IsUnreadable files other risen e → IsRunFault e → ⊥
+  unread_not files other risen e (inl mem) settled = subst IsRunFault mem settled
+  unread_not files other risen e (inr (inl failed)) settled = subst IsRunFault failed.0 settled
+  unread_not files other risen e (inr (inr (inl missing))) settled = subst IsRunFault missing.0 settled
+  unread_not files other risen e (inr (inr (inr long))) settled = subst IsRunFault long.1 settled
+
+  ended_keeps : (answer : Result (Unit {0}) Ending) → (answer ≡ Err ends.Mem → ⊥) → Ended S answer → KeepsRecord S answer bytes name
+  ended_keeps (Ok done) not (inl printed) = absurd (nothing_made printed.request printed.bytes (Ok printed.text) printed.read printed.outcome)
+  ended_keeps (Ok done) not (inr done_so) = performed (Ok done) not done_so
+  ended_keeps (Err e) not (inl misused) = untouched S bytes name (Err e) misused.untouched.aside.unsaved misused.untouched.aside.log (misused_not e misused.cause)
+  ended_keeps (Err e) not (inr (inl unread)) = untouched S bytes name (Err e) unread.untouched.aside.unsaved unread.untouched.aside.log (unread_not _ _ _ e unread.cause)
+  ended_keeps (Err e) not (inr (inr (inl textless))) = absurd (nothing_made textless.request textless.bytes (Err e) textless.read textless.outcome)
+  ended_keeps (Err e) not (inr (inr (inr (inl cut)))) = absurd (nothing_made cut.request cut.bytes (Ok cut.text) cut.read cut.outcome)
+  ended_keeps (Err e) not (inr (inr (inr (inr done_so)))) = performed (Err e) not done_so
+
+pub record_kept : (S : Around) (answer : Result (Unit {0}) Ending) (n : ℕ) → n ≡ status answer → Ended S answer → IsRecordKept S answer n
+record_kept S answer n is ended = by_files S.folder.files refl
+  where
+    by_files : (files : Option Files) → S.folder.files ≡ files
+        → IfSome files (λ held. (scenario name bytes : List ℕ) → IsAsked S.words (Run scenario (Some name)) → held scenario ≡ Some bytes → (HasRisen S.folder.faults S.folder.new_faults → ⊥) → (n ≡ 8 → ⊥) → KeepsRecord S answer bytes name)
+    by_files None told = tt
+    by_files (Some held) told = λ scenario name bytes asked there unrisen other. ended_keeps S held told scenario name bytes asked there unrisen answer (λ (mem : answer ≡ Err ends.Mem). other (is ∙ ap status mem)) ended

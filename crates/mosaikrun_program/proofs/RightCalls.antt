@@ -1,0 +1,292 @@
+-- Every call of the program is right: the headline, from what its answer says.
+use Rattle.std.proofs.Common.{◌≡◌, ℕ, Bool, false, ◌⊎◌, inl, inr, refl, sym, ap, ◌∙◌, subst, arith, List, [], ◌++◌, map, Option, None, Some, Result, Ok, Err, ◌<◌}
+use Rattle.std.specs.Prelude.{IfSome, is_some, option_map}
+use Rattle.mk_base.specs.declared.LinkNo.{LinkNo}
+use Rattle.mk_base.specs.Lists.{BeginsWith}
+use Rattle.mk_base.proofs.Lists.{append_nil}
+use Rattle.mk_plan.specs.declared.Plan.{Plan}
+use Rattle.mk_plan.specs.declared.Entry.{Entry}
+use Rattle.mk_plan.specs.declared.Message.{Message}
+use Rattle.mk_plan.specs.Journals.{bare, got, sent}
+use Rattle.mk_plan.specs.Sequential.{Messages, run_items}
+use Rattle.mk_outside.specs.Counts.{HasRisen}
+use Rattle.mk_outside.specs.Folders.{with_file}
+use Rattle.mk_outside.specs.Sinks.{appended}
+use Rattle.mk_scenario.specs.declared.parts.Scenario.{Scenario}
+use Rattle.mk_scenario_demo.specs.Demo.{demo_scenario}
+use Rattle.mk_local.specs.Kinds.{name_of}
+use Rattle.mk_run_laws.specs.Handshake.{setup_count, sim_link}
+use Rattle.mk_run_laws.specs.Rests.{run_messages}
+use Rattle.mk_run_local.specs.Made.{kind_reply_of}
+use Rattle.mk_run_crew.specs.declared.halt.Halt.TheVariants as halt
+use Rattle.mk_run_crew.specs.Halted.{count_to}
+use Rattle.mk_run.specs.declared.outcome.Outcome.TheVariants as outcome
+use Rattle.mk_run.specs.Ends.{QueuedAll}
+use Rattle.mk_run.proofs.RunRight.{runs_right}
+use Rattle.mk_record.specs.Texts.{record_text}
+use Rattle.mosaikrun_words.specs.declared.request.Request.{Request}
+use Rattle.mosaikrun_words.specs.declared.request.Request.TheVariants.{Run, Replay, Check, Demo, Migrate}
+use Rattle.mosaikrun_endings.specs.declared.ending.Ending.{Ending}
+use Rattle.mosaikrun_endings.specs.declared.ending.Ending.TheVariants.{Usage, Missing, TooLong, Scenario as BadScenario, Cycle, Launch, Setup, Record, Wrong, Failed, LoopLimit, Link, Short, Differs, Fleet, Folder, Output, Entries, LongItem, Mem}
+use Rattle.mosaikrun_endings.specs.Endings.{status_of}
+use Rattle.mosaikrun_sayings.specs.Sayings.{ids_of}
+use Rattle.mosaikrun_records.specs.Migrations.{IsMigration}
+use Rattle.mosaikrun_run.specs.declared.sayings.Form.{Form}
+use Rattle.mosaikrun_run.specs.declared.sayings.Form.TheVariants.{Report, Summary}
+use Rattle.mosaikrun_run.specs.Outcomes.{IsPlayed, IsRunOutcome, IsSaid, IsScenarioOutcome, IsUnrun}
+use Rattle.mosaikrun_run.specs.Sayings.{halt_ending, record_of, saying_of, text_of}
+use Rattle.mosaikrun_run.proofs.Reporting.{said_is_done, texts_sequential}
+use Rattle.mosaikrun_program.specs.Around.{Around, IsAside, IsUntouched, OutputSeen}
+use Rattle.mosaikrun_program.specs.Commands.{IsAsked, IsHeld, IsOutcomeOf}
+use Rattle.mosaikrun_program.specs.Running.{HasRunAs, IsFolderAfter, IsSaved, RunAnswer}
+use Rattle.mosaikrun_program.specs.Summing.{DemoAnswer, HasSummed}
+use Rattle.mosaikrun_program.specs.Migrating.{HasMigrated, MigrationAnswer}
+use Rattle.mosaikrun_program.specs.Program.{Ended, HasPerformed, IsRead, status}
+use Rattle.mosaikrun_program.specs.Headline.{IsRightCall, IsRightFile, IsRightFor, IsRightLink, IsRightRun, IsRightRunBy, IsRightStudy, IsRightText, IsUnbegun, MayCome}
+use Rattle.mosaikrun_program.proofs.Answering.{one_request}
+
+-- no ending has the status 0
+not_zero : (e : Ending) → status_of e ≡ 0 → ⊥
+not_zero Usage zero = omega (arith, zero)
+not_zero (Missing name) zero = omega (arith, zero)
+not_zero (TooLong name count) zero = omega (arith, zero)
+not_zero (BadScenario fault) zero = omega (arith, zero)
+not_zero (Cycle sims) zero = omega (arith, zero)
+not_zero (Launch sim fault) zero = omega (arith, zero)
+not_zero (Setup setup) zero = omega (arith, zero)
+not_zero (Record line fault) zero = omega (arith, zero)
+not_zero (Wrong sim place cause) zero = omega (arith, zero)
+not_zero (Failed sim text) zero = omega (arith, zero)
+not_zero (LoopLimit sim time) zero = omega (arith, zero)
+not_zero (Link sim fault) zero = omega (arith, zero)
+not_zero (Short outstanding) zero = omega (arith, zero)
+not_zero (Differs entry) zero = omega (arith, zero)
+not_zero Fleet zero = omega (arith, zero)
+not_zero Folder zero = omega (arith, zero)
+not_zero Output zero = omega (arith, zero)
+not_zero (Entries entries) zero = omega (arith, zero)
+not_zero (LongItem sim length) zero = omega (arith, zero)
+not_zero Mem zero = omega (arith, zero)
+
+-- messages that may come: those that were heard of whom has a link, and those that were got of others
+abbrev coming : Option LinkNo → (LinkNo → List Message) → List Message → List Message
+coming None heard own = own
+coming (Some l) heard own = heard l
+
+goes_on : (link : Option LinkNo) (heard : LinkNo → List Message) (own : List Message) → ((l : LinkNo) → link ≡ Some l → BeginsWith (heard l) own) → BeginsWith (coming link heard own) own
+goes_on None heard own begins = ([], sym (append_nil own))
+goes_on (Some l) heard own begins = begins l refl
+
+is_heard : (link : Option LinkNo) (heard : LinkNo → List Message) (own : List Message) (l : LinkNo) → link ≡ Some l → BeginsWith (coming link heard own) (heard l)
+is_heard None heard own l is = cc
+is_heard (Some k) heard own l is = let same : k ≡ l = cc in ([], ap heard same ∙ sym (append_nil (heard l)))
+
+-- what comes of a text or an ending, by the status of the call: the text was put out at status 0;
+-- where there is none, nothing was, and the status isn't 0; and it is 8 for want of memory
+record Shown (C : Around) (text : Result (List ℕ) Ending) (n : ℕ) : Type 0 where
+  put : (t : List ℕ) → text ≡ Ok t → n ≡ 0 → C.output.after ≡ appended t C.output.before
+  unput : (e : Ending) → text ≡ Err e → (C.output.after ≡ C.output.before) × (n ≡ 0 → ⊥)
+  wanting : text ≡ Err Mem → n ≡ 8
+
+-- at status 0 the record of this plan and journal was saved under the name that was given for it
+abbrev Filed : Around → Option (List ℕ) → ℕ → Plan → List Entry → Type 0
+Filed C saved n P J = n ≡ 0 → (name : List ℕ) → saved ≡ Some name → C.folder.files_after ≡ option_map (with_file name (record_text P J)) C.folder.files
+
+module _ (C : Around) (form : Form) (wanted : Bool) (S : Scenario) (saved : Option (List ℕ)) (n : ℕ) where
+  -- a run with its plan
+  played : (text : Result (List ℕ) Ending) (kept : Option (List ℕ)) (p : IsPlayed C.outside form wanted S text kept) → (n ≡ 0 → p.outcome ≡ outcome.Done)
+      → (n ≡ 0 → (R : Messages) → MayCome C.outside S p.plan R → C.output.after ≡ appended (text_of form p.plan (run_items p.plan R)) C.output.before)
+      → Filed C saved n p.plan p.journal → IsRightStudy C form S saved n
+  played text kept p over told filed =
+      let O = C.outside in
+      let right = runs_right O.started S (kind_reply_of O.kinds S) p.plan p.journal O.log O.faults O.new_faults p.outcome p.run.run in
+      let come : Messages = λ i. coming (sim_link O.started S i) (run_messages S O.log i) (got p.journal i) in
+      record {
+        plan = Some p.plan;
+        there = λ zero. refl;
+        links = λ i l linked.
+            let t = right.links i l linked in
+            record {
+              asked = setup_count S i;
+              items = t.items;
+              right = t.right;
+              all = λ zero P is R may.
+                  let same : p.plan ≡ P = cc in
+                  let queued = subst (λ e. QueuedAll e (sent p.journal i) t.items) (over zero) t.all in
+                  subst (λ (X : Plan). (R : Messages) → MayCome O S X R → map bare t.items ≡ run_items X R i) same
+                  (λ R may. ap (map bare) queued ∙ ((right.done (over zero)).all R may i).0) R may;
+              whole = λ other. t.whole;
+            };
+        run = record {
+          ranks = p.ranks;
+          answers = p.run.answers;
+          made = p.run.made;
+          heard = λ i l linked. (p.run.run.links i l linked).1.replied ∙ p.run.told i l linked;
+          within = p.run.kinds;
+          journal = p.journal;
+          promised = right.promised;
+          setup_rests = p.run.run.setup_rests;
+          rests = right.rests;
+          possible = λ zero. (
+            come,
+            record {
+              by_kind = (right.done (over zero)).answers come (λ i low. goes_on (sim_link O.started S i) (run_messages S O.log i) (got p.journal i) (p.run.run.journal.links i));
+              links = λ i l linked. is_heard (sim_link O.started S i) (run_messages S O.log i) (got p.journal i) l linked;
+            },
+          );
+          text = told;
+          recorded = filed;
+        };
+      }
+
+  -- a run with its plan, by what came of it
+  played_as : (text : Result (List ℕ) Ending) (kept : Option (List ℕ)) → (p : IsPlayed C.outside form wanted S text kept) → Shown C text n → (kept ≡ record_of wanted p.plan p.journal → Filed C saved n p.plan p.journal) → IsRightStudy C form S saved n
+  played_as (Ok t) kept p shown filed =
+      played (Ok t) kept p
+      (λ zero. (said_is_done form (ids_of S) p.plan p.journal p.outcome t p.said).0)
+      (λ zero R may. shown.put t refl zero ∙ ap (λ x. appended x C.output.before) (texts_sequential C.outside form wanted S t kept p R may).0)
+      (elim p.recorded [ inl is ↦ filed is | inr none ↦ cc ])
+  played_as (Err e) kept p shown filed =
+      let not = (shown.unput e refl).1 in
+      played (Err e) kept p (λ zero. absurd (not zero)) (λ zero R may. absurd (not zero)) (λ zero name is. absurd (not zero))
+
+  -- a handshake that ended early
+  halted : (text : Result (List ℕ) Ending) (kept : Option (List ℕ)) → IsUnrun C.outside S text kept → (n ≡ 0 → ⊥) → (text ≡ Err Mem → n ≡ 8) → IsRightStudy C form S saved n
+  halted text kept u not wanting = record {
+    plan = None;
+    there = λ zero. absurd (not zero);
+    links = λ i l linked. record {
+      asked = count_to i u.halted.queued;
+      items = [];
+      right = u.halted.says (kind_reply_of C.outside.kinds S) i l linked;
+      all = λ zero P is R may. absurd (not zero);
+      whole = λ other. u.halted.whole (λ mem. other (wanting (mem_said mem))) i l linked;
+    };
+    run = tt;
+  }
+    where
+      mem_said : u.halt ≡ halt.Mem → text ≡ Err Mem
+      mem_said mem = elim u.said [ inl same ↦ same ∙ ap (λ h. Err (halt_ending (ids_of S) h)) mem | inr is ↦ is ]
+
+  unsaid : (text : Result (List ℕ) Ending) (kept : Option (List ℕ)) → IsUnrun C.outside S text kept → Shown C text n → n ≡ 0 → ⊥
+  unsaid text kept u shown = elim u.said [ inl same ↦ (shown.unput _ same).1 | inr is ↦ (shown.unput Mem is).1 ]
+
+  unbegun : (text : Result (List ℕ) Ending) (e : Ending) → text ≡ Err e → C.outside.log ≡ [] → Shown C text n → IsUnbegun C n
+  unbegun text e is silent shown = record { silent = silent; unput = (shown.unput e is).0; status = (shown.unput e is).1 }
+
+  -- what came of a scenario
+  studied : (text : Result (List ℕ) Ending) (kept : Option (List ℕ)) → IsScenarioOutcome C.outside form wanted S text kept → Shown C text n
+      → ((P : Plan) (J : List Entry) → kept ≡ record_of wanted P J → Filed C saved n P J) → IsUnbegun C n ⊎ IsRightStudy C form S saved n
+  studied text kept (inl unready) shown filed = inl (unbegun text unready.ending unready.is unready.idle.quiet shown)
+  studied text kept (inr (inl unrun)) shown filed = inr (halted text kept unrun (unsaid text kept unrun shown) shown.wanting)
+  studied text kept (inr (inr p)) shown filed = inr (played_as text kept p shown (filed p.plan p.journal))
+
+-- what the answer of a run shows
+shown_by_run : (C : Around) (name : Option (List ℕ)) (text : Result (List ℕ) Ending) (kept : Option (List ℕ)) (r : Result (Unit {0}) Ending) → RunAnswer C name text kept r → Shown C text (status r)
+shown_by_run C name (Ok t) kept (Ok done) said = record { put = λ x is zero. said.0 ∙ ap (λ y. appended y C.output.before) (let same : t ≡ x = cc in same); unput = λ e is. cc; wanting = λ is. cc }
+shown_by_run C name (Err why) kept (Ok done) said = absurd said
+shown_by_run C name (Ok t) kept (Err e) said = record { put = λ x is zero. absurd (not_zero e zero); unput = λ f is. cc; wanting = λ is. cc }
+shown_by_run C name (Err why) kept (Err e) said = record {
+  put = λ x is. cc;
+  unput = λ f is. (said.0, not_zero e);
+  wanting = λ is. elim said.1 [ inl same ↦ (let mem : why ≡ Mem = cc in ap status_of (same ∙ mem)) | inr mem ↦ ap status_of mem ];
+}
+
+-- what the answer of the demo shows
+shown_by_demo : (C : Around) (text : Result (List ℕ) Ending) (r : Result (Unit {0}) Ending) → DemoAnswer C.output text r → Shown C text (status r)
+shown_by_demo C (Ok t) (Ok done) said = record { put = λ x is zero. said ∙ ap (λ y. appended y C.output.before) (let same : t ≡ x = cc in same); unput = λ e is. cc; wanting = λ is. cc }
+shown_by_demo C (Err why) (Ok done) said = absurd said
+shown_by_demo C (Ok t) (Err e) said = record { put = λ x is zero. absurd (not_zero e zero); unput = λ f is. cc; wanting = λ is. cc }
+shown_by_demo C (Err why) (Err e) said = record {
+  put = λ x is. cc;
+  unput = λ f is. (said.0, not_zero e);
+  wanting = λ is. elim said.1 [ inl same ↦ (let mem : why ≡ Mem = cc in ap status_of (same ∙ mem)) | inr mem ↦ ap status_of mem ];
+}
+
+-- the record was saved under the name that was given for it, where the answer is that all is done
+filed_by : (C : Around) (name : Option (List ℕ)) (text : Result (List ℕ) Ending) (kept : Option (List ℕ)) (r : Result (Unit {0}) Ending) → RunAnswer C name text kept r
+    → (P : Plan) (J : List Entry) → kept ≡ record_of (is_some name) P J → Filed C name (status r) P J
+filed_by C name text kept (Err e) said P J is zero target named = absurd (not_zero e zero)
+filed_by C name (Err why) kept (Ok done) said P J is zero target named = absurd said
+filed_by C None (Ok t) kept (Ok done) said P J is zero target named = cc
+filed_by C (Some given) (Ok t) kept (Ok done) said P J is zero target named =
+    let same : given ≡ target = cc in
+    subst (λ (x : List ℕ). C.folder.files_after ≡ option_map (with_file x (record_text P J)) C.folder.files) same
+    (subst (λ (k : Option (List ℕ)). IsFolderAfter (Some given) k C.folder.files C.folder.files_after) is said.1)
+
+-- a run
+run_right : (C : Around) (r : Result (Unit {0}) Ending) → (ran : HasRunAs C r) → IsUnbegun C (status r) ⊎ IsRightRun C ran.scenario ran.name (status r)
+run_right C r ran =
+    let shown = shown_by_run C ran.name ran.text ran.kept r ran.ended in
+    elim ran.outcome [
+      | inl none ↦ inl (record { silent = none.idle.quiet; unput = (shown.unput none.ending none.is).0; status = (shown.unput none.ending none.is).1 })
+      | inr has ↦ elim (studied C Report (is_some ran.name) has.scenario ran.name (status r) ran.text ran.kept has.outcome shown (filed_by C ran.name ran.text ran.kept r ran.ended)) [
+        | inl not ↦ inl not
+        | inr study ↦ inr (record { bytes = ran.bytes; held = ran.held; scenario = has.scenario; read = has.read; study = study })
+      ]
+    ]
+
+-- what a command prints of its file
+printed_right : (C : Around) (n : ℕ) (Q : Request) (bytes text : List ℕ) → IsRead C Q bytes → IsOutcomeOf C.outside.kinds Q bytes (Ok text) → C.output.after ≡ appended text C.output.before → IsRightFor C n Q
+printed_right C n (Run name saved) bytes text read outcome put = absurd outcome
+printed_right C n (Demo size) bytes text read outcome put = absurd outcome
+printed_right C n (Migrate old new) bytes text read outcome put = absurd outcome
+printed_right C n (Replay name order) bytes text read outcome put = λ zero. record {
+  bytes = bytes;
+  held = subst (λ (x : List ℕ). IsHeld C.folder.files x bytes) (let named = read.named in let same : read.name ≡ name = cc in same) read.held;
+  text = text;
+  made = outcome;
+  put = put;
+}
+printed_right C n (Check name) bytes text read outcome put = λ zero. record {
+  bytes = bytes;
+  held = subst (λ (x : List ℕ). IsHeld C.folder.files x bytes) (let named = read.named in let same : read.name ≡ name = cc in same) read.held;
+  text = text;
+  made = outcome;
+  put = put;
+}
+
+-- where nothing was done and put out, at a status other than 0
+untouched_right : (C : Around) (n : ℕ) → (n ≡ 0 → ⊥) → IsUntouched C → (Q : Request) → IsRightFor C n Q
+untouched_right C n not untouched (Run name saved) = inl (record { silent = untouched.aside.log; unput = untouched.unput; status = not })
+untouched_right C n not untouched (Demo size) = inl (record { silent = untouched.aside.log; unput = untouched.unput; status = not })
+untouched_right C n not untouched (Replay name order) = λ zero. absurd (not zero)
+untouched_right C n not untouched (Check name) = λ zero. absurd (not zero)
+untouched_right C n not untouched (Migrate old new) = λ zero. absurd (not zero)
+
+-- where the output has a beginning of a text, at a status other than 0
+cut_right : (C : Around) (n : ℕ) → (n ≡ 0 → ⊥) → (Q : Request) (bytes : List ℕ) (o : Result (List ℕ) Ending) → IsOutcomeOf C.outside.kinds Q bytes o → IsRightFor C n Q
+cut_right C n not (Run name saved) bytes o outcome = absurd outcome
+cut_right C n not (Demo size) bytes o outcome = absurd outcome
+cut_right C n not (Migrate old new) bytes o outcome = absurd outcome
+cut_right C n not (Replay name order) bytes o outcome = λ zero. absurd (not zero)
+cut_right C n not (Check name) bytes o outcome = λ zero. absurd (not zero)
+
+-- a migration
+migrated_right : (C : Around) (source name bytes : List ℕ) → IsHeld C.folder.files source bytes → (text : Result (List ℕ) Ending) → IsMigration bytes text → (r : Result (Unit {0}) Ending) → MigrationAnswer C.folder name text r → IsRightFor C (status r) (Migrate source name)
+migrated_right C source name bytes held text outcome (Err e) said = λ zero. absurd (not_zero e zero)
+migrated_right C source name bytes held (Err why) outcome (Ok done) said = absurd said
+migrated_right C source name bytes held (Ok text) outcome (Ok done) said = λ zero. record { bytes = bytes; held = held; text = text; made = outcome; saved = said }
+
+performed_right : (C : Around) (r : Result (Unit {0}) Ending) → HasPerformed C r → (R : Request) → IsAsked C.words R → IsRightFor C (status r) R
+performed_right C r (inl ran) R asked = subst (IsRightFor C (status r)) (one_request C.words (Run ran.scenario ran.name) R ran.asked asked) (run_right C r ran)
+performed_right C r (inr (inl summed)) R asked =
+    subst (IsRightFor C (status r)) (one_request C.words (Demo summed.size) R summed.asked asked)
+    (studied C Summary false (demo_scenario summed.size) None (status r) summed.text None summed.outcome (shown_by_demo C summed.text r summed.ended) (λ P J is zero name named. cc))
+performed_right C r (inr (inr migrated)) R asked =
+    subst (IsRightFor C (status r)) (one_request C.words (Migrate migrated.source migrated.name) R migrated.asked asked)
+    (migrated_right C migrated.source migrated.name migrated.bytes migrated.held migrated.text migrated.outcome r migrated.ended)
+
+right_for : (C : Around) (r : Result (Unit {0}) Ending) → Ended C r → (R : Request) → IsAsked C.words R → IsRightFor C (status r) R
+right_for C (Ok done) (inl printed) R asked =
+    subst (IsRightFor C 0) (one_request C.words printed.request R printed.read.asked asked) (printed_right C 0 printed.request printed.bytes printed.text printed.read printed.outcome printed.put)
+right_for C (Ok done) (inr performed) R asked = performed_right C (Ok done) performed R asked
+right_for C (Err e) (inl misused) R asked = untouched_right C (status_of e) (not_zero e) misused.untouched R
+right_for C (Err e) (inr (inl unread)) R asked = untouched_right C (status_of e) (not_zero e) unread.untouched R
+right_for C (Err e) (inr (inr (inl textless))) R asked = untouched_right C (status_of e) (not_zero e) textless.untouched R
+right_for C (Err e) (inr (inr (inr (inl cut)))) R asked =
+    subst (IsRightFor C (status_of e)) (one_request C.words cut.request R cut.read.asked asked) (cut_right C (status_of e) (not_zero e) cut.request cut.bytes (Ok cut.text) cut.outcome)
+right_for C (Err e) (inr (inr (inr (inr performed)))) R asked = performed_right C (Err e) performed R asked
+
+pub right_call : (C : Around) (r : Result (Unit {0}) Ending) (n : ℕ) → n ≡ status r → Ended C r → IsRightCall C n
+right_call C r n is ended R asked = subst (λ (m : ℕ). IsRightFor C m R) (sym is) (right_for C r ended R asked)

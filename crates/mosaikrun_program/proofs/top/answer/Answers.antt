@@ -1,0 +1,73 @@
+use Rattle.std.proofs.Common.{◌≡◌, [], inl, inr, arith, refl, sym, ap, ◌∙◌, subst, map, Result, Err}
+use Rattle.std.specs.String.{string_bytes}
+use Rattle.std.proofs.lemmas.Result.{err_from_is_err_and}
+use Rattle.mk_outside.proofs.OnLogs.{adds_none}
+use Rattle.mk_local.specs.Registries.{rows_in}
+use Rattle.mosaikrun_words.specs.declared.request.Request.{Request}
+use Rattle.mosaikrun_words.specs.declared.request.Request.TheVariants.{Migrate, Run}
+use Rattle.mosaikrun_endings.specs.declared.ending.Ending.{Ending}
+use Rattle.mosaikrun_run.specs.Outcomes.{outside}
+use Rattle.mosaikrun_program.specs.Around.{Around, folder_seen, output_seen}
+use Rattle.mosaikrun_program.specs.Commands.{IsAsked}
+use Rattle.mosaikrun_program.specs.Program.{Ended}
+use Rattle.mosaikrun_program.proofs.Fleetless.{run_within}
+use Rattle.mosaikrun_program.proofs.Playing.{performed}
+use Rattle.mosaikrun_program.proofs.top.answer.Goals as goal
+
+-- the words ask for nothing
+pub returns-in_err-request-clause-ended : goal.returns-in_err-request-clause-ended
+returns-in_err-request-clause-ended g c =
+    let S : Around = record {
+      words = map string_bytes c.args.words.now;
+      outside = outside g.F.Fleet.started g.F.Fleet.faults (rows_in c.args.kinds.now) c.args.fleet.now c.args.fleet.now [];
+      folder = folder_seen g.D.Folder.files g.D.Folder.faults c.args.folder.now c.args.folder.now;
+      output = output_seen g.K.Sink.written g.K.Sink.faults g.K.Sink.shortages c.args.out.now c.args.out.now;
+    } in
+    let e = err_from_is_err_and c.from_residual.result c.from_residual.ensures.1 in (
+      [],
+      adds_none (g.F.Fleet.log c.args.fleet.now),
+      subst (λ (r : Result (Unit {0}) Ending). Ended S r) (sym (e.1 ∙ ap (λ x. Err x) e.2)) (inl (record {
+        cause = c.in_err-request.ensures.unasked;
+        untouched = record { unput = refl; aside = record { unsaved = refl; log = refl; faults = refl } };
+      })),
+    )
+
+-- the demo is run
+pub returns-in-Demo-clause-ended : goal.returns-in-Demo-clause-ended
+returns-in-Demo-clause-ended g c =
+    let seen = folder_seen g.D.Folder.files g.D.Folder.faults c.args.folder.now c.args.folder.now in
+    let asked = subst (λ (R : Request). IsAsked (map string_bytes c.args.words.now) R) c.in-Demo.is c.in_ok-request.ensures.asked in
+    let came = c.sum_up.ensures.summed (map string_bytes c.args.words.now) seen refl asked in
+    (came.0, came.1, performed _ _ (inr (inl came.2)))
+
+-- a migration is made
+pub returns-in-Migrate-clause-ended : goal.returns-in-Migrate-clause-ended
+returns-in-Migrate-clause-ended g c =
+    let unused = outside g.F.Fleet.started g.F.Fleet.faults (rows_in c.args.kinds.now) c.args.fleet.now c.args.fleet.now [] in
+    let seen = output_seen g.K.Sink.written g.K.Sink.faults g.K.Sink.shortages c.args.out.now c.args.out.now in
+    let same : c.in_ok-request.request ≡ Migrate c.as_str-in-Migrate.result.now c.as_str-in-Migrate-2.result.now = cc (c.in-Migrate.is, c.as_str-in-Migrate.ensures, c.as_str-in-Migrate-2.ensures) in
+    let asked = subst (λ (R : Request). IsAsked (map string_bytes c.args.words.now) R) same c.in_ok-request.ensures.asked in
+    ([], adds_none (g.F.Fleet.log c.args.fleet.now), c.migrate.ensures.migrated (map string_bytes c.args.words.now) unused seen refl refl refl asked)
+
+-- a run does nothing with the fleet where no simulator has a link
+pub returns-in-Run-clause-fleet_unused : goal.returns-in-Run-clause-fleet_unused
+returns-in-Run-clause-fleet_unused g c =
+    let same : c.in_ok-request.request ≡ Run c.as_str.result.now c.in-Run.record = cc (c.in-Run.is, c.as_str.ensures) in
+    let asked = subst (λ (R : Request). IsAsked (map string_bytes c.args.words.now) R) same c.in_ok-request.ensures.asked in
+    λ needless. c.play.ensures.within (run_within (map string_bytes c.args.words.now) (g.D.Folder.files c.args.folder.now) _ _ asked needless)
+
+-- a command without a fleet is made
+pub returns-in_default : goal.returns-in_default
+returns-in_default g c = record {
+  ended = (
+    [],
+    adds_none (g.F.Fleet.log c.args.fleet.now),
+    c.make.ensures.made (map string_bytes c.args.words.now) (g.F.Fleet.started c.args.fleet.now) (g.F.Fleet.faults c.args.fleet.now)
+        c.in_ok-request.ensures.asked,
+  );
+  links_closed = λ low_ones. refl;
+  fleet_unused = λ needless. refl;
+  folder_count = c.make.ensures.folder_count;
+  fleet_count = omega (arith);
+  out_count = c.make.ensures.out_count;
+}

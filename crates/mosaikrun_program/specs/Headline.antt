@@ -1,0 +1,144 @@
+-- The headline: whichever simulator answers first, a study comes out the same. What a call of the
+-- program has said on the links of its simulators, and what it has put out, is what sequential
+-- execution of the scenario's plan sends; in which order messages came stands nowhere in it.
+use Rattle.std.specs.Prelude.{◌≡◌, ℕ, ◌⊎◌, true, List, [], map, option_map, take, Option, Some, None, IsSome, IfSome, Ok}
+use Rattle.mk_base.specs.declared.LinkNo.{LinkNo}
+use Rattle.mk_plan.specs.declared.Plan.{Plan}
+use Rattle.mk_plan.specs.declared.Item.{Item}
+use Rattle.mk_plan.specs.declared.Entry.{Entry}
+use Rattle.mk_plan.specs.declared.Message.{Message}
+use Rattle.mk_plan.specs.Journals.{bare}
+use Rattle.mk_plan.specs.Sequential.{Messages, run_items}
+use Rattle.mk_outside.specs.Counts.{HasRisen}
+use Rattle.mk_outside.specs.Folders.{with_file}
+use Rattle.mk_outside.specs.Sinks.{appended}
+use Rattle.mk_scenario.specs.declared.parts.Scenario.{Scenario}
+use Rattle.mk_scenario.specs.Scenarios.{scenario_of}
+use Rattle.mk_scenario_demo.specs.Demo.{demo_scenario}
+use Rattle.mk_local.specs.Kinds.{name_of}
+use Rattle.mk_run_laws.specs.Handshake.{setup_count, setup_requests, sim_link}
+use Rattle.mk_run_laws.specs.Hearing.{messages_heard}
+use Rattle.mk_run_laws.specs.Rests.{RestsWell}
+use Rattle.mk_run_laws.specs.Runs.{IsPossible, SaidWhole, SaysRight}
+use Rattle.mk_outside.specs.Logs.{heard_on}
+use Rattle.mk_run_local.specs.Made.{kind_reply_of}
+use Rattle.mk_run_crew.specs.Answers.{AreKindAnswers, answers_to}
+use Rattle.mk_run.specs.Ends.{SetupRestsWell}
+use Rattle.mk_run.specs.Laws.{ArePromised}
+use Rattle.mk_setup.specs.Handshakes.{IsMade}
+use Rattle.mk_record.specs.Texts.{record_text}
+use Rattle.mosaikrun_words.specs.declared.request.Request.{Request}
+use Rattle.mosaikrun_words.specs.declared.request.Request.TheVariants.{Run, Replay, Check, Demo, Migrate}
+use Rattle.mosaikrun_records.specs.Reports.{IsReportOf}
+use Rattle.mosaikrun_records.specs.Migrations.{IsRecordOf}
+use Rattle.mosaikrun_check.specs.Checks.{IsChecked}
+use Rattle.mosaikrun_run.specs.declared.sayings.Form.{Form}
+use Rattle.mosaikrun_run.specs.declared.sayings.Form.TheVariants.{Report, Summary}
+use Rattle.mosaikrun_run.specs.Outcomes.{Outside}
+use Rattle.mosaikrun_run.specs.Sayings.{text_of}
+use Rattle.mosaikrun_program.specs.Around.{Around}
+use Rattle.mosaikrun_program.specs.Commands.{IsAsked, IsHeld}
+
+-- messages of the simulators that may come: on each link those that were heard there, and whatever
+-- goes on; of simulators within the program what their kinds answer
+abbrev pub MayCome : Outside → Scenario → Plan → Messages → Type 0
+MayCome O S P R = IsPossible O.started S (kind_reply_of O.kinds S) P O.log R
+
+-- what was said to simulator i on its link, by a call that ended with status n: the frames of the
+-- first requests of its handshake, of items, and of a stop, or a beginning of these bytes. The
+-- items, without max_advance, begin what sequential execution of the plan sends it, over all
+-- messages that may come; at status 0 they are all of it. Unless memory was wanting, all of these
+-- bytes were said, but where the link's last write took nothing or the fleet's count of faults rose
+pub record IsRightLink (O : Outside) (S : Scenario) (plan : Option Plan) (n i : ℕ)
+    (l : LinkNo) : Type 0 where
+  pub asked : ℕ
+  pub items : List Item
+  pub right : SaysRight O.started S (kind_reply_of O.kinds S) plan O.log i l asked items true
+  pub all : n ≡ 0 → (P : Plan) → plan ≡ Some P → (R : Messages) → MayCome O S P R
+      → map bare items ≡ run_items P R i
+  pub whole : (n ≡ 8 → ⊥) → SaidWhole S O.log (HasRisen O.faults O.new_faults) i l asked items
+
+-- what the simulators were sent by this plan, which is that of the replies to their handshake. Each
+-- Step's max_advance is a promise. Wherever the fleet was waited for: until all had set up, each
+-- request was said up to the first whose reply hadn't come; from then on all messages heard were in
+-- the journal, nobody was ready, and all that was owed was said, in both cases but where a link's
+-- last write took nothing. At status 0 messages may come, and over all that may, the output has
+-- grown by exactly the text of what sequential execution sends; and the record of the plan and the
+-- journal was saved under the name that was given for it
+pub record IsRightRunBy (C : Around) (form : Form) (S : Scenario) (saved : Option (List ℕ)) (n : ℕ)
+    (P : Plan) : Type 0 where
+  pub ranks : List ℕ
+  pub answers : List Message
+  pub made : IsMade S ranks answers P
+  pub heard : (i : ℕ) (l : LinkNo) → sim_link C.outside.started S i ≡ Some l
+      → take (setup_count S i) (messages_heard (heard_on l C.outside.log))
+      ≡ answers_to i (setup_requests S) answers
+  pub within : AreKindAnswers C.outside.kinds S answers
+  pub journal : List Entry
+  pub promised : ArePromised C.outside.started S (kind_reply_of C.outside.kinds S) P journal
+      C.outside.log
+  pub setup_rests : SetupRestsWell C.outside.started S C.outside.log
+  pub rests : RestsWell C.outside.started S P journal C.outside.log
+  pub possible : n ≡ 0 → (R : Messages) × MayCome C.outside S P R
+  pub text : n ≡ 0 → (R : Messages) → MayCome C.outside S P R
+      → C.output.after ≡ appended (text_of form P (run_items P R)) C.output.before
+  pub recorded : n ≡ 0 → (name : List ℕ) → saved ≡ Some name → C.folder.files_after
+      ≡ option_map (with_file name (record_text P journal)) C.folder.files
+
+-- a scenario was run, with a plan where its handshake came to one
+pub record IsRightStudy (C : Around) (form : Form) (S : Scenario) (saved : Option (List ℕ))
+    (n : ℕ) : Type 0 where
+  pub plan : Option Plan
+  pub there : n ≡ 0 → IsSome plan
+  pub links : (i : ℕ) (l : LinkNo) → sim_link C.outside.started S i ≡ Some l
+      → IsRightLink C.outside S plan n i l
+  pub run : IfSome plan (IsRightRunBy C form S saved n)
+
+-- nothing was run: nothing was said or heard on any link, nothing was put out, and the status isn't
+-- 0
+pub record IsUnbegun (C : Around) (n : ℕ) : Type 0 where
+  pub silent : C.outside.log ≡ []
+  pub unput : C.output.after ≡ C.output.before
+  pub status : n ≡ 0 → ⊥
+
+-- the file of this name, where the folder tells, has bytes that are a scenario, which was run
+pub record IsRightRun (C : Around) (name : List ℕ) (saved : Option (List ℕ)) (n : ℕ) : Type 0 where
+  pub bytes : List ℕ
+  pub held : IsHeld C.folder.files name bytes
+  pub scenario : Scenario
+  pub read : scenario_of bytes ≡ Ok scenario
+  pub study : IsRightStudy C Report scenario saved n
+
+-- the file of this name, where the folder tells, has bytes of which this text was made, and the
+-- output has grown by exactly the text
+pub record IsRightText (C : Around) (name : List ℕ)
+    (IsMadeOf : List ℕ → List ℕ → Type 0) : Type 0 where
+  pub bytes : List ℕ
+  pub held : IsHeld C.folder.files name bytes
+  pub text : List ℕ
+  pub made : IsMadeOf bytes text
+  pub put : C.output.after ≡ appended text C.output.before
+
+-- the file of this name, where the folder tells, has bytes of which this text was made, and the text
+-- was saved under the other name, all other files being as before
+pub record IsRightFile (C : Around) (name target : List ℕ)
+    (IsMadeOf : List ℕ → List ℕ → Type 0) : Type 0 where
+  pub bytes : List ℕ
+  pub held : IsHeld C.folder.files name bytes
+  pub text : List ℕ
+  pub made : IsMadeOf bytes text
+  pub saved : C.folder.files_after ≡ option_map (with_file target text) C.folder.files
+
+-- a call that asks for this, and ended with status n, is right
+abbrev pub IsRightFor : Around → ℕ → Request → Type 0
+IsRightFor C n (Run scenario saved) = IsUnbegun C n ⊎ IsRightRun C scenario saved n
+IsRightFor C n (Demo size) = IsUnbegun C n ⊎ IsRightStudy C Summary (demo_scenario size) None n
+IsRightFor C n (Replay name order) = n ≡ 0
+    → IsRightText C name (λ bytes text. IsReportOf bytes order text)
+IsRightFor C n (Check scenario) = n ≡ 0
+    → IsRightText C scenario (IsChecked (map name_of C.outside.kinds))
+IsRightFor C n (Migrate old new) = n ≡ 0 → IsRightFile C old new IsRecordOf
+
+-- whatever the words of a call ask for, it is right
+abbrev pub IsRightCall : Around → ℕ → Type 0
+IsRightCall C n = (R : Request) → IsAsked C.words R → IsRightFor C n R

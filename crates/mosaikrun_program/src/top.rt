@@ -1,0 +1,386 @@
+// The top call: all that the program does, over a folder, a fleet and two sinks.
+ghost use Rattle.std.specs.Prelude.{◌≡◌, [], ℕ, ◌≤◌, ◌<◌, ◌⊎◌, List, Some, Result, Err, IfSome, IfOk, IfErr, OnOk, OnErr, map, option_map, length};
+ghost use Rattle.std.specs.String.{string_bytes};
+ghost use Rattle.mk_outside.specs.Counts.{HasRisen};
+ghost use Rattle.mk_outside.specs.Folders.{file_limit, with_file};
+ghost use Rattle.mk_base.specs.Lists.{IsIn};
+ghost use Rattle.mk_outside.specs.declared.fleet.LogEntry.{LogEntry};
+ghost use Rattle.mk_outside.specs.Logs.{Adds};
+ghost use Rattle.mk_outside.specs.Sinks.{TookBeginning, appended};
+ghost use Rattle.mk_launch.specs.Starts.{AreNumbered};
+ghost use Rattle.mosaikrun_words.specs.declared.request.Request.{Request};
+ghost use Rattle.mosaikrun_words.specs.declared.request.Request.TheVariants as requests;
+ghost use Rattle.mosaikrun_words.specs.Requests.{command_of};
+ghost use Rattle.mk_local.specs.Registries.{rows_in};
+ghost use Rattle.mosaikrun_endings.specs.declared.ending.Ending.{Ending};
+ghost use Rattle.mosaikrun_endings.specs.declared.ending.Ending.TheVariants as ends;
+ghost use Rattle.mosaikrun_endings.specs.Endings.{line_of, outcome_status, status_of};
+ghost use Rattle.mosaikrun_run.specs.Outcomes.{Outside, outside};
+ghost use Rattle.mosaikrun_records.specs.Migrations.{IsMigration};
+ghost use Rattle.mosaikrun_program.specs.Around.{FolderSeen, OutputSeen, folder_seen, output_seen};
+ghost use Rattle.mosaikrun_program.specs.inner.Around.{unused};
+ghost use Rattle.mosaikrun_program.specs.Commands.{IsAsked, IsHeld, IsOutcomeOf, IsNoFile, IsUnreadable, file_of};
+ghost use Rattle.mosaikrun_program.specs.Complete.{EndsRun};
+ghost use Rattle.mosaikrun_program.specs.Fleetless.{IsHeldWithin, NeedsNoFleet};
+ghost use Rattle.mosaikrun_program.specs.Headline.{IsRightCall};
+ghost use Rattle.mosaikrun_program.specs.Running.{IsFolderAfter};
+ghost use Rattle.mosaikrun_program.specs.Summing.{HasSummed};
+ghost use Rattle.mosaikrun_program.specs.Program.{Ended, EndsWith, IsStatusOr, KeepsOthers, TookLine};
+
+use crate::commands::{COMMANDS, asked, file_of, outcome};
+use mk_base::Text;
+use mk_local::Registry;
+use mk_outside::{FileRead, FileSave, Fleet, Folder, PutAll, Sink, put_all};
+use mk_run_crew::handshakes_complete;
+use mosaikrun_demo::summed;
+use mosaikrun_endings::Ending;
+use mosaikrun_records::migrated;
+use mosaikrun_run::ran;
+use mosaikrun_words::{Command, Request};
+use std::alloc::Global;
+use std::sync::Wait;
+
+/// Does what the words ask: reads the file that they name, and puts what the command makes of it to `out`. A run is made over
+/// the fleet, and may wait for others; it saves its record, where the words give a name, however it ended. The demo is a run
+/// too, of a scenario that is no file. A migration puts nothing to `out`, and saves a record. Answers the status. A scenario's
+/// simulators within the program are of these kinds.
+///
+/// Nothing is done with the fleet, unless the words ask for a run of a scenario in which some simulator has a link.
+///
+/// At a status other than 0 `err` gets a line that says why, and `out` gets nothing, or a beginning of the text where it failed
+/// or found no memory.
+pub fn program<D: Folder, F: Fleet, K: Sink, E: Sink, R: Wait>(
+    rt: &R,
+    alloc: Global,
+    words: &[String],
+    folder: &mut D,
+    fleet: &mut F,
+    kinds: &Registry,
+    out: &mut K,
+    err: &mut E,
+) -> u8
+    ensures headline { (entries : List LogEntry) × Adds entries (F.log fleet.old) (F.log fleet.new)
+        × IsRightCall
+        (record {
+          words = map string_bytes words.now;
+          outside = outside F.started F.faults (rows_in kinds.now) fleet.old fleet.new entries;
+          folder = folder_seen D.files D.faults folder.old folder.new;
+          output = output_seen K.written K.faults K.shortages out.old out.new;
+        })
+        result }
+    ensures ended { (entries : List LogEntry) × Adds entries (F.log fleet.old) (F.log fleet.new)
+        × EndsWith
+        (record {
+          words = map string_bytes words.now;
+          outside = outside F.started F.faults (rows_in kinds.now) fleet.old fleet.new entries;
+          folder = folder_seen D.files D.faults folder.old folder.new;
+          output = output_seen K.written K.faults K.shortages out.old out.new;
+        })
+        (HasRisen (E.faults err.old) (E.faults err.new)
+        ⊎ HasRisen (E.shortages err.old) (E.shortages err.new))
+        (E.written err.old) (E.written err.new) result }
+    ensures completes { (entries : List LogEntry) × Adds entries (F.log fleet.old) (F.log fleet.new)
+        × EndsRun
+        (record {
+          words = map string_bytes words.now;
+          outside = outside F.started F.faults (rows_in kinds.now) fleet.old fleet.new entries;
+          folder = folder_seen D.files D.faults folder.old folder.new;
+          output = output_seen K.written K.faults K.shortages out.old out.new;
+        })
+        result }
+    ensures usage { (result ≡ 2) → (R : Request) → IsAsked (map string_bytes words.now) R → ⊥ }
+    ensures useless { ((R : Request) → IsAsked (map string_bytes words.now) R → ⊥)
+        → IsStatusOr 2 result }
+    ensures decided { IfSome (D.files folder.old) (λ held. (R : Request) → (name : List ℕ)
+        → (bytes : List ℕ) → (o : Result (List ℕ) Ending) → IsAsked (map string_bytes words.now) R
+        → file_of R ≡ Some name → held name ≡ Some bytes → length bytes ≤ file_limit
+        → IsOutcomeOf (rows_in kinds.now) R bytes o → (o ≡ Err ends.Mem → ⊥)
+        → IsStatusOr (outcome_status o) result) }
+    ensures unreadable { IfSome (D.files folder.old) (λ held. (R : Request) → (name : List ℕ)
+        → IsAsked (map string_bytes words.now) R
+        → file_of R ≡ Some name → IsNoFile (held name) → IsStatusOr 3 result) }
+    ensures migrated { IfSome (D.files folder.old) (λ held. (source : List ℕ) → (name : List ℕ)
+        → (bytes : List ℕ) → (o : Result (List ℕ) Ending)
+        → IsAsked (map string_bytes words.now) (requests.Migrate source name)
+        → held source ≡ Some bytes → length bytes ≤ file_limit → IsMigration bytes o
+        → (o ≡ Err ends.Mem → ⊥) → IsStatusOr (outcome_status o) result) }
+    ensures others_kept { KeepsOthers (map string_bytes words.now) (D.files folder.old)
+        (D.files folder.new) }
+    ensures links_closed { AreNumbered (F.started fleet.old) (F.open_links fleet.old)
+        → F.open_links fleet.new ≡ F.open_links fleet.old }
+    ensures fleet_unused { NeedsNoFleet (map string_bytes words.now) (D.files folder.old)
+        → fleet.new ≡ fleet.old }
+    ensures folder_count { D.faults folder.old ≤ D.faults folder.new }
+    ensures fleet_count { F.faults fleet.old ≤ F.faults fleet.new }
+    ensures out_count { K.faults out.old ≤ K.faults out.new }
+    ensures err_count { E.faults err.old ≤ E.faults err.new }
+{
+    // a law, which does nothing: when a run comes to its end
+    handshakes_complete();
+    match answer(rt, alloc, words, folder, fleet, kinds, out) {
+        Ok(()) => 0,
+        Err(ending) => tell(alloc, &ending, err),
+    }
+}
+
+// Reads the words, and does what they ask.
+fn answer<D: Folder, F: Fleet, K: Sink, R: Wait>(
+    rt: &R,
+    alloc: Global,
+    words: &[String],
+    folder: &mut D,
+    fleet: &mut F,
+    kinds: &Registry,
+    out: &mut K,
+) -> Result<(), Ending>
+    ensures ended { (entries : List LogEntry) × Adds entries (F.log fleet.old) (F.log fleet.new)
+        × Ended (record {
+          words = map string_bytes words.now;
+          outside = outside F.started F.faults (rows_in kinds.now) fleet.old fleet.new entries;
+          folder = folder_seen D.files D.faults folder.old folder.new;
+          output = output_seen K.written K.faults K.shortages out.old out.new;
+        }) result }
+    ensures links_closed { AreNumbered (F.started fleet.old) (F.open_links fleet.old)
+        → F.open_links fleet.new ≡ F.open_links fleet.old }
+    ensures fleet_unused { NeedsNoFleet (map string_bytes words.now) (D.files folder.old)
+        → fleet.new ≡ fleet.old }
+    ensures folder_count { D.faults folder.old ≤ D.faults folder.new }
+    ensures fleet_count { F.faults fleet.old ≤ F.faults fleet.new }
+    ensures out_count { K.faults out.old ≤ K.faults out.new }
+{
+    match asked(alloc, words)? {
+        Request::Run { scenario, record } => {
+            play(
+                rt,
+                alloc,
+                scenario.as_str(),
+                &record,
+                folder,
+                fleet,
+                kinds,
+                out,
+            )
+        }
+        Request::Demo { size } => sum_up(rt, alloc, size, fleet, kinds, out),
+        Request::Migrate { old, new } => migrate(alloc, old.as_str(), new.as_str(), folder),
+        request => make(alloc, &request, folder, kinds, out),
+    }
+}
+
+// Reads the file that a command without a fleet names, and prints what the command makes of it.
+fn make<D: Folder, K: Sink>(
+    alloc: Global,
+    request: &Request,
+    folder: &mut D,
+    kinds: &Registry,
+    out: &mut K,
+) -> Result<(), Ending>
+    requires there { IsIn (command_of request.now) COMMANDS }
+    requires no_run { command_of request.now ≡ Command.Run → ⊥ }
+    requires no_demo { command_of request.now ≡ Command.Demo → ⊥ }
+    requires no_migration { command_of request.now ≡ Command.Migrate → ⊥ }
+    ensures made { (words : List (List ℕ)) → (started : ℕ) → (faults : ℕ)
+        → IsAsked words request.now → Ended (record {
+          words = words;
+          outside = unused (rows_in kinds.now) started faults;
+          folder = folder_seen D.files D.faults folder.old folder.new;
+          output = output_seen K.written K.faults K.shortages out.old out.new;
+        }) result }
+    ensures folder_count { D.faults folder.old ≤ D.faults folder.new }
+    ensures out_count { K.faults out.old ≤ K.faults out.new }
+{
+    let bytes = file_bytes(alloc, folder, file_of(request))?;
+    let text = outcome(alloc, kinds, request, bytes.as_slice())?;
+    print(out, text.as_slice())
+}
+
+// Reads a scenario's file and runs it over the fleet, saves the record under the name, if there is one, and prints the report.
+fn play<D: Folder, F: Fleet, K: Sink, R: Wait>(
+    rt: &R,
+    alloc: Global,
+    scenario: &str,
+    name: &Option<Text>,
+    folder: &mut D,
+    fleet: &mut F,
+    kinds: &Registry,
+    out: &mut K,
+) -> Result<(), Ending>
+    ensures played { (words : List (List ℕ)) → IsAsked words (requests.Run scenario.now name.now)
+        → (entries : List LogEntry) × Adds entries (F.log fleet.old) (F.log fleet.new)
+        × Ended (record {
+          words = words;
+          outside = outside F.started F.faults (rows_in kinds.now) fleet.old fleet.new entries;
+          folder = folder_seen D.files D.faults folder.old folder.new;
+          output = output_seen K.written K.faults K.shortages out.old out.new;
+        }) result }
+    ensures links_closed { AreNumbered (F.started fleet.old) (F.open_links fleet.old)
+        → F.open_links fleet.new ≡ F.open_links fleet.old }
+    ensures within { IsHeldWithin (D.files folder.old) scenario.now → fleet.new ≡ fleet.old }
+    ensures folder_count { D.faults folder.old ≤ D.faults folder.new }
+    ensures fleet_count { F.faults fleet.old ≤ F.faults fleet.new }
+    ensures out_count { K.faults out.old ≤ K.faults out.new }
+{
+    let bytes = file_bytes(alloc, folder, scenario)?;
+    let told = ran(rt, alloc, kinds, bytes.as_slice(), fleet, name.is_some());
+    match keep(folder, name, &told.record) {
+        FileSave::Kept => print(out, told.text?.as_slice()),
+        FileSave::Failed => {
+            told.text?;
+            Err(Ending::Folder)
+        }
+        FileSave::Mem => Err(Ending::Mem),
+    }
+}
+
+// Runs the demo scenario of this size over the fleet, and prints its summary.
+fn sum_up<F: Fleet, K: Sink, R: Wait>(
+    rt: &R,
+    alloc: Global,
+    size: u32,
+    fleet: &mut F,
+    kinds: &Registry,
+    out: &mut K,
+) -> Result<(), Ending>
+    requires low { 1 ≤ size }
+    requires high { size ≤ 100 }
+    ensures summed { (words : List (List ℕ)) → (folder : FolderSeen)
+        → folder.files_after ≡ folder.files → IsAsked words (requests.Demo size)
+        → (entries : List LogEntry) × Adds entries (F.log fleet.old) (F.log fleet.new)
+        × HasSummed (record {
+          words = words;
+          outside = outside F.started F.faults (rows_in kinds.now) fleet.old fleet.new entries;
+          folder = folder;
+          output = output_seen K.written K.faults K.shortages out.old out.new;
+        }) result }
+    ensures links_closed { AreNumbered (F.started fleet.old) (F.open_links fleet.old)
+        → F.open_links fleet.new ≡ F.open_links fleet.old }
+    ensures alone { fleet.new ≡ fleet.old }
+    ensures fleet_count { F.faults fleet.old ≤ F.faults fleet.new }
+    ensures out_count { K.faults out.old ≤ K.faults out.new }
+{
+    let text = summed(rt, alloc, kinds, size, fleet)?;
+    print(out, text.as_slice())
+}
+
+// Reads a record's file, and saves the record of its replay under this name.
+fn migrate<D: Folder>(alloc: Global, source: &str, name: &str, folder: &mut D) -> Result<(), Ending>
+    ensures migrated { (words : List (List ℕ)) → (outside : Outside) → (output : OutputSeen)
+        → outside.log ≡ [] → outside.new_faults ≡ outside.faults → output.after ≡ output.before
+        → IsAsked words (requests.Migrate source.now name.now) → Ended (record {
+          words = words;
+          outside = outside;
+          folder = folder_seen D.files D.faults folder.old folder.new;
+          output = output;
+        }) result }
+    ensures folder_count { D.faults folder.old ≤ D.faults folder.new }
+{
+    let bytes = file_bytes(alloc, folder, source)?;
+    let text = migrated(alloc, bytes.as_slice())?;
+    save(folder, name, text.as_slice())
+}
+
+// Saves a file, or says why it isn't saved.
+fn save<D: Folder>(folder: &mut D, name: &str, bytes: &[u8]) -> Result<(), Ending>
+    ensures kept { OnOk result (D.files folder.new
+        ≡ option_map (with_file name.now bytes.now) (D.files folder.old)) }
+    ensures unsaved { OnErr result (D.files folder.new ≡ D.files folder.old) }
+    ensures cause { IfErr result (λ e. ((e ≡ ends.Folder)
+        × HasRisen (D.faults folder.old) (D.faults folder.new)) ⊎ (e ≡ ends.Mem)) }
+    ensures count { D.faults folder.old ≤ D.faults folder.new }
+{
+    match folder.save(name, bytes) {
+        FileSave::Kept => Ok(()),
+        FileSave::Failed => Err(Ending::Folder),
+        FileSave::Mem => Err(Ending::Mem),
+    }
+}
+
+// Saves the record of a run, if there is one, under the name, if one is given.
+fn keep<D: Folder>(folder: &mut D, name: &Option<Text>, bytes: &Option<Vec<u8>>) -> FileSave
+    ensures kept { result ≡ FileSave.Kept
+        → IsFolderAfter name.now (option_map (λ b. b.items) bytes.now) (D.files folder.old)
+        (D.files folder.new) }
+    ensures failed { result ≡ FileSave.Failed → (D.files folder.new ≡ D.files folder.old)
+        × HasRisen (D.faults folder.old) (D.faults folder.new) }
+    ensures wanting { result ≡ FileSave.Mem → D.files folder.new ≡ D.files folder.old }
+    ensures count { D.faults folder.old ≤ D.faults folder.new }
+{
+    match (name, bytes) {
+        (Some(name), Some(bytes)) => folder.save(name.as_str(), bytes.as_slice()),
+        _ => FileSave::Kept,
+    }
+}
+
+// A file's bytes, or why there are none.
+fn file_bytes<D: Folder>(alloc: Global, folder: &mut D, name: &str) -> Result<Vec<u8>, Ending>
+    ensures read { IfOk result (λ bytes. IsHeld (D.files folder.old) name.now bytes.items) }
+    ensures unread { IfErr result
+        (λ e. IsUnreadable (D.files folder.old) name.now
+        (HasRisen (D.faults folder.old) (D.faults folder.new)) e) }
+    ensures kept { D.files folder.new ≡ D.files folder.old }
+    ensures count { D.faults folder.old ≤ D.faults folder.new }
+{
+    let mut bytes = Vec::new(alloc);
+    match folder.read(name, &mut bytes) {
+        FileRead::Whole => Ok(bytes),
+        FileRead::Missing => Err(Ending::Missing {
+            name: Text::of(alloc, name)?,
+        }),
+        FileRead::TooLong(count) => Err(Ending::TooLong {
+            name: Text::of(alloc, name)?,
+            count,
+        }),
+        FileRead::Failed => Err(Ending::Folder),
+        FileRead::Mem => Err(Ending::Mem),
+    }
+}
+
+// Puts a text, or says why only a beginning of it was taken.
+fn print<K: Sink>(out: &mut K, text: &[u8]) -> Result<(), Ending>
+    ensures put { OnOk result (K.written out.new ≡ appended text.now (K.written out.old)) }
+    ensures cut { OnErr result (TookBeginning text.now (K.written out.old) (K.written out.new)) }
+    ensures cause { IfErr result (λ e. ((e ≡ ends.Output)
+        × HasRisen (K.faults out.old) (K.faults out.new))
+        ⊎ ((e ≡ ends.Mem) × HasRisen (K.shortages out.old) (K.shortages out.new))) }
+    ensures count { K.faults out.old ≤ K.faults out.new }
+{
+    match put_all(out, text) {
+        PutAll::Done => Ok(()),
+        PutAll::Failed => Err(Ending::Output),
+        PutAll::Mem => Err(Ending::Mem),
+    }
+}
+
+// Says why there is no text, and answers the status. Where there is no memory for the line it says that.
+fn tell<E: Sink>(alloc: Global, ending: &Ending, err: &mut E) -> u8
+    ensures told { (e : Ending) × ((e ≡ ending.now) ⊎ (e ≡ ends.Mem)) × (result ≡ status_of e)
+        × TookLine (line_of e) (HasRisen (E.faults err.old) (E.faults err.new)
+        ⊎ HasRisen (E.shortages err.old) (E.shortages err.new)) (E.written err.old)
+        (E.written err.new) }
+    ensures count { E.faults err.old ≤ E.faults err.new }
+{
+    match ending.line(alloc) {
+        Ok(line) => {
+            put_line(err, line.as_slice());
+            ending.status()
+        }
+        Err(_) => {
+            put_line(err, b"mosaikrun: out of memory\n");
+            8
+        }
+    }
+}
+
+// Puts a line, or a beginning of it where the sink fails or finds no memory.
+fn put_line<E: Sink>(err: &mut E, line: &[u8])
+    ensures told { TookLine line.now (HasRisen (E.faults err.old) (E.faults err.new)
+        ⊎ HasRisen (E.shortages err.old) (E.shortages err.new)) (E.written err.old)
+        (E.written err.new) }
+    ensures count { E.faults err.old ≤ E.faults err.new }
+{
+    match put_all(err, line) {
+        PutAll::Done => (),
+        PutAll::Failed => (),
+        PutAll::Mem => (),
+    }
+}

@@ -1,0 +1,195 @@
+// Calls of the program in which one call of the folder or of an output fails.
+
+use crate::calls::status_of;
+use crate::files::{COUNTER, RECORD, SAVED, THREE_STEPS};
+use mk_base::{List, Mem};
+use mk_fakes::{MemFolder, MemSink};
+use mk_local::Registry;
+use std::alloc::Global;
+use std::sync::Wait;
+
+// Which of the three fails.
+#[derive(Clone, Copy, PartialEq, Eq)]
+enum Fails {
+    Folder,
+    Out,
+    Err,
+}
+
+// Words, the one call that fails, and what comes of it: the status, what the outputs have, and what is saved as `k`.
+struct Row {
+    words: &'static [&'static str],
+    fails: Fails,
+    call: u64,
+    status: u8,
+    err: &'static str,
+    out: &'static str,
+    saved: &'static str,
+}
+
+const RUN: &[&str] = &["run", "s", "--record", "k"];
+
+const REPLAY: &[&str] = &["replay", "r"];
+
+const FOLDER: &str = "mosaikrun: outside: folder\n";
+
+const OUTPUT: &str = "mosaikrun: outside: output\n";
+
+// Each call of each one in turn, up to the first that isn't made.
+const ROWS: [Row; 12] = [
+    Row {
+        words: RUN,
+        fails: Fails::Folder,
+        call: 0,
+        status: 6,
+        err: FOLDER,
+        out: "",
+        saved: "",
+    },
+    Row {
+        words: RUN,
+        fails: Fails::Folder,
+        call: 1,
+        status: 6,
+        err: FOLDER,
+        out: "",
+        saved: "",
+    },
+    Row {
+        words: RUN,
+        fails: Fails::Folder,
+        call: 2,
+        status: 0,
+        err: "",
+        out: THREE_STEPS,
+        saved: SAVED,
+    },
+    Row {
+        words: RUN,
+        fails: Fails::Out,
+        call: 0,
+        status: 6,
+        err: OUTPUT,
+        out: "",
+        saved: SAVED,
+    },
+    Row {
+        words: RUN,
+        fails: Fails::Out,
+        call: 1,
+        status: 0,
+        err: "",
+        out: THREE_STEPS,
+        saved: SAVED,
+    },
+    Row {
+        words: RUN,
+        fails: Fails::Err,
+        call: 0,
+        status: 0,
+        err: "",
+        out: THREE_STEPS,
+        saved: SAVED,
+    },
+    Row {
+        words: REPLAY,
+        fails: Fails::Folder,
+        call: 0,
+        status: 6,
+        err: FOLDER,
+        out: "",
+        saved: "",
+    },
+    Row {
+        words: REPLAY,
+        fails: Fails::Folder,
+        call: 1,
+        status: 0,
+        err: "",
+        out: THREE_STEPS,
+        saved: "",
+    },
+    Row {
+        words: REPLAY,
+        fails: Fails::Out,
+        call: 0,
+        status: 6,
+        err: OUTPUT,
+        out: "",
+        saved: "",
+    },
+    Row {
+        words: REPLAY,
+        fails: Fails::Out,
+        call: 1,
+        status: 0,
+        err: "",
+        out: THREE_STEPS,
+        saved: "",
+    },
+    Row {
+        words: &["run", "none.toml"],
+        fails: Fails::Err,
+        call: 0,
+        status: 3,
+        err: "",
+        out: "",
+        saved: "",
+    },
+    Row {
+        words: &["run", "none.toml"],
+        fails: Fails::Err,
+        call: 1,
+        status: 3,
+        err: "mosaikrun: none.toml: no such file\n",
+        out: "",
+        saved: "",
+    },
+];
+
+// The number of the call that fails, if it is a call of this one.
+fn calls(alloc: Global, row: &Row, fails: Fails) -> Result<List<u64>, Mem> {
+    let mut calls = List::new(alloc);
+    if row.fails == fails {
+        calls.push(row.call)?;
+    }
+    Ok(calls)
+}
+
+// A folder with a scenario and a record.
+fn folder_of(alloc: Global, row: &Row) -> Result<MemFolder, Mem> {
+    let mut folder = MemFolder::new(alloc, calls(alloc, row, Fails::Folder)?);
+    folder.add("s", COUNTER.as_bytes())?;
+    folder.add("r", RECORD.as_bytes())?;
+    Ok(folder)
+}
+
+fn sink_of(alloc: Global, row: &Row, fails: Fails) -> Result<MemSink, Mem> {
+    Ok(MemSink::new(alloc, calls(alloc, row, fails)?))
+}
+
+// Whether that came of the call which the row says.
+fn is_told(row: &Row, status: u8, folder: &MemFolder, out: &MemSink, err: &MemSink) -> bool {
+    status == row.status
+        && err.bytes() == row.err.as_bytes()
+        && out.bytes() == row.out.as_bytes()
+        && folder.file("k").unwrap_or(b"".as_slice()) == row.saved.as_bytes()
+}
+
+fn is_right<R: Wait>(rt: &R, alloc: Global, kinds: &Registry, row: &Row) -> Result<bool, Mem> {
+    let mut folder = folder_of(alloc, row)?;
+    let mut out = sink_of(alloc, row, Fails::Out)?;
+    let mut err = sink_of(alloc, row, Fails::Err)?;
+    let status = status_of(rt, alloc, row.words, &mut folder, kinds, &mut out, &mut err)?;
+    Ok(is_told(row, status, &folder, &out, &err))
+}
+
+/// The first row that isn't as it says.
+pub fn first_wrong<R: Wait>(rt: &R, alloc: Global, kinds: &Registry) -> Result<Option<usize>, Mem> {
+    for place in 0..ROWS.len() {
+        if !is_right(rt, alloc, kinds, &ROWS[place])? {
+            return Ok(Some(place));
+        }
+    }
+    Ok(None)
+}
