@@ -30,12 +30,14 @@ one_scenario X Y bytes a b = let both : Ok X ≡ Ok Y = sym a ∙ b in cc
 
 module _ (S : Around) (bytes name : List ℕ) where
   -- a record that was saved is held
-  held_record : (scenario : Scenario) (kept : Option (List ℕ)) → scenario_of bytes ≡ Ok scenario → HasRecord S.outside scenario kept → IsSaved S (Some name) kept → HoldsRecord S bytes name
-  held_record scenario kept read has saved = record {
+  held_record : (answer : Result (Unit {0}) Ending) (scenario : Scenario) (text : Result (List ℕ) Ending) (kept : Option (List ℕ)) → scenario_of bytes ≡ Ok scenario → HasRecord S.outside Report scenario text kept → RunAnswer S (Some name) text kept answer → IsSaved S (Some name) kept → HoldsRecord S answer bytes name
+  held_record answer scenario text kept read has told saved = record {
     scenario = scenario;
     read = read;
+    said = text;
     text = record_text has.plan has.journal;
-    record_ = record { ranks = has.ranks; plan = has.plan; journal = has.journal; outcome = has.outcome; run = has.run; is = refl };
+    record_ = record { ranks = has.ranks; plan = has.plan; journal = has.journal; outcome = has.outcome; run = has.run; said = has.said; is = refl };
+    answered = subst (λ (k : Option (List ℕ)). RunAnswer S (Some name) text k answer) has.is told;
     saved = subst (λ (k : Option (List ℕ)). IsFolderAfter (Some name) k S.folder.files S.folder.files_after) has.is saved;
   }
 
@@ -53,30 +55,30 @@ module _ (S : Around) (bytes name : List ℕ) where
   no_scenario e (inr fault) settled = subst IsRunFault fault.1 settled
 
   -- what came of the bytes, and that the record, where there is one, was saved
-  came : (answer : Result (Unit {0}) Ending) (text : Result (List ℕ) Ending) (kept : Option (List ℕ)) → IsRunOutcome S.outside true bytes text kept → IsSaved S (Some name) kept → (text ≡ Err ends.Mem → ⊥) → (IsSettled answer → IsSettled text) → KeepsRecord S answer bytes name
-  came answer text kept (inl none) saved not settles = untouched answer (subst (λ (k : Option (List ℕ)). IsFolderAfter (Some name) k S.folder.files S.folder.files_after) none.idle.unrecorded saved) none.idle.quiet
+  came : (answer : Result (Unit {0}) Ending) (text : Result (List ℕ) Ending) (kept : Option (List ℕ)) → IsRunOutcome S.outside true bytes text kept → RunAnswer S (Some name) text kept answer → IsSaved S (Some name) kept → (text ≡ Err ends.Mem → ⊥) → (IsSettled answer → IsSettled text) → KeepsRecord S answer bytes name
+  came answer text kept (inl none) told saved not settles = untouched answer (subst (λ (k : Option (List ℕ)). IsFolderAfter (Some name) k S.folder.files S.folder.files_after) none.idle.unrecorded saved) none.idle.quiet
       (λ settled. no_scenario none.ending none.cause (subst (λ (t : Result (List ℕ) Ending). IsSettled t) none.is (settles settled)))
-  came answer text kept (inr read) saved not settles = record {
+  came answer text kept (inr read) told saved not settles = record {
     either = elim (records_there.only S.outside Report read.scenario text kept read.outcome) [
       | inl none ↦ inl (subst (λ (k : Option (List ℕ)). IsFolderAfter (Some name) k S.folder.files S.folder.files_after) none saved)
-      | inr has ↦ inr (held_record read.scenario kept read.read has saved)
+      | inr has ↦ inr (held_record answer read.scenario text kept read.read has told saved)
     ];
-    settled = λ settled. held_record read.scenario kept read.read (records_there.there S.outside Report read.scenario text kept read.outcome not (inl (settles settled))) saved;
-    said = λ scenario is said. held_record read.scenario kept read.read
-        (records_there.there S.outside Report read.scenario text kept read.outcome not (inr (subst (λ (X : Scenario). IsStepSaid S.outside.started X S.outside.log) (one_scenario scenario read.scenario bytes is read.read) said))) saved;
+    settled = λ settled. held_record answer read.scenario text kept read.read (records_there.there S.outside Report read.scenario text kept read.outcome not (inl (settles settled))) told saved;
+    said = λ scenario is said. held_record answer read.scenario text kept read.read
+        (records_there.there S.outside Report read.scenario text kept read.outcome not (inr (subst (λ (X : Scenario). IsStepSaid S.outside.started X S.outside.log) (one_scenario scenario read.scenario bytes is read.read) said))) told saved;
   }
 
   module _ (unrisen : HasRisen S.folder.faults S.folder.new_faults → ⊥) where
     -- what a run's answer says
     answered : (answer : Result (Unit {0}) Ending) (text : Result (List ℕ) Ending) (kept : Option (List ℕ)) → (answer ≡ Err ends.Mem → ⊥) → IsRunOutcome S.outside true bytes text kept → RunAnswer S (Some name) text kept answer → KeepsRecord S answer bytes name
-    answered (Ok done) (Ok text) kept not outcome said = came (Ok done) (Ok text) kept outcome said.1 (λ wrong. cc) (λ settled. tt)
+    answered (Ok done) (Ok text) kept not outcome said = came (Ok done) (Ok text) kept outcome said said.1 (λ wrong. cc) (λ settled. tt)
     answered (Ok done) (Err why) kept not outcome said = absurd said
     answered (Err e) (Ok text) kept not outcome (inl unsaved) = elim unsaved.1.1 [ inl rose ↦ absurd (unrisen rose) | inr mem ↦ absurd (not (ap (λ (x : Ending). Err x) mem)) ]
-    answered (Err e) (Ok text) kept not outcome (inr cut) = came (Err e) (Ok text) kept outcome cut.1 (λ wrong. cc) (λ settled. tt)
+    answered (Err e) (Ok text) kept not outcome (inr cut) = came (Err e) (Ok text) kept outcome (inr cut) cut.1 (λ wrong. cc) (λ settled. tt)
     answered (Err e) (Err why) kept not outcome said = elim said.1 [
       | inr mem ↦ absurd (not (ap (λ (x : Ending). Err x) mem))
       | inl same ↦ elim said.2 [
-        | inl saved ↦ came (Err e) (Err why) kept outcome saved (λ (wrong : Err why ≡ Err ends.Mem). let short : why ≡ ends.Mem = cc in not (ap (λ (x : Ending). Err x) (same ∙ short))) (λ settled. subst IsRunFault same settled)
+        | inl saved ↦ came (Err e) (Err why) kept outcome said saved (λ (wrong : Err why ≡ Err ends.Mem). let short : why ≡ ends.Mem = cc in not (ap (λ (x : Ending). Err x) (same ∙ short))) (λ settled. subst IsRunFault same settled)
         | inr unsaved ↦ elim unsaved.1 [ inl rose ↦ absurd (unrisen rose) | inr mem ↦ absurd (not (ap (λ (x : Ending). Err x) mem)) ]
       ]
     ]

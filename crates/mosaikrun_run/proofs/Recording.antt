@@ -86,19 +86,19 @@ module _ (O : Outside) (form : Form) (S : Scenario) (text : Result (List ℕ) En
   unrun_not u not (inr said) = halted_said O.started S u.ranks O.kinds O.log (HasRisen O.faults O.new_faults) u.halt u.halted said
 
   -- of each run there is a record, but for want of memory
-  there : IsScenarioOutcome O form true S text kept → (text ≡ Err ends.Mem → ⊥) → IsSettled text ⊎ IsStepSaid O.started S O.log → HasRecord O S kept
+  there : IsScenarioOutcome O form true S text kept → (text ≡ Err ends.Mem → ⊥) → IsSettled text ⊎ IsStepSaid O.started S O.log → HasRecord O form S text kept
   there (inl unready) not due = absurd (unready_not unready due)
   there (inr (inl unrun)) not due = absurd (unrun_not unrun not due)
   there (inr (inr p)) not due = elim p.recorded [
-    | inl is ↦ record { ranks = p.ranks; plan = p.plan; journal = p.journal; outcome = p.outcome; run = p.run; is = is }
+    | inl is ↦ record { ranks = p.ranks; plan = p.plan; journal = p.journal; outcome = p.outcome; run = p.run; said = p.said; is = is }
     | inr none ↦ absurd (not none.1)
   ]
 
-  only : IsScenarioOutcome O form true S text kept → (kept ≡ None) ⊎ HasRecord O S kept
+  only : IsScenarioOutcome O form true S text kept → (kept ≡ None) ⊎ HasRecord O form S text kept
   only (inl unready) = inl unready.idle.unrecorded
   only (inr (inl unrun)) = inl unrun.unrecorded
   only (inr (inr p)) = elim p.recorded [
-    | inl is ↦ inr (record { ranks = p.ranks; plan = p.plan; journal = p.journal; outcome = p.outcome; run = p.run; is = is })
+    | inl is ↦ inr (record { ranks = p.ranks; plan = p.plan; journal = p.journal; outcome = p.outcome; run = p.run; said = p.said; is = is })
     | inr none ↦ inl none.0
   ]
 

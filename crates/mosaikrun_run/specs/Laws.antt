@@ -41,14 +41,14 @@ AlikeIsOneText = (O Q : Outside) (form : Form) (wanted also : Bool) (S : Scenari
 
 -- where a record is wanted and memory isn't wanting: it is there where there is a text, where the
 -- run met a fault, and where the whole frame of a Step was said on a link; and where there is one,
--- it is that of a run
+-- it is that of the run of which this was said
 pub record RecordsAreThere : Type 0 where
   pub there : (O : Outside) (form : Form) (S : Scenario) (text : Result (List ℕ) Ending)
       (kept : Option (List ℕ)) → IsScenarioOutcome O form true S text kept → (text ≡ Err Mem → ⊥)
-      → IsSettled text ⊎ IsStepSaid O.started S O.log → HasRecord O S kept
+      → IsSettled text ⊎ IsStepSaid O.started S O.log → HasRecord O form S text kept
   pub only : (O : Outside) (form : Form) (S : Scenario) (text : Result (List ℕ) Ending)
       (kept : Option (List ℕ)) → IsScenarioOutcome O form true S text kept → (kept ≡ None)
-      ⊎ HasRecord O S kept
+      ⊎ HasRecord O form S text kept
 
 -- all simulators of a scenario being within the program, two runs of it that have texts have the
 -- same, whatever fleets they are over, so the report is a function of the bytes of the scenario's

@@ -18,7 +18,10 @@ use Rattle.mk_run.specs.declared.outcome.Outcome.{Outcome}
 use Rattle.mk_run.specs.Ran.{HasRun}
 use Rattle.mosaikrun_endings.specs.declared.ending.Ending.{Ending}
 use Rattle.mosaikrun_endings.specs.declared.ending.Ending.TheVariants as ends
-use Rattle.mosaikrun_run.specs.Outcomes.{Outside}
+use Rattle.mosaikrun_sayings.specs.Sayings.{ids_of}
+use Rattle.mosaikrun_run.specs.declared.sayings.Form.{Form}
+use Rattle.mosaikrun_run.specs.Outcomes.{IsSaid, Outside}
+use Rattle.mosaikrun_run.specs.Sayings.{saying_of}
 
 -- the whole frame of a Step was said on a link of simulator i: what was said there begins with the
 -- frames of some first requests of its handshake, and of a Step
@@ -67,11 +70,14 @@ abbrev pub IsSettled : {V : Type 0} → Result V Ending → Type 0
 IsSettled (Ok value) = ⊤
 IsSettled (Err e) = IsRunFault e
 
--- there is a record, which is that of the plan and the journal of a run
-pub record HasRecord (O : Outside) (S : Scenario) (kept : Option (List ℕ)) : Type 0 where
+-- there is a record, which is that of the plan and the journal of a run; and what was said of this
+-- same run, of its outcome, is its text in this form, or why there is none
+pub record HasRecord (O : Outside) (form : Form) (S : Scenario) (text : Result (List ℕ) Ending)
+    (kept : Option (List ℕ)) : Type 0 where
   pub ranks : List ℕ
   pub plan : Plan
   pub journal : List Entry
   pub outcome : Outcome
   pub run : HasRun O.started S ranks O.kinds plan journal O.log O.faults O.new_faults outcome
+  pub said : IsSaid (saying_of form (ids_of S) plan journal outcome) text
   pub is : kept ≡ Some (record_text plan journal)
