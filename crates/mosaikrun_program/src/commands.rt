@@ -14,7 +14,7 @@ use mosaikrun_records::reported;
 use mosaikrun_words::{Command, Request, read_words};
 use std::alloc::Global;
 
-// The commands that the program has.
+/// The commands that the program has.
 pub const COMMANDS: [Command; 5] = [
     Command::Run,
     Command::Replay,

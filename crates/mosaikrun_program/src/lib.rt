@@ -4,4 +4,5 @@
 mod commands;
 mod top;
 
+pub use commands::COMMANDS;
 pub use top::program;

@@ -36,7 +36,7 @@ const FOLDER: &str = "mosaikrun: outside: folder\n";
 const OUTPUT: &str = "mosaikrun: outside: output\n";
 
 // Each call of each one in turn, up to the first that isn't made.
-const ROWS: [Row; 12] = [
+const ROWS: &[Row] = &[
     Row {
         words: RUN,
         fails: Fails::Folder,
