@@ -1,6 +1,6 @@
 // The line that is written of an ending.
 ghost use Rattle.std.specs.Prelude.{◌≡◌, [], ◌++◌, IfOk, OnOk, flat_map, ◌∷◌, codes};
-ghost use Rattle.std.specs.Fmt.{decimal};
+ghost use Rattle.std.specs.Fmt.{decimal, signed_decimal};
 ghost use Rattle.mosaikrun_endings.specs.Endings.{line_of, text_of, unbroken};
 
 use crate::ending::Ending;
@@ -37,68 +37,126 @@ impl Ending {
                 out,
                 "usage: run SCENARIO [--record FILE] or replay RECORD [--order N] or check SCENARIO or demo N or migrate OLD NEW",
             ),
-            Ending::Missing { name } => {
-                put(out, name.as_str())?;
-                put(out, ": no such file")
-            }
-            Ending::TooLong { name, count } => {
-                put(out, name.as_str())?;
-                put(out, ": ")?;
-                put_number(alloc, out, *count)?;
-                put(out, " bytes, limit 536870912")
-            }
+            Ending::Missing { name } => put_missing(out, name),
+            Ending::TooLong { name, count } => put_too_long(alloc, out, name, *count),
             Ending::Scenario(fault) => put_scenario(alloc, out, fault),
             Ending::Cycle { sims } => put_cycle(out, sims),
             Ending::Launch { sim, fault } => put_launch(alloc, out, sim, fault),
             Ending::Setup(setup) => put_setup(alloc, out, setup),
-            Ending::Record { line, fault } => {
-                put(out, "record: line ")?;
-                put_number(alloc, out, *line)?;
-                put(out, " fault ")?;
-                put_number(alloc, out, *fault as u64)
-            }
+            Ending::Record { line, fault } => put_record(alloc, out, *line, *fault),
             Ending::Wrong { sim, place, cause } => put_wrong(alloc, out, sim, *place, *cause),
-            Ending::Failed { sim, text } => {
-                put(out, "run 2: ")?;
-                put(out, sim.as_str())?;
-                put(out, " failed: ")?;
-                put(out, text.as_str())
-            }
-            Ending::LoopLimit { sim, time } => {
-                put(out, "run 3: ")?;
-                put(out, sim.as_str())?;
-                put(out, " loop limit at ")?;
-                put(out, time.to_string(alloc)?.as_str())
-            }
+            Ending::Failed { sim, text } => put_failed(out, sim, text),
+            Ending::LoopLimit { sim, time } => put_loop_limit(alloc, out, sim, *time),
             Ending::Link { sim, fault } => put_link(alloc, out, sim, *fault),
-            Ending::Short { outstanding } => {
-                put(out, "run 8: record ends with ")?;
-                put_number(alloc, out, *outstanding as u64)?;
-                put(out, " outstanding")
-            }
+            Ending::Short { outstanding } => put_count(
+                alloc,
+                out,
+                "run 8: record ends with ",
+                *outstanding,
+                " outstanding",
+            ),
             Ending::Differs { entry } => {
-                put(out, "run 9: record entry ")?;
-                put_number(alloc, out, *entry as u64)?;
-                put(out, " differs")
+                put_count(alloc, out, "run 9: record entry ", *entry, " differs")
             }
             Ending::Fleet => put(out, "outside: fleet"),
             Ending::Folder => put(out, "outside: folder"),
             Ending::Output => put(out, "outside: output"),
-            Ending::Entries { entries } => {
-                put(out, "limit: ")?;
-                put_number(alloc, out, *entries as u64)?;
-                put(out, " entries")
-            }
-            Ending::LongItem { sim, length } => {
-                put(out, "limit: ")?;
-                put(out, sim.as_str())?;
-                put(out, " message of ")?;
-                put_number(alloc, out, *length)?;
-                put(out, " bytes")
-            }
+            Ending::Entries { entries } => put_count(alloc, out, "limit: ", *entries, " entries"),
+            Ending::LongItem { sim, length } => put_long_item(alloc, out, sim, *length),
             Ending::Mem => put(out, "out of memory"),
         }
     }
+}
+
+// Puts into an empty text a number between these words.
+fn put_count(
+    alloc: Global,
+    out: &mut Vec<u8>,
+    before: &str,
+    count: u32,
+    after: &str,
+) -> Result<(), AllocError>
+    requires { out.old.items ≡ [] }
+    ensures { OnOk result (out.new.items ≡ before.now ++ decimal count ++ after.now) }
+{
+    put(out, before)?;
+    put_number(alloc, out, count as u64)?;
+    put(out, after)
+}
+
+// Puts into an empty text that there is no file of this name.
+fn put_missing(out: &mut Vec<u8>, name: &Text) -> Result<(), AllocError>
+    requires { out.old.items ≡ [] }
+    ensures { OnOk result (out.new.items ≡ name.now ++ codes ": no such file") }
+{
+    put(out, name.as_str())?;
+    put(out, ": no such file")
+}
+
+// Puts into an empty text that a file has this many bytes, more than a file may have.
+fn put_too_long(alloc: Global, out: &mut Vec<u8>, name: &Text, count: u64) -> Result<(), AllocError>
+    requires { out.old.items ≡ [] }
+    ensures { OnOk result (out.new.items ≡ name.now ++ codes ": " ++ decimal count
+        ++ codes " bytes, limit 536870912") }
+{
+    put(out, name.as_str())?;
+    put(out, ": ")?;
+    put_number(alloc, out, count)?;
+    put(out, " bytes, limit 536870912")
+}
+
+// Puts into an empty text what is said of a record's faulty line.
+fn put_record(alloc: Global, out: &mut Vec<u8>, line: u64, fault: u8) -> Result<(), AllocError>
+    requires { out.old.items ≡ [] }
+    ensures { OnOk result (out.new.items ≡ codes "record: line " ++ decimal line ++ codes " fault "
+        ++ decimal fault) }
+{
+    put(out, "record: line ")?;
+    put_number(alloc, out, line)?;
+    put(out, " fault ")?;
+    put_number(alloc, out, fault as u64)
+}
+
+// Puts into an empty text what is said of a failure reply with this text.
+fn put_failed(out: &mut Vec<u8>, sim: &Text, text: &Text) -> Result<(), AllocError>
+    requires { out.old.items ≡ [] }
+    ensures { OnOk result (out.new.items ≡ codes "run 2: " ++ sim.now ++ codes " failed: "
+        ++ text.now) }
+{
+    put(out, "run 2: ")?;
+    put(out, sim.as_str())?;
+    put(out, " failed: ")?;
+    put(out, text.as_str())
+}
+
+// Puts into an empty text what is said of a simulator that is triggered beyond the loop limit.
+fn put_loop_limit(alloc: Global, out: &mut Vec<u8>, sim: &Text, time: i64) -> Result<(), AllocError>
+    requires { out.old.items ≡ [] }
+    ensures { OnOk result (out.new.items ≡ codes "run 3: " ++ sim.now ++ codes " loop limit at "
+        ++ signed_decimal time) }
+{
+    put(out, "run 3: ")?;
+    put(out, sim.as_str())?;
+    put(out, " loop limit at ")?;
+    put(out, time.to_string(alloc)?.as_str())
+}
+
+// Puts into an empty text what is said of a message with this many bytes, more than one may have.
+fn put_long_item(
+    alloc: Global,
+    out: &mut Vec<u8>,
+    sim: &Text,
+    length: u64,
+) -> Result<(), AllocError>
+    requires { out.old.items ≡ [] }
+    ensures { OnOk result (out.new.items ≡ codes "limit: " ++ sim.now ++ codes " message of "
+        ++ decimal length ++ codes " bytes") }
+{
+    put(out, "limit: ")?;
+    put(out, sim.as_str())?;
+    put(out, " message of ")?;
+    put_number(alloc, out, length)?;
+    put(out, " bytes")
 }
 
 // Puts into an empty text what is said of simulators that lead in a circle.
