@@ -20,7 +20,8 @@ proper_step (Json-F.Whole n) = true
 proper_step Json-F.Odd = true
 proper_step (Json-F.Text s) = is_utf8 s
 proper_step (Json-F.List bs) = list_all (λ (b : Bool). b) bs
-proper_step (Json-F.Object ms) = names_rise (keys_of ms) && list_all is_utf8 (keys_of ms) && list_all (λ (m : List ℕ × Bool). m.1) ms
+proper_step (Json-F.Object ms) = names_rise (keys_of ms) && list_all is_utf8 (keys_of ms)
+    && list_all (λ (m : List ℕ × Bool). m.1) ms
 
 -- each text and name is UTF-8, and each object has its names in byte order, each once
 abbrev pub is_proper : Json → Bool

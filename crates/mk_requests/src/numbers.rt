@@ -61,8 +61,10 @@ impl Numbers {
     /// if not, nothing changes.
     pub fn answer(&mut self, id: u64) -> Answered
         ensures asked { (result ≡ Answered.Asked) ↔ (self.old.outstanding ≡ Some id) }
-        ensures ended { result ≡ Answered.Asked → self.new ≡ record self.old { outstanding = None } }
-        ensures unasked { result ≢ Answered.Asked → result ≡ Answered.Unasked id self.old.outstanding }
+        ensures ended { result ≡ Answered.Asked
+            → self.new ≡ record self.old { outstanding = None } }
+        ensures unasked { result ≢ Answered.Asked
+            → result ≡ Answered.Unasked id self.old.outstanding }
         ensures kept { result ≢ Answered.Asked → self.new ≡ self.old }
     {
         if self.outstanding == Some(id) {

@@ -8,4 +8,5 @@ use Rattle.mk_base.specs.Proper.{names_rise, is_proper}
 
 -- the members of an object of a proper tree
 abbrev pub are_proper : List (List ℕ × Json) → Bool
-are_proper ms = names_rise (keys_of ms) && list_all is_utf8 (keys_of ms) && list_all (λ (m : List ℕ × Json). is_proper m.1) ms
+are_proper ms = names_rise (keys_of ms) && list_all is_utf8 (keys_of ms)
+    && list_all (λ (m : List ℕ × Json). is_proper m.1) ms
