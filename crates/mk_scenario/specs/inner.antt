@@ -1,4 +1,5 @@
 -- What proofs alone need.
+pub mod Blocks
 pub mod Groups
 pub mod Places
 pub mod References

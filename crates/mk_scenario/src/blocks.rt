@@ -10,6 +10,7 @@ ghost use Rattle.mk_scenario.specs.Blocks as blocks;
 ghost use Rattle.mk_scenario.specs.Blocks.{source_names};
 ghost use Rattle.mk_scenario.specs.References.{group_ids, place_of};
 ghost use Rattle.mk_scenario.specs.Scenarios.{ids_of};
+ghost use Rattle.mk_scenario.specs.inner.Blocks.{block_of, said_between};
 
 use crate::groups::ids_of;
 use crate::names::Names;
@@ -38,6 +39,13 @@ pub struct BlockSaid {
     attrs: List<AttrPair>,
     manner: Manner,
     initial: Json,
+}
+
+// The two sides of a connection.
+#[derive(Drop)]
+pub struct Ends {
+    from: Place,
+    to: Place,
 }
 
 // The blocks of these tables.
@@ -125,7 +133,24 @@ fn block_at(
         (λ e. IsFaultOf (blocks.block_at sims.now groups.now path.now table.now) e) }
 {
     let said = block_said(alloc, path, table)?;
-    block_made(alloc, sims, ids, groups, path, said)
+    match ends_fitting(alloc, sims, ids, groups, path, &said) {
+        Ok(ends) => Ok(block_of(said, ends)),
+        Err(fault) => Err(fault),
+    }
+}
+
+// The block that a table says, between its ends.
+fn block_of(said: BlockSaid, ends: Ends) -> Block
+    ensures { result ≡ block_of said ends.from ends.to }
+{
+    Block {
+        from: ends.from,
+        to: ends.to,
+        attrs: said.attrs,
+        via: via_of(said.manner.width, said.manner.weak),
+        async_requests: said.manner.asks,
+        initial: said.initial,
+    }
 }
 
 // What the table of this path says.
@@ -138,6 +163,21 @@ fn block_said(alloc: Global, path: &Text, table: &Json) -> Result<BlockSaid, Sce
     }
     let from = required_text(alloc, path, "from", table)?;
     let to = required_text(alloc, path, "to", table)?;
+    said_between(alloc, path, table, from, to)
+}
+
+// What the table of this path says beside these two references.
+fn said_between(
+    alloc: Global,
+    path: &Text,
+    table: &Json,
+    from: &Text,
+    to: &Text,
+) -> Result<BlockSaid, ScenarioFault>
+    ensures ok { IfOk result (λ said. said_between path.now table.now from.now to.now ≡ Ok said) }
+    ensures refused { IfErr result
+        (λ e. IsFaultOf (said_between path.now table.now from.now to.now) e) }
+{
     let attrs = pairs_or_none(alloc, path, table)?;
     let manner = manner_said(alloc, path, table)?;
     let initial = values_or_none(alloc, path, "initial_data", table)?;
@@ -161,13 +201,20 @@ fn said_of(
           initial = initial;
         }) }
 {
+    let (from, to) = copies(from, to)?;
     Ok(BlockSaid {
-        from: from.copy()?,
-        to: to.copy()?,
+        from,
+        to,
         attrs,
         manner,
         initial,
     })
+}
+
+fn copies(from: &Text, to: &Text) -> Result<(Text, Text), Mem>
+    ensures { IfOk result (λ both. both ≡ (from.now, to.now)) }
+{
+    Ok((from.copy()?, to.copy()?))
 }
 
 // The manner in which the table of this path says that the connection delivers.
@@ -264,24 +311,50 @@ fn two_names(from: Option<&Text>, to: Option<&Text>) -> Result<Option<AttrPair>,
     }
 }
 
-// The block that a table of this path says.
-fn block_made(
+// The ends of the block that a table of this path says, where what it says fits between them.
+fn ends_fitting(
     alloc: Global,
     sims: &Names,
     ids: &Names,
     groups: &[Group],
     path: &Text,
-    said: BlockSaid,
-) -> Result<Block, ScenarioFault>
+    said: &BlockSaid,
+) -> Result<Ends, ScenarioFault>
     requires { ids.now ≡ group_ids groups.now }
-    ensures ok { IfOk result (λ block. blocks.block_made sims.now groups.now path.now said
-        ≡ Ok block) }
+    ensures ok { IfOk result
+        (λ ends. blocks.block_made sims.now groups.now path.now said.now
+        ≡ Ok (block_of said.now ends.from ends.to)) }
     ensures refused { IfErr result
-        (λ e. IsFaultOf (blocks.block_made sims.now groups.now path.now said) e) }
+        (λ e. IsFaultOf (blocks.block_made sims.now groups.now path.now said.now) e) }
+{
+    let ends = ends_of(alloc, sims, ids, groups, path, said)?;
+    match block_fits(alloc, groups, path, said, &ends.from, &ends.to) {
+        Ok(()) => Ok(ends),
+        Err(fault) => Err(fault),
+    }
+}
+
+// What a table of this path refers to on either side.
+fn ends_of(
+    alloc: Global,
+    sims: &Names,
+    ids: &Names,
+    groups: &[Group],
+    path: &Text,
+    said: &BlockSaid,
+) -> Result<Ends, ScenarioFault>
+    requires { ids.now ≡ group_ids groups.now }
+    ensures ok { IfOk result
+        (λ ends. blocks.block_made sims.now groups.now path.now said.now
+        ≡ blocks.block_between groups.now path.now said.now ends.from ends.to) }
+    ensures refused { IfErr result
+        (λ e. IsFaultOf (blocks.block_made sims.now groups.now path.now said.now) e) }
 {
     let from = place_under(alloc, sims, ids, groups, path, "from", &said.from)?;
-    let to = place_under(alloc, sims, ids, groups, path, "to", &said.to)?;
-    block_between(alloc, groups, path, said, from, to)
+    match place_under(alloc, sims, ids, groups, path, "to", &said.to) {
+        Ok(to) => Ok(Ends { from, to }),
+        Err(fault) => Err(fault),
+    }
 }
 
 // What the text under a key of the table of this path refers to.
@@ -301,31 +374,6 @@ fn place_under(
         (λ e. IsFaultOf (place_of sims.now groups.now (key_in path.now key.now) text.now) e) }
 {
     place_of(alloc, sims, ids, groups, &key_in(alloc, path, key)?, text)
-}
-
-// The block that a table of this path says, between these places.
-fn block_between(
-    alloc: Global,
-    groups: &[Group],
-    path: &Text,
-    said: BlockSaid,
-    from: Place,
-    to: Place,
-) -> Result<Block, ScenarioFault>
-    ensures ok { IfOk result (λ block. blocks.block_between groups.now path.now said from to
-        ≡ Ok block) }
-    ensures refused { IfErr result
-        (λ e. IsFaultOf (blocks.block_between groups.now path.now said from to) e) }
-{
-    block_fits(alloc, groups, path, &said, &from, &to)?;
-    Ok(Block {
-        from,
-        to,
-        attrs: said.attrs,
-        via: via_of(said.manner.width, said.manner.weak),
-        async_requests: said.manner.asks,
-        initial: said.initial,
-    })
 }
 
 // What a table of this path says fits between these places: at most one kind, its initial values, and its sides.

@@ -130,13 +130,20 @@ fn said_of(id: &Text, sim: &Text, model: &Text, num: u32, params: Json) -> Resul
     ensures { IfOk result (λ said. said
         ≡ record { id = id.now; sim = sim.now; model = model.now; num = num; params = params }) }
 {
+    let (id, sim, model) = copies(id, sim, model)?;
     Ok(GroupSaid {
-        id: id.copy()?,
-        sim: sim.copy()?,
-        model: model.copy()?,
+        id,
+        sim,
+        model,
         num,
         params,
     })
+}
+
+fn copies(id: &Text, sim: &Text, model: &Text) -> Result<(Text, Text, Text), Mem>
+    ensures { IfOk result (λ all. all ≡ (id.now, sim.now, model.now)) }
+{
+    Ok((id.copy()?, sim.copy()?, model.copy()?))
 }
 
 // How many entities the table of this path asks for.

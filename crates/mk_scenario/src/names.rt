@@ -1,10 +1,11 @@
 // Ids in order, and where each stands.
-ghost use Rattle.std.specs.Prelude.{◌≡◌, ◌++◌, ◌∷◌, [], ℕ, List, None, Some, IfOk, OnOk};
+ghost use Rattle.std.specs.Prelude.{◌≡◌, ◌++◌, ◌∷◌, [], ℕ, List, is_some, Some, IfOk, OnOk};
 ghost use Rattle.std.specs.HashMap.{get_by_text};
 ghost use Rattle.std.specs.Map.{update};
 ghost use Rattle.mk_base.specs.Lists.{same_text};
 ghost use Rattle.mk_scenario_keys.specs.Keys.{is_among};
 ghost use Rattle.mk_scenario.specs.Places.{place_in};
+ghost use Rattle.mk_scenario.specs.inner.Places.{HasPlaces};
 
 use indexmap::IndexMap;
 use mk_base::{List, Mem, Text};
@@ -60,12 +61,48 @@ impl Names {
             mut ids,
             mut places,
         } = self;
-        if places.get(id.as_str()).is_none() {
-            put(alloc, &mut places, id.as_str(), ids.len())?;
-        }
-        ids.push(id.copy()?)?;
+        add(alloc, &mut ids, &mut places, id)?;
         Ok(Names { ids, places })
     }
+}
+
+// Puts one more id to these, and its place under it where it has none.
+fn add(
+    alloc: Global,
+    ids: &mut List<Text>,
+    places: &mut IndexMap<String, u32>,
+    id: &Text,
+) -> Result<(), Mem>
+    requires { HasPlaces places.old ids.old }
+    ensures ids { OnOk result (ids.new ≡ ids.old ++ id.now ∷ []) }
+    ensures places { OnOk result (HasPlaces places.new ids.new) }
+{
+    place(alloc, places, ids, id)?;
+    ids.push(id.copy()?)?;
+    Ok(())
+}
+
+// Puts the place of the id after these under it, where it has none.
+fn place(
+    alloc: Global,
+    places: &mut IndexMap<String, u32>,
+    ids: &List<Text>,
+    id: &Text,
+) -> Result<(), Mem>
+    requires { HasPlaces places.old ids.now }
+    ensures { OnOk result (HasPlaces places.new (ids.now ++ id.now ∷ [])) }
+{
+    if has_place(places, id) {
+        return Ok(());
+    }
+    put(alloc, places, id.as_str(), ids.len())?;
+    Ok(())
+}
+
+fn has_place(places: &IndexMap<String, u32>, id: &Text) -> bool
+    ensures { result ≡ is_some (get_by_text places.now id.now) }
+{
+    places.get(id.as_str()).copied().is_some()
 }
 
 // Puts this place under a text that has none.

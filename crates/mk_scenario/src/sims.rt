@@ -3,7 +3,7 @@ ghost use Rattle.std.specs.Prelude.{◌≡◌, length, codes, false, option_map,
 ghost use Rattle.std.specs.List.{filter};
 ghost use Rattle.mk_base.specs.Lists.{same_text};
 ghost use Rattle.mk_base.specs.Trees.{member, text_in};
-ghost use Rattle.mk_scenario_keys.specs.Tests.{IsFaultOf, each_after, key_in};
+ghost use Rattle.mk_scenario_keys.specs.Tests.{IsFaultOf, each_after, key_in, passed};
 ghost use Rattle.mk_scenario.specs.Sims as sims;
 
 use crate::parts::{Begin, SimPart};
@@ -76,15 +76,43 @@ fn sim_made(
 {
     let params = values_or_none(alloc, path, "params", table)?;
     let initial = times_or_none(alloc, path, "initial_events", table)?;
+    match begun(alloc, path, earlier, name, command, port, local, &params) {
+        Ok((id, begin)) => Ok(SimPart {
+            id,
+            begin,
+            params,
+            initial,
+        }),
+        Err(fault) => Err(fault),
+    }
+}
+
+// The id of a simulator of this name after these tables, and how it is begun, in one of these ways with these parameters.
+fn begun(
+    alloc: Global,
+    path: &Text,
+    earlier: &[Json],
+    name: &Text,
+    command: Option<&Text>,
+    port: Option<u16>,
+    local: Option<&Text>,
+    params: &Json,
+) -> Result<(Text, Begin), ScenarioFault>
+    ensures id { IfOk result
+        (λ b. b.0 ≡ sims.sim_id (sims.texts_under (codes "name") earlier.now) name.now) }
+    ensures begin { IfOk result
+        (λ b. sims.begin_of path.now (option_map (λ t. t.now) command.entry) port
+        (option_map (λ t. t.now) local.entry) ≡ Ok b.1) }
+    ensures own { IfOk result (λ _. sims.own_params path.now params.now ≡ Ok params.now) }
+    ensures refused { IfErr result
+        (λ e. IsFaultOf (passed
+        (sims.begin_of path.now (option_map (λ t. t.now) command.entry) port
+        (option_map (λ t. t.now) local.entry)) (λ _. sims.own_params path.now params.now)) e) }
+{
     let begin = begin_of(alloc, path, command, port, local)?;
-    own_params(alloc, path, &params)?;
+    own_params(alloc, path, params)?;
     let id = sim_id(alloc, earlier, name)?;
-    Ok(SimPart {
-        id,
-        begin,
-        params,
-        initial,
-    })
+    Ok((id, begin))
 }
 
 // The time resolution is the run's, and no parameter in the table of this path.
