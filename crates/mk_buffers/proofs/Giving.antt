@@ -22,7 +22,7 @@ use Rattle.mk_buffers.specs.inner.Standing.{HasSet, TargetOf}
 use Rattle.mk_buffers.specs.Marking.{Marked, IsLeastMark}
 use Rattle.mk_buffers.proofs.Marking.{apart_or_same}
 use Rattle.mk_base.proofs.Lists.{get_is}
-use Rattle.mk_buffers.specs.declared.buffers.Target.{Target}
+use Rattle.mk_buffers.specs.declared.gifts.Target.{Target}
 use Rattle.mk_buffers.proofs.Slots.{answer_apart, answer_taken}
 use Rattle.mk_buffers.proofs.Naming.{same_full}
 use Rattle.mk_buffers.specs.Bounds.{HasShape}

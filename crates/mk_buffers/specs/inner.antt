@@ -1,4 +1,5 @@
 -- What proofs alone need.
+pub mod Beginning
 pub mod Building
 pub mod Held
 pub mod Listing

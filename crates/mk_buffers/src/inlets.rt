@@ -11,6 +11,7 @@ ghost use Rattle.mk_buffers.specs.inner.Listing.{IsTarget, HasTargets, AreTarget
 
 use crate::delays::Delay;
 use crate::names::full_id;
+use crate::sorted::input_named;
 use mk_base::{Datum, Mem, Text};
 use mk_plan::{Conn, Input, Plan};
 use mk_plan_judge::owner;
@@ -50,10 +51,19 @@ pub fn inlets_of(alloc: Global, plan: &Plan, outlet_of: &[usize]) -> Result<Vec<
     ensures { IfOk result (λ v. (done : List Target) × AreTargets plan.now outlet_of.now done
         × AreListed (length plan.now.sims) done v.items) }
 {
-    let mut inlets = empty_lists(alloc, plan.sims.len())?;
     let names = names_of(alloc, plan)?;
     let targets = targets_of(alloc, plan, names.as_slice(), outlet_of)?;
-    for target in &targets {
+    listed(alloc, plan, targets.as_slice())
+}
+
+// The inlets of sorted targets, in a list for each simulator.
+fn listed(alloc: Global, plan: &Plan, targets: &[Target]) -> Result<Vec<Vec<Inlet>>, Mem>
+    requires widths { All (λ c. HasWidth c.via) plan.now.conns }
+    requires targets { (outlets : List ℕ) × AreTargets plan.now outlets targets.now }
+    ensures { IfOk result (λ v. AreListed (length plan.now.sims) targets.now v.items) }
+{
+    let mut inlets = empty_lists(alloc, plan.sims.len())?;
+    for target in targets {
         add_inlet(&mut inlets, target)?;
     }
     Ok(inlets)
@@ -151,10 +161,6 @@ fn inlet_of(target: &Target) -> Result<Inlet, Mem>
     requires { HasWidth target.now.conn.now.via }
     ensures { IfOk result (λ i. IsInletOf target.now i) }
 {
-    let initial = match &target.conn.initial {
-        Some(value) => Some(value.copy()?),
-        None => None,
-    };
     Ok(Inlet {
         eid: target.eid.copy()?,
         attr: target.conn.to_attr.copy()?,
@@ -162,8 +168,18 @@ fn inlet_of(target: &Target) -> Result<Inlet, Mem>
         outlet: target.outlet,
         via: Delay::of(target.conn.via),
         persistent: target.conn.persistent,
-        initial,
+        initial: initial_of(target.conn)?,
     })
+}
+
+// The initial value of a connection, if it has one.
+fn initial_of(conn: &Conn) -> Result<Option<Datum>, Mem>
+    ensures { IfOk result (λ o. o ≡ conn.now.initial) }
+{
+    match &conn.initial {
+        Some(value) => Ok(Some(value.copy()?)),
+        None => Ok(None),
+    }
 }
 
 // By simulator, then eid, then attribute, then source.
@@ -182,10 +198,5 @@ fn target_order(first: &Target, second: &Target) -> Ordering
 pub fn input_of(inlet: &Inlet, value: &Datum) -> Result<Input, Mem>
     ensures { IfOk result (λ n. n ≡ input_of inlet.now value.now) }
 {
-    Ok(Input {
-        eid: inlet.eid.copy()?,
-        attr: inlet.attr.copy()?,
-        source: inlet.source.copy()?,
-        value: value.copy()?,
-    })
+    input_named(&inlet.eid, &inlet.attr, &inlet.source, value)
 }

@@ -4,6 +4,9 @@
 
 mod buffers;
 mod delays;
+mod delivering;
+mod forgetting;
+mod gifts;
 mod inlets;
 mod laws;
 mod log;
@@ -11,8 +14,10 @@ mod made;
 mod marks;
 mod names;
 mod outlets;
+mod questions;
 mod sets;
 mod sorted;
+mod tables;
 
 pub use buffers::Buffers;
 pub use laws::buffers_stand;

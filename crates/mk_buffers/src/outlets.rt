@@ -103,19 +103,51 @@ pub fn outlets_of(alloc: Global, plan: &Plan) -> Result<Outlets, Mem>
         × HasSources plan.now (length plan.now.conns) done × AreOutlets plan.now done done o
         × AreParts (length plan.now.sims) o.all.items o.of_sim.items) }
 {
+    let made = joined(alloc, plan)?;
+    let of_sim = parts_of(alloc, plan.sims.len(), made.all.as_slice())?;
+    Ok(made.with_parts(of_sim))
+}
+
+// The outlets of a plan, where it isn't known yet at which of them each simulator's stand.
+fn joined(alloc: Global, plan: &Plan) -> Result<Outlets, Mem>
+    requires references { RefersInside plan.now }
+    requires names { HasDistinctNames plan.now }
+    requires widths { All (λ c. HasWidth c.via) plan.now.conns }
+    ensures { IfOk result (λ o. (done : List Source)
+        × HasSources plan.now (length plan.now.conns) done × AreOutlets plan.now done done o) }
+{
     let sources = sources_of(alloc, plan)?;
-    let none = Part { first: 0, end: 0 };
-    let mut made = Outlets {
-        all: Vec::new(alloc),
-        of_conn: vec![in alloc; 0; plan.conns.len()]?,
-        of_sim: Vec::new(alloc),
-        of_entity: vec![in alloc; none; plan.entities.len()]?,
-    };
-    for source in &sources {
+    filled(alloc, plan, sources.as_slice())
+}
+
+// The outlets of sorted sources.
+fn filled(alloc: Global, plan: &Plan, sources: &[Source]) -> Result<Outlets, Mem>
+    requires references { RefersInside plan.now }
+    requires names { HasDistinctNames plan.now }
+    requires widths { All (λ c. HasWidth c.via) plan.now.conns }
+    requires sources { AreSources plan.now sources.now }
+    ensures { IfOk result (λ o. AreOutlets plan.now sources.now sources.now o) }
+{
+    let mut made = no_outlets(alloc, plan)?;
+    for source in sources {
         made.add(alloc, source)?;
     }
-    made.of_sim = parts_of(alloc, plan.sims.len(), made.all.as_slice())?;
     Ok(made)
+}
+
+// No outlet, and no connection and no entity that has one.
+fn no_outlets(alloc: Global, plan: &Plan) -> Result<Outlets, Mem>
+    ensures { IfOk result (λ o. AreOutlets plan.now [] [] o) }
+{
+    let none = Part { first: 0, end: 0 };
+    let of_conn = vec![in alloc; 0; plan.conns.len()]?;
+    let of_entity = vec![in alloc; none; plan.entities.len()]?;
+    Ok(Outlets {
+        all: Vec::new(alloc),
+        of_conn,
+        of_sim: Vec::new(alloc),
+        of_entity,
+    })
 }
 
 // Where the outlets of each simulator stand.
@@ -142,6 +174,24 @@ fn part_of(all: &[Outlet], sim: usize) -> Part
 }
 
 impl Outlets {
+    // The same, with these parts of the simulators.
+    fn with_parts(self, of_sim: Vec<Part>) -> Outlets
+        ensures { result
+            ≡ record {
+              all = self.all;
+              of_conn = self.of_conn;
+              of_sim = of_sim;
+              of_entity = self.of_entity;
+            } }
+    {
+        Outlets {
+            all: self.all,
+            of_conn: self.of_conn,
+            of_sim,
+            of_entity: self.of_entity,
+        }
+    }
+
     // Gives a connection the last outlet, where that is its source's, or else a new one.
     fn add(&mut self, alloc: Global, source: &Source) -> Result<(), Mem>
         requires { HasWidth source.now.via }

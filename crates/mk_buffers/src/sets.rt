@@ -9,7 +9,7 @@ ghost use Rattle.mk_buffers.specs.Slots.{SameLast, last_within};
 ghost use Rattle.mk_buffers.specs.inner.Slots.{TakesLast, slot_order};
 
 use crate::delays::is_since;
-use crate::sorted::put_input;
+use crate::sorted::{input_named, put_input};
 use mk_base::{Datum, List, Mem, Text, Tier};
 use mk_plan::Input;
 use std::alloc::Global;
@@ -165,12 +165,12 @@ impl Slot {
         ensures { IfOk result (λ o. o ≡ set_input previous at self.now) }
     {
         match self.values.last_within(previous, at) {
-            Some(setting) => Ok(Some(Input {
-                eid: self.eid.copy()?,
-                attr: self.attr.copy()?,
-                source: self.source.copy()?,
-                value: setting.value().copy()?,
-            })),
+            Some(setting) => Ok(Some(input_named(
+                &self.eid,
+                &self.attr,
+                &self.source,
+                setting.value(),
+            )?)),
             None => Ok(None),
         }
     }

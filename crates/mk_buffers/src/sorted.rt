@@ -1,12 +1,30 @@
-//! Inputs are put among sorted ones.
-ghost use Rattle.std.specs.Prelude.{◌≡◌, OnOk, length};
+//! Inputs: how one is made of names and a value, and put among sorted ones.
+ghost use Rattle.std.specs.Prelude.{◌≡◌, IfOk, OnOk, length};
 ghost use Rattle.std.specs.List.Sorted.{IsStrictlySortedBy, IsBinarySearchResult, IsSearchInRange};
 ghost use Rattle.mk_base.specs.Lists.{put};
 ghost use Rattle.mk_plan.specs.Inputs.{input_order};
 
-use mk_base::{List, Mem};
+use mk_base::{Datum, List, Mem, Text};
 use mk_plan::Input;
 use std::cmp::Ordering;
+
+// The input of these names and this value.
+pub fn input_named(eid: &Text, attr: &Text, source: &Text, value: &Datum) -> Result<Input, Mem>
+    ensures { IfOk result (λ n. n
+        ≡ record {
+          eid = eid.now;
+          attr = attr.now;
+          source = source.now;
+          value = value.now;
+        }) }
+{
+    Ok(Input {
+        eid: eid.copy()?,
+        attr: attr.copy()?,
+        source: source.copy()?,
+        value: value.copy()?,
+    })
+}
 
 // Puts an input at its place among sorted ones, in place of an equal one.
 pub fn put_input(inputs: &mut List<Input>, new: Input) -> Result<(), Mem>

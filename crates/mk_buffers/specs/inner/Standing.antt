@@ -8,7 +8,7 @@ use Rattle.mk_plan.specs.declared.Input.{Input}
 use Rattle.mk_plan.specs.Plans.{owner, eid_of}
 use Rattle.mk_buffers.specs.declared.inlets.Inlet.{Inlet}
 use Rattle.mk_buffers.specs.declared.sets.Slot.{Slot}
-use Rattle.mk_buffers.specs.declared.buffers.Target.{Target}
+use Rattle.mk_buffers.specs.declared.gifts.Target.{Target}
 use Rattle.mk_buffers.specs.declared.outlets.Part.{Part}
 use Rattle.mk_plan.specs.Deliveries.{Timed, Gift}
 use Rattle.mk_buffers.specs.declared.outlets.Outlet.{Outlet}

@@ -1,6 +1,6 @@
 use Rattle.std.proofs.Common.{subst, sym, refl, length, ◌<◌}
 use Rattle.mk_buffers.proofs.Asking.{asked_more, paired_more, target_there, second_there, at_place}
-use Rattle.mk_buffers.proofs.buffers.asking.Goals as goal
+use Rattle.mk_buffers.proofs.tables.asking.Goals as goal
 
 pub loop-conn-preserved : goal.loop-conn-preserved
 loop-conn-preserved c = asked_more c.args.plan.now c.as_slice-conn-items.result.now c.loop-conn.conn-index c.conn-item.result c.owner.result.0 c.loop-conn.asks.items c.ask.new.asks.items c.loop-conn.invariant c.loop-conn-test.true c.conn-item.is c.owner.ensures

@@ -1,5 +1,5 @@
 use Rattle.mk_buffers.proofs.Asking.{HaveAsked, HavePaired}
-use Rattle.mk_buffers.proofs.buffers.asking.Given as goal
+use Rattle.mk_buffers.proofs.tables.asking.Given as goal
 
 abbrev pub invariant-loop-conn : goal.invariant-loop-conn
 invariant-loop-conn l = HaveAsked l.plan l.conn-index l.conn-items l.asks.items
