@@ -1,127 +1,193 @@
 // Payloads read and written, request by request and item by item.
-ghost use Rattle.std.specs.Prelude.{◌≡◌, true};
-ghost use Rattle.mk_message.specs.Written.{is_in_range};
+ghost use Rattle.std.specs.Prelude.{◌≡◌, true, IfOk};
+ghost use Rattle.mk_message.specs.Written.{is_call_in_range, is_in_range};
 
 use crate::texts::{datum_of, tree_of};
 use mk_base::{List, Mem, Text, Tier};
 use mk_message::{ReadFault, read, write, write_call, write_item};
 use mk_plan::{Call, Input, Item, Message, Want};
 use std::alloc::Global;
-use std::test::Fail;
 
-fn written(alloc: Global, message: &Message) -> Result<String, Mem>
+fn is_written(alloc: Global, message: &Message, want: &str) -> bool
     requires { is_in_range message.now ≡ true }
 {
-    let payload = write(alloc, message)?;
-    Ok(String::from_utf8_lossy(alloc, payload.as_slice())?)
-}
-
-// What the payload is read as, written again, or the test that it fails.
-fn again(alloc: Global, payload: &[u8]) -> Result<String, Mem> {
-    match read(alloc, payload) {
-        Ok(message) => written(alloc, &message),
-        Err(ReadFault::NotAMessage(test)) => Ok(format!(in alloc; "test {test}")?),
-        Err(ReadFault::Mem) => Err(Mem),
+    match write(alloc, message) {
+        Ok(payload) => payload.as_slice() == want.as_bytes(),
+        Err(_) => false,
     }
 }
 
-const PAYLOADS: [(&[u8], &str); 10] = [
-    (b"[1, 0, null]", "[1,0,null]"),
+fn is_right(alloc: Global, message: &Message, want: Result<&str, u8>) -> bool
+    requires { is_in_range message.now ≡ true }
+{
+    match want {
+        Ok(text) => is_written(alloc, message, text),
+        Err(_) => false,
+    }
+}
+
+fn is_failed(fault: ReadFault, want: Result<&str, u8>) -> bool {
+    match (fault, want) {
+        (ReadFault::NotAMessage(failed), Err(test)) => failed == test,
+        _ => false,
+    }
+}
+
+// Whether what the payload is read as is written as this text, or it fails the test of this number.
+fn is_again(alloc: Global, payload: &[u8], want: Result<&str, u8>) -> bool {
+    match read(alloc, payload) {
+        Ok(message) => is_right(alloc, &message, want),
+        Err(fault) => is_failed(fault, want),
+    }
+}
+
+const PAYLOADS: [(&[u8], Result<&'static str, u8>); 10] = [
+    (b"[1, 0, null]", Ok("[1,0,null]")),
     (
         b"[0,7,[\"f\",[1,\"a\"],{\"k\":2,\"a\":[]}]]",
-        "[0,7,[\"f\",[1,\"a\"],{\"a\":[],\"k\":2}]]",
+        Ok("[0,7,[\"f\",[1,\"a\"],{\"a\":[],\"k\":2}]]"),
     ),
     (
         b"[2,9223372036854775807,\"no\"]",
-        "[2,9223372036854775807,\"no\"]",
+        Ok("[2,9223372036854775807,\"no\"]"),
     ),
-    (b"[1", "test 1"),
-    (b"[1,0,1,1]", "test 2"),
-    (b"[1.0,0,null]", "test 3"),
-    (b"[1,9223372036854775808,null]", "test 4"),
-    (b"[2,0,1]", "test 5"),
-    (b"[0,0,[\"f\",[]]]", "test 5"),
-    (b"[0,0,[\"f\",[],[]]]", "test 5"),
+    (b"[1", Err(1)),
+    (b"[1,0,1,1]", Err(2)),
+    (b"[1.0,0,null]", Err(3)),
+    (b"[1,9223372036854775808,null]", Err(4)),
+    (b"[2,0,1]", Err(5)),
+    (b"[0,0,[\"f\",[]]]", Err(5)),
+    (b"[0,0,[\"f\",[],[]]]", Err(5)),
 ];
 
-#[test]
-fn payloads_are_read_and_written_again(rt: HostRuntime) -> Result<(), Fail> {
-    for (payload, want) in &PAYLOADS {
-        assert_eq!(rt; again(rt.alloc(), payload)?.as_str(), *want);
+// How many are read and written again so, up to the first that isn't.
+fn count_again(alloc: Global) -> usize {
+    for (place, (payload, want)) in PAYLOADS.iter().enumerate() {
+        if !is_again(alloc, payload, *want) {
+            return place;
+        }
     }
-    Ok(())
+    PAYLOADS.len()
 }
 
-fn input(alloc: Global, eid: &str, attr: &str, source: &str, value: &[u8]) -> Result<Input, Mem> {
-    Ok(Input {
-        eid: Text::of(alloc, eid)?,
-        attr: Text::of(alloc, attr)?,
-        source: Text::of(alloc, source)?,
-        value: datum_of(alloc, value)?,
-    })
+#[test]
+fn payloads_are_read_and_written_again(rt: HostRuntime) {
+    assert_eq!(rt; count_again(rt.alloc()), PAYLOADS.len());
 }
 
 // An input's entity, its attribute, its source and its value.
 type Row = (&'static str, &'static str, &'static str, &'static str);
 
+fn push_input(alloc: Global, inputs: &mut List<Input>, row: &Row) -> Result<(), Mem> {
+    let value = datum_of(alloc, row.3.as_bytes())?;
+    let eid = Text::of(alloc, row.0)?;
+    let attr = Text::of(alloc, row.1)?;
+    let source = Text::of(alloc, row.2)?;
+    inputs.push(Input {
+        eid,
+        attr,
+        source,
+        value,
+    })
+}
+
 fn inputs(alloc: Global, rows: &[Row]) -> Result<List<Input>, Mem> {
     let mut inputs = List::new(alloc);
-    for (eid, attr, source, value) in rows {
-        inputs.push(input(alloc, eid, attr, source, value.as_bytes())?)?;
+    for row in rows {
+        push_input(alloc, &mut inputs, row)?;
     }
     Ok(inputs)
 }
 
-// The bytes of a step at 0 with these inputs and this `max_advance`.
-fn step(alloc: Global, rows: &[Row], max_advance: i64) -> Result<Vec<u8>, Mem> {
-    let step = Item::Step {
+// A step at 0 with these inputs and this `max_advance`.
+fn step(alloc: Global, rows: &[Row], max_advance: i64) -> Result<Item, Mem> {
+    let inputs = inputs(alloc, rows)?;
+    Ok(Item::Step {
         at: Tier { time: 0, tier: 0 },
-        inputs: inputs(alloc, rows)?,
+        inputs,
         max_advance,
-    };
-    write_item(alloc, &step, 3)
+    })
 }
 
-// The bytes of a request for outputs.
-fn get_data(alloc: Global) -> Result<Vec<u8>, Mem> {
+fn push_want(alloc: Global, wanted: &mut List<Want>, eid: &str, attr: &str) -> Result<(), Mem> {
+    let eid = Text::of(alloc, eid)?;
+    let attr = Text::of(alloc, attr)?;
+    wanted.push(Want { eid, attr })
+}
+
+// A request for outputs.
+fn get_data(alloc: Global) -> Result<Item, Mem> {
     let mut wanted = List::new(alloc);
     for (eid, attr) in [("e", "a"), ("e", "b"), ("f", "a")] {
-        wanted.push(Want {
-            eid: Text::of(alloc, eid)?,
-            attr: Text::of(alloc, attr)?,
-        })?;
+        push_want(alloc, &mut wanted, eid, attr)?;
     }
-    write_item(alloc, &Item::GetData { wanted }, 5)
+    Ok(Item::GetData { wanted })
 }
 
-// The bytes of an answer.
-fn answer(alloc: Global) -> Result<Vec<u8>, Mem> {
+fn answer(alloc: Global) -> Result<Item, Mem> {
     let content = datum_of(alloc, b"{\"e\":{}}")?;
-    write_item(alloc, &Item::Answer { id: 6, content }, 0)
+    Ok(Item::Answer { id: 6, content })
 }
 
-// The bytes of an `init` with these parameters.
-fn init(alloc: Global, params: &str) -> Result<Vec<u8>, Mem> {
-    let call = Call::Init {
-        sim: Text::of(alloc, "A-0")?,
+fn refusal(reason: u8) -> Item {
+    Item::Refuse { id: 9, reason }
+}
+
+// An `init` with these parameters.
+fn init(alloc: Global, params: &str) -> Result<Call, Mem>
+    ensures { IfOk result (λ call. is_call_in_range call ≡ true) }
+{
+    let sim = Text::of(alloc, "A-0")?;
+    Ok(Call::Init {
+        sim,
         params: tree_of(alloc, params),
-    };
-    write_call(alloc, &call, 0)
+    })
 }
 
-// The bytes of a `create` with these parameters.
-fn create(alloc: Global, params: &str) -> Result<Vec<u8>, Mem> {
-    let call = Call::Create {
+// A `create` with these parameters.
+fn create(alloc: Global, params: &str) -> Result<Call, Mem>
+    ensures { IfOk result (λ call. is_call_in_range call ≡ true) }
+{
+    let model = Text::of(alloc, "M")?;
+    Ok(Call::Create {
         num: 2,
-        model: Text::of(alloc, "M")?,
+        model,
         params: tree_of(alloc, params),
-    };
-    write_call(alloc, &call, 1)
+    })
 }
 
-fn is(bytes: Result<Vec<u8>, Mem>, want: &[u8]) -> Result<bool, Mem> {
-    let bytes = bytes?;
-    Ok(bytes.as_slice() == want)
+fn is_item(alloc: Global, item: &Item, id: u64, want: &[u8]) -> bool {
+    match write_item(alloc, item, id) {
+        Ok(payload) => payload.as_slice() == want,
+        Err(_) => false,
+    }
+}
+
+// Whether an item that could be made is written as this with this id.
+fn is_made(alloc: Global, item: Result<Item, Mem>, id: u64, want: &[u8]) -> bool {
+    match item {
+        Ok(item) => is_item(alloc, &item, id, want),
+        Err(_) => false,
+    }
+}
+
+fn is_call(alloc: Global, call: &Call, id: u64, want: &[u8]) -> bool
+    requires { is_call_in_range call.now ≡ true }
+{
+    match write_call(alloc, call, id) {
+        Ok(payload) => payload.as_slice() == want,
+        Err(_) => false,
+    }
+}
+
+// Whether a call that could be made is written as this with this id.
+fn is_called(alloc: Global, call: Result<Call, Mem>, id: u64, want: &[u8]) -> bool
+    requires { IfOk call (λ call. is_call_in_range call ≡ true) }
+{
+    match call {
+        Ok(call) => is_call(alloc, &call, id, want),
+        Err(_) => false,
+    }
 }
 
 const STEPS: [(&[Row], i64, &[u8]); 4] = [
@@ -156,33 +222,51 @@ const REFUSALS: [(u8, &[u8]); 2] = [
 
 const GET_DATA: &[u8] = b"[0,5,[\"get_data\",[{\"e\":[\"a\",\"b\"],\"f\":[\"a\"]}],{}]]";
 
-#[test]
-fn items_are_written(rt: HostRuntime) -> Result<(), Fail> {
-    let alloc = rt.alloc();
+fn are_steps_right(alloc: Global) -> bool {
     for (rows, max_advance, want) in &STEPS {
-        assert!(rt; is(step(alloc, rows, *max_advance), want)?);
+        if !is_made(alloc, step(alloc, rows, *max_advance), 3, want) {
+            return false;
+        }
     }
-    assert!(rt; is(get_data(alloc), GET_DATA)?);
-    assert!(rt; is(answer(alloc), b"[1,6,{\"e\":{}}]")?);
+    true
+}
+
+fn are_refusals_right(alloc: Global) -> bool {
     for (reason, want) in &REFUSALS {
-        let reason = *reason;
-        let refusal = Item::Refuse { id: 9, reason };
-        assert!(rt; is(write_item(alloc, &refusal, 0), want)?);
+        if !is_item(alloc, &refusal(*reason), 0, want) {
+            return false;
+        }
     }
-    Ok(())
+    true
+}
+
+fn are_data_right(alloc: Global) -> bool {
+    is_made(alloc, get_data(alloc), 5, GET_DATA)
+        && is_made(alloc, answer(alloc), 0, b"[1,6,{\"e\":{}}]")
+}
+
+#[test]
+fn steps_are_written(rt: HostRuntime) {
+    assert!(rt; are_steps_right(rt.alloc()));
+}
+
+#[test]
+fn requests_answers_and_refusals_are_written(rt: HostRuntime) {
+    assert!(rt; are_data_right(rt.alloc()) && are_refusals_right(rt.alloc()));
 }
 
 const INIT: &[u8] = b"[0,0,[\"init\",[\"A-0\"],{\"a\":[2],\"time_resolution\":1,\"z\":1}]]";
 
+const CREATE: &[u8] = b"[0,1,[\"create\",[2,\"M\"],{\"n\":-1}]]";
+
+fn are_calls_right(alloc: Global) -> bool {
+    is_called(alloc, init(alloc, "{\"z\":1,\"a\":[2]}"), 0, INIT)
+        && is_called(alloc, create(alloc, "{\"n\":-1}"), 1, CREATE)
+        && is_call(alloc, &Call::SetupDone, 2, b"[0,2,[\"setup_done\",[],{}]]")
+        && is_call(alloc, &Call::Stop, 3, b"[0,3,[\"stop\",[],{}]]")
+}
+
 #[test]
-fn calls_are_written(rt: HostRuntime) -> Result<(), Fail> {
-    let alloc = rt.alloc();
-    assert!(rt; is(init(alloc, "{\"z\":1,\"a\":[2]}"), INIT)?);
-    let created = create(alloc, "{\"n\":-1}");
-    assert!(rt; is(created, b"[0,1,[\"create\",[2,\"M\"],{\"n\":-1}]]")?);
-    let done = write_call(alloc, &Call::SetupDone, 2);
-    assert!(rt; is(done, b"[0,2,[\"setup_done\",[],{}]]")?);
-    let stopped = write_call(alloc, &Call::Stop, 3);
-    assert!(rt; is(stopped, b"[0,3,[\"stop\",[],{}]]")?);
-    Ok(())
+fn calls_are_written(rt: HostRuntime) {
+    assert!(rt; are_calls_right(rt.alloc()));
 }

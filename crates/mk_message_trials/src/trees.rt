@@ -1,32 +1,47 @@
 // Bytes read, trees written, and both again.
-use mk_base::Text;
+ghost use Rattle.std.specs.Prelude.{◌≡◌, true};
+ghost use Rattle.mk_base.specs.Trees.{is_in_range};
+
+use mk_base::{Json, Mem, Text};
 use mk_json::{DatumFault, JsonFault, datum, put_json, put_text, read_json};
 use std::alloc::Global;
-use std::test::Fail;
 
-// What the bytes are read as, written again.
-fn again(alloc: Global, bytes: &[u8]) -> Result<String, Fail> {
-    match read_json(alloc, bytes) {
-        Ok(tree) => {
-            let mut out = Vec::new(alloc);
-            put_json(alloc, &mut out, &tree)?;
-            Ok(String::from_utf8_lossy(alloc, out.as_slice())?)
-        }
-        Err(JsonFault::NotJson) => Ok(String::from_str(alloc, "no JSON")?),
-        Err(JsonFault::Mem) => Ok(String::from_str(alloc, "no memory")?),
+// Whether a tree is written as this.
+fn is_written(alloc: Global, tree: &Json, want: &str) -> bool
+    requires { is_in_range tree.now ≡ true }
+{
+    let mut out = Vec::new(alloc);
+    match put_json(alloc, &mut out, tree) {
+        Ok(()) => out.as_slice() == want.as_bytes(),
+        Err(_) => false,
     }
 }
 
-// The datum that the bytes are, or why they are none.
-fn datum_of(alloc: Global, bytes: &[u8]) -> Result<String, Fail> {
-    let Ok(tree) = read_json(alloc, bytes) else {
-        return Ok(String::from_str(alloc, "no JSON")?);
-    };
-    match datum(alloc, &tree) {
-        Ok(datum) => Ok(String::from_utf8_lossy(alloc, datum.bytes())?),
-        Err(DatumFault::NotWhole) => Ok(String::from_str(alloc, "not whole")?),
-        Err(DatumFault::TooDeep) => Ok(String::from_str(alloc, "too deep")?),
-        Err(DatumFault::Mem) => Ok(String::from_str(alloc, "no memory")?),
+// Whether what the bytes are read as is written as this.
+fn is_again(alloc: Global, bytes: &[u8], want: &str) -> bool {
+    match read_json(alloc, bytes) {
+        Ok(tree) => is_written(alloc, &tree, want),
+        Err(JsonFault::NotJson) => want == "no JSON",
+        Err(JsonFault::Mem) => false,
+    }
+}
+
+// Whether the datum of a tree is this text, or why it is none.
+fn is_datum_of(alloc: Global, tree: &Json, want: &str) -> bool
+    requires { is_in_range tree.now ≡ true }
+{
+    match datum(alloc, tree) {
+        Ok(datum) => datum.bytes() == want.as_bytes(),
+        Err(DatumFault::NotWhole) => want == "not whole",
+        Err(DatumFault::TooDeep) => want == "too deep",
+        Err(DatumFault::Mem) => false,
+    }
+}
+
+fn is_datum(alloc: Global, bytes: &[u8], want: &str) -> bool {
+    match read_json(alloc, bytes) {
+        Ok(tree) => is_datum_of(alloc, &tree, want),
+        Err(_) => want == "no JSON",
     }
 }
 
@@ -76,20 +91,58 @@ const DATA: [(&[u8], &str); 9] = [
     (DEEP, "too deep"),
 ];
 
+// How many are read and written again so, up to the first that isn't.
+fn trees_again(alloc: Global) -> usize {
+    for (place, (bytes, want)) in TREES.iter().enumerate() {
+        if !is_again(alloc, bytes, want) {
+            return place;
+        }
+    }
+    TREES.len()
+}
+
+fn data_again(alloc: Global) -> usize {
+    for (place, (bytes, want)) in DATA.iter().enumerate() {
+        if !is_datum(alloc, bytes, want) {
+            return place;
+        }
+    }
+    DATA.len()
+}
+
 #[test]
-fn bytes_are_read_and_written_again(rt: HostRuntime) -> Result<(), Fail> {
-    for (bytes, want) in &TREES {
-        assert_eq!(rt; again(rt.alloc(), bytes)?.as_str(), *want);
+fn bytes_are_read_and_written_again(rt: HostRuntime) {
+    assert_eq!(rt; trees_again(rt.alloc()), TREES.len());
+}
+
+#[test]
+fn whole_numbers_and_what_has_them_are_data(rt: HostRuntime) {
+    assert_eq!(rt; data_again(rt.alloc()), DATA.len());
+}
+
+const QUOTED: &[u8] = b"=\"a\\\"\\\\\\n\\u0001\xf0\x9f\x98\x80\"";
+
+fn quoted(alloc: Global, text: &Text) -> Result<Vec<u8>, Mem> {
+    let mut out = Vec::from_slice(alloc, b"=")?;
+    put_text(alloc, &mut out, text)?;
+    Ok(out)
+}
+
+fn is_quoted(alloc: Global, text: &Text) -> bool {
+    match quoted(alloc, text) {
+        Ok(out) => out.as_slice() == QUOTED,
+        Err(_) => false,
     }
-    for (bytes, want) in &DATA {
-        assert_eq!(rt; datum_of(rt.alloc(), bytes)?.as_str(), *want);
+}
+
+fn is_text_written(alloc: Global) -> bool {
+    match Text::of(alloc, "a\"\\\n\u{1}\u{1f600}") {
+        Ok(text) => is_quoted(alloc, &text),
+        Err(_) => false,
     }
-    let mut out = vec![in rt.alloc(); b'=']?;
-    let text = Text::of(rt.alloc(), "a\"\\\n\u{1}\u{1f600}")?;
-    put_text(rt.alloc(), &mut out, &text)?;
-    assert_eq!(rt;
-        out.as_slice(),
-        b"=\"a\\\"\\\\\\n\\u0001\xf0\x9f\x98\x80\"".as_slice()
-    );
-    Ok(())
+}
+
+#[test]
+fn a_text_is_written_between_quotes(rt: HostRuntime) {
+    assert!(rt; is_text_written(rt.alloc()));
 }

@@ -2,15 +2,21 @@
 
 use mk_base::{Json, List, Mem, Members, Text, Tier, Via};
 use std::alloc::Global;
-use std::test::Fail;
+
+fn are_tiers_right() -> bool {
+    let at = Tier { time: 3, tier: 2 };
+    let later = Tier { time: 4, tier: 0 };
+    at.after(Via::Plain) == at
+        && at.after(Via::Shift(1)) == later
+        && at.after(Via::Weak) == Tier { time: 3, tier: 3 }
+        && at.is_up_to(at)
+        && at.is_up_to(later)
+        && !later.is_up_to(at)
+}
 
 #[test]
 fn tiered_times_are_delayed_and_ordered(rt: HostRuntime) {
-    let at = Tier { time: 3, tier: 2 };
-    let later = Tier { time: 4, tier: 0 };
-    assert!(rt; at.after(Via::Plain) == at && at.after(Via::Shift(1)) == later);
-    assert_eq!(rt; at.after(Via::Weak), Tier { time: 3, tier: 3 });
-    assert!(rt; at.is_up_to(at) && at.is_up_to(later) && !later.is_up_to(at));
+    assert!(rt; are_tiers_right());
 }
 
 // The list 7, 2, 3, each number put by another call.
@@ -23,35 +29,68 @@ fn changed(alloc: Global) -> Result<List<u32>, Mem> {
     Ok(list)
 }
 
-#[test]
-fn lists_are_changed_in_place(rt: HostRuntime) -> Result<(), Fail> {
-    let mut list = changed(rt.alloc())?;
-    assert_eq!(rt; list.len(), 3);
-    assert!(rt; list.get(0).copied() == Some(7) && list.get(3).is_none() && *list.at(1) == 2);
-    assert_eq!(rt; list.pop(), Some(3));
-    assert!(rt; !list.is_empty());
+fn is_seven_two_three(list: &List<u32>) -> bool {
+    list.len() == 3
+        && !list.is_empty()
+        && list.get(0) == Some(&7)
+        && list.get(3).is_none()
+        && *list.at(1) == 2
+}
+
+// The last number, and whether 7 and 2 are left.
+fn taken_apart(list: List<u32>) -> (Option<u32>, bool) {
+    let mut list = list;
+    let last = list.pop();
     let kept = List::from_vec(list.into_vec());
-    assert_eq!(rt; kept.as_slice(), [7, 2].as_slice());
-    Ok(())
+    (last, kept.as_slice() == [7, 2].as_slice())
+}
+
+fn is_list_right(alloc: Global) -> bool {
+    match changed(alloc) {
+        Ok(list) => is_seven_two_three(&list) && taken_apart(list) == (Some(3), true),
+        Err(_) => false,
+    }
+}
+
+#[test]
+fn lists_are_changed_in_place(rt: HostRuntime) {
+    assert!(rt; is_list_right(rt.alloc()));
+}
+
+fn put(alloc: Global, members: &mut Members<u32>, name: &str, value: u32) -> Result<(), Mem> {
+    let name = Text::of(alloc, name)?;
+    members.put(name, value)
 }
 
 // Members put out of order, and one twice.
 fn members(alloc: Global) -> Result<Members<u32>, Mem> {
     let mut members = Members::new(alloc);
     for (name, value) in [("b", 1), ("a", 2), ("c", 3), ("b", 4)] {
-        members.put(Text::of(alloc, name)?, value)?;
+        put(alloc, &mut members, name, value)?;
     }
     Ok(members)
 }
 
+fn are_ordered(members: &Members<u32>) -> bool {
+    members.len() == 3
+        && !members.is_empty()
+        && members.entries().len() == 3
+        && members.get("b") == Some(&4)
+        && members.get("d").is_none()
+        && members.name_at(0).as_str() == "a"
+        && *members.value_at(0) == 2
+}
+
+fn are_members_right(alloc: Global) -> bool {
+    match members(alloc) {
+        Ok(members) => are_ordered(&members),
+        Err(_) => false,
+    }
+}
+
 #[test]
-fn members_stand_in_byte_order_of_their_names(rt: HostRuntime) -> Result<(), Fail> {
-    let members = members(rt.alloc())?;
-    assert_eq!(rt; members.len(), 3);
-    assert!(rt; members.get("b").copied() == Some(4) && members.get("d").is_none());
-    assert!(rt; members.name_at(0).as_str() == "a" && *members.value_at(0) == 2);
-    assert!(rt; !members.is_empty() && members.entries().len() == 3);
-    Ok(())
+fn members_stand_in_byte_order_of_their_names(rt: HostRuntime) {
+    assert!(rt; are_members_right(rt.alloc()));
 }
 
 // A list of a whole number and of one that is none.
@@ -62,31 +101,92 @@ fn items(alloc: Global) -> Result<Json, Mem> {
     Ok(Json::List(items))
 }
 
+fn put_tree(members: &mut Members<Json>, name: Text, tree: Json) -> Result<(), Mem> {
+    members.put(name, tree)
+}
+
+fn put_items(alloc: Global, members: &mut Members<Json>) -> Result<(), Mem> {
+    let items = items(alloc)?;
+    let name = Text::of(alloc, "x")?;
+    put_tree(members, name, items)
+}
+
+fn put_truth(alloc: Global, members: &mut Members<Json>) -> Result<(), Mem> {
+    let name = Text::of(alloc, "y")?;
+    put_tree(members, name, Json::Bool(true))
+}
+
 // An object of that list and of a truth value.
 fn object(alloc: Global) -> Result<Json, Mem> {
     let mut members = Members::new(alloc);
-    members.put(Text::of(alloc, "x")?, items(alloc)?)?;
-    members.put(Text::of(alloc, "y")?, Json::Bool(true))?;
+    put_items(alloc, &mut members)?;
+    put_truth(alloc, &mut members)?;
     Ok(Json::Object(members))
 }
 
-// A copy of that object.
-fn copied(alloc: Global) -> Result<Json, Mem> {
-    let object = object(alloc)?;
-    object.copy(alloc)
+fn truth_in(tree: &Json) -> Option<bool> {
+    tree.member("y")?.as_bool()
+}
+
+fn count_in(tree: &Json) -> Option<usize> {
+    Some(tree.member("x")?.as_list()?.len())
+}
+
+fn count_of(tree: &Json) -> Option<usize> {
+    Some(tree.as_object()?.len())
+}
+
+fn has_members(tree: &Json) -> bool {
+    truth_in(tree) == Some(true)
+        && count_in(tree) == Some(2)
+        && count_of(tree) == Some(2)
+        && tree.member("z").is_none()
+}
+
+fn is_object_alone(tree: &Json) -> bool {
+    tree.is_object()
+        && !tree.is_null()
+        && !tree.is_whole()
+        && tree.as_text().is_none()
+        && tree.nests_within(2)
+        && !tree.nests_within(1)
+}
+
+// Whether a copy of the tree is that object.
+fn is_copied(alloc: Global, tree: &Json) -> bool {
+    match tree.copy(alloc) {
+        Ok(copy) => has_members(&copy) && is_object_alone(&copy),
+        Err(_) => false,
+    }
+}
+
+fn is_tree_right(alloc: Global) -> bool {
+    match object(alloc) {
+        Ok(tree) => is_copied(alloc, &tree),
+        Err(_) => false,
+    }
+}
+
+fn is_text_copied(text: &Text) -> bool {
+    match text.copy() {
+        Ok(copy) => copy.as_str() == "ä" && copy.bytes().len() == 2,
+        Err(_) => false,
+    }
+}
+
+fn is_text_right(alloc: Global) -> bool {
+    match Text::of(alloc, "ä") {
+        Ok(text) => is_text_copied(&text),
+        Err(_) => false,
+    }
 }
 
 #[test]
-fn trees_are_looked_into_and_copied(rt: HostRuntime) -> Result<(), Fail> {
-    let tree = copied(rt.alloc())?;
-    assert!(rt; tree.member("y").and_then(|y| y.as_bool()) == Some(true));
-    let items = tree.member("x").and_then(|x| x.as_list());
-    assert!(rt; items.map(|items| items.len()) == Some(2) && tree.member("z").is_none());
-    assert!(rt; tree.as_object().map(|members| members.len()) == Some(2));
-    assert!(rt; tree.is_object() && !tree.is_null() && !tree.is_whole());
-    assert!(rt; tree.as_text().is_none() && Json::Whole(5).as_whole() == Some(5));
-    assert!(rt; tree.nests_within(2) && !tree.nests_within(1));
-    let text = Text::of(rt.alloc(), "ä")?.copy()?;
-    assert!(rt; text.as_str() == "ä" && text.bytes().len() == 2);
-    Ok(())
+fn trees_are_looked_into_and_copied(rt: HostRuntime) {
+    assert!(rt; is_tree_right(rt.alloc()) && Json::Whole(5).as_whole() == Some(5));
+}
+
+#[test]
+fn texts_are_copied(rt: HostRuntime) {
+    assert!(rt; is_text_right(rt.alloc()));
 }
