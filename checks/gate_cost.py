@@ -1,7 +1,8 @@
 #!/usr/bin/env python3
 """What the gate costs: processor seconds of each crate, told apart into its proof, its tests and its edits.
 
-    gate_cost.py run [WORD..]      runs the words, `rt ci` if there are none, and prints the table when they have ended
+    gate_cost.py run [WORD..]      runs the words, `rt ci` if there are none, and prints the table when they have ended;
+                                   it is called at the top of the repository
     gate_cost.py watch PID         the same of a gate that runs already, from now on, until it has ended
     gate_cost.py functions FOLDER  the dearest functions of a crate that `rt check --jobs 1` has just proved from
                                    nothing: FOLDER is its `out/incremental`, whose files are written one by one
@@ -76,8 +77,32 @@ def watched(root: int, ended) -> dict[int, tuple[tuple[str, str], float]]:
     return seen
 
 
+def libraries() -> dict[str, list[str]]:
+    """Returns the crates that each crate of `crates.txt` stands on."""
+    found = {}
+    for line in pathlib.Path("crates.txt").read_text(encoding="utf-8").splitlines():
+        names, colon, deps = line.partition("#")[0].partition(":")
+        if colon:
+            found[names.split()[0]] = deps.split()
+    return found
+
+
+def longest_chain(seconds: dict[str, float]) -> tuple[float, list[str]]:
+    """Returns the chain of crates, each above the one before it, whose proofs take longest one after the other."""
+    below_of = libraries()
+    best: dict[str, tuple[float, list[str]]] = {}
+
+    def up_to(crate: str) -> tuple[float, list[str]]:
+        if crate not in best:
+            under = max((up_to(it) for it in below_of[crate] if it in below_of), default=(0.0, []))
+            best[crate] = under[0] + seconds.get(crate, 0.0), [*under[1], crate]
+        return best[crate]
+
+    return max(map(up_to, below_of))
+
+
 def table(seen: dict[int, tuple[tuple[str, str], float]], clock: float) -> None:
-    """Prints a line a crate, the dearest first, and the sums in minutes."""
+    """Prints a line a crate, the dearest first, the sums in minutes, and the longest chain."""
     costs: dict[str, collections.Counter] = collections.defaultdict(collections.Counter)
     for (crate, part), seconds in seen.values():
         costs[crate or "(rt itself)"][part] += seconds
@@ -86,6 +111,8 @@ def table(seen: dict[int, tuple[tuple[str, str], float]], clock: float) -> None:
         print(f"{crate:26}" + "".join(f"{parts[it]:8.0f}" for it in PARTS) + f"{sum(parts.values()):8.0f}")
     sums = [sum(it[part] for it in costs.values()) / 60 for part in PARTS]
     print(f"{'minutes of all':26}" + "".join(f"{it:8.1f}" for it in sums) + f"{sum(sums):8.1f}")
+    length, chain = longest_chain({crate: parts["proof"] for crate, parts in costs.items()})
+    print(f"longest chain of proofs: {length / 60:.1f} minutes, {' < '.join(chain)}")
     print(f"{clock / 60:.1f} minutes by the clock, on {os.cpu_count()} processors")
 
 
