@@ -1,5 +1,6 @@
 -- What proofs alone need.
 pub mod Arcs
+pub mod Beginning
 pub mod Clear
 pub mod Levels
 pub mod Outer
