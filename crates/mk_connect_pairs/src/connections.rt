@@ -1,13 +1,15 @@
 //! The connections that a scenario makes, or the first test that one of them fails.
-ghost use Rattle.std.specs.Prelude.{◌≡◌, ◌++◌, ◌∷◌, [], Ok, None, true, not, is_some, length, option_and_then, option_map, IfOk, IfErr};
+ghost use Rattle.std.specs.Prelude.{◌≡◌, ◌++◌, ◌∷◌, [], Ok, None, true, not, is_some, length, option_and_then, option_map, IfOk, IfErr, false};
+ghost use Rattle.std.specs.List.{list_any};
 ghost use Rattle.mk_base.specs.Trees.{is_datum, is_in_range};
 ghost use Rattle.mk_base.specs.Lists.{Each};
 ghost use Rattle.mk_base.specs.Texts.{text_of};
 ghost use Rattle.mk_scenario_keys.specs.Keys.{IsObjectOfData};
-ghost use Rattle.mk_connect_pairs.specs.Connections.{attrs_fault, block_made, block_pairs, conn_between, conn_fault, connected, conns_made, has_initial, initial_text, pair_made};
+ghost use Rattle.mk_connect_pairs.specs.Connections.{attrs_fault, block_made, block_pairs, conn_between, conn_fault, connected, conns_made, has_initial, initial_text, is_way, pair_made};
 ghost use Rattle.mk_connect_pairs.specs.Ends.{full_id};
 ghost use Rattle.mk_connect_pairs.specs.Faults.{IsFaultOf, through};
 ghost use Rattle.mk_connect_pairs.specs.Usable.{IsUsable};
+ghost use Rattle.mk_connect_pairs.specs.inner.Blocks.{tested_pairs};
 
 use crate::attributes::{has_attr, keeps_attr, takes_attr, triggers_by};
 use crate::ends::{ends_at, full_id, pairs_between, place_fault};
@@ -54,14 +56,32 @@ fn block_made(alloc: Global, study: &Study, made: Made, block: &Block) -> Result
         (λ e. IsFaultOf (block_made study.now.sims.now study.now.models.now study.now.entities.now
         made block.now) e) }
 {
+    match tested_pairs(alloc, study, block) {
+        Ok(pairs) => pairs_made(alloc, study, made, block, pairs.as_slice()),
+        Err(fault) => Err(fault),
+    }
+}
+
+// Which entities a block pairs, where what it names are entities.
+fn tested_pairs(
+    alloc: Global,
+    study: &Study,
+    block: &Block,
+) -> Result<Vec<(u32, u32)>, ConnectFault>
+    requires { IsUsable (length study.now.members.now) block.now }
+    ensures ok { IfOk result
+        (λ pairs. tested_pairs study.now.sims.now study.now.entities.now block.now
+        ≡ Ok pairs.items) }
+    ensures refused { IfErr result
+        (λ e. IsFaultOf (tested_pairs study.now.sims.now study.now.entities.now block.now) e) }
+{
     if let Some(fault) = place_fault(alloc, study, &block.from)? {
         return Err(fault);
     }
     if let Some(fault) = place_fault(alloc, study, &block.to)? {
         return Err(fault);
     }
-    let pairs = block_pairs(alloc, study, block)?;
-    pairs_made(alloc, study, made, block, pairs.as_slice())
+    Ok(block_pairs(alloc, study, block)?)
 }
 
 /// Which entities a block pairs, by their numbers: a source and a target each. Fails for want of memory alone.
@@ -143,15 +163,39 @@ fn connected(
         (λ e. IsFaultOf (connected study.now.sims.now study.now.models.now study.now.entities.now
         block.now ends made pair.now) e) }
 {
+    match tested_conn(alloc, study, &made, block, ends, pair) {
+        Ok(conn) => Ok(made.with(alloc, conn)?),
+        Err(fault) => Err(fault),
+    }
+}
+
+// The connection of two entities by a pair of attributes of a block, after its tests beside these.
+fn tested_conn(
+    alloc: Global,
+    study: &Study,
+    made: &Made,
+    block: &Block,
+    ends: (u32, u32),
+    pair: &AttrPair,
+) -> Result<Conn, ConnectFault>
+    requires { IsUsable (length study.now.members.now) block.now }
+    ensures ok { IfOk result
+        (λ conn. connected study.now.sims.now study.now.models.now study.now.entities.now block.now
+        ends made.now pair.now ≡ Ok (made.now ++ conn ∷ [])) }
+    ensures alone { IfOk result
+        (λ conn. list_any (is_way conn.from conn.to conn.to_attr) made.now ≡ false) }
+    ensures refused { IfErr result
+        (λ e. IsFaultOf (connected study.now.sims.now study.now.models.now study.now.entities.now
+        block.now ends made.now pair.now) e) }
+{
     if let Some(fault) = attrs_fault(alloc, study, ends, pair)? {
         return Err(fault);
     }
     let conn = conn_between(alloc, study, block, ends, pair)?;
-    if let Some(fault) = conn_fault(alloc, study, &made, &conn)? {
-        return Err(fault);
+    match conn_fault(alloc, study, made, &conn)? {
+        Some(fault) => Err(fault),
+        None => Ok(conn),
     }
-    let more = made.with(alloc, conn)?;
-    Ok(more)
 }
 
 // The attributes that the pair names are there: an output of the source's model, and an input of the target's.

@@ -1,8 +1,8 @@
 //! The connections made so far, among which one of the same way is found without going through them.
-ghost use Rattle.std.specs.Prelude.{◌≡◌, ◌++◌, ◌∷◌, [], false, length, IfOk};
+ghost use Rattle.std.specs.Prelude.{◌≡◌, ◌++◌, ◌∷◌, [], false, length, IfOk, OnOk};
 ghost use Rattle.std.specs.List.{list_any};
 ghost use Rattle.mk_connect_pairs.specs.Connections.{is_way};
-ghost use Rattle.mk_connect_pairs.specs.inner.Lookups.{IsWay};
+ghost use Rattle.mk_connect_pairs.specs.inner.Lookups.{HasWays, IsWay};
 
 use indexmap::IndexSet;
 use mk_base::{List, Mem, Text};
@@ -62,9 +62,7 @@ impl Made {
             mut conns,
             mut ways,
         } = self;
-        let way = way(alloc, conn.from, conn.to, &conn.to_attr)?;
-        ways.insert(way)?;
-        conns.push(conn)?;
+        add(alloc, &mut conns, &mut ways, conn)?;
         Ok(Made { conns, ways })
     }
 
@@ -74,6 +72,40 @@ impl Made {
     {
         self.conns
     }
+}
+
+// Puts one more connection to these, of a way of its own.
+fn add(
+    alloc: Global,
+    conns: &mut List<Conn>,
+    ways: &mut IndexSet<(u32, u32, String)>,
+    conn: Conn,
+) -> Result<(), Mem>
+    requires ways { HasWays ways.old conns.old }
+    requires alone { list_any (is_way conn.from conn.to conn.to_attr) conns.old ≡ false }
+    ensures conns { OnOk result (conns.new ≡ conns.old ++ conn ∷ []) }
+    ensures ways { OnOk result (HasWays ways.new conns.new) }
+{
+    know(alloc, conns, ways, &conn)?;
+    conns.push(conn)?;
+    Ok(())
+}
+
+// Puts the way of a connection beside these to theirs.
+fn know(
+    alloc: Global,
+    conns: &List<Conn>,
+    ways: &mut IndexSet<(u32, u32, String)>,
+    conn: &Conn,
+) -> Result<(), Mem>
+    requires ways { HasWays ways.old conns.now }
+    requires alone { list_any (is_way conn.now.from conn.now.to conn.now.to_attr) conns.now
+        ≡ false }
+    ensures { OnOk result (HasWays ways.new (conns.now ++ conn.now ∷ [])) }
+{
+    let way = way(alloc, conn.from, conn.to, &conn.to_attr)?;
+    ways.insert(way)?;
+    Ok(())
 }
 
 // What tells connections apart: the entities and the target's attribute.

@@ -2,11 +2,11 @@
 ghost use Rattle.std.specs.Prelude.{◌≡◌, ◌++◌, ◌∷◌, [], length, map, option_map, position, slice_get, IfOk, OnOk, None};
 ghost use Rattle.std.specs.Map.{lookup};
 ghost use Rattle.std.specs.String.{string_bytes};
-ghost use Rattle.mk_connect_pairs.specs.inner.Lookups.{IsKeyOf, is_key};
+ghost use Rattle.mk_connect_pairs.specs.inner.Lookups.{HasNumbers, IsKeyOf, is_key};
 ghost use Rattle.mk_connect_pairs.specs.Models.{is_model, models_of, models_from, model_number, sim_model};
 
 use crate::models::SimModel;
-use crate::texts::texts_of;
+use crate::texts::{Texts, texts_of};
 use indexmap::IndexMap;
 use mk_base::{List, Mem, SimKind, SimNo, Text};
 use mk_entities::EntityInfo;
@@ -51,11 +51,7 @@ impl Models {
             mut kept,
             mut numbers,
         } = self;
-        let key = key(alloc, model.sim, &model.name)?;
-        if number_under(&numbers, &key).is_none() {
-            number(&mut numbers, key, kept.len())?;
-        }
-        kept.push(model)?;
+        add(alloc, &mut kept, &mut numbers, model)?;
         Ok(Models { kept, numbers })
     }
 
@@ -79,6 +75,42 @@ impl Models {
         ensures { result ≡ self }
     {
         self.kept
+    }
+}
+
+// Puts one more model to these, and its number under it where it has none.
+fn add(
+    alloc: Global,
+    kept: &mut List<SimModel>,
+    numbers: &mut IndexMap<(u32, String), u32>,
+    model: SimModel,
+) -> Result<(), Mem>
+    requires { HasNumbers numbers.old kept.old }
+    ensures kept { OnOk result (kept.new ≡ kept.old ++ model ∷ []) }
+    ensures numbers { OnOk result (HasNumbers numbers.new kept.new) }
+{
+    number_once(alloc, kept, numbers, &model)?;
+    kept.push(model)?;
+    Ok(())
+}
+
+// Puts the number of the model after these under it, where it has none.
+fn number_once(
+    alloc: Global,
+    kept: &List<SimModel>,
+    numbers: &mut IndexMap<(u32, String), u32>,
+    model: &SimModel,
+) -> Result<(), Mem>
+    requires { HasNumbers numbers.old kept.now }
+    ensures { OnOk result (HasNumbers numbers.new (kept.now ++ model.now ∷ [])) }
+{
+    let key = key(alloc, model.sim, &model.name)?;
+    match number_under(numbers, &key) {
+        Some(_) => Ok(()),
+        None => {
+            number(numbers, key, kept.len())?;
+            Ok(())
+        }
     }
 }
 
@@ -151,8 +183,7 @@ fn sim_model(alloc: Global, sim: SimNo, kind: SimKind, model: &ModelMeta) -> Res
 {
     let name = model.name.copy()?;
     let attrs = texts_of(alloc, &model.attrs)?;
-    let trigger = texts_of(alloc, &model.trigger)?;
-    let events = texts_of(alloc, &model.events)?;
+    let (trigger, events) = roles(alloc, model)?;
     Ok(SimModel {
         sim,
         kind,
@@ -162,6 +193,16 @@ fn sim_model(alloc: Global, sim: SimNo, kind: SimKind, model: &ModelMeta) -> Res
         trigger,
         events,
     })
+}
+
+// The attributes of the model that trigger, and those that are events.
+fn roles(alloc: Global, model: &ModelMeta) -> Result<(Texts, Texts), Mem>
+    ensures trigger { IfOk result (λ both. both.0 ≡ model.now.trigger) }
+    ensures events { IfOk result (λ both. both.1 ≡ model.now.events) }
+{
+    let trigger = texts_of(alloc, &model.trigger)?;
+    let events = texts_of(alloc, &model.events)?;
+    Ok((trigger, events))
 }
 
 /// The numbers of the entities' models, in order, none for an entity whose simulator has no such model. Fails for want of memory

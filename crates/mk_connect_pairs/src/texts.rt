@@ -1,7 +1,7 @@
 //! Texts in order, among which a text is looked up without going through them.
 ghost use Rattle.std.specs.Prelude.{◌≡◌, ◌++◌, ◌∷◌, [], OnOk, IfOk};
 ghost use Rattle.mk_scenario_keys.specs.Keys.{is_among};
-ghost use Rattle.mk_connect_pairs.specs.inner.TextSets.{HasMore};
+ghost use Rattle.mk_connect_pairs.specs.inner.TextSets.{HasMore, HasTexts};
 
 use indexmap::IndexSet;
 use mk_base::{List, Mem, Text};
@@ -47,8 +47,7 @@ impl Texts {
             mut kept,
             mut known,
         } = self;
-        know(alloc, &mut known, text)?;
-        kept.push(text.copy()?)?;
+        add(alloc, &mut kept, &mut known, text)?;
         Ok(Texts { kept, known })
     }
 
@@ -65,6 +64,22 @@ impl Texts {
     {
         self.kept
     }
+}
+
+// Puts one more text to these, and into the set.
+fn add(
+    alloc: Global,
+    kept: &mut List<Text>,
+    known: &mut IndexSet<String>,
+    text: &Text,
+) -> Result<(), Mem>
+    requires { HasTexts known.old kept.old }
+    ensures kept { OnOk result (kept.new ≡ kept.old ++ text.now ∷ []) }
+    ensures known { OnOk result (HasTexts known.new kept.new) }
+{
+    know(alloc, known, text)?;
+    kept.push(text.copy()?)?;
+    Ok(())
 }
 
 // Puts the text into the set.
