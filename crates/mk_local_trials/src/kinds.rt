@@ -1,8 +1,9 @@
 //! Simulators of some kinds over kinds that a test makes, as a program's `main` does.
 
-ghost use Rattle.std.specs.Prelude.{◌≡◌, IfOk, IfSome};
+ghost use Rattle.std.specs.Prelude.{◌≡◌, true, IfOk};
 ghost use Rattle.mk_base.specs.Lists.{IsIn};
 ghost use Rattle.mk_local.specs.Calls.{IsCallReplied};
+ghost use Rattle.mk_local.specs.Kinds.{has_kind};
 ghost use Rattle.mk_local.specs.Registries.{rows_in};
 ghost use Rattle.mk_local.specs.Replies.{IsItemReplied};
 
@@ -17,8 +18,9 @@ use std::alloc::Global;
 
 // Parameters of one member.
 fn params(alloc: Global, name: &str, value: i128) -> Result<Json, Mem> {
+    let name = Text::of(alloc, name)?;
     let mut members = Members::new(alloc);
-    members.put(Text::of(alloc, name)?, Json::Whole(value))?;
+    members.put(name, Json::Whole(value))?;
     Ok(Json::Object(members))
 }
 
@@ -49,11 +51,9 @@ fn init(
 ) -> Result<Message, Mem>
     ensures { sim.new.kind ≡ sim.old.kind }
 {
-    let call = Call::Init {
-        sim: Text::of(alloc, "A-0")?,
-        params: params(alloc, name, value)?,
-    };
-    called(alloc, kinds, sim, &call)
+    let id = Text::of(alloc, "A-0")?;
+    let params = params(alloc, name, value)?;
+    called(alloc, kinds, sim, &Call::Init { sim: id, params })
 }
 
 // The reply to a `create` of two entities with this parameter.
@@ -67,10 +67,12 @@ fn create(
 ) -> Result<Message, Mem>
     ensures { sim.new.kind ≡ sim.old.kind }
 {
+    let model = Text::of(alloc, model)?;
+    let params = params(alloc, name, value)?;
     let call = Call::Create {
         num: 2,
-        model: Text::of(alloc, model)?,
-        params: params(alloc, name, value)?,
+        model,
+        params,
     };
     called(alloc, kinds, sim, &call)
 }
@@ -86,13 +88,12 @@ fn step(
     requires { IsIn sim.old.kind (rows_in kinds.now) }
     ensures { sim.new.kind ≡ sim.old.kind }
 {
+    let inputs = one_input(alloc, attr)?;
+    let time = i64::from(time);
     let item = Item::Step {
-        at: Tier {
-            time: i64::from(time),
-            tier: 0,
-        },
-        inputs: one_input(alloc, attr)?,
-        max_advance: i64::from(time),
+        at: Tier { time, tier: 0 },
+        inputs,
+        max_advance: time,
     };
     asked(alloc, kinds, sim, &item)
 }
@@ -109,15 +110,37 @@ fn seven(alloc: Global) -> Result<Datum, Mem> {
 }
 
 // The value 7 for an attribute of the entity 0.
+fn input(alloc: Global, attr: &str) -> Result<Input, Mem> {
+    let value = seven(alloc)?;
+    let eid = Text::of(alloc, "0")?;
+    let attr = Text::of(alloc, attr)?;
+    let source = Text::of(alloc, "B-0.0")?;
+    Ok(Input {
+        eid,
+        attr,
+        source,
+        value,
+    })
+}
+
 fn one_input(alloc: Global, attr: &str) -> Result<List<Input>, Mem> {
+    let input = input(alloc, attr)?;
     let mut inputs = List::new(alloc);
-    inputs.push(Input {
-        eid: Text::of(alloc, "0")?,
-        attr: Text::of(alloc, attr)?,
-        source: Text::of(alloc, "B-0.0")?,
-        value: seven(alloc)?,
-    })?;
+    inputs.push(input)?;
     Ok(inputs)
+}
+
+fn want(alloc: Global, eid: &str, attr: &str) -> Result<Want, Mem> {
+    let eid = Text::of(alloc, eid)?;
+    let attr = Text::of(alloc, attr)?;
+    Ok(Want { eid, attr })
+}
+
+fn one_want(alloc: Global, eid: &str, attr: &str) -> Result<List<Want>, Mem> {
+    let want = want(alloc, eid, attr)?;
+    let mut wanted = List::new(alloc);
+    wanted.push(want)?;
+    Ok(wanted)
 }
 
 // The reply to a question for one output.
@@ -131,11 +154,7 @@ fn give(
     requires { IsIn sim.old.kind (rows_in kinds.now) }
     ensures { sim.new.kind ≡ sim.old.kind }
 {
-    let mut wanted = List::new(alloc);
-    wanted.push(Want {
-        eid: Text::of(alloc, eid)?,
-        attr: Text::of(alloc, attr)?,
-    })?;
+    let wanted = one_want(alloc, eid, attr)?;
     asked(alloc, kinds, sim, &Item::GetData { wanted })
 }
 
@@ -197,49 +216,67 @@ enum Row {
     Output(&'static str, &'static str, i128),
 }
 
+fn is_failure(reply: Result<Message, Mem>, failure: &str) -> bool {
+    match reply {
+        Ok(message) => failure_in(&message) == failure,
+        Err(_) => false,
+    }
+}
+
+fn is_number(reply: Result<Message, Mem>, number: i128) -> bool {
+    match reply {
+        Ok(message) => number_of(&message) == number,
+        Err(_) => false,
+    }
+}
+
 // Asks for what the row says, and tells whether the answer is its own.
-fn is_so(alloc: Global, kinds: &Registry, sim: &mut LocalSim, row: Row) -> Result<bool, Mem>
+fn is_so(alloc: Global, kinds: &Registry, sim: &mut LocalSim, row: Row) -> bool
     requires { IsIn sim.old.kind (rows_in kinds.now) }
     ensures { sim.new.kind ≡ sim.old.kind }
 {
     match row {
         Row::Init(name, value, failure) => {
-            Ok(failure_in(&init(alloc, kinds, sim, name, value)?) == failure)
+            is_failure(init(alloc, kinds, sim, name, value), failure)
         }
         Row::Create(model, name, value, failure) => {
-            Ok(failure_in(&create(alloc, kinds, sim, model, name, value)?) == failure)
+            is_failure(create(alloc, kinds, sim, model, name, value), failure)
         }
-        Row::Step(time, attr, next) => {
-            Ok(number_of(&step(alloc, kinds, sim, time, attr)?) == next)
-        }
-        Row::Output(eid, attr, value) => {
-            Ok(number_of(&give(alloc, kinds, sim, eid, attr)?) == value)
-        }
+        Row::Step(time, attr, next) => is_number(step(alloc, kinds, sim, time, attr), next),
+        Row::Output(eid, attr, value) => is_number(give(alloc, kinds, sim, eid, attr), value),
     }
 }
 
-// A simulator of this kind, if it is stored.
-fn made(alloc: Global, kinds: &Registry, name: &str) -> Result<Option<LocalSim>, Mem>
-    ensures { IfOk result (λ made. IfSome made (λ s. IsIn s.kind (rows_in kinds.now))) }
+// How many rows come true, up to the first that doesn't.
+fn count_so(alloc: Global, kinds: &Registry, sim: &mut LocalSim, rows: &[Row]) -> usize
+    requires { IsIn sim.old.kind (rows_in kinds.now) }
 {
-    if !kinds.has(name) {
-        return Ok(None);
-    }
-    let name = Text::of(alloc, name)?;
-    Ok(Some(LocalSim::new(alloc, kinds, &name)?))
-}
-
-// How many rows come true of a simulator of this kind, up to the first that doesn't.
-fn count_so(alloc: Global, kinds: &Registry, name: &str, rows: &[Row]) -> Result<usize, Mem> {
-    let Some(mut sim) = made(alloc, kinds, name)? else {
-        return Ok(0);
-    };
     for (place, row) in rows.iter().enumerate() {
-        if !is_so(alloc, kinds, &mut sim, *row)? {
-            return Ok(place);
+        if !is_so(alloc, kinds, sim, *row) {
+            return place;
         }
     }
-    Ok(rows.len())
+    rows.len()
+}
+
+// A simulator of this kind, which is stored.
+fn made(alloc: Global, kinds: &Registry, name: &str) -> Result<LocalSim, Mem>
+    requires { has_kind name.now (rows_in kinds.now) ≡ true }
+    ensures { IfOk result (λ s. IsIn s.kind (rows_in kinds.now)) }
+{
+    let name = Text::of(alloc, name)?;
+    LocalSim::new(alloc, kinds, &name)
+}
+
+// How many rows come true of a simulator of this kind; none where it isn't stored.
+fn count_of(alloc: Global, kinds: &Registry, name: &str, rows: &[Row]) -> usize {
+    if !kinds.has(name) {
+        return 0;
+    }
+    match made(alloc, kinds, name) {
+        Ok(mut sim) => count_so(alloc, kinds, &mut sim, rows),
+        Err(_) => 0,
+    }
 }
 
 // What a counter refuses, and what its entities give.
@@ -261,12 +298,18 @@ const SUM: [Row; 4] = [
     Row::Output("1", "out", 5),
 ];
 
+fn stored(alloc: Global, kinds: &Registry) -> usize {
+    match kinds.names(alloc) {
+        Ok(names) => names.len(),
+        Err(_) => 0,
+    }
+}
+
 // How many kinds are stored, and how many rows of a counter and of a sum come true.
-fn counts(alloc: Global, kinds: &Registry) -> Result<(usize, usize, usize), Mem> {
-    let stored = kinds.names(alloc)?.len();
-    let counter = count_so(alloc, kinds, "counter", &COUNTER)?;
-    let sum = count_so(alloc, kinds, "sum", &SUM)?;
-    Ok((stored, counter, sum))
+fn counts(alloc: Global, kinds: &Registry) -> (usize, usize, usize) {
+    let counter = count_of(alloc, kinds, "counter", &COUNTER);
+    let sum = count_of(alloc, kinds, "sum", &SUM);
+    (stored(alloc, kinds), counter, sum)
 }
 
 // The same of two kinds, which are made as a program's `main` makes them.
@@ -277,7 +320,7 @@ fn with_two(alloc: Global) -> Result<(usize, usize, usize), Mem> {
         Box::new(alloc, |s: EntityStep| counter_turn(s))?,
     ))?;
     kinds.add(Kind::new(Turn::Sum, Box::new(alloc, |s: EntityStep| sum_turn(s))?))?;
-    counts(alloc, &kinds)
+    Ok(counts(alloc, &kinds))
 }
 
 #[test]
@@ -297,44 +340,52 @@ fn turned(turn: Turn, step: EntityStep) -> EntityTurn {
     }
 }
 
-// A step at 10 with these inputs of an entity whose state is 5.
-fn step_of(step: i64, setting: i64, seen: bool, sum: i64) -> EntityStep {
-    EntityStep {
-        step,
-        setting,
+// The row of a kind, whether the entity has an input, and the sum of its inputs; the entity's state from then on, its output, the
+// next time at which it wants a step, and the time at which its output is made.
+type TurnRow = (Turn, bool, i64, i64, Option<i64>, Option<i64>, Option<i64>);
+
+// Whether the row is the turn at 10 of an entity with the step 4, the setting 7 and the state 5.
+fn is_turned(row: TurnRow) -> bool {
+    let (turn, seen, sum, state, out, next, at) = row;
+    let step = EntityStep {
+        step: 4,
+        setting: 7,
         state: 5,
         time: 10,
         seen,
         sum,
-    }
+    };
+    turned(turn, step)
+        == EntityTurn {
+            state,
+            out,
+            next,
+            at,
+        }
 }
 
-fn turn_of(state: i64, out: Option<i64>, next: Option<i64>, at: Option<i64>) -> EntityTurn {
-    EntityTurn {
-        state,
-        out,
-        next,
-        at,
+const TURNS: [TurnRow; 9] = [
+    (Turn::Constant, true, 9, 5, Some(7), Some(14), None),
+    (Turn::Counter, false, 0, 5, Some(17), Some(14), None),
+    (Turn::Sum, true, 9, 5, Some(16), Some(14), None),
+    (Turn::Relay, true, 9, 5, Some(16), None, Some(14)),
+    (Turn::Relay, false, 0, 5, None, None, Some(14)),
+    (Turn::Battery, true, 9, 6, Some(6), None, None),
+    (Turn::Battery, true, 4, 4, Some(4), None, None),
+    (Turn::Controller, true, 4, 5, Some(7), None, None),
+    (Turn::Controller, true, 9, 5, None, None, None),
+];
+
+fn count_turned() -> usize {
+    for (place, row) in TURNS.iter().enumerate() {
+        if !is_turned(*row) {
+            return place;
+        }
     }
+    TURNS.len()
 }
 
 #[test]
 fn an_entity_of_each_kind_takes_its_turn(rt: HostRuntime) {
-    let seen = step_of(4, 7, true, 9);
-    let unseen = step_of(4, 7, false, 0);
-    let low = step_of(4, 7, true, 4);
-    let rows = [
-        (Turn::Constant, seen, turn_of(5, Some(7), Some(14), None)),
-        (Turn::Counter, unseen, turn_of(5, Some(17), Some(14), None)),
-        (Turn::Sum, seen, turn_of(5, Some(16), Some(14), None)),
-        (Turn::Relay, seen, turn_of(5, Some(16), None, Some(14))),
-        (Turn::Relay, unseen, turn_of(5, None, None, Some(14))),
-        (Turn::Battery, seen, turn_of(6, Some(6), None, None)),
-        (Turn::Battery, low, turn_of(4, Some(4), None, None)),
-        (Turn::Controller, low, turn_of(5, Some(7), None, None)),
-        (Turn::Controller, seen, turn_of(5, None, None, None)),
-    ];
-    for (turn, step, want) in rows {
-        assert_eq!(rt; turned(turn, step), want);
-    }
+    assert_eq!(rt; count_turned(), TURNS.len());
 }
