@@ -1,4 +1,5 @@
 // How a file gets new bytes: they are written beside it and take its name at once, so that a failure leaves the old ones.
+use std::alloc::Global;
 use std::fs::{self, Files, OpenFile, OpenOptions, Permissions};
 use std::io::{self, ErrorKind, Write};
 use std::path::{Path, PathBuf};
@@ -18,48 +19,84 @@ pub fn write_anew<R: Files + AllocGlobal>(rt: &R, name: &str, bytes: &[u8]) -> i
     }
 }
 
-// Follows symbolic links, to the path of a regular file or to one where nothing stands. There is none where something
-// else stands, or where a name is the system's own for an open file, to which `/dev/stdout` leads.
-fn find_file<R: Files + AllocGlobal>(rt: &R, name: &str) -> io::Result<Option<PathBuf>> {
-    let mut path = PathBuf::from_str(rt.alloc(), name)?;
+// What stands at a path.
+#[derive(Clone, Copy)]
+enum There {
+    // A regular file, or nothing.
+    File,
+    // A symbolic link.
+    Link,
+    // Something else, or the system's own name for an open file, to which `/dev/stdout` leads.
+    Other,
+}
+
+// What stands at this path.
+fn look<R: Files>(rt: &R, path: Path) -> io::Result<There> {
+    if path.starts_with("/proc") || path.starts_with("/dev/fd") {
+        return Ok(There::Other);
+    }
+    match fs::symlink_metadata(rt, path) {
+        Ok(there) if there.is_symlink() => Ok(There::Link),
+        Ok(there) if there.is_file() => Ok(There::File),
+        Ok(_) => Ok(There::Other),
+        Err(e) if e.kind() == ErrorKind::NotFound => Ok(There::File),
+        Err(e) => Err(e),
+    }
+}
+
+// Goes from a symbolic link to where it leads.
+fn follow<R: Files + AllocGlobal>(rt: &R, path: &mut PathBuf) -> io::Result<()> {
+    let target = fs::read_link(rt, path.as_str())?;
+    path.set_file_name(target.as_str())?;
+    Ok(())
+}
+
+// Follows symbolic links, and tells what stands at their end.
+fn follow_all<R: Files + AllocGlobal>(rt: &R, path: &mut PathBuf) -> io::Result<There> {
     for _ in 0..=LINK_LIMIT {
-        if path.starts_with("/proc") || path.starts_with("/dev/fd") {
-            return Ok(None);
-        }
-        match fs::symlink_metadata(rt, path.as_str()) {
-            Ok(there) if there.is_symlink() => {
-                let target = fs::read_link(rt, path.as_str())?;
-                path.set_file_name(target.as_str())?;
-            }
-            Ok(there) if there.is_file() => return Ok(Some(path)),
-            Ok(_) => return Ok(None),
-            Err(e) if e.kind() == ErrorKind::NotFound => return Ok(Some(path)),
-            Err(e) => return Err(e),
+        match look(rt, path.as_path())? {
+            There::Link => follow(rt, path)?,
+            end => return Ok(end),
         }
     }
     Err(io::Error::from(ErrorKind::FilesystemLoop))
+}
+
+// The path of the regular file to which a name leads by symbolic links, or of one where nothing stands. There is none
+// where something else stands.
+fn find_file<R: Files + AllocGlobal>(rt: &R, name: &str) -> io::Result<Option<PathBuf>> {
+    let mut path = PathBuf::from_str(rt.alloc(), name)?;
+    match follow_all(rt, &mut path)? {
+        There::File => Ok(Some(path)),
+        There::Link | There::Other => Ok(None),
+    }
 }
 
 // Puts a file with these bytes and the old one's rights in the place of the file at this path.
 fn replace<R: Files + AllocGlobal>(rt: &R, path: &str, bytes: &[u8]) -> io::Result<()> {
     let rights = rights_of(rt, path)?;
     let (part, mut file) = open_part(rt, path)?;
-    let filled = fill(&mut file, rights, bytes);
-    let placed = match filled {
-        Ok(()) => fs::rename(rt, part.as_str(), path),
-        Err(e) => Err(e),
-    };
-    match placed {
-        Ok(()) => {
-            // the file has its name by now, so this changes no answer
-            let _ = sync_folder(rt, path);
-            Ok(())
-        }
-        Err(e) => {
-            let _ = fs::remove_file(rt, part.as_str());
-            Err(e)
-        }
+    let placed = place(rt, part.as_str(), &mut file, rights, bytes, path);
+    if placed.is_ok() {
+        // the file has its name by now, so this changes no answer
+        let _ = sync_folder(rt, path);
+    } else {
+        let _ = fs::remove_file(rt, part.as_str());
     }
+    placed
+}
+
+// Fills a new file that has the name of a part, and puts it at this path.
+fn place<R: Files>(
+    rt: &R,
+    part: &str,
+    file: &mut R::File,
+    rights: Option<Permissions>,
+    bytes: &[u8],
+    path: &str,
+) -> io::Result<()> {
+    fill(file, rights, bytes)?;
+    fs::rename(rt, part, path)
 }
 
 // The rights of the file at this path; none where nothing stands there. It is an error where the file may not be written.
@@ -71,23 +108,35 @@ fn rights_of<R: Files>(rt: &R, path: &str) -> io::Result<Option<Permissions>> {
     }
 }
 
+// The name of this number for a file beside the one at this path.
+fn part_name(alloc: Global, path: &str, number: u32) -> io::Result<String> {
+    if number == 1 {
+        Ok(format!(in alloc; "{path}.part")?)
+    } else {
+        Ok(format!(in alloc; "{path}.part{number}")?)
+    }
+}
+
+// Makes a file of this name; none where something has the name.
+fn make_file<R: Files>(rt: &R, name: &str) -> io::Result<Option<R::File>> {
+    match OpenOptions::new()
+        .write(true)
+        .create_new(true)
+        .open(rt, name)
+    {
+        Ok(file) => Ok(Some(file)),
+        Err(e) if e.kind() == ErrorKind::AlreadyExists => Ok(None),
+        Err(e) => Err(e),
+    }
+}
+
 // Makes a file beside the one at this path, under the first of the names `PATH.part`, `PATH.part2`, `PATH.part3` and so
 // on that is free.
 fn open_part<R: Files + AllocGlobal>(rt: &R, path: &str) -> io::Result<(String, R::File)> {
     for number in 1..=PART_LIMIT {
-        let part = if number == 1 {
-            format!(in rt.alloc(); "{path}.part")?
-        } else {
-            format!(in rt.alloc(); "{path}.part{number}")?
-        };
-        match OpenOptions::new()
-            .write(true)
-            .create_new(true)
-            .open(rt, part.as_str())
-        {
-            Ok(file) => return Ok((part, file)),
-            Err(e) if e.kind() == ErrorKind::AlreadyExists => {}
-            Err(e) => return Err(e),
+        let part = part_name(rt.alloc(), path, number)?;
+        if let Some(file) = make_file(rt, part.as_str())? {
+            return Ok((part, file));
         }
     }
     Err(io::Error::from(ErrorKind::AlreadyExists))

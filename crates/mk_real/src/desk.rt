@@ -4,6 +4,7 @@ ghost use Rattle.mk_base.specs.Lists.{IsIn};
 ghost use Rattle.mk_outside.specs.Fleets.{ReadAs};
 
 use crate::socket::Socket;
+use mio::event::Event;
 use mio::{Events, Poll};
 use mk_base::LinkNo;
 use mk_outside::ReadLink;
@@ -79,14 +80,28 @@ impl Desk {
             if let Some(place) = first_ready(sockets, links) {
                 return Ok(place);
             }
-            self.poll.poll(&mut self.events, None)?;
-            for event in &self.events {
-                if let Some(Some(socket)) = sockets.get_mut(event.token().0) {
-                    socket.note(event);
-                }
-            }
+            self.take_changes(sockets)?;
         }
         Err(io::Error::from(ErrorKind::TimedOut))
+    }
+
+    // Waits until the system tells of changes, and has each socket take in its own.
+    fn take_changes<P: OpenProcess + Drop>(
+        &mut self,
+        sockets: &mut [Option<Socket<P>>],
+    ) -> io::Result<()> {
+        self.poll.poll(&mut self.events, None)?;
+        for event in &self.events {
+            take_change(sockets, event);
+        }
+        Ok(())
+    }
+}
+
+// Has the socket that an event speaks of take it in.
+fn take_change<P: OpenProcess + Drop>(sockets: &mut [Option<Socket<P>>], event: &Event) {
+    if let Some(Some(socket)) = sockets.get_mut(event.token().0) {
+        socket.note(event);
     }
 }
 

@@ -1,4 +1,5 @@
 // How a connection comes to be: by a listening socket for one child, or by connecting to a port.
+use mio::event::Source;
 use mio::net::{TcpListener, TcpStream};
 use mio::{Events, Interest, Poll, Token};
 use std::alloc::Global;
@@ -20,28 +21,69 @@ fn time_left<R: Clock>(rt: &R, start: &Instant, patience: Duration) -> io::Resul
     }
 }
 
-// Waits until the socket at the other side has answered.
+// A set of one socket, whose changes the system tells.
+#[derive(Drop)]
+struct Watch {
+    poll: Poll,
+    events: Events,
+}
+
+impl Watch {
+    // Has the system tell of these changes of a socket.
+    fn new<R: Net, S: Source>(
+        rt: &R,
+        alloc: Global,
+        socket: &mut S,
+        changes: Interest,
+    ) -> io::Result<Watch> {
+        let poll = Poll::new(rt)?;
+        poll.registry().register(socket, Token(0), changes)?;
+        let events = Events::with_capacity(alloc, 1)?;
+        Ok(Watch { poll, events })
+    }
+
+    // Waits for a change, within so long a time since a start.
+    fn wait<R: Clock>(&mut self, rt: &R, start: &Instant, patience: Duration) -> io::Result<()> {
+        let left = time_left(rt, start, patience)?;
+        self.poll.poll(&mut self.events, Some(left))
+    }
+}
+
+// Whether the socket at the other side has answered. It is an error where it has refused.
+fn has_answered(stream: &TcpStream) -> io::Result<bool> {
+    match stream.take_error()? {
+        Some(e) => Err(e),
+        None => Ok(stream.peer_addr().is_ok()),
+    }
+}
+
+// Waits until the socket at the other side has answered, within so long a time.
+fn await_answer<R: Clock>(
+    rt: &R,
+    watch: &mut Watch,
+    stream: &TcpStream,
+    patience: Duration,
+) -> io::Result<()> {
+    let start = Instant::now(rt)?;
+    for _ in 0..u64::MAX {
+        if has_answered(stream)? {
+            return Ok(());
+        }
+        watch.wait(rt, &start, patience)?;
+    }
+    Err(io::Error::from(ErrorKind::TimedOut))
+}
+
+// Waits until the socket at the other side has answered, by a set of its own.
 fn await_peer<R: Net + Clock>(
     rt: &R,
     alloc: Global,
     stream: &mut TcpStream,
     patience: Duration,
 ) -> io::Result<()> {
-    let mut poll = Poll::new(rt)?;
-    let mut events = Events::with_capacity(alloc, 1)?;
-    poll.registry()
-        .register(stream, Token(0), Interest::WRITABLE)?;
-    let start = Instant::now(rt)?;
-    for _ in 0..u64::MAX {
-        if let Some(e) = stream.take_error()? {
-            return Err(e);
-        }
-        if stream.peer_addr().is_ok() {
-            return poll.registry().deregister(stream);
-        }
-        poll.poll(&mut events, Some(time_left(rt, &start, patience)?))?;
-    }
-    Err(io::Error::from(ErrorKind::TimedOut))
+    let mut watch = Watch::new(rt, alloc, stream, Interest::WRITABLE)?;
+    await_answer(rt, &mut watch, stream, patience)?;
+    watch.poll.registry().deregister(stream)
 }
 
 /// Connects to a port on this machine, within so long a time.
@@ -61,8 +103,37 @@ pub fn connect<R: Net + Clock>(
 #[derive(Drop)]
 pub struct Door {
     listener: TcpListener,
-    poll: Poll,
-    events: Events,
+    watch: Watch,
+}
+
+// The connection that has come, if one has.
+fn take_connection(listener: &TcpListener) -> io::Result<Option<TcpStream>> {
+    match listener.accept() {
+        Ok((stream, _)) => Ok(Some(stream)),
+        Err(e) => match e.kind() {
+            ErrorKind::WouldBlock | ErrorKind::Interrupted | ErrorKind::ConnectionAborted => Ok(
+                None,
+            ),
+            _ => Err(e),
+        },
+    }
+}
+
+// The first that connects, within so long a time.
+fn await_connection<R: Clock>(
+    rt: &R,
+    listener: &TcpListener,
+    watch: &mut Watch,
+    patience: Duration,
+) -> io::Result<TcpStream> {
+    let start = Instant::now(rt)?;
+    for _ in 0..u64::MAX {
+        if let Some(stream) = take_connection(listener)? {
+            return Ok(stream);
+        }
+        watch.wait(rt, &start, patience)?;
+    }
+    Err(io::Error::from(ErrorKind::TimedOut))
 }
 
 impl Door {
@@ -70,38 +141,14 @@ impl Door {
     pub fn open<R: Net>(rt: &R, alloc: Global) -> io::Result<(Door, u16)> {
         let mut listener = TcpListener::bind(rt, address(0))?;
         let port = listener.local_addr()?.port();
-        let poll = Poll::new(rt)?;
-        poll.registry()
-            .register(&mut listener, Token(0), Interest::READABLE)?;
-        let events = Events::with_capacity(alloc, 1)?;
-        Ok((
-            Door {
-                listener,
-                poll,
-                events,
-            },
-            port,
-        ))
+        let watch = Watch::new(rt, alloc, &mut listener, Interest::READABLE)?;
+        Ok((Door { listener, watch }, port))
     }
 
     /// The first that connects, within so long a time. The listening socket is closed then.
     pub fn admit<R: Clock>(mut self, rt: &R, patience: Duration) -> io::Result<TcpStream> {
-        let start = Instant::now(rt)?;
-        for _ in 0..u64::MAX {
-            match self.listener.accept() {
-                Ok((stream, _)) => {
-                    stream.set_nodelay(true)?;
-                    return Ok(stream);
-                }
-                Err(e) => match e.kind() {
-                    ErrorKind::WouldBlock | ErrorKind::Interrupted | ErrorKind::ConnectionAborted =>
-                        {}
-                    _ => return Err(e),
-                },
-            }
-            let left = time_left(rt, &start, patience)?;
-            self.poll.poll(&mut self.events, Some(left))?;
-        }
-        Err(io::Error::from(ErrorKind::TimedOut))
+        let stream = await_connection(rt, &self.listener, &mut self.watch, patience)?;
+        stream.set_nodelay(true)?;
+        Ok(stream)
     }
 }

@@ -18,12 +18,14 @@ use std::{io, thread};
 // How long a child has to connect, and a port to answer, in seconds.
 const PATIENCE: u64 = 60;
 
-// What a fleet opens links with. What children print goes to the output.
+// What a fleet opens links with. What children print goes to the output, and each child and each port has so long to
+// connect.
 #[derive(Drop)]
-pub struct Host<R> {
-    pub rt: R,
-    pub alloc: Global,
-    pub output: Stderr,
+struct Host<R> {
+    rt: R,
+    alloc: Global,
+    output: Stderr,
+    patience: Duration,
 }
 
 /// Links over sockets, to child programs and to ports on this machine, with the machine's clock. It opens nothing until
@@ -41,17 +43,32 @@ pub struct MioFleet<R: Net + Processes + Clock> {
 }
 
 impl<'a> MioFleet<&'a HostRuntime> {
-    /// A fleet without links.
+    /// A fleet without links. A child has 60 seconds to connect, and a port to answer.
     pub fn new(alloc: Global, rt: &'a HostRuntime) -> MioFleet<&'a HostRuntime>
         ensures faults { result.faults ≡ 0 }
         ensures started { result.sockets.items ≡ [] }
         ensures links { result.links.items ≡ [] }
+    {
+        MioFleet::with_patience(alloc, rt, Duration::from_secs(PATIENCE))
+    }
+
+    /// A fleet without links. A child has so long to connect, and a port to answer.
+    pub fn with_patience(
+        alloc: Global,
+        rt: &'a HostRuntime,
+        patience: Duration,
+    ) -> MioFleet<&'a HostRuntime>
+        ensures faults { result.faults ≡ 0 }
+        ensures started { result.sockets.items ≡ [] }
+        ensures links { result.links.items ≡ [] }
+        ensures patience { result.host.patience ≡ patience }
     {
         MioFleet {
             host: Host {
                 rt,
                 alloc,
                 output: rt.stderr(),
+                patience,
             },
             door: None,
             desk: None,
@@ -64,17 +81,16 @@ impl<'a> MioFleet<&'a HostRuntime> {
 }
 
 // Starts a child, and takes in its connection. A child that doesn't connect is ended.
-pub(crate) fn start_child<R: Net + Processes + Clock>(
+fn start_child<R: Net + Processes + Clock>(
     host: &Host<R>,
     door: Option<Door>,
     words: &List<Text>,
-    patience: Duration,
 ) -> io::Result<Socket<R::Started>> {
     let Some(door) = door else {
         return Err(io::Error::from(ErrorKind::NotConnected));
     };
     let child = spawn(&host.rt, host.alloc, words.as_slice(), host.output)?;
-    match door.admit(&host.rt, patience) {
+    match door.admit(&host.rt, host.patience) {
         Ok(stream) => Ok(Socket::new(stream, Some(child))),
         Err(e) => {
             end(child);
@@ -89,17 +105,36 @@ fn begin<R: Net + Processes + Clock>(
     door: &mut Option<Door>,
     start: &Start,
 ) -> io::Result<Socket<R::Started>> {
-    let patience = Duration::from_secs(PATIENCE);
     match start {
-        Start::Command(words) => start_child(host, door.take(), words, patience),
+        Start::Command(words) => start_child(host, door.take(), words),
         Start::Connect(port) => {
-            let stream = connect(&host.rt, host.alloc, *port, patience)?;
+            let stream = connect(&host.rt, host.alloc, *port, host.patience)?;
             Ok(Socket::new(stream, None))
         }
     }
 }
 
-// Opens the link of this number, and what all links share if it isn't there yet.
+// Makes what all links share, if it isn't there yet.
+fn set_desk<R: Net>(host: &Host<R>, desk: &mut Option<Desk>) -> io::Result<()> {
+    if desk.is_none() {
+        *desk = Some(Desk::new(&host.rt, host.alloc)?);
+    }
+    Ok(())
+}
+
+// Has the system tell of a new link's changes.
+fn register<P: OpenProcess + Drop>(
+    desk: &Option<Desk>,
+    socket: &mut Socket<P>,
+    number: usize,
+) -> io::Result<()> {
+    match desk {
+        Some(desk) => desk.register(socket, number),
+        None => Err(io::Error::from(ErrorKind::NotFound)),
+    }
+}
+
+// Opens the link of this number.
 fn open<R: Net + Processes + Clock>(
     host: &Host<R>,
     door: &mut Option<Door>,
@@ -107,15 +142,9 @@ fn open<R: Net + Processes + Clock>(
     start: &Start,
     number: usize,
 ) -> io::Result<Socket<R::Started>> {
-    if desk.is_none() {
-        *desk = Some(Desk::new(&host.rt, host.alloc)?);
-    }
+    set_desk(host, desk)?;
     let mut socket = begin(host, door, start)?;
-    let registered = match desk {
-        Some(desk) => desk.register(&mut socket, number),
-        None => Err(io::Error::from(ErrorKind::NotFound)),
-    };
-    match registered {
+    match register(desk, &mut socket, number) {
         Ok(()) => Ok(socket),
         Err(e) => {
             socket.give_up();

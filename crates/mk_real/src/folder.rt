@@ -65,11 +65,18 @@ impl<'a, R: Files + AllocGlobal> Folder for RealFolder<'a, R> {
 fn read_file<R: Files>(rt: &R, name: &str, into: &mut Vec<u8>) -> io::Result<FileRead>
     ensures { IfOk result (λ answer. answer ≢ FileRead.Failed) }
 {
-    let mut file = fs::open(rt, name)?;
+    let file = fs::open(rt, name)?;
     let length = file.metadata()?.len();
     if length > FILE_LIMIT {
         return Ok(FileRead::TooLong(length));
     }
+    read_whole(file, into)
+}
+
+// Reads what is left of a file, unless it is too long.
+fn read_whole<F: Read + Drop>(file: F, into: &mut Vec<u8>) -> io::Result<FileRead>
+    ensures { IfOk result (λ answer. answer ≢ FileRead.Failed) }
+{
     file.take(FILE_LIMIT + 1).read_to_end(into)?;
     let length = into.len() as u64;
     if length > FILE_LIMIT {

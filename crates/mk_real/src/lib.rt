@@ -9,8 +9,6 @@ mod fleet;
 mod folder;
 mod sink;
 mod socket;
-#[cfg(test)]
-mod tests;
 mod ticks;
 
 pub use fleet::MioFleet;

@@ -107,10 +107,7 @@ impl<P: OpenProcess + Drop> Socket<P> {
         let Socket { stream, child, .. } = self;
         drop(stream);
         match child {
-            Some(mut child) => {
-                child.wait()?;
-                Ok(())
-            }
+            Some(mut child) => await_end(&mut child),
             None => Ok(()),
         }
     }
@@ -123,6 +120,12 @@ impl<P: OpenProcess + Drop> Socket<P> {
             end(child);
         }
     }
+}
+
+// Waits until a child has ended.
+fn await_end<P: OpenProcess + Drop>(child: &mut Child<P>) -> io::Result<()> {
+    child.wait()?;
+    Ok(())
 }
 
 /// Ends a child, and waits until it has ended.
@@ -144,12 +147,18 @@ pub fn spawn<R: Processes>(
         return Err(io::Error::from(ErrorKind::InvalidInput));
     };
     let mut command = Command::new(alloc, text_of(program)?)?;
-    for word in rest {
-        command.arg(text_of(word)?)?;
-    }
+    add_words(&mut command, rest)?;
     command.stdin(Stdio::null());
     command.stdout(output);
     command.spawn(rt)
+}
+
+// Adds the words behind a program's name.
+fn add_words(command: &mut Command, words: &[Text]) -> io::Result<()> {
+    for word in words {
+        command.arg(text_of(word)?)?;
+    }
+    Ok(())
 }
 
 fn text_of(word: &Text) -> io::Result<&str> {
