@@ -159,9 +159,20 @@ impl Core {
         ensures journal { result.1.entries ≡ self.entries }
         ensures stands { Stands self.plan self.entries }
     {
-        (self.plan, self.journal)
+        let Core {
+            alloc: _,
+            plan,
+            journal,
+            kept,
+            ended: _,
+        } = self;
+        let_go(kept);
+        (plan, journal)
     }
 }
+
+// Lets go of what was kept beside the journal.
+fn let_go(_kept: Kept) {}
 
 // What the core answers after this answer, if it has ended.
 fn end_after_next(answer: &Result<Next, Mem>) -> Option<Ended>
