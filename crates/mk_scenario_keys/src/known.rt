@@ -1,11 +1,42 @@
 // The keys that each kind of table has.
 ghost use Rattle.std.specs.Prelude.{◌≡◌, ℕ, List, map, not, option_map};
-ghost use Rattle.std.specs.List.{find};
+ghost use Rattle.std.specs.List.{find, list_any};
 ghost use Rattle.mk_base.specs.declared.json.Json.{Json};
+ghost use Rattle.mk_base.specs.Lists.{same_text};
 ghost use Rattle.mk_scenario_keys.specs.Keys.{is_among, first_unknown};
 ghost use Rattle.mk_scenario_keys.specs.Known.{block_keys, group_keys, keys_of, sim_keys, top_keys};
 
 use mk_base::{Json, Members, Text};
+
+const TOP_KEYS: [&str; 6] = [
+    "until",
+    "max_loop_iterations",
+    "max_entries",
+    "sim",
+    "entities",
+    "connect",
+];
+
+const SIM_KEYS: [&str; 6] = [
+    "name",
+    "command",
+    "connect",
+    "local",
+    "params",
+    "initial_events",
+];
+
+const GROUP_KEYS: [&str; 5] = ["id", "sim", "model", "num", "params"];
+
+const BLOCK_KEYS: [&str; 7] = [
+    "from",
+    "to",
+    "attrs",
+    "time_shifted",
+    "weak",
+    "async_requests",
+    "initial_data",
+];
 
 /// The tables of a scenario: the document itself, and those in its lists `sim`, `entities` and `connect`.
 #[derive(Clone, Copy)]
@@ -54,39 +85,39 @@ fn is_key(table: Table, name: &str) -> bool
 fn is_top_key(name: &str) -> bool
     ensures { result ≡ is_among top_keys name.now }
 {
-    name == "until"
-        || name == "max_loop_iterations"
-        || name == "max_entries"
-        || name == "sim"
-        || name == "entities"
-        || name == "connect"
+    let keys: [&str; 6] = TOP_KEYS;
+    is_among(keys.as_slice(), name)
 }
 
 fn is_sim_key(name: &str) -> bool
     ensures { result ≡ is_among sim_keys name.now }
 {
-    name == "name"
-        || name == "command"
-        || name == "connect"
-        || name == "local"
-        || name == "params"
-        || name == "initial_events"
+    let keys: [&str; 6] = SIM_KEYS;
+    is_among(keys.as_slice(), name)
 }
 
 fn is_group_key(name: &str) -> bool
     ensures { result ≡ is_among group_keys name.now }
 {
-    name == "id" || name == "sim" || name == "model" || name == "num" || name == "params"
+    let keys: [&str; 5] = GROUP_KEYS;
+    is_among(keys.as_slice(), name)
 }
 
 fn is_block_key(name: &str) -> bool
     ensures { result ≡ is_among block_keys name.now }
 {
-    name == "from"
-        || name == "to"
-        || name == "attrs"
-        || name == "time_shifted"
-        || name == "weak"
-        || name == "async_requests"
-        || name == "initial_data"
+    let keys: [&str; 7] = BLOCK_KEYS;
+    is_among(keys.as_slice(), name)
+}
+
+// Whether the name is one of these keys.
+fn is_among(keys: &[&str], name: &str) -> bool
+    ensures { result ≡ list_any (λ key. same_text name.now key.now) keys.now }
+{
+    for key in keys {
+        if name == *key {
+            return true;
+        }
+    }
+    false
 }

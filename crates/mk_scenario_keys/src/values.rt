@@ -228,19 +228,19 @@ fn all_times(alloc: Global, path: &Text, numbers: &List<i128>) -> Result<List<i6
 {
     let mut found = List::new(alloc);
     for (i, n) in numbers.as_slice().iter().enumerate() {
-        found.push(time_at(alloc, path, i, *n)?)?;
+        found.push(time_at(alloc, path, i, n)?)?;
     }
     Ok(found)
 }
 
 // The time that the number at a place of the list is.
-fn time_at(alloc: Global, path: &Text, i: usize, n: i128) -> Result<i64, ScenarioFault>
-    ensures ok { IfOk result (λ x. keys.within (pos 0) (pos 1000000000) (item_in path.now i) n
+fn time_at(alloc: Global, path: &Text, i: usize, n: &i128) -> Result<i64, ScenarioFault>
+    ensures ok { IfOk result (λ x. keys.within (pos 0) (pos 1000000000) (item_in path.now i) n.now
         ≡ Ok x) }
     ensures refused { IfErr result
-        (λ e. IsFaultOf (keys.within (pos 0) (pos 1000000000) (item_in path.now i) n) e) }
+        (λ e. IsFaultOf (keys.within (pos 0) (pos 1000000000) (item_in path.now i) n.now) e) }
 {
-    within(alloc, 0, LATEST, &item_in(alloc, path, i)?, n)
+    within(alloc, 0, LATEST, &item_in(alloc, path, i)?, *n)
 }
 
 // The list of tables that the value is, of so many.
