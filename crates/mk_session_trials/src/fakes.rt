@@ -6,11 +6,10 @@ use crate::chunks::{ONE, chunk};
 use mk_base::{LinkNo, List, Mem};
 use mk_fakes::{Chunk, MemFleet, MemFolder, MemSink, PlainFleet, PlainFolder, PlainSink};
 use mk_outside::{
-    FileSave, Fleet, Folder, Listened, LogEntry, Now, Paced, PutAll, ReadLink, Sink, Slept, Start,
-    Started, Waited, WriteLink, Wrote, put_all,
+    FileRead, FileSave, Fleet, Folder, Listened, LogEntry, Now, Paced, PutAll, ReadLink, Sink,
+    Slept, Start, Started, Waited, WriteLink, Wrote, put_all,
 };
 use std::alloc::Global;
-use std::test::Fail;
 
 fn second_call(alloc: Global) -> Result<List<u64>, Mem>
     ensures { IfOk result (λ calls. calls ≡ 1 ∷ []) }
@@ -20,44 +19,77 @@ fn second_call(alloc: Global) -> Result<List<u64>, Mem>
     Ok(calls)
 }
 
-// What a folder answers to a read, and the bytes that it gives.
-fn read_text<F: Folder>(alloc: Global, folder: &mut F, name: &str) -> Result<String, Mem> {
-    let mut bytes = Vec::new(alloc);
-    let read = folder.read(name, &mut bytes);
-    let text = std::str::from_utf8(bytes.as_slice()).unwrap_or("");
-    Ok(format!(in alloc; "{read:?} {text}")?)
+// Whether a folder answers so to a read, and gives these bytes.
+fn is_file_read<F: Folder>(
+    alloc: Global,
+    folder: &mut F,
+    name: &str,
+    want: FileRead,
+    bytes: &[u8],
+) -> bool {
+    let mut into = Vec::new(alloc);
+    folder.read(name, &mut into) == want && into.as_slice() == bytes
 }
 
 fn saved<F: Folder>(folder: &mut F, name: &str, bytes: &[u8]) -> FileSave {
     folder.save(name, bytes)
 }
 
-fn file_of<'a>(folder: &'a MemFolder, name: &str) -> Option<&'a [u8]> {
-    folder.file(name)
+fn is_file(folder: &MemFolder, name: &str, bytes: &[u8]) -> bool {
+    folder.file(name) == Some(bytes)
 }
 
-#[test]
-fn a_folder_reads_and_saves_and_fails_where_it_is_told_to(rt: HostRuntime) -> Result<(), Fail> {
-    let alloc = rt.alloc();
-    let mut folder = MemFolder::new(alloc, second_call(alloc)?);
+// A folder that fails at its second call.
+fn failing_folder(alloc: Global) -> Result<MemFolder, Mem> {
+    let calls = second_call(alloc)?;
+    Ok(MemFolder::new(alloc, calls))
+}
+
+// The same with a file.
+fn folder_of_one(alloc: Global) -> Result<MemFolder, Mem> {
+    let mut folder = failing_folder(alloc)?;
     folder.add("a", b"one")?;
-    assert_eq!(rt; read_text(alloc, &mut folder, "a")?.as_str(), "Whole one");
-    assert_eq!(rt; saved(&mut folder, "a", b"two"), FileSave::Failed);
-    assert_eq!(rt; file_of(&folder, "a"), Some(b"one".as_slice()));
-    assert_eq!(rt; saved(&mut folder, "b", b"two"), FileSave::Kept);
-    assert_eq!(rt; file_of(&folder, "a"), Some(b"one".as_slice()));
-    assert_eq!(rt; file_of(&folder, "b"), Some(b"two".as_slice()));
-    assert_eq!(rt; read_text(alloc, &mut folder, "c")?.as_str(), "Missing ");
-    Ok(())
+    Ok(folder)
+}
+
+fn does_fail_to_save(alloc: Global, folder: &mut MemFolder) -> bool {
+    is_file_read(alloc, folder, "a", FileRead::Whole, b"one")
+        && saved(folder, "a", b"two") == FileSave::Failed
+        && is_file(folder, "a", b"one")
+}
+
+fn does_save(alloc: Global, folder: &mut MemFolder) -> bool {
+    saved(folder, "b", b"two") == FileSave::Kept
+        && is_file(folder, "a", b"one")
+        && is_file(folder, "b", b"two")
+        && is_file_read(alloc, folder, "c", FileRead::Missing, b"")
+}
+
+fn is_folder_right(alloc: Global) -> bool {
+    match folder_of_one(alloc) {
+        Ok(mut folder) => does_fail_to_save(alloc, &mut folder) && does_save(alloc, &mut folder),
+        Err(_) => false,
+    }
 }
 
 #[test]
-fn a_folder_fails_to_read_where_it_is_told_to(rt: HostRuntime) -> Result<(), Fail> {
-    let alloc = rt.alloc();
-    let mut folder = MemFolder::new(alloc, second_call(alloc)?);
-    assert_eq!(rt; saved(&mut folder, "a", b"one"), FileSave::Kept);
-    assert_eq!(rt; read_text(alloc, &mut folder, "a")?.as_str(), "Failed ");
-    Ok(())
+fn a_folder_reads_and_saves_and_fails_where_it_is_told_to(rt: HostRuntime) {
+    assert!(rt; is_folder_right(rt.alloc()));
+}
+
+fn does_fail_to_read(alloc: Global) -> bool {
+    match failing_folder(alloc) {
+        Ok(mut folder) => {
+            saved(&mut folder, "a", b"one") == FileSave::Kept
+                && is_file_read(alloc, &mut folder, "a", FileRead::Failed, b"")
+        }
+        Err(_) => false,
+    }
+}
+
+#[test]
+fn a_folder_fails_to_read_where_it_is_told_to(rt: HostRuntime) {
+    assert!(rt; does_fail_to_read(rt.alloc()));
 }
 
 fn put_whole<K: Sink>(sink: &mut K, text: &[u8]) -> PutAll {
@@ -68,44 +100,75 @@ fn put_two(sink: &mut MemSink) -> Wrote {
     sink.put(b"two")
 }
 
-#[test]
-fn a_sink_takes_and_fails_where_it_is_told_to(rt: HostRuntime) -> Result<(), Fail> {
-    let mut sink = MemSink::new(rt.alloc(), second_call(rt.alloc())?);
-    assert_eq!(rt; put_whole(&mut sink, b"one"), PutAll::Done);
-    assert_eq!(rt; put_whole(&mut sink, b""), PutAll::Done);
-    assert_eq!(rt; put_whole(&mut sink, b"two"), PutAll::Failed);
-    assert_eq!(rt; put_two(&mut sink), Wrote::Took(3));
-    assert_eq!(rt; sink.bytes(), b"onetwo".as_slice());
-    Ok(())
+fn does_take(sink: &mut MemSink) -> bool {
+    put_whole(sink, b"one") == PutAll::Done
+        && put_whole(sink, b"") == PutAll::Done
+        && put_whole(sink, b"two") == PutAll::Failed
+        && put_two(sink) == Wrote::Took(3)
+        && sink.bytes() == b"onetwo".as_slice()
+}
+
+fn is_sink_right(alloc: Global) -> bool {
+    match second_call(alloc) {
+        Ok(calls) => does_take(&mut MemSink::new(alloc, calls)),
+        Err(_) => false,
+    }
 }
 
 #[test]
-fn a_plain_folder_does_the_same_without_failing(rt: HostRuntime) -> Result<(), Fail> {
-    let mut folder = PlainFolder::new(rt.alloc());
+fn a_sink_takes_and_fails_where_it_is_told_to(rt: HostRuntime) {
+    assert!(rt; is_sink_right(rt.alloc()));
+}
+
+// A plain folder with a file.
+fn plain_folder(alloc: Global) -> Result<PlainFolder, Mem> {
+    let mut folder = PlainFolder::new(alloc);
     folder.add("a", b"one")?;
-    assert_eq!(rt; saved(&mut folder, "a", b"two"), FileSave::Kept);
-    assert_eq!(rt;
-        read_text(rt.alloc(), &mut folder, "a")?.as_str(),
-        "Whole two"
-    );
-    assert_eq!(rt; folder.file("b"), None);
-    Ok(())
+    Ok(folder)
+}
+
+fn is_plain_folder_right(alloc: Global) -> bool {
+    match plain_folder(alloc) {
+        Ok(mut folder) => {
+            saved(&mut folder, "a", b"two") == FileSave::Kept
+                && is_file_read(alloc, &mut folder, "a", FileRead::Whole, b"two")
+                && folder.file("b").is_none()
+        }
+        Err(_) => false,
+    }
 }
 
 #[test]
-fn a_plain_sink_does_the_same_without_failing(rt: HostRuntime) -> Result<(), Fail> {
-    let mut sink = PlainSink::new(rt.alloc());
-    assert_eq!(rt; put_whole(&mut sink, b"two"), PutAll::Done);
-    assert_eq!(rt; sink.bytes(), b"two".as_slice());
-    Ok(())
+fn a_plain_folder_does_the_same_without_failing(rt: HostRuntime) {
+    assert!(rt; is_plain_folder_right(rt.alloc()));
+}
+
+fn is_plain_sink_right(alloc: Global) -> bool {
+    let mut sink = PlainSink::new(alloc);
+    put_whole(&mut sink, b"two") == PutAll::Done && sink.bytes() == b"two".as_slice()
+}
+
+#[test]
+fn a_plain_sink_does_the_same_without_failing(rt: HostRuntime) {
+    assert!(rt; is_plain_sink_right(rt.alloc()));
+}
+
+fn push_chunk(
+    alloc: Global,
+    chunks: &mut List<Chunk>,
+    after: u64,
+    bytes: &[u8],
+) -> Result<(), Mem> {
+    let chunk = chunk(alloc, after, bytes)?;
+    chunks.push(chunk)
 }
 
 // `abc` at once, `d` after two bytes said, and then the end.
 fn chunks(alloc: Global) -> Result<List<Chunk>, Mem> {
     let mut chunks = List::new(alloc);
-    chunks.push(chunk(alloc, 0, b"abc")?)?;
-    chunks.push(chunk(alloc, 2, b"d")?)?;
-    chunks.push(chunk(alloc, 2, b"")?)?;
+    push_chunk(alloc, &mut chunks, 0, b"abc")?;
+    push_chunk(alloc, &mut chunks, 2, b"d")?;
+    push_chunk(alloc, &mut chunks, 2, b"")?;
     Ok(chunks)
 }
 
@@ -235,57 +298,100 @@ const LOG: [(&str, &[u8]); 10] = [
     ("ended", b""),
 ];
 
-#[test]
-fn a_fleet_gives_its_chunks_and_tells_its_log(rt: HostRuntime) -> Result<(), Fail> {
-    let alloc = rt.alloc();
-    let mut fleet = MemFleet::new(alloc, chunks(alloc)?, List::new(alloc), 2, 2, 1000)?;
-    assert_eq!(rt; listened(&mut fleet), Listened::At(5000));
-    let rows = [
-        Row::Read(ReadLink::Got(2), b"ab"),
-        Row::Read(ReadLink::Got(1), b"c\0"),
-        Row::Read(ReadLink::NotYet, b"\0\0"),
-        Row::Wait(Waited::Failed, false),
-        Row::Write(b"xyz", WriteLink::Put(2)),
-        Row::Write(b"z", WriteLink::NotYet),
-        Row::Wait(Waited::Marked, true),
-        Row::Write(b"z", WriteLink::Put(1)),
-        Row::Read(ReadLink::Got(1), b"d\0"),
-        Row::Read(ReadLink::Closed, b"\0\0"),
-        Row::Read(ReadLink::Closed, b"\0\0"),
-    ];
-    assert_eq!(rt; count_on_first(&mut fleet, &rows), rows.len());
-    assert!(rt; is_log(&fleet.log()?, &LOG));
-    Ok(())
+fn is_log_of(fleet: &MemFleet, wanted: &[(&str, &[u8])]) -> bool {
+    match fleet.log() {
+        Ok(log) => is_log(&log, wanted),
+        Err(_) => false,
+    }
+}
+
+const GIVING: [Row; 11] = [
+    Row::Read(ReadLink::Got(2), b"ab"),
+    Row::Read(ReadLink::Got(1), b"c\0"),
+    Row::Read(ReadLink::NotYet, b"\0\0"),
+    Row::Wait(Waited::Failed, false),
+    Row::Write(b"xyz", WriteLink::Put(2)),
+    Row::Write(b"z", WriteLink::NotYet),
+    Row::Wait(Waited::Marked, true),
+    Row::Write(b"z", WriteLink::Put(1)),
+    Row::Read(ReadLink::Got(1), b"d\0"),
+    Row::Read(ReadLink::Closed, b"\0\0"),
+    Row::Read(ReadLink::Closed, b"\0\0"),
+];
+
+// A fleet that takes two bytes at a time, and none at each second write.
+fn giving(alloc: Global) -> Result<MemFleet, Mem> {
+    let chunks = chunks(alloc)?;
+    MemFleet::new(alloc, chunks, List::new(alloc), 2, 2, 1000)
+}
+
+fn is_giving_right(alloc: Global) -> bool {
+    match giving(alloc) {
+        Ok(mut fleet) => {
+            listened(&mut fleet) == Listened::At(5000)
+                && count_on_first(&mut fleet, &GIVING) == GIVING.len()
+                && is_log_of(&fleet, &LOG)
+        }
+        Err(_) => false,
+    }
 }
 
 #[test]
-fn a_fleet_fails_where_it_is_told_to_and_where_its_log_is_full(
-    rt: HostRuntime,
-) -> Result<(), Fail> {
-    let alloc = rt.alloc();
-    let mut fleet = MemFleet::new(alloc, chunks(alloc)?, second_call(alloc)?, 9, 0, 32)?;
-    let rows = [
-        Row::ReadMore(ReadLink::Failed),
-        Row::ReadMore(ReadLink::Got(3)),
-        Row::ReadMore(ReadLink::NotYet),
-        Row::Write(b"z", WriteLink::Failed),
-    ];
-    assert_eq!(rt; count_on_first(&mut fleet, &rows), rows.len());
-    Ok(())
+fn a_fleet_gives_its_chunks_and_tells_its_log(rt: HostRuntime) {
+    assert!(rt; is_giving_right(rt.alloc()));
+}
+
+const FAILING: [Row; 4] = [
+    Row::ReadMore(ReadLink::Failed),
+    Row::ReadMore(ReadLink::Got(3)),
+    Row::ReadMore(ReadLink::NotYet),
+    Row::Write(b"z", WriteLink::Failed),
+];
+
+// A fleet that fails at its second call, and whose log is soon full.
+fn failing(alloc: Global) -> Result<MemFleet, Mem> {
+    let calls = second_call(alloc)?;
+    let chunks = chunks(alloc)?;
+    MemFleet::new(alloc, chunks, calls, 9, 0, 32)
+}
+
+fn count_failing(alloc: Global) -> usize {
+    match failing(alloc) {
+        Ok(mut fleet) => count_on_first(&mut fleet, &FAILING),
+        Err(_) => 1000,
+    }
 }
 
 #[test]
-fn a_plain_fleet_goes_on(rt: HostRuntime) -> Result<(), Fail> {
-    let alloc = rt.alloc();
-    let mut fleet = PlainFleet::new(alloc, List::new(alloc), 9, 0, 16)?;
-    let rows = [
-        Row::ReadMore(ReadLink::NotYet),
-        Row::Wait(Waited::Marked, true),
-        Row::ReadMore(ReadLink::Closed),
-    ];
-    assert_eq!(rt; count_on_first(&mut fleet, &rows), rows.len());
-    assert!(rt; is_log(&fleet.log()?, &[("nothing", b"".as_slice())]));
-    Ok(())
+fn a_fleet_fails_where_it_is_told_to_and_where_its_log_is_full(rt: HostRuntime) {
+    assert_eq!(rt; count_failing(rt.alloc()), FAILING.len());
+}
+
+const PLAIN: [Row; 3] = [
+    Row::ReadMore(ReadLink::NotYet),
+    Row::Wait(Waited::Marked, true),
+    Row::ReadMore(ReadLink::Closed),
+];
+
+fn is_plain_log(fleet: &PlainFleet) -> bool {
+    match fleet.log() {
+        Ok(log) => is_log(&log, &[("nothing", b"".as_slice())]),
+        Err(_) => false,
+    }
+}
+
+fn is_plain_fleet_right(alloc: Global) -> bool {
+    match PlainFleet::new(alloc, List::new(alloc), 9, 0, 16) {
+        Ok(mut fleet) => {
+            count_on_first(&mut fleet, &PLAIN) == PLAIN.len() && is_plain_log(&fleet)
+        }
+        Err(_) => false,
+    }
+}
+
+#[test]
+fn a_plain_fleet_goes_on(rt: HostRuntime) {
+    assert!(rt; is_plain_fleet_right(rt.alloc()));
 }
 
 fn told<F: Paced>(fleet: &mut F) -> Now {
@@ -296,19 +402,42 @@ fn slept<F: Paced>(fleet: &mut F) -> Slept {
     fleet.sleep(5)
 }
 
-#[test]
-fn a_clock_stands_until_it_is_set_and_goes_as_it_is_set(rt: HostRuntime) -> Result<(), Fail> {
-    let alloc = rt.alloc();
+// A fleet without chunks.
+fn idle(alloc: Global) -> Result<MemFleet, Mem> {
+    MemFleet::new(alloc, List::new(alloc), List::new(alloc), 9, 0, 1000)
+}
+
+// The same at the time 10; each sleep takes 7 more, and the second fails.
+fn clocked(alloc: Global) -> Result<MemFleet, Mem> {
     let mut fleet = MemFleet::new(alloc, List::new(alloc), List::new(alloc), 9, 0, 1000)?;
-    assert_eq!(rt; told(&mut fleet), Now::At(0));
-    assert_eq!(rt; slept(&mut fleet), Slept::Failed);
-    let mut other = MemFleet::new(alloc, List::new(alloc), List::new(alloc), 9, 0, 1000)?;
-    other.set_clock(10, 7, 1);
-    for (now, sleep) in [(10, Slept::Woke), (22, Slept::Failed)] {
-        assert_eq!(rt; told(&mut other), Now::At(now));
-        assert_eq!(rt; slept(&mut other), sleep);
+    fleet.set_clock(10, 7, 1);
+    Ok(fleet)
+}
+
+// Whether these are the time that a fleet tells and what a sleep then comes to.
+fn is_time<F: Paced>(fleet: &mut F, now: u64, sleep: Slept) -> bool {
+    told(fleet) == Now::At(now) && slept(fleet) == sleep
+}
+
+fn does_stand(alloc: Global) -> bool {
+    match idle(alloc) {
+        Ok(mut fleet) => is_time(&mut fleet, 0, Slept::Failed),
+        Err(_) => false,
     }
-    Ok(())
+}
+
+fn does_go(alloc: Global) -> bool {
+    match clocked(alloc) {
+        Ok(mut fleet) => {
+            is_time(&mut fleet, 10, Slept::Woke) && is_time(&mut fleet, 22, Slept::Failed)
+        }
+        Err(_) => false,
+    }
+}
+
+#[test]
+fn a_clock_stands_until_it_is_set_and_goes_as_it_is_set(rt: HostRuntime) {
+    assert!(rt; does_stand(rt.alloc()) && does_go(rt.alloc()));
 }
 
 // The time that a fleet with an open link tells.
@@ -344,14 +473,23 @@ fn after_start<F: Paced>(fleet: &mut F) -> Option<(Slept, Now, ReadLink)> {
     }
 }
 
-#[test]
-fn a_plain_clock_goes_as_it_is_set(rt: HostRuntime) -> Result<(), Fail> {
-    let alloc = rt.alloc();
-    let mut fleet = PlainFleet::new(alloc, chunks(alloc)?, 9, 0, 1000)?;
+fn plain_clocked(alloc: Global) -> Result<PlainFleet, Mem> {
+    let chunks = chunks(alloc)?;
+    let mut fleet = PlainFleet::new(alloc, chunks, 9, 0, 1000)?;
     fleet.set_clock(1, 0, 0);
-    assert_eq!(rt;
-        after_start(&mut fleet),
-        Some((Slept::Woke, Now::At(6), ReadLink::Closed))
-    );
-    Ok(())
+    Ok(fleet)
+}
+
+fn is_plain_clock_right(alloc: Global) -> bool {
+    match plain_clocked(alloc) {
+        Ok(mut fleet) => {
+            after_start(&mut fleet) == Some((Slept::Woke, Now::At(6), ReadLink::Closed))
+        }
+        Err(_) => false,
+    }
+}
+
+#[test]
+fn a_plain_clock_goes_as_it_is_set(rt: HostRuntime) {
+    assert!(rt; is_plain_clock_right(rt.alloc()));
 }
