@@ -1,6 +1,6 @@
 -- What holds of the lines so far goes on to hold.
 use Rattle.std.proofs.Common.{◌≡◌, ℕ, ◌+◌, ◌≤◌, true, false, List, [], ◌∷◌, ◌++◌, map, length, sym, ap, ◌∙◌, arith, subst}
-use Rattle.std.specs.Prelude.{Result, Ok, Err, IfOk, IfErr, All}
+use Rattle.std.specs.Prelude.{Result, Ok, Err, IfOk, IfErr, OnOk, All}
 use Rattle.std.specs.List.{list_all, slice_split}
 use Rattle.std.proofs.lemmas.List.{map-append}
 use Rattle.std.proofs.lemmas.List.Elements.{All-push}
@@ -13,13 +13,12 @@ use Rattle.mk_record_read.specs.declared.faults.LineFault.TheVariants.{Bad, Mem}
 use Rattle.mk_record_read.specs.declared.faults.RecordFault.{RecordFault}
 use Rattle.mk_record_read.specs.declared.faults.RecordFault.TheVariants as record_fault
 use Rattle.mk_record_read.specs.declared.faults.RecordFault.TheVariants.{Line}
-use Rattle.mk_record_read.specs.declared.saved.Saved.{Saved}
 use Rattle.mk_record_read.specs.declared.saved.Arrival.{Arrival}
 use Rattle.mk_record_read.specs.declared.saved.Progress.{Progress}
 use Rattle.mk_record_read.specs.Lines.{arrival_in}
 use Rattle.mk_record_read.specs.Reading.{Going, Ended, Said, Faulty, start, is_feed, line_step, reading, reading_from, overlong}
-use Rattle.mk_record_read.specs.Seen.{came}
-use Rattle.mk_record_read.specs.inner.Seen.{state_of}
+use Rattle.mk_record_read.specs.Seen.{came, said_by}
+use Rattle.mk_record_read.specs.inner.Seen.{state_of, saved_in}
 use Rattle.mk_record_read.specs.Steps.{IsKnown}
 use Rattle.mk_record_read.specs.inner.Steps.{IsSound, IsSoundAfter, IsStep, IsBadStep, IsFaultAt, IsOverlong}
 use Rattle.mk_record_read.proofs.Known.{arrival-known}
@@ -73,8 +72,18 @@ reads-fault bytes rest line after number l n p Mem f reads cut step at is = let 
 pub reads-whole : (bytes rest line after : List ℕ) (number : ℕ) (p q : Progress) → Reads bytes rest number p → slice_split is_feed rest ≡ line ∷ slice_split is_feed after → line_step (state_of p) line ≡ Ended → state_of q ≡ state_of p → after ≡ [] → reading bytes ≡ Said q.plan (map came q.arrivals) q.asks
 reads-whole bytes rest line after number p q reads cut step same none = sym reads.going ∙ ap (reading_from (state_of p) number) cut ∙ reads_end (state_of p) number line after step none ∙ ap (λ S. Said S.plan S.arrivals S.asks) (sym same)
 
+-- the `end` line is the last, if the record may end with it
+pub reads-closed : {X : Type 0} (bytes rest line after : List ℕ) (number : ℕ) (p q : Progress) (r : Result X RecordFault) → Reads bytes rest number p → slice_split is_feed rest ≡ line ∷ slice_split is_feed after
+    → IsStep (state_of p) (line_step (state_of p) line) true q → OnOk r (after ≡ []) → OnOk r (reading bytes ≡ said_by (saved_in q))
+reads-closed bytes rest line after number p q (Ok x) reads cut step none = reads-whole bytes rest line after number p q reads cut step.0 step.1 none
+reads-closed bytes rest line after number p q (Err e) reads cut step none = tt
+
+pub sound-closed : {X : Type 0} (q : Progress) (r : Result X RecordFault) → IsSoundAfter true q → OnOk r (IsSoundAfter true q)
+sound-closed q (Ok x) sound = sound
+sound-closed q (Err e) sound = tt
+
 -- more stands after the `end` line
-pub reads-overlong : (bytes rest line after : List ℕ) (number l n : ℕ) (p q : Progress) (r : Result Saved RecordFault) → Reads bytes rest number p → slice_split is_feed rest ≡ line ∷ slice_split is_feed after
+pub reads-overlong : {X : Type 0} (bytes rest line after : List ℕ) (number l n : ℕ) (p q : Progress) (r : Result X RecordFault) → Reads bytes rest number p → slice_split is_feed rest ≡ line ∷ slice_split is_feed after
     → IsStep (state_of p) (line_step (state_of p) line) true q → IfErr r (IsOverlong number after) → r ≡ Err (Line l n) → reading bytes ≡ Faulty l n
 reads-overlong bytes rest line after number l n p q (Ok s) reads cut step over is = absurd (grind (arith, is))
 reads-overlong bytes rest line after number l n p q (Err record_fault.Mem) reads cut step over is = absurd over

@@ -1,4 +1,5 @@
 -- What proofs alone need.
 pub mod Faults
+pub mod Lines
 pub mod Seen
 pub mod Steps

@@ -5,9 +5,11 @@ ghost use Rattle.mk_base.specs.Lists.{all_there, same_text};
 ghost use Rattle.mk_base.specs.Texts.{text_of};
 ghost use Rattle.mk_base.specs.Trees.{bool_in, text_in, whole_in, items_in, is_in_range, is_datum};
 ghost use Rattle.mk_record_read.specs.Fields.{wholes_in, texts_in, initial_in, kind_named, way_in, way_in_list, shift_of, lone, via_of, is_between};
+ghost use Rattle.mk_record_read.specs.inner.Seen.{is_second};
 ghost use Rattle.mk_record_read.specs.inner.Faults.{IsMissing, IsUnknown, IsNoDatum};
 
 use crate::faults::LineFault;
+use crate::kinds::{Version, is_second};
 use mk_base::{Datum, Json, List, Mem, SimKind, Text, Via};
 use mk_json::{DatumFault, datum};
 use std::alloc::Global;
@@ -129,24 +131,25 @@ pub fn kind_of(name: &Text) -> Result<SimKind, LineFault>
 }
 
 // How a connection delays, as it stands in a line of version 2 or of version 1: a name, and the number beside it.
-pub fn way_of(second: bool, tree: &Json) -> Result<(&Text, Option<i128>), LineFault>
-    ensures ok { IfOk result (λ w. way_in second tree.now ≡ Some (w.0.now, w.1)) }
-    ensures err { IfErr result (IsMissing (way_in second tree.now)) }
+pub fn way_of(version: Version, tree: &Json) -> Result<(&Text, Option<i128>), LineFault>
+    ensures ok { IfOk result (λ w. way_in (is_second version) tree.now ≡ Some (w.0.now, w.1)) }
+    ensures err { IfErr result (IsMissing (way_in (is_second version) tree.now)) }
 {
     if let Some(name) = tree.as_text() {
         return Ok((name, None));
     }
     match tree {
-        Json::List(items) => listed_way(second, items.as_slice()),
+        Json::List(items) => listed_way(version, items.as_slice()),
         _ => Err(LineFault::Bad(MISFORMED)),
     }
 }
 
-fn listed_way(second: bool, items: &[Json]) -> Result<(&Text, Option<i128>), LineFault>
-    ensures ok { IfOk result (λ w. way_in_list second (Some items.now) ≡ Some (w.0.now, w.1)) }
-    ensures err { IfErr result (IsMissing (way_in_list second (Some items.now))) }
+fn listed_way(version: Version, items: &[Json]) -> Result<(&Text, Option<i128>), LineFault>
+    ensures ok { IfOk result
+        (λ w. way_in_list (is_second version) (Some items.now) ≡ Some (w.0.now, w.1)) }
+    ensures err { IfErr result (IsMissing (way_in_list (is_second version) (Some items.now))) }
 {
-    if !second {
+    if !is_second(version) {
         return Err(LineFault::Bad(MISFORMED));
     }
     let [name, width] = items else {
@@ -155,9 +158,9 @@ fn listed_way(second: bool, items: &[Json]) -> Result<(&Text, Option<i128>), Lin
     Ok((text_of(name)?, Some(whole_of(width)?)))
 }
 
-pub fn via_of(second: bool, name: &Text, width: Option<i128>) -> Result<Via, LineFault>
-    ensures ok { IfOk result (λ v. via_of second (name.now, width) ≡ Some v) }
-    ensures err { IfErr result (IsUnknown (via_of second (name.now, width))) }
+pub fn via_of(version: Version, name: &Text, width: Option<i128>) -> Result<Via, LineFault>
+    ensures ok { IfOk result (λ v. via_of (is_second version) (name.now, width) ≡ Some v) }
+    ensures err { IfErr result (IsUnknown (via_of (is_second version) (name.now, width))) }
 {
     let name = name.bytes();
     if is_word(name, b"plain") {
@@ -167,7 +170,7 @@ pub fn via_of(second: bool, name: &Text, width: Option<i128>) -> Result<Via, Lin
         return lone(width, Via::Weak);
     }
     if is_word(name, b"shift") {
-        return shift_of(second, width);
+        return shift_of(version, width);
     }
     Err(LineFault::Bad(OUT_OF_LIMITS))
 }
@@ -183,11 +186,11 @@ fn lone(width: Option<i128>, via: Via) -> Result<Via, LineFault>
     }
 }
 
-fn shift_of(second: bool, width: Option<i128>) -> Result<Via, LineFault>
-    ensures ok { IfOk result (λ v. shift_of second width ≡ Some v) }
-    ensures err { IfErr result (IsUnknown (shift_of second width)) }
+fn shift_of(version: Version, width: Option<i128>) -> Result<Via, LineFault>
+    ensures ok { IfOk result (λ v. shift_of (is_second version) width ≡ Some v) }
+    ensures err { IfErr result (IsUnknown (shift_of (is_second version) width)) }
 {
-    if !second {
+    if !is_second(version) {
         return Ok(Via::Shift(1));
     }
     match width {

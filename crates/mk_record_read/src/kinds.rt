@@ -1,8 +1,25 @@
 // The kinds of a record's lines, and where they may stand.
 ghost use Rattle.std.specs.Prelude.{◌≡◌};
+ghost use Rattle.mk_record_read.specs.inner.Seen.{is_second};
 ghost use Rattle.mk_record_read.specs.Reading.{kind_of_word, place, may_stand, ends_plan};
 
 use crate::fields::is_word;
+
+// The version of a record, by its first line.
+#[derive(Clone, Copy, Debug)]
+pub enum Version {
+    First,
+    Second,
+}
+
+pub fn is_second(version: Version) -> bool
+    ensures { result ≡ is_second version }
+{
+    match version {
+        Version::First => false,
+        Version::Second => true,
+    }
+}
 
 // What a line says, by its first word.
 #[derive(Clone, Copy, Debug, PartialEq, Eq)]
@@ -20,8 +37,8 @@ pub enum LineKind {
 }
 
 // `ask` lines stand in version 2 alone.
-pub fn kind_of_word(second: bool, word: &[u8]) -> Option<LineKind>
-    ensures { result ≡ kind_of_word second word.now }
+pub fn kind_of_word(version: Version, word: &[u8]) -> Option<LineKind>
+    ensures { result ≡ kind_of_word (is_second version) word.now }
 {
     if is_word(word, b"mosaikrun") {
         return Some(LineKind::Head);
@@ -47,7 +64,7 @@ pub fn kind_of_word(second: bool, word: &[u8]) -> Option<LineKind>
     if is_word(word, b"got") {
         return Some(LineKind::Got);
     }
-    if second && is_word(word, b"ask") {
+    if is_second(version) && is_word(word, b"ask") {
         return Some(LineKind::Ask);
     }
     if is_word(word, b"end") {

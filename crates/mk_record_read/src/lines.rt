@@ -1,20 +1,23 @@
 // What each kind of line adds to the plan, to the messages that came, or to the steps that were asked for.
-ghost use Rattle.std.specs.Prelude.{◌≡◌, Ok, Some, OnOk, IfOk, IfErr, true, ◌&&◌, map, nat_abs};
+ghost use Rattle.std.specs.Prelude.{◌≡◌, Ok, Some, OnOk, IfOk, IfErr, true, ◌&&◌, map, nat_abs, ◌∷◌, []};
 ghost use Rattle.std.specs.List.{list_all};
 ghost use Rattle.std.specs.Result.{result_ok};
 ghost use Rattle.mk_message.specs.Messages.{message_in};
 ghost use Rattle.mk_base.specs.Trees.{is_in_range};
-ghost use Rattle.mk_record_read.specs.inner.Faults.{IsFaultOf, IsMissing};
+ghost use Rattle.mk_record_read.specs.inner.Faults.{IsBeyond, IsFaultOf, IsMissing};
+ghost use Rattle.mk_record_read.specs.inner.Lines.{conn_put, entity_put, model_put, sim_put};
 ghost use Rattle.mk_record_read.specs.Fields.{is_below};
 ghost use Rattle.mk_record_read.specs.Lines.{run_fits, event_fits, sim_fits, entity_fits, with_run, with_sim, with_model, with_entity, with_way, with_conn, with_async, arrival_in, asked_in, step_asked, step_fits};
 ghost use Rattle.mk_record_read.specs.Seen.{came};
+ghost use Rattle.mk_record_read.specs.inner.Seen.{is_second};
 
 use crate::faults::LineFault;
 use crate::fields::{
     bool_of, initial_of, is_from, kind_of, text_of, texts_of, via_of, way_of, whole_of, wholes_of,
 };
+use crate::kinds::Version;
 use crate::saved::{Arrival, Asked};
-use mk_base::{Json, List, Mem, SimKind, SimNo, Text, Tier};
+use mk_base::{Datum, Json, List, Mem, SimKind, SimNo, Text, Tier, Via};
 use mk_message::{ReadFault, read_tree};
 use mk_plan::{AsyncPair, Conn, Message, Plan, PlanEntity, PlanModel, PlanSim};
 use std::alloc::Global;
@@ -27,9 +30,19 @@ pub fn add_run(plan: &mut Plan, items: &[Json]) -> Result<(), LineFault>
     ensures ok { OnOk result (with_run plan.old items.now ≡ Ok plan.new) }
     ensures err { IfErr result (IsFaultOf (with_run plan.old items.now)) }
 {
-    let [until, loops, entries] = items else {
-        return Err(MISFORMED);
-    };
+    match items {
+        [until, loops, entries] => add_run_of(plan, until, loops, entries),
+        _ => Err(MISFORMED),
+    }
+}
+
+// The same where the line has as many fields as it needs.
+fn add_run_of(plan: &mut Plan, until: &Json, loops: &Json, entries: &Json) -> Result<(), LineFault>
+    ensures ok { OnOk result
+        (with_run plan.old (until.now ∷ loops.now ∷ entries.now ∷ []) ≡ Ok plan.new) }
+    ensures err { IfErr result
+        (IsFaultOf (with_run plan.old (until.now ∷ loops.now ∷ entries.now ∷ []))) }
+{
     let until = whole_of(until)?;
     let loops = whole_of(loops)?;
     let entries = whole_of(entries)?;
@@ -52,20 +65,60 @@ pub fn add_sim(alloc: Global, plan: &mut Plan, items: &[Json]) -> Result<(), Lin
     ensures ok { OnOk result (with_sim plan.old items.now ≡ Ok plan.new) }
     ensures err { IfErr result (IsFaultOf (with_sim plan.old items.now)) }
 {
-    let [id, kind, first_id, rank, events] = items else {
-        return Err(MISFORMED);
-    };
+    match items {
+        [id, kind, first_id, rank, events] => {
+            add_sim_of(alloc, plan, id, kind, first_id, rank, events)
+        }
+        _ => Err(MISFORMED),
+    }
+}
+
+// The same where the line has as many fields as it needs.
+fn add_sim_of(
+    alloc: Global,
+    plan: &mut Plan,
+    id: &Json,
+    kind: &Json,
+    first_id: &Json,
+    rank: &Json,
+    events: &Json,
+) -> Result<(), LineFault>
+    ensures ok { OnOk result
+        (with_sim plan.old (id.now ∷ kind.now ∷ first_id.now ∷ rank.now ∷ events.now ∷ [])
+        ≡ Ok plan.new) }
+    ensures err { IfErr result
+        (IsFaultOf (with_sim plan.old
+        (id.now ∷ kind.now ∷ first_id.now ∷ rank.now ∷ events.now ∷ []))) }
+{
     let id = text_of(id)?;
     let kind = text_of(kind)?;
     let first_id = whole_of(first_id)?;
     let rank = whole_of(rank)?;
     let events = wholes_of(alloc, events)?;
+    put_sim(alloc, plan, id, kind, first_id, rank, events.as_slice())
+}
+
+// Adds a simulator, if its type is known and its numbers are within their limits.
+fn put_sim(
+    alloc: Global,
+    plan: &mut Plan,
+    id: &Text,
+    kind: &Text,
+    first_id: i128,
+    rank: i128,
+    events: &[i128],
+) -> Result<(), LineFault>
+    ensures ok { OnOk result
+        (sim_put plan.old id.now kind.now first_id rank events.now ≡ Ok plan.new) }
+    ensures err { IfErr result
+        (IsFaultOf (sim_put plan.old id.now kind.now first_id rank events.now)) }
+{
     let kind = kind_of(kind)?;
-    if !sim_fits(first_id, rank, &events) {
+    if !sim_fits(first_id, rank, events) {
         return Err(OUT_OF_LIMITS);
     }
-    plan.sims
-        .push(sim_of(alloc, id, kind, first_id, rank, &events)?)?;
+    let sim = sim_of(alloc, id, kind, first_id, rank, events)?;
+    plan.sims.push(sim)?;
     Ok(())
 }
 
@@ -75,7 +128,7 @@ fn sim_of(
     kind: SimKind,
     first_id: i128,
     rank: i128,
-    events: &List<i128>,
+    events: &[i128],
 ) -> Result<PlanSim, Mem>
     requires { sim_fits first_id rank events.now ≡ true }
     ensures { IfOk result (λ s. s
@@ -87,19 +140,20 @@ fn sim_of(
           initial = events.now;
         }) }
 {
+    let initial = times_of(alloc, events)?;
     Ok(PlanSim {
         id: id.copy()?,
         kind,
         first_id: first_id as u64,
         rank: rank as u32,
-        initial: times_of(alloc, events)?,
+        initial,
     })
 }
 
-fn sim_fits(first_id: i128, rank: i128, events: &List<i128>) -> bool
+fn sim_fits(first_id: i128, rank: i128, events: &[i128]) -> bool
     ensures { result ≡ sim_fits first_id rank events.now }
 {
-    is_from(0, 1000000, first_id) && is_from(0, 199, rank) && events_fit(events.as_slice())
+    is_from(0, 1000000, first_id) && is_from(0, 199, rank) && events_fit(events)
 }
 
 fn events_fit(events: &[i128]) -> bool
@@ -113,15 +167,22 @@ fn events_fit(events: &[i128]) -> bool
     true
 }
 
-fn times_of(alloc: Global, events: &List<i128>) -> Result<List<i64>, Mem>
+fn times_of(alloc: Global, events: &[i128]) -> Result<List<i64>, Mem>
     requires { list_all event_fits events.now ≡ true }
     ensures { IfOk result (λ ts. ts ≡ events.now) }
 {
     let mut times = List::new(alloc);
-    for event in events.as_slice() {
-        times.push(*event as i64)?;
+    for event in events {
+        times.push(time_of(*event))?;
     }
     Ok(times)
+}
+
+fn time_of(event: i128) -> i64
+    requires { event_fits event ≡ true }
+    ensures { result ≡ event }
+{
+    event as i64
 }
 
 pub fn add_model(alloc: Global, plan: &mut Plan, items: &[Json]) -> Result<(), LineFault>
@@ -133,18 +194,30 @@ pub fn add_model(alloc: Global, plan: &mut Plan, items: &[Json]) -> Result<(), L
     };
     let sim = whole_of(sim)?;
     let name = text_of(name)?;
-    let attrs = texts_of(alloc, attrs)?;
     let any_inputs = bool_of(any_inputs)?;
-    if !names_one_of(plan.sims.len(), sim) {
-        return Err(OUT_OF_LIMITS);
-    }
-    let model = PlanModel {
-        sim: SimNo(number_of(sim)?),
-        name: name.copy()?,
+    let attrs = texts_of(alloc, attrs)?;
+    put_model(plan, sim, name, attrs, any_inputs)
+}
+
+// Adds a model, if its simulator stands before.
+fn put_model(
+    plan: &mut Plan,
+    sim: i128,
+    name: &Text,
+    attrs: List<Text>,
+    any_inputs: bool,
+) -> Result<(), LineFault>
+    ensures ok { OnOk result (model_put plan.old sim name.now attrs any_inputs ≡ Ok plan.new) }
+    ensures err { IfErr result (IsFaultOf (model_put plan.old sim name.now attrs any_inputs)) }
+{
+    let sim = place_among(plan.sims.len(), sim)?;
+    let name = name.copy()?;
+    plan.models.push(PlanModel {
+        sim: SimNo(sim),
+        name,
         attrs,
         any_inputs,
-    };
-    plan.models.push(model)?;
+    })?;
     Ok(())
 }
 
@@ -152,28 +225,60 @@ pub fn add_entity(alloc: Global, plan: &mut Plan, items: &[Json]) -> Result<(), 
     ensures ok { OnOk result (with_entity plan.old items.now ≡ Ok plan.new) }
     ensures err { IfErr result (IsFaultOf (with_entity plan.old items.now)) }
 {
-    let [model, eid, related] = items else {
-        return Err(MISFORMED);
-    };
+    match items {
+        [model, eid, related] => add_entity_of(alloc, plan, model, eid, related),
+        _ => Err(MISFORMED),
+    }
+}
+
+// The same where the line has as many fields as it needs.
+fn add_entity_of(
+    alloc: Global,
+    plan: &mut Plan,
+    model: &Json,
+    eid: &Json,
+    related: &Json,
+) -> Result<(), LineFault>
+    ensures ok { OnOk result
+        (with_entity plan.old (model.now ∷ eid.now ∷ related.now ∷ []) ≡ Ok plan.new) }
+    ensures err { IfErr result
+        (IsFaultOf (with_entity plan.old (model.now ∷ eid.now ∷ related.now ∷ []))) }
+{
     let model = whole_of(model)?;
     let eid = text_of(eid)?;
     let related = wholes_of(alloc, related)?;
-    if !entity_fits(plan.models.len(), model, &related) {
+    put_entity(alloc, plan, model, eid, related.as_slice())
+}
+
+// Adds an entity, if its model stands before and its numbers are within their limits.
+fn put_entity(
+    alloc: Global,
+    plan: &mut Plan,
+    model: i128,
+    eid: &Text,
+    related: &[i128],
+) -> Result<(), LineFault>
+    ensures ok { OnOk result (entity_put plan.old model eid.now related.now ≡ Ok plan.new) }
+    ensures err { IfErr result (IsFaultOf (entity_put plan.old model eid.now related.now)) }
+{
+    if !entity_fits(plan.models.len(), model, related) {
         return Err(OUT_OF_LIMITS);
     }
-    let entity = PlanEntity {
-        model: number_of(model)?,
-        eid: eid.copy()?,
-        related: numbers_of(alloc, &related)?,
-    };
-    plan.entities.push(entity)?;
+    let model = number_of(model)?;
+    let related = numbers_of(alloc, related)?;
+    let eid = eid.copy()?;
+    plan.entities.push(PlanEntity {
+        model,
+        eid,
+        related,
+    })?;
     Ok(())
 }
 
-fn entity_fits(count: usize, model: i128, related: &List<i128>) -> bool
+fn entity_fits(count: usize, model: i128, related: &[i128]) -> bool
     ensures { result ≡ entity_fits count model related.now }
 {
-    names_one_of(count, model) && are_below(10000, related.as_slice())
+    names_one_of(count, model) && are_below(10000, related)
 }
 
 fn are_below(count: usize, places: &[i128]) -> bool
@@ -187,14 +292,14 @@ fn are_below(count: usize, places: &[i128]) -> bool
     true
 }
 
-fn numbers_of(alloc: Global, places: &List<i128>) -> Result<List<u32>, LineFault>
-    requires { list_all (is_below 10000) places.now ≡ true }
+fn numbers_of(alloc: Global, places: &[i128]) -> Result<List<u32>, LineFault>
     ensures ok { IfOk result (λ ns. ns ≡ map nat_abs places.now) }
     ensures err { IfErr result (λ e. e ≡ LineFault.Mem) }
 {
     let mut numbers = List::new(alloc);
-    for place in places.as_slice() {
-        numbers.push(*place as u32)?;
+    for place in places {
+        let number = number_of(*place)?;
+        numbers.push(number)?;
     }
     Ok(numbers)
 }
@@ -202,27 +307,51 @@ fn numbers_of(alloc: Global, places: &List<i128>) -> Result<List<u32>, LineFault
 pub fn add_conn(
     alloc: Global,
     plan: &mut Plan,
-    second: bool,
+    version: Version,
     items: &[Json],
 ) -> Result<(), LineFault>
     requires { list_all is_in_range items.now ≡ true }
-    ensures ok { OnOk result (with_conn second plan.old items.now ≡ Ok plan.new) }
-    ensures err { IfErr result (IsFaultOf (with_conn second plan.old items.now)) }
+    ensures ok { OnOk result (with_conn (is_second version) plan.old items.now ≡ Ok plan.new) }
+    ensures err { IfErr result (IsFaultOf (with_conn (is_second version) plan.old items.now)) }
 {
-    let [from, from_attr, to, to_attr, way @ ..] = items else {
-        return Err(MISFORMED);
-    };
+    match items {
+        [from, from_attr, to, to_attr, way @ ..] => {
+            add_conn_of(alloc, plan, version, from, from_attr, to, to_attr, way)
+        }
+        _ => Err(MISFORMED),
+    }
+}
+
+// The same where the line has as many fields as it needs, or more.
+fn add_conn_of(
+    alloc: Global,
+    plan: &mut Plan,
+    version: Version,
+    from: &Json,
+    from_attr: &Json,
+    to: &Json,
+    to_attr: &Json,
+    way: &[Json],
+) -> Result<(), LineFault>
+    requires { list_all is_in_range way.now ≡ true }
+    ensures ok { OnOk result
+        (with_conn (is_second version) plan.old
+        (from.now ∷ from_attr.now ∷ to.now ∷ to_attr.now ∷ way.now) ≡ Ok plan.new) }
+    ensures err { IfErr result
+        (IsFaultOf (with_conn (is_second version) plan.old
+        (from.now ∷ from_attr.now ∷ to.now ∷ to_attr.now ∷ way.now))) }
+{
     let from = whole_of(from)?;
     let from_attr = text_of(from_attr)?;
     let to = whole_of(to)?;
     let to_attr = text_of(to_attr)?;
-    add_way(alloc, plan, second, from, from_attr, to, to_attr, way)
+    add_way(alloc, plan, version, from, from_attr, to, to_attr, way)
 }
 
 fn add_way(
     alloc: Global,
     plan: &mut Plan,
-    second: bool,
+    version: Version,
     from: i128,
     from_attr: &Text,
     to: i128,
@@ -230,40 +359,94 @@ fn add_way(
     way: &[Json],
 ) -> Result<(), LineFault>
     requires { list_all is_in_range way.now ≡ true }
-    ensures ok { OnOk result (with_way second plan.old from from_attr.now to to_attr.now way.now
+    ensures ok { OnOk result
+        (with_way (is_second version) plan.old from from_attr.now to to_attr.now way.now
         ≡ Ok plan.new) }
     ensures err { IfErr result
-        (IsFaultOf (with_way second plan.old from from_attr.now to to_attr.now way.now)) }
+        (IsFaultOf
+        (with_way (is_second version) plan.old from from_attr.now to to_attr.now way.now)) }
 {
-    let [via, persistent, triggering, initial] = way else {
-        return Err(MISFORMED);
-    };
-    let (name, width) = way_of(second, via)?;
+    match way {
+        [via, persistent, triggering, initial] => add_way_of(
+            alloc, plan, version, from, from_attr, to, to_attr, via, persistent, triggering,
+            initial,
+        ),
+        _ => Err(MISFORMED),
+    }
+}
+
+// The same where as many fields stand there as it needs.
+fn add_way_of(
+    alloc: Global,
+    plan: &mut Plan,
+    version: Version,
+    from: i128,
+    from_attr: &Text,
+    to: i128,
+    to_attr: &Text,
+    via: &Json,
+    persistent: &Json,
+    triggering: &Json,
+    initial: &Json,
+) -> Result<(), LineFault>
+    requires { is_in_range initial.now ≡ true }
+    ensures ok { OnOk result
+        (with_way (is_second version) plan.old from from_attr.now to to_attr.now
+        (via.now ∷ persistent.now ∷ triggering.now ∷ initial.now ∷ []) ≡ Ok plan.new) }
+    ensures err { IfErr result
+        (IsFaultOf (with_way (is_second version) plan.old from from_attr.now to to_attr.now
+        (via.now ∷ persistent.now ∷ triggering.now ∷ initial.now ∷ []))) }
+{
+    let (name, width) = way_of(version, via)?;
     let persistent = bool_of(persistent)?;
     let triggering = bool_of(triggering)?;
     let initial = initial_of(alloc, initial)?;
-    let via = via_of(second, name, width)?;
-    if !both_named(plan.entities.len(), from, to) {
-        return Err(OUT_OF_LIMITS);
-    }
-    let conn = Conn {
-        from: number_of(from)?,
-        from_attr: from_attr.copy()?,
-        to: number_of(to)?,
-        to_attr: to_attr.copy()?,
+    let via = via_of(version, name, width)?;
+    put_conn(
+        plan, from, from_attr, to, to_attr, via, persistent, triggering, initial,
+    )
+}
+
+// Adds a connection, if the entities that it joins stand before.
+fn put_conn(
+    plan: &mut Plan,
+    from: i128,
+    from_attr: &Text,
+    to: i128,
+    to_attr: &Text,
+    via: Via,
+    persistent: bool,
+    triggering: bool,
+    initial: Option<Datum>,
+) -> Result<(), LineFault>
+    ensures ok { OnOk result
+        (conn_put plan.old from from_attr.now to to_attr.now via persistent triggering initial
+        ≡ Ok plan.new) }
+    ensures err { IfErr result
+        (IsFaultOf
+        (conn_put plan.old from from_attr.now to to_attr.now via persistent triggering initial)) }
+{
+    let (from, to) = places_among(plan.entities.len(), from, to)?;
+    let (from_attr, to_attr) = both_copied(from_attr, to_attr)?;
+    plan.conns.push(Conn {
+        from,
+        from_attr,
+        to,
+        to_attr,
         via,
         persistent,
         triggering,
         initial,
-    };
-    plan.conns.push(conn)?;
+    })?;
     Ok(())
 }
 
-fn both_named(count: usize, from: i128, to: i128) -> bool
-    ensures { result ≡ (is_below count from && is_below count to) }
+fn both_copied(first: &Text, second: &Text) -> Result<(Text, Text), Mem>
+    ensures { IfOk result (λ both. (both.0 ≡ first.now) × (both.1 ≡ second.now)) }
 {
-    names_one_of(count, from) && names_one_of(count, to)
+    let first = first.copy()?;
+    let second = second.copy()?;
+    Ok((first, second))
 }
 
 pub fn add_async(plan: &mut Plan, items: &[Json]) -> Result<(), LineFault>
@@ -275,14 +458,11 @@ pub fn add_async(plan: &mut Plan, items: &[Json]) -> Result<(), LineFault>
     };
     let from = whole_of(from)?;
     let to = whole_of(to)?;
-    if !both_named(plan.sims.len(), from, to) {
-        return Err(OUT_OF_LIMITS);
-    }
-    let pair = AsyncPair {
-        from: SimNo(number_of(from)?),
-        to: SimNo(number_of(to)?),
-    };
-    plan.asyncs.push(pair)?;
+    let (from, to) = places_among(plan.sims.len(), from, to)?;
+    plan.asyncs.push(AsyncPair {
+        from: SimNo(from),
+        to: SimNo(to),
+    })?;
     Ok(())
 }
 
@@ -290,16 +470,28 @@ pub fn arrival_of(alloc: Global, plan: &Plan, items: &[Json]) -> Result<Arrival,
     ensures ok { IfOk result (λ a. arrival_in plan.now items.now ≡ Ok (came a)) }
     ensures err { IfErr result (IsFaultOf (arrival_in plan.now items.now)) }
 {
-    let [sim, message] = items else {
-        return Err(MISFORMED);
-    };
+    match items {
+        [sim, message] => arrival_of_fields(alloc, plan, sim, message),
+        _ => Err(MISFORMED),
+    }
+}
+
+// The same where the line has as many fields as it needs.
+fn arrival_of_fields(
+    alloc: Global,
+    plan: &Plan,
+    sim: &Json,
+    message: &Json,
+) -> Result<Arrival, LineFault>
+    ensures ok { IfOk result
+        (λ a. arrival_in plan.now (sim.now ∷ message.now ∷ []) ≡ Ok (came a)) }
+    ensures err { IfErr result (IsFaultOf (arrival_in plan.now (sim.now ∷ message.now ∷ []))) }
+{
     let sim = whole_of(sim)?;
     let message = message_of(alloc, message)?;
-    if !names_one_of(plan.sims.len(), sim) {
-        return Err(OUT_OF_LIMITS);
-    }
+    let sim = place_among(plan.sims.len(), sim)?;
     Ok(Arrival {
-        sim: SimNo(number_of(sim)?),
+        sim: SimNo(sim),
         message,
     })
 }
@@ -308,17 +500,34 @@ pub fn asked_of(plan: &Plan, before: u64, items: &[Json]) -> Result<Asked, LineF
     ensures ok { IfOk result (λ a. asked_in plan.now before items.now ≡ Ok a) }
     ensures err { IfErr result (IsFaultOf (asked_in plan.now before items.now)) }
 {
-    let [sim, time, tier, max_advance] = items else {
-        return Err(MISFORMED);
-    };
+    match items {
+        [sim, time, tier, max_advance] => {
+            asked_of_fields(plan, before, sim, time, tier, max_advance)
+        }
+        _ => Err(MISFORMED),
+    }
+}
+
+// The same where the line has as many fields as it needs.
+fn asked_of_fields(
+    plan: &Plan,
+    before: u64,
+    sim: &Json,
+    time: &Json,
+    tier: &Json,
+    max_advance: &Json,
+) -> Result<Asked, LineFault>
+    ensures ok { IfOk result (λ a. asked_in plan.now before
+        (sim.now ∷ time.now ∷ tier.now ∷ max_advance.now ∷ []) ≡ Ok a) }
+    ensures err { IfErr result
+        (IsFaultOf (asked_in plan.now before
+        (sim.now ∷ time.now ∷ tier.now ∷ max_advance.now ∷ []))) }
+{
     let sim = whole_of(sim)?;
     let time = whole_of(time)?;
     let tier = whole_of(tier)?;
     let max_advance = whole_of(max_advance)?;
-    if !names_one_of(plan.sims.len(), sim) {
-        return Err(OUT_OF_LIMITS);
-    }
-    let sim = number_of(sim)?;
+    let sim = place_among(plan.sims.len(), sim)?;
     step_asked(before, sim, time, tier, max_advance)
 }
 
@@ -367,6 +576,29 @@ fn names_one_of(count: usize, place: i128) -> bool
     ensures { result ≡ is_below count place }
 {
     0 <= place && place < count as i128
+}
+
+// The number of one of so many things.
+fn place_among(count: usize, place: i128) -> Result<u32, LineFault>
+    ensures there { OnOk result (is_below count place ≡ true) }
+    ensures ok { IfOk result (λ n. n ≡ nat_abs place) }
+    ensures err { IfErr result (IsBeyond (is_below count place)) }
+{
+    if !names_one_of(count, place) {
+        return Err(OUT_OF_LIMITS);
+    }
+    number_of(place)
+}
+
+// The numbers of two of so many things.
+fn places_among(count: usize, from: i128, to: i128) -> Result<(u32, u32), LineFault>
+    ensures there { OnOk result ((is_below count from && is_below count to) ≡ true) }
+    ensures ok { IfOk result (λ ns. (ns.0 ≡ nat_abs from) × (ns.1 ≡ nat_abs to)) }
+    ensures err { IfErr result (IsBeyond (is_below count from && is_below count to)) }
+{
+    let from = place_among(count, from)?;
+    let to = place_among(count, to)?;
+    Ok((from, to))
 }
 
 // A plan with so many parts that their numbers don't fit isn't kept.

@@ -8,13 +8,14 @@ ghost use Rattle.mk_record_read.specs.Fields.{found, misformed};
 ghost use Rattle.mk_record_read.specs.Lines.{arrival_in, asked_in};
 ghost use Rattle.mk_record_read.specs.Reading.{is_digit, is_number, end_step, items_read, with_part};
 ghost use Rattle.mk_record_read.specs.Seen.{came};
+ghost use Rattle.mk_record_read.specs.inner.Seen.{is_second};
 ghost use Rattle.mk_record_read.specs.Steps.{IsKnown};
 ghost use Rattle.mk_record_read.specs.inner.Steps.{IsBadStep};
 ghost use Rattle.mk_record_read.specs.Reading.{Ended};
 
 use crate::faults::LineFault;
 use crate::fields::{is_word, items_of};
-use crate::kinds::LineKind;
+use crate::kinds::{LineKind, Version};
 use crate::lines::{
     add_async, add_conn, add_entity, add_model, add_run, add_sim, arrival_of, asked_of,
 };
@@ -44,37 +45,39 @@ fn tree_of(alloc: Global, text: &[u8]) -> Result<Json, LineFault>
 pub fn add_part(
     alloc: Global,
     plan: &mut Plan,
-    second: bool,
+    version: Version,
     kind: LineKind,
     text: &[u8],
 ) -> Result<(), LineFault>
     ensures ok { OnOk result
-        (found misformed (items_read text.now) (with_part second kind plan.old) ≡ Ok plan.new) }
+        (found misformed (items_read text.now) (with_part (is_second version) kind plan.old)
+        ≡ Ok plan.new) }
     ensures err { IfErr result
-        (IsFaultOf (found misformed (items_read text.now) (with_part second kind plan.old))) }
+        (IsFaultOf
+        (found misformed (items_read text.now) (with_part (is_second version) kind plan.old))) }
 {
     let tree = tree_of(alloc, text)?;
     let items = items_of(&tree)?;
-    add_items(alloc, plan, second, kind, items)
+    add_items(alloc, plan, version, kind, items)
 }
 
 fn add_items(
     alloc: Global,
     plan: &mut Plan,
-    second: bool,
+    version: Version,
     kind: LineKind,
     items: &[Json],
 ) -> Result<(), LineFault>
     requires { list_all is_in_range items.now ≡ true }
-    ensures ok { OnOk result (with_part second kind plan.old items.now ≡ Ok plan.new) }
-    ensures err { IfErr result (IsFaultOf (with_part second kind plan.old items.now)) }
+    ensures ok { OnOk result (with_part (is_second version) kind plan.old items.now ≡ Ok plan.new) }
+    ensures err { IfErr result (IsFaultOf (with_part (is_second version) kind plan.old items.now)) }
 {
     match kind {
         LineKind::Run => add_run(plan, items),
         LineKind::Sim => add_sim(alloc, plan, items),
         LineKind::Model => add_model(alloc, plan, items),
         LineKind::Entity => add_entity(alloc, plan, items),
-        LineKind::Conn => add_conn(alloc, plan, second, items),
+        LineKind::Conn => add_conn(alloc, plan, version, items),
         LineKind::Async => add_async(plan, items),
         LineKind::Head => Err(MISFORMED),
         LineKind::Ask => Err(MISFORMED),

@@ -1,20 +1,20 @@
 // From a record's bytes to what it says.
-ghost use Rattle.std.specs.Prelude.{◌≡◌, ◌<◌, ◌+◌, ◌≤◌, ℕ, Some, None, Ok, Err, OnOk, IfOk, IfErr, IfSome, MatchOption, true, length, position, ◌==◌, map, All, ◌∷◌, [], ◌^◌};
+ghost use Rattle.std.specs.Prelude.{◌≡◌, ◌<◌, ◌+◌, ◌≤◌, ℕ, Some, None, Ok, Err, OnOk, IfOk, IfErr, IfSome, MatchOption, true, length, position, ◌==◌, map, All, ◌∷◌, ◌++◌, [], ◌^◌, unwrap_or, is_some};
 ghost use Rattle.std.specs.List.{slice_split};
 ghost use Rattle.mk_plan.specs.Plans.{IsValidPlan};
 ghost use Rattle.mk_plan_check.specs.Tests.{first_bad};
 ghost use Rattle.mk_record_read.specs.Reading.{reading, Faulty, start, is_feed, word_of, rest_of, place, may_stand, line_step, kind_step, part_step, plan_step, steps_in};
 ghost use Rattle.mk_record_read.specs.Seen.{came, said_by};
-ghost use Rattle.mk_record_read.specs.inner.Seen.{state_of, saved_in};
+ghost use Rattle.mk_record_read.specs.inner.Seen.{is_second, state_of, saved_in};
 ghost use Rattle.mk_record_read.specs.Steps.{IsKnown};
-ghost use Rattle.mk_record_read.specs.inner.Steps.{IsStep, IsBadStep, IsSound, IsSoundAfter, IsInvalid, IsOverlong, IsFaultAt};
+ghost use Rattle.mk_record_read.specs.inner.Steps.{IsSound, IsInvalid, IsOverlong, IsFaultAt, IsSoundAfter, IsTaken};
 
 use crate::faults::{LineFault, RecordFault};
 use crate::fields::is_word;
-use crate::kinds::{LineKind, ends_plan, kind_of_word, may_stand, place};
+use crate::kinds::{LineKind, Version, ends_plan, kind_of_word, may_stand, place};
 use crate::parts::{add_part, read_arrival, read_asked, read_end};
-use crate::saved::{Progress, Saved};
-use mk_base::List;
+use crate::saved::{Asked, Progress, Saved};
+use mk_base::{List, Mem};
 use mk_plan::Plan;
 use mk_plan_check::{PlanFault, check_plan};
 use std::alloc::Global;
@@ -49,11 +49,8 @@ fn take_part(
     requires stands { may_stand progress.old.last kind ≡ true }
     requires valid { 8 ≤ place kind → IsValidPlan progress.old.plan }
     requires sound { IsSound progress.old }
-    ensures ok { IfOk result
-        (λ ended. IsStep (state_of progress.old)
-        (part_step (state_of progress.old) kind text.now) ended progress.new) }
-    ensures err { IfErr result (IsBadStep (part_step (state_of progress.old) kind text.now)) }
-    ensures sound { IfOk result (λ ended. IsSoundAfter ended progress.new) }
+    ensures { IsTaken progress.old
+        (part_step (state_of progress.old) kind text.now) result progress.new }
 {
     match kind {
         LineKind::Head => take_head(alloc, progress, text),
@@ -65,22 +62,15 @@ fn take_part(
         LineKind::Async => take_addition(alloc, progress, kind, text),
         LineKind::Ask => take_ask(alloc, progress, text),
         LineKind::Got => take_message(alloc, progress, text),
-        LineKind::End => {
-            read_end(line_count(progress), text)?;
-            Ok(true)
-        }
+        LineKind::End => take_end(progress, text),
     }
 }
 
 fn take_head(alloc: Global, progress: &mut Progress, text: &[u8]) -> Result<bool, LineFault>
     requires stands { may_stand progress.old.last LineKind.Head ≡ true }
     requires sound { IsSound progress.old }
-    ensures ok { IfOk result
-        (λ ended. IsStep (state_of progress.old)
-        (part_step (state_of progress.old) LineKind.Head text.now) ended progress.new) }
-    ensures err { IfErr result
-        (IsBadStep (part_step (state_of progress.old) LineKind.Head text.now)) }
-    ensures sound { IfOk result (λ ended. IsSoundAfter ended progress.new) }
+    ensures { IsTaken progress.old
+        (part_step (state_of progress.old) LineKind.Head text.now) result progress.new }
 {
     if is_word(text, b"1") {
         progress.asks = None;
@@ -102,14 +92,11 @@ fn take_addition(
     requires stands { may_stand progress.old.last kind ≡ true }
     requires early { place kind < 8 }
     requires sound { IsSound progress.old }
-    ensures ok { IfOk result
-        (λ ended. IsStep (state_of progress.old)
-        (plan_step (state_of progress.old) kind text.now) ended progress.new) }
-    ensures err { IfErr result (IsBadStep (plan_step (state_of progress.old) kind text.now)) }
-    ensures sound { IfOk result (λ ended. IsSoundAfter ended progress.new) }
+    ensures { IsTaken progress.old
+        (plan_step (state_of progress.old) kind text.now) result progress.new }
 {
-    let second = progress.asks.is_some();
-    add_part(alloc, &mut progress.plan, second, kind, text)?;
+    let version = version_of(progress);
+    add_part(alloc, &mut progress.plan, version, kind, text)?;
     progress.last = place(kind);
     Ok(false)
 }
@@ -117,12 +104,8 @@ fn take_addition(
 fn take_message(alloc: Global, progress: &mut Progress, text: &[u8]) -> Result<bool, LineFault>
     requires valid { IsValidPlan progress.old.plan }
     requires sound { IsSound progress.old }
-    ensures ok { IfOk result
-        (λ ended. IsStep (state_of progress.old)
-        (part_step (state_of progress.old) LineKind.Got text.now) ended progress.new) }
-    ensures err { IfErr result
-        (IsBadStep (part_step (state_of progress.old) LineKind.Got text.now)) }
-    ensures sound { IfOk result (λ ended. IsSoundAfter ended progress.new) }
+    ensures { IsTaken progress.old
+        (part_step (state_of progress.old) LineKind.Got text.now) result progress.new }
 {
     let arrival = read_arrival(alloc, &progress.plan, text)?;
     progress.arrivals.push(arrival)?;
@@ -134,22 +117,46 @@ fn take_message(alloc: Global, progress: &mut Progress, text: &[u8]) -> Result<b
 fn take_ask(alloc: Global, progress: &mut Progress, text: &[u8]) -> Result<bool, LineFault>
     requires valid { IsValidPlan progress.old.plan }
     requires sound { IsSound progress.old }
-    ensures ok { IfOk result
-        (λ ended. IsStep (state_of progress.old)
-        (part_step (state_of progress.old) LineKind.Ask text.now) ended progress.new) }
-    ensures err { IfErr result
-        (IsBadStep (part_step (state_of progress.old) LineKind.Ask text.now)) }
-    ensures sound { IfOk result (λ ended. IsSoundAfter ended progress.new) }
+    ensures { IsTaken progress.old
+        (part_step (state_of progress.old) LineKind.Ask text.now) result progress.new }
 {
     let asked = read_asked(alloc, &progress.plan, progress.arrivals.len() as u64, text)?;
-    let mut asks = match progress.asks.take() {
-        Some(asks) => asks,
-        None => List::new(alloc),
-    };
-    asks.push(asked)?;
-    progress.asks = Some(asks);
+    add_step(alloc, &mut progress.asks, asked)?;
     progress.last = place(LineKind::Ask);
     Ok(false)
+}
+
+fn add_step(alloc: Global, asks: &mut Option<List<Asked>>, asked: Asked) -> Result<(), Mem>
+    ensures { OnOk result (asks.new ≡ Some (unwrap_or asks.old [] ++ asked ∷ [])) }
+{
+    let mut steps = match asks.take() {
+        Some(steps) => steps,
+        None => List::new(alloc),
+    };
+    steps.push(asked)?;
+    *asks = Some(steps);
+    Ok(())
+}
+
+// Ends the record.
+fn take_end(progress: &mut Progress, text: &[u8]) -> Result<bool, LineFault>
+    requires valid { IsValidPlan progress.old.plan }
+    requires sound { IsSound progress.old }
+    ensures { IsTaken progress.old
+        (part_step (state_of progress.old) LineKind.End text.now) result progress.new }
+{
+    read_end(line_count(progress), text)?;
+    Ok(true)
+}
+
+// Steps are kept in version 2 alone.
+fn version_of(progress: &Progress) -> Version
+    ensures { is_second result ≡ is_some progress.now.asks }
+{
+    match &progress.asks {
+        Some(_) => Version::Second,
+        None => Version::First,
+    }
 }
 
 // How many lines say that a message came or that a step was asked for.
@@ -166,14 +173,11 @@ fn line_count(progress: &Progress) -> u128
 // Adds a line; whether it ends the record.
 fn take_line(alloc: Global, progress: &mut Progress, line: &[u8]) -> Result<bool, LineFault>
     requires { IsSound progress.old }
-    ensures ok { IfOk result
-        (λ ended. IsStep (state_of progress.old)
-        (line_step (state_of progress.old) line.now) ended progress.new) }
-    ensures err { IfErr result (IsBadStep (line_step (state_of progress.old) line.now)) }
-    ensures sound { IfOk result (λ ended. IsSoundAfter ended progress.new) }
+    ensures { IsTaken progress.old
+        (line_step (state_of progress.old) line.now) result progress.new }
 {
     let (word, text) = word_and_rest(line);
-    let Some(kind) = kind_of_word(progress.asks.is_some(), word) else {
+    let Some(kind) = kind_of_word(version_of(progress), word) else {
         return Err(MISFORMED);
     };
     take_kind(alloc, progress, kind, text)
@@ -186,11 +190,8 @@ fn take_kind(
     text: &[u8],
 ) -> Result<bool, LineFault>
     requires { IsSound progress.old }
-    ensures ok { IfOk result
-        (λ ended. IsStep (state_of progress.old)
-        (kind_step (state_of progress.old) kind text.now) ended progress.new) }
-    ensures err { IfErr result (IsBadStep (kind_step (state_of progress.old) kind text.now)) }
-    ensures sound { IfOk result (λ ended. IsSoundAfter ended progress.new) }
+    ensures { IsTaken progress.old
+        (kind_step (state_of progress.old) kind text.now) result progress.new }
 {
     if ends_plan(progress.last, kind) {
         test_plan(alloc, &progress.plan)?;
@@ -239,12 +240,25 @@ pub fn read_record(alloc: Global, bytes: &[u8]) -> Result<Saved, RecordFault>
         → reading bytes.now ≡ Faulty l n }
 {
     let mut progress = empty_progress(alloc);
+    read_lines(alloc, &mut progress, bytes)?;
+    Ok(saved(progress))
+}
+
+// Adds the lines of a record.
+fn read_lines(alloc: Global, progress: &mut Progress, bytes: &[u8]) -> Result<(), RecordFault>
+    requires empty { state_of progress.old ≡ start }
+    requires sound { IsSound progress.old }
+    ensures ok { OnOk result (reading bytes.now ≡ said_by (saved_in progress.new)) }
+    ensures sound { OnOk result (IsSoundAfter true progress.new) }
+    ensures faulty { (l n : ℕ) → result ≡ Err (RecordFault.Line l n)
+        → reading bytes.now ≡ Faulty l n }
+{
     let mut number: u64 = 1;
     let mut rest = bytes;
     while let Some((line, after)) = line_and_rest(rest) {
-        match take_line(alloc, &mut progress, line) {
+        match take_line(alloc, progress, line) {
             Ok(false) => {}
-            Ok(true) => return closed(progress, number, after),
+            Ok(true) => return closed(number, after),
             Err(fault) => return Err(at_line(number, fault)),
         }
         number += 1;
@@ -283,18 +297,24 @@ fn empty_progress(alloc: Global) -> Progress
     }
 }
 
-// What a record says whose `end` line was read, this one, where `after` follows.
-fn closed(progress: Progress, number: u64, after: &[u8]) -> Result<Saved, RecordFault>
+// Whether a record may end with this line, where `after` follows.
+fn closed(number: u64, after: &[u8]) -> Result<(), RecordFault>
     requires { number + 1 < 2 ^ 64 }
-    ensures ok { IfOk result (λ s. (after.now ≡ []) × (s ≡ saved_in progress)) }
+    ensures ok { OnOk result (after.now ≡ []) }
     ensures faulty { IfErr result (IsOverlong number after.now) }
 {
     match after {
-        [] => Ok(Saved {
-            plan: progress.plan,
-            arrivals: progress.arrivals,
-            asks: progress.asks,
-        }),
+        [] => Ok(()),
         _ => Err(RecordFault::Line(number + 1, OVERLONG)),
+    }
+}
+
+fn saved(progress: Progress) -> Saved
+    ensures { result ≡ saved_in progress }
+{
+    Saved {
+        plan: progress.plan,
+        arrivals: progress.arrivals,
+        asks: progress.asks,
     }
 }

@@ -1,5 +1,5 @@
 -- For proofs alone. The fault of a line, as the program answers it.
-use Rattle.std.specs.Prelude.{◌≡◌, ℕ, Result, Err, Option, None, false, ⊤}
+use Rattle.std.specs.Prelude.{◌≡◌, ℕ, Bool, Result, Err, Option, None, false, ⊤}
 use Rattle.mk_base.specs.declared.json.Json.{Json}
 use Rattle.mk_base.specs.Trees.{is_datum}
 use Rattle.mk_record_read.specs.Fields.{misformed, out_of_limits}
@@ -21,6 +21,11 @@ IsMissing o Mem = ⊤
 abbrev pub IsUnknown : {X : Type 0} → Option X → LineFault → Type 0
 IsUnknown o (Bad n) = (o ≡ None) × (n ≡ out_of_limits)
 IsUnknown o Mem = ⊥
+
+-- a number is outside its limits, but for want of memory
+abbrev pub IsBeyond : Bool → LineFault → Type 0
+IsBeyond fits (Bad n) = (fits ≡ false) × (n ≡ out_of_limits)
+IsBeyond fits Mem = ⊤
 
 -- the tree is no datum
 abbrev pub IsNoDatum : Json → LineFault → Type 0

@@ -1,5 +1,5 @@
 -- For proofs alone. Beside `Steps`, which has what a reader needs.
-use Rattle.std.specs.Prelude.{◌≡◌, ℕ, ◌+◌, ◌<◌, length, ◌≤◌, Bool, true, false, List, [], map, All, IsSome, ⊤}
+use Rattle.std.specs.Prelude.{◌≡◌, Result, IfOk, IfErr, ℕ, ◌+◌, ◌<◌, length, ◌≤◌, Bool, true, false, List, [], map, All, IsSome, ⊤}
 use Rattle.mk_plan_check.specs.Tests.{first_bad}
 use Rattle.mk_plan.specs.declared.Plan.{Plan}
 use Rattle.mk_plan.specs.Plans.{IsValidPlan}
@@ -35,6 +35,14 @@ pub record IsSound (p : Progress) : Type 0 where
 pub record IsSoundAfter (ended : Bool) (p : Progress) : Type 0 where
   pub sound : IsSound p
   pub valid : ended ≡ true → IsValidPlan p.plan
+
+-- what the answer on a line means: what its step makes of the lines before it is kept, or the
+-- answer is the step's fault
+pub record IsTaken (old : Progress) (step : Step) (result : Result Bool LineFault)
+    (new : Progress) : Type 0 where
+  pub ok : IfOk result (λ ended. IsStep (state_of old) step ended new)
+  pub err : IfErr result (IsBadStep step)
+  pub sound : IfOk result (λ ended. IsSoundAfter ended new)
 
 -- the answer is that the plan isn't valid, as it isn't, but for want of memory
 abbrev pub IsInvalid : Plan → LineFault → Type 0

@@ -1,6 +1,6 @@
 use Rattle.std.proofs.Common.{length}
 use Rattle.mk_record_read.proofs.Sound.{Reads}
-use Rattle.mk_record_read.proofs.read.read_record.Given as goal
+use Rattle.mk_record_read.proofs.read.read_lines.Given as goal
 
 abbrev pub invariant-loop-line : goal.invariant-loop-line
 invariant-loop-line l = Reads l.fn.bytes l.rest l.number l.progress
