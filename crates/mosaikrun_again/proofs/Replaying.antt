@@ -1,0 +1,151 @@
+-- A run's journal is a replay of its own messages, and such a replay is one.
+use Rattle.std.proofs.Common.{◌≡◌, ℕ, ◌<◌, ◌≤◌, List, [], Option, None, Some, length, refl, sym, ap, ◌∙◌, subst, ◌⊎◌, inl, inr, arith}
+use Rattle.std.specs.Prelude.{IsSome}
+use Rattle.mk_base.specs.Lists.{BeginsWith}
+use Rattle.mk_base.proofs.Lists.{append_nil, none_some}
+use Rattle.mk_outside.specs.declared.fleet.LogEntry.{LogEntry}
+use Rattle.mk_plan.specs.declared.Plan.{Plan}
+use Rattle.mk_plan.specs.declared.Entry.{Entry}
+use Rattle.mk_plan.specs.Plans.{IsValidPlan, sim_count}
+use Rattle.mk_plan.specs.Journals.{Owed, arrivals, view}
+use Rattle.mk_plan.specs.Sequential.{Messages, run_items}
+use Rattle.mk_plan.specs.Ready.{IsDone, IsReady}
+use Rattle.mk_plan.specs.Advance.{IsAdvance}
+use Rattle.mk_plan.specs.Orderly.{IsEager}
+use Rattle.mk_order.proofs.Headlines.{orderly_finished}
+use Rattle.mk_order.proofs.Seen.{reached_sound}
+use Rattle.mk_order.proofs.Tables.{start_beyond}
+use Rattle.mk_order.proofs.Settled.{IsAtEnd, faulty, full, quiet, done_is_quiet, replay_is_longest, replay_is_one}
+use Rattle.mk_scenario.specs.declared.parts.Scenario.{Scenario}
+use Rattle.mk_sched.specs.declared.faults.CoreFault.{CoreFault}
+use Rattle.mk_sched.specs.declared.faults.CoreFault.TheVariants.{TooLong}
+use Rattle.mk_sched.specs.Answers.{SomeReady, fault_in}
+use Rattle.mk_run_laws.specs.Kinds.{Replies}
+use Rattle.mk_run.specs.declared.outcome.Outcome.{Outcome}
+use Rattle.mk_run.specs.declared.outcome.Outcome.TheVariants as outcome
+use Rattle.mk_run.specs.Ends.{IsBrokenOff, IsRun}
+use Rattle.mk_record_compare.specs.Differences.{IsOther}
+use Rattle.mk_record_compare.proofs.Places.{one_other}
+use Rattle.mk_record_read.specs.Entries.{entries_in}
+use Rattle.mk_record_laws.specs.Again.{steps_of}
+use Rattle.mk_record_replay.specs.declared.replaying.ReplayEnd.{ReplayEnd}
+use Rattle.mk_record_replay.specs.declared.replaying.ReplayEnd.TheVariants.{Done, Core}
+use Rattle.mk_record_replay.specs.Replays.{EndsBy, IsEndOf, IsLastFaulty, IsWhole, end_with}
+use Rattle.mk_record_replay.proofs.OneEnd.{at_end, one_end}
+use Rattle.mk_record_replay.proofs.Pushing.{got_is}
+use Rattle.mosaikrun_again.specs.Again.{EndsAlike, IsReplayOf, IsSaidToTheEnd, IsSentAll, ReplayHasJournal, ReplaysAreRuns}
+use Rattle.mosaikrun_again.proofs.Again.{entries_again}
+
+some_of : {X : Type 0} (o : Option X) → IsSome o → (x : X) × (o ≡ Some x)
+some_of None h = absurd (cc)
+some_of (Some x) h = (x, refl)
+
+-- a journal at whose end nothing is to be sent is at its end as a replay of its own messages
+own_end : (P : Plan) (J : List Entry) → IsSentAll P J → IsAtEnd IsReady IsAdvance P (arrivals J) J
+own_end P J (inl fault) = let x = some_of (view P J).fault fault in faulty x.0 x.1
+own_end P J (inr (inl is)) = full is
+own_end P J (inr (inr (paid, nobody))) = quiet refl paid (λ i x ready. nobody (i, x, ready))
+
+pub own_messages : (J : List Entry) → BeginsWith (arrivals J) (arrivals J)
+own_messages J = ([], sym (append_nil (arrivals J)))
+
+pub replayed : (P : Plan) (J K : List Entry) → IsEager P J → length J ≤ P.entries → IsReplayOf P J K → ReplayHasJournal P J K
+replayed P J K eager within (r, (end, by)) = record {
+  begins = replay_is_longest P (arrivals J) K J r.eager eager r.given (own_messages J) within (at_end P (arrivals J) K end r by);
+  same = λ sent. replay_is_one P (arrivals J) K J r.eager eager r.given (own_messages J) r.within within (at_end P (arrivals J) K end r by) (own_end P J sent);
+}
+
+-- ---- how a run ended, as the end of a replay
+
+-- where nothing is left to do nothing is owed: what is owed is owed in an open turn
+done_paid : (P : Plan) → IsValidPlan P → (J : List Entry) → IsEager P J → IsDone P (view P J) → (view P J).owed ≡ None
+done_paid P valid J eager done = by_owed (view P J).owed refl
+  where
+    compared : (i n : ℕ) → (i < n) ⊎ (n ≤ i)
+    compared i n = grind arith
+
+    shut : (i : ℕ) → (view P J).open_at i ≡ None
+    shut i = elim (compared i (sim_count P)) [ inl low ↦ done.closed i low | inr high ↦ (start_beyond P valid J eager.0.0 i high).1 ]
+
+    by_owed : (o : Option Owed) → (view P J).owed ≡ o → o ≡ None
+    by_owed None is = refl
+    by_owed (Some o) is = let turn = (reached_sound IsReady IsAdvance P (λ V s x r. r) J eager.0.0).turn o is in absurd (none_some (sym (shut o.sim) ∙ turn.1))
+
+-- a run that was done is a whole replay of its messages
+pub whole : (P : Plan) → IsValidPlan P → (J : List Entry) → IsEager P J → IsDone P (view P J) → IsWhole P (arrivals J) J
+whole P valid J eager done = let finished = orderly_finished P valid J eager.0 done in record {
+  given = refl;
+  done = done;
+  paid = done_paid P valid J eager done;
+  finished = finished;
+  sent = λ i low. (finished i low).sent ∙ ap (λ (R : Messages). run_items P R i) (λ k j. (got_is J j) k);
+}
+
+-- no entry of the record isn't the journal's
+pub own_other : (J : List Entry) → IsOther (arrivals J) (Some (steps_of J)) J None
+own_other J = ([], sym (append_nil (entries_in (arrivals J) (steps_of J)) ∙ entries_again J))
+
+module _ (started : ℕ) (S : Scenario) (reply : Replies) (P : Plan) (J : List Entry) (log : List LogEntry) (faults new_faults : ℕ) where
+  -- at the end of a run that was said to the end nothing is to be sent
+  by_limit : IsEager P J → (SomeReady P J → ⊥) → IsSentAll P J
+  by_limit eager nobody = elim eager.0.1 [ inl paid ↦ inr (inr (paid, nobody)) | inr long ↦ inr (inl long) ]
+
+  broken : (end : Outcome) → IsBrokenOff end → IsRun started S reply P J log faults new_faults end → IsSentAll P J
+  broken end off run = by_limit run.eager (run.unfinished off).1
+
+  run_ended : (end : Outcome) → IsSaidToTheEnd end → IsRun started S reply P J log faults new_faults end → IsSentAll P J
+  run_ended outcome.Done said run = by_limit run.eager (λ ready. done_is_quiet P (view P J) run.shown ready.0 ready.1 ready.2)
+  run_ended (outcome.Setup f) said run = absurd run.shown
+  run_ended (outcome.Core f) said run = elim run.shown [
+    | inl last ↦ inl (subst (λ o. IsSome o) (sym last.fault) last.named)
+    | inr long ↦ inr (inl long.full)
+  ]
+  run_ended outcome.Fleet said run = broken outcome.Fleet tt run
+  run_ended (outcome.Gone i) said run = broken (outcome.Gone i) tt run
+  run_ended (outcome.Garbled i n) said run = broken (outcome.Garbled i n) tt run
+  run_ended (outcome.LongFrame i n) said run = broken (outcome.LongFrame i n) tt run
+  run_ended (outcome.LongItem i n) said run = absurd said
+  run_ended outcome.Mem said run = absurd said
+
+  module _ (K : List Entry) (end : ReplayEnd) (same : K ≡ J) (by : IsEndOf P (arrivals J) (Some (steps_of J)) K end) where
+    here : EndsBy P (arrivals J) J by.messages_end
+    here = subst (λ (L : List Entry). EndsBy P (arrivals J) L by.messages_end) same by.ends
+
+    done_again : IsWhole P (arrivals J) J → end ≡ Done
+    done_again all =
+        let other : None ≡ by.other = one_other (arrivals J) (Some (steps_of J)) J None by.other (own_other J) (subst (λ (L : List Entry). IsOther (arrivals J) (Some (steps_of J)) L by.other) same by.compared) in
+        by.is ∙ ap (λ (e : ReplayEnd). end_with e by.other) (sym (one_end P (arrivals J) J Done by.messages_end all here)) ∙ ap (end_with Done) (sym other)
+
+    faulty_again : (f : CoreFault) → IsLastFaulty P J f → end ≡ Core f
+    faulty_again f last = by.is ∙ ap (λ (e : ReplayEnd). end_with e by.other) (sym (one_end P (arrivals J) J (Core f) by.messages_end (inl last) here))
+
+    ends_alike : (e : Outcome) → IsRun started S reply P J log faults new_faults e → EndsAlike e end
+    ends_alike outcome.Done run = done_again (whole P run.valid J run.eager run.shown)
+    ends_alike (outcome.Setup f) run = tt
+    ends_alike (outcome.Core f) run = λ named. elim run.shown [
+      | inl last ↦ faulty_again f (record { before = last.before; sim = last.sim; message = last.message; is = last.is; right_before = last.right_before; named = last.named; fault = last.fault })
+      | inr long ↦ absurd (let none : IsSome (fault_in (TooLong P.entries)) = subst (λ (g : CoreFault). IsSome (fault_in g)) long.named named in cc)
+    ]
+    ends_alike outcome.Fleet run = tt
+    ends_alike (outcome.Gone i) run = tt
+    ends_alike (outcome.Garbled i n) run = tt
+    ends_alike (outcome.LongFrame i n) run = tt
+    ends_alike (outcome.LongItem i n) run = tt
+    ends_alike outcome.Mem run = tt
+
+  ends_or_not : (e : Outcome) (K : List Entry) (end : ReplayEnd) → IsRun started S reply P J log faults new_faults e → (IsSaidToTheEnd e → K ≡ J) → IsEndOf P (arrivals J) (Some (steps_of J)) K end → EndsAlike e end
+  ends_or_not outcome.Done K end run same by = ends_alike K end (same tt) by outcome.Done run
+  ends_or_not (outcome.Setup f) K end run same by = tt
+  ends_or_not (outcome.Core f) K end run same by = ends_alike K end (same tt) by (outcome.Core f) run
+  ends_or_not outcome.Fleet K end run same by = tt
+  ends_or_not (outcome.Gone i) K end run same by = tt
+  ends_or_not (outcome.Garbled i n) K end run same by = tt
+  ends_or_not (outcome.LongFrame i n) K end run same by = tt
+  ends_or_not (outcome.LongItem i n) K end run same by = tt
+  ends_or_not outcome.Mem K end run same by = tt
+
+pub replays_are_runs : ReplaysAreRuns
+replays_are_runs started S reply P J log faults new_faults end run within K replay_end (replay, by) =
+    let law = replayed P J K run.eager within (replay, (by.messages_end, by.ends)) in
+    let same : IsSaidToTheEnd end → K ≡ J = λ said. law.same (run_ended started S reply P J log faults new_faults end said run) in
+    record { begins = law.begins; same = same; ends = ends_or_not started S reply P J log faults new_faults end K replay_end run same by }

@@ -1,0 +1,122 @@
+-- What was said of a run is an outcome of its record, and a record has one.
+use Rattle.std.proofs.Common.{◌≡◌, true, ℕ, ◌≤◌, List, None, Some, Err, length, refl, subst, ◌⊎◌, inl, inr}
+use Rattle.std.specs.Prelude.{IsSome}
+use Rattle.mk_plan.specs.declared.Plan.{Plan}
+use Rattle.mk_plan.specs.declared.Entry.{Entry}
+use Rattle.mk_plan.specs.Plans.{IsValidPlan}
+use Rattle.mk_plan.specs.Journals.{arrivals, got, sent, view}
+use Rattle.mk_plan.specs.Orderly.{IsEager}
+use Rattle.mk_plan.specs.Ready.{IsDone}
+use Rattle.mk_plan.specs.Report.{report}
+use Rattle.mk_plan.specs.Sequential.{Messages, all_ended, messages_in, run_items, sequential}
+use Rattle.mk_order.proofs.Headlines.{orderly_agrees, orderly_finished}
+use Rattle.mk_sched.specs.declared.faults.CoreFault.{CoreFault}
+use Rattle.mk_sched.specs.declared.faults.CoreFault.TheVariants as core
+use Rattle.mk_sched.specs.Answers.{fault_in}
+use Rattle.mk_run.specs.declared.outcome.Outcome.TheVariants as outcome
+use Rattle.mk_run.specs.Ends as runs
+use Rattle.mk_run.specs.Ends.{IsRun}
+use Rattle.mk_record_read.specs.Texts.{record_text}
+use Rattle.mk_record_laws.specs.Again.{IsRecordable, steps_of}
+use Rattle.mk_record_laws.proofs.Whole.{read_again}
+use Rattle.mk_record_replay.specs.declared.replaying.ReplayEnd.TheVariants as ends
+use Rattle.mk_record_replay.specs.Replays.{IsLastFaulty, IsReplay, messages_from}
+use Rattle.mk_record_replay.specs.Orders.{IsReplayBy}
+use Rattle.mk_record_replay.proofs.Pushing.{got_is}
+use Rattle.mk_record_report.proofs.Bare.{report_bare}
+use Rattle.mosaikrun_endings.specs.declared.ending.Ending.TheVariants.{Mem}
+use Rattle.mosaikrun_records.specs.Reports.{IsOutcome, IsReportOf}
+use Rattle.mosaikrun_records.proofs.OneOutcome.{one_outcome}
+use Rattle.mosaikrun_run.specs.declared.sayings.Form.TheVariants.{Report}
+use Rattle.mosaikrun_run.specs.Sayings.{saying_of}
+use Rattle.mosaikrun_again.specs.Saying.{ReplaysSayTheSame}
+use Rattle.mosaikrun_again.proofs.Replaying.{own_messages, own_other, whole}
+
+module _ (P : Plan) (J : List Entry) (valid : IsValidPlan P) (eager : IsEager P J) (within : length J ≤ P.entries) where
+  -- the journal is a replay of its own messages
+  own_replay : IsReplay P (arrivals J) J
+  own_replay = record { agrees = orderly_agrees P valid J eager.0; eager = eager; given = own_messages J; within = within }
+
+  module _ (recordable : IsRecordable P J) where
+    -- where all is done, the report of what was sent is that of the record
+    own_report : IsDone P (view P J) → IsReportOf (record_text P J) None (report P (sent J))
+    own_report done =
+        let finished = orderly_finished P valid J eager.0 done in
+        let all = whole P valid J eager done in
+        let same : got J ≡ messages_from (arrivals J) = λ k i. (got_is J i) k in record {
+          plan = P;
+          arrivals = arrivals J;
+          journal = J;
+          steps = Some (steps_of J);
+          read = read_again P J recordable;
+          valid = valid;
+          done = (own_replay, own_other J, all);
+          used = λ i low. subst (λ (R : Messages). messages_in (sequential P R i) ≡ R i) same (finished i low).used;
+          uncut = λ i low. subst (λ (R : Messages). all_ended (sequential P R i) ≡ true) same (finished i low).ended;
+          reported = report_bare P (sent J) (run_items P (messages_from (arrivals J))) all.sent;
+        }
+
+    -- it ends by the fault of its last message
+    own_end : (f : CoreFault) → IsLastFaulty P J f → IsReplayBy P (arrivals J) (Some (steps_of J)) None J (ends.Core f)
+    own_end f last = (own_replay, record { messages_end = ends.Core f; other = None; ends = inl last; compared = own_other J; is = refl })
+
+    -- and what is said of this fault is that of the record
+    own_ending : (ids : List (List ℕ)) (f : CoreFault) → IsSome (fault_in f) → IsLastFaulty P J f → IsOutcome (record_text P J) None (saying_of Report ids P J (outcome.Core f))
+    own_ending ids (core.Wrong s place cause) named last = record {
+      plan = P;
+      arrivals = arrivals J;
+      journal = J;
+      end = ends.Core (core.Wrong s place cause);
+      steps = Some (steps_of J);
+      read = read_again P J recordable;
+      valid = valid;
+      replayed = own_end (core.Wrong s place cause) last;
+      said = refl;
+    }
+    own_ending ids (core.Failed s place) named last = record {
+      plan = P;
+      arrivals = arrivals J;
+      journal = J;
+      end = ends.Core (core.Failed s place);
+      steps = Some (steps_of J);
+      read = read_again P J recordable;
+      valid = valid;
+      replayed = own_end (core.Failed s place) last;
+      said = refl;
+    }
+    own_ending ids (core.LoopLimit s time) named last = record {
+      plan = P;
+      arrivals = arrivals J;
+      journal = J;
+      end = ends.Core (core.LoopLimit s time);
+      steps = Some (steps_of J);
+      read = read_again P J recordable;
+      valid = valid;
+      replayed = own_end (core.LoopLimit s time) last;
+      said = refl;
+    }
+    own_ending ids (core.TooLong n) named last = absurd (cc)
+
+-- what is said of a named fault isn't that memory is wanting
+not_mem : (ids : List (List ℕ)) (P : Plan) (J : List Entry) (f : CoreFault) → saying_of Report ids P J (outcome.Core f) ≡ Err Mem → ⊥
+not_mem ids P J (core.Wrong s place cause) e = cc
+not_mem ids P J (core.Failed s place) e = cc
+not_mem ids P J (core.LoopLimit s time) e = cc
+not_mem ids P J (core.TooLong n) e = cc
+
+pub replays_say_the_same : ReplaysSayTheSame
+replays_say_the_same started S reply P J log faults new_faults outcome.Done run within recordable said ids o is not =
+    one_outcome (record_text P J) None o (saying_of Report ids P J outcome.Done) is (own_report P J run.valid run.eager within recordable run.shown) not (λ e. cc)
+replays_say_the_same started S reply P J log faults new_faults (outcome.Core f) run within recordable said ids o is not =
+    one_outcome (record_text P J) None o (saying_of Report ids P J (outcome.Core f)) is (own_ending P J run.valid run.eager within recordable ids f said (by_last run.shown)) not (not_mem ids P J f)
+  where
+    by_last : (runs.IsLastFaulty P J f ⊎ runs.IsFull P J f (runs.IsMessageLeft started S P J log)) → IsLastFaulty P J f
+    by_last (inl last) = record { before = last.before; sim = last.sim; message = last.message; is = last.is; right_before = last.right_before; named = last.named; fault = last.fault }
+    by_last (inr long) = absurd (let none : IsSome (fault_in (core.TooLong P.entries)) = subst (λ (g : CoreFault). IsSome (fault_in g)) long.named said in cc)
+replays_say_the_same started S reply P J log faults new_faults (outcome.Setup f) run within recordable said ids o is not = absurd said
+replays_say_the_same started S reply P J log faults new_faults outcome.Fleet run within recordable said ids o is not = absurd said
+replays_say_the_same started S reply P J log faults new_faults (outcome.Gone i) run within recordable said ids o is not = absurd said
+replays_say_the_same started S reply P J log faults new_faults (outcome.Garbled i n) run within recordable said ids o is not = absurd said
+replays_say_the_same started S reply P J log faults new_faults (outcome.LongFrame i n) run within recordable said ids o is not = absurd said
+replays_say_the_same started S reply P J log faults new_faults (outcome.LongItem i n) run within recordable said ids o is not = absurd said
+replays_say_the_same started S reply P J log faults new_faults outcome.Mem run within recordable said ids o is not = absurd said
