@@ -1,0 +1,4 @@
+pub mod Grouping
+pub mod Judging
+pub mod Parts
+pub mod Talking

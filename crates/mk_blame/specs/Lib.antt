@@ -1,0 +1,4 @@
+pub mod Talks
+pub mod Verdicts
+pub mod Written
+pub mod inner

@@ -1,0 +1,93 @@
+// The text of a verdict.
+ghost use Rattle.std.specs.Prelude.{◌≡◌, ◌++◌, true, IfOk, OnOk};
+ghost use Rattle.std.specs.Fmt.{decimal, signed_decimal};
+ghost use Rattle.mk_plan.specs.Plans.{sim_id};
+ghost use Rattle.mk_message.specs.Written.{message_text, is_in_range};
+ghost use Rattle.mk_blame.specs.Written.{is_writable, lines_of, may_be_written, verdict_text};
+
+use crate::verdict::{Blamed, Verdict};
+use mk_base::{Mem, SimNo};
+use mk_message::write;
+use mk_plan::{Message, Plan};
+use std::alloc::Global;
+
+/// The text of a verdict on two journals of this plan: for each simulator to blame its id, the
+/// place of its message, the time of its step there, and both messages; and at the end how many
+/// there are. If all is equal, that alone.
+pub fn write_verdict(alloc: Global, plan: &Plan, verdict: &Verdict) -> Result<Vec<u8>, Mem>
+    requires { is_writable verdict.now ≡ true }
+    ensures { IfOk result (λ text. text.items ≡ verdict_text plan.now verdict.now) }
+{
+    let mut out = Vec::new(alloc);
+    match verdict {
+        Verdict::Equal => put(&mut out, "equal\n")?,
+        Verdict::Blamed(blamed) => {
+            for one in blamed.as_slice() {
+                put_blamed(alloc, &mut out, plan, one)?;
+            }
+            put(&mut out, "blamed ")?;
+            put_number(&mut out, blamed.len() as u64)?;
+            put(&mut out, "\n")?;
+        }
+    }
+    Ok(out)
+}
+
+// Appends the lines of a simulator that is to blame.
+fn put_blamed(alloc: Global, out: &mut Vec<u8>, plan: &Plan, blamed: &Blamed) -> Result<(), Mem>
+    requires { may_be_written blamed.now ≡ true }
+    ensures { OnOk result (out.new.items ≡ out.old.items ++ lines_of plan.now blamed.now) }
+{
+    put_id(out, plan, blamed.sim)?;
+    put(out, " message ")?;
+    put_number(out, blamed.place)?;
+    put(out, " step ")?;
+    put_time(out, &blamed.at.time)?;
+    put(out, ":")?;
+    put_number(out, blamed.at.tier as u64)?;
+    put(out, "\nfirst ")?;
+    put_message(alloc, out, &blamed.first)?;
+    put(out, "\nsecond ")?;
+    put_message(alloc, out, &blamed.second)?;
+    put(out, "\n")
+}
+
+fn put_id(out: &mut Vec<u8>, plan: &Plan, sim: SimNo) -> Result<(), Mem>
+    ensures { OnOk result (out.new.items ≡ out.old.items ++ sim_id plan.now sim.0) }
+{
+    match plan.sims.get(sim.0 as usize) {
+        Some(part) => put(out, part.id.as_str()),
+        None => Ok(()),
+    }
+}
+
+fn put_message(alloc: Global, out: &mut Vec<u8>, message: &Message) -> Result<(), Mem>
+    requires { is_in_range message.now ≡ true }
+    ensures { OnOk result (out.new.items ≡ out.old.items ++ message_text message.now) }
+{
+    out.extend_from_slice(write(alloc, message)?.as_slice())?;
+    Ok(())
+}
+
+fn put(out: &mut Vec<u8>, text: &str) -> Result<(), Mem>
+    ensures { OnOk result (out.new.items ≡ out.old.items ++ text.now) }
+{
+    out.extend_from_slice(text.as_bytes())?;
+    Ok(())
+}
+
+fn put_number(out: &mut Vec<u8>, n: u64) -> Result<(), Mem>
+    ensures { OnOk result (out.new.items ≡ out.old.items ++ decimal n) }
+{
+    let mut buffer = itoa::Buffer::new();
+    out.extend_from_slice(buffer.format(n).as_bytes())?;
+    Ok(())
+}
+
+fn put_time(out: &mut Vec<u8>, n: &i64) -> Result<(), Mem>
+    ensures { OnOk result (out.new.items ≡ out.old.items ++ signed_decimal n.now) }
+{
+    let mut buffer = itoa::Buffer::new();
+    out.extend_from_slice(buffer.format(*n).as_bytes())?;
+    Ok(())
+}
