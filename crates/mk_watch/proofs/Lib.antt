@@ -1,0 +1,4 @@
+mod Gathering
+mod Shared
+pub mod Whole
+mod Written
