@@ -2,20 +2,22 @@
 use Rattle.std.specs.Prelude.{ℕ, ◌||◌, List, ◌∷◌, ◌++◌, map, flat_map, ◌==◌, if◌then◌else◌, codes, Result, Ok, Err}
 use Rattle.std.specs.Fmt.{decimal, signed_decimal}
 use Rattle.mosaikrun_endings.specs.declared.ending.Ending.{Ending}
-use Rattle.mosaikrun_endings.specs.declared.ending.Ending.TheVariants.{Usage, Missing, TooLong, Scenario, Cycle, Launch, Setup, Record, Wrong, Failed, LoopLimit, Link, Short, Differs, Fleet, Folder, Output, Entries, LongItem, Mem}
+use Rattle.mosaikrun_endings.specs.declared.ending.Ending.TheVariants.{Usage, Missing, TooLong, Scenario, Watches, Cycle, Launch, Setup, Record, Wrong, Failed, LoopLimit, Link, Short, Differs, OtherPlan, Fleet, Folder, Output, Entries, LongItem, Mem}
 use Rattle.mosaikrun_endings.specs.Launches.{text_of_launch}
 use Rattle.mosaikrun_endings.specs.Links.{text_of_link}
 use Rattle.mosaikrun_endings.specs.Scenarios.{text_of_scenario}
 use Rattle.mosaikrun_endings.specs.Setups.{text_of_setup}
+use Rattle.mosaikrun_endings.specs.Watches.{text_of_watches}
 
 -- what is said of it
 abbrev pub text_of : Ending → List ℕ
 text_of Usage = codes
-    "usage: run SCENARIO [--record FILE] or replay RECORD [--order N] or check SCENARIO or demo N or migrate OLD NEW"
+    "usage: run SCENARIO [--record FILE] or replay RECORD [--order N] or check SCENARIO or demo N or migrate OLD NEW or watch RECORD SPEC or blame FIRST SECOND"
 text_of (Missing name) = name ++ codes ": no such file"
 text_of (TooLong name count) = name ++ codes ": " ++ decimal count
     ++ codes " bytes, limit 536870912"
 text_of (Scenario fault) = text_of_scenario fault
+text_of (Watches fault) = text_of_watches fault
 text_of (Cycle sims) = codes "connect 8: cycle" ++ flat_map (λ id. 32 ∷ id) sims
 text_of (Launch sim fault) = text_of_launch sim fault
 text_of (Setup setup) = text_of_setup setup
@@ -30,6 +32,7 @@ text_of (Link sim fault) = text_of_link sim fault
 text_of (Short outstanding) = codes "run 8: record ends with " ++ decimal outstanding
     ++ codes " outstanding"
 text_of (Differs entry) = codes "run 9: record entry " ++ decimal entry ++ codes " differs"
+text_of (OtherPlan part) = codes "run 10: record of another plan (" ++ decimal part ++ codes ")"
 text_of Fleet = codes "outside: fleet"
 text_of Folder = codes "outside: folder"
 text_of Output = codes "outside: output"
@@ -52,6 +55,7 @@ status_of Usage = 2
 status_of (Missing name) = 3
 status_of (TooLong name count) = 3
 status_of (Scenario fault) = 3
+status_of (Watches fault) = 3
 status_of (Cycle sims) = 3
 status_of (Launch sim fault) = 3
 status_of (Setup setup) = 4
@@ -62,6 +66,7 @@ status_of (LoopLimit sim time) = 5
 status_of (Link sim fault) = 5
 status_of (Short outstanding) = 5
 status_of (Differs entry) = 5
+status_of (OtherPlan part) = 5
 status_of Fleet = 6
 status_of Folder = 6
 status_of Output = 6

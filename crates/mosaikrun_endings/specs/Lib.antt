@@ -3,3 +3,4 @@ pub mod Launches
 pub mod Scenarios
 pub mod Links
 pub mod Setups
+pub mod Watches

@@ -6,6 +6,7 @@ use crate::setup::SetupEnding;
 use mk_base::{List, Text};
 use mk_launch::LaunchFault;
 use mk_scenario::ScenarioFault;
+use mk_watch_read::WatchFault;
 
 /// Why a command has no text to print. Each has one status and one line on the error output (`docs/messages.md`).
 #[derive(Drop)]
@@ -18,6 +19,8 @@ pub enum Ending {
     TooLong { name: Text, count: u64 },
     /// The file is no scenario, by the first test that it fails.
     Scenario(ScenarioFault),
+    /// The file says no watches, by the first test that it fails.
+    Watches(WatchFault),
     /// Plain connections and asynchronous pairs lead in a circle, through these simulators.
     Cycle { sims: List<Text> },
     /// A simulator of the scenario can't be begun.
@@ -38,6 +41,9 @@ pub enum Ending {
     Short { outstanding: u32 },
     /// The record's entry of this number, from 0, isn't the journal's.
     Differs { entry: u32 },
+    /// The record is of another plan than the one that it is compared with: this part of it, counted from 1, is the first that
+    /// differs.
+    OtherPlan { part: u8 },
     /// The links to the simulators failed.
     Fleet,
     /// The folder failed.
@@ -72,11 +78,13 @@ impl Ending {
         match self {
             Ending::Usage => 2,
             Ending::Missing { .. } | Ending::TooLong { .. } => 3,
+            Ending::Watches(_) => 3,
             Ending::Scenario(_) | Ending::Cycle { .. } | Ending::Launch { .. } => 3,
             Ending::Record { .. } => 3,
             Ending::Setup(_) => 4,
             Ending::Wrong { .. } | Ending::Failed { .. } | Ending::LoopLimit { .. } => 5,
             Ending::Link { .. } | Ending::Short { .. } | Ending::Differs { .. } => 5,
+            Ending::OtherPlan { .. } => 5,
             Ending::Fleet | Ending::Folder | Ending::Output => 6,
             Ending::Entries { .. } | Ending::LongItem { .. } => 7,
             Ending::Mem => 8,

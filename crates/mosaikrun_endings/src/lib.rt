@@ -7,6 +7,7 @@ mod lines;
 mod links;
 mod scenario;
 mod setup;
+mod watches;
 
 pub use ending::Ending;
 pub use links::LinkFault;

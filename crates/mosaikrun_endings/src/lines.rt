@@ -8,6 +8,7 @@ use crate::launch::put_launch;
 use crate::links::put_link;
 use crate::scenario::put_scenario;
 use crate::setup::put_setup;
+use crate::watches::put_watches;
 use mk_base::{List, Text};
 use std::alloc::{AllocError, Global};
 
@@ -35,11 +36,12 @@ impl Ending {
         match self {
             Ending::Usage => put(
                 out,
-                "usage: run SCENARIO [--record FILE] or replay RECORD [--order N] or check SCENARIO or demo N or migrate OLD NEW",
+                "usage: run SCENARIO [--record FILE] or replay RECORD [--order N] or check SCENARIO or demo N or migrate OLD NEW or watch RECORD SPEC or blame FIRST SECOND",
             ),
             Ending::Missing { name } => put_missing(out, name),
             Ending::TooLong { name, count } => put_too_long(alloc, out, name, *count),
             Ending::Scenario(fault) => put_scenario(alloc, out, fault),
+            Ending::Watches(fault) => put_watches(out, fault),
             Ending::Cycle { sims } => put_cycle(out, sims),
             Ending::Launch { sim, fault } => put_launch(alloc, out, sim, fault),
             Ending::Setup(setup) => put_setup(alloc, out, setup),
@@ -58,6 +60,13 @@ impl Ending {
             Ending::Differs { entry } => {
                 put_count(alloc, out, "run 9: record entry ", *entry, " differs")
             }
+            Ending::OtherPlan { part } => put_count(
+                alloc,
+                out,
+                "run 10: record of another plan (",
+                u32::from(*part),
+                ")",
+            ),
             Ending::Fleet => put(out, "outside: fleet"),
             Ending::Folder => put(out, "outside: folder"),
             Ending::Output => put(out, "outside: output"),
@@ -191,6 +200,32 @@ fn put_wrong(
     put_number(alloc, out, place)?;
     put(out, " cause ")?;
     put_number(alloc, out, cause as u64)
+}
+
+// Puts into an empty text these words, and a text behind them.
+pub fn put_after(out: &mut Vec<u8>, words: &str, text: &Text) -> Result<(), AllocError>
+    requires { out.old.items ≡ [] }
+    ensures { OnOk result (out.new.items ≡ words.now ++ text.now) }
+{
+    put(out, words)?;
+    put(out, text.as_str())
+}
+
+// Puts into an empty text two texts, each behind its words.
+pub fn put_two(
+    out: &mut Vec<u8>,
+    words: &str,
+    text: &Text,
+    more: &str,
+    other: &Text,
+) -> Result<(), AllocError>
+    requires { out.old.items ≡ [] }
+    ensures { OnOk result (out.new.items ≡ words.now ++ text.now ++ more.now ++ other.now) }
+{
+    put(out, words)?;
+    put(out, text.as_str())?;
+    put(out, more)?;
+    put(out, other.as_str())
 }
 
 // Puts a text.

@@ -1,9 +1,8 @@
 // What is said of a file that is no scenario.
-ghost use Rattle.std.specs.Prelude.{◌≡◌, [], ◌++◌, OnOk};
+ghost use Rattle.std.specs.Prelude.{◌≡◌, [], OnOk};
 ghost use Rattle.mosaikrun_endings.specs.Scenarios.{text_of_scenario};
 
-use crate::lines::{put, put_number};
-use mk_base::Text;
+use crate::lines::{put, put_after, put_number, put_two};
 use mk_scenario::ScenarioFault;
 use std::alloc::{AllocError, Global};
 
@@ -46,30 +45,4 @@ pub fn put_scenario(
         }
         ScenarioFault::Mem => put(out, "out of memory"),
     }
-}
-
-// Puts into an empty text these words, and a text behind them.
-fn put_after(out: &mut Vec<u8>, words: &str, text: &Text) -> Result<(), AllocError>
-    requires { out.old.items ≡ [] }
-    ensures { OnOk result (out.new.items ≡ words.now ++ text.now) }
-{
-    put(out, words)?;
-    put(out, text.as_str())
-}
-
-// Puts into an empty text two texts, each behind its words.
-fn put_two(
-    out: &mut Vec<u8>,
-    words: &str,
-    text: &Text,
-    more: &str,
-    other: &Text,
-) -> Result<(), AllocError>
-    requires { out.old.items ≡ [] }
-    ensures { OnOk result (out.new.items ≡ words.now ++ text.now ++ more.now ++ other.now) }
-{
-    put(out, words)?;
-    put(out, text.as_str())?;
-    put(out, more)?;
-    put(out, other.as_str())
 }
