@@ -1,5 +1,5 @@
 -- For proofs alone. The record of a replay whose messages all came, and what is said where they didn't.
-use Rattle.std.proofs.Common.{◌≡◌, ℕ, suc, ◌+◌, ◌<◌, ◌≤◌, ◌==◌, get_or, take, if◌then◌else◌, Bool, true, false, List, [], ◌∷◌, ◌++◌, length, map, Option, Some, None, All, refl, sym, ap, ◌∙◌, subst, arith, length-append}
+use Rattle.std.proofs.Common.{◌≡◌, ℕ, suc, ◌+◌, ◌<◌, ◌≤◌, ◌==◌, get_or, take, if◌then◌else◌, Bool, true, false, List, [], ◌∷◌, ◌++◌, length, map, Option, Some, None, All, refl, sym, ap, ◌∙◌, subst, arith, length-append, inl, inr}
 use Rattle.std.specs.List.{list_all}
 use Rattle.std.proofs.lemmas.Bool.{and_from, eqb-true, eq-eqb, true≢false}
 use Rattle.std.proofs.lemmas.List.{take_more}
@@ -23,11 +23,12 @@ use Rattle.mk_record_laws.proofs.Whole.{read_again}
 use Rattle.mk_record_laws.proofs.Recorded.{recordable}
 use Rattle.mk_sched.specs.declared.faults.CoreFault.{CoreFault}
 use Rattle.mk_sched.specs.declared.faults.CoreFault.TheVariants as core
-use Rattle.mk_record.specs.Replays.{EndsBy, IsEndOf, IsLeft, end_with}
+use Rattle.mk_record.specs.Replays.{EndsBy, IsLeft, end_with}
 use Rattle.mk_record.specs.Orders.{IsReplayBy}
 use Rattle.mk_record.specs.ReplayEnd.{ReplayEnd}
 use Rattle.mk_record.specs.ReplayEnd.TheVariants.{Done, Core, Short, Other}
 use Rattle.mosaikrun_records.specs.Reports.{IsSaidOf}
+use Rattle.mosaikrun_records.specs.Saved.{IsUnread}
 use Rattle.mosaikrun_sayings.specs.Stops.{stop_of}
 use Rattle.mosaikrun_endings.specs.declared.ending.Ending.{Ending}
 use Rattle.mosaikrun_endings.specs.declared.ending.Ending.TheVariants.{Differs}
@@ -149,3 +150,8 @@ module _ (P : Plan) (A : List Arrival) (steps : Option (List Asked)) (J : List E
         let named : e ≡ stop_of P J f = said ∙ ap (λ (X : Plan). stop_of X J f) same in
         subst (Unmigrated bytes) (sym named)
         (as_stopped f (no_record (stop_of P J f) (subst (IsLost A J) (sym is) (some_left J A replayed.0.given apart)) (subst (λ (x : ReplayEnd). IsSaidOf P J x (stop_of P J f)) (sym is) refl)))
+
+-- what is no record has no migration
+pub unread_unmigrated : (bytes : List ℕ) (e : Ending) → IsUnread bytes e → Unmigrated bytes e
+unread_unmigrated bytes e (inl wanting) = subst (Unmigrated bytes) (sym wanting) tt
+unread_unmigrated bytes e (inr fault) = subst (Unmigrated bytes) (sym fault.2) fault.3

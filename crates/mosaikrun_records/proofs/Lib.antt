@@ -1,4 +1,5 @@
 mod Keeping
 pub mod OneMigration
 pub mod OneOutcome
+pub mod OneReplay
 pub mod WholeRuns

@@ -1,5 +1,5 @@
 -- For proofs alone. One record has one migration.
-use Rattle.std.proofs.Common.{◌≡◌, ℕ, ◌+◌, List, [], ◌∷◌, ◌++◌, length, Option, Some, None, Result, Ok, Err, ◌⊎◌, inl, inr, refl, sym, ap, ◌∙◌, subst, arith, length-append}
+use Rattle.std.proofs.Common.{◌≡◌, ℕ, List, ◌∷◌, length, Option, None, Result, Ok, Err, ◌⊎◌, inl, inr, refl, sym, ap, ◌∙◌, subst, arith, length-append}
 use Rattle.mk_plan.specs.declared.Plan.{Plan}
 use Rattle.mk_plan.specs.declared.Entry.{Entry}
 use Rattle.mk_plan.specs.Journals.{Arrival, arrivals}
@@ -12,7 +12,7 @@ use Rattle.mk_record.specs.ReplayEnd.TheVariants as ends
 use Rattle.mosaikrun_records.specs.Reports.{IsSaidOf}
 use Rattle.mosaikrun_records.proofs.OneOutcome.{same_plan, same_arrivals, same_end}
 use Rattle.mosaikrun_endings.specs.declared.ending.Ending.{Ending}
-use Rattle.mosaikrun_endings.specs.declared.ending.Ending.TheVariants.{Usage, Missing, TooLong, Scenario, Cycle, Launch, Setup, Record, Wrong, Failed, LoopLimit, Link, Short, Differs, Fleet, Folder, Output, Entries, LongItem, Mem}
+use Rattle.mosaikrun_endings.specs.declared.ending.Ending.TheVariants.{Usage, Missing, TooLong, Scenario, Watches, Cycle, Launch, Setup, Record, Wrong, Failed, LoopLimit, Link, Short, Differs, OtherPlan, Fleet, Folder, Output, Entries, LongItem, Mem}
 use Rattle.mosaikrun_records.specs.Migrations.{IsKept, IsLost, IsRecordOf, IsNoRecordOf, IsMigration, Unmigrated}
 
 -- of an end one thing is said
@@ -73,6 +73,7 @@ cause_of bytes Usage h = absurd h
 cause_of bytes (Missing name) h = absurd h
 cause_of bytes (TooLong name count) h = absurd h
 cause_of bytes (Scenario fault) h = absurd h
+cause_of bytes (Watches fault) h = absurd h
 cause_of bytes (Cycle sims) h = absurd h
 cause_of bytes (Launch sim fault) h = absurd h
 cause_of bytes (Record line fault) h = inr (faulty line fault h)
@@ -81,6 +82,7 @@ cause_of bytes (Failed sim text) h = inr (stopped (Failed sim text) h)
 cause_of bytes (LoopLimit sim time) h = inr (stopped (LoopLimit sim time) h)
 cause_of bytes (Short outstanding) h = absurd h
 cause_of bytes (Differs entry) h = inr (stopped (Differs entry) h)
+cause_of bytes (OtherPlan part) h = absurd h
 cause_of bytes Folder h = absurd h
 cause_of bytes (Setup setup) h = absurd h
 cause_of bytes (Link sim fault) h = absurd h

@@ -13,7 +13,7 @@ use Rattle.mk_record.specs.ReplayEnd.{ReplayEnd}
 use Rattle.mk_record.specs.ReplayEnd.TheVariants as ends
 use Rattle.mk_record_replay.proofs.OneOrder.{one_replay_by}
 use Rattle.mosaikrun_endings.specs.declared.ending.Ending.{Ending}
-use Rattle.mosaikrun_endings.specs.declared.ending.Ending.TheVariants.{Usage, Missing, TooLong, Scenario, Cycle, Launch, Setup, Record, Wrong, Failed, LoopLimit, Link, Short, Differs, Fleet, Folder, Output, Entries, LongItem, Mem}
+use Rattle.mosaikrun_endings.specs.declared.ending.Ending.TheVariants.{Usage, Missing, TooLong, Scenario, Watches, Cycle, Launch, Setup, Record, Wrong, Failed, LoopLimit, Link, Short, Differs, OtherPlan, Fleet, Folder, Output, Entries, LongItem, Mem}
 use Rattle.mosaikrun_records.specs.Reports.{IsDoneBy, IsReportOf, IsStopped, IsSaidOf, IsOutcome, Unreported}
 
 -- the record of bytes that are read as two is one
@@ -51,7 +51,7 @@ one_text bytes order other t u r q =
     ∙ ap (λ (A : List Arrival). report q.plan (run_items q.plan (messages_from A))) came ∙ sym q.reported
 
 -- all done is an end
-done_is : (P : Plan) (A : List Arrival) (steps : Option (List Asked)) (order : Option ℕ) (J : List Entry) → IsDoneBy P A steps order J → IsReplayBy P A steps order J ends.Done
+pub done_is : (P : Plan) (A : List Arrival) (steps : Option (List Asked)) (order : Option ℕ) (J : List Entry) → IsDoneBy P A steps order J → IsReplayBy P A steps order J ends.Done
 done_is P A steps None J done = (done.0, record { messages_end = ends.Done; other = None; ends = done.2; compared = done.1; is = refl })
 done_is P A steps (Some N) J done = done
 
@@ -63,7 +63,7 @@ not_both bytes order t e r q =
     let said : IsSaidOf q.plan q.journal ends.Done e = subst (λ (x : ReplayEnd). IsSaidOf q.plan q.journal x e) (sym one.1) q.said in
     said
 
-one_stop : (bytes : List ℕ) (order : Option ℕ) (e f : Ending) → IsStopped bytes order e → IsStopped bytes order f → e ≡ f
+pub one_stop : (bytes : List ℕ) (order : Option ℕ) (e f : Ending) → IsStopped bytes order e → IsStopped bytes order f → e ≡ f
 one_stop bytes order e f r q =
     let same = sym r.read ∙ q.read in
     let plan = same_plan r.plan q.plan r.arrivals q.arrivals r.steps q.steps same in
@@ -83,6 +83,7 @@ cause_of bytes order Usage h = absurd h
 cause_of bytes order (Missing name) h = absurd h
 cause_of bytes order (TooLong name count) h = absurd h
 cause_of bytes order (Scenario fault) h = absurd h
+cause_of bytes order (Watches fault) h = absurd h
 cause_of bytes order (Cycle sims) h = absurd h
 cause_of bytes order (Launch sim fault) h = absurd h
 cause_of bytes order (Record line fault) h = inr (faulty line fault h)
@@ -91,6 +92,7 @@ cause_of bytes order (Failed sim text) h = inr (stopped (Failed sim text) h)
 cause_of bytes order (LoopLimit sim time) h = inr (stopped (LoopLimit sim time) h)
 cause_of bytes order (Short outstanding) h = inr (stopped (Short outstanding) h)
 cause_of bytes order (Differs entry) h = inr (stopped (Differs entry) h)
+cause_of bytes order (OtherPlan part) h = absurd h
 cause_of bytes order Folder h = absurd h
 cause_of bytes order (Setup setup) h = absurd h
 cause_of bytes order (Link sim fault) h = absurd h
@@ -101,10 +103,10 @@ cause_of bytes order (Entries entries) h = inr (stopped (Entries entries) h)
 cause_of bytes order Mem h = inl refl
 
 -- a record with a fault is none that is said
-faulty_not : (P : Plan) (A : List Arrival) (s : Option (List Asked)) (line fault : ℕ) → Said P A s ≡ Faulty line fault → ⊥
+pub faulty_not : (P : Plan) (A : List Arrival) (s : Option (List Asked)) (line fault : ℕ) → Said P A s ≡ Faulty line fault → ⊥
 faulty_not P A s line fault same = cc
 
-same_fault : (line fault l f : ℕ) → Faulty line fault ≡ Faulty l f → Record line fault ≡ Record l f
+pub same_fault : (line fault l f : ℕ) → Faulty line fault ≡ Faulty l f → Record line fault ≡ Record l f
 same_fault line fault l f same =
     let lines : line ≡ l = cc in
     let faults : fault ≡ f = cc in

@@ -1,19 +1,16 @@
 -- A whole replay sends what sequential execution over the arrivals sends, line for line.
-use Rattle.std.proofs.Common.{◌≡◌, ℕ, suc, ◌+◌, ◌<◌, ◌≤◌, Bool, true, false, List, [], ◌∷◌, ◌++◌, length, map, filter, refl, sym, ap, ◌∙◌, subst, arith, Option, Some, None}
+use Rattle.std.proofs.Common.{◌≡◌, ℕ, ◌<◌, Bool, true, false, List, [], ◌∷◌, map, refl, sym, ap, ◌∙◌, subst, Option, Some, None, inl, inr, Result, Err, IfErr}
 use Rattle.std.proofs.Math.Path.{fun_ext}
-use Rattle.std.specs.Prelude.{flat_map, sum, codes, ◌==◌, if◌then◌else◌}
-use Rattle.std.specs.Fmt.{decimal}
-use Rattle.std.specs.List.{enumerate_from, cons_option}
+use Rattle.std.specs.Prelude.{◌==◌, if◌then◌else◌}
+use Rattle.std.specs.List.{cons_option}
 use Rattle.mk_plan.specs.declared.Plan.{Plan}
-use Rattle.mk_plan.specs.declared.Item.{Item}
-use Rattle.mk_plan.specs.declared.Item.TheVariants.{Step, GetData, Answer, Refuse}
 use Rattle.mk_plan.specs.declared.Message.{Message}
 use Rattle.mk_plan.specs.declared.Entry.{Entry}
 use Rattle.mk_plan.specs.declared.Entry.TheVariants.{Sent, Got}
 use Rattle.mk_plan.specs.Plans.{IsValidPlan, sim_count}
 use Rattle.mk_plan.specs.Journals.{Arrival, arrivals, bare, got, sent}
 use Rattle.mk_plan.specs.Sequential.{Messages, run_items, sequential, all_ended, messages_in}
-use Rattle.mk_plan.specs.Report.{report, line_of, is_step}
+use Rattle.mk_plan.specs.Report.{report}
 use Rattle.mk_record.specs.Reading.{reading, Said}
 use Rattle.mk_record.specs.Asked.{Asked}
 use Rattle.mk_record.specs.Differences.{IsOther}
@@ -23,9 +20,12 @@ use Rattle.mk_record.specs.Orders.{IsReplayBy, IsReplayInOrder}
 use Rattle.mk_record.specs.ReplayEnd.{ReplayEnd}
 use Rattle.mk_record.specs.ReplayEnd.TheVariants.{Done, Core, Short, Other}
 use Rattle.mk_record_report.proofs.Bare.{report_bare}
-use Rattle.mosaikrun_records.specs.Reports.{IsDoneBy, IsReportOf, IsStopped, Unreported}
+use Rattle.mosaikrun_records.specs.Reports.{IsDoneBy, IsReportOf, IsSaidOf, IsStopped, Unreported}
+use Rattle.mosaikrun_records.specs.Saved.{IsUnfinished, IsUnread}
+use Rattle.mosaikrun_records.specs.inner.Saved.{IsSaidOrMemory}
 use Rattle.mosaikrun_sayings.specs.Stops.{stop_of}
 use Rattle.mosaikrun_endings.specs.declared.ending.Ending.{Ending}
+use Rattle.mosaikrun_endings.specs.declared.ending.Ending.TheVariants.{Short as ShortEnding, Differs, Mem}
 use Rattle.mk_sched.specs.declared.faults.CoreFault.{CoreFault}
 use Rattle.mk_sched.specs.declared.faults.CoreFault.TheVariants as core
 
@@ -51,7 +51,7 @@ done_ends (Short k) None is = cc
 done_ends (Short k) (Some n) is = cc
 
 -- a replay that has come to its end with all done is done
-done_by : (P : Plan) (A : List Arrival) (steps : Option (List Asked)) (order : Option ℕ) (J : List Entry) (end : ReplayEnd) → IsReplayBy P A steps order J end → end ≡ Done → IsDoneBy P A steps order J
+pub done_by : (P : Plan) (A : List Arrival) (steps : Option (List Asked)) (order : Option ℕ) (J : List Entry) (end : ReplayEnd) → IsReplayBy P A steps order J end → end ≡ Done → IsDoneBy P A steps order J
 done_by P A steps None J end r done =
     let so = done_ends r.1.messages_end r.1.other (sym done ∙ r.1.is) in
     (r.0, subst (λ (n : Option ℕ). IsOther A steps J n) so.1 r.1.compared, subst (λ e. EndsBy P A J e) so.0 r.1.ends)
@@ -76,10 +76,9 @@ all_sent P A steps None J done = whole_sent P A A J (λ i. refl) done.2
 all_sent P A steps (Some N) J done = whole_sent P A done.order J done.same done.ends
 
 -- the report of a replay that ends with all done is that of the sequential execution of its plan over the messages that came
-pub report_done : (bytes text : List ℕ) (P Q : Plan) (A : List Arrival) (steps : Option (List Asked)) (order : Option ℕ) (J : List Entry) (end : ReplayEnd)
-    → reading bytes ≡ Said P A steps → IsValidPlan P → Q ≡ P → IsReplayBy P A steps order J end → end ≡ Done → text ≡ report Q (sent J) → IsReportOf bytes order text
-report_done bytes text P Q A steps order J end read valid same replayed done reported =
-    let by : IsDoneBy P A steps order J = done_by P A steps order J end replayed done in
+pub report_done : (bytes text : List ℕ) (P Q : Plan) (A : List Arrival) (steps : Option (List Asked)) (order : Option ℕ) (J : List Entry)
+    → reading bytes ≡ Said P A steps → IsValidPlan P → Q ≡ P → IsDoneBy P A steps order J → text ≡ report Q (sent J) → IsReportOf bytes order text
+report_done bytes text P Q A steps order J read valid same by reported =
     let all : IsAllSent P A J = all_sent P A steps order J by in
     record {
       plan = P;
@@ -94,25 +93,57 @@ report_done bytes text P Q A steps order J end read valid same replayed done rep
       reported = reported ∙ ap (λ S. report S (sent J)) same ∙ report_bare P (sent J) (run_items P (messages_from A)) all.sent;
     }
 
--- a replay that a fault of the core ends has no report
+-- ---- a replay that isn't done
+
+-- what is said of its end
+module _ (P : Plan) (J : List Entry) (end : ReplayEnd) where
+  pub said_short : (n : ℕ) → end ≡ Short n → IsSaidOrMemory P J end (ShortEnding n)
+  said_short n is = inr (subst (λ (x : ReplayEnd). IsSaidOf P J x (ShortEnding n)) (sym is) refl)
+
+  pub said_other : (n : ℕ) → end ≡ Other n → IsSaidOrMemory P J end (Differs n)
+  said_other n is = inr (subst (λ (x : ReplayEnd). IsSaidOf P J x (Differs n)) (sym is) refl)
+
+-- it ends as is said
+pub unfinished : (P Q : Plan) (A : List Arrival) (steps : Option (List Asked)) (order : Option ℕ) (J : List Entry) (end : ReplayEnd) (e : Ending)
+    → IsValidPlan P → Q ≡ P → IsReplayBy P A steps order J end → IsSaidOrMemory Q J end e → (bytes : List ℕ) → reading bytes ≡ Said P A steps → IsUnfinished bytes order e
+unfinished P Q A steps order J end e valid same replayed (inl wanting) bytes read = inl wanting
+unfinished P Q A steps order J end e valid same replayed (inr said) bytes read = inr (record {
+  plan = P;
+  arrivals = A;
+  journal = J;
+  end = end;
+  steps = steps;
+  read = read;
+  valid = valid;
+  replayed = replayed;
+  said = subst (λ (X : Plan). IsSaidOf X J end e) same said;
+})
+
+-- what answers an ending
+pub if_err : {A E : Type 0} (r : Result A E) (e : E) (F : E → Type 0) → r ≡ Err e → F e → IfErr r F
+if_err {A} {E} r e F is holds = subst (λ (x : Result A E). IfErr x F) (sym is) holds
+
+-- and has no report
 as_stopped : (bytes : List ℕ) (order : Option ℕ) (P : Plan) (J : List Entry) (fault : CoreFault) → IsStopped bytes order (stop_of P J fault) → Unreported bytes order (stop_of P J fault)
 as_stopped bytes order P J (core.Wrong s place cause) h = h
 as_stopped bytes order P J (core.Failed s place) h = h
 as_stopped bytes order P J (core.LoopLimit s time) h = h
 as_stopped bytes order P J (core.TooLong count) h = h
 
-pub stopped_by : (bytes : List ℕ) (order : Option ℕ) (P Q : Plan) (A : List Arrival) (steps : Option (List Asked)) (J : List Entry) (end : ReplayEnd) (fault : CoreFault) (e : Ending)
-    → reading bytes ≡ Said P A steps → IsValidPlan P → Q ≡ P → IsReplayBy P A steps order J end → end ≡ Core fault → e ≡ stop_of Q J fault → Unreported bytes order e
-stopped_by bytes order P Q A steps J end fault e read valid same replayed ended said =
-    let named : e ≡ stop_of P J fault = said ∙ ap (λ (X : Plan). stop_of X J fault) same in
-    subst (Unreported bytes order) (sym named) (as_stopped bytes order P J fault (record {
-      plan = P;
-      arrivals = A;
-      journal = J;
-      end = Core fault;
-      steps = steps;
-      read = read;
-      valid = valid;
-      replayed = subst (λ (x : ReplayEnd). IsReplayBy P A steps order J x) ended replayed;
-      said = refl;
-    }))
+module _ (bytes : List ℕ) (order : Option ℕ) where
+  by_end : (P : Plan) (J : List Entry) (end : ReplayEnd) (e : Ending) → IsSaidOf P J end e → IsStopped bytes order e → Unreported bytes order e
+  by_end P J Done e said s = absurd said
+  by_end P J (Short n) e said s = subst (Unreported bytes order) (sym said) (subst (IsStopped bytes order) said s)
+  by_end P J (Other n) e said s = subst (Unreported bytes order) (sym said) (subst (IsStopped bytes order) said s)
+  by_end P J (Core fault) e said s = subst (Unreported bytes order) (sym said) (as_stopped bytes order P J fault (subst (IsStopped bytes order) said s))
+
+  memory : (e : Ending) → e ≡ Mem → Unreported bytes order e
+  memory e is = subst (Unreported bytes order) (sym is) tt
+
+  pub unfinished_unreported : (e : Ending) → IsUnfinished bytes order e → Unreported bytes order e
+  unfinished_unreported e (inl wanting) = memory e wanting
+  unfinished_unreported e (inr s) = by_end s.plan s.journal s.end e s.said s
+
+  pub unread_unreported : (e : Ending) → IsUnread bytes e → Unreported bytes order e
+  unread_unreported e (inl wanting) = memory e wanting
+  unread_unreported e (inr fault) = subst (Unreported bytes order) (sym fault.2) fault.3

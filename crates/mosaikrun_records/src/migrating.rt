@@ -9,9 +9,10 @@ ghost use Rattle.mosaikrun_endings.specs.declared.ending.Ending.TheVariants as e
 ghost use Rattle.mosaikrun_records.specs.Migrations.{IsMigration, IsRecordOf, Unmigrated};
 ghost use Rattle.mosaikrun_records.specs.inner.Migrations.{is_message};
 
+use crate::saved::saved_of;
 use mk_base::Mem;
 use mk_plan::{Entry, Journal};
-use mk_record::{RecordFault, ReplayEnd, Replayed, read_record, replay, write_record};
+use mk_record::{ReplayEnd, Replayed, replay, write_record};
 use mosaikrun_endings::Ending;
 use mosaikrun_sayings::stopped;
 use std::alloc::Global;
@@ -23,11 +24,7 @@ pub fn migrated(alloc: Global, bytes: &[u8]) -> Result<Vec<u8>, Ending>
     ensures record { IfOk result (λ text. IsRecordOf bytes.now text.items) }
     ensures none { IfErr result (λ e. Unmigrated bytes.now e) }
 {
-    let saved = match read_record(alloc, bytes) {
-        Ok(saved) => saved,
-        Err(RecordFault::Line(line, fault)) => return Err(Ending::Record { line, fault }),
-        Err(RecordFault::Mem) => return Err(Ending::Mem),
-    };
+    let saved = saved_of(alloc, bytes)?;
     let count = saved.arrivals.len();
     let replayed = replay(alloc, saved, None)?;
     let all = has_messages(&replayed.journal, count);

@@ -4,9 +4,9 @@ ghost use Rattle.mosaikrun_endings.specs.declared.ending.Ending.{Ending};
 ghost use Rattle.mosaikrun_endings.specs.declared.ending.Ending.TheVariants as ends;
 ghost use Rattle.mosaikrun_records.specs.Reports.{IsOutcome, IsReportOf, Unreported};
 
-use mk_record::{RecordFault, ReplayEnd, read_record, replay, write_report};
+use crate::saved::{finished, saved_of};
+use mk_record::write_report;
 use mosaikrun_endings::Ending;
-use mosaikrun_sayings::stopped;
 use std::alloc::Global;
 
 /// The report of a record that is replayed in this order, or as its messages came; or why there is none.
@@ -14,18 +14,9 @@ pub fn reported(alloc: Global, bytes: &[u8], order: Option<u32>) -> Result<Vec<u
     ensures report { IfOk result (λ text. IsReportOf bytes.now order text.items) }
     ensures none { IfErr result (λ e. Unreported bytes.now order e) }
 {
-    let saved = match read_record(alloc, bytes) {
-        Ok(saved) => saved,
-        Err(RecordFault::Line(line, fault)) => return Err(Ending::Record { line, fault }),
-        Err(RecordFault::Mem) => return Err(Ending::Mem),
-    };
-    let replayed = replay(alloc, saved, order)?;
-    match replayed.end {
-        ReplayEnd::Done => Ok(write_report(alloc, &replayed.plan, &replayed.journal)?),
-        ReplayEnd::Short(outstanding) => Err(Ending::Short { outstanding }),
-        ReplayEnd::Other(entry) => Err(Ending::Differs { entry }),
-        ReplayEnd::Core(fault) => Err(stopped(alloc, &replayed.plan, &replayed.journal, fault)?),
-    }
+    let saved = saved_of(alloc, bytes)?;
+    let replayed = finished(alloc, saved, order)?;
+    Ok(write_report(alloc, &replayed.plan, &replayed.journal)?)
 }
 
 /// One record has one outcome in each order, want of memory aside: two texts or endings that `replay` may answer of the same

@@ -1,15 +1,17 @@
-use Rattle.std.proofs.Common.{map}
+use Rattle.std.proofs.Common.{map, arith}
 use Rattle.mk_record.specs.Seen.{came}
-use Rattle.mosaikrun_records.proofs.WholeRuns.{report_done, stopped_by}
+use Rattle.mosaikrun_records.proofs.WholeRuns.{report_done, unfinished_unreported, unread_unreported}
 use Rattle.mosaikrun_records.proofs.replaying.reported.Goals as goal
 
-pub returns-in-Done-clause-report : goal.returns-in-Done-clause-report
-returns-in-Done-clause-report c =
-    let replayed = c.in_ok-replayed.ensures in
-    report_done _ _ _ _ _ _ c.args.order _ _ c.in-Ok.ensures.ok c.in-Ok.ensures.valid replayed.plan replayed.replay c.in-Done.is c.in_ok-write_report-in-Done.ensures
+pub returns-in_err-saved-clause-none : goal.returns-in_err-saved-clause-none
+returns-in_err-saved-clause-none c = let why = unread_unreported c.args.bytes.now c.args.order c.in_err-saved.field-0.0 c.in_err-saved.ensures.unread in grind (arith, why)
 
-pub returns-clause-none : goal.returns-clause-none
-returns-clause-none c =
+pub returns-in_err-replayed-clause-none : goal.returns-in_err-replayed-clause-none
+returns-in_err-replayed-clause-none c = let why = unfinished_unreported c.args.bytes.now c.args.order c.in_err-replayed.field-0.0 (c.in_err-replayed.ensures.unfinished c.args.bytes.now c.in_ok-saved.ensures.read) in grind (arith, why)
+
+pub returns-clause-report : goal.returns-clause-report
+returns-clause-report c =
+    let said = c.in_ok-saved.ensures in
     let replayed = c.in_ok-replayed.ensures in
-    stopped_by c.args.bytes.now c.args.order c.in-Ok.saved.plan c.in_ok-replayed.replayed.plan (map came c.in-Ok.saved.arrivals) c.in-Ok.saved.asks c.in_ok-replayed.replayed.journal.entries c.in_ok-replayed.replayed.end c.in-Core.fault c.in_ok-stopped-in-Core.field-0
-    c.in-Ok.ensures.ok c.in-Ok.ensures.valid replayed.plan replayed.replay c.in-Core.is c.in_ok-stopped-in-Core.ensures
+    report_done c.args.bytes.now _ c.in_ok-saved.saved.plan c.in_ok-replayed.replayed.plan (map came c.in_ok-saved.saved.arrivals) c.in_ok-saved.saved.asks c.args.order c.in_ok-replayed.replayed.journal.entries
+    said.read said.valid replayed.plan replayed.done c.in_ok-write_report.ensures
