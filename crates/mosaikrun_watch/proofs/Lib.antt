@@ -1,0 +1,2 @@
+pub mod OneWatch
+mod Outcomes
