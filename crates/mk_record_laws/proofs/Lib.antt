@@ -8,7 +8,7 @@ pub mod Lines
 mod Messages
 pub mod Recorded
 pub mod Sound
-mod Steps
+pub mod Steps
 mod Texts
 mod Tokens
 mod Trees

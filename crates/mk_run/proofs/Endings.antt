@@ -11,7 +11,7 @@ use Rattle.mk_plan.specs.declared.Message.{Message}
 use Rattle.mk_plan.specs.declared.Entry.{Entry}
 use Rattle.mk_plan.specs.declared.Entry.TheVariants.{Sent, Got}
 use Rattle.mk_plan.specs.Plans.{sim_count, first_id}
-use Rattle.mk_plan.specs.Journals.{sent, got}
+use Rattle.mk_plan.specs.Journals.{sent, got, view}
 use Rattle.mk_message.specs.Written.{item_text}
 use Rattle.mk_frame.specs.Frames.{IsTooLong, limit}
 use Rattle.mk_outside.specs.declared.fleet.LogEntry.{LogEntry}
@@ -19,9 +19,10 @@ use Rattle.mk_outside.specs.declared.fleet.LogEntry.TheVariants.{Ended}
 use Rattle.mk_outside.specs.Logs.{later_of, last_that, is_read}
 use Rattle.mk_session.specs.Fronts.{BeginsGarbled}
 use Rattle.mk_sched.specs.declared.faults.CoreFault.{CoreFault}
+use Rattle.mk_sched.specs.declared.faults.CoreFault.TheVariants.{TooLong}
 use Rattle.mk_sched.specs.Cores.{CoreState, Stands}
 use Rattle.mk_sched.specs.Answers as sched
-use Rattle.mk_sched.specs.Answers.{SomeReady, SomeOpen, IsAsked, IsOver, IsOutOfMemory, IsAnswered, IsFaulty, IsUntaken, IsUnanswered, WasFaulty, open_id, with_message}
+use Rattle.mk_sched.specs.Answers.{SomeReady, SomeOpen, IsAsked, IsOver, IsOutOfMemory, IsAnswered, IsFaulty, IsUntaken, IsUnanswered, WasFaulty, open_id, with_message, fault_in}
 use Rattle.mk_run_laws.specs.Hearing.{first_message}
 use Rattle.mk_run_laws.specs.Handshake.{setup_count, setup_payloads, sim_link, is_within}
 use Rattle.mk_run_laws.specs.Payloads.{takes_id, id_after, item_payloads}
@@ -42,14 +43,14 @@ use Rattle.mk_run_crew.specs.Seen.{CrewSeen, crew_of}
 use Rattle.mk_run_crew.specs.Calls.{ShowsUnsent, halt_of}
 use Rattle.mk_run.specs.declared.outcome.Outcome.{Outcome}
 use Rattle.mk_run.specs.declared.outcome.Outcome.TheVariants as outcome
-use Rattle.mk_run.specs.Ends.{AreInRange, QueuedAll, IsAwaiting, IsBrokenOff, IsLongItem, SetupRestsWell}
+use Rattle.mk_run.specs.Ends.{AreInRange, QueuedAll, IsAwaiting, IsBrokenOff, IsLongItem, SetupRestsWell, fault_named}
 use Rattle.mk_run.specs.inner.Underway.{Setting, reply_in, Suits, HasNoOther, IsPatient, IsUnderway, HasHeard, IsLastLine, HasGiven, EndsBy, HasEnded}
 use Rattle.mk_run.specs.Outcomes.{outcome_of}
 use Rattle.mk_run.specs.inner.Sendings.{IsUnsent}
 use Rattle.mk_run.proofs.Going.{setup_rests_on}
 use Rattle.mk_run.proofs.Hearing.{heard_fits, heard_left, heard_running, heard_no_other, heard_setup_rests}
 use Rattle.mk_run.proofs.Linked.{no_other_moved}
-use Rattle.mk_run.proofs.Pushed.{kinds_sent, patient_sent, patient_got, range_sent, range_got, sent_front, got_front, got_sent, sent_got, rests_longer}
+use Rattle.mk_run.proofs.Pushed.{fault_after_sent, kinds_sent, patient_sent, patient_got, range_sent, range_got, sent_front, got_front, got_sent, sent_got, rests_longer}
 
 queued_itself : (end : Outcome) (items : List Item) → QueuedAll end items items
 queued_itself outcome.Done items = refl
@@ -61,6 +62,20 @@ queued_itself (outcome.Garbled i n) items = refl
 queued_itself (outcome.LongFrame i n) items = refl
 queued_itself (outcome.LongItem i n) items = tt
 queued_itself outcome.Mem items = tt
+
+-- a halt of the crew names no fault of a journal
+none_named : (h : Halt) → fault_named (outcome_of h) ≡ None
+none_named (halt.Setup f) = refl
+none_named halt.Fleet = refl
+none_named (halt.Gone i) = refl
+none_named (halt.Garbled i n) = refl
+none_named (halt.LongFrame i n) = refl
+none_named (halt.LongItem i n) = refl
+none_named halt.Mem = refl
+
+-- nor does the limit of entries
+limit_unnamed : (f : CoreFault) (n : ℕ) → f ≡ TooLong n → None ≡ fault_named (outcome.Core f)
+limit_unnamed f n is = sym (ap fault_in is)
 
 begins_itself : {X : Type 0} (xs : List X) → BeginsWith xs xs
 begins_itself xs = ([], sym (append_nil xs))
@@ -89,8 +104,8 @@ module _ (T : Setting) where
   }
 
   -- the run ends where it is
-  pub ends_here : (risen : Type 0) (P : Plan) (J : List Entry) (log : List LogEntry) (C : CrewState) (sims : _) (end : Outcome) → IsUnderway T P J log C sims → (IsBrokenOff end → IsAwaiting P J) → EndsBy risen T P J log C end → HasEnded risen T P J log C end
-  ends_here risen P J log C sims end u unfinished ends = record {
+  pub ends_here : (risen : Type 0) (P : Plan) (J : List Entry) (log : List LogEntry) (C : CrewState) (sims : _) (end : Outcome) → IsUnderway T P J log C sims → None ≡ fault_named end → (IsBrokenOff end → IsAwaiting P J) → EndsBy risen T P J log C end → HasEnded risen T P J log C end
+  ends_here risen P J log C sims end u unnamed unfinished ends = record {
     suits = u.suits;
     stands = u.stands;
     patient = u.patient;
@@ -101,23 +116,24 @@ module _ (T : Setting) where
     rests = over_ends T.started T.scenario T.replies (reply_in T) P J log u.running.rests;
     setup_rests = u.setup_rests;
     ends = ends;
+    fault = u.no_fault ∙ unnamed;
     unfinished = unfinished;
   }
 
   -- nothing is left to do
   pub done_ends : (risen : Type 0) (old new : CoreState) (log : List LogEntry) (C : CrewState) (sims : _) → IsUnderway T old.plan old.entries log C sims → IsOver old new → HasEnded risen T new.plan new.entries log C outcome.Done
-  done_ends risen old new log C sims u o = subst (λ (c : CoreState). HasEnded risen T c.plan c.entries log C outcome.Done) (sym o.same) (ends_here risen old.plan old.entries log C sims outcome.Done u (λ broken. absurd broken) o.done)
+  done_ends risen old new log C sims u o = subst (λ (c : CoreState). HasEnded risen T c.plan c.entries log C outcome.Done) (sym o.same) (ends_here risen old.plan old.entries log C sims outcome.Done u refl (λ broken. absurd broken) o.done)
 
   -- there is no room for a Step
   pub full_ends : (risen : Type 0) (old new : CoreState) (f : CoreFault) (log : List LogEntry) (C : CrewState) (sims : _) → old.ended ≡ None → IsUnderway T old.plan old.entries log C sims → WasFaulty old f new ⊎ sched.IsFull old f new
       → HasEnded risen T new.plan new.entries log C (outcome.Core f)
   full_ends risen old new f log C sims going u (inl was) = absurd (none_some (sym going ∙ was.0))
   full_ends risen old new f log C sims going u (inr full) = subst (λ (c : CoreState). HasEnded risen T c.plan c.entries log C (outcome.Core f)) (sym full.ended)
-      (ends_here risen old.plan old.entries log C sims (outcome.Core f) u (λ broken. absurd broken) (inr (record { named = full.named; full = full.full; no_fault = u.no_fault; more = inr (inl full.ready) })))
+      (ends_here risen old.plan old.entries log C sims (outcome.Core f) u (limit_unnamed f old.plan.entries full.named) (λ broken. absurd broken) (inr (record { named = full.named; full = full.full; no_fault = u.no_fault; more = inr (inl full.ready) })))
 
   -- the core wants memory for what is next
   pub mem_ends : (risen : Type 0) (old new : CoreState) (log : List LogEntry) (C : CrewState) (sims : _) → IsUnderway T old.plan old.entries log C sims → IsOutOfMemory old new → HasEnded risen T new.plan new.entries log C outcome.Mem
-  mem_ends risen old new log C sims u o = subst (λ (c : CoreState). HasEnded risen T c.plan c.entries log C outcome.Mem) (sym o.ended) (ends_here risen old.plan old.entries log C sims outcome.Mem u (λ broken. absurd broken) tt)
+  mem_ends risen old new log C sims u o = subst (λ (c : CoreState). HasEnded risen T c.plan c.entries log C outcome.Mem) (sym o.ended) (ends_here risen old.plan old.entries log C sims outcome.Mem u refl (λ broken. absurd broken) tt)
 
   -- ---- an item wasn't sent
 
@@ -127,7 +143,7 @@ module _ (T : Setting) where
   text_same (Answer asked content) id other h = refl
   text_same (Refuse asked reason) id other h = refl
 
-  module _ (risen : Type 0) (awaits : ℕ → List Message) (P : Plan) (K : List Entry) (log : List LogEntry) (C : CrewSeen) (s : SimNo) (item : Item) (suits : Suits T P) (low : s.0 < sim_count P) (stands : Stands P (K ++ Sent s item ∷ [])) (patient : IsPatient P K) (fits : AreInRange K)
+  module _ (risen : Type 0) (awaits : ℕ → List Message) (P : Plan) (K : List Entry) (log : List LogEntry) (C : CrewSeen) (s : SimNo) (item : Item) (suits : Suits T P) (low : s.0 < sim_count P) (stands : Stands P (K ++ Sent s item ∷ [])) (patient : IsPatient P K) (fits : AreInRange K) (fine : (view P K).fault ≡ None)
       (run : IsRunningWith awaits T.started T.scenario T.replies (reply_in T) P K log (crew_of C)) (no_other : HasNoOther T (crew_of C)) (setup_rests : SetupRestsWell T.started T.scenario log) where
     long_item : (n : ℕ) → IsLengthOf n item s.0 C.lines → limit < n → IsLongItem P (K ++ Sent s item ∷ []) s.0 n
     long_item n size beyond =
@@ -174,6 +190,7 @@ module _ (T : Setting) where
       rests = rests_longer T.started T.scenario T.replies P K (Sent s item) log run.rests;
       setup_rests = setup_rests;
       ends = (by_halt why.0 why.2).2;
+      fault = fault_after_sent P K s item fine ∙ sym (none_named why.0);
       unfinished = (by_halt why.0 why.2).1;
     })
 
@@ -192,8 +209,8 @@ module _ (T : Setting) where
         go (IsHeard.on_link none after w there moved parked) = rests_at_end T.started T.scenario T.replies (reply_in T) core.plan core.entries h.before h.entries h.crew u.running (λ i x ready. h.nobody (i, x, ready)) parked
 
     -- the core hasn't taken it
-    pub untaken_ends : (end : Outcome) → (IsBrokenOff end → IsAwaiting core.plan core.entries) → EndsBy risen T core.plan core.entries log D end → HasEnded risen T core.plan core.entries log D end
-    untaken_ends end unfinished ends = record {
+    pub untaken_ends : (end : Outcome) → None ≡ fault_named end → (IsBrokenOff end → IsAwaiting core.plan core.entries) → EndsBy risen T core.plan core.entries log D end → HasEnded risen T core.plan core.entries log D end
+    untaken_ends end unnamed unfinished ends = record {
       suits = u.suits;
       stands = u.stands;
       patient = u.patient;
@@ -211,12 +228,13 @@ module _ (T : Setting) where
       rests = rests_before;
       setup_rests = heard_setup_rests T core.plan core.entries log s m D sims h;
       ends = ends;
+      fault = u.no_fault ∙ unnamed;
       unfinished = unfinished;
     }
 
     -- it is the journal's last entry
-    pub faulty_ends : (end : Outcome) → Stands core.plan (core.entries ++ Got s m ∷ []) → (IsBrokenOff end → IsAwaiting core.plan (core.entries ++ Got s m ∷ [])) → EndsBy risen T core.plan (core.entries ++ Got s m ∷ []) log D end → HasEnded risen T core.plan (core.entries ++ Got s m ∷ []) log D end
-    faulty_ends end stands unfinished ends = record {
+    pub faulty_ends : (end : Outcome) → Stands core.plan (core.entries ++ Got s m ∷ []) → (view core.plan (core.entries ++ Got s m ∷ [])).fault ≡ fault_named end → (IsBrokenOff end → IsAwaiting core.plan (core.entries ++ Got s m ∷ [])) → EndsBy risen T core.plan (core.entries ++ Got s m ∷ []) log D end → HasEnded risen T core.plan (core.entries ++ Got s m ∷ []) log D end
+    faulty_ends end stands fault unfinished ends = record {
       suits = u.suits;
       stands = stands;
       patient = patient_got core.plan core.entries s m u.patient h.nobody;
@@ -227,21 +245,22 @@ module _ (T : Setting) where
       rests = over_ends T.started T.scenario T.replies (reply_in T) core.plan (core.entries ++ Got s m ∷ []) log (heard_running T core.plan core.entries log s m D sims h).rests;
       setup_rests = heard_setup_rests T core.plan core.entries log s m D sims h;
       ends = ends;
+      fault = fault;
       unfinished = unfinished;
     }
 
     pub fault_ends : (f : CoreFault) → core.ended ≡ None → Stands new.plan new.entries → WasFaulty core f new ⊎ (IsUntaken core f new ⊎ (IsFaulty core s m f new ⊎ IsUnanswered core s m f new)) → HasEnded risen T new.plan new.entries log D (outcome.Core f)
     fault_ends f going stands (inl was) = absurd (none_some (sym going ∙ was.0))
-    fault_ends f going stands (inr (inl un)) = subst (λ (c : CoreState). HasEnded risen T c.plan c.entries log D (outcome.Core f)) (sym un.ended) (untaken_ends (outcome.Core f) (λ broken. absurd broken)
-        (inr (record { named = un.named; full = un.full; no_fault = u.no_fault; more = inr (inr (heard_left T core.plan core.entries log s m D sims h)) })))
+    fault_ends f going stands (inr (inl un)) = subst (λ (c : CoreState). HasEnded risen T c.plan c.entries log D (outcome.Core f)) (sym un.ended) (untaken_ends (outcome.Core f) (limit_unnamed f core.plan.entries un.named) (λ broken. absurd broken)
+        (inr (record { named = un.named; full = un.full; no_fault = u.no_fault; more = inr (inr (heard_left T core.plan core.entries log s m D sims h, (h.opened, h.nobody))) })))
     fault_ends f going stands (inr (inr (inl bad))) = subst (λ (c : CoreState). HasEnded risen T c.plan c.entries log D (outcome.Core f)) (sym bad.ended)
-        (faulty_ends (outcome.Core f) (subst (λ (c : CoreState). Stands c.plan c.entries) bad.ended stands) (λ broken. absurd broken)
+        (faulty_ends (outcome.Core f) (subst (λ (c : CoreState). Stands c.plan c.entries) bad.ended stands) bad.made (λ broken. absurd broken)
         (inl (record { before = core.entries; sim = s; message = m; is = refl; right_before = u.no_fault; named = bad.named; fault = bad.made })))
     fault_ends f going stands (inr (inr (inr un))) = subst (λ (c : CoreState). HasEnded risen T c.plan c.entries log D (outcome.Core f)) (sym un.ended)
-        (faulty_ends (outcome.Core f) (subst (λ (c : CoreState). Stands c.plan c.entries) un.ended stands) (λ broken. absurd broken) (inr (record { named = un.named; full = un.full; no_fault = un.no_fault; more = inl un.owed })))
+        (faulty_ends (outcome.Core f) (subst (λ (c : CoreState). Stands c.plan c.entries) un.ended stands) (un.no_fault ∙ limit_unnamed f core.plan.entries un.named) (λ broken. absurd broken) (inr (record { named = un.named; full = un.full; no_fault = un.no_fault; more = inl un.owed })))
 
     pub untaken_for_memory : IsOutOfMemory core new → HasEnded risen T new.plan new.entries log D outcome.Mem
-    untaken_for_memory o = subst (λ (c : CoreState). HasEnded risen T c.plan c.entries log D outcome.Mem) (sym o.ended) (untaken_ends outcome.Mem (λ broken. absurd broken) tt)
+    untaken_for_memory o = subst (λ (c : CoreState). HasEnded risen T c.plan c.entries log D outcome.Mem) (sym o.ended) (untaken_ends outcome.Mem refl (λ broken. absurd broken) tt)
 
   -- ---- nothing was heard
 
@@ -303,5 +322,6 @@ module _ (T : Setting) where
       rests = rests_at_end T.started T.scenario T.replies (reply_in T) P J log entries (crew_of C) u.running (λ i x ready. nobody (i, x, ready)) un.parked;
       setup_rests = setup_rests_on T P J log entries (crew_of C) u.suits u.running u.setup_rests;
       ends = by_link why cause shown;
+      fault = u.no_fault ∙ sym (none_named (halt_of why));
       unfinished = λ broken. (opened, nobody);
     }

@@ -71,7 +71,7 @@ module _ (T : Setting) (old new : CoreState) (log : List LogEntry) (C : CrewSeen
 
   pub asked_not : (end : Outcome) → ((item : Item) (id : ℕ) → EndsWithItem new s item id → IsUnsent end s.0 item C) → IsStopping ⊥ T new log C end
   asked_not end why = subst (λ (c : CoreState). HasEnded ⊥ T c.plan c.entries log (crew_of C) end) (sym a.moved)
-      (unsent_ends T ⊥ _ old.plan old.entries log C s (Step a.at a.inputs a.advance) u.suits (asked_low T old new log C s u stands a) (subst (λ (c : CoreState). Stands c.plan c.entries) a.moved stands) u.patient u.in_range u.running u.no_other u.setup_rests
+      (unsent_ends T ⊥ _ old.plan old.entries log C s (Step a.at a.inputs a.advance) u.suits (asked_low T old new log C s u stands a) (subst (λ (c : CoreState). Stands c.plan c.entries) a.moved stands) u.patient u.in_range u.no_fault u.running u.no_other u.setup_rests
       end (why _ _ ends_with_step))
 
 -- ---- a message is waited for
@@ -112,6 +112,7 @@ past_it T core log entries C D s m u waits h sims fit = record {
   parts = refl;
   crew = crew_of C;
   underway = subst (λ (l : _). IsUnderway T core.plan core.entries log (crew_of C) l) (sym sims) u;
+  opened = waits.1;
   nobody = waits.0;
   heard = h;
   fit = fit;
@@ -148,6 +149,7 @@ stopping_by some all T core log C end more e = record {
   rests = e.rests;
   setup_rests = e.setup_rests;
   ends = ends_by some all T core log C more end e.ends;
+  fault = e.fault;
   unfinished = e.unfinished;
 }
 
@@ -179,7 +181,7 @@ module _ (T : Setting) (core new : CoreState) (log : List LogEntry) (s : SimNo) 
   answered_not end why = subst (λ (c : CoreState). HasEnded ⊥ T c.plan c.entries log (crew_of C) end) (sym a.moved)
       (unsent_ends T ⊥ _ core.plan (core.entries ++ Got s m ∷ []) log C s a.item h.underway.suits (heard_low T core.plan core.entries log s m (crew_of C) C.sims h)
       (subst (λ (c : CoreState). Stands c.plan c.entries) a.moved stands) (patient_got core.plan core.entries s m h.underway.patient h.nobody)
-      (range_got core.entries s m h.underway.in_range (heard_fits T core.plan core.entries log s m (crew_of C) C.sims h)) (heard_running T core.plan core.entries log s m (crew_of C) C.sims h)
+      (range_got core.entries s m h.underway.in_range (heard_fits T core.plan core.entries log s m (crew_of C) C.sims h)) a.no_fault (heard_running T core.plan core.entries log s m (crew_of C) C.sims h)
       (heard_no_other T core.plan core.entries log s m (crew_of C) C.sims h) (heard_setup_rests T core.plan core.entries log s m (crew_of C) C.sims h) end (why a.item _ ends_with_answer))
 
 -- whether it was sent or not

@@ -72,8 +72,8 @@ module _ (T : Setting) (P : Plan) (J : List Entry) (log entries : List LogEntry)
   still_more : NeedsMore P J (IsAhead T J log C ⊎ IsOpenWithin T.scenario P J) → NeedsMore P J (IsMessageLeft T.started T.scenario P J (log ++ entries))
   still_more (inl owed) = inl owed
   still_more (inr (inl ready)) = inr (inl ready)
-  still_more (inr (inr (inl ahead))) = inr (inr (inl (ungot ahead)))
-  still_more (inr (inr (inr opened))) = inr (inr (inr opened))
+  still_more (inr (inr (inl ahead, awaits))) = inr (inr (inl (ungot ahead), awaits))
+  still_more (inr (inr (inr opened, awaits))) = inr (inr (inr opened, awaits))
 
   shown : (e : Outcome) → EndsBy by_run T P J log C e → ShownBy T.started T.scenario P J (log ++ entries) faults new_faults e
   shown outcome.Done is = is
@@ -106,11 +106,13 @@ module _ (T : Setting) (P : Plan) (J : List Entry) (log entries : List LogEntry)
     valid = ended.stands.valid;
     journal = record { sims = ended.suits.sims; orderly = ended.stands.orderly.0; kinds = ended.kinds; links = λ i l linked. (linked_so i l linked (ended.lines i l linked)).got };
     eager = eager;
+    within = ended.stands.within;
     in_range = ended.in_range;
     links = λ i l linked. let t = ended.lines i l linked in (t.items, linked_so i l linked t, t.queued_all);
     rests = rests_well T.started T.scenario T.replies ended.suits.counts P J (log ++ entries) (rests_stopped T.started T.scenario T.replies P J log entries restless ended.rests);
     setup_rests = setup_rests_more T.started T.scenario log entries restless ended.setup_rests;
     shown = shown end ended.ends;
+    fault = ended.fault;
     unfinished = ended.unfinished;
   }
 

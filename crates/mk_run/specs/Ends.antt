@@ -1,5 +1,5 @@
 -- How a run ends that has a plan, what each end shows, and what a whole run means.
-use Rattle.std.specs.Prelude.{◌≡◌, ℕ, ◌<◌, ◌⊎◌, ⊤, List, [], ◌∷◌, ◌++◌, length, true, Some, None, IsSome}
+use Rattle.std.specs.Prelude.{◌≡◌, ℕ, ◌<◌, ◌≤◌, ◌⊎◌, ⊤, List, [], ◌∷◌, ◌++◌, length, true, Option, Some, None, IsSome}
 use Rattle.mk_base.specs.declared.LinkNo.{LinkNo}
 use Rattle.mk_base.specs.declared.SimNo.{SimNo}
 use Rattle.mk_base.specs.Lists.{IsIn}
@@ -9,7 +9,7 @@ use Rattle.mk_plan.specs.declared.Message.{Message}
 use Rattle.mk_plan.specs.declared.Entry.{Entry}
 use Rattle.mk_plan.specs.declared.Entry.TheVariants.{Sent, Got}
 use Rattle.mk_plan.specs.Plans.{first_id, IsValidPlan}
-use Rattle.mk_plan.specs.Journals.{view, sent, got}
+use Rattle.mk_plan.specs.Journals.{Fault, view, sent, got}
 use Rattle.mk_plan.specs.Ready.{IsDone}
 use Rattle.mk_plan.specs.Orderly.{IsEager}
 use Rattle.mk_frame.specs.Frames.{limit, IsTooLong}
@@ -77,9 +77,13 @@ pub record IsOpenWithin (S : Scenario) (P : Plan) (J : List Entry) : Type 0 wher
 abbrev pub IsMessageLeft : ℕ → Scenario → Plan → List Entry → List LogEntry → Type 0
 IsMessageLeft started S P J log = IsUngot started S J log ⊎ IsOpenWithin S P J
 
--- one entry more is needed: what is owed, a Step, or a message that is left
+-- some request is open, and nobody is ready
+abbrev pub IsAwaiting : Plan → List Entry → Type 0
+IsAwaiting P J = SomeOpen P J × (SomeReady P J → ⊥)
+
+-- one entry more is needed: what is owed, a Step, or a message that is left where one was awaited
 abbrev pub NeedsMore : Plan → List Entry → Type 0 → Type 0
-NeedsMore P J left = IsSome (view P J).owed ⊎ (SomeReady P J ⊎ left)
+NeedsMore P J left = IsSome (view P J).owed ⊎ (SomeReady P J ⊎ (left × IsAwaiting P J))
 
 -- the journal is full, there is no other fault, and one entry more is needed
 pub record IsFull (P : Plan) (J : List Entry) (f : CoreFault) (left : Type 0) : Type 0 where
@@ -132,28 +136,38 @@ IsBrokenOff (outcome.LongFrame i n) = ⊤
 IsBrokenOff (outcome.LongItem i n) = ⊥
 IsBrokenOff outcome.Mem = ⊥
 
+-- the fault of a journal that the outcome names: one of the core that isn't the limit of entries
+abbrev pub fault_named : Outcome → Option Fault
+fault_named outcome.Done = None
+fault_named (outcome.Setup f) = None
+fault_named (outcome.Core f) = fault_in f
+fault_named outcome.Fleet = None
+fault_named (outcome.Gone i) = None
+fault_named (outcome.Garbled i n) = None
+fault_named (outcome.LongFrame i n) = None
+fault_named (outcome.LongItem i n) = None
+fault_named outcome.Mem = None
+
 -- at each rest of the handshake its clause stands
 abbrev pub SetupRestsWell : ℕ → Scenario → List LogEntry → Type 0
 SetupRestsWell started S log = (before after : List LogEntry) → log ≡ before ++ Rest ∷ after
     → (AllSetUp started S before → ⊥) → IsWellInSetup started S before
-
--- some request is open, and nobody is ready
-abbrev pub IsAwaiting : Plan → List Entry → Type 0
-IsAwaiting P J = SomeOpen P J × (SomeReady P J → ⊥)
 
 -- each message in the journal has whole numbers that may be written
 abbrev pub AreInRange : List Entry → Type 0
 AreInRange J = (H : List Entry) (s : SimNo) (m : Message) (more : List Entry)
     → J ≡ H ++ Got s m ∷ more → is_in_range m ≡ true
 
--- a run with a plan and a journal, over the entries that it added to the log; where it was broken
--- off some request was open, and nobody was ready
+-- a run with a plan and a journal, over the entries that it added to the log: the journal has at
+-- most as many entries as the plan allows, and no fault but one that the outcome names; where the
+-- run was broken off some request was open, and nobody was ready
 pub record IsRun (started : ℕ) (S : Scenario) (reply : Replies) (P : Plan) (J : List Entry)
     (log : List LogEntry) (faults new_faults : ℕ) (end : Outcome) : Type 0 where
   pub replies : SetupReplies
   pub valid : IsValidPlan P
   pub journal : IsJournalOf started S reply P log J
   pub eager : IsEager P J
+  pub within : length J ≤ P.entries
   pub in_range : AreInRange J
   pub links : (i : ℕ) (l : LinkNo) → sim_link started S i ≡ Some l → (items : List Item)
       × IsLinkOfRun S replies J log (HasRisen faults new_faults) i l items
@@ -161,6 +175,7 @@ pub record IsRun (started : ℕ) (S : Scenario) (reply : Replies) (P : Plan) (J 
   pub rests : RestsWell started S P J log
   pub setup_rests : SetupRestsWell started S log
   pub shown : ShownBy started S P J log faults new_faults end
+  pub fault : (view P J).fault ≡ fault_named end
   pub unfinished : IsBrokenOff end → IsAwaiting P J
 
 -- nothing went wrong that a run can show

@@ -1,5 +1,5 @@
 -- A run's journal is a replay of its own messages, and such a replay is one.
-use Rattle.std.proofs.Common.{◌≡◌, ℕ, ◌<◌, ◌≤◌, List, [], Option, None, Some, length, refl, sym, ap, ◌∙◌, subst, ◌⊎◌, inl, inr, arith}
+use Rattle.std.proofs.Common.{◌≡◌, ℕ, ◌<◌, ◌≤◌, List, [], Option, None, Some, is_some, length, refl, sym, ap, ◌∙◌, subst, ◌⊎◌, inl, inr, arith}
 use Rattle.std.specs.Prelude.{IsSome}
 use Rattle.mk_base.specs.Lists.{BeginsWith}
 use Rattle.mk_base.proofs.Lists.{append_nil, none_some}
@@ -7,7 +7,7 @@ use Rattle.mk_outside.specs.declared.fleet.LogEntry.{LogEntry}
 use Rattle.mk_plan.specs.declared.Plan.{Plan}
 use Rattle.mk_plan.specs.declared.Entry.{Entry}
 use Rattle.mk_plan.specs.Plans.{IsValidPlan, sim_count}
-use Rattle.mk_plan.specs.Journals.{Owed, arrivals, view}
+use Rattle.mk_plan.specs.Journals.{Owed, arrivals, open_count, view}
 use Rattle.mk_plan.specs.Sequential.{Messages, run_items}
 use Rattle.mk_plan.specs.Ready.{IsDone, IsReady}
 use Rattle.mk_plan.specs.Advance.{IsAdvance}
@@ -18,22 +18,23 @@ use Rattle.mk_order.proofs.Tables.{start_beyond}
 use Rattle.mk_order.proofs.Settled.{IsAtEnd, faulty, full, quiet, done_is_quiet, replay_is_longest, replay_is_one}
 use Rattle.mk_scenario.specs.declared.parts.Scenario.{Scenario}
 use Rattle.mk_sched.specs.declared.faults.CoreFault.{CoreFault}
-use Rattle.mk_sched.specs.declared.faults.CoreFault.TheVariants.{TooLong}
 use Rattle.mk_sched.specs.Answers.{SomeReady, fault_in}
 use Rattle.mk_run_laws.specs.Kinds.{Replies}
 use Rattle.mk_run.specs.declared.outcome.Outcome.{Outcome}
 use Rattle.mk_run.specs.declared.outcome.Outcome.TheVariants as outcome
-use Rattle.mk_run.specs.Ends.{IsBrokenOff, IsRun}
+use Rattle.mk_run.specs.Ends as runs
+use Rattle.mk_run.specs.Ends.{IsAwaiting, IsBrokenOff, IsMessageLeft, IsRun, NeedsMore, ShownBy}
 use Rattle.mk_record_compare.specs.Differences.{IsOther}
 use Rattle.mk_record_compare.proofs.Places.{one_other}
 use Rattle.mk_record_read.specs.Entries.{entries_in}
 use Rattle.mk_record_laws.specs.Again.{steps_of}
 use Rattle.mk_record_replay.specs.declared.replaying.ReplayEnd.{ReplayEnd}
-use Rattle.mk_record_replay.specs.declared.replaying.ReplayEnd.TheVariants.{Done, Core}
-use Rattle.mk_record_replay.specs.Replays.{EndsBy, IsEndOf, IsLastFaulty, IsWhole, end_with}
+use Rattle.mk_record_replay.specs.declared.replaying.ReplayEnd.TheVariants.{Done, Core, Short}
+use Rattle.mk_record_replay.specs.Replays.{EndsBy, IsEndOf, IsLeft, IsWhole, end_with}
+use Rattle.mk_record_replay.proofs.Counting.{some_are_open}
 use Rattle.mk_record_replay.proofs.OneEnd.{at_end, one_end}
 use Rattle.mk_record_replay.proofs.Pushing.{got_is}
-use Rattle.mosaikrun_again.specs.Again.{EndsAlike, IsReplayOf, IsSaidToTheEnd, IsSentAll, ReplayHasJournal, ReplaysAreRuns}
+use Rattle.mosaikrun_again.specs.Again.{EndsAlike, IsFaultAgain, IsReplayOf, IsSaidToTheEnd, IsSentAll, ReplayHasJournal, ReplaysAreRuns}
 use Rattle.mosaikrun_again.proofs.Again.{entries_again}
 
 some_of : {X : Type 0} (o : Option X) → IsSome o → (x : X) × (o ≡ Some x)
@@ -81,6 +82,23 @@ whole P valid J eager done = let finished = orderly_finished P valid J eager.0 d
   sent = λ i low. (finished i low).sent ∙ ap (λ (R : Messages). run_items P R i) (λ k j. (got_is J j) k);
 }
 
+-- where a run's journal is full, the replay of its messages ends by that limit too; or, where a
+-- message had come for which there was no room, requests are open
+pub full_again : (P : Plan) (J : List Entry) (f : CoreFault) (left : Type 0) → runs.IsFull P J f left → EndsBy P (arrivals J) J (Core f) ⊎ ((n : ℕ) × EndsBy P (arrivals J) J (Short n))
+full_again P J f left at_limit = by_more at_limit.more
+  where
+    too_long : IsSome (view P J).owed ⊎ (SomeReady P J ⊎ IsLeft (arrivals J) J) → EndsBy P (arrivals J) J (Core f)
+    too_long more = inr (record { named = at_limit.named; full = at_limit.full; no_fault = at_limit.no_fault; more = more })
+
+    by_owed : (o : Option Owed) → (view P J).owed ≡ o → IsAwaiting P J → EndsBy P (arrivals J) J (Core f) ⊎ ((n : ℕ) × EndsBy P (arrivals J) J (Short n))
+    by_owed (Some o) is awaits = inl (too_long (inl (ap is_some is)))
+    by_owed None is awaits = inr (open_count P (view P J), record { given = refl; no_fault = at_limit.no_fault; paid = is; nobody = awaits.1; count = refl; some = some_are_open P J awaits.0 })
+
+    by_more : NeedsMore P J left → EndsBy P (arrivals J) J (Core f) ⊎ ((n : ℕ) × EndsBy P (arrivals J) J (Short n))
+    by_more (inl owed) = inl (too_long (inl owed))
+    by_more (inr (inl ready)) = inl (too_long (inr (inl ready)))
+    by_more (inr (inr (l, awaits))) = by_owed (view P J).owed refl awaits
+
 -- no entry of the record isn't the journal's
 pub own_other : (J : List Entry) → IsOther (arrivals J) (Some (steps_of J)) J None
 own_other J = ([], sym (append_nil (entries_in (arrivals J) (steps_of J)) ∙ entries_again J))
@@ -116,16 +134,25 @@ module _ (started : ℕ) (S : Scenario) (reply : Replies) (P : Plan) (J : List E
         let other : None ≡ by.other = one_other (arrivals J) (Some (steps_of J)) J None by.other (own_other J) (subst (λ (L : List Entry). IsOther (arrivals J) (Some (steps_of J)) L by.other) same by.compared) in
         by.is ∙ ap (λ (e : ReplayEnd). end_with e by.other) (sym (one_end P (arrivals J) J Done by.messages_end all here)) ∙ ap (end_with Done) (sym other)
 
-    faulty_again : (f : CoreFault) → IsLastFaulty P J f → end ≡ Core f
-    faulty_again f last = by.is ∙ ap (λ (e : ReplayEnd). end_with e by.other) (sym (one_end P (arrivals J) J (Core f) by.messages_end (inl last) here))
+    by_fault : (f : CoreFault) → EndsBy P (arrivals J) J (Core f) → end ≡ Core f
+    by_fault f ends = by.is ∙ ap (λ (e : ReplayEnd). end_with e by.other) (sym (one_end P (arrivals J) J (Core f) by.messages_end ends here))
+
+    by_short : (n : ℕ) → EndsBy P (arrivals J) J (Short n) → end ≡ Short n
+    by_short n ends =
+        let other : None ≡ by.other = one_other (arrivals J) (Some (steps_of J)) J None by.other (own_other J) (subst (λ (L : List Entry). IsOther (arrivals J) (Some (steps_of J)) L by.other) same by.compared) in
+        by.is ∙ ap (λ (e : ReplayEnd). end_with e by.other) (sym (one_end P (arrivals J) J (Short n) by.messages_end ends here)) ∙ ap (end_with (Short n)) (sym other)
+
+    faulty_again : (f : CoreFault) → ShownBy started S P J log faults new_faults (outcome.Core f) → IsFaultAgain f end
+    faulty_again f (inl last) = inl (by_fault f (inl (record { before = last.before; sim = last.sim; message = last.message; is = last.is; right_before = last.right_before; named = last.named; fault = last.fault })))
+    faulty_again f (inr long) = elim (full_again P J f (IsMessageLeft started S P J log) long) [
+      | inl ends ↦ inl (by_fault f ends)
+      | inr t ↦ inr (ap fault_in long.named, (t.0, by_short t.0 t.1))
+    ]
 
     ends_alike : (e : Outcome) → IsRun started S reply P J log faults new_faults e → EndsAlike e end
     ends_alike outcome.Done run = done_again (whole P run.valid J run.eager run.shown)
     ends_alike (outcome.Setup f) run = tt
-    ends_alike (outcome.Core f) run = λ named. elim run.shown [
-      | inl last ↦ faulty_again f (record { before = last.before; sim = last.sim; message = last.message; is = last.is; right_before = last.right_before; named = last.named; fault = last.fault })
-      | inr long ↦ absurd (let none : IsSome (fault_in (TooLong P.entries)) = subst (λ (g : CoreFault). IsSome (fault_in g)) long.named named in cc)
-    ]
+    ends_alike (outcome.Core f) run = faulty_again f run.shown
     ends_alike outcome.Fleet run = tt
     ends_alike (outcome.Gone i) run = tt
     ends_alike (outcome.Garbled i n) run = tt
@@ -145,7 +172,7 @@ module _ (started : ℕ) (S : Scenario) (reply : Replies) (P : Plan) (J : List E
   ends_or_not outcome.Mem K end run same by = tt
 
 pub replays_are_runs : ReplaysAreRuns
-replays_are_runs started S reply P J log faults new_faults end run within K replay_end (replay, by) =
-    let law = replayed P J K run.eager within (replay, (by.messages_end, by.ends)) in
+replays_are_runs started S reply P J log faults new_faults end run K replay_end (replay, by) =
+    let law = replayed P J K run.eager run.within (replay, (by.messages_end, by.ends)) in
     let same : IsSaidToTheEnd end → K ≡ J = λ said. law.same (run_ended started S reply P J log faults new_faults end said run) in
     record { begins = law.begins; same = same; ends = ends_or_not started S reply P J log faults new_faults end K replay_end run same by }

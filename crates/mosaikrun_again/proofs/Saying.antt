@@ -1,10 +1,10 @@
 -- What was said of a run is an outcome of its record, and a record has one.
-use Rattle.std.proofs.Common.{◌≡◌, true, ℕ, ◌≤◌, List, None, Some, Err, length, refl, subst, ◌⊎◌, inl, inr}
+use Rattle.std.proofs.Common.{◌≡◌, true, ℕ, ◌≤◌, List, Option, None, Some, Result, Err, is_some, length, refl, sym, ap, ◌∙◌, subst, ◌⊎◌, inl, inr, true≢false}
 use Rattle.std.specs.Prelude.{IsSome}
 use Rattle.mk_plan.specs.declared.Plan.{Plan}
 use Rattle.mk_plan.specs.declared.Entry.{Entry}
 use Rattle.mk_plan.specs.Plans.{IsValidPlan}
-use Rattle.mk_plan.specs.Journals.{arrivals, got, sent, view}
+use Rattle.mk_plan.specs.Journals.{Fault, arrivals, got, sent, view}
 use Rattle.mk_plan.specs.Orderly.{IsEager}
 use Rattle.mk_plan.specs.Ready.{IsDone}
 use Rattle.mk_plan.specs.Report.{report}
@@ -13,31 +13,36 @@ use Rattle.mk_order.proofs.Headlines.{orderly_agrees, orderly_finished}
 use Rattle.mk_sched.specs.declared.faults.CoreFault.{CoreFault}
 use Rattle.mk_sched.specs.declared.faults.CoreFault.TheVariants as core
 use Rattle.mk_sched.specs.Answers.{fault_in}
+use Rattle.mk_outside.specs.declared.fleet.LogEntry.{LogEntry}
+use Rattle.mk_scenario.specs.declared.parts.Scenario.{Scenario}
+use Rattle.mk_run_laws.specs.Kinds.{Replies}
+use Rattle.mk_run.specs.declared.outcome.Outcome.{Outcome}
 use Rattle.mk_run.specs.declared.outcome.Outcome.TheVariants as outcome
 use Rattle.mk_run.specs.Ends as runs
 use Rattle.mk_run.specs.Ends.{IsRun}
 use Rattle.mk_record_read.specs.Texts.{record_text}
-use Rattle.mk_record_laws.specs.Again.{IsRecordable, steps_of}
-use Rattle.mk_record_laws.proofs.Whole.{read_again}
+use Rattle.mk_record_laws.specs.Again.{steps_of}
 use Rattle.mk_record_replay.specs.declared.replaying.ReplayEnd.TheVariants as ends
-use Rattle.mk_record_replay.specs.Replays.{IsLastFaulty, IsReplay, messages_from}
+use Rattle.mk_record_replay.specs.Replays.{EndsBy, IsLastFaulty, IsReplay, messages_from}
 use Rattle.mk_record_replay.specs.Orders.{IsReplayBy}
 use Rattle.mk_record_replay.proofs.Pushing.{got_is}
 use Rattle.mk_record_report.proofs.Bare.{report_bare}
+use Rattle.mosaikrun_endings.specs.declared.ending.Ending.{Ending}
+use Rattle.mosaikrun_endings.specs.declared.ending.Ending.TheVariants as endings
 use Rattle.mosaikrun_endings.specs.declared.ending.Ending.TheVariants.{Mem}
 use Rattle.mosaikrun_records.specs.Reports.{IsOutcome, IsReportOf}
 use Rattle.mosaikrun_records.proofs.OneOutcome.{one_outcome}
 use Rattle.mosaikrun_run.specs.declared.sayings.Form.TheVariants.{Report}
 use Rattle.mosaikrun_run.specs.Sayings.{saying_of}
-use Rattle.mosaikrun_again.specs.Saying.{ReplaysSayTheSame}
-use Rattle.mosaikrun_again.proofs.Replaying.{own_messages, own_other, whole}
+use Rattle.mosaikrun_again.specs.Saying.{IsLimitAgain, IsReadAs, IsSaidAgain, ReplaysSayTheSame}
+use Rattle.mosaikrun_again.proofs.Replaying.{full_again, own_messages, own_other, whole}
 
 module _ (P : Plan) (J : List Entry) (valid : IsValidPlan P) (eager : IsEager P J) (within : length J ≤ P.entries) where
   -- the journal is a replay of its own messages
   own_replay : IsReplay P (arrivals J) J
   own_replay = record { agrees = orderly_agrees P valid J eager.0; eager = eager; given = own_messages J; within = within }
 
-  module _ (recordable : IsRecordable P J) where
+  module _ (read : IsReadAs P J) where
     -- where all is done, the report of what was sent is that of the record
     own_report : IsDone P (view P J) → IsReportOf (record_text P J) None (report P (sent J))
     own_report done =
@@ -48,7 +53,7 @@ module _ (P : Plan) (J : List Entry) (valid : IsValidPlan P) (eager : IsEager P 
           arrivals = arrivals J;
           journal = J;
           steps = Some (steps_of J);
-          read = read_again P J recordable;
+          read = read;
           valid = valid;
           done = (own_replay, own_other J, all);
           used = λ i low. subst (λ (R : Messages). messages_in (sequential P R i) ≡ R i) same (finished i low).used;
@@ -68,7 +73,7 @@ module _ (P : Plan) (J : List Entry) (valid : IsValidPlan P) (eager : IsEager P 
       journal = J;
       end = ends.Core (core.Wrong s place cause);
       steps = Some (steps_of J);
-      read = read_again P J recordable;
+      read = read;
       valid = valid;
       replayed = own_end (core.Wrong s place cause) last;
       said = refl;
@@ -79,7 +84,7 @@ module _ (P : Plan) (J : List Entry) (valid : IsValidPlan P) (eager : IsEager P 
       journal = J;
       end = ends.Core (core.Failed s place);
       steps = Some (steps_of J);
-      read = read_again P J recordable;
+      read = read;
       valid = valid;
       replayed = own_end (core.Failed s place) last;
       said = refl;
@@ -90,12 +95,43 @@ module _ (P : Plan) (J : List Entry) (valid : IsValidPlan P) (eager : IsEager P 
       journal = J;
       end = ends.Core (core.LoopLimit s time);
       steps = Some (steps_of J);
-      read = read_again P J recordable;
+      read = read;
       valid = valid;
       replayed = own_end (core.LoopLimit s time) last;
       said = refl;
     }
     own_ending ids (core.TooLong n) named last = absurd (cc)
+
+    -- it ends by the limit of entries
+    own_limit : (ids : List (List ℕ)) (f : CoreFault) → fault_in f ≡ None → EndsBy P (arrivals J) J (ends.Core f) → IsOutcome (record_text P J) None (saying_of Report ids P J (outcome.Core f))
+    own_limit ids (core.TooLong n) none limit = record {
+      plan = P;
+      arrivals = arrivals J;
+      journal = J;
+      end = ends.Core (core.TooLong n);
+      steps = Some (steps_of J);
+      read = read;
+      valid = valid;
+      replayed = (own_replay, record { messages_end = ends.Core (core.TooLong n); other = None; ends = limit; compared = own_other J; is = refl });
+      said = refl;
+    }
+    own_limit ids (core.Wrong s place cause) none limit = absurd (cc)
+    own_limit ids (core.Failed s place) none limit = absurd (cc)
+    own_limit ids (core.LoopLimit s time) none limit = absurd (cc)
+
+    -- or messages are missing
+    own_short : (n : ℕ) → EndsBy P (arrivals J) J (ends.Short n) → IsOutcome (record_text P J) None (Err (endings.Short n))
+    own_short n short = record {
+      plan = P;
+      arrivals = arrivals J;
+      journal = J;
+      end = ends.Short n;
+      steps = Some (steps_of J);
+      read = read;
+      valid = valid;
+      replayed = (own_replay, record { messages_end = ends.Short n; other = None; ends = short; compared = own_other J; is = refl });
+      said = refl;
+    }
 
 -- what is said of a named fault isn't that memory is wanting
 not_mem : (ids : List (List ℕ)) (P : Plan) (J : List Entry) (f : CoreFault) → saying_of Report ids P J (outcome.Core f) ≡ Err Mem → ⊥
@@ -104,19 +140,35 @@ not_mem ids P J (core.Failed s place) e = cc
 not_mem ids P J (core.LoopLimit s time) e = cc
 not_mem ids P J (core.TooLong n) e = cc
 
-pub replays_say_the_same : ReplaysSayTheSame
-replays_say_the_same started S reply P J log faults new_faults outcome.Done run within recordable said ids o is not =
-    one_outcome (record_text P J) None o (saying_of Report ids P J outcome.Done) is (own_report P J run.valid run.eager within recordable run.shown) not (λ e. cc)
-replays_say_the_same started S reply P J log faults new_faults (outcome.Core f) run within recordable said ids o is not =
-    one_outcome (record_text P J) None o (saying_of Report ids P J (outcome.Core f)) is (own_ending P J run.valid run.eager within recordable ids f said (by_last run.shown)) not (not_mem ids P J f)
+said_again : (started : ℕ) (S : Scenario) (reply : Replies) (P : Plan) (J : List Entry) (log : List LogEntry) (faults new_faults : ℕ) (end : Outcome) → IsRun started S reply P J log faults new_faults end → IsReadAs P J → IsSaidAgain end
+    → (ids : List (List ℕ)) (o : Result (List ℕ) Ending) → IsOutcome (record_text P J) None o → (o ≡ Err Mem → ⊥) → o ≡ saying_of Report ids P J end
+said_again started S reply P J log faults new_faults outcome.Done run read said ids o is not =
+    one_outcome (record_text P J) None o (saying_of Report ids P J outcome.Done) is (own_report P J run.valid run.eager run.within read run.shown) not (λ e. cc)
+said_again started S reply P J log faults new_faults (outcome.Core f) run read said ids o is not =
+    one_outcome (record_text P J) None o (saying_of Report ids P J (outcome.Core f)) is (own_ending P J run.valid run.eager run.within read ids f said (by_last run.shown)) not (not_mem ids P J f)
   where
     by_last : (runs.IsLastFaulty P J f ⊎ runs.IsFull P J f (runs.IsMessageLeft started S P J log)) → IsLastFaulty P J f
     by_last (inl last) = record { before = last.before; sim = last.sim; message = last.message; is = last.is; right_before = last.right_before; named = last.named; fault = last.fault }
     by_last (inr long) = absurd (let none : IsSome (fault_in (core.TooLong P.entries)) = subst (λ (g : CoreFault). IsSome (fault_in g)) long.named said in cc)
-replays_say_the_same started S reply P J log faults new_faults (outcome.Setup f) run within recordable said ids o is not = absurd said
-replays_say_the_same started S reply P J log faults new_faults outcome.Fleet run within recordable said ids o is not = absurd said
-replays_say_the_same started S reply P J log faults new_faults (outcome.Gone i) run within recordable said ids o is not = absurd said
-replays_say_the_same started S reply P J log faults new_faults (outcome.Garbled i n) run within recordable said ids o is not = absurd said
-replays_say_the_same started S reply P J log faults new_faults (outcome.LongFrame i n) run within recordable said ids o is not = absurd said
-replays_say_the_same started S reply P J log faults new_faults (outcome.LongItem i n) run within recordable said ids o is not = absurd said
-replays_say_the_same started S reply P J log faults new_faults outcome.Mem run within recordable said ids o is not = absurd said
+said_again started S reply P J log faults new_faults (outcome.Setup f) run read said ids o is not = absurd said
+said_again started S reply P J log faults new_faults outcome.Fleet run read said ids o is not = absurd said
+said_again started S reply P J log faults new_faults (outcome.Gone i) run read said ids o is not = absurd said
+said_again started S reply P J log faults new_faults (outcome.Garbled i n) run read said ids o is not = absurd said
+said_again started S reply P J log faults new_faults (outcome.LongFrame i n) run read said ids o is not = absurd said
+said_again started S reply P J log faults new_faults (outcome.LongItem i n) run read said ids o is not = absurd said
+said_again started S reply P J log faults new_faults outcome.Mem run read said ids o is not = absurd said
+
+limit_again : (started : ℕ) (S : Scenario) (reply : Replies) (P : Plan) (J : List Entry) (log : List LogEntry) (faults new_faults : ℕ) (f : CoreFault) → IsRun started S reply P J log faults new_faults (outcome.Core f) → IsReadAs P J → fault_in f ≡ None
+    → (ids : List (List ℕ)) (o : Result (List ℕ) Ending) → IsOutcome (record_text P J) None o → (o ≡ Err Mem → ⊥) → IsLimitAgain (saying_of Report ids P J (outcome.Core f)) o
+limit_again started S reply P J log faults new_faults f run read none ids o is not = by_shown run.shown
+  where
+    by_end : EndsBy P (arrivals J) J (ends.Core f) ⊎ ((n : ℕ) × EndsBy P (arrivals J) J (ends.Short n)) → IsLimitAgain (saying_of Report ids P J (outcome.Core f)) o
+    by_end (inl limit) = inl (one_outcome (record_text P J) None o (saying_of Report ids P J (outcome.Core f)) is (own_limit P J run.valid run.eager run.within read ids f none limit) not (not_mem ids P J f))
+    by_end (inr (n, short)) = inr (n, one_outcome (record_text P J) None o (Err (endings.Short n)) is (own_short P J run.valid run.eager run.within read n short) not (λ e. cc))
+
+    by_shown : (runs.IsLastFaulty P J f ⊎ runs.IsFull P J f (runs.IsMessageLeft started S P J log)) → IsLimitAgain (saying_of Report ids P J (outcome.Core f)) o
+    by_shown (inl last) = absurd (true≢false (sym last.named ∙ ap (λ (x : Option Fault). is_some x) none))
+    by_shown (inr long) = by_end (full_again P J f (runs.IsMessageLeft started S P J log) long)
+
+pub replays_say_the_same : ReplaysSayTheSame
+replays_say_the_same = record { same = said_again; limit = limit_again }

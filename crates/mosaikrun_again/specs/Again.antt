@@ -1,11 +1,12 @@
 -- A run's journal, and the journal of a replay of its messages.
-use Rattle.std.specs.Prelude.{◌≡◌, ℕ, ◌≤◌, ◌⊎◌, ⊤, List, length, None, Some, IsSome}
+use Rattle.std.specs.Prelude.{◌≡◌, ℕ, ◌⊎◌, ⊤, List, length, None, Some, IsSome}
 use Rattle.mk_base.specs.Lists.{BeginsWith}
 use Rattle.mk_outside.specs.declared.fleet.LogEntry.{LogEntry}
 use Rattle.mk_plan.specs.declared.Plan.{Plan}
 use Rattle.mk_plan.specs.declared.Entry.{Entry}
 use Rattle.mk_plan.specs.Journals.{arrivals, view}
 use Rattle.mk_scenario.specs.declared.parts.Scenario.{Scenario}
+use Rattle.mk_sched.specs.declared.faults.CoreFault.{CoreFault}
 use Rattle.mk_sched.specs.Answers.{SomeReady, fault_in}
 use Rattle.mk_run_laws.specs.Kinds.{Replies}
 use Rattle.mk_run.specs.declared.outcome.Outcome.{Outcome}
@@ -13,7 +14,7 @@ use Rattle.mk_run.specs.declared.outcome.Outcome.TheVariants as outcome
 use Rattle.mk_run.specs.Ends.{IsRun}
 use Rattle.mk_record_laws.specs.Again.{steps_of}
 use Rattle.mk_record_replay.specs.declared.replaying.ReplayEnd.{ReplayEnd}
-use Rattle.mk_record_replay.specs.declared.replaying.ReplayEnd.TheVariants.{Done, Core}
+use Rattle.mk_record_replay.specs.declared.replaying.ReplayEnd.TheVariants.{Done, Core, Short}
 use Rattle.mk_record_replay.specs.Orders.{IsReplayBy}
 use Rattle.mk_record_replay.specs.Replays.{EndsBy, IsReplay}
 
@@ -45,12 +46,17 @@ IsSaidToTheEnd (outcome.LongFrame i n) = ⊤
 IsSaidToTheEnd (outcome.LongItem i n) = ⊥
 IsSaidToTheEnd outcome.Mem = ⊥
 
--- the replay of a run that was done is done; of one that ended by a wrong message, a failure or the
--- loop limit, it ends by the same
+-- the same fault; or, where that is the limit of entries, that messages are missing: one had come
+-- for which there was no room
+abbrev pub IsFaultAgain : CoreFault → ReplayEnd → Type 0
+IsFaultAgain f end = (end ≡ Core f) ⊎ ((fault_in f ≡ None) × ((n : ℕ) × (end ≡ Short n)))
+
+-- the replay of a run that was done is done; of one that ended by a fault of the core, it ends by
+-- the same
 abbrev pub EndsAlike : Outcome → ReplayEnd → Type 0
 EndsAlike outcome.Done end = end ≡ Done
 EndsAlike (outcome.Setup f) end = ⊤
-EndsAlike (outcome.Core f) end = IsSome (fault_in f) → end ≡ Core f
+EndsAlike (outcome.Core f) end = IsFaultAgain f end
 EndsAlike outcome.Fleet end = ⊤
 EndsAlike (outcome.Gone i) end = ⊤
 EndsAlike (outcome.Garbled i n) end = ⊤
@@ -67,11 +73,11 @@ pub record IsRunAgain (P : Plan) (J : List Entry) (end : Outcome) (K : List Entr
   pub same : IsSaidToTheEnd end → K ≡ J
   pub ends : EndsAlike end replay_end
 
--- so it is of each run over a valid plan whose journal keeps to the limit of entries
+-- so it is of each run
 abbrev pub ReplaysAreRuns : Type 0
 ReplaysAreRuns = (started : ℕ) (S : Scenario) (reply : Replies) (P : Plan) (J : List Entry)
     (log : List LogEntry) (faults new_faults : ℕ) (end : Outcome)
-    → IsRun started S reply P J log faults new_faults end → length J ≤ P.entries
+    → IsRun started S reply P J log faults new_faults end
     → (K : List Entry) (replay_end : ReplayEnd)
     → IsReplayBy P (arrivals J) (Some (steps_of J)) None K replay_end
     → IsRunAgain P J end K replay_end

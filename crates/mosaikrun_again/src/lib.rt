@@ -1,5 +1,5 @@
-//! Laws of a run's record that is replayed: the replay has the journal that was recorded, and `replay` says what was said of the
-//! run.
+//! Laws of a run's record that is replayed: it is read as the run's plan and journal, the replay has that journal, and `replay`
+//! says what was said of the run.
 #![tactic(auto)]
 
 ghost use Rattle.std.specs.Prelude.{◌≤◌, List, length};
@@ -7,7 +7,8 @@ ghost use Rattle.mk_plan.specs.declared.Plan.{Plan};
 ghost use Rattle.mk_plan.specs.declared.Entry.{Entry};
 ghost use Rattle.mk_plan.specs.Orderly.{IsEager};
 ghost use Rattle.mosaikrun_again.specs.Again.{IsReplayOf, ReplayHasJournal, ReplaysAreRuns};
-ghost use Rattle.mosaikrun_again.specs.Saying.{ReplaysSayTheSame};
+ghost use Rattle.mosaikrun_again.specs.Readable.{RunsAreReadable};
+ghost use Rattle.mosaikrun_again.specs.Saying.{RecordsSayTheSame, ReplaysSayTheSame};
 
 /// Each replay of an eager journal's messages, as they came, has a journal that begins with it, which is the same where nothing
 /// was to be sent at its end.
@@ -22,8 +23,20 @@ pub fn replay_is_the_run()
     ensures { ReplaysAreRuns }
 {}
 
-/// What `replay` makes of a run's record, where memory isn't wanting, is what was said of the run: its report where it was done,
-/// and else the same ending, where that was a wrong message, a failure or the loop limit.
+/// What `replay` makes of a run's record that is read as its plan and journal, where memory isn't wanting, is what was said of the
+/// run: its report where it was done, and else the same ending, where that was a wrong message, a failure or the loop limit.
 pub fn replay_says_the_same()
     ensures { ReplaysSayTheSame }
+{}
+
+/// The plan and the journal of a run may stand in a record, where each message that came on a link nests no deeper than 126.
+pub fn runs_are_readable()
+    ensures { RunsAreReadable }
+{}
+
+/// Where each message that came on a link nests no deeper than 126, the record of a run is read as its plan and journal, its replay
+/// has that journal, and `replay` over its bytes makes the text that `run` made, or tells the fault that `run` told; for the limit
+/// of entries it may tell that messages are missing, where one had come for which there was no room.
+pub fn records_say_the_same()
+    ensures { RecordsSayTheSame }
 {}

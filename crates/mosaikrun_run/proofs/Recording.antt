@@ -1,5 +1,6 @@
 -- Where the record of a run is there.
 use Rattle.std.proofs.Common.{◌≡◌, ◌⊎◌, inl, inr, ℕ, ◌+◌, true, List, [], ◌∷◌, ◌++◌, take, map, append_assoc, Option, None, Result, Err, refl, sym, ap, ◌∙◌, subst}
+use Rattle.std.specs.Prelude.{IfSome}
 use Rattle.mk_base.specs.Lists.{Each}
 use Rattle.mk_base.proofs.Lists.{append_nil}
 use Rattle.mk_frame.specs.Frames.{frames_of}
@@ -26,7 +27,7 @@ use Rattle.mosaikrun_endings.specs.declared.ending.Ending.TheVariants as ends
 use Rattle.mosaikrun_sayings.specs.Sayings.{ids_of}
 use Rattle.mosaikrun_run.specs.declared.sayings.Form.{Form}
 use Rattle.mosaikrun_run.specs.Laws.{RecordsAreThere}
-use Rattle.mosaikrun_run.specs.Outcomes.{IsScenarioOutcome, IsUnready, IsUnrun, Outside}
+use Rattle.mosaikrun_run.specs.Outcomes.{IsReadAgain, IsScenarioOutcome, IsUnready, IsUnrun, Outside}
 use Rattle.mosaikrun_run.specs.Records.{HasRecord, IsRunFault, IsSettled, IsStepSaid}
 use Rattle.mosaikrun_run.specs.Sayings.{halt_ending}
 use Rattle.mosaikrun_run.proofs.StepFrames.{IsCallText, frames_there, step_unsaid}
@@ -90,7 +91,7 @@ module _ (O : Outside) (form : Form) (S : Scenario) (text : Result (List ℕ) En
   there (inl unready) not due = absurd (unready_not unready due)
   there (inr (inl unrun)) not due = absurd (unrun_not unrun not due)
   there (inr (inr p)) not due = elim p.recorded [
-    | inl is ↦ record { ranks = p.ranks; plan = p.plan; journal = p.journal; outcome = p.outcome; run = p.run; said = p.said; is = is }
+    | inl is ↦ record { ranks = p.ranks; plan = p.plan; journal = p.journal; outcome = p.outcome; run = p.run; said = p.said; is = is; again = subst (λ (k : Option (List ℕ)). IfSome k (IsReadAgain p.plan p.journal)) is p.again }
     | inr none ↦ absurd (not none.1)
   ]
 
@@ -98,7 +99,7 @@ module _ (O : Outside) (form : Form) (S : Scenario) (text : Result (List ℕ) En
   only (inl unready) = inl unready.idle.unrecorded
   only (inr (inl unrun)) = inl unrun.unrecorded
   only (inr (inr p)) = elim p.recorded [
-    | inl is ↦ inr (record { ranks = p.ranks; plan = p.plan; journal = p.journal; outcome = p.outcome; run = p.run; said = p.said; is = is })
+    | inl is ↦ inr (record { ranks = p.ranks; plan = p.plan; journal = p.journal; outcome = p.outcome; run = p.run; said = p.said; is = is; again = subst (λ (k : Option (List ℕ)). IfSome k (IsReadAgain p.plan p.journal)) is p.again })
     | inr none ↦ inl none.0
   ]
 

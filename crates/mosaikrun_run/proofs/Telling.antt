@@ -1,6 +1,6 @@
 -- From what a run has come to, to what is said of it.
 use Rattle.std.proofs.Common.{◌≡◌, ◌⊎◌, inl, inr, ℕ, Bool, true, ◌&&◌, List, [], ◌∷◌, map, Option, Some, None, Result, Ok, Err, refl, sym, ap, ◌∙◌, subst}
-use Rattle.std.specs.Prelude.{IfOk, IfErr, option_map}
+use Rattle.std.specs.Prelude.{IfOk, IfErr, IfSome, option_map}
 use Rattle.std.specs.List.{list_all}
 use Rattle.mk_plan.specs.declared.Plan.{Plan}
 use Rattle.mk_plan.specs.declared.Journal.{Journal}
@@ -26,7 +26,7 @@ use Rattle.mosaikrun_run.specs.Sayings.{halt_ending, record_of, saying_of}
 use Rattle.mosaikrun_run.specs.inner.Sayings.{IsHalt}
 use Rattle.mosaikrun_run.specs.declared.sayings.Form.{Form}
 use Rattle.mosaikrun_run.specs.declared.sayings.Form.TheVariants.{Report}
-use Rattle.mosaikrun_run.specs.Outcomes.{IsIdle, IsRunOutcome, IsSaid, IsScenarioOutcome, Outside}
+use Rattle.mosaikrun_run.specs.Outcomes.{IsIdle, IsReadAgain, IsRunOutcome, IsSaid, IsScenarioOutcome, Outside}
 
 -- bytes are one scenario
 pub one_scenario : (bytes : List ℕ) (S T : Scenario) → scenario_of bytes ≡ Ok S → scenario_of bytes ≡ Ok T → S ≡ T
@@ -46,6 +46,11 @@ if_ok (Err e) f x = tt
 pub if_err : {A E : Type 0} {X Y : E → Type 0} (r : Result A E) → ((e : E) → r ≡ Err e → X e → Y e) → IfErr r X → IfErr r Y
 if_err (Ok a) f x = tt
 if_err (Err e) f x = f e refl x
+
+-- what holds of the items of a value holds of the value's list
+pub if_mapped : {V : Type 0} (items : V → List ℕ) (Q : List ℕ → Type 0) (o : Option V) → IfSome o (λ r. Q (items r)) → IfSome (option_map items o) Q
+if_mapped items Q None h = tt
+if_mapped items Q (Some r) h = h
 
 -- a record that wasn't made, where there is a text, was not wanted
 pub made_with_text : {V : Type 0} (items : V → List ℕ) (wanted : Option (List ℕ)) (kept : Option V) (text : Result V Ending) (v : V) → text ≡ Ok v → (option_map items kept ≡ wanted) ⊎ ((kept ≡ None) × (text ≡ Err ends.Mem)) → (t : Result (List ℕ) Ending) → (option_map items kept ≡ wanted) ⊎ ((option_map items kept ≡ None) × (t ≡ Err ends.Mem))
@@ -77,8 +82,8 @@ module _ (O : Outside) (S : Scenario) (ranks : List ℕ) (end : Outcome) where
 
   module _ (form : Form) (wanted : Bool) (runnable : IsRunnable (map name_of O.kinds) S ranks) where
     pub played : (plan : Option Plan) (journal : Option Journal) (P : Plan) (J : Journal) → plan ≡ Some P → journal ≡ Some J → Runs plan journal → (ids : List (List ℕ)) → ids ≡ ids_of S → (text : Result (List ℕ) Ending) (kept : Option (List ℕ))
-        → IsSaid (saying_of form ids P J.entries end) text → (kept ≡ record_of wanted P J.entries) ⊎ ((kept ≡ None) × (text ≡ Err ends.Mem)) → IsScenarioOutcome O form wanted S text kept
-    played plan journal P J is also run ids are text kept said recorded = inr (inr (record {
+        → IsSaid (saying_of form ids P J.entries end) text → (kept ≡ record_of wanted P J.entries) ⊎ ((kept ≡ None) × (text ≡ Err ends.Mem)) → IfSome kept (IsReadAgain P J.entries) → IsScenarioOutcome O form wanted S text kept
+    played plan journal P J is also run ids are text kept said recorded again = inr (inr (record {
       ranks = ranks;
       runnable = runnable;
       plan = P;
@@ -87,6 +92,7 @@ module _ (O : Outside) (S : Scenario) (ranks : List ℕ) (end : Outcome) where
       run = has_run plan journal P J is also run;
       said = subst (λ (i : List (List ℕ)). IsSaid (saying_of form i P J.entries end) text) are said;
       recorded = recorded;
+      again = again;
     }))
 
     pub unplayed : (plan : Option Plan) (journal : Option Journal) → plan ≡ None → journal ≡ None → Runs plan journal → (ids : List (List ℕ)) → ids ≡ ids_of S → (text : Result (List ℕ) Ending) (kept : Option (List ℕ))

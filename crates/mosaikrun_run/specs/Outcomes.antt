@@ -1,7 +1,11 @@
 -- What comes of a scenario, and of a scenario file's bytes, over a fleet.
-use Rattle.std.specs.Prelude.{◌≡◌, ◌⊎◌, ℕ, Bool, List, [], map, Option, None, Result, Ok, Err}
+use Rattle.std.specs.Prelude.{◌≡◌, ◌⊎◌, ℕ, Bool, List, [], map, Option, Some, None, IfSome, Result, Ok, Err}
 use Rattle.mk_plan.specs.declared.Plan.{Plan}
 use Rattle.mk_plan.specs.declared.Entry.{Entry}
+use Rattle.mk_plan.specs.Journals.{arrivals}
+use Rattle.mk_record.specs.Again.{steps_of}
+use Rattle.mk_record.specs.Readable.{IsReadable}
+use Rattle.mk_record.specs.Reading.{Said, reading}
 use Rattle.mk_outside.specs.Counts.{HasRisen}
 use Rattle.mk_outside.specs.declared.fleet.LogEntry.{LogEntry}
 use Rattle.mk_scenario.specs.declared.parts.Scenario.{Scenario}
@@ -70,9 +74,14 @@ pub record IsUnrun (O : Outside) (S : Scenario) (text : Result (List ℕ) Ending
   pub said : IsSaid (Err (halt_ending (ids_of S) halt)) text
   pub unrecorded : record_ ≡ None
 
+-- where a plan and a journal may stand in a record, these bytes, read, say the plan, the journal's
+-- messages and its Steps
+abbrev pub IsReadAgain : Plan → List Entry → List ℕ → Type 0
+IsReadAgain P J bytes = IsReadable P J → reading bytes ≡ Said P (arrivals J) (Some (steps_of J))
+
 -- the scenario was run, by this plan, with this journal and this outcome; what is said is its text
 -- in this form, or why there is none; and the record is made where it is wanted, but for want of
--- memory, which is then said
+-- memory, which is then said; read again, it says this plan and journal
 pub record IsPlayed (O : Outside) (form : Form) (wanted : Bool) (S : Scenario)
     (text : Result (List ℕ) Ending) (record_ : Option (List ℕ)) : Type 0 where
   pub ranks : List ℕ
@@ -84,6 +93,7 @@ pub record IsPlayed (O : Outside) (form : Form) (wanted : Bool) (S : Scenario)
   pub said : IsSaid (saying_of form (ids_of S) plan journal outcome) text
   pub recorded : (record_ ≡ record_of wanted plan journal)
       ⊎ ((record_ ≡ None) × (text ≡ Err ends.Mem))
+  pub again : IfSome record_ (IsReadAgain plan journal)
 
 -- what comes of a scenario whose text is wanted in this form, a record being wanted or not: the
 -- text or why there is none, and the record

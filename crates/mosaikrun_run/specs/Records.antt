@@ -20,7 +20,7 @@ use Rattle.mosaikrun_endings.specs.declared.ending.Ending.{Ending}
 use Rattle.mosaikrun_endings.specs.declared.ending.Ending.TheVariants as ends
 use Rattle.mosaikrun_sayings.specs.Sayings.{ids_of}
 use Rattle.mosaikrun_run.specs.declared.sayings.Form.{Form}
-use Rattle.mosaikrun_run.specs.Outcomes.{IsSaid, Outside}
+use Rattle.mosaikrun_run.specs.Outcomes.{IsReadAgain, IsSaid, Outside}
 use Rattle.mosaikrun_run.specs.Sayings.{saying_of}
 
 -- the whole frame of a Step was said on a link of simulator i: what was said there begins with the
@@ -48,6 +48,7 @@ IsRunFault ends.Usage = ⊥
 IsRunFault (ends.Missing name) = ⊥
 IsRunFault (ends.TooLong name count) = ⊥
 IsRunFault (ends.Scenario fault) = ⊥
+IsRunFault (ends.Watches fault) = ⊥
 IsRunFault (ends.Cycle sims) = ⊥
 IsRunFault (ends.Launch sim fault) = ⊥
 IsRunFault (ends.Setup setup) = ⊥
@@ -58,6 +59,7 @@ IsRunFault (ends.LoopLimit sim time) = ⊤
 IsRunFault (ends.Link sim fault) = ⊥
 IsRunFault (ends.Short outstanding) = ⊥
 IsRunFault (ends.Differs entry) = ⊥
+IsRunFault (ends.OtherPlan part) = ⊥
 IsRunFault ends.Fleet = ⊥
 IsRunFault ends.Folder = ⊥
 IsRunFault ends.Output = ⊥
@@ -70,8 +72,9 @@ abbrev pub IsSettled : {V : Type 0} → Result V Ending → Type 0
 IsSettled (Ok value) = ⊤
 IsSettled (Err e) = IsRunFault e
 
--- there is a record, which is that of the plan and the journal of a run; and what was said of this
--- same run, of its outcome, is its text in this form, or why there is none
+-- there is a record, which is that of the plan and the journal of a run, and says these where it is
+-- read again; and what was said of this same run, of its outcome, is its text in this form, or why
+-- there is none
 pub record HasRecord (O : Outside) (form : Form) (S : Scenario) (text : Result (List ℕ) Ending)
     (kept : Option (List ℕ)) : Type 0 where
   pub ranks : List ℕ
@@ -81,3 +84,4 @@ pub record HasRecord (O : Outside) (form : Form) (S : Scenario) (text : Result (
   pub run : HasRun O.started S ranks O.kinds plan journal O.log O.faults O.new_faults outcome
   pub said : IsSaid (saying_of form (ids_of S) plan journal outcome) text
   pub is : kept ≡ Some (record_text plan journal)
+  pub again : IsReadAgain plan journal (record_text plan journal)

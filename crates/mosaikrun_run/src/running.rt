@@ -1,5 +1,5 @@
 // From a scenario, or a file's bytes, to the text and the record of its run.
-ghost use Rattle.std.specs.Prelude.{◌≡◌, ◌≤◌, ◌<◌, ◌⊎◌, ℕ, List, IfOk, IfErr, Some, None, Ok, Err, map, option_map, true};
+ghost use Rattle.std.specs.Prelude.{◌≡◌, ◌≤◌, ◌<◌, ◌⊎◌, ℕ, List, IfOk, IfErr, IfSome, Some, None, Ok, Err, map, option_map, true};
 ghost use Rattle.std.specs.List.{list_all};
 ghost use Rattle.mk_plan.specs.declared.Plan.{Plan};
 ghost use Rattle.mk_plan.specs.declared.Journal.{Journal};
@@ -20,7 +20,7 @@ ghost use Rattle.mk_run.specs.Outcomes.{outcome_of};
 ghost use Rattle.mosaikrun_sayings.specs.Sayings.{ids_of};
 ghost use Rattle.mosaikrun_run.specs.Sayings.{halt_ending, record_of, saying_of};
 ghost use Rattle.mosaikrun_run.specs.inner.Sayings.{IsHalt};
-ghost use Rattle.mosaikrun_run.specs.Outcomes.{IsScenarioOutcome, IsRunOutcome, IsSaid, outside};
+ghost use Rattle.mosaikrun_run.specs.Outcomes.{IsReadAgain, IsScenarioOutcome, IsRunOutcome, IsSaid, outside};
 ghost use Rattle.mosaikrun_endings.specs.declared.ending.Ending.TheVariants as ends;
 
 use crate::sayings::{Form, halt_ending, saying};
@@ -228,6 +228,8 @@ fn tell(
     ensures recorded { (option_map (λ r. r.items) result.record
         ≡ record_of is_recorded plan.now journal.now.entries)
         ⊎ ((result.record ≡ None) × (result.text ≡ Err ends.Mem)) }
+    ensures again { IfSome result.record
+        (λ r. IsReadAgain plan.now journal.now.entries r.items) }
 {
     match record_of(alloc, plan, journal, is_recorded) {
         Ok(record) => Told {
@@ -246,8 +248,10 @@ fn record_of(
     is_recorded: bool,
 ) -> Result<Option<Vec<u8>>, Mem>
     requires { list_all is_writable journal.now.entries ≡ true }
-    ensures { IfOk result (λ record_. option_map (λ r. r.items) record_
+    ensures made { IfOk result (λ record_. option_map (λ r. r.items) record_
         ≡ record_of is_recorded plan.now journal.now.entries) }
+    ensures again { IfOk result (λ record_. IfSome record_
+        (λ r. IsReadAgain plan.now journal.now.entries r.items)) }
 {
     if is_recorded {
         Ok(Some(write_record(alloc, plan, journal)?))

@@ -18,7 +18,7 @@ use Rattle.mk_outside.specs.declared.fleet.LogEntry.{LogEntry}
 use Rattle.mk_outside.specs.declared.fleet.LogEntry.TheVariants.{Ended}
 use Rattle.mk_session.specs.Fronts.{BeginsGarbled}
 use Rattle.mk_sched.specs.Cores.{Stands}
-use Rattle.mk_sched.specs.Answers.{SomeReady}
+use Rattle.mk_sched.specs.Answers.{SomeOpen, SomeReady}
 use Rattle.mk_local.specs.declared.turn.Turn.{Turn}
 use Rattle.mk_local.specs.Simulators.{Simulator}
 use Rattle.mk_run_laws.specs.Hearing.{first_message}
@@ -33,7 +33,7 @@ use Rattle.mk_run_local.specs.Laws.{HasCome}
 use Rattle.mk_run_local.specs.Made.{kind_reply_of}
 use Rattle.mk_run.specs.declared.outcome.Outcome.{Outcome}
 use Rattle.mk_run.specs.declared.outcome.Outcome.TheVariants as outcome
-use Rattle.mk_run.specs.Ends.{AreInRange, QueuedAll, IsAwaiting, IsBrokenOff, IsLastFaulty, IsOpenWithin, IsFull, IsLongItem, SetupRestsWell}
+use Rattle.mk_run.specs.Ends.{AreInRange, QueuedAll, IsAwaiting, IsBrokenOff, IsLastFaulty, IsOpenWithin, IsFull, IsLongItem, SetupRestsWell, fault_named}
 
 -- how many links were started before the run, its scenario, the kinds at hand, the replies of each
 -- simulator to its handshake, and the plan that these make
@@ -90,8 +90,8 @@ pub record IsUnderway (T : Setting) (P : Plan) (J : List Entry) (log : List LogE
   pub only_within : (i : ℕ) → is_within T.scenario i ≡ false → local_at sims i ≡ None
   pub setup_rests : SetupRestsWell T.started T.scenario log
 
--- nobody was ready, and a message was heard that the core hasn't taken: the oldest reply that was
--- kept, which is a success, or a message of a link
+-- some request was open, nobody was ready, and a message was heard that the core hasn't taken: the
+-- oldest reply that was kept, which is a success, or a message of a link
 pub record HasHeard (T : Setting) (P : Plan) (J : List Entry) (log : List LogEntry) (s : ℕ)
     (m : Message) (D : CrewState) (sims : List (Option Simulator)) : Type 0 where
   pub before : List LogEntry
@@ -99,6 +99,7 @@ pub record HasHeard (T : Setting) (P : Plan) (J : List Entry) (log : List LogEnt
   pub parts : log ≡ before ++ entries
   pub crew : CrewState
   pub underway : IsUnderway T P J before crew sims
+  pub opened : SomeOpen P J
   pub nobody : SomeReady P J → ⊥
   pub heard : IsHeard entries s m crew D
   pub fit : (k : Arrival) (more : List Arrival) → crew.kept ≡ k ∷ more → IsFitSuccess m
@@ -163,4 +164,5 @@ pub record HasEnded (risen : Type 0) (T : Setting) (P : Plan) (J : List Entry) (
   pub rests : RestsEnd T.started T.scenario T.replies P J log
   pub setup_rests : SetupRestsWell T.started T.scenario log
   pub ends : EndsBy risen T P J log C end
+  pub fault : (view P J).fault ≡ fault_named end
   pub unfinished : IsBrokenOff end → IsAwaiting P J

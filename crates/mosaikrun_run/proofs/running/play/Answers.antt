@@ -2,8 +2,8 @@ use Rattle.std.proofs.Common.{None, Ok, Err, refl}
 use Rattle.std.specs.Prelude.{option_map}
 use Rattle.mk_local.specs.Registries.{rows_in}
 use Rattle.mosaikrun_run.specs.Sayings.{record_of}
-use Rattle.mosaikrun_run.specs.Outcomes.{outside}
-use Rattle.mosaikrun_run.proofs.Telling.{has_run, if_err, if_ok, made_with_ending, made_with_text, played, unplayed, writable}
+use Rattle.mosaikrun_run.specs.Outcomes.{IsReadAgain, outside}
+use Rattle.mosaikrun_run.proofs.Telling.{has_run, if_err, if_mapped, if_ok, made_with_ending, made_with_text, played, unplayed, writable}
 use Rattle.mosaikrun_run.proofs.running.play.Goals as goal
 
 pub tell-requires : goal.tell-requires
@@ -22,7 +22,8 @@ returns-in-Some-Some-clause-text g c =
       r.1,
       played O c.args.scenario c.args.accepted.ranks c.run-outcome.result.outcome c.args.form c.args.is_recorded c.requires.runnable c.run-outcome.result.plan c.run-outcome.result.journal c.in-Some-Some.plan c.in-Some-Some.journal c.in-Some-Some.is-0 c.in-Some-Some.is-1 r.2
           c.args.accepted.ids c.requires.ids (Ok text.items) (option_map (λ v. v.items) c.tell.result.record) said
-          (made_with_text (λ v. v.items) (record_of c.args.is_recorded c.in-Some-Some.plan c.in-Some-Some.journal.entries) c.tell.result.record c.tell.result.text text is c.tell.ensures.recorded (Ok text.items)),
+          (made_with_text (λ v. v.items) (record_of c.args.is_recorded c.in-Some-Some.plan c.in-Some-Some.journal.entries) c.tell.result.record c.tell.result.text text is c.tell.ensures.recorded (Ok text.items))
+          (if_mapped (λ v. v.items) (IsReadAgain c.in-Some-Some.plan c.in-Some-Some.journal.entries) c.tell.result.record c.tell.ensures.again),
     ))
     c.tell.ensures.text
 
@@ -36,7 +37,8 @@ returns-in-Some-Some-clause-none g c =
       r.1,
       played O c.args.scenario c.args.accepted.ranks c.run-outcome.result.outcome c.args.form c.args.is_recorded c.requires.runnable c.run-outcome.result.plan c.run-outcome.result.journal c.in-Some-Some.plan c.in-Some-Some.journal c.in-Some-Some.is-0 c.in-Some-Some.is-1 r.2
           c.args.accepted.ids c.requires.ids (Err e) (option_map (λ v. v.items) c.tell.result.record) said
-          (made_with_ending (λ v. v.items) (record_of c.args.is_recorded c.in-Some-Some.plan c.in-Some-Some.journal.entries) c.tell.result.record c.tell.result.text e is c.tell.ensures.recorded (Err e) refl),
+          (made_with_ending (λ v. v.items) (record_of c.args.is_recorded c.in-Some-Some.plan c.in-Some-Some.journal.entries) c.tell.result.record c.tell.result.text e is c.tell.ensures.recorded (Err e) refl)
+          (if_mapped (λ v. v.items) (IsReadAgain c.in-Some-Some.plan c.in-Some-Some.journal.entries) c.tell.result.record c.tell.ensures.again),
     ))
     c.tell.ensures.none
 

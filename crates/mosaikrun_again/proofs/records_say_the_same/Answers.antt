@@ -1,0 +1,5 @@
+use Rattle.mosaikrun_again.proofs.Saved.{records_say_the_same}
+use Rattle.mosaikrun_again.proofs.records_say_the_same.Goals as goal
+
+pub returns : goal.returns
+returns c = records_say_the_same
