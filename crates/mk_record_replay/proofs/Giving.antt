@@ -30,7 +30,8 @@ use Rattle.mk_sched.specs.Answers.{NextOf, ArriveOf, IsAsked, IsWaiting, IsOver,
 use Rattle.mk_record_replay.specs.declared.replaying.ReplayEnd.{ReplayEnd}
 use Rattle.mk_record_replay.specs.declared.replaying.ReplayEnd.TheVariants.{Done, Core, Short}
 use Rattle.mk_record_replay.specs.Replays.{messages_from, IsReplay, IsLastFaulty, IsTooLong}
-use Rattle.mk_record_replay.specs.inner.Loops.{IsPatient, IsOnWay, GoesOn, IsUnready, IsSettled, IsStopped, GivenBy, IsRun, CanArrive}
+use Rattle.mk_record_replay.specs.Runs.{CanArrive, IsRun}
+use Rattle.mk_record_replay.specs.inner.Loops.{IsPatient, IsOnWay, GoesOn, IsUnready, IsSettled, IsStopped, GivenBy}
 use Rattle.mk_record_replay.proofs.Pushing.{given_of, given_got, on_way_sent, on_way_got, patient_got, arrivals_after_got, arrivals_after_sent, got_is}
 use Rattle.mk_record_replay.proofs.Counting.{some_are_open}
 
@@ -154,7 +155,7 @@ given_after old mid new b (Some f) g h = λ A more way. let there : IsOnWay mid.
 -- ---- the end
 
 run_of_stop : (P : Plan) (A : List Arrival) (f : CoreFault) (new : CoreState) → IsStopped P A f new → IsRun P A (Core f) new
-run_of_stop P A f new s = record { plan = s.plan; replay = s.replay; ends = s.by }
+run_of_stop P A f new s = record { plan = s.plan; replay = s.replay; ends = s.by; going = tt }
 
 -- a fault after the first messages
 pub stopped_within : (P : Plan) (A B : List Arrival) (f : CoreFault) (new : CoreState) → IsStopped P A f new → A ≡ B → IsRun P B (Core f) new
@@ -180,6 +181,7 @@ module _ (old new : CoreState) where
       finished = finished;
       sent = λ i h. (finished i h).sent ∙ ap (λ (R : Messages). run_items old.plan R i) (λ k j. (got_is new.entries j ∙ ap (λ (B : List Arrival). messages_from B j) after.given) k);
     };
+    going = s.by.0;
   }
 
   pub ends_short : (n : ℕ) (A : List Arrival) → IsSettled old next.Wait new → n ≡ open_count new.plan (view new.plan new.entries) → IsOnWay old.plan A old.entries → IsRun old.plan A (Short n) new
@@ -194,6 +196,7 @@ module _ (old new : CoreState) where
       count = count;
       some = let one : 1 ≤ open_count new.plan (view new.plan new.entries) = some_are_open new.plan new.entries s.by.2 in subst (λ (k : ℕ). 1 ≤ k) (sym e) one;
     };
+    going = s.by.0;
   }
 
 -- what follows from a fact on success

@@ -8,7 +8,7 @@ use Rattle.mk_record_read.specs.declared.saved.Arrival.{Arrival}
 use Rattle.mk_record_read.specs.Seen.{came}
 use Rattle.mk_record_read.specs.Steps.{IsKnown}
 use Rattle.mk_sched.specs.Cores.{is_message_in_range}
-use Rattle.mk_record_replay.specs.inner.Loops.{CanArrive}
+use Rattle.mk_record_replay.specs.Runs.{CanArrive}
 
 -- a message that may be written is one that a core takes
 same_range : (m : Message) → is_in_range m ≡ true → is_message_in_range m ≡ true

@@ -1,5 +1,5 @@
 -- The replays of a record that have come to an end are one, and end alike.
-use Rattle.std.proofs.Common.{◌≡◌, ℕ, ◌+◌, ◌<◌, ◌≤◌, Bool, true, false, cond, List, [], ◌∷◌, ◌++◌, length, filter, Option, Some, None, is_some, refl, sym, ap, ◌∙◌, subst, ◌⊎◌, inl, inr, arith, length-append, true≢false}
+use Rattle.std.proofs.Common.{◌≡◌, ℕ, ◌+◌, ◌<◌, Bool, false, cond, List, [], ◌∷◌, length, filter, Option, Some, None, is_some, refl, sym, ap, ◌∙◌, subst, ◌⊎◌, inl, inr, arith, length-append, true≢false}
 use Rattle.std.specs.Prelude.{IsSome, option_map}
 use Rattle.std.specs.List.{range_with_len}
 use Rattle.mk_base.specs.Lists.{IsIn}
@@ -9,7 +9,7 @@ use Rattle.mk_plan.specs.declared.Entry.{Entry}
 use Rattle.mk_plan.specs.Plans.{sim_count}
 use Rattle.mk_plan.specs.Journals as journals
 use Rattle.mk_plan.specs.Journals.{Arrival, arrivals, view, View, open_count}
-use Rattle.mk_plan.specs.Ready.{IsReady, IsDone}
+use Rattle.mk_plan.specs.Ready.{IsReady}
 use Rattle.mk_plan.specs.Advance.{IsAdvance}
 use Rattle.mk_order.proofs.Settled.{IsAtEnd, faulty, full, waits_is_end, done_is_end, replay_is_one}
 use Rattle.mk_sched.specs.declared.faults.CoreFault.{CoreFault}
@@ -39,7 +39,7 @@ at_end P A J (Short n) r s = waits_is_end IsReady IsAdvance P A J r.eager s.give
 -- ---- a journal has one end
 
 -- where all were given, nothing is owed and nobody is ready, no more entry is needed
-nothing_more : (P : Plan) (A : List Arrival) (J : List Entry) → arrivals J ≡ A → (view P J).owed ≡ None → (SomeReady P J → ⊥) → IsSome (view P J).owed ⊎ (SomeReady P J ⊎ IsLeft A J) → ⊥
+pub nothing_more : (P : Plan) (A : List Arrival) (J : List Entry) → arrivals J ≡ A → (view P J).owed ≡ None → (SomeReady P J → ⊥) → IsSome (view P J).owed ⊎ (SomeReady P J ⊎ IsLeft A J) → ⊥
 nothing_more P A J given paid nobody (inl owed) = let x = some_of (view P J).owed owed in none_some (sym paid ∙ x.1)
 nothing_more P A J given paid nobody (inr (inl ready)) = nobody ready
 nothing_more P A J given paid nobody (inr (inr left)) =
@@ -47,7 +47,7 @@ nothing_more P A J given paid nobody (inr (inr left)) =
     let same : length (arrivals J) ≡ length A = ap length given in omega (arith, long, same)
 
 -- a fault that is named isn't missing
-faultless : (P : Plan) (J : List Entry) (f : CoreFault) → (view P J).fault ≡ None → IsLastFaulty P J f → ⊥
+pub faultless : (P : Plan) (J : List Entry) (f : CoreFault) → (view P J).fault ≡ None → IsLastFaulty P J f → ⊥
 faultless P J f none l = let x = some_of (fault_in f) l.named in none_some (sym none ∙ l.fault ∙ x.1)
 
 filter_none : (p : ℕ → Bool) (xs : List ℕ) → ((x : ℕ) → IsIn x xs → p x ≡ false) → filter p xs ≡ []
@@ -84,7 +84,7 @@ core_is (TooLong n) h = absurd (true≢false (sym h))
 some_is : {X : Type 0} (x y : X) → Some x ≡ Some y → x ≡ y
 some_is x y e = cc
 
-one_fault : (P : Plan) (A : List Arrival) (J : List Entry) (f g : CoreFault) → IsLastFaulty P J f ⊎ IsTooLong P A J f → IsLastFaulty P J g ⊎ IsTooLong P A J g → f ≡ g
+pub one_fault : (P : Plan) (A : List Arrival) (J : List Entry) (f g : CoreFault) → IsLastFaulty P J f ⊎ IsTooLong P A J f → IsLastFaulty P J g ⊎ IsTooLong P A J g → f ≡ g
 one_fault P A J f g (inl l) (inl m) = some_is f g (sym (core_is f l.named) ∙ ap (option_map core_of) (sym l.fault ∙ m.fault) ∙ core_is g m.named)
 one_fault P A J f g (inl l) (inr t) = absurd (faultless P J f t.no_fault l)
 one_fault P A J f g (inr t) (inl l) = absurd (faultless P J g t.no_fault l)

@@ -1,5 +1,5 @@
 -- What a round makes of a replay in another order.
-use Rattle.std.proofs.Common.{◌≡◌, ℕ, ◌+◌, ◌-◌, ◌<◌, ◌≤◌, List, [], ◌∷◌, ◌++◌, length, reverse, true, false, true≢false, Option, Some, None, slice_get, slice_set, refl, sym, ap, ◌∙◌, subst, inl, inr, arith, append_assoc, length-append}
+use Rattle.std.proofs.Common.{◌≡◌, ℕ, ◌+◌, ◌<◌, ◌≤◌, List, [], ◌∷◌, ◌++◌, length, reverse, true, false, true≢false, Option, Some, None, slice_get, slice_set, refl, sym, ap, ◌∙◌, subst, inl, inr, arith, append_assoc, length-append}
 use Rattle.mk_base.proofs.Lists.{append_nil, below_get, filter_map_append}
 use Rattle.mk_plan.specs.declared.Plan.{Plan}
 use Rattle.mk_plan.specs.declared.Message.{Message}
@@ -14,7 +14,8 @@ use Rattle.mk_record_replay.specs.declared.replaying.ReplayEnd.{ReplayEnd}
 use Rattle.mk_record_replay.specs.declared.replaying.ReplayEnd.TheVariants.{Done, Core, Short}
 use Rattle.mk_record_replay.specs.declared.ordering.Given.{Given}
 use Rattle.mk_record_replay.specs.declared.ordering.Given.TheVariants.{Going, Nothing, Stopped}
-use Rattle.mk_record_replay.specs.inner.Loops.{GoesOn, IsOnWay, IsRun, IsSettled, IsStopped, GivenBy}
+use Rattle.mk_record_replay.specs.Runs.{IsRun}
+use Rattle.mk_record_replay.specs.inner.Loops.{GoesOn, IsOnWay, IsSettled, IsStopped, GivenBy}
 use Rattle.mk_record_replay.specs.Orders.{IsInOrder, IsReplayInOrder, SameMessages, after_draw, all_left, candidates, chosen, next_number, next_sim, number_after}
 use Rattle.mk_record_replay.specs.inner.Rounds.{AreFit, AreWaiting, GivenMessage, GivenNext, GrownBy, HasEnded, HasGone, HasMoved, IsAllGiven, IsBetween, is_some_left, next_among}
 use Rattle.mk_record_replay.proofs.Giving.{stopped_before, ends_done, ends_short, with_rest}

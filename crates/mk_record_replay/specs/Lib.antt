@@ -1,3 +1,4 @@
 pub mod Orders
 pub mod Replays
+pub mod Runs
 pub mod inner

@@ -5,4 +5,4 @@
 mod ordering;
 mod replaying;
 
-pub use replaying::{ReplayEnd, Replayed, replay, replay_is_one};
+pub use replaying::{ReplayEnd, Replayed, give_all, replay, replay_is_one};

@@ -13,7 +13,8 @@ ghost use Rattle.mk_sched.specs.Answers.{open_id};
 ghost use Rattle.mk_record_replay.specs.Replays.{IsReplay, IsEndOf, end_with};
 ghost use Rattle.mk_record_replay.specs.Orders.{IsReplayBy, IsReplayInOrder};
 ghost use Rattle.mk_record_replay.specs.inner.Rounds.{GrownBy};
-ghost use Rattle.mk_record_replay.specs.inner.Loops.{CanArrive, GivenBy, IsOnWay, IsRun, IsSettled, IsUnready};
+ghost use Rattle.mk_record_replay.specs.Runs.{CanArrive, IsRun};
+ghost use Rattle.mk_record_replay.specs.inner.Loops.{GivenBy, IsOnWay, IsSettled, IsUnready};
 
 use crate::ordering::{run_in_order, split};
 use mk_base::{List, Mem, SimNo};
@@ -84,7 +85,7 @@ fn as_recorded(alloc: Global, saved: Saved) -> Result<Replayed, Mem>
     } = saved;
     let count = arrivals.len();
     let mut core = Core::new(alloc, plan)?;
-    let end = run(&mut core, arrivals)?;
+    let end = give_all(&mut core, arrivals)?;
     let (plan, journal) = core.into_parts();
     let other = first_other_step(count, &asks, &journal);
     Ok(Replayed {
@@ -142,8 +143,10 @@ pub fn replay_is_one()
         → IsReplayBy P A steps order J e → IsReplayBy P A steps order K f → (J ≡ K) × (e ≡ f) }
 {}
 
-// Gives these messages to a new core, and keeps none that was given.
-fn run(core: &mut Core, arrivals: List<Arrival>) -> Result<ReplayEnd, Mem>
+/// Gives these messages to a new core, in their order. Whoever is ready is asked before each and
+/// after the last. It keeps none that was given. The end is `Done`, `Short` or a fault of the core;
+/// where it is no fault, the core goes on.
+pub fn give_all(core: &mut Core, arrivals: List<Arrival>) -> Result<ReplayEnd, Mem>
     requires new { core.old ≡ record { plan = core.old.plan; entries = []; ended = None } }
     requires known { All (CanArrive core.old.plan) arrivals }
     ensures { IfOk result (λ end. IsRun core.old.plan (map came arrivals) end core.new) }

@@ -1,5 +1,5 @@
 -- For proofs alone. What stands while messages are given to a core.
-use Rattle.std.specs.Prelude.{◌≡◌, ℕ, ◌<◌, ◌⊎◌, true, List, [], ◌∷◌, ◌++◌, length, filter, Option, Some, None, is_some}
+use Rattle.std.specs.Prelude.{◌≡◌, ℕ, ◌⊎◌, List, [], ◌∷◌, ◌++◌, length, filter, Option, Some, None, is_some}
 use Rattle.std.specs.List.{range_with_len}
 use Rattle.mk_base.specs.declared.SimNo.{SimNo}
 use Rattle.mk_base.specs.declared.tier.Tier.{Tier}
@@ -7,24 +7,17 @@ use Rattle.mk_plan.specs.declared.Plan.{Plan}
 use Rattle.mk_plan.specs.declared.Message.{Message}
 use Rattle.mk_plan.specs.declared.Entry.{Entry}
 use Rattle.mk_plan.specs.declared.Entry.TheVariants.{Got}
-use Rattle.mk_plan.specs.Plans.{sim_count}
 use Rattle.mk_plan.specs.Journals as journals
 use Rattle.mk_plan.specs.Journals.{view, arrivals}
 use Rattle.mk_plan.specs.Ready.{IsReady, IsDone}
 use Rattle.mk_plan.specs.Agreement.{IsFinished}
-use Rattle.mk_record_read.specs.declared.saved.Arrival.{Arrival}
 use Rattle.mk_sched.specs.declared.faults.CoreFault.{CoreFault}
 use Rattle.mk_sched.specs.declared.faults.CoreFault.TheVariants.{TooLong}
 use Rattle.mk_sched.specs.declared.faults.Next.{Next}
 use Rattle.mk_sched.specs.declared.faults.Next.TheVariants.{Ask, Wait, Done, Fault}
-use Rattle.mk_sched.specs.Cores.{CoreState, Stands, is_message_in_range}
+use Rattle.mk_sched.specs.Cores.{CoreState, Stands}
 use Rattle.mk_sched.specs.Answers.{SomeReady, SomeOpen, open_id}
-use Rattle.mk_record_replay.specs.declared.replaying.ReplayEnd.{ReplayEnd}
-use Rattle.mk_record_replay.specs.Replays.{IsReplay, IsLastFaulty, IsTooLong, EndsBy}
-
--- the core takes the message
-abbrev pub CanArrive : Plan → Arrival → Type 0
-CanArrive P a = (a.sim.0 < sim_count P) × (is_message_in_range a.message ≡ true)
+use Rattle.mk_record_replay.specs.Replays.{IsReplay, IsLastFaulty, IsTooLong}
 
 -- no message came while a simulator was ready
 abbrev pub IsPatient : Plan → List Entry → Type 0
@@ -87,13 +80,6 @@ GivenBy old a None new = (new.ended ≡ None) × (new.plan ≡ old.plan)
     → IsOnWay old.plan (A ++ a ∷ []) new.entries)
 GivenBy old a (Some f) new = (A more : List journals.Arrival) → IsOnWay old.plan A old.entries
     → IsStopped old.plan (A ++ a ∷ more) f new
-
--- the replay of the messages A came to its end
-pub record IsRun (P : Plan) (A : List journals.Arrival) (end : ReplayEnd)
-    (new : CoreState) : Type 0 where
-  pub plan : new.plan ≡ P
-  pub replay : IsReplay P A new.entries
-  pub ends : EndsBy P A new.entries end
 
 -- at how many of the first n simulators a request is open
 abbrev pub open_ids : CoreState → ℕ → ℕ

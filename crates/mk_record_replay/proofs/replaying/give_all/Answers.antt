@@ -6,7 +6,7 @@ use Rattle.mk_sched.specs.Cores.{CoreState}
 use Rattle.mk_record_replay.specs.inner.Loops.{IsOnWay}
 use Rattle.mk_record_replay.proofs.Giving.{ends_within, more_given, next_arrives, next_parts}
 use Rattle.mk_record_replay.proofs.Pushing.{on_way_first}
-use Rattle.mk_record_replay.proofs.replaying.run.Goals as goal
+use Rattle.mk_record_replay.proofs.replaying.give_all.Goals as goal
 
 pub give_up-requires-clause-known : goal.give_up-requires-clause-known
 give_up-requires-clause-known c = let l = c.loop-arrival.invariant in

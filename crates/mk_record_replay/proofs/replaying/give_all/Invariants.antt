@@ -2,7 +2,7 @@ use Rattle.std.proofs.Common.{◌≡◌, ◌++◌, None, List, map, length, reve
 use Rattle.mk_record_read.specs.declared.saved.Arrival.{Arrival}
 use Rattle.mk_record_read.specs.Seen.{came}
 use Rattle.mk_record_replay.specs.inner.Loops.{IsOnWay}
-use Rattle.mk_record_replay.proofs.replaying.run.Given as goal
+use Rattle.mk_record_replay.proofs.replaying.give_all.Given as goal
 
 abbrev pub invariant-loop-arrival : goal.invariant-loop-arrival
 invariant-loop-arrival l = record {

@@ -1,0 +1,2 @@
+pub mod AfterRecord
+pub mod OneRestored
