@@ -1,0 +1,125 @@
+-- What a resumed run's journal has of each simulator once it has got an entry more.
+use Rattle.std.proofs.Common.{◌≡◌, ◌⊎◌, inl, inr, ℕ, zero, suc, ◌+◌, ◌<◌, ◌≤◌, ◌==◌, Bool, true, false, List, [], ◌∷◌, ◌++◌, length, take, slice_get, Some, None, if◌then◌else◌, refl, sym, ap, ◌∙◌, subst, arith, length-append}
+use Rattle.std.specs.List.{cons_option}
+use Rattle.std.proofs.lemmas.List.{take_all}
+use Rattle.mk_base.specs.declared.SimNo.{SimNo}
+use Rattle.mk_base.proofs.Lists.{append_nil, none_some, some_same, filter_map_append}
+use Rattle.mk_plan.specs.declared.Item.{Item}
+use Rattle.mk_plan.specs.declared.Message.{Message}
+use Rattle.mk_plan.specs.declared.Entry.{Entry}
+use Rattle.mk_plan.specs.declared.Entry.TheVariants.{Sent, Got}
+use Rattle.mk_plan.specs.Journals.{sent, got, sent_to, got_from}
+use Rattle.mk_run_laws.specs.Crews.{given_by}
+use Rattle.mk_run_laws.proofs.Stepping.{apart_is, same_is}
+use Rattle.mk_resume.specs.Talks.{free_items}
+use Rattle.mk_resume.proofs.UpTo.{free_all, free_front, up_to_behind, up_to_head}
+use Rattle.mk_resume_links.specs.Rests.{repeated}
+
+-- ---- lists
+
+take_more : (xs : List Message) (n : ℕ) (x : Message) → slice_get xs n ≡ Some x → take (n + 1) xs ≡ take n xs ++ x ∷ []
+take_more xs n x is = ap (λ (k : ℕ). take k xs) (let e : n + 1 ≡ suc n = omega arith in e) ∙ go xs n is
+  where
+    go : (xs : List Message) (n : ℕ) → slice_get xs n ≡ Some x → take (suc n) xs ≡ take n xs ++ x ∷ []
+    go [] n is = absurd (none_some is)
+    go (y ∷ ys) zero is = ap (λ (z : Message). z ∷ []) (some_same is)
+    go (y ∷ ys) (suc n) is = ap (λ (l : List Message). y ∷ l) (go ys n is)
+
+few_or_more : (n k : ℕ) → (n < k) ⊎ (k ≤ n)
+few_or_more n zero = inr (omega arith)
+few_or_more zero (suc k) = inl (omega arith)
+few_or_more (suc n) (suc k) = elim (few_or_more n k) [ inl low ↦ inl (omega (arith, low)) | inr high ↦ inr (omega (arith, high)) ]
+
+-- ---- an item more
+
+got_sent : (J : List Entry) (s : SimNo) (item : Item) (i : ℕ) → got (J ++ Sent s item ∷ []) i ≡ got J i
+got_sent J s item i = filter_map_append (got_from i) J (Sent s item ∷ []) ∙ append_nil (got J i)
+
+pub repeated_sent : (J : List Entry) (s : SimNo) (item : Item) (i n : ℕ) → repeated (J ++ Sent s item ∷ []) i n ≡ repeated J i n
+repeated_sent J s item i n = ap (take n) (got_sent J s item i)
+
+pub count_sent : (J : List Entry) (s : SimNo) (item : Item) (i : ℕ) → length (got (J ++ Sent s item ∷ []) i) ≡ length (got J i)
+count_sent J s item i = ap length (got_sent J s item i)
+
+sent_here : (J : List Entry) (s : SimNo) (item : Item) → sent (J ++ Sent s item ∷ []) s.0 ≡ sent J s.0 ++ item ∷ []
+sent_here J s item = filter_map_append (sent_to s.0) J (Sent s item ∷ []) ∙ ap (λ (b : Bool). sent J s.0 ++ cons_option (if b then Some item else None) []) (same_is s.0)
+
+sent_away : (J : List Entry) (s : SimNo) (item : Item) (i : ℕ) → (i ≡ s.0 → ⊥) → sent (J ++ Sent s item ∷ []) i ≡ sent J i
+sent_away J s item i n = filter_map_append (sent_to i) J (Sent s item ∷ []) ∙ ap (λ (b : Bool). sent J i ++ cons_option (if b then Some item else None) []) (apart_is s.0 i (λ e. n (sym e))) ∙ append_nil (sent J i)
+
+-- it is free, where its simulator has caught up; where it hasn't, nothing more is
+pub free_sent_here : (J : List Entry) (s : SimNo) (item : Item) (n : ℕ) → length (got J s.0) ≤ n → free_items (J ++ Sent s item ∷ []) s.0 n ≡ free_items J s.0 n ++ item ∷ []
+free_sent_here J s item n few =
+    free_all (J ++ Sent s item ∷ []) s.0 n (subst (λ (k : ℕ). k ≤ n) (sym (count_sent J s item s.0)) few) ∙ sent_here J s item ∙ ap (λ (l : List Item). l ++ item ∷ []) (sym (free_all J s.0 n few))
+
+pub free_sent_behind : (J : List Entry) (s : SimNo) (item : Item) (n : ℕ) → n < length (got J s.0) → free_items (J ++ Sent s item ∷ []) s.0 n ≡ free_items J s.0 n
+free_sent_behind J s item n more = free_front J (Sent s item ∷ []) s.0 n more
+
+pub free_sent_away : (J : List Entry) (s : SimNo) (item : Item) (i n : ℕ) → (i ≡ s.0 → ⊥) → free_items (J ++ Sent s item ∷ []) i n ≡ free_items J i n
+free_sent_away J s item i n apart = elim (few_or_more n (length (got J i))) [
+  | inl more ↦ free_front J (Sent s item ∷ []) i n more
+  | inr few ↦ free_all (J ++ Sent s item ∷ []) i n (subst (λ (k : ℕ). k ≤ n) (sym (count_sent J s item i)) few) ∙ sent_away J s item i apart ∙ sym (free_all J i n few)
+]
+
+-- ---- a message more
+
+got_given : (J : List Entry) (s : SimNo) (m : Message) (i : ℕ) → got (J ++ Got s m ∷ []) i ≡ got J i ++ given_by s.0 m i
+got_given J s m i = filter_map_append (got_from i) J (Got s m ∷ []) ∙ elim (s.0 == i) as (λ b. got J i ++ cons_option (if b then Some m else None) [] ≡ got J i ++ (if b then m ∷ [] else [])) [ true ↦ refl | false ↦ refl ]
+
+pub given_here : (s : ℕ) (m : Message) → given_by s m s ≡ m ∷ []
+given_here s m = ap (λ (b : Bool). if b then m ∷ [] else []) (same_is s)
+
+pub given_away : (s : ℕ) (m : Message) (i : ℕ) → (i ≡ s → ⊥) → given_by s m i ≡ []
+given_away s m i n = ap (λ (b : Bool). if b then m ∷ [] else []) (apart_is s i (λ e. n (sym e)))
+
+pub got_here : (J : List Entry) (s : SimNo) (m : Message) → got (J ++ Got s m ∷ []) s.0 ≡ got J s.0 ++ m ∷ []
+got_here J s m = got_given J s m s.0 ∙ ap (λ (l : List Message). got J s.0 ++ l) (given_here s.0 m)
+
+pub got_away : (J : List Entry) (s : SimNo) (m : Message) (i : ℕ) → (i ≡ s.0 → ⊥) → got (J ++ Got s m ∷ []) i ≡ got J i
+got_away J s m i n = got_given J s m i ∙ ap (λ (l : List Message). got J i ++ l) (given_away s.0 m i n) ∙ append_nil (got J i)
+
+sent_got : (J : List Entry) (s : SimNo) (m : Message) (i : ℕ) → sent (J ++ Got s m ∷ []) i ≡ sent J i
+sent_got J s m i = filter_map_append (sent_to i) J (Got s m ∷ []) ∙ append_nil (sent J i)
+
+-- nothing more is free to the others, nor to its simulator, which had caught up
+pub free_got_away : (J : List Entry) (s : SimNo) (m : Message) (i n : ℕ) → (i ≡ s.0 → ⊥) → free_items (J ++ Got s m ∷ []) i n ≡ free_items J i n
+free_got_away J s m i n apart = elim (few_or_more n (length (got J i))) [
+  | inl more ↦ free_front J (Got s m ∷ []) i n more
+  | inr few ↦ free_all (J ++ Got s m ∷ []) i n (subst (λ (k : ℕ). k ≤ n) (sym (ap length (got_away J s m i apart))) few) ∙ sent_got J s m i ∙ sym (free_all J i n few)
+]
+
+pub free_got_here : (J : List Entry) (s : SimNo) (m : Message) (n : ℕ) → n ≡ length (got J s.0) → free_items (J ++ Got s m ∷ []) s.0 (n + 1) ≡ free_items J s.0 n
+free_got_here J s m n caught =
+    free_all (J ++ Got s m ∷ []) s.0 (n + 1) (let long = ap length (got_here J s m) ∙ length-append (got J s.0) (m ∷ []) in omega (arith, caught, long)) ∙ sent_got J s m s.0 ∙ sym (free_all J s.0 n (omega (arith, caught)))
+
+-- ---- what was sent again, with one message more
+
+pub repeated_here : (J : List Entry) (s : ℕ) (m : Message) (n : ℕ) → slice_get (got J s) n ≡ Some m → repeated J s (n + 1) ≡ repeated J s n ++ given_by s m s
+repeated_here J s m n is = take_more (got J s) n m is ∙ ap (λ (l : List Message). repeated J s n ++ l) (sym (given_here s m))
+
+pub repeated_away : (J : List Entry) (s : ℕ) (m : Message) (i n : ℕ) → (i ≡ s → ⊥) → repeated J i n ≡ repeated J i n ++ given_by s m i
+repeated_away J s m i n apart = sym (ap (λ (l : List Message). repeated J i n ++ l) (given_away s m i apart) ∙ append_nil (repeated J i n))
+
+-- and with the message that the journal has got
+pub repeated_got_here : (J : List Entry) (s : SimNo) (m : Message) (n : ℕ) → n ≡ length (got J s.0) → repeated (J ++ Got s m ∷ []) s.0 (n + 1) ≡ repeated J s.0 n ++ given_by s.0 m s.0
+repeated_got_here J s m n caught =
+    take_all (n + 1) (got (J ++ Got s m ∷ []) s.0) (let long = ap length (got_here J s m) ∙ length-append (got J s.0) (m ∷ []) in omega (arith, caught, long))
+    ∙ got_given J s m s.0 ∙ ap (λ (l : List Message). l ++ given_by s.0 m s.0) (sym (take_all n (got J s.0) (omega (arith, caught))))
+
+pub repeated_got_away : (J : List Entry) (s : SimNo) (m : Message) (i n : ℕ) → (i ≡ s.0 → ⊥) → repeated (J ++ Got s m ∷ []) i n ≡ repeated J i n ++ given_by s.0 m i
+repeated_got_away J s m i n apart = ap (take n) (got_away J s m i apart) ∙ repeated_away J s.0 m i n apart
+
+-- ---- the message that the journal has got
+
+pub last_there : (xs ys : List Message) (m : Message) (n : ℕ) → n ≡ length xs → ys ≡ xs ++ m ∷ [] → slice_get ys n ≡ Some m
+last_there xs ys m n end is = ap (λ (l : List Message). slice_get l n) is ∙ ap (slice_get (xs ++ m ∷ [])) end ∙ at_end xs
+  where
+    at_end : (xs : List Message) → slice_get (xs ++ m ∷ []) (length xs) ≡ Some m
+    at_end [] = refl
+    at_end (x ∷ xs) = at_end xs
+
+-- what was free before it is what was free by then
+pub free_before : (J : List Entry) (s : SimNo) (m : Message) (n : ℕ) → n ≡ length (got J s.0) → free_items (J ++ Got s m ∷ []) s.0 n ≡ free_items J s.0 n
+free_before J s m n caught =
+    ap (λ (K : List Entry). sent K s.0) (up_to_behind s.0 n 0 J (Got s m ∷ []) (omega (arith, caught)) ∙ ap (λ (K : List Entry). J ++ K) (up_to_head s.0 s m [] 0 true (same_is s.0)) ∙ append_nil J)
+    ∙ sym (free_all J s.0 n (omega (arith, caught)))

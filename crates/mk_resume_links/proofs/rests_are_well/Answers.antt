@@ -1,0 +1,5 @@
+use Rattle.mk_resume_links.proofs.Rested.{rests_well}
+use Rattle.mk_resume_links.proofs.rests_are_well.Goals as goal
+
+pub returns : goal.returns
+returns c = rests_well

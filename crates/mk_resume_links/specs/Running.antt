@@ -1,0 +1,41 @@
+-- What stood at each rest of a resumed run.
+use Rattle.std.specs.Prelude.{◌≡◌, ℕ, max, ◌⊎◌, true, List, [], ◌∷◌, ◌++◌, length, Some}
+use Rattle.mk_base.specs.declared.LinkNo.{LinkNo}
+use Rattle.mk_base.specs.declared.tier.Tier.{Tier}
+use Rattle.mk_plan.specs.declared.Plan.{Plan}
+use Rattle.mk_plan.specs.declared.Entry.{Entry}
+use Rattle.mk_plan.specs.Journals.{view, got}
+use Rattle.mk_plan.specs.Ready.{IsReady}
+use Rattle.mk_scenario.specs.declared.parts.Scenario.{Scenario}
+use Rattle.mk_outside.specs.declared.fleet.LogEntry.{LogEntry}
+use Rattle.mk_outside.specs.declared.fleet.LogEntry.TheVariants.{Rest}
+use Rattle.mk_run_laws.specs.Handshake.{sim_link}
+use Rattle.mk_run_laws.specs.Lines.{Line}
+use Rattle.mk_run_laws.specs.Rests.{AllSetUp}
+use Rattle.mk_run_laws.specs.Running.{SetupReplies, IsInStep, BeginsOnLink}
+use Rattle.mk_resume.specs.Talks.{free_items}
+use Rattle.mk_resume_links.specs.Rests.{Counts, repeated}
+
+-- when the fleet rested behind these entries, the journal was a beginning of J, nobody was ready,
+-- each simulator had sent so many messages in this call, and each line was parked, in step with what
+-- was free then
+pub record IsRestOf (saved : Counts) (started : ℕ) (S : Scenario) (replies : SetupReplies)
+    (P : Plan) (J : List Entry) (before : List LogEntry) : Type 0 where
+  pub at : List Entry
+  pub more : List Entry
+  pub parts : J ≡ at ++ more
+  pub nobody : (i : ℕ) (x : Tier) → IsReady P (view P at) i x → ⊥
+  pub heard : Counts
+  pub counts : (i : ℕ) (l : LinkNo) → sim_link started S i ≡ Some l
+      → length (got at i) ≡ max (saved i) (heard i)
+  pub line : (i : ℕ) (l : LinkNo) → sim_link started S i ≡ Some l → (w : Line) × (w.link ≡ l)
+      × (w.parked ≡ true)
+      × IsInStep S replies before i (repeated at i (heard i)) (free_items at i (heard i)) w
+
+-- after each rest of the run the journal got a message of a link next, if anything
+abbrev pub RestsEnd : Counts → ℕ → Scenario → SetupReplies → Plan → List Entry → List LogEntry
+    → Type 0
+RestsEnd saved started S replies P J log = (before after : List LogEntry)
+    → log ≡ before ++ Rest ∷ after → AllSetUp started S before
+    → (r : IsRestOf saved started S replies P J before)
+    × ((r.more ≡ []) ⊎ BeginsOnLink started S r.more)
