@@ -1,29 +1,39 @@
 //! Words on the command line, and what they ask for.
 
 use mk_base::{Mem, Text};
-use mosaikrun_words::{Command, Request, read_words};
+use mosaikrun_words::{FileCommand, PairCommand, Request, read_words};
 use std::alloc::Global;
 use std::test::Fail;
-
-const COMMANDS: [Command; 5] = [
-    Command::Run,
-    Command::Replay,
-    Command::Check,
-    Command::Demo,
-    Command::Migrate,
-];
 
 // A request: its command, its names, and its number, which is -1 where there is none.
 fn parts(request: &Request) -> (&str, &str, &str, i64) {
     match request {
         Request::Run { scenario, record } => ("run", scenario.as_str(), name_in(record), -1),
-        Request::Replay { record, order } => match order {
+        Request::Demo { size } => ("demo", "", "", i64::from(*size)),
+        Request::Files(command) => file_parts(command),
+    }
+}
+
+fn file_parts(command: &FileCommand) -> (&str, &str, &str, i64) {
+    match command {
+        FileCommand::Replay { record, order } => match order {
             Some(order) => ("replay", record.as_str(), "", i64::from(*order)),
             None => ("replay", record.as_str(), "", -1),
         },
-        Request::Check { scenario } => ("check", scenario.as_str(), "", -1),
-        Request::Demo { size } => ("demo", "", "", i64::from(*size)),
-        Request::Migrate { old, new } => ("migrate", old.as_str(), new.as_str(), -1),
+        FileCommand::Check { scenario } => ("check", scenario.as_str(), "", -1),
+        FileCommand::Pair {
+            command,
+            first,
+            second,
+        } => (pair_word(*command), first.as_str(), second.as_str(), -1),
+    }
+}
+
+fn pair_word(command: PairCommand) -> &'static str {
+    match command {
+        PairCommand::Migrate => "migrate",
+        PairCommand::Watch => "watch",
+        PairCommand::Blame => "blame",
     }
 }
 
@@ -40,13 +50,13 @@ fn is_asked(alloc: Global, line: &str, want: (&str, &str, &str, i64)) -> Result<
     for word in line.split(' ') {
         words.push(word.to_string(alloc)?)?;
     }
-    match read_words(alloc, &COMMANDS, words.as_slice())? {
+    match read_words(alloc, words.as_slice())? {
         Some(request) => Ok(parts(&request) == want),
         None => Ok(false),
     }
 }
 
-const LINES: [(&str, (&str, &str, &str, i64)); 12] = [
+const LINES: [(&str, (&str, &str, &str, i64)); 14] = [
     ("run a", ("run", "a", "", -1)),
     ("run --record=r a", ("run", "a", "r", -1)),
     ("run --record r a", ("run", "a", "r", -1)),
@@ -61,6 +71,8 @@ const LINES: [(&str, (&str, &str, &str, i64)); 12] = [
     ("replay a --order=0000000001", ("replay", "a", "", 1)),
     ("check a", ("check", "a", "", -1)),
     ("migrate a 86400000", ("migrate", "a", "86400000", -1)),
+    ("watch a b", ("watch", "a", "b", -1)),
+    ("blame b a", ("blame", "b", "a", -1)),
     ("demo 0000000100", ("demo", "", "", 100)),
 ];
 

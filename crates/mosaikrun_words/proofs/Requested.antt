@@ -1,17 +1,20 @@
 -- The request that is found is what the words are, and what they are is found.
-use Rattle.std.proofs.Common.{◌≡◌, ◌↔◌, ℕ, ◌==◌, Bool, true, false, cond, List, [], ◌∷◌, Option, Some, None, option_map, option_and_then, refl, sym, ap, ◌∙◌, subst, codes, true≢false, ◌⊎◌, inl, inr}
+use Rattle.std.proofs.Common.{◌≡◌, ◌↔◌, ℕ, true, false, cond, List, [], ◌∷◌, Option, Some, None, option_map, option_and_then, refl, sym, ap, ◌∙◌, subst, codes, true≢false, inl, inr}
 use Rattle.std.proofs.lemmas.Slice.Eq.{bytes_eq-Decides}
-use Rattle.mk_base.specs.Lists.{Each, IsIn, same_text}
+use Rattle.mk_base.specs.Lists.{IsIn, same_text}
 use Rattle.mosaikrun_words.specs.declared.reading.Found.{Found}
 use Rattle.mosaikrun_words.specs.declared.reading.Two.{Two}
 use Rattle.mosaikrun_words.specs.declared.request.Command.{Command}
 use Rattle.mosaikrun_words.specs.declared.request.Command.TheVariants as command
 use Rattle.mosaikrun_words.specs.declared.request.Request.{Request}
-use Rattle.mosaikrun_words.specs.declared.request.Request.TheVariants.{Run, Replay, Check, Demo, Migrate}
-use Rattle.mosaikrun_words.specs.inner.Arranged.{check_of, demo_of, migrate_of, number_in, one_word, only_word, replay_in, replay_of, request_among, request_by, request_of, run_of, two_words, word_of}
-use Rattle.mosaikrun_words.specs.Numbers.{IsNumber}
-use Rattle.mosaikrun_words.specs.Requests.{IsNumberGiven, IsRequest, IsRequestAmong, IsSpelled, command_of, if_given, is_check, is_demo, is_migrate, is_replay, is_run, missing, there}
-use Rattle.mosaikrun_words.specs.Words.{Text, Given, is_value, spellings}
+use Rattle.mosaikrun_words.specs.declared.request.PairCommand.{PairCommand}
+use Rattle.mosaikrun_words.specs.declared.request.PairCommand.TheVariants.{Migrate, Watch, Blame}
+use Rattle.mosaikrun_words.specs.declared.request.FileCommand.TheVariants.{Replay, Check, Pair}
+use Rattle.mosaikrun_words.specs.declared.request.Request.TheVariants.{Files, Run, Demo}
+use Rattle.mosaikrun_words.specs.declared.words.TheConstants.{COMMANDS}
+use Rattle.mosaikrun_words.specs.inner.Arranged.{check_of, command_of, demo_of, number_in, one_word, only_word, pair_of, replay_in, replay_of, request_among, request_by, request_of, run_of, two_words, word_of}
+use Rattle.mosaikrun_words.specs.Requests.{IsNumberGiven, IsRequest, IsSpelled, if_given, is_check, is_demo, is_pair, is_replay, is_run, missing, pair_word, there}
+use Rattle.mosaikrun_words.specs.Words.{Text, is_value}
 use Rattle.mosaikrun_words.proofs.Spelled.{IsFound, found_is, found_of, number_from, number_is, only_is, only_of, same_self, two_is, two_of}
 
 -- a request and the word of its command before the rest
@@ -38,10 +41,10 @@ run_right rest R e = by (one_word (codes "record") rest) refl e
 replay_right : (rest : List Text) (R : Request) → replay_of rest ≡ Some R → IsRest command.Replay rest R
 replay_right rest R e = by (one_word (codes "order") rest) refl e
   where
-    numbered : (f : Found) → IsFound (codes "order") rest f → (text : Text) → f.value ≡ Some text → (n : Option ℕ) → number_in 0 4294967295 text ≡ n → option_map (λ k. Replay f.word (Some k)) n ≡ Some R → IsRest command.Replay rest R
+    numbered : (f : Found) → IsFound (codes "order") rest f → (text : Text) → f.value ≡ Some text → (n : Option ℕ) → number_in 0 4294967295 text ≡ n → option_map (λ k. Files (Replay f.word (Some k))) n ≡ Some R → IsRest command.Replay rest R
     numbered f found text given None is h = cc
     numbered f found text given (Some k) is h =
-        let same : Replay f.word (Some k) ≡ R = cc in
+        let same : Files (Replay f.word (Some k)) ≡ R = cc in
         subst (IsRest command.Replay rest) same (
           refl,
           is_replay f.word (Some text) (Some k)
@@ -51,7 +54,7 @@ replay_right rest R e = by (one_word (codes "order") rest) refl e
 
     valued : (f : Found) → IsFound (codes "order") rest f → (v : Option Text) → f.value ≡ v → replay_in f.word v ≡ Some R → IsRest command.Replay rest R
     valued f found None given h =
-        let same : Replay f.word None ≡ R = cc in
+        let same : Files (Replay f.word None) ≡ R = cc in
         subst (IsRest command.Replay rest) same (
           refl,
           is_replay f.word None None
@@ -67,11 +70,11 @@ replay_right rest R e = by (one_word (codes "order") rest) refl e
 check_right : (rest : List Text) (R : Request) → check_of rest ≡ Some R → IsRest command.Check rest R
 check_right rest R e = by (only_word rest) refl e
   where
-    by : (o : Option Text) → only_word rest ≡ o → option_map Check o ≡ Some R → IsRest command.Check rest R
+    by : (o : Option Text) → only_word rest ≡ o → option_map (λ s. Files (Check s)) o ≡ Some R → IsRest command.Check rest R
     by None is h = cc
     by (Some t) is h =
         let p = only_is rest t is in
-        let same : Check t ≡ R = cc in
+        let same : Files (Check t) ≡ R = cc in
         subst (IsRest command.Check rest) same (refl, is_check t (spelled_alone (codes "check") rest t p.0 p.1))
 
 demo_right : (rest : List Text) (R : Request) → demo_of rest ≡ Some R → IsRest command.Demo rest R
@@ -88,30 +91,30 @@ demo_right rest R e = by (only_word rest) refl e
     by None is h = cc
     by (Some t) is h = numbered t is (number_in 1 100 t) refl h
 
-migrate_right : (rest : List Text) (R : Request) → migrate_of rest ≡ Some R → IsRest command.Migrate rest R
-migrate_right rest R e = by (two_words rest) refl e
+pair_right : (c : PairCommand) (rest : List Text) (R : Request) → pair_of c rest ≡ Some R → IsRest (command.Pair c) rest R
+pair_right c rest R e = by (two_words rest) refl e
   where
-    by : (o : Option Two) → two_words rest ≡ o → option_map (λ (t : Two). Migrate t.first t.second) o ≡ Some R → IsRest command.Migrate rest R
+    by : (o : Option Two) → two_words rest ≡ o → option_map (λ (t : Two). Files (Pair c t.first t.second)) o ≡ Some R → IsRest (command.Pair c) rest R
     by None is h = cc
     by (Some t) is h =
         let p = two_is rest t is in
-        let same : Migrate t.first t.second ≡ R = cc in
-        subst (IsRest command.Migrate rest) same (refl, is_migrate t.first t.second (record { rest = rest; is = refl; spelled = inl p.0; plain_values = (p.1, (p.2, tt)); given_values = tt }))
+        let same : Files (Pair c t.first t.second) ≡ R = cc in
+        subst (IsRest (command.Pair c) rest) same (refl, is_pair c t.first t.second (record { rest = rest; is = refl; spelled = inl p.0; plain_values = (p.1, (p.2, tt)); given_values = tt }))
 
 right : (c : Command) (rest : List Text) (R : Request) → request_by c rest ≡ Some R → IsRest c rest R
 right command.Run = run_right
 right command.Replay = replay_right
 right command.Check = check_right
 right command.Demo = demo_right
-right command.Migrate = migrate_right
+right (command.Pair c) = pair_right c
 
-among_right : (commands : List Command) (word : Text) (rest : List Text) (R : Request) → request_among commands word rest ≡ Some R → IsRequestAmong commands (word ∷ rest) R
+among_right : (commands : List Command) (word : Text) (rest : List Text) (R : Request) → request_among commands word rest ≡ Some R → IsRequest (word ∷ rest) R
 among_right [] word rest R e = cc
-among_right (c ∷ commands) word rest R e = elim (same_text word (word_of c)) as (λ b. same_text word (word_of c) ≡ b → cond b (request_by c rest) (request_among commands word rest) ≡ Some R → IsRequestAmong (c ∷ commands) (word ∷ rest) R) [
+among_right (c ∷ commands) word rest R e = elim (same_text word (word_of c)) as (λ b. same_text word (word_of c) ≡ b → cond b (request_by c rest) (request_among commands word rest) ≡ Some R → IsRequest (word ∷ rest) R) [
   | true ↦ λ h k.
       let t = right c rest R k in
-      record { there = inl t.0; spelled = subst (λ (w : Text). IsRequest (w ∷ rest) R) (sym ((bytes_eq-Decides word (word_of c)).0 h)) t.1 }
-  | false ↦ λ h k. let t = among_right commands word rest R k in record { there = inr t.there; spelled = t.spelled }
+      subst (λ (w : Text). IsRequest (w ∷ rest) R) (sym ((bytes_eq-Decides word (word_of c)).0 h)) t.1
+  | false ↦ λ h k. among_right commands word rest R k
 ] refl e
 
 -- what is right is found
@@ -135,23 +138,35 @@ found_by : (words : List Text) (R : Request) → IsRequest words R → IsFoundBy
 found_by words _ (is_run s f spelled) = record { rest = spelled.rest; is = spelled.is; found = ap (option_map (λ (x : Found). Run x.word x.value)) (found_one (codes "run") (codes "record") s f words spelled) }
 found_by words _ (is_replay r t n spelled given) = record { rest = spelled.rest; is = spelled.is; found = ap (option_and_then (λ (x : Found). replay_in x.word x.value)) (found_one (codes "replay") (codes "order") r t words spelled) ∙ ordered t n given }
   where
-    ordered : (t : Option Text) (n : Option ℕ) → IsNumberGiven 0 4294967295 t n → replay_in r t ≡ Some (Replay r n)
+    ordered : (t : Option Text) (n : Option ℕ) → IsNumberGiven 0 4294967295 t n → replay_in r t ≡ Some (Files (Replay r n))
     ordered _ _ missing = refl
-    ordered _ _ (there text k is) = ap (option_map (λ m. Replay r (Some m))) (number_from 0 4294967295 text k is)
-found_by words _ (is_check s spelled) = record { rest = spelled.rest; is = spelled.is; found = ap (option_map Check) (only_rest (codes "check") s words spelled) }
+    ordered _ _ (there text k is) = ap (option_map (λ m. Files (Replay r (Some m)))) (number_from 0 4294967295 text k is)
+found_by words _ (is_check s spelled) = record { rest = spelled.rest; is = spelled.is; found = ap (option_map (λ s. Files (Check s))) (only_rest (codes "check") s words spelled) }
 found_by words _ (is_demo t n spelled number) = record { rest = spelled.rest; is = spelled.is; found = ap (λ (o : Option Text). option_map Demo (option_and_then (number_in 1 100) o)) (only_rest (codes "demo") t words spelled) ∙ ap (option_map Demo) (number_from 1 100 t n number) }
-found_by words _ (is_migrate a b spelled) = record { rest = spelled.rest; is = spelled.is; found = ap (option_map (λ (t : Two). Migrate t.first t.second)) (two_rest (codes "migrate") a b words spelled) }
+found_by words _ (is_pair c a b spelled) = record { rest = spelled.rest; is = spelled.is; found = ap (option_map (λ (t : Two). Files (Pair c t.first t.second))) (two_rest (pair_word c) a b words spelled) }
 
 -- commands by their words
 abbrev command_named : Text → Option Command
-command_named w = cond (same_text w (codes "run")) (Some command.Run) (cond (same_text w (codes "replay")) (Some command.Replay) (cond (same_text w (codes "check")) (Some command.Check) (cond (same_text w (codes "demo")) (Some command.Demo) (Some command.Migrate))))
+command_named w = cond (same_text w (codes "run")) (Some command.Run) (cond (same_text w (codes "replay")) (Some command.Replay) (cond (same_text w (codes "check")) (Some command.Check) (cond (same_text w (codes "demo")) (Some command.Demo) (cond (same_text w (codes "migrate")) (Some (command.Pair Migrate)) (cond (same_text w (codes "watch")) (Some (command.Pair Watch)) (Some (command.Pair Blame)))))))
 
 named : (c : Command) → command_named (word_of c) ≡ Some c
 named command.Run = refl
 named command.Replay = refl
 named command.Check = refl
 named command.Demo = refl
-named command.Migrate = refl
+named (command.Pair Migrate) = refl
+named (command.Pair Watch) = refl
+named (command.Pair Blame) = refl
+
+-- all commands are in the list
+all_there : (c : Command) → IsIn c COMMANDS
+all_there command.Run = inl refl
+all_there command.Replay = inr (inl refl)
+all_there command.Check = inr (inr (inl refl))
+all_there command.Demo = inr (inr (inr (inl refl)))
+all_there (command.Pair Migrate) = inr (inr (inr (inr (inl refl))))
+all_there (command.Pair Watch) = inr (inr (inr (inr (inr (inl refl)))))
+all_there (command.Pair Blame) = inr (inr (inr (inr (inr (inr (inl refl))))))
 
 same_command : (c d : Command) → word_of c ≡ word_of d → c ≡ d
 same_command c d e = let s : Some c ≡ Some d = sym (named c) ∙ ap command_named e ∙ named d in let same : c ≡ d = cc in same
@@ -169,14 +184,14 @@ among_found (d ∷ commands) c rest here = elim (same_text (word_of c) (word_of 
     same_self_of : (d c : Command) → c ≡ d → same_text (word_of c) (word_of d) ≡ true
     same_self_of d c e = ap (λ (k : Command). same_text (word_of c) (word_of k)) (sym e) ∙ same_self (word_of c)
 
-pub requested : (commands : List Command) (words : List Text) (R : Request) → (request_of commands words ≡ Some R) ↔ IsRequestAmong commands words R
-requested commands words R = (from words, to)
+pub requested : (words : List Text) (R : Request) → (request_of words ≡ Some R) ↔ IsRequest words R
+requested words R = (from words, to)
   where
-    from : (words : List Text) → request_of commands words ≡ Some R → IsRequestAmong commands words R
+    from : (words : List Text) → request_of words ≡ Some R → IsRequest words R
     from [] e = cc
-    from (word ∷ rest) e = among_right commands word rest R e
+    from (word ∷ rest) e = among_right COMMANDS word rest R e
 
-    to : IsRequestAmong commands words R → request_of commands words ≡ Some R
+    to : IsRequest words R → request_of words ≡ Some R
     to is =
-        let f = found_by words R is.spelled in
-        ap (request_of commands) f.is ∙ among_found commands (command_of R) f.rest is.there ∙ f.found
+        let f = found_by words R is in
+        ap request_of f.is ∙ among_found COMMANDS (command_of R) f.rest (all_there (command_of R)) ∙ f.found

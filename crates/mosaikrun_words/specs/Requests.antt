@@ -1,10 +1,11 @@
 -- The requests, and the words that each of them is spelled by.
 use Rattle.std.specs.Prelude.{◌≡◌, ℕ, true, List, [], ◌∷◌, Option, Some, None, codes}
 use Rattle.mk_base.specs.Lists.{Each, IsIn}
-use Rattle.mosaikrun_words.specs.declared.request.Command.{Command}
-use Rattle.mosaikrun_words.specs.declared.request.Command.TheVariants as command
+use Rattle.mosaikrun_words.specs.declared.request.PairCommand.{PairCommand}
+use Rattle.mosaikrun_words.specs.declared.request.PairCommand.TheVariants.{Migrate, Watch, Blame}
+use Rattle.mosaikrun_words.specs.declared.request.FileCommand.TheVariants.{Replay, Check, Pair}
 use Rattle.mosaikrun_words.specs.declared.request.Request.{Request}
-use Rattle.mosaikrun_words.specs.declared.request.Request.TheVariants.{Run, Replay, Check, Demo, Migrate}
+use Rattle.mosaikrun_words.specs.declared.request.Request.TheVariants.{Files, Run, Demo}
 use Rattle.mosaikrun_words.specs.Numbers.{IsNumber}
 use Rattle.mosaikrun_words.specs.Words.{Text, Given, is_value, spellings}
 
@@ -29,6 +30,12 @@ pub data IsNumberGiven (least most : ℕ) : Option Text → Option ℕ → Type 
   there : (text : Text) (n : ℕ) → IsNumber least most n text
       → IsNumberGiven least most (Some text) (Some n)
 
+-- the word of a command that is given two names
+abbrev pub pair_word : PairCommand → Text
+pair_word Migrate = codes "migrate"
+pair_word Watch = codes "watch"
+pair_word Blame = codes "blame"
+
 -- the words are this request
 pub data IsRequest (words : List Text) : Request → Type 0 where
   is_run : (s : Text) (f : Option Text)
@@ -36,22 +43,10 @@ pub data IsRequest (words : List Text) : Request → Type 0 where
       → IsRequest words (Run s f)
   is_replay : (r : Text) (t : Option Text) (n : Option ℕ)
       → IsSpelled (codes "replay") (r ∷ []) (if_given (codes "order") t) words
-      → IsNumberGiven 0 4294967295 t n → IsRequest words (Replay r n)
-  is_check : (s : Text) → IsSpelled (codes "check") (s ∷ []) [] words → IsRequest words (Check s)
+      → IsNumberGiven 0 4294967295 t n → IsRequest words (Files (Replay r n))
+  is_check : (s : Text) → IsSpelled (codes "check") (s ∷ []) [] words
+      → IsRequest words (Files (Check s))
   is_demo : (t : Text) (n : ℕ) → IsSpelled (codes "demo") (t ∷ []) [] words → IsNumber 1 100 n t
       → IsRequest words (Demo n)
-  is_migrate : (a b : Text) → IsSpelled (codes "migrate") (a ∷ b ∷ []) [] words
-      → IsRequest words (Migrate a b)
-
--- the request's command
-abbrev pub command_of : Request → Command
-command_of (Run s f) = command.Run
-command_of (Replay r n) = command.Replay
-command_of (Check s) = command.Check
-command_of (Demo n) = command.Demo
-command_of (Migrate a b) = command.Migrate
-
--- the words are this request, of one of these commands
-pub record IsRequestAmong (commands : List Command) (words : List Text) (R : Request) : Type 0 where
-  pub there : IsIn (command_of R) commands
-  pub spelled : IsRequest words R
+  is_pair : (c : PairCommand) (a b : Text) → IsSpelled (pair_word c) (a ∷ b ∷ []) [] words
+      → IsRequest words (Files (Pair c a b))

@@ -7,5 +7,5 @@ mod reading;
 mod request;
 mod words;
 
-pub use request::{Command, Request};
+pub use request::{FileCommand, PairCommand, Request};
 pub use words::read_words;

@@ -1,37 +1,61 @@
 // What the command line asks for.
 use mk_base::Text;
 
-/// The commands, of which a program has some.
+/// What the words ask for: a command on files, a run, or the demo.
+#[derive(Drop)]
+pub enum Request {
+    /// Reads files, and prints or saves what it makes of them.
+    Files(FileCommand),
+    /// Runs the scenario of this file, and saves the record of the run under the other name, where one is given.
+    Run {
+        scenario: Text,
+        record: Option<Text>,
+    },
+    /// Runs the demo scenario of this size, from 1 to 100.
+    Demo {
+        size: u32,
+    },
+}
+
+/// A command that reads files, with the names that it was given, and its option, `None` where it isn't given.
+#[derive(Drop)]
+pub enum FileCommand {
+    /// Replays the record in the order of this number, or as its messages came.
+    Replay {
+        record: Text,
+        order: Option<u32>,
+    },
+    /// Checks the scenario.
+    Check {
+        scenario: Text,
+    },
+    /// One of those that are given two names.
+    Pair {
+        command: PairCommand,
+        first: Text,
+        second: Text,
+    },
+}
+
+/// The commands on files that are given two names and no option.
+#[derive(Clone, Copy, Debug, PartialEq, Eq)]
+pub enum PairCommand {
+    /// `migrate OLD NEW`: saves the record of a record's replay under a new name.
+    Migrate,
+    /// `watch RECORD SPEC`: tables of a record's values.
+    Watch,
+    /// `blame FIRST SECOND`: which simulators answered otherwise in the second record.
+    Blame,
+}
+
+// The commands.
 #[derive(Clone, Copy, Debug, PartialEq, Eq)]
 pub enum Command {
     Run,
     Replay,
     Check,
     Demo,
-    Migrate,
-}
-
-/// What the words ask for: a command, the names of its files, and its options, which are `None` where they aren't given.
-#[derive(Drop)]
-pub enum Request {
-    Run {
-        scenario: Text,
-        record: Option<Text>,
-    },
-    Replay {
-        record: Text,
-        order: Option<u32>,
-    },
-    Check {
-        scenario: Text,
-    },
-    Demo {
-        size: u32,
-    },
-    Migrate {
-        old: Text,
-        new: Text,
-    },
+    Pair(PairCommand),
 }
 
 // The options, each of which has a value.

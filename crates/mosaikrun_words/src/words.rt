@@ -1,35 +1,42 @@
 // From words to a request: the crate's call.
 ghost use Rattle.std.specs.Prelude.{◌≡◌, ◌↔◌, IfOk, Some, map};
 ghost use Rattle.std.specs.String.{string_bytes};
-ghost use Rattle.mosaikrun_words.specs.inner.Arranged.{check_of, demo_of, migrate_of, replay_in, replay_of, request_among, request_by, request_of, run_of, word_of};
-ghost use Rattle.mosaikrun_words.specs.Requests.{IsRequestAmong};
+ghost use Rattle.mosaikrun_words.specs.inner.Arranged.{check_of, demo_of, pair_of, replay_in, replay_of, request_among, request_by, request_of, run_of, word_of};
+ghost use Rattle.mosaikrun_words.specs.Requests.{IsRequest, pair_word};
 ghost use Rattle.mosaikrun_words.specs.declared.request.Request.{Request};
 
 use crate::arranged::{one_word, only_word, two_words};
 use crate::number::number_in;
 use crate::reading::{Found, Two};
-use crate::request::{Command, OptionName, Request};
+use crate::request::{Command, FileCommand, OptionName, PairCommand, Request};
 use mk_base::{Mem, Text};
 use std::alloc::Global;
 
-/// The request, of one of these commands, that the words are; `None` where they are none. The words are those after the
-/// program's name: the command, its files, and its options before or behind them, as `--NAME VALUE` or `--NAME=VALUE`.
-pub fn read_words(
-    alloc: Global,
-    commands: &[Command],
-    words: &[String],
-) -> Result<Option<Request>, Mem>
+// The commands.
+const COMMANDS: [Command; 7] = [
+    Command::Run,
+    Command::Replay,
+    Command::Check,
+    Command::Demo,
+    Command::Pair(PairCommand::Migrate),
+    Command::Pair(PairCommand::Watch),
+    Command::Pair(PairCommand::Blame),
+];
+
+/// The request that the words are; `None` where they are none. The words are those after the program's name: the command, its
+/// files, and its options before or behind them, as `--NAME VALUE` or `--NAME=VALUE`.
+pub fn read_words(alloc: Global, words: &[String]) -> Result<Option<Request>, Mem>
     ensures { IfOk result (λ found. (R : Request)
-        → (found ≡ Some R) ↔ IsRequestAmong commands.now (map string_bytes words.now) R) }
+        → (found ≡ Some R) ↔ IsRequest (map string_bytes words.now) R) }
 {
-    request_of(alloc, commands, words)
+    request_of(alloc, words)
 }
 
-fn request_of(alloc: Global, commands: &[Command], words: &[String]) -> Result<Option<Request>, Mem>
-    ensures { IfOk result (λ found. found ≡ request_of commands.now (map string_bytes words.now)) }
+fn request_of(alloc: Global, words: &[String]) -> Result<Option<Request>, Mem>
+    ensures { IfOk result (λ found. found ≡ request_of (map string_bytes words.now)) }
 {
     match words {
-        [word, rest @ ..] => request_among(alloc, commands, word.as_str(), rest),
+        [word, rest @ ..] => request_among(alloc, &COMMANDS, word.as_str(), rest),
         [] => Ok(None),
     }
 }
@@ -60,7 +67,17 @@ fn word_of(command: Command) -> &'static str
         Command::Replay => "replay",
         Command::Check => "check",
         Command::Demo => "demo",
-        Command::Migrate => "migrate",
+        Command::Pair(command) => pair_word(command),
+    }
+}
+
+fn pair_word(command: PairCommand) -> &'static str
+    ensures { result.now ≡ pair_word command }
+{
+    match command {
+        PairCommand::Migrate => "migrate",
+        PairCommand::Watch => "watch",
+        PairCommand::Blame => "blame",
     }
 }
 
@@ -73,7 +90,7 @@ fn request_by(alloc: Global, command: Command, rest: &[String]) -> Result<Option
         Command::Replay => replay_of(alloc, rest),
         Command::Check => check_of(alloc, rest),
         Command::Demo => demo_of(alloc, rest),
-        Command::Migrate => migrate_of(alloc, rest),
+        Command::Pair(command) => pair_of(alloc, command, rest),
     }
 }
 
@@ -104,16 +121,16 @@ fn replay_in(name: Text, order: Option<Text>) -> Option<Request>
 {
     match order {
         Some(text) => match number_in(0, u32::MAX, text.as_str()) {
-            Some(order) => Some(Request::Replay {
+            Some(order) => Some(Request::Files(FileCommand::Replay {
                 record: name,
                 order: Some(order),
-            }),
+            })),
             None => None,
         },
-        None => Some(Request::Replay {
+        None => Some(Request::Files(FileCommand::Replay {
             record: name,
             order: None,
-        }),
+        })),
     }
 }
 
@@ -121,7 +138,7 @@ fn check_of(alloc: Global, rest: &[String]) -> Result<Option<Request>, Mem>
     ensures { IfOk result (λ found. found ≡ check_of (map string_bytes rest.now)) }
 {
     match only_word(alloc, rest)? {
-        Some(scenario) => Ok(Some(Request::Check { scenario })),
+        Some(scenario) => Ok(Some(Request::Files(FileCommand::Check { scenario }))),
         None => Ok(None),
     }
 }
@@ -138,14 +155,15 @@ fn demo_of(alloc: Global, rest: &[String]) -> Result<Option<Request>, Mem>
     }
 }
 
-fn migrate_of(alloc: Global, rest: &[String]) -> Result<Option<Request>, Mem>
-    ensures { IfOk result (λ found. found ≡ migrate_of (map string_bytes rest.now)) }
+fn pair_of(alloc: Global, command: PairCommand, rest: &[String]) -> Result<Option<Request>, Mem>
+    ensures { IfOk result (λ found. found ≡ pair_of command (map string_bytes rest.now)) }
 {
     match two_words(alloc, rest)? {
-        Some(Two { first, second }) => Ok(Some(Request::Migrate {
-            old: first,
-            new: second,
-        })),
+        Some(Two { first, second }) => Ok(Some(Request::Files(FileCommand::Pair {
+            command,
+            first,
+            second,
+        }))),
         None => Ok(None),
     }
 }

@@ -1,5 +1,5 @@
 -- For proofs alone. How the code goes about the words; only proofs need this.
-use Rattle.std.specs.Prelude.{ℕ, Bool, true, false, ◌&&◌, ◌||◌, ◌==◌, nat_le, List, [], ◌∷◌, ◌++◌, length, Option, Some, None, option_map, option_and_then, if◌then◌else◌, codes}
+use Rattle.std.specs.Prelude.{ℕ, ◌&&◌, ◌==◌, nat_le, List, [], ◌∷◌, ◌++◌, length, Option, Some, None, option_map, option_and_then, if◌then◌else◌, codes}
 use Rattle.std.specs.List.{list_all}
 use Rattle.mk_base.specs.Lists.{same_text}
 use Rattle.mosaikrun_words.specs.declared.reading.Found.{Found}
@@ -9,7 +9,11 @@ use Rattle.mosaikrun_words.specs.declared.request.Command.TheVariants as command
 use Rattle.mosaikrun_words.specs.declared.request.OptionName.{OptionName}
 use Rattle.mosaikrun_words.specs.declared.request.OptionName.TheVariants.{Record, Order}
 use Rattle.mosaikrun_words.specs.declared.request.Request.{Request}
-use Rattle.mosaikrun_words.specs.declared.request.Request.TheVariants.{Run, Replay, Check, Demo, Migrate}
+use Rattle.mosaikrun_words.specs.declared.request.PairCommand.{PairCommand}
+use Rattle.mosaikrun_words.specs.declared.request.FileCommand.TheVariants.{Replay, Check, Pair}
+use Rattle.mosaikrun_words.specs.declared.request.Request.TheVariants.{Files, Run, Demo}
+use Rattle.mosaikrun_words.specs.declared.words.TheConstants.{COMMANDS}
+use Rattle.mosaikrun_words.specs.Requests.{pair_word}
 use Rattle.mosaikrun_words.specs.Numbers.{is_digit, most_digits, number_of}
 use Rattle.mosaikrun_words.specs.Words.{Text, is_value}
 
@@ -77,21 +81,21 @@ run_of rest = option_map (λ (f : Found). Run f.word f.value) (one_word (codes "
 
 -- the order's number, where there is one
 abbrev pub replay_in : Text → Option Text → Option Request
-replay_in name None = Some (Replay name None)
-replay_in name (Some text) = option_map (λ n. Replay name (Some n)) (number_in 0 4294967295 text)
+replay_in name None = Some (Files (Replay name None))
+replay_in name (Some text) = option_map (λ n. Files (Replay name (Some n))) (number_in 0 4294967295 text)
 
 abbrev pub replay_of : List Text → Option Request
 replay_of rest = option_and_then (λ (f : Found). replay_in f.word f.value)
     (one_word (codes "order") rest)
 
 abbrev pub check_of : List Text → Option Request
-check_of rest = option_map Check (only_word rest)
+check_of rest = option_map (λ s. Files (Check s)) (only_word rest)
 
 abbrev pub demo_of : List Text → Option Request
 demo_of rest = option_map Demo (option_and_then (number_in 1 100) (only_word rest))
 
-abbrev pub migrate_of : List Text → Option Request
-migrate_of rest = option_map (λ (t : Two). Migrate t.first t.second) (two_words rest)
+abbrev pub pair_of : PairCommand → List Text → Option Request
+pair_of c rest = option_map (λ (t : Two). Files (Pair c t.first t.second)) (two_words rest)
 
 -- the request of a command, by the words after it
 abbrev pub request_by : Command → List Text → Option Request
@@ -99,7 +103,7 @@ request_by command.Run rest = run_of rest
 request_by command.Replay rest = replay_of rest
 request_by command.Check rest = check_of rest
 request_by command.Demo rest = demo_of rest
-request_by command.Migrate rest = migrate_of rest
+request_by (command.Pair c) rest = pair_of c rest
 
 -- the word that asks for a command
 abbrev pub word_of : Command → Text
@@ -107,7 +111,7 @@ word_of command.Run = codes "run"
 word_of command.Replay = codes "replay"
 word_of command.Check = codes "check"
 word_of command.Demo = codes "demo"
-word_of command.Migrate = codes "migrate"
+word_of (command.Pair c) = pair_word c
 
 -- the request of the first of these commands whose word it is
 abbrev pub request_among : List Command → Text → List Text → Option Request
@@ -115,6 +119,14 @@ request_among [] word rest = None
 request_among (c ∷ commands) word rest = if same_text word (word_of c) then request_by c rest
     else request_among commands word rest
 
-abbrev pub request_of : List Command → List Text → Option Request
-request_of commands [] = None
-request_of commands (word ∷ rest) = request_among commands word rest
+abbrev pub request_of : List Text → Option Request
+request_of [] = None
+request_of (word ∷ rest) = request_among COMMANDS word rest
+
+-- the request's command
+abbrev pub command_of : Request → Command
+command_of (Run s f) = command.Run
+command_of (Files (Replay r n)) = command.Replay
+command_of (Files (Check s)) = command.Check
+command_of (Demo n) = command.Demo
+command_of (Files (Pair c a b)) = command.Pair c
