@@ -2,12 +2,13 @@
 //! and child programs: runs a scenario or the demo, replays or migrates a record, checks a scenario.
 #![tactic(auto)]
 
-use mk_base::Mem;
+use mk_base::{Mem, Text};
 use mk_local::{
     EntityStep, Kind, Registry, Turn, battery_turn, constant_turn, controller_turn, counter_turn,
     relay_turn, sum_turn,
 };
 use mk_real::{MioFleet, RealFolder, RealSink};
+use mk_watch_read::{Fold, Rule, Rules, greatest, last, least, sum};
 use mosaikrun_program::program;
 use std::alloc::Global;
 use std::process::ExitCode;
@@ -24,7 +25,7 @@ fn main(rt: HostRuntime) -> ExitCode {
     }
 }
 
-// Makes the kinds of simulators within the program, and calls the program. Answers its status.
+// Makes the kinds of simulators within the program, and goes on with them. Answers the program's status.
 fn run<W: Wait>(rt: &HostRuntime, waits: &W, alloc: Global) -> Result<u8, Mem> {
     let mut kinds = Registry::new(alloc);
     kinds.add(Kind::new(
@@ -45,6 +46,48 @@ fn run<W: Wait>(rt: &HostRuntime, waits: &W, alloc: Global) -> Result<u8, Mem> {
         Turn::Controller,
         Box::new(alloc, |s: EntityStep| controller_turn(s))?,
     ))?;
+    run_with(rt, waits, alloc, &kinds)
+}
+
+// Makes the rules of tables within the program, and goes on with them.
+fn run_with<W: Wait>(
+    rt: &HostRuntime,
+    waits: &W,
+    alloc: Global,
+    kinds: &Registry,
+) -> Result<u8, Mem> {
+    let mut rules = Rules::new(alloc);
+    rules.add(Rule::new(
+        Text::of(alloc, "sum")?,
+        Fold::Sum,
+        Box::new(alloc, |a: i64, b: i64| sum(a, b))?,
+    ))?;
+    rules.add(Rule::new(
+        Text::of(alloc, "least")?,
+        Fold::Least,
+        Box::new(alloc, |a: i64, b: i64| least(a, b))?,
+    ))?;
+    rules.add(Rule::new(
+        Text::of(alloc, "greatest")?,
+        Fold::Greatest,
+        Box::new(alloc, |a: i64, b: i64| greatest(a, b))?,
+    ))?;
+    rules.add(Rule::new(
+        Text::of(alloc, "last")?,
+        Fold::Last,
+        Box::new(alloc, |a: i64, b: i64| last(a, b))?,
+    ))?;
+    call(rt, waits, alloc, kinds, &rules)
+}
+
+// Reads the words, and calls the program over the system's folder, fleet and streams.
+fn call<W: Wait>(
+    rt: &HostRuntime,
+    waits: &W,
+    alloc: Global,
+    kinds: &Registry,
+    rules: &Rules,
+) -> Result<u8, Mem> {
     // Words that can't be read are no command, but for want of memory.
     let words = match words_of(rt) {
         Ok(words) => words,
@@ -65,7 +108,8 @@ fn run<W: Wait>(rt: &HostRuntime, waits: &W, alloc: Global) -> Result<u8, Mem> {
         words.as_slice(),
         &mut folder,
         &mut fleet,
-        &kinds,
+        kinds,
+        rules,
         &mut out,
         &mut err,
     ))

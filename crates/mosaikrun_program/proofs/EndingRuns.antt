@@ -1,5 +1,5 @@
 -- A run in which nothing goes wrong comes to its end, and one of a scenario that is refused has the status 3.
-use Rattle.std.proofs.Common.{◌≡◌, ℕ, ◌≤◌, ◌⊎◌, inl, inr, refl, sym, ap, ◌∙◌, subst, arith, List, length, map, Option, None, Some, Result, Ok, Err}
+use Rattle.std.proofs.Common.{◌≡◌, ℕ, ◌≤◌, ◌⊎◌, inl, inr, refl, sym, ap, ◌∙◌, subst, List, [], ◌∷◌, length, map, Option, None, Some, Result, Ok, Err}
 use Rattle.std.specs.Prelude.{IfSome, is_some}
 use Rattle.mk_outside.specs.Counts.{HasRisen}
 use Rattle.mk_outside.specs.Folders.{Files, file_limit}
@@ -19,7 +19,7 @@ use Rattle.mk_plan.specs.Journals.{sent}
 use Rattle.mosaikrun_sayings.specs.Sayings.{ids_of}
 use Rattle.mk_run.proofs.Completing.{completes as run_completes}
 use Rattle.mosaikrun_words.specs.declared.request.Request.{Request}
-use Rattle.mosaikrun_words.specs.declared.request.Request.TheVariants.{Run, Demo, Migrate}
+use Rattle.mosaikrun_words.specs.declared.request.Request.TheVariants.{Files as Reads, Run, Demo}
 use Rattle.mosaikrun_endings.specs.declared.ending.Ending.{Ending}
 use Rattle.mosaikrun_endings.specs.declared.ending.Ending.TheVariants.{Mem}
 use Rattle.mosaikrun_endings.specs.Endings.{status_of}
@@ -31,11 +31,12 @@ use Rattle.mosaikrun_run.specs.Outcomes.{IsRunOutcome, IsScenarioOutcome}
 use Rattle.mosaikrun_run.specs.Sayings.{halt_ending, saying_of, text_of}
 use Rattle.mosaikrun_run.proofs.Telling.{one_scenario}
 use Rattle.mosaikrun_program.specs.Around.{Around}
-use Rattle.mosaikrun_program.specs.Commands.{IsAsked, IsHeld, IsOutcomeOf, IsUnreadable, file_of}
+use Rattle.mosaikrun_program.specs.Commands.{IsAsked, IsHeld, IsNext, IsStuck, files_of}
 use Rattle.mosaikrun_program.specs.Complete.{IsFaultlessStudy}
-use Rattle.mosaikrun_program.specs.Program.{Ended, IsRead, IsStatusOr, status}
+use Rattle.mosaikrun_program.specs.Program.{Ended, IsStatusOr, status}
 use Rattle.mosaikrun_program.specs.Running.{HasRunAs, RunAnswer}
-use Rattle.mosaikrun_program.proofs.Answering.{cut_status, memory, one_request, same_name, unasked_not, unread_status}
+use Rattle.mosaikrun_program.proofs.Answering.{cut_status, memory, one_request, unasked_not}
+use Rattle.mosaikrun_program.proofs.Deciding.{IsThere, readable_status}
 
 -- the status of a run that has a text
 status_of_text : (C : Around) (name : Option (List ℕ)) (text : Result (List ℕ) Ending) (kept : Option (List ℕ)) (r : Result (Unit {0}) Ending) → RunAnswer C name text kept r → (t : List ℕ) → text ≡ Ok t → IsStatusOr 0 (status r)
@@ -116,9 +117,6 @@ module _ (C : Around) (held : Files) (told : C.folder.files ≡ Some held) (scen
   this_run : (Q : Request) → IsAsked C.words Q → Q ≡ Run scenario saved
   this_run Q other = one_request C.words Q (Run scenario saved) other asked
 
-  nothing_made : (Q : Request) (other : List ℕ) (o : Result (List ℕ) Ending) → IsRead C Q other → IsOutcomeOf C.outside.kinds Q other o → ⊥
-  nothing_made Q other o read outcome = subst (λ (X : Request). IsOutcomeOf C.outside.kinds X other o) (this_run Q read.asked) outcome
-
   -- the run is of these bytes
   these : (r : Result (Unit {0}) Ending) → (ran : HasRunAs C r) → ran.bytes ≡ bytes
   these r ran =
@@ -128,23 +126,26 @@ module _ (C : Around) (held : Files) (told : C.folder.files ≡ Some held) (scen
       let both : Some ran.bytes ≡ Some bytes = sym seen.0 ∙ ap held from_here ∙ there in
       cc
 
-  unread_run : (Q : Request) (name : List ℕ) (e : Ending) (wanted : ℕ) → IsAsked C.words Q → file_of Q ≡ Some name → IsUnreadable C.folder.files name (HasRisen C.folder.faults C.folder.new_faults) e → IsStatusOr wanted (status_of e)
-  unread_run Q name e wanted other named cause =
-      unread_status C held told (Run scenario saved) asked scenario refl bytes there short name e wanted (same_name C held told (Run scenario saved) asked scenario refl Q name (this_run Q other) named) cause
+  only_next : (n : List ℕ) (b : List (List ℕ)) (name : List ℕ) → IsNext (n ∷ []) b name → n ≡ name
+  only_next n [] name is = is
+  only_next n (x ∷ more) name is = absurd is
+
+  unread_run : (Q : Request) (e : Ending) (wanted : ℕ) → IsAsked C.words Q → IsStuck C.folder.files (files_of Q) (HasRisen C.folder.faults C.folder.new_faults) e → IsStatusOr wanted (status_of e)
+  unread_run Q e wanted other stuck =
+      let here = subst (λ (X : Request). IsStuck C.folder.files (files_of X) (HasRisen C.folder.faults C.folder.new_faults) e) (this_run Q other) stuck in
+      let is : scenario ≡ here.name = only_next scenario here.read here.name here.next in
+      readable_status held C.folder.files here.name (HasRisen C.folder.faults C.folder.new_faults) e wanted told (subst (IsThere held) is (record { bytes = bytes; is = there; short = short })) here.cause
 
   -- what the status of the run is, and the words ask for nothing else
   by_run : (wanted : ℕ) → ((r : Result (Unit {0}) Ending) → HasRunAs C r → IsStatusOr wanted (status r)) → (r : Result (Unit {0}) Ending) → Ended C r → IsStatusOr wanted (status r)
-  by_run wanted of_run (Ok done) (inl printed) = absurd (nothing_made printed.request printed.bytes (Ok printed.text) printed.read printed.outcome)
+  by_run wanted of_run (Ok done) (inl made) = let wrong = this_run (Reads made.command) made.asked in absurd cc
   by_run wanted of_run (Ok done) (inr (inl ran)) = of_run (Ok done) ran
-  by_run wanted of_run (Ok done) (inr (inr (inl summed))) = let wrong = this_run (Demo summed.size) summed.asked in absurd cc
-  by_run wanted of_run (Ok done) (inr (inr (inr migrated))) = let wrong = this_run (Migrate migrated.source migrated.name) migrated.asked in absurd cc
+  by_run wanted of_run (Ok done) (inr (inr summed)) = let wrong = this_run (Demo summed.size) summed.asked in absurd cc
   by_run wanted of_run (Err e) (inl misused) = unasked_not C.words e misused.cause wanted (Run scenario saved) asked
-  by_run wanted of_run (Err e) (inr (inl unread)) = unread_run unread.request unread.name e wanted unread.asked unread.named unread.cause
-  by_run wanted of_run (Err e) (inr (inr (inl textless))) = absurd (nothing_made textless.request textless.bytes (Err e) textless.read textless.outcome)
-  by_run wanted of_run (Err e) (inr (inr (inr (inl cut)))) = cut_status C.output wanted e cut.cause
-  by_run wanted of_run (Err e) (inr (inr (inr (inr (inl ran))))) = of_run (Err e) ran
-  by_run wanted of_run (Err e) (inr (inr (inr (inr (inr (inl summed)))))) = let wrong = this_run (Demo summed.size) summed.asked in absurd cc
-  by_run wanted of_run (Err e) (inr (inr (inr (inr (inr (inr migrated)))))) = let wrong = this_run (Migrate migrated.source migrated.name) migrated.asked in absurd cc
+  by_run wanted of_run (Err e) (inr (inl unread)) = unread_run unread.request e wanted unread.asked unread.stuck
+  by_run wanted of_run (Err e) (inr (inr (inl made))) = let wrong = this_run (Reads made.command) made.asked in absurd cc
+  by_run wanted of_run (Err e) (inr (inr (inr (inl ran)))) = of_run (Err e) ran
+  by_run wanted of_run (Err e) (inr (inr (inr (inr summed)))) = let wrong = this_run (Demo summed.size) summed.asked in absurd cc
 
   both : HandshakesComplete → (r : Result (Unit {0}) Ending) → Ended C r → (IsFaultlessStudy C.outside bytes → IsStatusOr 0 (status r)) × ((e : Ending) → IsUnchecked (map name_of C.outside.kinds) bytes e → (e ≡ Mem → ⊥) → IsStatusOr 3 (status r))
   both law r done = (

@@ -1,20 +1,22 @@
 -- Which runs do nothing with the fleet.
-use Rattle.std.proofs.Common.{◌≡◌, inl, inr, ℕ, true, List, Option, Some, Ok, sym, ap, ◌∙◌, subst}
+use Rattle.std.proofs.Common.{◌≡◌, inl, inr, ℕ, true, List, Option, Ok, sym, ◌∙◌, subst}
 use Rattle.mk_base.proofs.Lists.{some_same}
 use Rattle.mk_outside.specs.Folders.{Files}
 use Rattle.mk_scenario.specs.declared.parts.Scenario.{Scenario}
 use Rattle.mk_scenario.specs.Scenarios.{scenario_of}
 use Rattle.mk_run_crew.specs.Wholly.{is_wholly_within}
-use Rattle.mosaikrun_words.specs.declared.request.Request.{Request}
 use Rattle.mosaikrun_words.specs.declared.request.Request.TheVariants.{Run}
-use Rattle.mosaikrun_program.specs.Commands.{IsAsked, IsHeld, file_of}
+use Rattle.mosaikrun_program.specs.Commands.{IsAsked, IsHeld}
 use Rattle.mosaikrun_program.specs.Fleetless.{IsHeldWithin, IsWithin, NeedsNoFleet}
 use Rattle.mosaikrun_program.proofs.Answering.{one_request}
+
+same_scenario : {n m : List ℕ} {s t : Option (List ℕ)} → Run n s ≡ Run m t → n ≡ m
+same_scenario same = cc
 
 -- the run that is asked for is the one in which no simulator has a link
 pub run_within : (words : List (List ℕ)) (files : Option Files) (name : List ℕ) (saved : Option (List ℕ)) → IsAsked words (Run name saved) → NeedsNoFleet words files → IsHeldWithin files name
 run_within words files name saved asked (inl no_run) = absurd (no_run name saved asked)
-run_within words files name saved asked (inr run) = subst (λ (n : List ℕ). IsHeldWithin files n) (some_same (ap file_of (one_request words (Run run.name run.saved) (Run name saved) run.asked asked))) run.file
+run_within words files name saved asked (inr run) = subst (λ (n : List ℕ). IsHeldWithin files n) (same_scenario (one_request words (Run run.name run.saved) (Run name saved) run.asked asked)) run.file
 
 -- the file's bytes are those that were read
 pub bytes_within : (files : Option Files) (name bytes : List ℕ) → IsHeld files name bytes → IsHeldWithin files name → IsWithin bytes

@@ -1,7 +1,8 @@
 mod Answering
+mod Deciding
 mod EndingRuns
 mod Fleetless
-mod Migrating
+mod Making
 mod NeverUsage
 mod Playing
 mod Recording

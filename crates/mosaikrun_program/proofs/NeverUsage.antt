@@ -1,5 +1,5 @@
 -- No command says that the words are none.
-use Rattle.std.proofs.Common.{◌≡◌, ℕ, Bool, ◌⊎◌, inl, inr, refl, sym, ap, ◌∙◌, arith, List, map, Option, Result, Ok, Err}
+use Rattle.std.proofs.Common.{◌≡◌, ℕ, Bool, inl, inr, refl, sym, ap, ◌∙◌, arith, List, map, Option, None, Result, Err}
 use Rattle.mk_plan.specs.declared.Plan.{Plan}
 use Rattle.mk_plan.specs.declared.Entry.{Entry}
 use Rattle.mk_scenario.specs.declared.parts.Scenario.{Scenario}
@@ -23,6 +23,12 @@ use Rattle.mosaikrun_check.proofs.OneRanking.{fault_status}
 use Rattle.mosaikrun_run.specs.declared.sayings.Form.{Form}
 use Rattle.mosaikrun_run.specs.Sayings.{halt_ending, saying_of}
 use Rattle.mosaikrun_run.specs.Outcomes.{Outside, IsRunOutcome, IsSaid, IsScenarioOutcome}
+use Rattle.mk_record.specs.ReplayEnd.{ReplayEnd}
+use Rattle.mk_record.specs.ReplayEnd.TheVariants as replay_end
+use Rattle.mosaikrun_records.specs.Reports.{IsSaidOf, IsStopped}
+use Rattle.mosaikrun_records.specs.Saved.{IsUnread}
+use Rattle.mosaikrun_blame.specs.Blames.{IsUnblamed}
+use Rattle.mosaikrun_watch.specs.Watched.{IsUntabled}
 use Rattle.mosaikrun_program.specs.Around.{IsSaidAs}
 
 -- neither does a check
@@ -57,6 +63,32 @@ stop_not_usage P J (core.Wrong s place cause) wrong = cc
 stop_not_usage P J (core.Failed s place) wrong = cc
 stop_not_usage P J (core.LoopLimit s time) wrong = cc
 stop_not_usage P J (core.TooLong count) wrong = cc
+
+-- nor does a command on records
+stopped_not_usage : (bytes : List ℕ) (order : Option ℕ) → IsStopped bytes order Usage → ⊥
+stopped_not_usage bytes order s = by s.end s.said
+  where
+    by : (end : ReplayEnd) → IsSaidOf s.plan s.journal end Usage → ⊥
+    by replay_end.Done said = said
+    by (replay_end.Short n) said = cc
+    by (replay_end.Other n) said = cc
+    by (replay_end.Core fault) said = stop_not_usage s.plan s.journal fault (sym said)
+
+unread_not_usage : (bytes : List ℕ) → IsUnread bytes Usage → ⊥
+unread_not_usage bytes (inl mem) = cc
+unread_not_usage bytes (inr fault) = let is = fault.2 in cc
+
+pub blame_not_usage : (first second : List ℕ) → IsUnblamed first second Usage → ⊥
+blame_not_usage first second (inl unread) = unread_not_usage first unread
+blame_not_usage first second (inr (inl unread)) = unread_not_usage second unread.1
+blame_not_usage first second (inr (inr (inl stopped))) = stopped_not_usage first None stopped.stopped
+blame_not_usage first second (inr (inr (inr (inl stopped)))) = stopped_not_usage second None stopped.stopped
+blame_not_usage first second (inr (inr (inr (inr other)))) = let is = other.is in cc
+
+pub watch_not_usage : (names : List (List ℕ)) (bytes spec : List ℕ) → IsUntabled names bytes spec Usage → ⊥
+watch_not_usage names bytes spec (inl unread) = unread_not_usage bytes unread
+watch_not_usage names bytes spec (inr (inl refused)) = let is = refused.is in cc
+watch_not_usage names bytes spec (inr (inr undone)) = stopped_not_usage bytes None undone.stopped
 
 saying_not_usage : (form : Form) (ids : List (List ℕ)) (P : Plan) (J : List Entry) (o : Outcome) → saying_of form ids P J o ≡ Err Usage → ⊥
 saying_not_usage form ids P J outcome.Done wrong = cc

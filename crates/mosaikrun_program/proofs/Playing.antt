@@ -12,10 +12,10 @@ use Rattle.mosaikrun_program.specs.Commands.{IsAsked, IsHeld}
 use Rattle.mosaikrun_program.specs.Running.{HasRunAs, IsSaved, RunAnswer}
 use Rattle.mosaikrun_program.specs.Program.{Ended, HasPerformed}
 
--- a command with a part of its own was done, whatever the answer
+-- what was asked for was done, whatever the answer
 pub performed : (S : Around) (answer : Result (Unit {0}) Ending) → HasPerformed S answer → Ended S answer
-performed S (Ok done) h = inr h
-performed S (Err e) h = inr (inr (inr (inr h)))
+performed S (Ok done) h = h
+performed S (Err e) h = inr (inr h)
 
 -- a run was asked for, and its scenario's file read
 pub record Played (S : Around) (scenario : List ℕ) (name : Option (List ℕ)) (text : Result (List ℕ) Ending) (kept : Option (List ℕ)) : Type 0 where
@@ -42,7 +42,7 @@ pub reported : (S : Around) (scenario : List ℕ) (name : Option (List ℕ)) (te
     → OnOk answer (S.output.after ≡ appended text S.output.before) → OnErr answer (TookBeginning text S.output.before S.output.after)
     → IfErr answer (λ e. ((e ≡ Output) × HasRisen S.output.faults S.output.new_faults) ⊎ ((e ≡ Mem) × HasRisen S.output.wants S.output.new_wants)) → Ended S answer
 reported S scenario name text kept (Ok done) played saved put cut cause = inr (inl (as_run S scenario name (Ok text) kept (Ok done) played (put, saved)))
-reported S scenario name text kept (Err e) played saved put cut cause = inr (inr (inr (inr (inl (as_run S scenario name (Ok text) kept (Err e) played (inr (cut, saved, elim cause [ inl failed ↦ inl failed | inr short ↦ inr (short.0, inr short.1) ])))))))
+reported S scenario name text kept (Err e) played saved put cut cause = inr (inr (inr (inl (as_run S scenario name (Ok text) kept (Err e) played (inr (cut, saved, elim cause [ inl failed ↦ inl failed | inr short ↦ inr (short.0, inr short.1) ]))))))
 
 -- memory was wanting for the record
 pub wanting : (S : Around) (scenario : List ℕ) (name : Option (List ℕ)) (text : Result (List ℕ) Ending) (kept : Option (List ℕ)) → Played S scenario name text kept → S.output.after ≡ S.output.before → S.folder.files_after ≡ S.folder.files → HasRunAs S (Err Mem)

@@ -1,25 +1,23 @@
 -- What becomes of the file that a run saves its record in, by how the program ended.
-use Rattle.std.proofs.Common.{◌≡◌, ◌⊎◌, inl, inr, ℕ, Bool, true, List, [], map, Option, Some, None, option_map, Result, Ok, Err, refl, sym, ap, ◌∙◌, subst}
+use Rattle.std.proofs.Common.{◌≡◌, inl, inr, ℕ, true, List, [], Option, Some, None, Result, Ok, Err, refl, sym, ap, ◌∙◌, subst}
 use Rattle.std.specs.Prelude.{IfSome, is_some}
 use Rattle.mk_outside.specs.Counts.{HasRisen}
-use Rattle.mk_outside.specs.Folders.{Files, with_file}
+use Rattle.mk_outside.specs.Folders.{Files}
 use Rattle.mosaikrun_words.specs.declared.request.Request.{Request}
-use Rattle.mosaikrun_words.specs.declared.request.Request.TheVariants.{Run, Demo, Migrate}
-use Rattle.mk_outside.specs.declared.fleet.LogEntry.{LogEntry}
+use Rattle.mosaikrun_words.specs.declared.request.Request.TheVariants.{Files as Reads, Run, Demo}
 use Rattle.mk_record.specs.Texts.{record_text}
 use Rattle.mk_scenario.specs.declared.parts.Scenario.{Scenario}
 use Rattle.mk_scenario.specs.Scenarios.{scenario_of}
 use Rattle.mosaikrun_check.specs.Checks.{IsUnread}
 use Rattle.mosaikrun_endings.specs.declared.ending.Ending.{Ending}
 use Rattle.mosaikrun_endings.specs.declared.ending.Ending.TheVariants as ends
-use Rattle.mosaikrun_endings.specs.Endings.{status_of}
 use Rattle.mosaikrun_run.specs.declared.sayings.Form.TheVariants.{Report}
-use Rattle.mosaikrun_run.specs.Outcomes.{HasScenario, IsNoScenario, IsRunOutcome}
+use Rattle.mosaikrun_run.specs.Outcomes.{IsRunOutcome}
 use Rattle.mosaikrun_run.specs.Records.{HasRecord, IsRunFault, IsSettled, IsStepSaid}
 use Rattle.mosaikrun_run.proofs.Recording.{nothing_said, records_there}
 use Rattle.mosaikrun_program.specs.Around.{Around}
-use Rattle.mosaikrun_program.specs.Commands.{IsAsked, IsHeld, IsOutcomeOf, IsUnasked, IsUnreadable}
-use Rattle.mosaikrun_program.specs.Program.{Ended, HasPerformed, IsRead, status}
+use Rattle.mosaikrun_program.specs.Commands.{IsAsked, IsHeld, IsUnasked, IsUnreadable}
+use Rattle.mosaikrun_program.specs.Program.{Ended, HasPerformed, status}
 use Rattle.mosaikrun_program.specs.Recording.{HoldsRecord, IsRecordKept, KeepsRecord}
 use Rattle.mosaikrun_program.specs.Running.{IsFolderAfter, IsSaved, RunAnswer}
 use Rattle.mosaikrun_program.proofs.Answering.{one_request}
@@ -36,7 +34,7 @@ module _ (S : Around) (bytes name : List ℕ) where
     read = read;
     said = text;
     text = record_text has.plan has.journal;
-    record_ = record { ranks = has.ranks; plan = has.plan; journal = has.journal; outcome = has.outcome; run = has.run; said = has.said; is = refl };
+    record_ = record { ranks = has.ranks; plan = has.plan; journal = has.journal; outcome = has.outcome; run = has.run; said = has.said; is = refl; again = has.again };
     answered = subst (λ (k : Option (List ℕ)). RunAnswer S (Some name) text k answer) has.is told;
     saved = subst (λ (k : Option (List ℕ)). IsFolderAfter (Some name) k S.folder.files S.folder.files_after) has.is saved;
   }
@@ -88,11 +86,9 @@ module _ (S : Around) (held : Files) (told : S.folder.files ≡ Some held) (scen
   this_run : (Q : Request) → IsAsked S.words Q → Q ≡ Run scenario (Some name)
   this_run Q other = one_request S.words Q (Run scenario (Some name)) other asked
 
-  nothing_made : (Q : Request) (other : List ℕ) (o : Result (List ℕ) Ending) → IsRead S Q other → IsOutcomeOf S.outside.kinds Q other o → ⊥
-  nothing_made Q other o read outcome = subst (λ (X : Request). IsOutcomeOf S.outside.kinds X other o) (this_run Q read.asked) outcome
-
   performed : (answer : Result (Unit {0}) Ending) → (answer ≡ Err ends.Mem → ⊥) → HasPerformed S answer → KeepsRecord S answer bytes name
-  performed answer not (inl ran) =
+  performed answer not (inl made) = let wrong = this_run (Reads made.command) made.asked in absurd cc
+  performed answer not (inr (inl ran)) =
       let same : Run ran.scenario ran.name ≡ Run scenario (Some name) = this_run (Run ran.scenario ran.name) ran.asked in
       let file : ran.scenario ≡ scenario = cc in
       let named : ran.name ≡ Some name = cc in
@@ -102,8 +98,7 @@ module _ (S : Around) (held : Files) (told : S.folder.files ≡ Some held) (scen
       answered S bytes name unrisen answer ran.text ran.kept not
       (subst (λ (b : List ℕ). IsRunOutcome S.outside true b ran.text ran.kept) these (subst (λ (n : Option (List ℕ)). IsRunOutcome S.outside (is_some n) ran.bytes ran.text ran.kept) named ran.outcome))
       (subst (λ (n : Option (List ℕ)). RunAnswer S n ran.text ran.kept answer) named ran.ended)
-  performed answer not (inr (inl summed)) = let wrong = this_run (Demo summed.size) summed.asked in absurd cc
-  performed answer not (inr (inr migrated)) = let wrong = this_run (Migrate migrated.source migrated.name) migrated.asked in absurd cc
+  performed answer not (inr (inr summed)) = let wrong = this_run (Demo summed.size) summed.asked in absurd cc
 
   misused_not : (e : Ending) → IsUnasked S.words e → IsRunFault e → ⊥
   misused_not e (inl mem) settled = subst IsRunFault mem settled
@@ -116,13 +111,10 @@ module _ (S : Around) (held : Files) (told : S.folder.files ≡ Some held) (scen
   unread_not files other risen e (inr (inr (inr long))) settled = subst IsRunFault long.1 settled
 
   ended_keeps : (answer : Result (Unit {0}) Ending) → (answer ≡ Err ends.Mem → ⊥) → Ended S answer → KeepsRecord S answer bytes name
-  ended_keeps (Ok done) not (inl printed) = absurd (nothing_made printed.request printed.bytes (Ok printed.text) printed.read printed.outcome)
-  ended_keeps (Ok done) not (inr done_so) = performed (Ok done) not done_so
-  ended_keeps (Err e) not (inl misused) = untouched S bytes name (Err e) misused.untouched.aside.unsaved misused.untouched.aside.log (misused_not e misused.cause)
-  ended_keeps (Err e) not (inr (inl unread)) = untouched S bytes name (Err e) unread.untouched.aside.unsaved unread.untouched.aside.log (unread_not _ _ _ e unread.cause)
-  ended_keeps (Err e) not (inr (inr (inl textless))) = absurd (nothing_made textless.request textless.bytes (Err e) textless.read textless.outcome)
-  ended_keeps (Err e) not (inr (inr (inr (inl cut)))) = absurd (nothing_made cut.request cut.bytes (Ok cut.text) cut.read cut.outcome)
-  ended_keeps (Err e) not (inr (inr (inr (inr done_so)))) = performed (Err e) not done_so
+  ended_keeps (Ok done) not done_so = performed (Ok done) not done_so
+  ended_keeps (Err e) not (inl misused) = untouched S bytes name (Err e) misused.untouched.unsaved misused.untouched.log (misused_not e misused.cause)
+  ended_keeps (Err e) not (inr (inl unread)) = untouched S bytes name (Err e) unread.untouched.unsaved unread.untouched.log (unread_not _ _ _ e unread.stuck.cause)
+  ended_keeps (Err e) not (inr (inr done_so)) = performed (Err e) not done_so
 
 pub record_kept : (S : Around) (answer : Result (Unit {0}) Ending) (n : ℕ) → n ≡ status answer → Ended S answer → IsRecordKept S answer n
 record_kept S answer n is ended = by_files S.folder.files refl

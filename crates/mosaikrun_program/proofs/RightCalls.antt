@@ -1,6 +1,6 @@
 -- Every call of the program is right: the headline, from what its answer says.
-use Rattle.std.proofs.Common.{◌≡◌, ℕ, Bool, false, ◌⊎◌, inl, inr, refl, sym, ap, ◌∙◌, subst, arith, List, [], ◌++◌, map, Option, None, Some, Result, Ok, Err, ◌<◌}
-use Rattle.std.specs.Prelude.{IfSome, is_some, option_map}
+use Rattle.std.proofs.Common.{◌≡◌, ℕ, Bool, false, ◌⊎◌, inl, inr, refl, sym, ap, ◌∙◌, subst, arith, List, [], map, Option, None, Some, Result, Ok, Err}
+use Rattle.std.specs.Prelude.{is_some, option_map}
 use Rattle.mk_base.specs.declared.LinkNo.{LinkNo}
 use Rattle.mk_base.specs.Lists.{BeginsWith}
 use Rattle.mk_base.proofs.Lists.{append_nil}
@@ -9,12 +9,10 @@ use Rattle.mk_plan.specs.declared.Entry.{Entry}
 use Rattle.mk_plan.specs.declared.Message.{Message}
 use Rattle.mk_plan.specs.Journals.{bare, got, sent}
 use Rattle.mk_plan.specs.Sequential.{Messages, run_items}
-use Rattle.mk_outside.specs.Counts.{HasRisen}
 use Rattle.mk_outside.specs.Folders.{with_file}
 use Rattle.mk_outside.specs.Sinks.{appended}
 use Rattle.mk_scenario.specs.declared.parts.Scenario.{Scenario}
 use Rattle.mk_scenario_demo.specs.Demo.{demo_scenario}
-use Rattle.mk_local.specs.Kinds.{name_of}
 use Rattle.mk_run_laws.specs.Handshake.{setup_count, sim_link}
 use Rattle.mk_run_laws.specs.Rests.{run_messages}
 use Rattle.mk_run_local.specs.Made.{kind_reply_of}
@@ -25,24 +23,23 @@ use Rattle.mk_run.specs.Ends.{QueuedAll}
 use Rattle.mk_run.proofs.RunRight.{runs_right}
 use Rattle.mk_record.specs.Texts.{record_text}
 use Rattle.mosaikrun_words.specs.declared.request.Request.{Request}
-use Rattle.mosaikrun_words.specs.declared.request.Request.TheVariants.{Run, Replay, Check, Demo, Migrate}
+use Rattle.mosaikrun_words.specs.declared.request.Request.TheVariants.{Files as Reads, Run, Demo}
 use Rattle.mosaikrun_endings.specs.declared.ending.Ending.{Ending}
-use Rattle.mosaikrun_endings.specs.declared.ending.Ending.TheVariants.{Usage, Missing, TooLong, Scenario as BadScenario, Cycle, Launch, Setup, Record, Wrong, Failed, LoopLimit, Link, Short, Differs, Fleet, Folder, Output, Entries, LongItem, Mem}
+use Rattle.mosaikrun_endings.specs.declared.ending.Ending.TheVariants.{Usage, Missing, TooLong, Scenario as BadScenario, Watches, Cycle, Launch, Setup, Record, Wrong, Failed, LoopLimit, Link, Short, Differs, OtherPlan, Fleet, Folder, Output, Entries, LongItem, Mem}
 use Rattle.mosaikrun_endings.specs.Endings.{status_of}
 use Rattle.mosaikrun_sayings.specs.Sayings.{ids_of}
-use Rattle.mosaikrun_records.specs.Migrations.{IsMigration}
 use Rattle.mosaikrun_run.specs.declared.sayings.Form.{Form}
 use Rattle.mosaikrun_run.specs.declared.sayings.Form.TheVariants.{Report, Summary}
-use Rattle.mosaikrun_run.specs.Outcomes.{IsPlayed, IsRunOutcome, IsSaid, IsScenarioOutcome, IsUnrun}
-use Rattle.mosaikrun_run.specs.Sayings.{halt_ending, record_of, saying_of, text_of}
+use Rattle.mosaikrun_run.specs.Outcomes.{IsPlayed, IsScenarioOutcome, IsUnrun}
+use Rattle.mosaikrun_run.specs.Sayings.{halt_ending, record_of, text_of}
 use Rattle.mosaikrun_run.proofs.Reporting.{said_is_done, texts_sequential}
-use Rattle.mosaikrun_program.specs.Around.{Around, IsAside, IsUntouched, OutputSeen}
-use Rattle.mosaikrun_program.specs.Commands.{IsAsked, IsHeld, IsOutcomeOf}
-use Rattle.mosaikrun_program.specs.Running.{HasRunAs, IsFolderAfter, IsSaved, RunAnswer}
-use Rattle.mosaikrun_program.specs.Summing.{DemoAnswer, HasSummed}
-use Rattle.mosaikrun_program.specs.Migrating.{HasMigrated, MigrationAnswer}
-use Rattle.mosaikrun_program.specs.Program.{Ended, HasPerformed, IsRead, status}
-use Rattle.mosaikrun_program.specs.Headline.{IsRightCall, IsRightFile, IsRightFor, IsRightLink, IsRightRun, IsRightRunBy, IsRightStudy, IsRightText, IsUnbegun, MayCome}
+use Rattle.mosaikrun_program.specs.Around.{Around, IsUntouched}
+use Rattle.mosaikrun_program.specs.Commands.{IsAsked, IsOutcomeOf, target_of}
+use Rattle.mosaikrun_program.specs.Running.{HasRunAs, IsFolderAfter, RunAnswer}
+use Rattle.mosaikrun_program.specs.Answers.{PrintAnswer, TextAnswer}
+use Rattle.mosaikrun_program.specs.Making.{HasMade}
+use Rattle.mosaikrun_program.specs.Program.{Ended, HasPerformed, status}
+use Rattle.mosaikrun_program.specs.Headline.{IsPut, IsRightCall, IsRightFor, IsRightRun, IsRightStudy, IsUnbegun, MayCome}
 use Rattle.mosaikrun_program.proofs.Answering.{one_request}
 
 -- no ending has the status 0
@@ -51,6 +48,7 @@ not_zero Usage zero = omega (arith, zero)
 not_zero (Missing name) zero = omega (arith, zero)
 not_zero (TooLong name count) zero = omega (arith, zero)
 not_zero (BadScenario fault) zero = omega (arith, zero)
+not_zero (Watches fault) zero = omega (arith, zero)
 not_zero (Cycle sims) zero = omega (arith, zero)
 not_zero (Launch sim fault) zero = omega (arith, zero)
 not_zero (Setup setup) zero = omega (arith, zero)
@@ -61,6 +59,7 @@ not_zero (LoopLimit sim time) zero = omega (arith, zero)
 not_zero (Link sim fault) zero = omega (arith, zero)
 not_zero (Short outstanding) zero = omega (arith, zero)
 not_zero (Differs entry) zero = omega (arith, zero)
+not_zero (OtherPlan part) zero = omega (arith, zero)
 not_zero Fleet zero = omega (arith, zero)
 not_zero Folder zero = omega (arith, zero)
 not_zero Output zero = omega (arith, zero)
@@ -193,7 +192,7 @@ shown_by_run C name (Err why) kept (Err e) said = record {
 }
 
 -- what the answer of the demo shows
-shown_by_demo : (C : Around) (text : Result (List ℕ) Ending) (r : Result (Unit {0}) Ending) → DemoAnswer C.output text r → Shown C text (status r)
+shown_by_demo : (C : Around) (text : Result (List ℕ) Ending) (r : Result (Unit {0}) Ending) → PrintAnswer C.output text r → Shown C text (status r)
 shown_by_demo C (Ok t) (Ok done) said = record { put = λ x is zero. said ∙ ap (λ y. appended y C.output.before) (let same : t ≡ x = cc in same); unput = λ e is. cc; wanting = λ is. cc }
 shown_by_demo C (Err why) (Ok done) said = absurd said
 shown_by_demo C (Ok t) (Err e) said = record { put = λ x is zero. absurd (not_zero e zero); unput = λ f is. cc; wanting = λ is. cc }
@@ -226,67 +225,43 @@ run_right C r ran =
       ]
     ]
 
--- what a command prints of its file
-printed_right : (C : Around) (n : ℕ) (Q : Request) (bytes text : List ℕ) → IsRead C Q bytes → IsOutcomeOf C.outside.kinds Q bytes (Ok text) → C.output.after ≡ appended text C.output.before → IsRightFor C n Q
-printed_right C n (Run name saved) bytes text read outcome put = absurd outcome
-printed_right C n (Demo size) bytes text read outcome put = absurd outcome
-printed_right C n (Migrate old new) bytes text read outcome put = absurd outcome
-printed_right C n (Replay name order) bytes text read outcome put = λ zero. record {
-  bytes = bytes;
-  held = subst (λ (x : List ℕ). IsHeld C.folder.files x bytes) (let named = read.named in let same : read.name ≡ name = cc in same) read.held;
-  text = text;
-  made = outcome;
-  put = put;
-}
-printed_right C n (Check name) bytes text read outcome put = λ zero. record {
-  bytes = bytes;
-  held = subst (λ (x : List ℕ). IsHeld C.folder.files x bytes) (let named = read.named in let same : read.name ≡ name = cc in same) read.held;
-  text = text;
-  made = outcome;
-  put = put;
-}
+-- the text of a command on files, at status 0
+put_right : (C : Around) (target : Option (List ℕ)) (text : Result (List ℕ) Ending) (r : Result (Unit {0}) Ending) → TextAnswer C target text r → status r ≡ 0 → (t : List ℕ) × (text ≡ Ok t) × IsPut C target t
+put_right C target text (Err e) said zero = absurd (not_zero e zero)
+put_right C None (Ok t) (Ok done) said zero = (t, refl, said.0)
+put_right C (Some name) (Ok t) (Ok done) said zero = (t, refl, said.0)
+put_right C None (Err why) (Ok done) said zero = absurd said.0
+put_right C (Some name) (Err why) (Ok done) said zero = absurd said.0
+
+made_right : (C : Around) (r : Result (Unit {0}) Ending) → (has : HasMade C r) → IsRightFor C (status r) (Reads has.command)
+made_right C r has = λ zero.
+    let put = put_right C (target_of has.command) has.text r has.ended zero in
+    record {
+      read = has.made.read;
+      held = has.made.held;
+      text = put.0;
+      made = subst (IsOutcomeOf C.outside.kinds C.rules has.command has.made.read) put.1 has.made.made;
+      put = put.2;
+    }
 
 -- where nothing was done and put out, at a status other than 0
 untouched_right : (C : Around) (n : ℕ) → (n ≡ 0 → ⊥) → IsUntouched C → (Q : Request) → IsRightFor C n Q
-untouched_right C n not untouched (Run name saved) = inl (record { silent = untouched.aside.log; unput = untouched.unput; status = not })
-untouched_right C n not untouched (Demo size) = inl (record { silent = untouched.aside.log; unput = untouched.unput; status = not })
-untouched_right C n not untouched (Replay name order) = λ zero. absurd (not zero)
-untouched_right C n not untouched (Check name) = λ zero. absurd (not zero)
-untouched_right C n not untouched (Migrate old new) = λ zero. absurd (not zero)
-
--- where the output has a beginning of a text, at a status other than 0
-cut_right : (C : Around) (n : ℕ) → (n ≡ 0 → ⊥) → (Q : Request) (bytes : List ℕ) (o : Result (List ℕ) Ending) → IsOutcomeOf C.outside.kinds Q bytes o → IsRightFor C n Q
-cut_right C n not (Run name saved) bytes o outcome = absurd outcome
-cut_right C n not (Demo size) bytes o outcome = absurd outcome
-cut_right C n not (Migrate old new) bytes o outcome = absurd outcome
-cut_right C n not (Replay name order) bytes o outcome = λ zero. absurd (not zero)
-cut_right C n not (Check name) bytes o outcome = λ zero. absurd (not zero)
-
--- a migration
-migrated_right : (C : Around) (source name bytes : List ℕ) → IsHeld C.folder.files source bytes → (text : Result (List ℕ) Ending) → IsMigration bytes text → (r : Result (Unit {0}) Ending) → MigrationAnswer C.folder name text r → IsRightFor C (status r) (Migrate source name)
-migrated_right C source name bytes held text outcome (Err e) said = λ zero. absurd (not_zero e zero)
-migrated_right C source name bytes held (Err why) outcome (Ok done) said = absurd said
-migrated_right C source name bytes held (Ok text) outcome (Ok done) said = λ zero. record { bytes = bytes; held = held; text = text; made = outcome; saved = said }
+untouched_right C n not untouched (Run name saved) = inl (record { silent = untouched.log; unput = untouched.unput; status = not })
+untouched_right C n not untouched (Demo size) = inl (record { silent = untouched.log; unput = untouched.unput; status = not })
+untouched_right C n not untouched (Reads command) = λ zero. absurd (not zero)
 
 performed_right : (C : Around) (r : Result (Unit {0}) Ending) → HasPerformed C r → (R : Request) → IsAsked C.words R → IsRightFor C (status r) R
-performed_right C r (inl ran) R asked = subst (IsRightFor C (status r)) (one_request C.words (Run ran.scenario ran.name) R ran.asked asked) (run_right C r ran)
-performed_right C r (inr (inl summed)) R asked =
+performed_right C r (inl made) R asked = subst (IsRightFor C (status r)) (one_request C.words (Reads made.command) R made.asked asked) (made_right C r made)
+performed_right C r (inr (inl ran)) R asked = subst (IsRightFor C (status r)) (one_request C.words (Run ran.scenario ran.name) R ran.asked asked) (run_right C r ran)
+performed_right C r (inr (inr summed)) R asked =
     subst (IsRightFor C (status r)) (one_request C.words (Demo summed.size) R summed.asked asked)
     (studied C Summary false (demo_scenario summed.size) None (status r) summed.text None summed.outcome (shown_by_demo C summed.text r summed.ended) (λ P J is zero name named. cc))
-performed_right C r (inr (inr migrated)) R asked =
-    subst (IsRightFor C (status r)) (one_request C.words (Migrate migrated.source migrated.name) R migrated.asked asked)
-    (migrated_right C migrated.source migrated.name migrated.bytes migrated.held migrated.text migrated.outcome r migrated.ended)
 
 right_for : (C : Around) (r : Result (Unit {0}) Ending) → Ended C r → (R : Request) → IsAsked C.words R → IsRightFor C (status r) R
-right_for C (Ok done) (inl printed) R asked =
-    subst (IsRightFor C 0) (one_request C.words printed.request R printed.read.asked asked) (printed_right C 0 printed.request printed.bytes printed.text printed.read printed.outcome printed.put)
-right_for C (Ok done) (inr performed) R asked = performed_right C (Ok done) performed R asked
+right_for C (Ok done) performed R asked = performed_right C (Ok done) performed R asked
 right_for C (Err e) (inl misused) R asked = untouched_right C (status_of e) (not_zero e) misused.untouched R
 right_for C (Err e) (inr (inl unread)) R asked = untouched_right C (status_of e) (not_zero e) unread.untouched R
-right_for C (Err e) (inr (inr (inl textless))) R asked = untouched_right C (status_of e) (not_zero e) textless.untouched R
-right_for C (Err e) (inr (inr (inr (inl cut)))) R asked =
-    subst (IsRightFor C (status_of e)) (one_request C.words cut.request R cut.read.asked asked) (cut_right C (status_of e) (not_zero e) cut.request cut.bytes (Ok cut.text) cut.outcome)
-right_for C (Err e) (inr (inr (inr (inr performed)))) R asked = performed_right C (Err e) performed R asked
+right_for C (Err e) (inr (inr performed)) R asked = performed_right C (Err e) performed R asked
 
 pub right_call : (C : Around) (r : Result (Unit {0}) Ending) (n : ℕ) → n ≡ status r → Ended C r → IsRightCall C n
 right_call C r n is ended R asked = subst (λ (m : ℕ). IsRightFor C m R) (sym is) (right_for C r ended R asked)

@@ -2,6 +2,9 @@
 use Rattle.std.specs.Prelude.{◌≡◌, ℕ, ◌⊎◌, List, [], Option}
 use Rattle.mk_outside.specs.Counts.{HasRisen}
 use Rattle.mk_outside.specs.Folders.{Files}
+use Rattle.mk_watch_read.specs.declared.rule.Fold.{Fold}
+use Rattle.mk_watch_read.specs.declared.rules.Rules.{Rules}
+use Rattle.mk_watch_read.specs.Rules.{names_in, folds_in}
 use Rattle.mosaikrun_endings.specs.declared.ending.Ending.{Ending}
 use Rattle.mosaikrun_endings.specs.declared.ending.Ending.TheVariants.{Output, Mem}
 use Rattle.mosaikrun_run.specs.Outcomes.{Outside}
@@ -44,24 +47,30 @@ output_seen written faults wants old new = record {
   new_wants = wants new;
 }
 
--- the words of a call, the kinds within the program and what happened at its fleet, its folder and
+-- the rules of tables within the program: their names and their folds, in order
+pub record RulesSeen : Type 0 where
+  pub names : List (List ℕ)
+  pub folds : List Fold
+
+-- those of a store
+abbrev pub rules_seen : {g : _} {f : _} {h : _} → Rules g f h → RulesSeen
+rules_seen {g} {f} {h} r = record { names = names_in r; folds = folds_in r }
+
+-- the words of a call, the kinds and rules within the program and what happened at its fleet, its folder and
 -- its output
 pub record Around : Type 0 where
   pub words : List (List ℕ)
   pub outside : Outside
+  pub rules : RulesSeen
   pub folder : FolderSeen
   pub output : OutputSeen
 
--- nothing was saved, and nothing done with the fleet
-pub record IsAside (S : Around) : Type 0 where
+-- nothing was put to the output, nothing saved, and nothing done with the fleet
+pub record IsUntouched (S : Around) : Type 0 where
+  pub unput : S.output.after ≡ S.output.before
   pub unsaved : S.folder.files_after ≡ S.folder.files
   pub log : S.outside.log ≡ []
   pub faults : S.outside.new_faults ≡ S.outside.faults
-
--- besides, nothing was put to the output
-pub record IsUntouched (S : Around) : Type 0 where
-  pub unput : S.output.after ≡ S.output.before
-  pub aside : IsAside S
 
 -- why the output has only a beginning of the text: it failed, or found no memory; that it failed
 -- may have to be said as want of memory

@@ -1,38 +1,76 @@
--- The commands of the program, and what each makes of the file that it names.
-use Rattle.std.specs.Prelude.{◌≡◌, ℕ, ◌<◌, ◌≤◌, ◌⊎◌, ⊤, length, map, List, [], Option, Some, None, IfSome, Result}
+-- The commands on files: which files each reads, where its text goes, and what it makes of them.
+use Rattle.std.specs.Prelude.{◌≡◌, ℕ, ◌<◌, ◌≤◌, ◌⊎◌, ⊤, length, map, List, [], ◌∷◌, Option, Some, None, IfSome, Result}
 use Rattle.mk_outside.specs.Folders.{Files, file_limit}
+use Rattle.mosaikrun_words.specs.declared.request.FileCommand.{FileCommand}
+use Rattle.mosaikrun_words.specs.declared.request.FileCommand.TheVariants.{Replay, Check, Pair}
+use Rattle.mosaikrun_words.specs.declared.request.PairCommand.TheVariants.{Migrate, Watch, Blame}
 use Rattle.mosaikrun_words.specs.declared.request.Request.{Request}
-use Rattle.mosaikrun_words.specs.declared.request.Request.TheVariants.{Run, Replay, Check, Demo, Migrate}
-use Rattle.mosaikrun_words.specs.Requests.{IsRequestAmong}
+use Rattle.mosaikrun_words.specs.declared.request.Request.TheVariants.{Files as Reads, Run, Demo}
+use Rattle.mosaikrun_words.specs.Requests.{IsRequest}
 use Rattle.mk_local.specs.declared.turn.Turn.{Turn}
 use Rattle.mk_local.specs.Kinds.{name_of}
 use Rattle.mosaikrun_endings.specs.declared.ending.Ending.{Ending}
 use Rattle.mosaikrun_endings.specs.declared.ending.Ending.TheVariants as ends
+use Rattle.mosaikrun_program.specs.Around.{RulesSeen}
 use Rattle.mosaikrun_records.specs.Reports as reports
+use Rattle.mosaikrun_records.specs.Migrations.{IsMigration}
+use Rattle.mosaikrun_records.specs.Saved.{IsRecord}
+use Rattle.mosaikrun_watch.specs.Watched.{IsWatchOutcome}
+use Rattle.mosaikrun_blame.specs.Blames.{IsBlameOutcome}
 use Rattle.mosaikrun_check.specs.Checks as checks
-use Rattle.mosaikrun_program.specs.declared.commands.TheConstants.{COMMANDS}
 
--- the words ask for this, by a command that the program has
+-- the words ask for this
 abbrev pub IsAsked : List (List ℕ) → Request → Type 0
-IsAsked words R = IsRequestAmong COMMANDS words R
+IsAsked words R = IsRequest words R
 
--- the file that is read, where one is
-abbrev pub file_of : Request → Option (List ℕ)
-file_of (Run scenario saved) = Some scenario
-file_of (Replay name order) = Some name
-file_of (Check scenario) = Some scenario
-file_of (Demo size) = None
-file_of (Migrate old new) = Some old
+-- the files that a command reads, in order
+abbrev pub read_by : FileCommand → List (List ℕ)
+read_by (Replay name order) = name ∷ []
+read_by (Check scenario) = scenario ∷ []
+read_by (Pair Migrate old new) = old ∷ []
+read_by (Pair Watch name spec) = name ∷ spec ∷ []
+read_by (Pair Blame first second) = first ∷ second ∷ []
 
--- what a command that prints something of its file makes of the file's bytes, the program having
--- these kinds: the text that it prints, or why there is none
-abbrev pub IsOutcomeOf : List Turn → Request → List ℕ → Result (List ℕ) Ending → Type 0
-IsOutcomeOf kinds (Replay name order) bytes outcome = reports.IsOutcome bytes order outcome
-IsOutcomeOf kinds (Check scenario) bytes outcome = checks.IsOutcome
-    (map name_of kinds) bytes outcome
-IsOutcomeOf kinds (Run scenario saved) bytes outcome = ⊥
-IsOutcomeOf kinds (Demo size) bytes outcome = ⊥
-IsOutcomeOf kinds (Migrate old new) bytes outcome = ⊥
+-- and those that are read for a request
+abbrev pub files_of : Request → List (List ℕ)
+files_of (Reads command) = read_by command
+files_of (Run scenario saved) = scenario ∷ []
+files_of (Demo size) = []
+
+-- the name that a command saves its text under; where there is none, the text is printed
+abbrev pub target_of : FileCommand → Option (List ℕ)
+target_of (Replay name order) = None
+target_of (Check scenario) = None
+target_of (Pair Migrate old new) = Some new
+target_of (Pair Watch name spec) = None
+target_of (Pair Blame first second) = None
+
+-- what comes of one file
+abbrev pub OfOne : (List ℕ → Result (List ℕ) Ending → Type 0) → List (List ℕ)
+    → Result (List ℕ) Ending → Type 0
+OfOne makes [] outcome = ⊥
+OfOne makes (bytes ∷ []) outcome = makes bytes outcome
+OfOne makes (bytes ∷ other ∷ more) outcome = ⊥
+
+-- what comes of a record and a second file; of the first alone where that is no record, whatever the
+-- second is
+abbrev pub OfTwo : (List ℕ → List ℕ → Result (List ℕ) Ending → Type 0) → List (List ℕ)
+    → Result (List ℕ) Ending → Type 0
+OfTwo makes [] outcome = ⊥
+OfTwo makes (first ∷ []) outcome = (IsRecord first → ⊥)
+    × ((second : List ℕ) → makes first second outcome)
+OfTwo makes (first ∷ second ∷ []) outcome = makes first second outcome
+OfTwo makes (first ∷ second ∷ other ∷ more) outcome = ⊥
+
+-- what a command makes of these files' bytes, the program having these kinds and rules: its text, or why there
+-- is none
+abbrev pub IsOutcomeOf : List Turn → RulesSeen → FileCommand → List (List ℕ) → Result (List ℕ) Ending
+    → Type 0
+IsOutcomeOf kinds rules (Replay name order) = OfOne (λ bytes. reports.IsOutcome bytes order)
+IsOutcomeOf kinds rules (Check scenario) = OfOne (checks.IsOutcome (map name_of kinds))
+IsOutcomeOf kinds rules (Pair Migrate old new) = OfOne IsMigration
+IsOutcomeOf kinds rules (Pair Watch name spec) = OfTwo (IsWatchOutcome rules.names rules.folds)
+IsOutcomeOf kinds rules (Pair Blame first second) = OfTwo IsBlameOutcome
 
 -- the words ask for nothing
 abbrev pub IsUnasked : List (List ℕ) → Ending → Type 0
@@ -42,6 +80,23 @@ IsUnasked words e = (e ≡ ends.Mem) ⊎ ((e ≡ ends.Usage) × ((R : Request) �
 abbrev pub IsHeld : Option Files → List ℕ → List ℕ → Type 0
 IsHeld files name bytes = IfSome files (λ held. (held name ≡ Some bytes)
     × (length bytes ≤ file_limit))
+
+-- the files of these names, or of the first of them, have these bytes
+abbrev pub AreHeld : Option Files → List (List ℕ) → List (List ℕ) → Type 0
+AreHeld files names [] = ⊤
+AreHeld files [] (bytes ∷ more) = ⊥
+AreHeld files (name ∷ names) (bytes ∷ more) = IsHeld files name bytes × AreHeld files names more
+
+-- the name of the file that comes next behind those that were read
+abbrev pub IsNext : List (List ℕ) → List (List ℕ) → List ℕ → Type 0
+IsNext [] read name = ⊥
+IsNext (first ∷ names) [] name = first ≡ name
+IsNext (first ∷ names) (bytes ∷ read) name = IsNext names read name
+
+-- the next file is read: none was read before, or a record
+abbrev pub IsReadOn : List (List ℕ) → Type 0
+IsReadOn [] = ⊤
+IsReadOn (bytes ∷ more) = IsRecord bytes
 
 -- the file isn't there, or is longer than a file may be
 abbrev pub IsNoFile : Option (List ℕ) → Type 0
@@ -57,3 +112,20 @@ IsUnreadable files name risen e =
     ⊎ (count : ℕ) × (e ≡ ends.TooLong name count)
     × IfSome files (λ held. (bytes : List ℕ) × (held name ≡ Some bytes) × (length bytes ≡ count)
     × (file_limit < count))))
+
+-- some of these files were read, and this came of them
+pub record IsMade (files : Option Files) (kinds : List Turn) (rules : RulesSeen)
+    (command : FileCommand) (outcome : Result (List ℕ) Ending) : Type 0 where
+  pub read : List (List ℕ)
+  pub held : AreHeld files (read_by command) read
+  pub made : IsOutcomeOf kinds rules command read outcome
+
+-- of the files of these names the next one isn't read
+pub record IsStuck (files : Option Files) (names : List (List ℕ)) (risen : Type 0)
+    (e : Ending) : Type 0 where
+  pub read : List (List ℕ)
+  pub held : AreHeld files names read
+  pub on : IsReadOn read
+  pub name : List ℕ
+  pub next : IsNext names read name
+  pub cause : IsUnreadable files name risen e

@@ -15,7 +15,6 @@ use Rattle.mk_outside.specs.Sinks.{appended}
 use Rattle.mk_scenario.specs.declared.parts.Scenario.{Scenario}
 use Rattle.mk_scenario.specs.Scenarios.{scenario_of}
 use Rattle.mk_scenario_demo.specs.Demo.{demo_scenario}
-use Rattle.mk_local.specs.Kinds.{name_of}
 use Rattle.mk_run_laws.specs.Handshake.{setup_count, setup_requests, sim_link}
 use Rattle.mk_run_laws.specs.Hearing.{messages_heard}
 use Rattle.mk_run_laws.specs.Rests.{RestsWell}
@@ -28,16 +27,14 @@ use Rattle.mk_run.specs.Laws.{ArePromised}
 use Rattle.mk_setup.specs.Handshakes.{IsMade}
 use Rattle.mk_record.specs.Texts.{record_text}
 use Rattle.mosaikrun_words.specs.declared.request.Request.{Request}
-use Rattle.mosaikrun_words.specs.declared.request.Request.TheVariants.{Run, Replay, Check, Demo, Migrate}
-use Rattle.mosaikrun_records.specs.Reports.{IsReportOf}
-use Rattle.mosaikrun_records.specs.Migrations.{IsRecordOf}
-use Rattle.mosaikrun_check.specs.Checks.{IsChecked}
+use Rattle.mosaikrun_words.specs.declared.request.FileCommand.{FileCommand}
+use Rattle.mosaikrun_words.specs.declared.request.Request.TheVariants.{Files, Run, Demo}
 use Rattle.mosaikrun_run.specs.declared.sayings.Form.{Form}
 use Rattle.mosaikrun_run.specs.declared.sayings.Form.TheVariants.{Report, Summary}
 use Rattle.mosaikrun_run.specs.Outcomes.{Outside}
 use Rattle.mosaikrun_run.specs.Sayings.{text_of}
 use Rattle.mosaikrun_program.specs.Around.{Around}
-use Rattle.mosaikrun_program.specs.Commands.{IsAsked, IsHeld}
+use Rattle.mosaikrun_program.specs.Commands.{AreHeld, IsAsked, IsHeld, IsOutcomeOf, read_by, target_of}
 
 -- messages of the simulators that may come: on each link those that were heard there, and whatever
 -- goes on; of simulators within the program what their kinds answer
@@ -109,35 +106,26 @@ pub record IsRightRun (C : Around) (name : List ℕ) (saved : Option (List ℕ))
   pub read : scenario_of bytes ≡ Ok scenario
   pub study : IsRightStudy C Report scenario saved n
 
--- the file of this name, where the folder tells, has bytes of which this text was made, and the
--- output has grown by exactly the text
-pub record IsRightText (C : Around) (name : List ℕ)
-    (IsMadeOf : List ℕ → List ℕ → Type 0) : Type 0 where
-  pub bytes : List ℕ
-  pub held : IsHeld C.folder.files name bytes
-  pub text : List ℕ
-  pub made : IsMadeOf bytes text
-  pub put : C.output.after ≡ appended text C.output.before
+-- the output has grown by exactly the text; or where the text has a name, it was saved under that, all
+-- other files being as before
+abbrev pub IsPut : Around → Option (List ℕ) → List ℕ → Type 0
+IsPut C None text = C.output.after ≡ appended text C.output.before
+IsPut C (Some name) text = C.folder.files_after ≡ option_map (with_file name text) C.folder.files
 
--- the file of this name, where the folder tells, has bytes of which this text was made, and the text
--- was saved under the other name, all other files being as before
-pub record IsRightFile (C : Around) (name target : List ℕ)
-    (IsMadeOf : List ℕ → List ℕ → Type 0) : Type 0 where
-  pub bytes : List ℕ
-  pub held : IsHeld C.folder.files name bytes
+-- a command's files, where the folder tells, have bytes of which this text was made, and that was put
+-- out or saved
+pub record IsRightText (C : Around) (command : FileCommand) : Type 0 where
+  pub read : List (List ℕ)
+  pub held : AreHeld C.folder.files (read_by command) read
   pub text : List ℕ
-  pub made : IsMadeOf bytes text
-  pub saved : C.folder.files_after ≡ option_map (with_file target text) C.folder.files
+  pub made : IsOutcomeOf C.outside.kinds C.rules command read (Ok text)
+  pub put : IsPut C (target_of command) text
 
 -- a call that asks for this, and ended with status n, is right
 abbrev pub IsRightFor : Around → ℕ → Request → Type 0
 IsRightFor C n (Run scenario saved) = IsUnbegun C n ⊎ IsRightRun C scenario saved n
 IsRightFor C n (Demo size) = IsUnbegun C n ⊎ IsRightStudy C Summary (demo_scenario size) None n
-IsRightFor C n (Replay name order) = n ≡ 0
-    → IsRightText C name (λ bytes text. IsReportOf bytes order text)
-IsRightFor C n (Check scenario) = n ≡ 0
-    → IsRightText C scenario (IsChecked (map name_of C.outside.kinds))
-IsRightFor C n (Migrate old new) = n ≡ 0 → IsRightFile C old new IsRecordOf
+IsRightFor C n (Files command) = n ≡ 0 → IsRightText C command
 
 -- whatever the words of a call ask for, it is right
 abbrev pub IsRightCall : Around → ℕ → Type 0

@@ -1,9 +1,10 @@
+pub mod Answers
 pub mod Around
 pub mod Commands
 pub mod Complete
 pub mod Fleetless
 pub mod Headline
-pub mod Migrating
+pub mod Making
 pub mod Program
 pub mod Recording
 pub mod Running

@@ -4,80 +4,45 @@ use Rattle.mk_outside.specs.Counts.{HasRisen}
 use Rattle.mk_outside.specs.Folders.{Files, with_file}
 use Rattle.mk_outside.specs.Sinks.{TookBeginning, appended}
 use Rattle.mosaikrun_words.specs.declared.request.Request.{Request}
-use Rattle.mosaikrun_words.specs.declared.request.Request.TheVariants.{Run, Migrate}
+use Rattle.mosaikrun_words.specs.declared.request.FileCommand.{FileCommand}
+use Rattle.mosaikrun_words.specs.declared.request.Request.TheVariants.{Files as Reads, Run}
 use Rattle.mosaikrun_endings.specs.declared.ending.Ending.{Ending}
 use Rattle.mosaikrun_endings.specs.Endings.{line_of, status_of}
-use Rattle.mosaikrun_program.specs.Around.{Around, IsAside, IsCutBy, IsUntouched}
-use Rattle.mosaikrun_program.specs.Commands.{IsAsked, IsHeld, IsOutcomeOf, IsUnasked, IsUnreadable, file_of}
-use Rattle.mosaikrun_program.specs.Migrating.{HasMigrated}
+use Rattle.mosaikrun_program.specs.Around.{Around, IsUntouched}
+use Rattle.mosaikrun_program.specs.Commands.{IsAsked, IsStuck, IsUnasked, files_of, target_of}
+use Rattle.mosaikrun_program.specs.Making.{HasMade}
 use Rattle.mosaikrun_program.specs.Recording.{IsRecordKept}
 use Rattle.mosaikrun_program.specs.Running.{HasRunAs}
 use Rattle.mosaikrun_program.specs.Summing.{HasSummed}
-
--- the words ask for something whose file is read, and these are its bytes, if the folder tells
-pub record IsRead (S : Around) (R : Request) (bytes : List ℕ) : Type 0 where
-  pub asked : IsAsked S.words R
-  pub name : List ℕ
-  pub named : file_of R ≡ Some name
-  pub held : IsHeld S.folder.files name bytes
-
--- the command has a text, and the output has taken the whole of it
-pub record IsPrinted (S : Around) : Type 0 where
-  pub request : Request
-  pub bytes : List ℕ
-  pub text : List ℕ
-  pub read : IsRead S request bytes
-  pub outcome : IsOutcomeOf S.outside.kinds request bytes (Ok text)
-  pub put : S.output.after ≡ appended text S.output.before
-  pub aside : IsAside S
 
 -- the words ask for nothing
 pub record IsMisused (S : Around) (e : Ending) : Type 0 where
   pub cause : IsUnasked S.words e
   pub untouched : IsUntouched S
 
--- the file isn't read
+-- a file isn't read
 pub record IsUnread (S : Around) (e : Ending) : Type 0 where
   pub request : Request
   pub asked : IsAsked S.words request
-  pub name : List ℕ
-  pub named : file_of request ≡ Some name
-  pub cause : IsUnreadable S.folder.files name (HasRisen S.folder.faults S.folder.new_faults) e
+  pub stuck : IsStuck S.folder.files (files_of request)
+      (HasRisen S.folder.faults S.folder.new_faults) e
   pub untouched : IsUntouched S
 
--- the command has no text
-pub record IsTextless (S : Around) (e : Ending) : Type 0 where
-  pub request : Request
-  pub bytes : List ℕ
-  pub read : IsRead S request bytes
-  pub outcome : IsOutcomeOf S.outside.kinds request bytes (Err e)
-  pub untouched : IsUntouched S
-
--- the command has a text, and the output has taken a beginning of it
-pub record IsCutShort (S : Around) (e : Ending) : Type 0 where
-  pub request : Request
-  pub bytes : List ℕ
-  pub text : List ℕ
-  pub read : IsRead S request bytes
-  pub outcome : IsOutcomeOf S.outside.kinds request bytes (Ok text)
-  pub put : TookBeginning text S.output.before S.output.after
-  pub aside : IsAside S
-  pub cause : IsCutBy S.output e
-
--- a command with a part of its own was done: a run, the demo, or a migration
+-- what the words ask for was done: a command on files, a run, or the demo
 abbrev pub HasPerformed : Around → Result (Unit {0}) Ending → Type 0
-HasPerformed S answer = HasRunAs S answer ⊎ (HasSummed S answer ⊎ HasMigrated S answer)
+HasPerformed S answer = HasMade S answer ⊎ (HasRunAs S answer ⊎ HasSummed S answer)
 
 -- what an answer says
 abbrev pub Ended : Around → Result (Unit {0}) Ending → Type 0
-Ended S (Ok done) = IsPrinted S ⊎ HasPerformed S (Ok done)
-Ended S (Err e) = IsMisused S e
-    ⊎ (IsUnread S e ⊎ (IsTextless S e ⊎ (IsCutShort S e ⊎ HasPerformed S (Err e))))
+Ended S (Ok done) = HasPerformed S (Ok done)
+Ended S (Err e) = IsMisused S e ⊎ (IsUnread S e ⊎ HasPerformed S (Err e))
 
--- the words ask for a run that saves its record under this name, or for a migration to it
+-- the words ask for a run that saves its record under this name, or for a command that saves its text
+-- under it
 abbrev pub IsNamed : List (List ℕ) → List ℕ → Type 0
 IsNamed words name = ((scenario : List ℕ) × IsAsked words (Run scenario (Some name)))
-    ⊎ ((source : List ℕ) × IsAsked words (Migrate source name))
+    ⊎ ((command : FileCommand) × IsAsked words (Reads command)
+    × (target_of command ≡ Some name))
 
 -- the folder is as before, or one file was saved, under a name that the words give for it
 abbrev pub KeepsOthers : List (List ℕ) → Option Files → Option Files → Type 0

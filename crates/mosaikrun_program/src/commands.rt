@@ -1,72 +1,208 @@
-// The commands of the program, and what each that prints something of a file makes of it.
-ghost use Rattle.std.specs.Prelude.{◌≡◌, Some, Ok, Err, IfOk, IfErr, map};
-ghost use Rattle.std.specs.String.{string_bytes};
-ghost use Rattle.mk_base.specs.Lists.{IsIn};
-ghost use Rattle.mosaikrun_words.specs.Requests.{command_of};
+// The commands on files: what each makes of the files that it reads.
+ghost use Rattle.std.specs.Prelude.{◌≡◌, ◌∷◌, [], ◌≤◌, ◌⊎◌, Ok, Err, IfOk, IfErr, map, option_map};
+ghost use Rattle.mk_local.specs.Kinds.{name_of};
 ghost use Rattle.mk_local.specs.Registries.{rows_in};
-ghost use Rattle.mosaikrun_program.specs.Commands.{IsAsked, IsOutcomeOf, IsUnasked, file_of};
+ghost use Rattle.mk_outside.specs.Counts.{HasRisen};
+ghost use Rattle.mk_watch_read.specs.Rules.{folds_in, names_in};
+ghost use Rattle.mosaikrun_blame.specs.Blames.{IsBlameOutcome};
+ghost use Rattle.mosaikrun_check.specs.Checks as checks;
+ghost use Rattle.mosaikrun_records.specs.Migrations.{IsMigration};
+ghost use Rattle.mosaikrun_records.specs.Reports as reports;
+ghost use Rattle.mosaikrun_watch.specs.Watched.{IsWatchOutcome};
+ghost use Rattle.mosaikrun_program.specs.Around.{rules_seen};
+ghost use Rattle.mosaikrun_program.specs.Commands.{IsHeld, IsMade, IsStuck, IsUnreadable, read_by, target_of};
+ghost use Rattle.mosaikrun_program.specs.inner.Making.{IsMadeOfOne, IsMadeOfTwo};
 
 use mk_base::Text;
 use mk_local::Registry;
+use mk_outside::{FileRead, Folder};
+use mk_watch_read::Rules;
+use mosaikrun_blame::blamed;
 use mosaikrun_check::checked;
 use mosaikrun_endings::Ending;
-use mosaikrun_records::reported;
-use mosaikrun_words::{Command, Request, read_words};
+use mosaikrun_records::{migrated, reported, saved_of};
+use mosaikrun_watch::{tabled, watches_of};
+use mosaikrun_words::{FileCommand, PairCommand};
 use std::alloc::Global;
 
-/// The commands that the program has.
-pub const COMMANDS: [Command; 5] = [
-    Command::Run,
-    Command::Replay,
-    Command::Check,
-    Command::Demo,
-    Command::Migrate,
-];
-
-// What the words ask for.
-pub fn asked(alloc: Global, words: &[String]) -> Result<Request, Ending>
-    ensures asked { IfOk result (λ request. IsAsked (map string_bytes words.now) request) }
-    ensures unasked { IfErr result (λ ending. IsUnasked (map string_bytes words.now) ending) }
-{
-    match read_words(alloc, &COMMANDS, words)? {
-        Some(request) => Ok(request),
-        None => Err(Ending::Usage),
-    }
-}
-
-// The name of the file that is read; the demo reads none.
-pub fn file_of(request: &Request) -> &str
-    requires { command_of request.now ≡ Command.Demo → ⊥ }
-    ensures { file_of request.now ≡ Some result.now }
-{
-    match request {
-        Request::Run { scenario, .. } => scenario.as_str(),
-        Request::Replay { record, .. } => record.as_str(),
-        Request::Check { scenario } => scenario.as_str(),
-        Request::Demo { .. } => unreachable!(),
-        Request::Migrate { old, .. } => old.as_str(),
-    }
-}
-
-// What a command that prints something of its file makes of the file's bytes.
-pub fn outcome(
+// The text that a command makes of its files, or why there is none. They are read in order, the second once the first is
+// accepted.
+pub fn made<D: Folder>(
     alloc: Global,
     kinds: &Registry,
-    request: &Request,
-    bytes: &[u8],
+    rules: &Rules,
+    command: &FileCommand,
+    folder: &mut D,
 ) -> Result<Vec<u8>, Ending>
-    requires there { IsIn (command_of request.now) COMMANDS }
-    requires no_run { command_of request.now ≡ Command.Run → ⊥ }
-    requires no_demo { command_of request.now ≡ Command.Demo → ⊥ }
-    requires no_migration { command_of request.now ≡ Command.Migrate → ⊥ }
     ensures text { IfOk result
-        (λ text. IsOutcomeOf (rows_in kinds.now) request.now bytes.now (Ok text.items)) }
-    ensures none { IfErr result
-        (λ ending. IsOutcomeOf (rows_in kinds.now) request.now bytes.now (Err ending)) }
+        (λ text. IsMade (D.files folder.old) (rows_in kinds.now) (rules_seen rules.now) command.now
+        (Ok text.items)) }
+    ensures none { IfErr result (λ e. IsStuck (D.files folder.old) (read_by command.now)
+        (HasRisen (D.faults folder.old) (D.faults folder.new)) e
+        ⊎ IsMade (D.files folder.old) (rows_in kinds.now) (rules_seen rules.now) command.now
+        (Err e)) }
+    ensures kept { D.files folder.new ≡ D.files folder.old }
+    ensures count { D.faults folder.old ≤ D.faults folder.new }
 {
-    match request {
-        Request::Replay { record: _, order } => reported(alloc, bytes, *order),
-        Request::Check { .. } => checked(alloc, &kinds.names(alloc)?, bytes),
-        Request::Run { .. } | Request::Demo { .. } | Request::Migrate { .. } => unreachable!(),
+    match command {
+        FileCommand::Replay { record, order } => {
+            replay_file(alloc, record.as_str(), *order, folder)
+        }
+        FileCommand::Check { scenario } => check_file(alloc, kinds, scenario.as_str(), folder),
+        FileCommand::Pair {
+            command,
+            first,
+            second,
+        } => match command {
+            PairCommand::Migrate => migrate_file(alloc, first.as_str(), folder),
+            PairCommand::Watch => {
+                watch_files(alloc, rules, first.as_str(), second.as_str(), folder)
+            }
+            PairCommand::Blame => blame_files(alloc, first.as_str(), second.as_str(), folder),
+        },
+    }
+}
+
+// The report of a record, replayed in this order or as its messages came.
+fn replay_file<D: Folder>(
+    alloc: Global,
+    name: &str,
+    order: Option<u32>,
+    folder: &mut D,
+) -> Result<Vec<u8>, Ending>
+    ensures text { IfOk result (λ text. IsMadeOfOne (D.files folder.old) name.now
+        (λ bytes. reports.IsOutcome bytes order) (Ok text.items)) }
+    ensures none { IfErr result (λ e. IsStuck (D.files folder.old) (name.now ∷ [])
+        (HasRisen (D.faults folder.old) (D.faults folder.new)) e
+        ⊎ IsMadeOfOne (D.files folder.old) name.now
+        (λ bytes. reports.IsOutcome bytes order) (Err e)) }
+    ensures kept { D.files folder.new ≡ D.files folder.old }
+    ensures count { D.faults folder.old ≤ D.faults folder.new }
+{
+    let bytes = file_bytes(alloc, folder, name)?;
+    reported(alloc, bytes.as_slice(), order)
+}
+
+// The ranks of a scenario.
+fn check_file<D: Folder>(
+    alloc: Global,
+    kinds: &Registry,
+    scenario: &str,
+    folder: &mut D,
+) -> Result<Vec<u8>, Ending>
+    ensures text { IfOk result (λ text. IsMadeOfOne (D.files folder.old) scenario.now
+        (checks.IsOutcome (map name_of (rows_in kinds.now))) (Ok text.items)) }
+    ensures none { IfErr result (λ e. IsStuck (D.files folder.old) (scenario.now ∷ [])
+        (HasRisen (D.faults folder.old) (D.faults folder.new)) e
+        ⊎ IsMadeOfOne (D.files folder.old) scenario.now
+        (checks.IsOutcome (map name_of (rows_in kinds.now))) (Err e)) }
+    ensures kept { D.files folder.new ≡ D.files folder.old }
+    ensures count { D.faults folder.old ≤ D.faults folder.new }
+{
+    let bytes = file_bytes(alloc, folder, scenario)?;
+    let names = kinds.names(alloc)?;
+    checked(alloc, &names, bytes.as_slice())
+}
+
+// The record of a record's replay.
+fn migrate_file<D: Folder>(alloc: Global, old: &str, folder: &mut D) -> Result<Vec<u8>, Ending>
+    ensures text { IfOk result (λ text. IsMadeOfOne (D.files folder.old) old.now
+        (IsMigration) (Ok text.items)) }
+    ensures none { IfErr result (λ e. IsStuck (D.files folder.old) (old.now ∷ [])
+        (HasRisen (D.faults folder.old) (D.faults folder.new)) e
+        ⊎ IsMadeOfOne (D.files folder.old) old.now
+        (IsMigration) (Err e)) }
+    ensures kept { D.files folder.new ≡ D.files folder.old }
+    ensures count { D.faults folder.old ≤ D.faults folder.new }
+{
+    let bytes = file_bytes(alloc, folder, old)?;
+    migrated(alloc, bytes.as_slice())
+}
+
+// The tables that the second file says over the record of the first.
+fn watch_files<D: Folder>(
+    alloc: Global,
+    rules: &Rules,
+    first: &str,
+    second: &str,
+    folder: &mut D,
+) -> Result<Vec<u8>, Ending>
+    ensures text { IfOk result (λ text. IsMadeOfTwo (D.files folder.old) first.now second.now
+        (IsWatchOutcome (names_in rules.now) (folds_in rules.now)) (Ok text.items)) }
+    ensures none { IfErr result (λ e. IsStuck (D.files folder.old) (first.now ∷ second.now ∷ [])
+        (HasRisen (D.faults folder.old) (D.faults folder.new)) e
+        ⊎ IsMadeOfTwo (D.files folder.old) first.now second.now
+        (IsWatchOutcome (names_in rules.now) (folds_in rules.now)) (Err e)) }
+    ensures kept { D.files folder.new ≡ D.files folder.old }
+    ensures count { D.faults folder.old ≤ D.faults folder.new }
+{
+    let record = file_bytes(alloc, folder, first)?;
+    let saved = saved_of(alloc, record.as_slice())?;
+    let spec = file_bytes(alloc, folder, second)?;
+    let watches = watches_of(alloc, rules, &saved, spec.as_slice())?;
+    tabled(alloc, rules, saved, watches)
+}
+
+// Who is to blame that two records differ.
+fn blame_files<D: Folder>(
+    alloc: Global,
+    first: &str,
+    second: &str,
+    folder: &mut D,
+) -> Result<Vec<u8>, Ending>
+    ensures text { IfOk result (λ text. IsMadeOfTwo (D.files folder.old) first.now second.now
+        (IsBlameOutcome) (Ok text.items)) }
+    ensures none { IfErr result (λ e. IsStuck (D.files folder.old) (first.now ∷ second.now ∷ [])
+        (HasRisen (D.faults folder.old) (D.faults folder.new)) e
+        ⊎ IsMadeOfTwo (D.files folder.old) first.now second.now
+        (IsBlameOutcome) (Err e)) }
+    ensures kept { D.files folder.new ≡ D.files folder.old }
+    ensures count { D.faults folder.old ≤ D.faults folder.new }
+{
+    let record = file_bytes(alloc, folder, first)?;
+    let one = saved_of(alloc, record.as_slice())?;
+    let record = file_bytes(alloc, folder, second)?;
+    let other = saved_of(alloc, record.as_slice())?;
+    blamed(alloc, one, other)
+}
+
+// The name that a command saves its text under; the others print it.
+pub fn target_of(command: &FileCommand) -> Option<&str>
+    ensures { option_map (λ name. name.now) result ≡ target_of command.now }
+{
+    match command {
+        FileCommand::Replay { .. } | FileCommand::Check { .. } => None,
+        FileCommand::Pair {
+            command,
+            first: _,
+            second,
+        } => match command {
+            PairCommand::Migrate => Some(second.as_str()),
+            PairCommand::Watch | PairCommand::Blame => None,
+        },
+    }
+}
+
+// A file's bytes, or why there are none.
+pub fn file_bytes<D: Folder>(alloc: Global, folder: &mut D, name: &str) -> Result<Vec<u8>, Ending>
+    ensures read { IfOk result (λ bytes. IsHeld (D.files folder.old) name.now bytes.items) }
+    ensures unread { IfErr result
+        (λ e. IsUnreadable (D.files folder.old) name.now
+        (HasRisen (D.faults folder.old) (D.faults folder.new)) e) }
+    ensures kept { D.files folder.new ≡ D.files folder.old }
+    ensures count { D.faults folder.old ≤ D.faults folder.new }
+{
+    let mut bytes = Vec::new(alloc);
+    match folder.read(name, &mut bytes) {
+        FileRead::Whole => Ok(bytes),
+        FileRead::Missing => Err(Ending::Missing {
+            name: Text::of(alloc, name)?,
+        }),
+        FileRead::TooLong(count) => Err(Ending::TooLong {
+            name: Text::of(alloc, name)?,
+            count,
+        }),
+        FileRead::Failed => Err(Ending::Folder),
+        FileRead::Mem => Err(Ending::Mem),
     }
 }

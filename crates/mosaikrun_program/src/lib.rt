@@ -4,5 +4,4 @@
 mod commands;
 mod top;
 
-pub use commands::COMMANDS;
 pub use top::program;

@@ -2,24 +2,22 @@
 ghost use Rattle.std.specs.Prelude.{◌≡◌, [], ℕ, ◌≤◌, ◌<◌, ◌⊎◌, List, Some, Result, Err, IfSome, IfOk, IfErr, OnOk, OnErr, map, option_map, length};
 ghost use Rattle.std.specs.String.{string_bytes};
 ghost use Rattle.mk_outside.specs.Counts.{HasRisen};
-ghost use Rattle.mk_outside.specs.Folders.{file_limit, with_file};
-ghost use Rattle.mk_base.specs.Lists.{IsIn};
+ghost use Rattle.mk_outside.specs.Folders.{with_file};
 ghost use Rattle.mk_outside.specs.declared.fleet.LogEntry.{LogEntry};
 ghost use Rattle.mk_outside.specs.Logs.{Adds};
 ghost use Rattle.mk_outside.specs.Sinks.{TookBeginning, appended};
 ghost use Rattle.mk_launch.specs.Starts.{AreNumbered};
 ghost use Rattle.mosaikrun_words.specs.declared.request.Request.{Request};
 ghost use Rattle.mosaikrun_words.specs.declared.request.Request.TheVariants as requests;
-ghost use Rattle.mosaikrun_words.specs.Requests.{command_of};
+ghost use Rattle.mosaikrun_words.specs.declared.request.FileCommand.{FileCommand};
 ghost use Rattle.mk_local.specs.Registries.{rows_in};
 ghost use Rattle.mosaikrun_endings.specs.declared.ending.Ending.{Ending};
 ghost use Rattle.mosaikrun_endings.specs.declared.ending.Ending.TheVariants as ends;
 ghost use Rattle.mosaikrun_endings.specs.Endings.{line_of, outcome_status, status_of};
 ghost use Rattle.mosaikrun_run.specs.Outcomes.{Outside, outside};
-ghost use Rattle.mosaikrun_records.specs.Migrations.{IsMigration};
-ghost use Rattle.mosaikrun_program.specs.Around.{FolderSeen, OutputSeen, folder_seen, output_seen};
+ghost use Rattle.mosaikrun_program.specs.Around.{FolderSeen, OutputSeen, RulesSeen, folder_seen, output_seen, rules_seen};
 ghost use Rattle.mosaikrun_program.specs.inner.Around.{unused};
-ghost use Rattle.mosaikrun_program.specs.Commands.{IsAsked, IsHeld, IsOutcomeOf, IsNoFile, IsUnreadable, file_of};
+ghost use Rattle.mosaikrun_program.specs.Commands.{AreHeld, IsAsked, IsNext, IsNoFile, IsOutcomeOf, IsReadOn, IsUnasked, files_of, read_by};
 ghost use Rattle.mosaikrun_program.specs.Complete.{EndsRun};
 ghost use Rattle.mosaikrun_program.specs.Fleetless.{IsHeldWithin, NeedsNoFleet};
 ghost use Rattle.mosaikrun_program.specs.Headline.{IsRightCall};
@@ -27,23 +25,23 @@ ghost use Rattle.mosaikrun_program.specs.Running.{IsFolderAfter};
 ghost use Rattle.mosaikrun_program.specs.Summing.{HasSummed};
 ghost use Rattle.mosaikrun_program.specs.Program.{Ended, EndsWith, IsStatusOr, KeepsOthers, TookLine};
 
-use crate::commands::{COMMANDS, asked, file_of, outcome};
+use crate::commands::{file_bytes, made, target_of};
 use mk_base::Text;
 use mk_local::Registry;
-use mk_outside::{FileRead, FileSave, Fleet, Folder, PutAll, Sink, put_all};
+use mk_outside::{FileSave, Fleet, Folder, PutAll, Sink, put_all};
 use mk_run_crew::handshakes_complete;
+use mk_watch_read::Rules;
 use mosaikrun_demo::summed;
 use mosaikrun_endings::Ending;
-use mosaikrun_records::migrated;
 use mosaikrun_run::ran;
-use mosaikrun_words::{Command, Request};
+use mosaikrun_words::{FileCommand, Request, read_words};
 use std::alloc::Global;
 use std::sync::Wait;
 
-/// Does what the words ask: reads the file that they name, and puts what the command makes of it to `out`. A run is made over
-/// the fleet, and may wait for others; it saves its record, where the words give a name, however it ended. The demo is a run
-/// too, of a scenario that is no file. A migration puts nothing to `out`, and saves a record. Answers the status. A scenario's
-/// simulators within the program are of these kinds.
+/// Does what the words ask. A command on files reads them, and puts what it makes of them to `out`; a migration puts nothing
+/// there, and saves a record. A run reads its scenario's file, is made over the fleet, and may wait for others; it saves its
+/// record, where the words give a name, however it ended. The demo is a run too, of a scenario that is no file. Answers the
+/// status. A scenario's simulators within the program are of these kinds, and tables are made by these rules.
 ///
 /// Nothing is done with the fleet, unless the words ask for a run of a scenario in which some simulator has a link.
 ///
@@ -56,6 +54,7 @@ pub fn program<D: Folder, F: Fleet, K: Sink, E: Sink, R: Wait>(
     folder: &mut D,
     fleet: &mut F,
     kinds: &Registry,
+    rules: &Rules,
     out: &mut K,
     err: &mut E,
 ) -> u8
@@ -64,6 +63,7 @@ pub fn program<D: Folder, F: Fleet, K: Sink, E: Sink, R: Wait>(
         (record {
           words = map string_bytes words.now;
           outside = outside F.started F.faults (rows_in kinds.now) fleet.old fleet.new entries;
+          rules = rules_seen rules.now;
           folder = folder_seen D.files D.faults folder.old folder.new;
           output = output_seen K.written K.faults K.shortages out.old out.new;
         })
@@ -73,6 +73,7 @@ pub fn program<D: Folder, F: Fleet, K: Sink, E: Sink, R: Wait>(
         (record {
           words = map string_bytes words.now;
           outside = outside F.started F.faults (rows_in kinds.now) fleet.old fleet.new entries;
+          rules = rules_seen rules.now;
           folder = folder_seen D.files D.faults folder.old folder.new;
           output = output_seen K.written K.faults K.shortages out.old out.new;
         })
@@ -84,6 +85,7 @@ pub fn program<D: Folder, F: Fleet, K: Sink, E: Sink, R: Wait>(
         (record {
           words = map string_bytes words.now;
           outside = outside F.started F.faults (rows_in kinds.now) fleet.old fleet.new entries;
+          rules = rules_seen rules.now;
           folder = folder_seen D.files D.faults folder.old folder.new;
           output = output_seen K.written K.faults K.shortages out.old out.new;
         })
@@ -91,19 +93,16 @@ pub fn program<D: Folder, F: Fleet, K: Sink, E: Sink, R: Wait>(
     ensures usage { (result ≡ 2) → (R : Request) → IsAsked (map string_bytes words.now) R → ⊥ }
     ensures useless { ((R : Request) → IsAsked (map string_bytes words.now) R → ⊥)
         → IsStatusOr 2 result }
-    ensures decided { IfSome (D.files folder.old) (λ held. (R : Request) → (name : List ℕ)
-        → (bytes : List ℕ) → (o : Result (List ℕ) Ending) → IsAsked (map string_bytes words.now) R
-        → file_of R ≡ Some name → held name ≡ Some bytes → length bytes ≤ file_limit
-        → IsOutcomeOf (rows_in kinds.now) R bytes o → (o ≡ Err ends.Mem → ⊥)
-        → IsStatusOr (outcome_status o) result) }
-    ensures unreadable { IfSome (D.files folder.old) (λ held. (R : Request) → (name : List ℕ)
-        → IsAsked (map string_bytes words.now) R
-        → file_of R ≡ Some name → IsNoFile (held name) → IsStatusOr 3 result) }
-    ensures migrated { IfSome (D.files folder.old) (λ held. (source : List ℕ) → (name : List ℕ)
-        → (bytes : List ℕ) → (o : Result (List ℕ) Ending)
-        → IsAsked (map string_bytes words.now) (requests.Migrate source name)
-        → held source ≡ Some bytes → length bytes ≤ file_limit → IsMigration bytes o
+    ensures decided { IfSome (D.files folder.old) (λ held. (command : FileCommand)
+        → (read : List (List ℕ)) → (o : Result (List ℕ) Ending)
+        → IsAsked (map string_bytes words.now) (requests.Files command)
+        → AreHeld (Some held) (read_by command) read
+        → IsOutcomeOf (rows_in kinds.now) (rules_seen rules.now) command read o
         → (o ≡ Err ends.Mem → ⊥) → IsStatusOr (outcome_status o) result) }
+    ensures unreadable { IfSome (D.files folder.old) (λ held. (R : Request)
+        → (read : List (List ℕ)) → (name : List ℕ) → IsAsked (map string_bytes words.now) R
+        → AreHeld (Some held) (files_of R) read → IsReadOn read → IsNext (files_of R) read name
+        → IsNoFile (held name) → IsStatusOr 3 result) }
     ensures others_kept { KeepsOthers (map string_bytes words.now) (D.files folder.old)
         (D.files folder.new) }
     ensures links_closed { AreNumbered (F.started fleet.old) (F.open_links fleet.old)
@@ -117,7 +116,7 @@ pub fn program<D: Folder, F: Fleet, K: Sink, E: Sink, R: Wait>(
 {
     // a law, which does nothing: when a run comes to its end
     handshakes_complete();
-    match answer(rt, alloc, words, folder, fleet, kinds, out) {
+    match answer(rt, alloc, words, folder, fleet, kinds, rules, out) {
         Ok(()) => 0,
         Err(ending) => tell(alloc, &ending, err),
     }
@@ -131,12 +130,14 @@ fn answer<D: Folder, F: Fleet, K: Sink, R: Wait>(
     folder: &mut D,
     fleet: &mut F,
     kinds: &Registry,
+    rules: &Rules,
     out: &mut K,
 ) -> Result<(), Ending>
     ensures ended { (entries : List LogEntry) × Adds entries (F.log fleet.old) (F.log fleet.new)
         × Ended (record {
           words = map string_bytes words.now;
           outside = outside F.started F.faults (rows_in kinds.now) fleet.old fleet.new entries;
+          rules = rules_seen rules.now;
           folder = folder_seen D.files D.faults folder.old folder.new;
           output = output_seen K.written K.faults K.shortages out.old out.new;
         }) result }
@@ -162,36 +163,46 @@ fn answer<D: Folder, F: Fleet, K: Sink, R: Wait>(
             )
         }
         Request::Demo { size } => sum_up(rt, alloc, size, fleet, kinds, out),
-        Request::Migrate { old, new } => migrate(alloc, old.as_str(), new.as_str(), folder),
-        request => make(alloc, &request, folder, kinds, out),
+        Request::Files(command) => make(alloc, &command, folder, kinds, rules, out),
     }
 }
 
-// Reads the file that a command without a fleet names, and prints what the command makes of it.
+// Does a command on files: prints its text, or saves it under the name that the command has for it.
 fn make<D: Folder, K: Sink>(
     alloc: Global,
-    request: &Request,
+    command: &FileCommand,
     folder: &mut D,
     kinds: &Registry,
+    rules: &Rules,
     out: &mut K,
 ) -> Result<(), Ending>
-    requires there { IsIn (command_of request.now) COMMANDS }
-    requires no_run { command_of request.now ≡ Command.Run → ⊥ }
-    requires no_demo { command_of request.now ≡ Command.Demo → ⊥ }
-    requires no_migration { command_of request.now ≡ Command.Migrate → ⊥ }
     ensures made { (words : List (List ℕ)) → (started : ℕ) → (faults : ℕ)
-        → IsAsked words request.now → Ended (record {
+        → IsAsked words (requests.Files command.now) → Ended (record {
           words = words;
           outside = unused (rows_in kinds.now) started faults;
+          rules = rules_seen rules.now;
           folder = folder_seen D.files D.faults folder.old folder.new;
           output = output_seen K.written K.faults K.shortages out.old out.new;
         }) result }
     ensures folder_count { D.faults folder.old ≤ D.faults folder.new }
     ensures out_count { K.faults out.old ≤ K.faults out.new }
 {
-    let bytes = file_bytes(alloc, folder, file_of(request))?;
-    let text = outcome(alloc, kinds, request, bytes.as_slice())?;
-    print(out, text.as_slice())
+    let text = made(alloc, kinds, rules, command, folder)?;
+    match target_of(command) {
+        Some(name) => save(folder, name, text.as_slice()),
+        None => print(out, text.as_slice()),
+    }
+}
+
+// What the words ask for.
+fn asked(alloc: Global, words: &[String]) -> Result<Request, Ending>
+    ensures asked { IfOk result (λ request. IsAsked (map string_bytes words.now) request) }
+    ensures unasked { IfErr result (λ ending. IsUnasked (map string_bytes words.now) ending) }
+{
+    match read_words(alloc, words)? {
+        Some(request) => Ok(request),
+        None => Err(Ending::Usage),
+    }
 }
 
 // Reads a scenario's file and runs it over the fleet, saves the record under the name, if there is one, and prints the report.
@@ -205,11 +216,13 @@ fn play<D: Folder, F: Fleet, K: Sink, R: Wait>(
     kinds: &Registry,
     out: &mut K,
 ) -> Result<(), Ending>
-    ensures played { (words : List (List ℕ)) → IsAsked words (requests.Run scenario.now name.now)
+    ensures played { (words : List (List ℕ)) → (rules : RulesSeen)
+        → IsAsked words (requests.Run scenario.now name.now)
         → (entries : List LogEntry) × Adds entries (F.log fleet.old) (F.log fleet.new)
         × Ended (record {
           words = words;
           outside = outside F.started F.faults (rows_in kinds.now) fleet.old fleet.new entries;
+          rules = rules;
           folder = folder_seen D.files D.faults folder.old folder.new;
           output = output_seen K.written K.faults K.shortages out.old out.new;
         }) result }
@@ -243,12 +256,13 @@ fn sum_up<F: Fleet, K: Sink, R: Wait>(
 ) -> Result<(), Ending>
     requires low { 1 ≤ size }
     requires high { size ≤ 100 }
-    ensures summed { (words : List (List ℕ)) → (folder : FolderSeen)
+    ensures summed { (words : List (List ℕ)) → (rules : RulesSeen) → (folder : FolderSeen)
         → folder.files_after ≡ folder.files → IsAsked words (requests.Demo size)
         → (entries : List LogEntry) × Adds entries (F.log fleet.old) (F.log fleet.new)
         × HasSummed (record {
           words = words;
           outside = outside F.started F.faults (rows_in kinds.now) fleet.old fleet.new entries;
+          rules = rules;
           folder = folder;
           output = output_seen K.written K.faults K.shortages out.old out.new;
         }) result }
@@ -260,23 +274,6 @@ fn sum_up<F: Fleet, K: Sink, R: Wait>(
 {
     let text = summed(rt, alloc, kinds, size, fleet)?;
     print(out, text.as_slice())
-}
-
-// Reads a record's file, and saves the record of its replay under this name.
-fn migrate<D: Folder>(alloc: Global, source: &str, name: &str, folder: &mut D) -> Result<(), Ending>
-    ensures migrated { (words : List (List ℕ)) → (outside : Outside) → (output : OutputSeen)
-        → outside.log ≡ [] → outside.new_faults ≡ outside.faults → output.after ≡ output.before
-        → IsAsked words (requests.Migrate source.now name.now) → Ended (record {
-          words = words;
-          outside = outside;
-          folder = folder_seen D.files D.faults folder.old folder.new;
-          output = output;
-        }) result }
-    ensures folder_count { D.faults folder.old ≤ D.faults folder.new }
-{
-    let bytes = file_bytes(alloc, folder, source)?;
-    let text = migrated(alloc, bytes.as_slice())?;
-    save(folder, name, text.as_slice())
 }
 
 // Saves a file, or says why it isn't saved.
@@ -308,30 +305,6 @@ fn keep<D: Folder>(folder: &mut D, name: &Option<Text>, bytes: &Option<Vec<u8>>)
     match (name, bytes) {
         (Some(name), Some(bytes)) => folder.save(name.as_str(), bytes.as_slice()),
         _ => FileSave::Kept,
-    }
-}
-
-// A file's bytes, or why there are none.
-fn file_bytes<D: Folder>(alloc: Global, folder: &mut D, name: &str) -> Result<Vec<u8>, Ending>
-    ensures read { IfOk result (λ bytes. IsHeld (D.files folder.old) name.now bytes.items) }
-    ensures unread { IfErr result
-        (λ e. IsUnreadable (D.files folder.old) name.now
-        (HasRisen (D.faults folder.old) (D.faults folder.new)) e) }
-    ensures kept { D.files folder.new ≡ D.files folder.old }
-    ensures count { D.faults folder.old ≤ D.faults folder.new }
-{
-    let mut bytes = Vec::new(alloc);
-    match folder.read(name, &mut bytes) {
-        FileRead::Whole => Ok(bytes),
-        FileRead::Missing => Err(Ending::Missing {
-            name: Text::of(alloc, name)?,
-        }),
-        FileRead::TooLong(count) => Err(Ending::TooLong {
-            name: Text::of(alloc, name)?,
-            count,
-        }),
-        FileRead::Failed => Err(Ending::Folder),
-        FileRead::Mem => Err(Ending::Mem),
     }
 }
 

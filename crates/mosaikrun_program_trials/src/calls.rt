@@ -4,6 +4,7 @@ use mk_base::{List, Mem};
 use mk_fakes::PlainFleet;
 use mk_local::Registry;
 use mk_outside::{Folder, Sink};
+use mk_watch_read::Rules;
 use mosaikrun_program::program;
 use std::alloc::Global;
 use std::sync::Wait;
@@ -16,7 +17,7 @@ fn owned(alloc: Global, words: &[&str]) -> Result<Vec<String>, Mem> {
     Ok(copies)
 }
 
-/// The status of the call with these words.
+/// The status of the call with these words, by a program without rules of tables.
 pub fn status_of<R: Wait, D: Folder, K: Sink, E: Sink>(
     rt: &R,
     alloc: Global,
@@ -35,6 +36,7 @@ pub fn status_of<R: Wait, D: Folder, K: Sink, E: Sink>(
         folder,
         &mut fleet,
         kinds,
+        &Rules::new(alloc),
         out,
         err,
     ))

@@ -4,10 +4,10 @@ use Rattle.std.proofs.lemmas.Result.{err_from_is_err_and}
 use Rattle.mk_outside.proofs.OnLogs.{adds_none}
 use Rattle.mk_local.specs.Registries.{rows_in}
 use Rattle.mosaikrun_words.specs.declared.request.Request.{Request}
-use Rattle.mosaikrun_words.specs.declared.request.Request.TheVariants.{Migrate, Run}
+use Rattle.mosaikrun_words.specs.declared.request.Request.TheVariants.{Run}
 use Rattle.mosaikrun_endings.specs.declared.ending.Ending.{Ending}
 use Rattle.mosaikrun_run.specs.Outcomes.{outside}
-use Rattle.mosaikrun_program.specs.Around.{Around, folder_seen, output_seen}
+use Rattle.mosaikrun_program.specs.Around.{Around, folder_seen, output_seen, rules_seen}
 use Rattle.mosaikrun_program.specs.Commands.{IsAsked}
 use Rattle.mosaikrun_program.specs.Program.{Ended}
 use Rattle.mosaikrun_program.proofs.Fleetless.{run_within}
@@ -15,11 +15,12 @@ use Rattle.mosaikrun_program.proofs.Playing.{performed}
 use Rattle.mosaikrun_program.proofs.top.answer.Goals as goal
 
 -- the words ask for nothing
-pub returns-in_err-request-clause-ended : goal.returns-in_err-request-clause-ended
-returns-in_err-request-clause-ended g c =
+pub returns-in_err-scenario-clause-ended : goal.returns-in_err-scenario-clause-ended
+returns-in_err-scenario-clause-ended g c =
     let S : Around = record {
       words = map string_bytes c.args.words.now;
       outside = outside g.F.Fleet.started g.F.Fleet.faults (rows_in c.args.kinds.now) c.args.fleet.now c.args.fleet.now [];
+      rules = rules_seen c.args.rules.now;
       folder = folder_seen g.D.Folder.files g.D.Folder.faults c.args.folder.now c.args.folder.now;
       output = output_seen g.K.Sink.written g.K.Sink.faults g.K.Sink.shortages c.args.out.now c.args.out.now;
     } in
@@ -27,8 +28,8 @@ returns-in_err-request-clause-ended g c =
       [],
       adds_none (g.F.Fleet.log c.args.fleet.now),
       subst (λ (r : Result (Unit {0}) Ending). Ended S r) (sym (e.1 ∙ ap (λ x. Err x) e.2)) (inl (record {
-        cause = c.in_err-request.ensures.unasked;
-        untouched = record { unput = refl; aside = record { unsaved = refl; log = refl; faults = refl } };
+        cause = c.in_err-scenario.ensures.unasked;
+        untouched = record { unput = refl; unsaved = refl; log = refl; faults = refl };
       })),
     )
 
@@ -36,34 +37,25 @@ returns-in_err-request-clause-ended g c =
 pub returns-in-Demo-clause-ended : goal.returns-in-Demo-clause-ended
 returns-in-Demo-clause-ended g c =
     let seen = folder_seen g.D.Folder.files g.D.Folder.faults c.args.folder.now c.args.folder.now in
-    let asked = subst (λ (R : Request). IsAsked (map string_bytes c.args.words.now) R) c.in-Demo.is c.in_ok-request.ensures.asked in
-    let came = c.sum_up.ensures.summed (map string_bytes c.args.words.now) seen refl asked in
-    (came.0, came.1, performed _ _ (inr (inl came.2)))
-
--- a migration is made
-pub returns-in-Migrate-clause-ended : goal.returns-in-Migrate-clause-ended
-returns-in-Migrate-clause-ended g c =
-    let unused = outside g.F.Fleet.started g.F.Fleet.faults (rows_in c.args.kinds.now) c.args.fleet.now c.args.fleet.now [] in
-    let seen = output_seen g.K.Sink.written g.K.Sink.faults g.K.Sink.shortages c.args.out.now c.args.out.now in
-    let same : c.in_ok-request.request ≡ Migrate c.as_str-in-Migrate.result.now c.as_str-in-Migrate-2.result.now = cc (c.in-Migrate.is, c.as_str-in-Migrate.ensures, c.as_str-in-Migrate-2.ensures) in
-    let asked = subst (λ (R : Request). IsAsked (map string_bytes c.args.words.now) R) same c.in_ok-request.ensures.asked in
-    ([], adds_none (g.F.Fleet.log c.args.fleet.now), c.migrate.ensures.migrated (map string_bytes c.args.words.now) unused seen refl refl refl asked)
+    let asked = subst (λ (R : Request). IsAsked (map string_bytes c.args.words.now) R) c.in-Demo.is c.in_ok-scenario.ensures.asked in
+    let came = c.sum_up.ensures.summed (map string_bytes c.args.words.now) (rules_seen c.args.rules.now) seen refl asked in
+    (came.0, came.1, performed _ _ (inr (inr came.2)))
 
 -- a run does nothing with the fleet where no simulator has a link
 pub returns-in-Run-clause-fleet_unused : goal.returns-in-Run-clause-fleet_unused
 returns-in-Run-clause-fleet_unused g c =
-    let same : c.in_ok-request.request ≡ Run c.as_str.result.now c.in-Run.record = cc (c.in-Run.is, c.as_str.ensures) in
-    let asked = subst (λ (R : Request). IsAsked (map string_bytes c.args.words.now) R) same c.in_ok-request.ensures.asked in
+    let same : c.in_ok-scenario.field-0 ≡ Run c.as_str.result.now c.in-Run.record = cc (c.in-Run.is, c.as_str.ensures) in
+    let asked = subst (λ (R : Request). IsAsked (map string_bytes c.args.words.now) R) same c.in_ok-scenario.ensures.asked in
     λ needless. c.play.ensures.within (run_within (map string_bytes c.args.words.now) (g.D.Folder.files c.args.folder.now) _ _ asked needless)
 
--- a command without a fleet is made
-pub returns-in_default : goal.returns-in_default
-returns-in_default g c = record {
+-- a command on files is done
+pub returns-in-Files : goal.returns-in-Files
+returns-in-Files g c = record {
   ended = (
     [],
     adds_none (g.F.Fleet.log c.args.fleet.now),
     c.make.ensures.made (map string_bytes c.args.words.now) (g.F.Fleet.started c.args.fleet.now) (g.F.Fleet.faults c.args.fleet.now)
-        c.in_ok-request.ensures.asked,
+        (subst (λ (R : Request). IsAsked (map string_bytes c.args.words.now) R) c.in-Files.is c.in_ok-scenario.ensures.asked),
   );
   links_closed = λ low_ones. refl;
   fleet_unused = λ needless. refl;
@@ -71,3 +63,10 @@ returns-in_default g c = record {
   fleet_count = omega (arith);
   out_count = c.make.ensures.out_count;
 }
+
+-- a run is made
+pub returns-in-Run-clause-ended : goal.returns-in-Run-clause-ended
+returns-in-Run-clause-ended g c =
+    let same : c.in_ok-scenario.field-0 ≡ Run c.as_str.result.now c.in-Run.record = cc (c.in-Run.is, c.as_str.ensures) in
+    let asked = subst (λ (R : Request). IsAsked (map string_bytes c.args.words.now) R) same c.in_ok-scenario.ensures.asked in
+    c.play.ensures.played (map string_bytes c.args.words.now) (rules_seen c.args.rules.now) asked

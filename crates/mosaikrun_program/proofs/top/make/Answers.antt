@@ -1,26 +1,31 @@
-use Rattle.std.proofs.Common.{List, [], ℕ, inl, inr, refl, sym, ap, ◌∙◌, subst, Result, Err}
-use Rattle.std.proofs.lemmas.Result.{err_from_is_err_and}
+use Rattle.std.proofs.Common.{◌≡◌, List, ℕ, None, Option, Ok, refl, subst}
+use Rattle.std.specs.Prelude.{OnOk, OnErr}
+use Rattle.mk_outside.specs.Sinks.{TookBeginning, appended}
 use Rattle.mk_local.specs.Registries.{rows_in}
-use Rattle.mosaikrun_endings.specs.declared.ending.Ending.{Ending}
-use Rattle.mosaikrun_program.specs.Around.{Around, folder_seen, output_seen}
+use Rattle.mosaikrun_program.specs.Answers.{TextAnswer}
+use Rattle.mosaikrun_program.specs.Around.{Around, folder_seen, output_seen, rules_seen}
+use Rattle.mosaikrun_program.specs.Commands.{target_of}
 use Rattle.mosaikrun_program.specs.inner.Around.{unused}
-use Rattle.mosaikrun_program.specs.Program.{Ended}
-use Rattle.mosaikrun_program.specs.Commands.{IsOutcomeOf}
+use Rattle.mosaikrun_program.proofs.Making.{has_made}
+use Rattle.mosaikrun_program.proofs.Summing.{put_out}
 use Rattle.mosaikrun_program.proofs.top.make.Goals as goal
 
-pub returns-in_err-text-clause-made : goal.returns-in_err-text-clause-made
-returns-in_err-text-clause-made g c = λ words started faults asked.
+-- the text is printed
+pub returns-clause-made : goal.returns-clause-made
+returns-clause-made g c = λ words started faults asked.
     let S : Around = record {
       words = words;
       outside = unused (rows_in c.args.kinds.now) started faults;
-      folder = folder_seen g.D.Folder.files g.D.Folder.faults c.args.folder.now c.file_bytes.new.folder;
-      output = output_seen g.K.Sink.written g.K.Sink.faults g.K.Sink.shortages c.args.out.now c.args.out.now;
+      rules = rules_seen c.args.rules.now;
+      folder = folder_seen g.D.Folder.files g.D.Folder.faults c.args.folder.now c.made.new.folder;
+      output = output_seen g.K.Sink.written g.K.Sink.faults g.K.Sink.shortages c.args.out.now c.print.new.out;
     } in
-    let e = err_from_is_err_and c.from_residual-in_err-text.result c.from_residual-in_err-text.ensures.1 in
-    subst (λ (r : Result (Unit {0}) Ending). Ended S r) (sym (e.1 ∙ ap (λ x. Err x) e.2)) (inr (inr (inl (record {
-      request = c.args.request.now;
-      bytes = c.in_ok-bytes.bytes.items;
-      read = record { asked = asked; name = c.file_of.result.now; named = c.file_of.ensures; held = c.in_ok-bytes.ensures.read };
-      outcome = subst (λ (b : List ℕ). IsOutcomeOf (rows_in c.args.kinds.now) c.args.request.now b (Err c.in_err-text.field-0.0)) c.as_slice.ensures.value c.in_err-text.ensures.none;
-      untouched = record { unput = refl; aside = record { unsaved = c.file_bytes.ensures.kept; log = refl; faults = refl } };
-    }))))
+    let text : List ℕ = c.in_ok-text.text.items in
+    let out = S.output in
+    let put = put_out out text c.print.result
+    (subst (λ (t : List ℕ). OnOk c.print.result (out.after ≡ appended t out.before)) c.as_slice-in-None.ensures.value c.print.ensures.put)
+    (subst (λ (t : List ℕ). OnErr c.print.result (TookBeginning t out.before out.after)) c.as_slice-in-None.ensures.value c.print.ensures.cut)
+    c.print.ensures.cause in
+    let target : None ≡ target_of c.args.command.now = cc (c.target_of.ensures, c.in-None.is) in
+    has_made S c.args.command.now (Ok text) c.print.result asked c.in_ok-text.ensures.text
+    (subst (λ (n : Option (List ℕ)). TextAnswer S n (Ok text) c.print.result) target (put, c.made.ensures.kept)) refl refl

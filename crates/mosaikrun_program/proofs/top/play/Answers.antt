@@ -18,10 +18,11 @@ use Rattle.mosaikrun_program.proofs.top.play.Goals as goal
 
 -- the scenario's file isn't read
 pub returns-in_err-bytes-clause-played : goal.returns-in_err-bytes-clause-played
-returns-in_err-bytes-clause-played g c = λ words asked.
+returns-in_err-bytes-clause-played g c = λ words rules asked.
     let S : Around = record {
       words = words;
       outside = outside g.F.Fleet.started g.F.Fleet.faults (rows_in c.args.kinds.now) c.args.fleet.now c.args.fleet.now [];
+      rules = rules;
       folder = folder_seen g.D.Folder.files g.D.Folder.faults c.args.folder.now c.file_bytes.new.folder;
       output = output_seen g.K.Sink.written g.K.Sink.faults g.K.Sink.shortages c.args.out.now c.args.out.now;
     } in
@@ -31,16 +32,14 @@ returns-in_err-bytes-clause-played g c = λ words asked.
       subst (λ (r : Result (Unit {0}) Ending). Ended S r) (sym (e.1 ∙ ap (λ x. Err x) e.2)) (inr (inl (record {
         request = Run c.args.scenario.now c.args.name.now;
         asked = asked;
-        name = c.args.scenario.now;
-        named = refl;
-        cause = c.in_err-bytes.ensures.unread;
-        untouched = record { unput = refl; aside = record { unsaved = c.file_bytes.ensures.kept; log = refl; faults = refl } };
+        stuck = record { read = []; held = tt; on = tt; name = c.args.scenario.now; next = refl; cause = c.in_err-bytes.ensures.unread };
+        untouched = record { unput = refl; unsaved = c.file_bytes.ensures.kept; log = refl; faults = refl };
       }))),
     )
 
 -- there is no report, and the record was saved
 pub returns-in_err-told-in-Kept-clause-played : goal.returns-in_err-told-in-Kept-clause-played
-returns-in_err-told-in-Kept-clause-played g c = λ words asked.
+returns-in_err-told-in-Kept-clause-played g c = λ words rules asked.
     let Q : Result (List ℕ) Ending → Type 0 = λ text. (entries : List LogEntry) × Adds entries (g.F.Fleet.log c.args.fleet.now) (g.F.Fleet.log c.ran-told.new.fleet)
     × IsRunOutcome (outside g.F.Fleet.started g.F.Fleet.faults (rows_in c.args.kinds.now) c.args.fleet.now c.ran-told.new.fleet entries)
     c.is_some.result c.as_slice.result.now text (option_map (λ r. r.items) c.ran-told.result.record) in
@@ -49,6 +48,7 @@ returns-in_err-told-in-Kept-clause-played g c = λ words asked.
     let S : Around = record {
       words = words;
       outside = outside g.F.Fleet.started g.F.Fleet.faults (rows_in c.args.kinds.now) c.args.fleet.now c.ran-told.new.fleet came.0;
+      rules = rules;
       folder = folder_seen g.D.Folder.files g.D.Folder.faults c.args.folder.now c.keep.new.folder;
       output = output_seen g.K.Sink.written g.K.Sink.faults g.K.Sink.shortages c.args.out.now c.args.out.now;
     } in
@@ -60,11 +60,11 @@ returns-in_err-told-in-Kept-clause-played g c = λ words asked.
       outcome = subst (λ w. IsRunOutcome S.outside w c.in_ok-bytes.bytes.items text kept) c.is_some.ensures (subst (λ b. IsRunOutcome S.outside c.is_some.result b text kept) c.as_slice.ensures.value came.2);
     } in
     let e = err_from_is_err_and c.from_residual-in_err-told-in-Kept.result c.from_residual-in_err-told-in-Kept.ensures.1 in
-    (came.0, came.1, subst (λ (r : Result (Unit {0}) Ending). Ended S r) (sym (e.1 ∙ ap (λ x. Err x) e.2)) (inr (inr (inr (inr (inl (as_run S _ _ text kept (Err c.in_err-told-in-Kept.field-0.0) played (refl, inl refl, inl (subst (λ old. IsFolderAfter c.args.name.now kept old (g.D.Folder.files c.keep.new.folder)) c.file_bytes.ensures.kept (c.keep.ensures.kept c.in-Kept.is))))))))))
+    (came.0, came.1, subst (λ (r : Result (Unit {0}) Ending). Ended S r) (sym (e.1 ∙ ap (λ x. Err x) e.2)) (inr (inr (inr (inl (as_run S _ _ text kept (Err c.in_err-told-in-Kept.field-0.0) played (refl, inl refl, inl (subst (λ old. IsFolderAfter c.args.name.now kept old (g.D.Folder.files c.keep.new.folder)) c.file_bytes.ensures.kept (c.keep.ensures.kept c.in-Kept.is)))))))))
 
 -- the report is put
 pub returns-in-Kept-clause-played : goal.returns-in-Kept-clause-played
-returns-in-Kept-clause-played g c = λ words asked.
+returns-in-Kept-clause-played g c = λ words rules asked.
     let Q : Result (List ℕ) Ending → Type 0 = λ text. (entries : List LogEntry) × Adds entries (g.F.Fleet.log c.args.fleet.now) (g.F.Fleet.log c.ran-told.new.fleet)
     × IsRunOutcome (outside g.F.Fleet.started g.F.Fleet.faults (rows_in c.args.kinds.now) c.args.fleet.now c.ran-told.new.fleet entries)
     c.is_some.result c.as_slice.result.now text (option_map (λ r. r.items) c.ran-told.result.record) in
@@ -73,6 +73,7 @@ returns-in-Kept-clause-played g c = λ words asked.
     let S : Around = record {
       words = words;
       outside = outside g.F.Fleet.started g.F.Fleet.faults (rows_in c.args.kinds.now) c.args.fleet.now c.ran-told.new.fleet came.0;
+      rules = rules;
       folder = folder_seen g.D.Folder.files g.D.Folder.faults c.args.folder.now c.keep.new.folder;
       output = output_seen g.K.Sink.written g.K.Sink.faults g.K.Sink.shortages c.args.out.now c.print.new.out;
     } in
@@ -94,7 +95,7 @@ returns-in-Kept-clause-played g c = λ words asked.
 
 -- there is no report, and the folder failed
 pub returns-in_err-told-in-Failed-clause-played : goal.returns-in_err-told-in-Failed-clause-played
-returns-in_err-told-in-Failed-clause-played g c = λ words asked.
+returns-in_err-told-in-Failed-clause-played g c = λ words rules asked.
     let Q : Result (List ℕ) Ending → Type 0 = λ text. (entries : List LogEntry) × Adds entries (g.F.Fleet.log c.args.fleet.now) (g.F.Fleet.log c.ran-told.new.fleet)
     × IsRunOutcome (outside g.F.Fleet.started g.F.Fleet.faults (rows_in c.args.kinds.now) c.args.fleet.now c.ran-told.new.fleet entries)
     c.is_some.result c.as_slice.result.now text (option_map (λ r. r.items) c.ran-told.result.record) in
@@ -104,6 +105,7 @@ returns-in_err-told-in-Failed-clause-played g c = λ words asked.
     let S : Around = record {
       words = words;
       outside = outside g.F.Fleet.started g.F.Fleet.faults (rows_in c.args.kinds.now) c.args.fleet.now c.ran-told.new.fleet came.0;
+      rules = rules;
       folder = folder_seen g.D.Folder.files g.D.Folder.faults c.args.folder.now c.keep.new.folder;
       output = output_seen g.K.Sink.written g.K.Sink.faults g.K.Sink.shortages c.args.out.now c.args.out.now;
     } in
@@ -115,11 +117,11 @@ returns-in_err-told-in-Failed-clause-played g c = λ words asked.
       outcome = subst (λ w. IsRunOutcome S.outside w c.in_ok-bytes.bytes.items text kept) c.is_some.ensures (subst (λ b. IsRunOutcome S.outside c.is_some.result b text kept) c.as_slice.ensures.value came.2);
     } in
     let e = err_from_is_err_and c.from_residual-in_err-told-in-Failed.result c.from_residual-in_err-told-in-Failed.ensures.1 in
-    (came.0, came.1, subst (λ (r : Result (Unit {0}) Ending). Ended S r) (sym (e.1 ∙ ap (λ x. Err x) e.2)) (inr (inr (inr (inr (inl (as_run S _ _ text kept (Err c.in_err-told-in-Failed.field-0.0) played (refl, inl refl, inr (failed.0 ∙ c.file_bytes.ensures.kept, inl (risen_after _ _ _ c.file_bytes.ensures.count failed.1))))))))))
+    (came.0, came.1, subst (λ (r : Result (Unit {0}) Ending). Ended S r) (sym (e.1 ∙ ap (λ x. Err x) e.2)) (inr (inr (inr (inl (as_run S _ _ text kept (Err c.in_err-told-in-Failed.field-0.0) played (refl, inl refl, inr (failed.0 ∙ c.file_bytes.ensures.kept, inl (risen_after _ _ _ c.file_bytes.ensures.count failed.1)))))))))
 
 -- there is a report, and the folder failed
 pub returns-in-Failed-clause-played : goal.returns-in-Failed-clause-played
-returns-in-Failed-clause-played g c = λ words asked.
+returns-in-Failed-clause-played g c = λ words rules asked.
     let Q : Result (List ℕ) Ending → Type 0 = λ text. (entries : List LogEntry) × Adds entries (g.F.Fleet.log c.args.fleet.now) (g.F.Fleet.log c.ran-told.new.fleet)
     × IsRunOutcome (outside g.F.Fleet.started g.F.Fleet.faults (rows_in c.args.kinds.now) c.args.fleet.now c.ran-told.new.fleet entries)
     c.is_some.result c.as_slice.result.now text (option_map (λ r. r.items) c.ran-told.result.record) in
@@ -129,6 +131,7 @@ returns-in-Failed-clause-played g c = λ words asked.
     let S : Around = record {
       words = words;
       outside = outside g.F.Fleet.started g.F.Fleet.faults (rows_in c.args.kinds.now) c.args.fleet.now c.ran-told.new.fleet came.0;
+      rules = rules;
       folder = folder_seen g.D.Folder.files g.D.Folder.faults c.args.folder.now c.keep.new.folder;
       output = output_seen g.K.Sink.written g.K.Sink.faults g.K.Sink.shortages c.args.out.now c.args.out.now;
     } in
@@ -139,11 +142,11 @@ returns-in-Failed-clause-played g c = λ words asked.
       held = c.in_ok-bytes.ensures.read;
       outcome = subst (λ w. IsRunOutcome S.outside w c.in_ok-bytes.bytes.items text kept) c.is_some.ensures (subst (λ b. IsRunOutcome S.outside c.is_some.result b text kept) c.as_slice.ensures.value came.2);
     } in
-    (came.0, came.1, inr (inr (inr (inr (inl (as_run S _ _ text kept _ played (inl (refl, (failed.0 ∙ c.file_bytes.ensures.kept, inl (risen_after _ _ _ c.file_bytes.ensures.count failed.1)), inl refl))))))))
+    (came.0, came.1, inr (inr (inr (inl (as_run S _ _ text kept _ played (inl (refl, (failed.0 ∙ c.file_bytes.ensures.kept, inl (risen_after _ _ _ c.file_bytes.ensures.count failed.1)), inl refl)))))))
 
 -- memory was wanting for the record
 pub returns-clause-played : goal.returns-clause-played
-returns-clause-played g c = λ words asked.
+returns-clause-played g c = λ words rules asked.
     let Q : Result (List ℕ) Ending → Type 0 = λ text. (entries : List LogEntry) × Adds entries (g.F.Fleet.log c.args.fleet.now) (g.F.Fleet.log c.ran-told.new.fleet)
     × IsRunOutcome (outside g.F.Fleet.started g.F.Fleet.faults (rows_in c.args.kinds.now) c.args.fleet.now c.ran-told.new.fleet entries)
     c.is_some.result c.as_slice.result.now text (option_map (λ r. r.items) c.ran-told.result.record) in
@@ -153,6 +156,7 @@ returns-clause-played g c = λ words asked.
     let S : Around = record {
       words = words;
       outside = outside g.F.Fleet.started g.F.Fleet.faults (rows_in c.args.kinds.now) c.args.fleet.now c.ran-told.new.fleet came.0;
+      rules = rules;
       folder = folder_seen g.D.Folder.files g.D.Folder.faults c.args.folder.now c.keep.new.folder;
       output = output_seen g.K.Sink.written g.K.Sink.faults g.K.Sink.shortages c.args.out.now c.args.out.now;
     } in
@@ -163,7 +167,7 @@ returns-clause-played g c = λ words asked.
       held = c.in_ok-bytes.ensures.read;
       outcome = subst (λ w. IsRunOutcome S.outside w c.in_ok-bytes.bytes.items text kept) c.is_some.ensures (subst (λ b. IsRunOutcome S.outside c.is_some.result b text kept) c.as_slice.ensures.value came.2);
     } in
-    (came.0, came.1, inr (inr (inr (inr (inl (wanting S _ _ text kept played refl (c.keep.ensures.wanting c.in-Mem.is ∙ c.file_bytes.ensures.kept)))))))
+    (came.0, came.1, inr (inr (inr (inl (wanting S _ _ text kept played refl (c.keep.ensures.wanting c.in-Mem.is ∙ c.file_bytes.ensures.kept))))))
 
 -- nothing is done with the fleet where no simulator has a link
 

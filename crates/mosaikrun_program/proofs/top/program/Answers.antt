@@ -2,9 +2,10 @@ use Rattle.std.proofs.Common.{Ok, Err, arith, refl, sym, ◌∙◌, map, subst}
 use Rattle.std.specs.String.{string_bytes}
 use Rattle.mk_local.specs.Registries.{rows_in}
 use Rattle.mosaikrun_run.specs.Outcomes.{outside}
-use Rattle.mosaikrun_program.specs.Around.{Around, folder_seen, output_seen}
+use Rattle.mosaikrun_program.specs.Around.{Around, folder_seen, output_seen, rules_seen}
 use Rattle.mosaikrun_program.specs.Program.{IsStatusOr}
-use Rattle.mosaikrun_program.proofs.Answering.{keeps_others, said_ended, told_decided, told_migrated, told_no_file, usage_only, useless_words}
+use Rattle.mosaikrun_program.proofs.Answering.{keeps_others, said_ended, usage_only, useless_words}
+use Rattle.mosaikrun_program.proofs.Deciding.{told_decided, told_no_file}
 use Rattle.mosaikrun_program.proofs.Recording.{record_kept}
 use Rattle.mosaikrun_program.proofs.EndingRuns.{ends_run}
 use Rattle.mosaikrun_program.proofs.RightCalls.{right_call}
@@ -16,6 +17,7 @@ returns-in-Ok g c =
     let S : Around = record {
       words = map string_bytes c.args.words.now;
       outside = outside g.F.Fleet.started g.F.Fleet.faults (rows_in c.args.kinds.now) c.args.fleet.now c.answer.new.fleet ended.0;
+      rules = rules_seen c.args.rules.now;
       folder = folder_seen g.D.Folder.files g.D.Folder.faults c.args.folder.now c.answer.new.folder;
       output = output_seen g.K.Sink.written g.K.Sink.faults g.K.Sink.shortages c.args.out.now c.answer.new.out;
     } in
@@ -27,7 +29,6 @@ returns-in-Ok g c =
       useless = useless_words S (Ok tt) ended.2;
       decided = told_decided S S.folder.files (Ok tt) 0 refl refl ended.2;
       unreadable = told_no_file S S.folder.files (Ok tt) 0 refl refl ended.2;
-      migrated = told_migrated S S.folder.files (Ok tt) 0 refl refl ended.2;
       others_kept = keeps_others S (Ok tt) ended.2;
       links_closed = c.in-Ok.ensures.links_closed;
       fleet_unused = c.in-Ok.ensures.fleet_unused;
@@ -43,6 +44,7 @@ returns-in-Err g c =
     let S : Around = record {
       words = map string_bytes c.args.words.now;
       outside = outside g.F.Fleet.started g.F.Fleet.faults (rows_in c.args.kinds.now) c.args.fleet.now c.answer.new.fleet ended.0;
+      rules = rules_seen c.args.rules.now;
       folder = folder_seen g.D.Folder.files g.D.Folder.faults c.args.folder.now c.answer.new.folder;
       output = output_seen g.K.Sink.written g.K.Sink.faults g.K.Sink.shortages c.args.out.now c.answer.new.out;
     } in
@@ -56,7 +58,6 @@ returns-in-Err g c =
       useless = λ none. subst (IsStatusOr 2) (sym told.2) (useless_words S (Err told.0) said none);
       decided = told_decided S S.folder.files (Err told.0) c.tell.result refl told.2 said;
       unreadable = told_no_file S S.folder.files (Err told.0) c.tell.result refl told.2 said;
-      migrated = told_migrated S S.folder.files (Err told.0) c.tell.result refl told.2 said;
       others_kept = keeps_others S (Err told.0) said;
       links_closed = c.in-Err.ensures.links_closed;
       fleet_unused = c.in-Err.ensures.fleet_unused;

@@ -1,4 +1,4 @@
-use Rattle.std.proofs.Common.{◌≡◌, List, ℕ, inl, inr, refl, sym, ap, ◌∙◌, subst, Result, Ok, Err}
+use Rattle.std.proofs.Common.{◌≡◌, inl, refl, sym, ap, ◌∙◌, subst, Result, Ok, Err}
 use Rattle.std.proofs.lemmas.Result.{err_from_is_err_and}
 use Rattle.std.specs.Prelude.{OnOk, OnErr}
 use Rattle.mk_outside.specs.Sinks.{TookBeginning, appended}
@@ -12,11 +12,12 @@ use Rattle.mosaikrun_program.proofs.top.sum_up.Goals as goal
 
 -- there is no summary
 pub returns-in_err-text-clause-summed : goal.returns-in_err-text-clause-summed
-returns-in_err-text-clause-summed g c = λ words folder unsaved asked.
+returns-in_err-text-clause-summed g c = λ words rules folder unsaved asked.
     let came = c.in_err-text.ensures.none in
     let S : Around = record {
       words = words;
       outside = outside g.F.Fleet.started g.F.Fleet.faults (rows_in c.args.kinds.now) c.args.fleet.now c.summed.new.fleet came.0;
+      rules = rules;
       folder = folder;
       output = output_seen g.K.Sink.written g.K.Sink.faults g.K.Sink.shortages c.args.out.now c.args.out.now;
     } in
@@ -35,7 +36,7 @@ returns-in_err-text-clause-summed g c = λ words folder unsaved asked.
 
 -- the summary is put
 pub returns-clause-summed : goal.returns-clause-summed
-returns-clause-summed g c = λ words folder unsaved asked.
+returns-clause-summed g c = λ words rules folder unsaved asked.
     let came = c.in_ok-text.ensures.text in
     let out = output_seen g.K.Sink.written g.K.Sink.faults g.K.Sink.shortages c.args.out.now c.print.new.out in (
       came.0,
