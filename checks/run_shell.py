@@ -21,7 +21,7 @@ import time
 
 ROOT = pathlib.Path(__file__).resolve().parent.parent
 FILES = ["day.toml", "my study.toml", "day.record", "notes.txt", "sub/inner.toml"]
-COMMANDS = ["run", "replay", "check", "demo", "migrate"]
+COMMANDS = ["run", "replay", "check", "demo", "migrate", "watch", "blame"]
 
 # the words before the cursor, the last one being completed, and what bash offers
 BASH: list[tuple[list[str], list[str]]] = [

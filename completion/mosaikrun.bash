@@ -10,14 +10,14 @@ _mosaikrun() {
     local current=${COMP_WORDS[COMP_CWORD]} option='' pattern='*' wanted=1 given=0 place
     COMPREPLY=()
     if ((COMP_CWORD == 1)); then
-        mapfile -t COMPREPLY < <(compgen -W "run replay check demo migrate" -- "$current")
+        mapfile -t COMPREPLY < <(compgen -W "run replay check demo migrate watch blame" -- "$current")
         return
     fi
     case ${COMP_WORDS[1]} in
         run) option=--record pattern='*.toml' ;;
         replay) option=--order ;;
         check) pattern='*.toml' ;;
-        migrate) wanted=2 ;;
+        migrate | watch | blame) wanted=2 ;;
         *) return ;;
     esac
     for ((place = 2; place < COMP_CWORD; place++)); do
