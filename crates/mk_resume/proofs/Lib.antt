@@ -1,6 +1,9 @@
-pub mod Alternating
-pub mod Fronts
-pub mod GoingOn
-pub mod Indexing
-pub mod Passing
-pub mod UpTo
+pub mod Alike
+pub mod Beginning
+pub mod Completing
+pub mod DoneRuns
+pub mod OneOther
+pub mod Refused
+pub mod Saying
+pub mod Whole
+pub mod WholeRuns

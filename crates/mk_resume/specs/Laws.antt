@@ -1,67 +1,152 @@
--- The laws of the walk through a journal.
-use Rattle.std.specs.Prelude.{◌≡◌, ℕ, ◌+◌, ◌<◌, ◌≤◌, ◌⊎◌, true, List, [], ◌∷◌, ◌++◌, length, take, drop, None, Some}
+-- The laws of a resumed run.
+use Rattle.std.specs.Prelude.{◌≡◌, ◌⊎◌, ℕ, ◌<◌, Bool, List, length, map, Option, None, Some, IsSome}
+use Rattle.mk_base.specs.declared.LinkNo.{LinkNo}
 use Rattle.mk_base.specs.declared.SimNo.{SimNo}
-use Rattle.mk_base.specs.Lists.{BeginsWith}
+use Rattle.mk_base.specs.Lists.{BeginsWith, IsIn}
 use Rattle.mk_plan.specs.declared.Plan.{Plan}
 use Rattle.mk_plan.specs.declared.Item.{Item}
 use Rattle.mk_plan.specs.declared.Message.{Message}
 use Rattle.mk_plan.specs.declared.Entry.{Entry}
-use Rattle.mk_plan.specs.declared.Entry.TheVariants.{Sent, Got}
-use Rattle.mk_plan.specs.Journals.{sent, got, view}
-use Rattle.mk_plan.specs.Ready.{IsReady}
-use Rattle.mk_plan.specs.Advance.{IsAdvance}
-use Rattle.mk_plan.specs.Orderly.{IsOrderlySoFar}
-use Rattle.mk_resume.specs.Talks.{free_items}
-use Rattle.mk_resume.specs.Walks.{has_none, IsFirstOwn, IsGoneTo, IsNextAt}
-use Rattle.mk_resume.specs.Index.{own_count}
+use Rattle.mk_plan.specs.declared.Journal.{Journal}
+use Rattle.mk_plan.specs.Plans.{sim_count}
+use Rattle.mk_plan.specs.Sequential.{Messages, run_items}
+use Rattle.mk_plan.specs.Journals.{arrivals, view, sent, got, bare}
+use Rattle.mk_plan.specs.Agreement.{Agrees, Continues}
+use Rattle.mk_frame.specs.Frames.{IsTooLong}
+use Rattle.mk_scenario.specs.declared.parts.Scenario.{Scenario}
+use Rattle.mk_outside.specs.Counts.{HasRisen}
+use Rattle.mk_outside.specs.declared.fleet.LogEntry.{LogEntry}
+use Rattle.mk_outside.specs.declared.fleet.LogEntry.TheVariants.{Ended}
+use Rattle.mk_outside.specs.Logs.{heard_on, said_on}
+use Rattle.mk_session.specs.Fronts.{BeginsGarbled}
+use Rattle.mk_record_read.specs.declared.saved.Saved.{Saved}
+use Rattle.mk_record_read.specs.Seen.{came}
+use Rattle.mk_plan_same.specs.Parts.{IsFirstOther}
+use Rattle.mk_record_restored.specs.Restored.{IsFaulted, IsOtherIn}
+use Rattle.mk_sched.specs.declared.faults.CoreFault.{CoreFault}
+use Rattle.mk_sched.specs.Answers.{SomeReady}
+use Rattle.mk_local.specs.declared.turn.Turn.{Turn}
+use Rattle.mk_setup.specs.Handshakes.{IsMade}
+use Rattle.mk_run_laws.specs.Hearing.{rest_heard}
+use Rattle.mk_run_laws.specs.Handshake.{setup_count, sim_link}
+use Rattle.mk_run_laws.specs.Kinds.{Replies}
+use Rattle.mk_run_laws.specs.Runs.{SaidWhole, run_frames}
+use Rattle.mk_run_laws.specs.Laws.{IsJournalOf}
+use Rattle.mk_run.specs.declared.outcome.Outcome.TheVariants as outcome
+use Rattle.mk_run.specs.Ends.{IsRun}
+use Rattle.mk_run.specs.Laws.{ArePromised, HasSentAll, LinkSaysRight}
+use Rattle.mk_resume_walk.specs.Talks.{free_items}
+use Rattle.mk_resume_links.specs.Rests.{Counts}
+use Rattle.mk_resume_loop.specs.declared.ending.ResumeEnd.{ResumeEnd}
+use Rattle.mk_resume_loop.specs.declared.ending.ResumeEnd.TheVariants as ends
+use Rattle.mk_resume_loop.specs.Resumed.{IsLongFree, QueuedAllAt}
+use Rattle.mk_resume.specs.Resumed.{HasNotBegun, IsDiffering, IsLeft, IsResumed, ResumesAs}
 
--- behind an entry that was looked up, one more of the simulator's entries was gone through
-abbrev pub EntriesAreCounted : Type 0
-EntriesAreCounted = (J : List Entry) (i from p : ℕ) → IsFirstOwn J i from (Some p)
-    → own_count i (take (p + 1) J) ≡ own_count i (take from J) + 1
+-- what is said on a simulator's link: its handshake, the first of the items that were free to it,
+-- and a stop; all of it, but where a write took nothing or the count of faults rose; and these
+-- items begin what sequential execution sends it over all messages that go on from the journal's
+pub record LinkSaysFree (S : Scenario) (P : Plan) (J : List Entry) (heard : Counts)
+    (log : List LogEntry) (risen : Type 0) (end : ResumeEnd) (i : ℕ) (l : LinkNo) : Type 0 where
+  pub items : List Item
+  pub free : BeginsWith (free_items J i (heard i)) items
+  pub said : BeginsWith (run_frames S i items) (said_on l log)
+  pub whole : SaidWhole S log risen i l (setup_count S i) items
+  pub all : QueuedAllAt end (free_items J i (heard i)) items
+  pub as_executed : (R : Messages) → Continues P J R → i < sim_count P
+      → BeginsWith (run_items P R i) (map bare items)
 
--- what is free of a journal's items goes on with each message that is sent again, and at last is
--- all; what is sent and got later adds nothing to what was free before
-pub record FreeItemsGoOn : Type 0 where
-  pub next : (J : List Entry) (i n : ℕ) → n < length (got J i)
-      → BeginsWith (free_items J i (n + 1)) (free_items J i n)
-  pub all : (J : List Entry) (i n : ℕ) → length (got J i) ≤ n → free_items J i n ≡ sent J i
-  pub first : (J K : List Entry) (i n : ℕ) → n < length (got J i)
-      → free_items (J ++ K) i n ≡ free_items J i n
+-- so it is on each link of a resumed run
+abbrev pub ResumedRunsSayRight : Type 0
+ResumedRunsSayRight = (started : ℕ) (S : Scenario) (reply : Replies) (P : Plan) (saved : Saved)
+    (J : List Entry) (log : List LogEntry) (faults new_faults : ℕ) (end : ResumeEnd)
+    → (r : IsResumed started S reply P saved J log faults new_faults end)
+    → (i : ℕ) (l : LinkNo) → sim_link started S i ≡ Some l
+    → LinkSaysFree S P J r.heard log (HasRisen faults new_faults) end i l
 
--- the walk of simulator i: it begins with nothing sent; by an item this one is sent; at a message it
--- waits, and what was sent is what is free; where that message was sent again it goes on; at the end
--- all messages were sent again, and all items were sent
-pub record WalksGoOn : Type 0 where
-  pub begins : (J : List Entry) (i : ℕ) → (h : IsGoneTo J i 0 0) × (sent h.gone i ≡ [])
-  pub sends : (J : List Entry) (i n from : ℕ) (g : IsGoneTo J i n from)
-      (between later : List Entry) (s : SimNo) (item : Item)
-      → drop from J ≡ between ++ Sent s item ∷ later → has_none i between ≡ true → s.0 ≡ i
-      → (h : IsGoneTo J i n (from + length between + 1))
-      × (sent h.gone i ≡ sent g.gone i ++ item ∷ [])
-  pub waits : (J : List Entry) (i n from : ℕ) (g : IsGoneTo J i n from)
-      (between later : List Entry) (s : SimNo) (m : Message)
-      → drop from J ≡ between ++ Got s m ∷ later → has_none i between ≡ true → s.0 ≡ i
-      → IsNextAt J i n (Some (from + length between)) × (free_items J i n ≡ sent g.gone i)
-  pub goes_on : (J : List Entry) (i n p : ℕ) → IsNextAt J i n (Some p) → n < length (got J i)
-      → (h : IsGoneTo J i (n + 1) (p + 1)) × (sent h.gone i ≡ free_items J i n)
-  pub ends : (J : List Entry) (i n from : ℕ) (g : IsGoneTo J i n from)
-      → has_none i (drop from J) ≡ true
-      → IsNextAt J i n None × (free_items J i n ≡ sent g.gone i)
+-- what holds of a run at whose end nothing is left to do
+pub record IsDoneRun (started : ℕ) (S : Scenario) (reply : Replies) (P : Plan) (J : List Entry)
+    (log : List LogEntry) (risen : Type 0) : Type 0 where
+  pub journal : IsJournalOf started S reply P log J
+  pub agrees : Agrees P J
+  pub links : (i : ℕ) (l : LinkNo) → sim_link started S i ≡ Some l
+      → LinkSaysRight started S reply P J log risen outcome.Done i l
+  pub done : HasSentAll started S reply P J log
+  pub promised : ArePromised started S reply P J log
 
--- in an orderly journal without a fault each simulator was sent as many items as messages came from
--- it, or one more; so its items and its messages alternate
-abbrev pub TurnsAlternate : Type 0
-TurnsAlternate = (P : Plan) (J : List Entry) → IsOrderlySoFar IsReady IsAdvance P J
-    → (view P J).fault ≡ None → (i : ℕ)
-    → (length (sent J i) ≡ length (got J i)) ⊎ (length (sent J i) ≡ length (got J i) + 1)
+-- a resumed run at whose end nothing is left to do is such a run
+abbrev pub DoneResumedRunsAreRuns : Type 0
+DoneResumedRunsAreRuns = (started : ℕ) (S : Scenario) (reply : Replies) (P : Plan) (saved : Saved)
+    (J : List Entry) (log : List LogEntry) (faults new_faults : ℕ)
+    → IsResumed started S reply P saved J log faults new_faults (ends.Outcome outcome.Done)
+    → IsDoneRun started S reply P J log (HasRisen faults new_faults)
 
--- so what is free to a simulator that has sent n messages again are n items or one more; one more,
--- where it has another message to send again
-pub record FreeItemsAlternate : Type 0 where
-  pub at_most : (P : Plan) (J : List Entry) → IsOrderlySoFar IsReady IsAdvance P J
-      → (view P J).fault ≡ None → (i n : ℕ) → n ≤ length (got J i)
-      → (length (free_items J i n) ≡ n) ⊎ (length (free_items J i n) ≡ n + 1)
-  pub one_more : (P : Plan) (J : List Entry) → IsOrderlySoFar IsReady IsAdvance P J
-      → (view P J).fault ≡ None → (i n : ℕ) → n < length (got J i)
-      → length (free_items J i n) ≡ n + 1
+-- two journals of one plan: if they took the same messages in one order they are one; if each
+-- simulator sent the same messages it was sent the same items, but for their max_advance
+pub record AreAlike (P : Plan) (J K : List Entry) : Type 0 where
+  pub one_order : arrivals J ≡ arrivals K → J ≡ K
+  pub any_order : ((i : ℕ) → i < sim_count P → got J i ≡ got K i) → (i : ℕ) → i < sim_count P
+      → map bare (sent J i) ≡ map bare (sent K i)
+
+-- so it is of a run and a resumed run of one plan, at whose ends nothing is left to do
+abbrev pub RunsAndResumedRunsAreAlike : Type 0
+RunsAndResumedRunsAreAlike = (started : ℕ) (S : Scenario) (reply : Replies) (P : Plan)
+    (J : List Entry) (log : List LogEntry) (faults new_faults : ℕ)
+    → IsRun started S reply P J log faults new_faults outcome.Done
+    → (again : ℕ) (S' : Scenario) (reply' : Replies) (saved : Saved) (K : List Entry)
+    (log' : List LogEntry) (faults' new_faults' : ℕ)
+    → IsResumed again S' reply' P saved K log' faults' new_faults' (ends.Outcome outcome.Done)
+    → AreAlike P J K
+
+-- nothing went wrong that a resumed run can show: each simulator sent its saved messages again and
+-- then right ones, no limit was met, no link ended or brought no message, and no count rose
+pub record IsFaultless (started : ℕ) (S : Scenario) (reply : Replies) (P : Plan)
+    (first J : List Entry) (heard : Counts) (log : List LogEntry)
+    (faults new_faults : ℕ) : Type 0 where
+  pub no_fault : (view P J).fault ≡ None
+  pub roomy : length J ≡ P.entries
+      → IsSome (view P J).owed ⊎ (SomeReady P J ⊎ IsLeft started S J heard log) → ⊥
+  pub repeated : (sim : SimNo) (place : ℕ) (kept other : Message)
+      → IsDiffering started S reply first J heard log sim place kept other → ⊥
+  pub counts : HasRisen faults new_faults → ⊥
+  pub open_links : (i : ℕ) (l : LinkNo) → sim_link started S i ≡ Some l → IsIn (Ended l) log → ⊥
+  pub right_frames : (i : ℕ) (l : LinkNo) (n : ℕ) → sim_link started S i ≡ Some l
+      → BeginsGarbled (rest_heard (heard_on l log)) n ⊎ IsTooLong n (rest_heard (heard_on l log))
+      → ⊥
+  pub short_items : (i n : ℕ) → IsLongFree P J heard i n → ⊥
+
+-- then it ended because nothing was left to do, or for want of memory
+abbrev pub ResumedRunsComplete : Type 0
+ResumedRunsComplete = (started : ℕ) (S : Scenario) (reply : Replies) (P : Plan) (saved : Saved)
+    (J : List Entry) (log : List LogEntry) (faults new_faults : ℕ) (end : ResumeEnd)
+    → (r : IsResumed started S reply P saved J log faults new_faults end)
+    → IsFaultless started S reply P r.first J r.heard log faults new_faults
+    → (end ≡ ends.Outcome outcome.Done) ⊎ (end ≡ ends.Outcome outcome.Mem)
+
+-- each end of a record that isn't taken comes exactly where its cause is there: the plan is another
+-- in this part; or it is the same, and this entry is another, or the messages meet this fault,
+-- unless memory was wanting
+pub record EndsExactly (P : Plan) (saved : Saved) (end : ResumeEnd) : Type 0 where
+  pub other_plan : (n : ℕ) → IsFirstOther P saved.plan (Some n) → end ≡ ends.OtherPlan n
+  pub other_entry : (n : ℕ) → IsFirstOther P saved.plan None
+      → IsOtherIn P (map came saved.arrivals) saved.asks n
+      → (end ≡ ends.OtherEntry n) ⊎ (end ≡ ends.Outcome outcome.Mem)
+  pub faulty : (J : List Entry) (f : CoreFault) → IsFirstOther P saved.plan None
+      → IsFaulted P (map came saved.arrivals) J f
+      → (end ≡ ends.Outcome (outcome.Core f)) ⊎ (end ≡ ends.Outcome outcome.Mem)
+
+-- the handshake made a plan, and over it the ends are those
+pub record HasEndedExactly (S : Scenario) (ranks : List ℕ) (saved : Saved)
+    (end : ResumeEnd) : Type 0 where
+  pub plan : Plan
+  pub answers : List Message
+  pub made : IsMade S ranks answers plan
+  pub exactly : EndsExactly plan saved end
+
+-- so it is of each call, but where the handshake ended early
+abbrev pub ResumeEndsExactly : Type 0
+ResumeEndsExactly = (started : ℕ) (S : Scenario) (ranks : List ℕ) (rows : List Turn)
+    (saved : Saved) (taken : Bool) (P : Option Plan) (J : Option Journal) (log : List LogEntry)
+    (faults new_faults : ℕ) (end : ResumeEnd)
+    → ResumesAs started S ranks rows saved taken P J log faults new_faults end
+    → HasNotBegun started S ranks rows log (HasRisen faults new_faults) end
+    ⊎ HasEndedExactly S ranks saved end

@@ -1,4 +1,3 @@
-pub mod Index
 pub mod Laws
-pub mod Talks
-pub mod Walks
+pub mod Resumed
+pub mod inner

@@ -1,32 +1,35 @@
-// What holds of the walk through a journal.
-ghost use Rattle.mk_resume.specs.Laws.{EntriesAreCounted, FreeItemsAlternate, FreeItemsGoOn, TurnsAlternate, WalksGoOn};
+// What holds of every resumed run.
+ghost use Rattle.mk_resume.specs.Laws.{DoneResumedRunsAreRuns, ResumeEndsExactly, ResumedRunsComplete, ResumedRunsSayRight, RunsAndResumedRunsAreAlike};
 
-/// Where an index was asked for a simulator's next entry, one more of its entries was gone through
-/// behind that one.
-pub fn entries_are_counted()
-    ensures { EntriesAreCounted }
+/// A resumed run has said on each link its handshake, the first of the items that were free to the
+/// simulator, and a stop; over all messages that go on from its journal, sequential execution sends
+/// these items first.
+pub fn resumed_runs_say_right()
+    ensures { ResumedRunsSayRight }
 {}
 
-/// The items that a simulator can be sent once it has sent some of its messages again begin those
-/// that it can be sent after one message more. They are all its items once it has sent all its
-/// messages, and whatever comes later in the journal adds nothing to them before.
-pub fn free_items_go_on()
-    ensures { FreeItemsGoOn }
+/// A resumed run at whose end nothing is left to do is one that was never stopped: its journal,
+/// what was said and heard on its links and what was sent within the program are those of a run.
+pub fn done_resumed_runs_are_runs()
+    ensures { DoneResumedRunsAreRuns }
 {}
 
-/// Entry by entry of its own, a simulator is sent just what is free, and waits for just the message
-/// that it has to send again.
-pub fn walks_go_on()
-    ensures { WalksGoOn }
+/// A run and a resumed run of one plan at whose ends nothing is left to do have one journal, if
+/// they took the same messages in one order; and in whatever order, each simulator was sent the
+/// same.
+pub fn runs_and_resumed_runs_are_alike()
+    ensures { RunsAndResumedRunsAreAlike }
 {}
 
-/// In an orderly journal without a fault a simulator's items and messages alternate.
-pub fn turns_alternate()
-    ensures { TurnsAlternate }
+/// A resumed run in which nothing went wrong ends because nothing is left to do, or for want of
+/// memory.
+pub fn resumed_runs_complete()
+    ensures { ResumedRunsComplete }
 {}
 
-/// So of the items that a simulator can be sent at most one isn't answered by the messages that it
-/// has sent again; and one isn't, where it has another to send again.
-pub fn free_items_alternate()
-    ensures { FreeItemsAlternate }
+/// A call of `resume` whose handshake was made ends by another plan, by another entry or by a fault
+/// among the record's messages exactly where these are there; for the last two memory may be
+/// wanting before.
+pub fn resume_ends_exactly()
+    ensures { ResumeEndsExactly }
 {}

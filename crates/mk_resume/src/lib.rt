@@ -1,11 +1,15 @@
-//! The walk through a journal by which its items are sent anew to simulators that begin again: how
-//! far each can be sent them, where its next entry stands, and which items are free then.
+//! A run that was cut short goes on: its simulators are started anew, its record's messages are
+//! given to a new core, and each simulator is sent again what the journal has for it and sends its
+//! messages again, until it has caught up.
 #![tactic(auto)]
 
-mod index;
+mod accepting;
 mod laws;
+mod resuming;
 
-pub use index::Index;
 pub use laws::{
-    entries_are_counted, free_items_alternate, free_items_go_on, turns_alternate, walks_go_on,
+    done_resumed_runs_are_runs, resume_ends_exactly, resumed_runs_complete, resumed_runs_say_right,
+    runs_and_resumed_runs_are_alike,
 };
+pub use mk_resume_loop::ResumeEnd;
+pub use resuming::{ResumeRan, resume};

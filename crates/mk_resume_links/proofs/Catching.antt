@@ -22,7 +22,7 @@ use Rattle.mk_run_laws.specs.Crews.{CrewState, line_at, kept_of, given_by, AreMo
 use Rattle.mk_run_laws.specs.Running.{SetupReplies, IsBegun}
 use Rattle.mk_run_laws.specs.inner.Running.{IsUnready}
 use Rattle.mk_run_laws.proofs.Stepping.{apart_is, same_is, same_or_not}
-use Rattle.mk_resume.specs.Talks.{free_items}
+use Rattle.mk_resume_walk.specs.Talks.{free_items}
 use Rattle.mk_resume_links.specs.Rests.{Counts, repeated}
 use Rattle.mk_resume_links.specs.inner.Catching.{IsCatching, IsCatchingWith, WasAwaited, awaited}
 use Rattle.mk_resume_links.specs.inner.Touching.{IsInTouch, RepeatsByKind, RestsOver, RestsSoFar}

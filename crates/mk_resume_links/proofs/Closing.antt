@@ -21,7 +21,7 @@ use Rattle.mk_run_laws.specs.Kinds.{Replies}
 use Rattle.mk_run_laws.specs.Crews.{CrewState, line_at, kept_of, given_by, IsSentOnLink, IsSentWithin}
 use Rattle.mk_run_laws.specs.Running.{SetupReplies}
 use Rattle.mk_run_laws.proofs.Stepping.{same_or_not}
-use Rattle.mk_resume.specs.Talks.{free_items}
+use Rattle.mk_resume_walk.specs.Talks.{free_items}
 use Rattle.mk_resume_links.specs.Rests.{Counts, repeated}
 use Rattle.mk_resume_links.specs.inner.Catching.{IsCatching, IsCatchingWith, WasAwaited, awaited}
 use Rattle.mk_resume_links.specs.inner.Touching.{RestsOver}

@@ -12,8 +12,8 @@ use Rattle.mk_run_laws.specs.Crews.{CrewState, AreStopped}
 use Rattle.mk_run_laws.specs.Running.{SetupReplies}
 use Rattle.mk_run_laws.specs.inner.Running.{HasLine}
 use Rattle.mk_run_laws.proofs.Ending.{link_ended}
-use Rattle.mk_resume.specs.Talks.{free_items, up_to}
-use Rattle.mk_resume.proofs.UpTo.{up_to_got}
+use Rattle.mk_resume_walk.specs.Talks.{free_items, up_to}
+use Rattle.mk_resume_walk.proofs.UpTo.{up_to_got}
 use Rattle.mk_resume_links.specs.Rests.{repeated}
 use Rattle.mk_resume_links.specs.Runs.{IsLinkOfResumed}
 

@@ -11,8 +11,8 @@ use Rattle.mk_plan.specs.declared.Entry.TheVariants.{Sent, Got}
 use Rattle.mk_plan.specs.Journals.{sent, got, sent_to, got_from}
 use Rattle.mk_run_laws.specs.Crews.{given_by}
 use Rattle.mk_run_laws.proofs.Stepping.{apart_is, same_is}
-use Rattle.mk_resume.specs.Talks.{free_items}
-use Rattle.mk_resume.proofs.UpTo.{free_all, free_front, up_to_behind, up_to_head}
+use Rattle.mk_resume_walk.specs.Talks.{free_items}
+use Rattle.mk_resume_walk.proofs.UpTo.{free_all, free_front, up_to_behind, up_to_head}
 use Rattle.mk_resume_links.specs.Rests.{repeated}
 
 -- ---- lists

@@ -7,8 +7,8 @@ use Rattle.mk_plan.specs.declared.Entry.{Entry}
 use Rattle.mk_plan.specs.Journals.{bare, got, got_from}
 use Rattle.mk_run_laws.specs.Kinds.{Replies}
 use Rattle.mk_run_laws.proofs.Stepping.{same_or_not}
-use Rattle.mk_resume.specs.Talks.{free_items}
-use Rattle.mk_resume.proofs.UpTo.{free_front}
+use Rattle.mk_resume_walk.specs.Talks.{free_items}
+use Rattle.mk_resume_walk.proofs.UpTo.{free_front}
 use Rattle.mk_resume_links.specs.Rests.{Counts}
 use Rattle.mk_resume_links.specs.inner.Touching.{RepeatsByKind}
 

@@ -18,8 +18,8 @@ use Rattle.mk_run_laws.specs.Handshake.{setup_count, sim_link}
 use Rattle.mk_run_laws.specs.Rests.{within, run_messages, all_frames, SaysAll}
 use Rattle.mk_run_laws.specs.Running.{SetupReplies, BeginsOnLink}
 use Rattle.mk_run_laws.proofs.Resting.{parked_heard, parked_said, within_is}
-use Rattle.mk_resume.specs.Talks.{free_items}
-use Rattle.mk_resume.proofs.GoingOn.{take_counted}
+use Rattle.mk_resume_walk.specs.Talks.{free_items}
+use Rattle.mk_resume_walk.proofs.GoingOn.{take_counted}
 use Rattle.mk_resume_links.specs.Rests.{Counts, repeated, rest_counts, at_rest, IsWellAtRest, RestsWell}
 use Rattle.mk_resume_links.specs.Running.{IsRestOf, RestsEnd}
 

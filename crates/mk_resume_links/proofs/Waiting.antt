@@ -21,7 +21,7 @@ use Rattle.mk_run_laws.specs.Running.{SetupReplies, BeginsOnLink, IsBegun}
 use Rattle.mk_run_laws.specs.inner.Running.{IsUnready}
 use Rattle.mk_run_laws.proofs.Moving.{line_moved}
 use Rattle.mk_run_laws.proofs.Stepping.{first_or_second}
-use Rattle.mk_resume.specs.Talks.{free_items}
+use Rattle.mk_resume_walk.specs.Talks.{free_items}
 use Rattle.mk_resume_links.specs.Rests.{Counts, repeated}
 use Rattle.mk_resume_links.specs.Running.{IsRestOf, RestsEnd}
 use Rattle.mk_resume_links.specs.inner.Touching.{IsInTouch, RestsOver, RestsSoFar}

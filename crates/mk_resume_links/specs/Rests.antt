@@ -14,7 +14,7 @@ use Rattle.mk_outside.specs.declared.fleet.LogEntry.TheVariants.{NotHeard, Rest}
 use Rattle.mk_outside.specs.Logs.{last_read}
 use Rattle.mk_run_laws.specs.Handshake.{sim_link}
 use Rattle.mk_run_laws.specs.Rests.{within, run_messages, AllSetUp, all_frames, SaysAll}
-use Rattle.mk_resume.specs.Talks.{free_items}
+use Rattle.mk_resume_walk.specs.Talks.{free_items}
 
 -- a number of messages for each simulator
 abbrev pub Counts : Type 0

@@ -7,7 +7,7 @@ use Rattle.mk_scenario.specs.declared.parts.Scenario.{Scenario}
 use Rattle.mk_outside.specs.declared.fleet.LogEntry.{LogEntry}
 use Rattle.mk_run_laws.specs.Running.{SetupReplies}
 use Rattle.mk_run_laws.specs.Runs.{IsLinkOfRun}
-use Rattle.mk_resume.specs.Talks.{up_to}
+use Rattle.mk_resume_walk.specs.Talks.{up_to}
 
 -- the link of a resumed run with the journal J, on which n messages were taken: it is that of a run
 -- with the beginning of J up to the simulator's message n, from 0. So its first messages are the

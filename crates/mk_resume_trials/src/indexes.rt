@@ -3,7 +3,7 @@ ghost use Rattle.std.specs.Prelude.{◌≡◌, ◌<◌, length, IfOk};
 
 use mk_base::{Json, List, Mem, SimNo, Tier};
 use mk_plan::{Entry, Item, Message};
-use mk_resume::Index;
+use mk_resume_walk::Index;
 use std::alloc::Global;
 use std::test::Fail;
 

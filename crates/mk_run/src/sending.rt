@@ -16,7 +16,8 @@ use mk_plan::{Entry, Journal};
 use mk_run_crew::Crew;
 use mk_sched::Core;
 
-// Sends the simulator the item that the journal ends with, with the id of the request that is open there.
+/// Sends the simulator the item that the journal ends with, with the id of the request that is open there. What stands in the way is
+/// an outcome, and the crew is then as it was.
 pub fn send_last(core: &Core, crew: &mut Crew, kinds: &Registry, sim: SimNo) -> Result<(), Outcome>
     requires going { core.now.ended ≡ None }
     requires there { sim.0 < sim_count core.now.plan }

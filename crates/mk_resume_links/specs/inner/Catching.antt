@@ -12,7 +12,7 @@ use Rattle.mk_run_laws.specs.Handshake.{is_within}
 use Rattle.mk_run_laws.specs.Kinds.{Replies}
 use Rattle.mk_run_laws.specs.Crews.{CrewState, kept_of}
 use Rattle.mk_run_laws.specs.Running.{SetupReplies}
-use Rattle.mk_resume.specs.Talks.{free_items}
+use Rattle.mk_resume_walk.specs.Talks.{free_items}
 use Rattle.mk_resume_links.specs.Rests.{Counts, repeated}
 use Rattle.mk_resume_links.specs.inner.Touching.{IsInTouch, RepeatsByKind, RestsSoFar}
 

@@ -15,7 +15,7 @@ use Rattle.mk_run_laws.specs.Rests.{AllSetUp}
 use Rattle.mk_run_laws.specs.Crews.{CrewState, line_at, kept_of}
 use Rattle.mk_run_laws.specs.Running.{SetupReplies, BeginsOnLink}
 use Rattle.mk_run_laws.specs.inner.Running.{HasLine}
-use Rattle.mk_resume.specs.Talks.{free_items}
+use Rattle.mk_resume_walk.specs.Talks.{free_items}
 use Rattle.mk_resume_links.specs.Rests.{Counts}
 use Rattle.mk_resume_links.specs.Running.{IsRestOf}
 

@@ -1,5 +1,0 @@
-use Rattle.mk_resume.proofs.Indexing.{counted_behind}
-use Rattle.mk_resume.proofs.laws.entries_are_counted.Goals as goal
-
-pub returns : goal.returns
-returns c = counted_behind

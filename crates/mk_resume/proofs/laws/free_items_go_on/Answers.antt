@@ -1,5 +1,0 @@
-use Rattle.mk_resume.proofs.GoingOn.{free_go_on}
-use Rattle.mk_resume.proofs.laws.free_items_go_on.Goals as goal
-
-pub returns : goal.returns
-returns c = free_go_on

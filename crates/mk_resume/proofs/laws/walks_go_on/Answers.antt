@@ -1,5 +1,0 @@
-use Rattle.mk_resume.proofs.GoingOn.{walk_laws}
-use Rattle.mk_resume.proofs.laws.walks_go_on.Goals as goal
-
-pub returns : goal.returns
-returns c = walk_laws

@@ -1,0 +1,223 @@
+-- What a resumed run means, over its whole log, and what each end shows.
+use Rattle.std.specs.Prelude.{◌≡◌, ◌⊎◌, ℕ, ◌<◌, ◌≤◌, ⊤, true, false, Bool, List, [], ◌∷◌, ◌++◌, length, map, Option, Some, None, slice_get}
+use Rattle.mk_base.specs.declared.LinkNo.{LinkNo}
+use Rattle.mk_base.specs.declared.SimNo.{SimNo}
+use Rattle.mk_base.specs.Lists.{BeginsWith, IsIn}
+use Rattle.mk_plan.specs.declared.Plan.{Plan}
+use Rattle.mk_plan.specs.declared.Journal.{Journal}
+use Rattle.mk_plan.specs.declared.Item.{Item}
+use Rattle.mk_plan.specs.declared.Message.{Message}
+use Rattle.mk_plan.specs.declared.Entry.{Entry}
+use Rattle.mk_plan.specs.Plans.{sim_count, first_id, IsValidPlan}
+use Rattle.mk_plan.specs.Journals.{view, got, bare}
+use Rattle.mk_plan.specs.Ready.{IsDone}
+use Rattle.mk_plan.specs.Orderly.{IsEager}
+use Rattle.mk_plan.specs.Agreement.{Agrees}
+use Rattle.mk_frame.specs.Frames.{IsTooLong}
+use Rattle.mk_scenario.specs.declared.parts.Scenario.{Scenario}
+use Rattle.mk_outside.specs.Counts.{HasRisen}
+use Rattle.mk_outside.specs.declared.fleet.LogEntry.{LogEntry}
+use Rattle.mk_outside.specs.declared.fleet.LogEntry.TheVariants.{Ended, Rest}
+use Rattle.mk_outside.specs.Logs.{heard_on}
+use Rattle.mk_session.specs.Fronts.{BeginsGarbled}
+use Rattle.mk_record_read.specs.declared.saved.Saved.{Saved}
+use Rattle.mk_record_read.specs.Seen.{came}
+use Rattle.mk_record_compare.specs.Differences.{IsOther}
+use Rattle.mk_plan_same.specs.Parts.{IsFirstOther}
+use Rattle.mk_record_restored.specs.Restored.{IsRestored, IsFaulted, IsOtherIn}
+use Rattle.mk_sched.specs.declared.faults.CoreFault.{CoreFault}
+use Rattle.mk_sched.specs.Answers.{SomeOpen, SomeReady}
+use Rattle.mk_local.specs.declared.turn.Turn.{Turn}
+use Rattle.mk_setup.specs.Handshakes.{IsMade}
+use Rattle.mk_run_laws.specs.Hearing.{rest_heard}
+use Rattle.mk_run_laws.specs.Handshake.{setup_count, setup_requests, sim_link, is_within}
+use Rattle.mk_run_laws.specs.Kinds.{Replies}
+use Rattle.mk_run_laws.specs.Rests.{run_messages, AllSetUp, IsWellInSetup}
+use Rattle.mk_run_laws.specs.Running.{SetupReplies}
+use Rattle.mk_run_laws.specs.Runs.{SaidWhole, SaysRight}
+use Rattle.mk_run_local.specs.Made.{kind_reply_of}
+use Rattle.mk_run_crew.specs.Answers.{AreKindAnswers, answers_to}
+use Rattle.mk_run.specs.declared.outcome.Outcome.{Outcome}
+use Rattle.mk_run.specs.declared.outcome.Outcome.TheVariants as outcome
+use Rattle.mk_run.specs.Ends.{IsLastFaulty, IsUngot, AreInRange, SetupRestsWell}
+use Rattle.mk_run.specs.Ran.{HasNotRun}
+use Rattle.mk_resume_walk.specs.Talks.{free_items}
+use Rattle.mk_resume_links.specs.Rests.{Counts, repeated, RestsWell}
+use Rattle.mk_resume_links.specs.Runs.{IsLinkOfResumed}
+use Rattle.mk_resume_loop.specs.declared.ending.ResumeEnd.{ResumeEnd}
+use Rattle.mk_resume_loop.specs.declared.ending.ResumeEnd.TheVariants as ends
+use Rattle.mk_resume_loop.specs.Resumed.{IsCutOff, IsFull, IsLongFree, QueuedAllAt}
+
+-- all messages that were heard of simulator i were taken
+pub record HasTakenAll (started : ℕ) (S : Scenario) (log : List LogEntry) (J : List Entry)
+    (heard : Counts) (i : ℕ) (l : LinkNo) : Type 0 where
+  pub linked : sim_link started S i ≡ Some l
+  pub all : repeated J i (heard i) ≡ run_messages S log i l
+
+-- the reply of a simulator within the program is awaited that has sent again all that the journal
+-- has of it
+pub record IsAwaitedWithin (S : Scenario) (J : List Entry) (heard : Counts) : Type 0 where
+  pub sim : ℕ
+  pub within : is_within S sim ≡ true
+  pub caught : heard sim ≡ length (got J sim)
+  pub more : heard sim < length (free_items J sim (heard sim))
+
+-- a message came that the journal hasn't got: one of a link behind all that the journal has of it,
+-- or a reply that is awaited within the program
+abbrev pub IsLeft : ℕ → Scenario → List Entry → Counts → List LogEntry → Type 0
+IsLeft started S J heard log = IsUngot started S J log ⊎ IsAwaitedWithin S J heard
+
+-- message `place` of the simulator, from 0, isn't the saved one, which the journal has there: it
+-- was heard on its link behind those that it had sent again, or is its kind's reply
+pub record IsDiffering (started : ℕ) (S : Scenario) (reply : Replies) (first J : List Entry)
+    (heard : Counts) (log : List LogEntry) (sim : SimNo) (place : ℕ)
+    (kept other : Message) : Type 0 where
+  pub at : place ≡ heard sim.0
+  pub early : place < length (got first sim.0)
+  pub had : slice_get (got J sim.0) place ≡ Some kept
+  pub apart : kept ≡ other → ⊥
+  pub on_link : (l : LinkNo) → sim_link started S sim.0 ≡ Some l
+      → BeginsWith (run_messages S log sim.0 l) (repeated J sim.0 place ++ other ∷ [])
+  pub inside : is_within S sim.0 ≡ true
+      → other ≡ reply sim.0 (map bare (free_items J sim.0 place))
+
+-- what the end of a resumed run with a journal shows
+abbrev pub ShownBy : ℕ → Scenario → Replies → Plan → List Entry → List Entry → Counts
+    → List LogEntry → ℕ → ℕ → ResumeEnd → Type 0
+ShownBy started S reply P first J heard log faults new_faults (ends.Outcome outcome.Done) = IsDone P
+    (view P J) × ((i : ℕ) → i < sim_count P → heard i ≡ length (got J i))
+ShownBy started S reply P first J heard log faults new_faults (ends.Outcome (outcome.Setup f)) = ⊥
+ShownBy started S reply P first J heard log faults new_faults
+    (ends.Outcome (outcome.Core f)) = IsLastFaulty P J f
+    ⊎ IsFull P J f (IsLeft started S J heard log)
+ShownBy started S reply P first J heard log faults new_faults
+    (ends.Outcome outcome.Fleet) = HasRisen faults new_faults
+ShownBy started S reply P first J heard log faults new_faults
+    (ends.Outcome (outcome.Gone i)) = (l : LinkNo) × HasTakenAll started S log J heard i.0 l
+    × IsIn (Ended l) log
+ShownBy started S reply P first J heard log faults new_faults
+    (ends.Outcome (outcome.Garbled i n)) = (l : LinkNo) × HasTakenAll started S log J heard i.0 l
+    × BeginsGarbled (rest_heard (heard_on l log)) n
+ShownBy started S reply P first J heard log faults new_faults
+    (ends.Outcome (outcome.LongFrame i n)) = (l : LinkNo) × HasTakenAll started S log J heard i.0 l
+    × IsTooLong n (rest_heard (heard_on l log))
+ShownBy started S reply P first J heard log faults new_faults
+    (ends.Outcome (outcome.LongItem i n)) = IsLongFree P J heard i.0 n
+ShownBy started S reply P first J heard log faults new_faults (ends.Outcome outcome.Mem) = ⊤
+ShownBy started S reply P first J heard log faults new_faults (ends.OtherPlan n) = ⊥
+ShownBy started S reply P first J heard log faults new_faults (ends.OtherEntry n) = ⊥
+ShownBy started S reply P first J heard log faults new_faults
+    (ends.Differs sim place kept other) = IsDiffering started S reply first J heard log sim place
+    kept other
+
+-- nobody is ready, and something is to come: a request is open, or a simulator hasn't sent again all
+-- that the journal has of it
+abbrev pub IsWaiting : Plan → List Entry → Counts → Type 0
+IsWaiting P J heard = (SomeReady P J → ⊥)
+    × (SomeOpen P J ⊎ ((i : ℕ) × (i < sim_count P) × (heard i < length (got J i))))
+
+-- a resumed run with a plan and a journal, of a record with these messages and steps, over the
+-- entries that it added to the log. `first` is the journal after the record's messages, which the
+-- run's begins with. Each simulator has sent so many of the journal's messages again in this call
+-- (`heard`): where it has sent all that the record has of it, these are all; those of a simulator
+-- within the program are its kind's replies; and each was sent what is free then, which is what
+-- stands in the journal before its next message
+pub record IsResumed (started : ℕ) (S : Scenario) (reply : Replies) (P : Plan) (saved : Saved)
+    (J : List Entry) (log : List LogEntry) (faults new_faults : ℕ)
+    (end : ResumeEnd) : Type 0 where
+  pub replies : SetupReplies
+  pub valid : IsValidPlan P
+  pub sims : sim_count P ≡ length S.sims
+  pub first : List Entry
+  pub restored : IsRestored P (map came saved.arrivals) first
+  pub same : IsOther (map came saved.arrivals) saved.asks first None
+  pub begins : BeginsWith J first
+  pub agrees : Agrees P J
+  pub eager : IsEager P J
+  pub within : length J ≤ P.entries
+  pub in_range : AreInRange J
+  pub heard : Counts
+  pub few : (i : ℕ) → heard i ≤ length (got J i)
+  pub caught : (i : ℕ) → length (got first i) ≤ heard i → heard i ≡ length (got J i)
+  pub kinds : (i n : ℕ) (m : Message) → is_within S i ≡ true → n < heard i
+      → slice_get (got J i) n ≡ Some m → m ≡ reply i (map bare (free_items J i n))
+  pub links : (i : ℕ) (l : LinkNo) → sim_link started S i ≡ Some l → (items : List Item)
+      × IsLinkOfResumed S replies J log (HasRisen faults new_faults) i l (heard i) items
+      × QueuedAllAt end (free_items J i (heard i)) items
+  pub rests : RestsWell (λ i. length (got first i)) started S P J log
+  pub setup_rests : SetupRestsWell started S log
+  pub shown : ShownBy started S reply P first J heard log faults new_faults end
+  pub unfinished : IsCutOff end → IsWaiting P J heard
+
+-- the handshake was made, the plan is the record's but for the limit of entries, and the record's
+-- messages were taken: what came of it then
+pub record HasResumed (started : ℕ) (S : Scenario) (ranks : List ℕ) (rows : List Turn)
+    (saved : Saved) (P : Plan) (J : List Entry) (log : List LogEntry) (faults new_faults : ℕ)
+    (end : ResumeEnd) : Type 0 where
+  pub answers : List Message
+  pub made : IsMade S ranks answers P
+  pub kinds : AreKindAnswers rows S answers
+  pub plans : IsFirstOther P saved.plan None
+  pub first : (i : ℕ) → i < sim_count P → first_id P i ≡ setup_count S i
+  pub run : IsResumed started S (kind_reply_of rows S) P saved J log faults new_faults end
+  pub told : (i : ℕ) (l : LinkNo) → sim_link started S i ≡ Some l
+      → run.replies i ≡ answers_to i (setup_requests S) answers
+
+-- the handshake was made, with this plan, and the run went no further: on each link the whole
+-- handshake was said and a stop, but where a write took nothing or the count of faults rose, and
+-- nothing else; and where the fleet rested, not all had set up
+pub record HasRefused (started : ℕ) (S : Scenario) (ranks : List ℕ) (rows : List Turn) (P : Plan)
+    (log : List LogEntry) (risen : Type 0) : Type 0 where
+  pub answers : List Message
+  pub made : IsMade S ranks answers P
+  pub kinds : AreKindAnswers rows S answers
+  pub valid : IsValidPlan P
+  pub sims : sim_count P ≡ length S.sims
+  pub says : (reply : Replies) (i : ℕ) (l : LinkNo) → sim_link started S i ≡ Some l
+      → SaysRight started S reply None log i l (setup_count S i) [] true
+  pub whole : (i : ℕ) (l : LinkNo) → sim_link started S i ≡ Some l
+      → SaidWhole S log risen i l (setup_count S i) []
+  pub rests : (before after : List LogEntry) → log ≡ before ++ Rest ∷ after
+      → IsWellInSetup started S before × (AllSetUp started S before → ⊥)
+
+-- why the record wasn't taken: its plan is another than this one; an entry of it isn't the
+-- journal's that its messages make; or memory was wanting
+abbrev pub IsRefusedBy : Plan → Saved → ResumeEnd → Type 0
+IsRefusedBy P saved (ends.OtherPlan n) = IsFirstOther P saved.plan (Some n)
+IsRefusedBy P saved (ends.OtherEntry n) = IsFirstOther P saved.plan None
+    × IsOtherIn P (map came saved.arrivals) saved.asks n
+IsRefusedBy P saved (ends.Outcome o) = IsFirstOther P saved.plan None × (o ≡ outcome.Mem)
+IsRefusedBy P saved (ends.Differs sim place kept other) = ⊥
+
+-- the plans are the same, and the record's messages met this fault of the core; the journal is the
+-- one up to there
+pub record HasFaultySaved (P : Plan) (saved : Saved) (J : List Entry)
+    (end : ResumeEnd) : Type 0 where
+  pub fault : CoreFault
+  pub is : end ≡ ends.Outcome (outcome.Core fault)
+  pub plans : IsFirstOther P saved.plan None
+  pub faulted : IsFaulted P (map came saved.arrivals) J fault
+
+-- the handshake ended early, or there was no memory for it
+abbrev pub HasNotBegun : ℕ → Scenario → List ℕ → List Turn → List LogEntry → Type 0 → ResumeEnd
+    → Type 0
+HasNotBegun started S ranks rows log risen end = (o : Outcome) × (end ≡ ends.Outcome o)
+    × HasNotRun started S ranks rows log risen o
+
+-- what a call of `resume` comes to. Where the record was taken, its plan and its journal are there;
+-- where its messages met a fault of the core, so are they; and else they aren't, since its plan or
+-- an entry is another, or memory was wanting, or the handshake ended early
+abbrev pub ResumesAs : ℕ → Scenario → List ℕ → List Turn → Saved → Bool → Option Plan
+    → Option Journal → List LogEntry → ℕ → ℕ → ResumeEnd → Type 0
+ResumesAs started S ranks rows saved true (Some P) (Some J) log faults new_faults end = HasResumed
+    started S ranks rows saved P J.entries log faults new_faults end
+ResumesAs started S ranks rows saved true (Some P) None log faults new_faults end = ⊥
+ResumesAs started S ranks rows saved true None J log faults new_faults end = ⊥
+ResumesAs started S ranks rows saved false (Some P) (Some J) log faults new_faults end =
+    HasFaultySaved P saved J.entries end
+    × HasRefused started S ranks rows P log (HasRisen faults new_faults)
+ResumesAs started S ranks rows saved false (Some P) None log faults new_faults end = ⊥
+ResumesAs started S ranks rows saved false None (Some J) log faults new_faults end = ⊥
+ResumesAs started S ranks rows saved false None None log faults new_faults end = ((P : Plan)
+    × IsRefusedBy P saved end × HasRefused started S ranks rows P log (HasRisen faults new_faults))
+    ⊎ HasNotBegun started S ranks rows log (HasRisen faults new_faults) end

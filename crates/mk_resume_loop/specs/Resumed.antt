@@ -1,0 +1,50 @@
+-- What the ends of a resumed run say of its journal.
+use Rattle.std.specs.Prelude.{◌≡◌, ◌⊎◌, ℕ, ◌<◌, List, [], ◌∷◌, ◌++◌, length, None, IsSome}
+use Rattle.mk_plan.specs.declared.Plan.{Plan}
+use Rattle.mk_plan.specs.declared.Item.{Item}
+use Rattle.mk_plan.specs.declared.Entry.{Entry}
+use Rattle.mk_plan.specs.Plans.{first_id}
+use Rattle.mk_plan.specs.Journals.{view}
+use Rattle.mk_frame.specs.Frames.{limit}
+use Rattle.mk_message.specs.Written.{item_text}
+use Rattle.mk_sched.specs.declared.faults.CoreFault.{CoreFault}
+use Rattle.mk_sched.specs.declared.faults.CoreFault.TheVariants.{TooLong}
+use Rattle.mk_sched.specs.Answers.{SomeReady}
+use Rattle.mk_run_laws.specs.Payloads.{id_after}
+use Rattle.mk_run.specs.Ends.{QueuedAll, IsBrokenOff}
+use Rattle.mk_resume_loop.specs.declared.ending.ResumeEnd.{ResumeEnd}
+use Rattle.mk_resume_loop.specs.declared.ending.ResumeEnd.TheVariants as ends
+use Rattle.mk_resume_walk.specs.Talks.{free_items}
+use Rattle.mk_resume_links.specs.Rests.{Counts}
+
+-- all that is free was queued; but for the last, where it was too long or there was no memory for
+-- it
+abbrev pub QueuedAllAt : ResumeEnd → List Item → List Item → Type 0
+QueuedAllAt (ends.Outcome o) all queued = QueuedAll o all queued
+QueuedAllAt (ends.OtherPlan n) all queued = queued ≡ []
+QueuedAllAt (ends.OtherEntry n) all queued = queued ≡ []
+QueuedAllAt (ends.Differs sim place saved_ heard) all queued = queued ≡ all
+
+-- the first free item to i that wasn't queued has a payload of n bytes, more than a frame may have
+pub record IsLongFree (P : Plan) (J : List Entry) (heard : Counts) (i n : ℕ) : Type 0 where
+  pub queued : List Item
+  pub item : Item
+  pub more : List Item
+  pub parts : free_items J i (heard i) ≡ queued ++ item ∷ more
+  pub bytes : length (item_text (id_after (first_id P i) queued) item) ≡ n
+  pub beyond : limit < n
+
+-- the journal is full, there is no other fault, and one entry more is needed: what is owed, a Step,
+-- or a message that is left
+pub record IsFull (P : Plan) (J : List Entry) (f : CoreFault) (left : Type 0) : Type 0 where
+  pub named : f ≡ TooLong P.entries
+  pub full : length J ≡ P.entries
+  pub no_fault : (view P J).fault ≡ None
+  pub more : IsSome (view P J).owed ⊎ (SomeReady P J ⊎ left)
+
+-- the run was broken off while something was to come
+abbrev pub IsCutOff : ResumeEnd → Type 0
+IsCutOff (ends.Outcome o) = IsBrokenOff o
+IsCutOff (ends.OtherPlan n) = ⊥
+IsCutOff (ends.OtherEntry n) = ⊥
+IsCutOff (ends.Differs sim place saved_ other) = ⊥

@@ -1,0 +1,130 @@
+-- For proofs alone. When a resumed run has come to its end, and its crew is still to be stopped.
+use Rattle.std.specs.Prelude.{◌≡◌, ℕ, ◌<◌, ◌⊎◌, max, ⊤, true, List, [], ◌∷◌, ◌++◌, length, map, Some, None, slice_get}
+use Rattle.mk_base.specs.declared.LinkNo.{LinkNo}
+use Rattle.mk_base.specs.declared.SimNo.{SimNo}
+use Rattle.mk_base.specs.Lists.{BeginsWith, IsIn}
+use Rattle.mk_frame.specs.Frames.{IsTooLong}
+use Rattle.mk_plan.specs.declared.Plan.{Plan}
+use Rattle.mk_plan.specs.declared.Item.{Item}
+use Rattle.mk_plan.specs.declared.Message.{Message}
+use Rattle.mk_plan.specs.declared.Entry.{Entry}
+use Rattle.mk_plan.specs.Plans.{sim_count}
+use Rattle.mk_plan.specs.Journals.{bare, got, view}
+use Rattle.mk_plan.specs.Ready.{IsDone}
+use Rattle.mk_outside.specs.declared.fleet.LogEntry.{LogEntry}
+use Rattle.mk_outside.specs.declared.fleet.LogEntry.TheVariants.{Ended}
+use Rattle.mk_session.specs.Fronts.{BeginsGarbled}
+use Rattle.mk_sched.specs.Cores.{Stands}
+use Rattle.mk_sched.specs.Answers.{SomeOpen, SomeReady}
+use Rattle.mk_run_laws.specs.Hearing.{first_message}
+use Rattle.mk_run_laws.specs.Handshake.{is_within, sim_link}
+use Rattle.mk_run_laws.specs.Crews.{CrewState}
+use Rattle.mk_run_laws.specs.inner.Running.{HasLine}
+use Rattle.mk_run.specs.declared.outcome.Outcome.TheVariants as outcome
+use Rattle.mk_run.specs.Ends.{AreInRange, IsLastFaulty, SetupRestsWell}
+use Rattle.mk_run.specs.inner.Underway.{Setting, reply_in, Suits, HasNoOther, IsPatient}
+use Rattle.mk_resume_walk.specs.Talks.{free_items}
+use Rattle.mk_resume_links.specs.Rests.{Counts, repeated}
+use Rattle.mk_resume_links.specs.Running.{RestsEnd}
+use Rattle.mk_resume_links.specs.inner.Touching.{RepeatsByKind}
+use Rattle.mk_resume_loop.specs.declared.ending.ResumeEnd.{ResumeEnd}
+use Rattle.mk_resume_loop.specs.declared.ending.ResumeEnd.TheVariants as ends
+use Rattle.mk_resume_loop.specs.Resumed.{IsCutOff, IsFull, IsLongFree, QueuedAllAt}
+use Rattle.mk_resume_loop.specs.inner.Underway.{saved_of}
+
+-- a line at the end: the messages that it gave go on from those that were sent again, and the items
+-- queued on it are the first of those that are free
+pub record IsLastLine (T : Setting) (J : List Entry) (heard : Counts) (log : List LogEntry)
+    (C : CrewState) (end : ResumeEnd) (i : ℕ) (l : LinkNo) : Type 0 where
+  pub messages : List Message
+  pub items : List Item
+  pub line : HasLine T.scenario T.replies log i l messages items C
+  pub given : BeginsWith messages (repeated J i (heard i))
+  pub queued : BeginsWith (free_items J i (heard i)) items
+  pub queued_all : QueuedAllAt end (free_items J i (heard i)) items
+
+-- the line of simulator i gave all messages that were sent again, and holds no further one
+pub record HasGiven (T : Setting) (J : List Entry) (heard : Counts) (log : List LogEntry)
+    (C : CrewState) (i : ℕ) (l : LinkNo) : Type 0 where
+  pub linked : sim_link T.started T.scenario i ≡ Some l
+  pub line : HasLine T.scenario T.replies log i l (repeated J i (heard i))
+      (free_items J i (heard i)) C
+  pub none_held : first_message line.line.held ≡ None
+
+-- the line of a simulator gave this message behind those that were sent again
+pub record IsAhead (T : Setting) (J : List Entry) (heard : Counts) (log : List LogEntry)
+    (C : CrewState) (s : ℕ) (m : Message) : Type 0 where
+  pub link : LinkNo
+  pub linked : sim_link T.started T.scenario s ≡ Some link
+  pub line : HasLine T.scenario T.replies log s link (repeated J s (heard s) ++ m ∷ [])
+      (free_items J s (heard s)) C
+
+-- the reply of a simulator within the program is awaited: an item that is free isn't answered
+pub record IsAwaitedOf (T : Setting) (J : List Entry) (heard : Counts) (s : ℕ) : Type 0 where
+  pub within : is_within T.scenario s ≡ true
+  pub more : heard s < length (free_items J s (heard s))
+
+-- a message came that the journal hasn't got: its simulator had caught up
+abbrev pub IsLeftNow : Setting → List Entry → Counts → List LogEntry → CrewState → Type 0
+IsLeftNow T J heard log C = (s : ℕ) × (heard s ≡ length (got J s))
+    × (((m : Message) × IsAhead T J heard log C s m) ⊎ IsAwaitedOf T J heard s)
+
+-- the message that came isn't the saved one
+pub record DiffersNow (T : Setting) (first J : List Entry) (heard : Counts) (log : List LogEntry)
+    (C : CrewState) (s : SimNo) (place : ℕ) (saved other : Message) : Type 0 where
+  pub at : place ≡ heard s.0
+  pub early : place < length (got first s.0)
+  pub had : slice_get (got J s.0) place ≡ Some saved
+  pub apart : saved ≡ other → ⊥
+  pub came : IsAhead T J heard log C s.0 other ⊎ ((is_within T.scenario s.0 ≡ true)
+      × (other ≡ reply_in T s.0 (map bare (free_items J s.0 place))))
+
+-- what the end shows before the run is stopped
+abbrev pub EndsBy : Type 0 → Setting → Plan → List Entry → List Entry → Counts → List LogEntry
+    → CrewState → ResumeEnd → Type 0
+EndsBy risen T P first J heard log C (ends.Outcome outcome.Done) = IsDone P (view P J)
+    × ((i : ℕ) → i < sim_count P → heard i ≡ length (got J i))
+EndsBy risen T P first J heard log C (ends.Outcome (outcome.Setup f)) = ⊥
+EndsBy risen T P first J heard log C (ends.Outcome (outcome.Core f)) = IsLastFaulty P J f
+    ⊎ IsFull P J f (IsLeftNow T J heard log C)
+EndsBy risen T P first J heard log C (ends.Outcome outcome.Fleet) = risen
+EndsBy risen T P first J heard log C (ends.Outcome (outcome.Gone i)) = (l : LinkNo)
+    × HasGiven T J heard log C i.0 l × IsIn (Ended l) log
+EndsBy risen T P first J heard log C (ends.Outcome (outcome.Garbled i n)) = (l : LinkNo)
+    × (g : HasGiven T J heard log C i.0 l) × BeginsGarbled g.line.line.held n
+EndsBy risen T P first J heard log C (ends.Outcome (outcome.LongFrame i n)) = (l : LinkNo)
+    × (g : HasGiven T J heard log C i.0 l) × IsTooLong n g.line.line.held
+EndsBy risen T P first J heard log C (ends.Outcome (outcome.LongItem i n)) = IsLongFree P J heard
+    i.0 n
+EndsBy risen T P first J heard log C (ends.Outcome outcome.Mem) = ⊤
+EndsBy risen T P first J heard log C (ends.OtherPlan n) = ⊥
+EndsBy risen T P first J heard log C (ends.OtherEntry n) = ⊥
+EndsBy risen T P first J heard log C (ends.Differs s place saved other) = DiffersNow T first J heard
+    log C s place saved other
+
+-- something is to come: a request is open, or a simulator is behind
+abbrev pub IsUnfinished : Plan → List Entry → Counts → Type 0
+IsUnfinished P J heard = SomeOpen P J
+    ⊎ ((i : ℕ) × (i < sim_count P) × (heard i < length (got J i)))
+
+-- the run was broken off: nobody is ready, and something is to come
+abbrev pub IsWaiting : Plan → List Entry → Counts → Type 0
+IsWaiting P J heard = (SomeReady P J → ⊥) × IsUnfinished P J heard
+
+-- the run has come to its end, and its crew is still to be stopped
+pub record HasEnded (risen : Type 0) (T : Setting) (P : Plan) (first J : List Entry)
+    (heard : Counts) (log : List LogEntry) (C : CrewState) (end : ResumeEnd) : Type 0 where
+  pub suits : Suits T P
+  pub stands : Stands P J
+  pub begins : BeginsWith J first
+  pub patient : IsPatient P J
+  pub in_range : AreInRange J
+  pub counts : (i : ℕ) → length (got J i) ≡ max (saved_of first i) (heard i)
+  pub kinds : RepeatsByKind (reply_in T) (is_within T.scenario) J heard
+  pub lines : (i : ℕ) (l : LinkNo) → sim_link T.started T.scenario i ≡ Some l
+      → IsLastLine T J heard log C end i l
+  pub no_other : HasNoOther T C
+  pub rests : RestsEnd (saved_of first) T.started T.scenario T.replies P J log
+  pub setup_rests : SetupRestsWell T.started T.scenario log
+  pub ends : EndsBy risen T P first J heard log C end
+  pub unfinished : IsCutOff end → IsWaiting P J heard

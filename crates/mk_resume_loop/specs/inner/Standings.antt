@@ -1,0 +1,23 @@
+-- For proofs alone. Where a simulator stands behind an entry of it, and whether anybody is behind.
+use Rattle.std.specs.Prelude.{◌≡◌, ℕ, ◌+◌, Option, Some, None, if◌then◌else◌, slice_get}
+use Rattle.mk_plan.specs.declared.Item.{Item}
+use Rattle.mk_run_laws.specs.Payloads.{takes_id}
+use Rattle.mk_resume_loop.specs.declared.behind.Standing.{Standing}
+use Rattle.mk_resume_loop.specs.inner.Underway.{BehindSeen}
+
+-- where a simulator stands, once its next entry was looked up behind so many
+abbrev pub standing_at : Option ℕ → ℕ → ℕ → Option Standing
+standing_at None gone id = None
+standing_at (Some p) gone id = Some (record { place = p; gone = gone + 1; id = id })
+
+-- the next id behind an item
+abbrev pub id_behind : Item → ℕ → ℕ
+id_behind item id = if takes_id item then id + 1 else id
+
+-- nobody is behind
+abbrev pub HasNobody : BehindSeen → Type 0
+HasNobody B = (i : ℕ) → (o : Option Standing) → slice_get B.sims i ≡ Some o → o ≡ None
+
+-- somebody is
+abbrev pub HasSomebody : BehindSeen → Type 0
+HasSomebody B = (i : ℕ) × (c : Standing) × (slice_get B.sims i ≡ Some (Some c))

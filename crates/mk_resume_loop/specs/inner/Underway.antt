@@ -1,0 +1,133 @@
+-- For proofs alone. What stands of a resumed run while its simulators catch up and afterwards.
+use Rattle.std.specs.Prelude.{◌≡◌, ℕ, ◌+◌, ◌==◌, false, true, List, [], ◌∷◌, ◌++◌, length, take, Option, Some, None, slice_get, if◌then◌else◌}
+use Rattle.mk_base.specs.Lists.{BeginsWith}
+use Rattle.mk_plan.specs.declared.Plan.{Plan}
+use Rattle.mk_plan.specs.declared.Item.{Item}
+use Rattle.mk_plan.specs.declared.Message.{Message}
+use Rattle.mk_plan.specs.declared.Entry.{Entry}
+use Rattle.mk_plan.specs.Plans.{first_id, sim_count}
+use Rattle.mk_plan.specs.Journals.{Arrival, got, sent, view}
+use Rattle.mk_outside.specs.declared.fleet.LogEntry.{LogEntry}
+use Rattle.mk_sched.specs.Cores.{Stands}
+use Rattle.mk_sched.specs.Answers.{SomeReady}
+use Rattle.mk_local.specs.Simulators.{Simulator}
+use Rattle.mk_run_laws.specs.Handshake.{is_within}
+use Rattle.mk_run_laws.specs.Payloads.{id_after}
+use Rattle.mk_run_laws.specs.Crews.{CrewState, IsHeard}
+use Rattle.mk_run_local.specs.Calls.{IsFitSuccess}
+use Rattle.mk_run_local.specs.Laws.{HasCome}
+use Rattle.mk_run_crew.specs.Seen.{CrewSeen, crew_of}
+use Rattle.mk_run.specs.Ends.{AreInRange, SetupRestsWell}
+use Rattle.mk_run.specs.inner.Underway.{Setting, reply_in, Suits, HasNoOther, IsPatient, local_at}
+use Rattle.mk_resume_walk.specs.Talks.{free_items}
+use Rattle.mk_resume_walk.specs.Walks.{IsGoneTo, IsNextAt}
+use Rattle.mk_resume_walk.specs.Index.{Indexed, IsIndexOf, own_count}
+use Rattle.mk_resume_links.specs.Rests.{Counts}
+use Rattle.mk_resume_links.specs.inner.Catching.{IsCatchingWith, awaited}
+use Rattle.mk_resume_links.specs.inner.Touching.{RestsOver}
+use Rattle.mk_resume_loop.specs.declared.behind.Standing.{Standing}
+
+-- how many messages of each simulator the record has
+abbrev pub saved_of : List Entry → Counts
+saved_of first i = length (got first i)
+
+-- each simulator within the program has come on by these items
+abbrev pub HaveComeBy : Setting → (ℕ → List Item) → List (Option Simulator) → Type 0
+HaveComeBy T items sims = (i : ℕ) → is_within T.scenario i ≡ true → (L : Simulator)
+    × (local_at sims i ≡ Some L) × HasCome T.rows T.scenario i (items i) L
+
+-- no simulator with a link is within the program
+abbrev pub IsOnlyWithin : Setting → List (Option Simulator) → Type 0
+IsOnlyWithin T sims = (i : ℕ) → is_within T.scenario i ≡ false → local_at sims i ≡ None
+
+-- a journal that goes on from one after a record's messages, a log and a crew have come about
+-- together, each simulator having sent so many messages in this call, there is no fault, and
+-- nothing is owed; these items were sent behind the handshake, and these replies are kept
+pub record IsResumingWith (queued : ℕ → List Item) (awaits : ℕ → List Message) (T : Setting)
+    (P : Plan) (first J : List Entry) (heard : Counts) (log : List LogEntry) (C : CrewState)
+    (sims : List (Option Simulator)) : Type 0 where
+  pub suits : Suits T P
+  pub stands : Stands P J
+  pub begins : BeginsWith J first
+  pub patient : IsPatient P J
+  pub in_range : AreInRange J
+  pub no_fault : (view P J).fault ≡ None
+  pub paid : (view P J).owed ≡ None
+  pub catching : IsCatchingWith queued awaits (saved_of first) T.started T.scenario T.replies
+      (reply_in T) P J heard log C
+  pub no_other : HasNoOther T C
+  pub come : HaveComeBy T queued sims
+  pub only_within : IsOnlyWithin T sims
+  pub setup_rests : SetupRestsWell T.started T.scenario log
+
+-- what is free was sent, and what is awaited is kept
+abbrev pub IsResuming : Setting → Plan → List Entry → List Entry → Counts → List LogEntry
+    → CrewState → List (Option Simulator) → Type 0
+IsResuming T P first J heard = IsResumingWith (λ i. free_items J i (heard i))
+    (awaited T.scenario (reply_in T) J heard) T P first J heard
+
+-- nobody was ready, and a message was heard that wasn't taken: the oldest reply that was kept,
+-- which is a success, or a message of a link
+pub record IsMet (T : Setting) (P : Plan) (first J : List Entry) (heard : Counts)
+    (log : List LogEntry) (s : ℕ) (m : Message) (D : CrewState)
+    (sims : List (Option Simulator)) : Type 0 where
+  pub before : List LogEntry
+  pub entries : List LogEntry
+  pub parts : log ≡ before ++ entries
+  pub crew : CrewState
+  pub resuming : IsResuming T P first J heard before crew sims
+  pub nobody : SomeReady P J → ⊥
+  pub met : IsHeard entries s m crew D
+  pub fit : (k : Arrival) (more : List Arrival) → crew.kept ≡ k ∷ more → IsFitSuccess m
+
+-- one simulator has this, the others have what they had
+abbrev pub put : {X : Type 0} → (ℕ → X) → ℕ → X → ℕ → X
+put f s x i = if i == s then x else f i
+
+-- simulator s was sent what is free to it, and what is awaited of it then is kept; the others stand
+-- as before
+abbrev pub IsPassed : (ℕ → List Item) → (ℕ → List Message) → Setting → Plan → List Entry
+    → List Entry → Counts → List LogEntry → ℕ → CrewSeen → Type 0
+IsPassed queued awaits T P first J heard log s C = IsResumingWith
+    (put queued s (free_items J s (heard s)))
+    (put awaits s (awaited T.scenario (reply_in T) J heard s)) T P first J heard log (crew_of C)
+    C.sims
+
+-- simulator s has sent its messages so far, all that it was sent was answered, and its entries
+-- before this place were gone through; what was sent to each is a beginning of what is free to it;
+-- where it runs within the program a message has come since each rest
+pub record IsPassing (queued : ℕ → List Item) (awaits : ℕ → List Message) (T : Setting) (P : Plan)
+    (first J : List Entry) (heard : Counts) (log : List LogEntry) (s from : ℕ) : Type 0 where
+  pub gone : IsGoneTo J s (heard s) from
+  pub was_sent : sent gone.gone s ≡ queued s
+  pub answered : length (queued s) ≡ heard s
+  pub none : awaits s ≡ []
+  pub firsts : (i : ℕ) → BeginsWith (free_items J i (heard i)) (queued i)
+  pub over : is_within T.scenario s ≡ true
+      → RestsOver (saved_of first) T.started T.scenario T.replies P J log
+
+-- simulator i, which has sent n messages in this call, stands there; or it has caught up
+abbrev pub StandsAt : Plan → List Entry → ℕ → ℕ → Option Standing → Type 0
+StandsAt P J i n None = n ≡ length (got J i)
+StandsAt P J i n (Some c) = IsNextAt J i n (Some c.place)
+    × (own_count i (take (c.place + 1) J) ≡ c.gone) × (c.id ≡ id_after (first_id P i) (free_items J i n))
+
+-- what is kept of all simulators, and an index of a beginning of the journal
+pub record BehindSeen : Type 0 where
+  pub index : Indexed
+  pub sims : List (Option Standing)
+
+-- the index is one for so many simulators, of a beginning of J
+pub record IsIndexed (P : Plan) (J : List Entry) (index : Indexed) : Type 0 where
+  pub sims : length index.own ≡ sim_count P
+  pub part : List Entry
+  pub is : IsIndexOf part index
+  pub begins : BeginsWith J part
+
+-- each simulator stands where it is said
+pub record AreBehind (P : Plan) (J : List Entry) (heard : Counts)
+    (behind : BehindSeen) : Type 0 where
+  pub indexed : IsIndexed P J behind.index
+  pub sims : length behind.sims ≡ sim_count P
+  pub each : (i : ℕ) (o : Option Standing) → slice_get behind.sims i ≡ Some o
+      → StandsAt P J i (heard i) o

@@ -1,0 +1,6 @@
+pub mod Alternating
+pub mod Fronts
+pub mod GoingOn
+pub mod Indexing
+pub mod Passing
+pub mod UpTo

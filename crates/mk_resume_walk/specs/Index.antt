@@ -1,0 +1,25 @@
+-- The index of a journal: where each simulator's entries stand.
+use Rattle.std.specs.Prelude.{◌≡◌, ℕ, suc, List, [], ◌∷◌, length, filter, Some, slice_get, if◌then◌else◌}
+use Rattle.mk_plan.specs.declared.Entry.{Entry}
+use Rattle.mk_resume_walk.specs.Walks.{is_of}
+
+-- the places of simulator i's entries, where the first of all entries stands at `first`
+abbrev pub places_from : ℕ → ℕ → List Entry → List ℕ
+places_from i first [] = []
+places_from i first (e ∷ J) = if is_of i e then first ∷ places_from i (suc first) J
+    else places_from i (suc first) J
+
+-- how many of the entries are simulator i's
+abbrev pub own_count : ℕ → List Entry → ℕ
+own_count i J = length (filter (is_of i) J)
+
+-- how many entries an index has, and the places of each simulator's among them
+pub record Indexed : Type 0 where
+  pub own : List (List ℕ)
+  pub count : ℕ
+
+-- these entries are those of the journal
+pub record IsIndexOf (J : List Entry) (index : Indexed) : Type 0 where
+  pub count : index.count ≡ length J
+  pub own : (i : ℕ) (places : List ℕ) → slice_get index.own i ≡ Some places
+      → places ≡ places_from i 0 J
