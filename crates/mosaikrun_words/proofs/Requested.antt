@@ -1,21 +1,22 @@
 -- The request that is found is what the words are, and what they are is found.
-use Rattle.std.proofs.Common.{◌≡◌, ◌↔◌, ℕ, true, false, cond, List, [], ◌∷◌, Option, Some, None, option_map, option_and_then, refl, sym, ap, ◌∙◌, subst, codes, true≢false, inl, inr}
+use Rattle.std.proofs.Common.{◌≡◌, ◌↔◌, ◌&&◌, Bool, ℕ, true, false, cond, List, [], ◌∷◌, Option, Some, None, option_map, option_and_then, refl, sym, ap, ◌∙◌, subst, codes, true≢false, inl, inr}
 use Rattle.std.proofs.lemmas.Slice.Eq.{bytes_eq-Decides}
 use Rattle.mk_base.specs.Lists.{IsIn, same_text}
 use Rattle.mosaikrun_words.specs.declared.reading.Found.{Found}
 use Rattle.mosaikrun_words.specs.declared.reading.Two.{Two}
+use Rattle.mosaikrun_words.specs.declared.reading.TwoFound.{TwoFound}
 use Rattle.mosaikrun_words.specs.declared.request.Command.{Command}
 use Rattle.mosaikrun_words.specs.declared.request.Command.TheVariants as command
 use Rattle.mosaikrun_words.specs.declared.request.Request.{Request}
 use Rattle.mosaikrun_words.specs.declared.request.PairCommand.{PairCommand}
 use Rattle.mosaikrun_words.specs.declared.request.PairCommand.TheVariants.{Migrate, Watch, Blame}
 use Rattle.mosaikrun_words.specs.declared.request.FileCommand.TheVariants.{Replay, Check, Pair}
-use Rattle.mosaikrun_words.specs.declared.request.Request.TheVariants.{Files, Run, Demo}
+use Rattle.mosaikrun_words.specs.declared.request.Request.TheVariants.{Files, Run, Resume, Demo}
 use Rattle.mosaikrun_words.specs.declared.words.TheConstants.{COMMANDS}
-use Rattle.mosaikrun_words.specs.inner.Arranged.{check_of, command_of, demo_of, number_in, one_word, only_word, pair_of, replay_in, replay_of, request_among, request_by, request_of, run_of, two_words, word_of}
-use Rattle.mosaikrun_words.specs.Requests.{IsNumberGiven, IsRequest, IsSpelled, if_given, is_check, is_demo, is_pair, is_replay, is_run, missing, pair_word, there}
+use Rattle.mosaikrun_words.specs.inner.Arranged.{check_of, command_of, demo_of, have_words, number_in, one_word, only_word, pair_of, replay_in, replay_of, request_among, request_by, request_of, resume_of, run_of, two_and_option, two_words, word_of}
+use Rattle.mosaikrun_words.specs.Requests.{IsNumberGiven, IsRequest, IsSpelled, if_given, is_check, is_demo, is_pair, is_replay, is_resume, is_run, missing, pair_word, there}
 use Rattle.mosaikrun_words.specs.Words.{Text, is_value}
-use Rattle.mosaikrun_words.proofs.Spelled.{IsFound, found_is, found_of, number_from, number_is, only_is, only_of, same_self, two_is, two_of}
+use Rattle.mosaikrun_words.proofs.Spelled.{IsFound, found_is, found_of, found_two_is, found_two_of, number_from, number_is, only_is, only_of, two_is, two_of}
 
 -- a request and the word of its command before the rest
 abbrev IsRest : Command → List Text → Request → Type 0
@@ -37,6 +38,16 @@ run_right rest R e = by (one_word (codes "record") rest) refl e
     by (Some f) is h =
         let same : Run f.word f.value ≡ R = cc in
         subst (IsRest command.Run rest) same (refl, is_run f.word f.value (spelled_by (codes "run") (codes "record") rest f (found_is (codes "record") rest f is)))
+
+resume_right : (rest : List Text) (R : Request) → resume_of rest ≡ Some R → IsRest command.Resume rest R
+resume_right rest R e = by (two_and_option (codes "record") rest) refl e
+  where
+    by : (o : Option TwoFound) → two_and_option (codes "record") rest ≡ o → option_map (λ (f : TwoFound). Resume f.first f.second f.value) o ≡ Some R → IsRest command.Resume rest R
+    by None is h = cc
+    by (Some f) is h =
+        let same : Resume f.first f.second f.value ≡ R = cc in
+        let found = found_two_is (codes "record") rest f is in
+        subst (IsRest command.Resume rest) same (refl, is_resume f.first f.second f.value (record { rest = rest; is = refl; spelled = found.spelled; plain_values = (found.first, (found.second, tt)); given_values = found.value }))
 
 replay_right : (rest : List Text) (R : Request) → replay_of rest ≡ Some R → IsRest command.Replay rest R
 replay_right rest R e = by (one_word (codes "order") rest) refl e
@@ -106,16 +117,25 @@ right command.Run = run_right
 right command.Replay = replay_right
 right command.Check = check_right
 right command.Demo = demo_right
+right command.Resume = resume_right
 right (command.Pair c) = pair_right c
 
-among_right : (commands : List Command) (word : Text) (rest : List Text) (R : Request) → request_among commands word rest ≡ Some R → IsRequest (word ∷ rest) R
-among_right [] word rest R e = cc
-among_right (c ∷ commands) word rest R e = elim (same_text word (word_of c)) as (λ b. same_text word (word_of c) ≡ b → cond b (request_by c rest) (request_among commands word rest) ≡ Some R → IsRequest (word ∷ rest) R) [
+both_true : (a b : Bool) → (a && b) ≡ true → (a ≡ true) × (b ≡ true)
+both_true true b e = (refl, e)
+both_true false b e = cc
+
+among_right : {A : Type 0} (read : A → Text) (commands : List (A × Command)) (word : Text) (rest : List Text) (R : Request) → have_words read commands ≡ true → request_among read commands word rest ≡ Some R → IsRequest (word ∷ rest) R
+among_right read [] word rest R all e = cc
+among_right read (t ∷ commands) word rest R all e = elim (same_text word (read t.0)) as (λ b. same_text word (read t.0) ≡ b → cond b (request_by t.1 rest) (request_among read commands word rest) ≡ Some R → IsRequest (word ∷ rest) R) [
   | true ↦ λ h k.
-      let t = right c rest R k in
-      subst (λ (w : Text). IsRequest (w ∷ rest) R) (sym ((bytes_eq-Decides word (word_of c)).0 h)) t.1
-  | false ↦ λ h k. among_right commands word rest R k
+      let r = right t.1 rest R k in
+      let is : word ≡ word_of t.1 = (bytes_eq-Decides word (read t.0)).0 h ∙ (bytes_eq-Decides (read t.0) (word_of t.1)).0 both.0 in
+      subst (λ (w : Text). IsRequest (w ∷ rest) R) (sym is) r.1
+  | false ↦ λ h k. among_right read commands word rest R both.1 k
 ] refl e
+  where
+    both : (same_text (read t.0) (word_of t.1) ≡ true) × (have_words read commands ≡ true)
+    both = both_true (same_text (read t.0) (word_of t.1)) (have_words read commands) all
 
 -- what is right is found
 
@@ -136,6 +156,11 @@ two_rest word a b words s = elim s.spelled [ inl e ↦ ap two_words e ∙ two_of
 
 found_by : (words : List Text) (R : Request) → IsRequest words R → IsFoundBy words R
 found_by words _ (is_run s f spelled) = record { rest = spelled.rest; is = spelled.is; found = ap (option_map (λ (x : Found). Run x.word x.value)) (found_one (codes "run") (codes "record") s f words spelled) }
+found_by words _ (is_resume s r f spelled) = record {
+  rest = spelled.rest;
+  is = spelled.is;
+  found = ap (option_map (λ (x : TwoFound). Resume x.first x.second x.value)) (found_two_of (codes "record") spelled.rest (record { first = s; second = r; value = f }) (record { spelled = spelled.spelled; first = spelled.plain_values.0; second = spelled.plain_values.1.0; value = spelled.given_values }));
+}
 found_by words _ (is_replay r t n spelled given) = record { rest = spelled.rest; is = spelled.is; found = ap (option_and_then (λ (x : Found). replay_in x.word x.value)) (found_one (codes "replay") (codes "order") r t words spelled) ∙ ordered t n given }
   where
     ordered : (t : Option Text) (n : Option ℕ) → IsNumberGiven 0 4294967295 t n → replay_in r t ≡ Some (Files (Replay r n))
@@ -145,53 +170,25 @@ found_by words _ (is_check s spelled) = record { rest = spelled.rest; is = spell
 found_by words _ (is_demo t n spelled number) = record { rest = spelled.rest; is = spelled.is; found = ap (λ (o : Option Text). option_map Demo (option_and_then (number_in 1 100) o)) (only_rest (codes "demo") t words spelled) ∙ ap (option_map Demo) (number_from 1 100 t n number) }
 found_by words _ (is_pair c a b spelled) = record { rest = spelled.rest; is = spelled.is; found = ap (option_map (λ (t : Two). Files (Pair c t.first t.second))) (two_rest (pair_word c) a b words spelled) }
 
--- commands by their words
-abbrev command_named : Text → Option Command
-command_named w = cond (same_text w (codes "run")) (Some command.Run) (cond (same_text w (codes "replay")) (Some command.Replay) (cond (same_text w (codes "check")) (Some command.Check) (cond (same_text w (codes "demo")) (Some command.Demo) (cond (same_text w (codes "migrate")) (Some (command.Pair Migrate)) (cond (same_text w (codes "watch")) (Some (command.Pair Watch)) (Some (command.Pair Blame)))))))
-
-named : (c : Command) → command_named (word_of c) ≡ Some c
-named command.Run = refl
-named command.Replay = refl
-named command.Check = refl
-named command.Demo = refl
-named (command.Pair Migrate) = refl
-named (command.Pair Watch) = refl
-named (command.Pair Blame) = refl
-
--- all commands are in the list
-all_there : (c : Command) → IsIn c COMMANDS
-all_there command.Run = inl refl
-all_there command.Replay = inr (inl refl)
-all_there command.Check = inr (inr (inl refl))
-all_there command.Demo = inr (inr (inr (inl refl)))
-all_there (command.Pair Migrate) = inr (inr (inr (inr (inl refl))))
-all_there (command.Pair Watch) = inr (inr (inr (inr (inr (inl refl)))))
-all_there (command.Pair Blame) = inr (inr (inr (inr (inr (inr (inl refl))))))
-
-same_command : (c d : Command) → word_of c ≡ word_of d → c ≡ d
-same_command c d e = let s : Some c ≡ Some d = sym (named c) ∙ ap command_named e ∙ named d in let same : c ≡ d = cc in same
-
-among_found : (commands : List Command) (c : Command) (rest : List Text) → IsIn c commands → request_among commands (word_of c) rest ≡ request_by c rest
-among_found [] c rest e = absurd e
-among_found (d ∷ commands) c rest here = elim (same_text (word_of c) (word_of d)) as (λ b. same_text (word_of c) (word_of d) ≡ b → cond b (request_by d rest) (request_among commands (word_of c) rest) ≡ request_by c rest) [
-  | true ↦ λ h. ap (λ (k : Command). request_by k rest) (sym (same_command c d ((bytes_eq-Decides (word_of c) (word_of d)).0 h)))
-  | false ↦ λ h. elim here [
-    | inl e ↦ absurd (true≢false (sym (same_self_of d c e) ∙ h))
-    | inr more ↦ among_found commands c rest more
-  ]
-] refl
-  where
-    same_self_of : (d c : Command) → c ≡ d → same_text (word_of c) (word_of d) ≡ true
-    same_self_of d c e = ap (λ (k : Command). same_text (word_of c) (word_of k)) (sym e) ∙ same_self (word_of c)
+-- a command's word finds the command
+found_there : (c : Command) (rest : List Text) → request_among (λ name. name.now) COMMANDS (word_of c) rest ≡ request_by c rest
+found_there command.Run rest = refl
+found_there command.Replay rest = refl
+found_there command.Check rest = refl
+found_there command.Demo rest = refl
+found_there command.Resume rest = refl
+found_there (command.Pair Migrate) rest = refl
+found_there (command.Pair Watch) rest = refl
+found_there (command.Pair Blame) rest = refl
 
 pub requested : (words : List Text) (R : Request) → (request_of words ≡ Some R) ↔ IsRequest words R
 requested words R = (from words, to)
   where
     from : (words : List Text) → request_of words ≡ Some R → IsRequest words R
     from [] e = cc
-    from (word ∷ rest) e = among_right COMMANDS word rest R e
+    from (word ∷ rest) e = among_right (λ name. name.now) COMMANDS word rest R refl e
 
     to : IsRequest words R → request_of words ≡ Some R
     to is =
         let f = found_by words R is in
-        ap request_of f.is ∙ among_found COMMANDS (command_of R) f.rest (all_there (command_of R)) ∙ f.found
+        ap request_of f.is ∙ found_there (command_of R) f.rest ∙ f.found

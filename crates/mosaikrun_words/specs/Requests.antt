@@ -5,7 +5,7 @@ use Rattle.mosaikrun_words.specs.declared.request.PairCommand.{PairCommand}
 use Rattle.mosaikrun_words.specs.declared.request.PairCommand.TheVariants.{Migrate, Watch, Blame}
 use Rattle.mosaikrun_words.specs.declared.request.FileCommand.TheVariants.{Replay, Check, Pair}
 use Rattle.mosaikrun_words.specs.declared.request.Request.{Request}
-use Rattle.mosaikrun_words.specs.declared.request.Request.TheVariants.{Files, Run, Demo}
+use Rattle.mosaikrun_words.specs.declared.request.Request.TheVariants.{Files, Run, Resume, Demo}
 use Rattle.mosaikrun_words.specs.Numbers.{IsNumber}
 use Rattle.mosaikrun_words.specs.Words.{Text, Given, is_value, spellings}
 
@@ -41,6 +41,9 @@ pub data IsRequest (words : List Text) : Request → Type 0 where
   is_run : (s : Text) (f : Option Text)
       → IsSpelled (codes "run") (s ∷ []) (if_given (codes "record") f) words
       → IsRequest words (Run s f)
+  is_resume : (s r : Text) (f : Option Text)
+      → IsSpelled (codes "resume") (s ∷ r ∷ []) (if_given (codes "record") f) words
+      → IsRequest words (Resume s r f)
   is_replay : (r : Text) (t : Option Text) (n : Option ℕ)
       → IsSpelled (codes "replay") (r ∷ []) (if_given (codes "order") t) words
       → IsNumberGiven 0 4294967295 t n → IsRequest words (Files (Replay r n))

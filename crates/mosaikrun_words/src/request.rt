@@ -1,7 +1,7 @@
 // What the command line asks for.
 use mk_base::Text;
 
-/// What the words ask for: a command on files, a run, or the demo.
+/// What the words ask for: a command on files, a run, one that goes on, or the demo.
 #[derive(Drop)]
 pub enum Request {
     /// Reads files, and prints or saves what it makes of them.
@@ -10,6 +10,13 @@ pub enum Request {
     Run {
         scenario: Text,
         record: Option<Text>,
+    },
+    /// Goes on with a run of the scenario of this file from the record of this one, and saves the record of the whole run under the
+    /// third name, where one is given.
+    Resume {
+        scenario: Text,
+        record: Text,
+        save: Option<Text>,
     },
     /// Runs the demo scenario of this size, from 1 to 100.
     Demo {
@@ -55,6 +62,7 @@ pub enum Command {
     Replay,
     Check,
     Demo,
+    Resume,
     Pair(PairCommand),
 }
 

@@ -1,26 +1,27 @@
 // From words to a request: the crate's call.
 ghost use Rattle.std.specs.Prelude.{◌≡◌, ◌↔◌, IfOk, Some, map};
 ghost use Rattle.std.specs.String.{string_bytes};
-ghost use Rattle.mosaikrun_words.specs.inner.Arranged.{check_of, demo_of, pair_of, replay_in, replay_of, request_among, request_by, request_of, run_of, word_of};
-ghost use Rattle.mosaikrun_words.specs.Requests.{IsRequest, pair_word};
+ghost use Rattle.mosaikrun_words.specs.inner.Arranged.{check_of, demo_of, pair_of, replay_in, replay_of, request_among, request_by, request_of, resume_of, run_of};
+ghost use Rattle.mosaikrun_words.specs.Requests.{IsRequest};
 ghost use Rattle.mosaikrun_words.specs.declared.request.Request.{Request};
 
-use crate::arranged::{one_word, only_word, two_words};
+use crate::arranged::{one_word, only_word, two_and_option, two_words};
 use crate::number::number_in;
-use crate::reading::{Found, Two};
+use crate::reading::{Found, Two, TwoFound};
 use crate::request::{Command, FileCommand, OptionName, PairCommand, Request};
 use mk_base::{Mem, Text};
 use std::alloc::Global;
 
-// The commands.
-const COMMANDS: [Command; 7] = [
-    Command::Run,
-    Command::Replay,
-    Command::Check,
-    Command::Demo,
-    Command::Pair(PairCommand::Migrate),
-    Command::Pair(PairCommand::Watch),
-    Command::Pair(PairCommand::Blame),
+// The commands, each with its word.
+const COMMANDS: [(&str, Command); 8] = [
+    ("run", Command::Run),
+    ("replay", Command::Replay),
+    ("check", Command::Check),
+    ("demo", Command::Demo),
+    ("migrate", Command::Pair(PairCommand::Migrate)),
+    ("resume", Command::Resume),
+    ("watch", Command::Pair(PairCommand::Watch)),
+    ("blame", Command::Pair(PairCommand::Blame)),
 ];
 
 /// The request that the words are; `None` where they are none. The words are those after the program's name: the command, its
@@ -44,41 +45,19 @@ fn request_of(alloc: Global, words: &[String]) -> Result<Option<Request>, Mem>
 // The request of the first of these commands whose word it is.
 fn request_among(
     alloc: Global,
-    commands: &[Command],
+    commands: &[(&str, Command)],
     word: &str,
     rest: &[String],
 ) -> Result<Option<Request>, Mem>
     ensures { IfOk result (λ found. found
-        ≡ request_among commands.now word.now (map string_bytes rest.now)) }
+        ≡ request_among (λ name. name.now) commands.now word.now (map string_bytes rest.now)) }
 {
-    for command in commands {
-        if word == word_of(*command) {
+    for (name, command) in commands {
+        if word == *name {
             return request_by(alloc, *command, rest);
         }
     }
     Ok(None)
-}
-
-fn word_of(command: Command) -> &'static str
-    ensures { result.now ≡ word_of command }
-{
-    match command {
-        Command::Run => "run",
-        Command::Replay => "replay",
-        Command::Check => "check",
-        Command::Demo => "demo",
-        Command::Pair(command) => pair_word(command),
-    }
-}
-
-fn pair_word(command: PairCommand) -> &'static str
-    ensures { result.now ≡ pair_word command }
-{
-    match command {
-        PairCommand::Migrate => "migrate",
-        PairCommand::Watch => "watch",
-        PairCommand::Blame => "blame",
-    }
 }
 
 // The request of a command, by the words after it.
@@ -90,6 +69,7 @@ fn request_by(alloc: Global, command: Command, rest: &[String]) -> Result<Option
         Command::Replay => replay_of(alloc, rest),
         Command::Check => check_of(alloc, rest),
         Command::Demo => demo_of(alloc, rest),
+        Command::Resume => resume_of(alloc, rest),
         Command::Pair(command) => pair_of(alloc, command, rest),
     }
 }
@@ -101,6 +81,25 @@ fn run_of(alloc: Global, rest: &[String]) -> Result<Option<Request>, Mem>
         Some(Found { word, value }) => Ok(Some(Request::Run {
             scenario: word,
             record: value,
+        })),
+        None => Ok(None),
+    }
+}
+
+fn resume_of(alloc: Global, rest: &[String]) -> Result<Option<Request>, Mem>
+    ensures { IfOk result (λ found. found ≡ resume_of (map string_bytes rest.now)) }
+{
+    match two_and_option(alloc, OptionName::Record, rest)? {
+        Some(
+            TwoFound {
+                first,
+                second,
+                value,
+            },
+        ) => Ok(Some(Request::Resume {
+            scenario: first,
+            record: second,
+            save: value,
         })),
         None => Ok(None),
     }
