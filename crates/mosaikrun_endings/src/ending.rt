@@ -44,6 +44,8 @@ pub enum Ending {
     /// The record is of another plan than the one that it is compared with: this part of it, counted from 1, is the first that
     /// differs.
     OtherPlan { part: u8 },
+    /// A simulator's message of this number, counted from 0 after its handshake, isn't the record's.
+    OtherMessage { sim: Text, place: u64 },
     /// The links to the simulators failed.
     Fleet,
     /// The folder failed.
@@ -84,7 +86,7 @@ impl Ending {
             Ending::Setup(_) => 4,
             Ending::Wrong { .. } | Ending::Failed { .. } | Ending::LoopLimit { .. } => 5,
             Ending::Link { .. } | Ending::Short { .. } | Ending::Differs { .. } => 5,
-            Ending::OtherPlan { .. } => 5,
+            Ending::OtherPlan { .. } | Ending::OtherMessage { .. } => 5,
             Ending::Fleet | Ending::Folder | Ending::Output => 6,
             Ending::Entries { .. } | Ending::LongItem { .. } => 7,
             Ending::Mem => 8,

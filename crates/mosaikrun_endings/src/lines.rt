@@ -36,7 +36,7 @@ impl Ending {
         match self {
             Ending::Usage => put(
                 out,
-                "usage: run SCENARIO [--record FILE] or replay RECORD [--order N] or check SCENARIO or demo N or migrate OLD NEW or watch RECORD SPEC or blame FIRST SECOND",
+                "usage: run SCENARIO [--record FILE] or replay RECORD [--order N] or check SCENARIO or demo N or migrate OLD NEW or resume SCENARIO RECORD [--record FILE] or watch RECORD SPEC or blame FIRST SECOND",
             ),
             Ending::Missing { name } => put_missing(out, name),
             Ending::TooLong { name, count } => put_too_long(alloc, out, name, *count),
@@ -67,6 +67,7 @@ impl Ending {
                 u32::from(*part),
                 ")",
             ),
+            Ending::OtherMessage { sim, place } => put_other_message(alloc, out, sim, *place),
             Ending::Fleet => put(out, "outside: fleet"),
             Ending::Folder => put(out, "outside: folder"),
             Ending::Output => put(out, "outside: output"),
@@ -200,6 +201,24 @@ fn put_wrong(
     put_number(alloc, out, place)?;
     put(out, " cause ")?;
     put_number(alloc, out, cause as u64)
+}
+
+// Puts into an empty text what is said of a message that isn't the record's.
+fn put_other_message(
+    alloc: Global,
+    out: &mut Vec<u8>,
+    sim: &Text,
+    place: u64,
+) -> Result<(), AllocError>
+    requires { out.old.items ≡ [] }
+    ensures { OnOk result (out.new.items ≡ codes "run 11: " ++ sim.now ++ codes " message "
+        ++ decimal place ++ codes " differs") }
+{
+    put(out, "run 11: ")?;
+    put(out, sim.as_str())?;
+    put(out, " message ")?;
+    put_number(alloc, out, place)?;
+    put(out, " differs")
 }
 
 // Puts into an empty text these words, and a text behind them.

@@ -22,8 +22,7 @@ use Rattle.mk_run.specs.Ran.{RunsAs, HasRun}
 use Rattle.mosaikrun_endings.specs.declared.ending.Ending.{Ending}
 use Rattle.mosaikrun_endings.specs.declared.ending.Ending.TheVariants as ends
 use Rattle.mosaikrun_sayings.specs.Sayings.{ids_of}
-use Rattle.mosaikrun_run.specs.Sayings.{halt_ending, record_of, saying_of}
-use Rattle.mosaikrun_run.specs.inner.Sayings.{IsHalt}
+use Rattle.mosaikrun_run.specs.Sayings.{IsHalt, halt_ending, record_of, saying_of}
 use Rattle.mosaikrun_run.specs.declared.sayings.Form.{Form}
 use Rattle.mosaikrun_run.specs.declared.sayings.Form.TheVariants.{Report}
 use Rattle.mosaikrun_run.specs.Outcomes.{IsIdle, IsReadAgain, IsRunOutcome, IsSaid, IsScenarioOutcome, Outside}

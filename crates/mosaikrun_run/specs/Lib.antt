@@ -2,4 +2,3 @@ pub mod Laws
 pub mod Outcomes
 pub mod Records
 pub mod Sayings
-pub mod inner

@@ -60,6 +60,7 @@ IsRunFault (ends.Link sim fault) = ⊥
 IsRunFault (ends.Short outstanding) = ⊥
 IsRunFault (ends.Differs entry) = ⊥
 IsRunFault (ends.OtherPlan part) = ⊥
+IsRunFault (ends.OtherMessage sim place) = ⊥
 IsRunFault ends.Fleet = ⊥
 IsRunFault ends.Folder = ⊥
 IsRunFault ends.Output = ⊥

@@ -1,5 +1,5 @@
 -- What is said of how a run ended.
-use Rattle.std.specs.Prelude.{ℕ, Bool, true, false, List, Option, Some, None, Result, Ok, Err}
+use Rattle.std.specs.Prelude.{◌≡◌, ℕ, Bool, true, false, List, Option, Some, None, Result, Ok, Err}
 use Rattle.mk_plan.specs.declared.Plan.{Plan}
 use Rattle.mk_plan.specs.declared.Entry.{Entry}
 use Rattle.mk_plan.specs.Journals.{sent}
@@ -12,6 +12,7 @@ use Rattle.mk_run_crew.specs.declared.halt.Halt.{Halt}
 use Rattle.mk_run_crew.specs.declared.halt.Halt.TheVariants as halt
 use Rattle.mk_run.specs.declared.outcome.Outcome.{Outcome}
 use Rattle.mk_run.specs.declared.outcome.Outcome.TheVariants as outcome
+use Rattle.mk_run.specs.Outcomes.{outcome_of}
 use Rattle.mosaikrun_endings.specs.declared.links.LinkFault.TheVariants.{Closed, Garbled, LongFrame}
 use Rattle.mosaikrun_endings.specs.declared.ending.Ending.{Ending}
 use Rattle.mosaikrun_endings.specs.declared.ending.Ending.TheVariants as ends
@@ -27,6 +28,10 @@ halt_ending ids (halt.Garbled sim test) = ends.Link (id_in ids sim) (Garbled tes
 halt_ending ids (halt.LongFrame sim n) = ends.Link (id_in ids sim) (LongFrame n)
 halt_ending ids (halt.LongItem sim n) = ends.LongItem (id_in ids sim) n
 halt_ending ids halt.Mem = ends.Mem
+
+-- the outcome is that of a halt
+abbrev pub IsHalt : Outcome → Type 0
+IsHalt end = (h : Halt) × (end ≡ outcome_of h)
 
 -- the text of what each simulator was sent, in this form
 abbrev pub text_of : Form → Plan → (ℕ → List Item) → List ℕ

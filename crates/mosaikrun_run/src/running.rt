@@ -18,8 +18,7 @@ ghost use Rattle.mk_record.specs.Writable.{is_writable};
 ghost use Rattle.mk_run_crew.specs.declared.halt.Halt.{Halt};
 ghost use Rattle.mk_run.specs.Outcomes.{outcome_of};
 ghost use Rattle.mosaikrun_sayings.specs.Sayings.{ids_of};
-ghost use Rattle.mosaikrun_run.specs.Sayings.{halt_ending, record_of, saying_of};
-ghost use Rattle.mosaikrun_run.specs.inner.Sayings.{IsHalt};
+ghost use Rattle.mosaikrun_run.specs.Sayings.{IsHalt, halt_ending, record_of, saying_of};
 ghost use Rattle.mosaikrun_run.specs.Outcomes.{IsReadAgain, IsScenarioOutcome, IsRunOutcome, IsSaid, outside};
 ghost use Rattle.mosaikrun_endings.specs.declared.ending.Ending.TheVariants as ends;
 
@@ -131,15 +130,15 @@ pub fn played<F: Fleet, R: Wait>(
     }
 }
 
-// The ranks of a scenario that can be run, and the ids of its simulators.
+/// The ranks of a scenario that can be run, and the ids of its simulators.
 #[derive(Drop)]
-struct Accepted {
-    ranks: List<u32>,
-    ids: List<Text>,
+pub struct Accepted {
+    pub ranks: List<u32>,
+    pub ids: List<Text>,
 }
 
-// The ranks and ids of a scenario's simulators, or why it can't be run.
-fn accept(alloc: Global, kinds: &Registry, scenario: &Scenario) -> Result<Accepted, Ending>
+/// The ranks and ids of a scenario's simulators, those within the program being of these kinds; or why it can't be run.
+pub fn accept(alloc: Global, kinds: &Registry, scenario: &Scenario) -> Result<Accepted, Ending>
     requires { IsWellformed scenario.now }
     ensures runnable { IfOk result
         (λ a. IsRunnable (map name_of (rows_in kinds.now)) scenario.now a.ranks) }
@@ -197,8 +196,8 @@ fn play<F: Fleet, R: Wait>(
     }
 }
 
-// What is said of a run that had no plan, or that memory is wanting.
-fn unrun(alloc: Global, ids: &List<Text>, outcome: Outcome) -> Ending
+/// What is said of a run that had no plan, or that memory is wanting.
+pub fn unrun(alloc: Global, ids: &List<Text>, outcome: Outcome) -> Ending
     requires { IsHalt outcome }
     ensures { (h : Halt) → outcome ≡ outcome_of h
         → IsSaid (Err (halt_ending ids.now h)) (Err result) }
@@ -240,8 +239,8 @@ fn tell(
     }
 }
 
-// The record of the plan and the journal, where one is wanted.
-fn record_of(
+/// The record of the plan and the journal, where one is wanted.
+pub fn record_of(
     alloc: Global,
     plan: &Plan,
     journal: &Journal,

@@ -4,8 +4,7 @@ ghost use Rattle.mk_plan.specs.Journals.{sent};
 ghost use Rattle.mk_run_crew.specs.declared.halt.Halt.{Halt};
 ghost use Rattle.mk_run.specs.Outcomes.{outcome_of};
 ghost use Rattle.mosaikrun_sayings.specs.Sayings.{id_in};
-ghost use Rattle.mosaikrun_run.specs.Sayings.{halt_ending, saying_of, text_of};
-ghost use Rattle.mosaikrun_run.specs.inner.Sayings.{IsHalt};
+ghost use Rattle.mosaikrun_run.specs.Sayings.{IsHalt, halt_ending, saying_of, text_of};
 ghost use Rattle.mosaikrun_run.specs.Outcomes.{IsSaid};
 
 use mk_base::{List, Mem, SimNo, Text};
@@ -72,7 +71,7 @@ fn text_of(alloc: Global, form: Form, plan: &Plan, journal: &Journal) -> Result<
     }
 }
 
-// What is said of a run with a plan and a journal: its text in this form, or why there is none.
+/// What is said of a run with a plan and a journal: its text in this form, or why there is none.
 pub fn saying(
     alloc: Global,
     form: Form,
