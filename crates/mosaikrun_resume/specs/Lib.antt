@@ -1,0 +1,4 @@
+pub mod Laws
+pub mod Outcomes
+pub mod Sayings
+pub mod inner
