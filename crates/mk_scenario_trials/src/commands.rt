@@ -5,10 +5,21 @@ use mosaikrun_words::{FileCommand, PairCommand, Request, read_words};
 use std::alloc::Global;
 use std::test::Fail;
 
-// A request: its command, its names, and its number, which is -1 where there is none.
+// A request: its command, its names, and its number, which is -1 where there is none. Of a run that goes on the number is the length
+// of the third name.
 fn parts(request: &Request) -> (&str, &str, &str, i64) {
     match request {
         Request::Run { scenario, record } => ("run", scenario.as_str(), name_in(record), -1),
+        Request::Resume {
+            scenario,
+            record,
+            save,
+        } => (
+            "resume",
+            scenario.as_str(),
+            record.as_str(),
+            name_in(save).len() as i64,
+        ),
         Request::Demo { size } => ("demo", "", "", i64::from(*size)),
         Request::Files(command) => file_parts(command),
     }
@@ -56,7 +67,7 @@ fn is_asked(alloc: Global, line: &str, want: (&str, &str, &str, i64)) -> Result<
     }
 }
 
-const LINES: [(&str, (&str, &str, &str, i64)); 14] = [
+const LINES: [(&str, (&str, &str, &str, i64)); 20] = [
     ("run a", ("run", "a", "", -1)),
     ("run --record=r a", ("run", "a", "r", -1)),
     ("run --record r a", ("run", "a", "r", -1)),
@@ -73,6 +84,12 @@ const LINES: [(&str, (&str, &str, &str, i64)); 14] = [
     ("migrate a 86400000", ("migrate", "a", "86400000", -1)),
     ("watch a b", ("watch", "a", "b", -1)),
     ("blame b a", ("blame", "b", "a", -1)),
+    ("resume a b", ("resume", "a", "b", 0)),
+    ("resume a b --record r", ("resume", "a", "b", 1)),
+    ("resume a --record rr b", ("resume", "a", "b", 2)),
+    ("resume --record r a b", ("resume", "a", "b", 1)),
+    ("resume --record=rr a b", ("resume", "a", "b", 2)),
+    ("resume a --record=r b", ("resume", "a", "b", 1)),
     ("demo 0000000100", ("demo", "", "", 100)),
 ];
 

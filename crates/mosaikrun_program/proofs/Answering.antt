@@ -1,35 +1,41 @@
 -- What the program's status says, by how it ended.
-use Rattle.std.proofs.Common.{◌≡◌, ℕ, ◌⊎◌, inl, inr, refl, sym, ap, ◌∙◌, subst, arith, List, [], ◌∷◌, map, length, Option, None, Some, Result, Ok, Err}
-use Rattle.std.specs.Prelude.{is_some}
+use Rattle.std.proofs.Common.{◌≡◌, ℕ, ◌⊎◌, inl, inr, refl, sym, ap, ◌∙◌, subst, arith, List, length, Option, None, Some, Result, Ok, Err}
 use Rattle.mk_outside.specs.Folders.{Files}
 use Rattle.mosaikrun_words.specs.declared.request.FileCommand.{FileCommand}
-use Rattle.mosaikrun_words.specs.declared.request.FileCommand.TheVariants.{Replay, Check, Pair}
-use Rattle.mosaikrun_words.specs.declared.request.PairCommand.TheVariants.{Migrate, Watch, Blame}
 use Rattle.mosaikrun_words.specs.declared.request.Request.{Request}
-use Rattle.mosaikrun_words.specs.declared.request.Request.TheVariants.{Files as Reads, Run, Demo}
+use Rattle.mosaikrun_words.specs.declared.request.Request.TheVariants.{Files as Reads}
 use Rattle.mosaikrun_words.proofs.Requested.{requested}
-use Rattle.mk_local.specs.declared.turn.Turn.{Turn}
-use Rattle.mk_local.specs.Kinds.{name_of}
 use Rattle.mosaikrun_endings.specs.declared.ending.Ending.{Ending}
-use Rattle.mosaikrun_endings.specs.declared.ending.Ending.TheVariants.{Usage, Missing, TooLong, Scenario, Watches, Cycle, Launch, Setup, Record, Wrong, Failed, LoopLimit, Link, Short, Differs, OtherPlan, Fleet, Folder, Output, Entries, LongItem, Mem}
+use Rattle.mosaikrun_endings.specs.declared.ending.Ending.TheVariants.{Usage, Missing, TooLong, Scenario, Watches, Cycle, Launch, Setup, Record, Wrong, Failed, LoopLimit, Link, Short, Differs, OtherPlan, OtherMessage, Fleet, Folder, Output, Entries, LongItem, Mem}
 use Rattle.mosaikrun_endings.specs.Endings.{status_of}
-use Rattle.mosaikrun_program.specs.Commands.{IsAsked, IsOutcomeOf, IsUnasked, IsUnreadable, OfOne, OfTwo, target_of}
+use Rattle.mosaikrun_program.specs.Commands.{IsAsked, IsOutcomeOf, IsUnasked, IsUnreadable, saved_name, target_of}
 use Rattle.mosaikrun_program.specs.Answers.{PrintAnswer, SaveAnswer, TextAnswer}
-use Rattle.mosaikrun_program.specs.Around.{Around, FolderSeen, IsCutBy, OutputSeen, RulesSeen}
-use Rattle.mosaikrun_program.specs.Running.{HasRunAs, IsFolderAfter, RunAnswer}
+use Rattle.mosaikrun_program.specs.Around.{Around, FolderSeen, IsCutBy, OutputSeen}
+use Rattle.mosaikrun_program.specs.Running.{IsDoneOver, IsFolderAfter, RunAnswer}
 use Rattle.mosaikrun_program.specs.Program.{Ended, HasPerformed, IsStatusOr, KeepsOthers, status}
-use Rattle.mosaikrun_program.proofs.NeverUsage.{as_not_usage, blame_not_usage, outcome_not_usage, scenario_not_usage, unchecked_not_usage, watch_not_usage}
+use Rattle.mosaikrun_program.proofs.NeverUsage.{as_not_usage}
+use Rattle.mosaikrun_program.proofs.Rows.{row_of, row_over}
 
 -- want of memory may be said of an output that failed
 cut_as_mem : (out : OutputSeen) (e : Ending) → IsCutBy out e → IsCutBy out Mem
 cut_as_mem out e (inl failed) = inr (refl, inl failed.1)
 cut_as_mem out e (inr short) = inr (refl, short.1)
 
--- and of a run
-run_as_mem : (S : Around) (name : Option (List ℕ)) (text : Result (List ℕ) Ending) (kept : Option (List ℕ)) (e : Ending) → RunAnswer S name text kept (Err e) → RunAnswer S name text kept (Err Mem)
-run_as_mem S name (Ok text) kept e (inl unsaved) = inl (unsaved.0, (unsaved.1.0, inr refl), inr refl)
-run_as_mem S name (Ok text) kept e (inr cut) = inr (cut.0, cut.1, cut_as_mem S.output e cut.2)
-run_as_mem S name (Err why) kept e said = (said.0, inr refl, elim said.2 [ inl saved ↦ inl saved | inr unsaved ↦ inr (unsaved.0, inr refl) ])
+-- and of what was done over a fleet
+run_as_mem : (folder : FolderSeen) (out : OutputSeen) (name : Option (List ℕ)) (text : Result (List ℕ) Ending) (kept : Option (List ℕ)) (e : Ending) → RunAnswer folder out name text kept (Err e) → RunAnswer folder out name text kept (Err Mem)
+run_as_mem folder out name (Ok text) kept e (inl unsaved) = inl (unsaved.0, (unsaved.1.0, inr refl, unsaved.1.2), inr refl)
+run_as_mem folder out name (Ok text) kept e (inr cut) = inr (cut.0, cut.1, cut_as_mem out e cut.2)
+run_as_mem folder out name (Err why) kept e said = (said.0, inr refl, elim said.2 [ inl saved ↦ inl saved | inr unsaved ↦ inr (unsaved.0, inr refl, unsaved.2) ])
+
+done_as_mem : (S : Around) (R : Request) (e : Ending) → IsDoneOver S R (Err e) → IsDoneOver S R (Err Mem)
+done_as_mem S R e d = record {
+  read = d.read;
+  held = d.held;
+  text = d.text;
+  kept = d.kept;
+  outcome = d.outcome;
+  ended = run_as_mem S.folder S.output (saved_name R) d.text d.kept e d.ended;
+}
 
 -- and of a text that is printed
 print_as_mem : (out : OutputSeen) (text : Result (List ℕ) Ending) (e : Ending) → PrintAnswer out text (Err e) → PrintAnswer out text (Err Mem)
@@ -55,25 +61,7 @@ performed_as_mem S e (inl made) = inl (record {
   log = made.log;
   faults = made.faults;
 })
-performed_as_mem S e (inr (inl ran)) = inr (inl (record {
-  scenario = ran.scenario;
-  name = ran.name;
-  asked = ran.asked;
-  bytes = ran.bytes;
-  held = ran.held;
-  text = ran.text;
-  kept = ran.kept;
-  outcome = ran.outcome;
-  ended = run_as_mem S ran.name ran.text ran.kept e ran.ended;
-}))
-performed_as_mem S e (inr (inr summed)) = inr (inr (record {
-  size = summed.size;
-  asked = summed.asked;
-  text = summed.text;
-  outcome = summed.outcome;
-  ended = print_as_mem S.output summed.text e summed.ended;
-  unsaved = summed.unsaved;
-}))
+performed_as_mem S e (inr ran) = inr (record { request = ran.request; asked = ran.asked; run = done_as_mem S ran.request e ran.run })
 
 -- want of memory may be said instead
 as_mem : (S : Around) (e : Ending) → Ended S (Err e) → Ended S (Err Mem)
@@ -94,25 +82,6 @@ one_request words R Q a b = let same = sym ((requested words R).1 a) ∙ (reques
 pub one_command : (words : List (List ℕ)) (c d : FileCommand) → IsAsked words (Reads c) → IsAsked words (Reads d) → c ≡ d
 one_command words c d a b = let same = one_request words (Reads c) (Reads d) a b in cc
 
--- no command says that the words are none
-never_of_one : (makes : List ℕ → Result (List ℕ) Ending → Type 0) → ((bytes : List ℕ) → makes bytes (Err Usage) → ⊥) → (read : List (List ℕ)) → OfOne makes read (Err Usage) → ⊥
-never_of_one makes never [] h = h
-never_of_one makes never (bytes ∷ []) h = never bytes h
-never_of_one makes never (bytes ∷ other ∷ more) h = h
-
-never_of_two : (makes : List ℕ → List ℕ → Result (List ℕ) Ending → Type 0) → ((first second : List ℕ) → makes first second (Err Usage) → ⊥) → (read : List (List ℕ)) → OfTwo makes read (Err Usage) → ⊥
-never_of_two makes never [] h = h
-never_of_two makes never (first ∷ []) h = never first [] (h.1 [])
-never_of_two makes never (first ∷ second ∷ []) h = never first second h
-never_of_two makes never (first ∷ second ∷ other ∷ more) h = h
-
-never_usage : (kinds : List Turn) (rules : RulesSeen) (c : FileCommand) (read : List (List ℕ)) → IsOutcomeOf kinds rules c read (Err Usage) → ⊥
-never_usage kinds rules (Replay name order) read h = never_of_one _ (λ bytes u. u) read h
-never_usage kinds rules (Check scenario) read h = never_of_one _ (λ bytes u. unchecked_not_usage (map name_of kinds) bytes Usage u refl) read h
-never_usage kinds rules (Pair Migrate old new) read h = never_of_one _ (λ bytes u. u) read h
-never_usage kinds rules (Pair Watch name spec) read h = never_of_two _ (watch_not_usage rules.names) read h
-never_usage kinds rules (Pair Blame one other) read h = never_of_two _ blame_not_usage read h
-
 -- the status 2 is that of words that are no command
 pub only_usage : (e : Ending) → status_of e ≡ 2 → e ≡ Usage
 only_usage Usage two = refl
@@ -131,6 +100,7 @@ only_usage (Link sim fault) two = absurd (omega (arith, two))
 only_usage (Short outstanding) two = absurd (omega (arith, two))
 only_usage (Differs entry) two = absurd (omega (arith, two))
 only_usage (OtherPlan part) two = absurd (omega (arith, two))
+only_usage (OtherMessage sim place) two = absurd (omega (arith, two))
 only_usage Fleet two = absurd (omega (arith, two))
 only_usage Folder two = absurd (omega (arith, two))
 only_usage Output two = absurd (omega (arith, two))
@@ -156,6 +126,7 @@ is_memory (Link sim fault) = inr (λ wrong. cc)
 is_memory (Short outstanding) = inr (λ wrong. cc)
 is_memory (Differs entry) = inr (λ wrong. cc)
 is_memory (OtherPlan part) = inr (λ wrong. cc)
+is_memory (OtherMessage sim place) = inr (λ wrong. cc)
 is_memory Fleet = inr (λ wrong. cc)
 is_memory Folder = inr (λ wrong. cc)
 is_memory Output = inr (λ wrong. cc)
@@ -195,13 +166,10 @@ misused_two : (words : List (List ℕ)) (e : Ending) → IsUnasked words e → e
 misused_two words e (inl mem) usage R asked = let wrong : Mem ≡ Usage = sym mem ∙ usage in cc
 misused_two words e (inr none) usage R asked = none.1 R asked
 
-answer_not_usage : (S : Around) (name : Option (List ℕ)) (text : Result (List ℕ) Ending) (kept : Option (List ℕ)) (e : Ending) → RunAnswer S name text kept (Err e) → (text ≡ Err Usage → ⊥) → e ≡ Usage → ⊥
-answer_not_usage S name (Ok text) kept e (inl unsaved) not usage = as_not_usage Folder e unsaved.2 (λ wrong. cc) usage
-answer_not_usage S name (Ok text) kept e (inr cut) not usage = cut_not_two S.output e cut.2 usage
-answer_not_usage S name (Err why) kept e said not usage = as_not_usage why e said.1 (λ (w : why ≡ Usage). not (ap Err w)) usage
-
-run_not_usage : (S : Around) (e : Ending) → HasRunAs S (Err e) → e ≡ Usage → ⊥
-run_not_usage S e ran usage = answer_not_usage S ran.name ran.text ran.kept e ran.ended (outcome_not_usage S.outside (is_some ran.name) ran.bytes ran.text ran.kept ran.outcome) usage
+answer_not_usage : (folder : FolderSeen) (out : OutputSeen) (name : Option (List ℕ)) (text : Result (List ℕ) Ending) (kept : Option (List ℕ)) (e : Ending) → RunAnswer folder out name text kept (Err e) → (text ≡ Err Usage → ⊥) → e ≡ Usage → ⊥
+answer_not_usage folder out name (Ok text) kept e (inl unsaved) not usage = as_not_usage Folder e unsaved.2 (λ wrong. cc) usage
+answer_not_usage folder out name (Ok text) kept e (inr cut) not usage = cut_not_two out e cut.2 usage
+answer_not_usage folder out name (Err why) kept e said not usage = as_not_usage why e said.1 (λ (w : why ≡ Usage). not (ap Err w)) usage
 
 print_not_usage : (out : OutputSeen) (text : Result (List ℕ) Ending) (e : Ending) → PrintAnswer out text (Err e) → (text ≡ Err Usage → ⊥) → e ≡ Usage → ⊥
 print_not_usage out (Ok text) e cut not usage = cut_not_two out e cut.1 usage
@@ -217,9 +185,8 @@ text_not_usage S (Some name) text e said not usage = save_not_usage S.folder nam
 
 performed_not_usage : (S : Around) (e : Ending) → HasPerformed S (Err e) → e ≡ Usage → ⊥
 performed_not_usage S e (inl made) usage = text_not_usage S (target_of made.command) made.text e made.ended
-    (λ w. never_usage S.outside.kinds S.rules made.command made.made.read (subst (IsOutcomeOf S.outside.kinds S.rules made.command made.made.read) w made.made.made)) usage
-performed_not_usage S e (inr (inl ran)) usage = run_not_usage S e ran usage
-performed_not_usage S e (inr (inr summed)) usage = print_not_usage S.output summed.text e summed.ended (scenario_not_usage S.outside _ _ _ summed.text _ summed.outcome) usage
+    (λ w. (row_of S.outside.kinds S.rules made.command).never made.made.read (subst (IsOutcomeOf S.outside.kinds S.rules made.command made.made.read) w made.made.made)) usage
+performed_not_usage S e (inr ran) usage = answer_not_usage S.folder S.output (saved_name ran.request) ran.run.text ran.run.kept e ran.run.ended ((row_over S.outside ran.request).never ran.run.read ran.run.text ran.run.kept ran.run.outcome) usage
 
 -- the status 2 comes only where the words ask for nothing
 pub usage_only : (S : Around) (r : Result (Unit {0}) Ending) → Ended S r → status r ≡ 2 → (R : Request) → IsAsked S.words R → ⊥
@@ -231,8 +198,7 @@ usage_only S (Err e) (inr (inr done)) two R asked = performed_not_usage S e done
 -- what was performed was asked for
 performed_asked : (S : Around) (r : Result (Unit {0}) Ending) → HasPerformed S r → (R : Request) × IsAsked S.words R
 performed_asked S r (inl made) = (Reads made.command, made.asked)
-performed_asked S r (inr (inl ran)) = (Run ran.scenario ran.name, ran.asked)
-performed_asked S r (inr (inr summed)) = (Demo summed.size, summed.asked)
+performed_asked S r (inr ran) = (ran.request, ran.asked)
 
 -- and there it comes, but for want of memory
 pub useless_words : (S : Around) (r : Result (Unit {0}) Ending) → Ended S r → ((R : Request) → IsAsked S.words R → ⊥) → IsStatusOr 2 (status r)
@@ -242,29 +208,28 @@ useless_words S (Err e) (inr (inl unread)) none = absurd (none unread.request un
 useless_words S (Err e) (inr (inr performed)) none = let asked = performed_asked S (Err e) performed in absurd (none asked.0 asked.1)
 
 -- all files but that of the record are as before
-folder_after_keeps : (words : List (List ℕ)) (scenario : List ℕ) (name kept : Option (List ℕ)) (old new : Option Files) → IsAsked words (Run scenario name) → IsFolderAfter name kept old new → KeepsOthers words old new
-folder_after_keeps words scenario (Some name) (Some bytes) old new asked saved = inr (name, bytes, inl (scenario, asked), saved)
-folder_after_keeps words scenario (Some name) None old new asked same = inl same
-folder_after_keeps words scenario None kept old new asked same = inl same
+folder_after_keeps : (words : List (List ℕ)) (R : Request) (name kept : Option (List ℕ)) (old new : Option Files) → IsAsked words R → saved_name R ≡ name → IsFolderAfter name kept old new → KeepsOthers words old new
+folder_after_keeps words R (Some name) (Some bytes) old new asked is saved = inr (name, bytes, (R, asked, is), saved)
+folder_after_keeps words R (Some name) None old new asked is same = inl same
+folder_after_keeps words R None kept old new asked is same = inl same
 
-run_keeps : (S : Around) (scenario : List ℕ) (name : Option (List ℕ)) (text : Result (List ℕ) Ending) (kept : Option (List ℕ)) (answer : Result (Unit {0}) Ending) → IsAsked S.words (Run scenario name) → RunAnswer S name text kept answer → KeepsOthers S.words S.folder.files S.folder.files_after
-run_keeps S scenario name (Ok text) kept (Ok done) asked said = folder_after_keeps S.words scenario name kept _ _ asked said.1
-run_keeps S scenario name (Err why) kept (Ok done) asked said = absurd said
-run_keeps S scenario name (Ok text) kept (Err e) asked (inl unsaved) = inl unsaved.1.0
-run_keeps S scenario name (Ok text) kept (Err e) asked (inr cut) = folder_after_keeps S.words scenario name kept _ _ asked cut.1
-run_keeps S scenario name (Err why) kept (Err e) asked said = elim said.2 [ inl saved ↦ folder_after_keeps S.words scenario name kept _ _ asked saved | inr unsaved ↦ inl unsaved.0 ]
+run_keeps : (S : Around) (R : Request) (name : Option (List ℕ)) (text : Result (List ℕ) Ending) (kept : Option (List ℕ)) (answer : Result (Unit {0}) Ending) → IsAsked S.words R → saved_name R ≡ name → RunAnswer S.folder S.output name text kept answer → KeepsOthers S.words S.folder.files S.folder.files_after
+run_keeps S R name (Ok text) kept (Ok done) asked is said = folder_after_keeps S.words R name kept _ _ asked is said.1
+run_keeps S R name (Err why) kept (Ok done) asked is said = absurd said
+run_keeps S R name (Ok text) kept (Err e) asked is (inl unsaved) = inl unsaved.1.0
+run_keeps S R name (Ok text) kept (Err e) asked is (inr cut) = folder_after_keeps S.words R name kept _ _ asked is cut.1
+run_keeps S R name (Err why) kept (Err e) asked is said = elim said.2 [ inl saved ↦ folder_after_keeps S.words R name kept _ _ asked is saved | inr unsaved ↦ inl unsaved.0 ]
 
 made_keeps : (S : Around) (command : FileCommand) (target : Option (List ℕ)) (text : Result (List ℕ) Ending) (answer : Result (Unit {0}) Ending) → IsAsked S.words (Reads command) → target_of command ≡ target → TextAnswer S target text answer → KeepsOthers S.words S.folder.files S.folder.files_after
 made_keeps S command None text answer asked is said = inl said.1
-made_keeps S command (Some name) (Ok text) (Ok done) asked is said = inr (name, text, inr (command, asked, is), said.0)
+made_keeps S command (Some name) (Ok text) (Ok done) asked is said = inr (name, text, (Reads command, asked, is), said.0)
 made_keeps S command (Some name) (Err why) (Ok done) asked is said = absurd said.0
 made_keeps S command (Some name) (Ok text) (Err e) asked is said = inl said.0.0
 made_keeps S command (Some name) (Err why) (Err e) asked is said = inl said.0.0
 
 performed_keeps : (S : Around) (r : Result (Unit {0}) Ending) → HasPerformed S r → KeepsOthers S.words S.folder.files S.folder.files_after
 performed_keeps S r (inl made) = made_keeps S made.command (target_of made.command) made.text r made.asked refl made.ended
-performed_keeps S r (inr (inl ran)) = run_keeps S ran.scenario ran.name ran.text ran.kept r ran.asked ran.ended
-performed_keeps S r (inr (inr summed)) = inl summed.unsaved
+performed_keeps S r (inr ran) = run_keeps S ran.request (saved_name ran.request) ran.run.text ran.run.kept r ran.asked refl ran.run.ended
 
 pub keeps_others : (S : Around) (r : Result (Unit {0}) Ending) → Ended S r → KeepsOthers S.words S.folder.files S.folder.files_after
 keeps_others S (Ok done) performed = performed_keeps S (Ok done) performed

@@ -19,7 +19,7 @@ use Rattle.mk_plan.specs.Journals.{sent}
 use Rattle.mosaikrun_sayings.specs.Sayings.{ids_of}
 use Rattle.mk_run.proofs.Completing.{completes as run_completes}
 use Rattle.mosaikrun_words.specs.declared.request.Request.{Request}
-use Rattle.mosaikrun_words.specs.declared.request.Request.TheVariants.{Files as Reads, Run, Demo}
+use Rattle.mosaikrun_words.specs.declared.request.Request.TheVariants.{Files as Reads, Run}
 use Rattle.mosaikrun_endings.specs.declared.ending.Ending.{Ending}
 use Rattle.mosaikrun_endings.specs.declared.ending.Ending.TheVariants.{Mem}
 use Rattle.mosaikrun_endings.specs.Endings.{status_of}
@@ -31,22 +31,24 @@ use Rattle.mosaikrun_run.specs.Outcomes.{IsRunOutcome, IsScenarioOutcome}
 use Rattle.mosaikrun_run.specs.Sayings.{halt_ending, saying_of, text_of}
 use Rattle.mosaikrun_run.proofs.Telling.{one_scenario}
 use Rattle.mosaikrun_program.specs.Around.{Around}
-use Rattle.mosaikrun_program.specs.Commands.{IsAsked, IsHeld, IsNext, IsStuck, files_of}
+use Rattle.mosaikrun_program.specs.Commands.{IsAccepted, IsAsked, IsHeld, IsNext, IsStuckBy, files_of}
 use Rattle.mosaikrun_program.specs.Complete.{IsFaultlessStudy}
-use Rattle.mosaikrun_program.specs.Program.{Ended, IsStatusOr, status}
-use Rattle.mosaikrun_program.specs.Running.{HasRunAs, RunAnswer}
+use Rattle.mosaikrun_program.specs.Program.{Ended, HasPerformed, IsStatusOr, status}
+use Rattle.mosaikrun_program.specs.Running.{IsDoneOver, RunAnswer}
 use Rattle.mosaikrun_program.proofs.Answering.{cut_status, memory, one_request, unasked_not}
-use Rattle.mosaikrun_program.proofs.Deciding.{IsThere, readable_status}
+use Rattle.mosaikrun_program.proofs.Deciding.{readable_status}
+use Rattle.mosaikrun_program.proofs.Rows.{IsThere}
+use Rattle.mosaikrun_program.proofs.Playing.{WasRun, was_run}
 
 -- the status of a run that has a text
-status_of_text : (C : Around) (name : Option (List ℕ)) (text : Result (List ℕ) Ending) (kept : Option (List ℕ)) (r : Result (Unit {0}) Ending) → RunAnswer C name text kept r → (t : List ℕ) → text ≡ Ok t → IsStatusOr 0 (status r)
+pub status_of_text : (C : Around) (name : Option (List ℕ)) (text : Result (List ℕ) Ending) (kept : Option (List ℕ)) (r : Result (Unit {0}) Ending) → RunAnswer C.folder C.output name text kept r → (t : List ℕ) → text ≡ Ok t → IsStatusOr 0 (status r)
 status_of_text C name (Ok x) kept (Ok done) said t is = inl refl
 status_of_text C name (Ok x) kept (Err e) (inl unsaved) t is = elim unsaved.2 [ inl folder ↦ inr (inl (ap status_of folder)) | inr mem ↦ memory 0 e mem ]
 status_of_text C name (Ok x) kept (Err e) (inr cut) t is = cut_status C.output 0 e cut.2
 status_of_text C name (Err why) kept r said t is = cc
 
 -- the status of a run that has none
-status_of_none : (C : Around) (name : Option (List ℕ)) (text : Result (List ℕ) Ending) (kept : Option (List ℕ)) (r : Result (Unit {0}) Ending) → RunAnswer C name text kept r → (e : Ending) → text ≡ Err e → (wanted : ℕ) → (e ≡ Mem) ⊎ (status_of e ≡ wanted) → IsStatusOr wanted (status r)
+pub status_of_none : (C : Around) (name : Option (List ℕ)) (text : Result (List ℕ) Ending) (kept : Option (List ℕ)) (r : Result (Unit {0}) Ending) → RunAnswer C.folder C.output name text kept r → (e : Ending) → text ≡ Err e → (wanted : ℕ) → (e ≡ Mem) ⊎ (status_of e ≡ wanted) → IsStatusOr wanted (status r)
 status_of_none C name (Ok x) kept r said e is wanted why = cc
 status_of_none C name (Err f) kept (Ok done) said e is wanted why = absurd said
 status_of_none C name (Err f) kept (Err g) said e is wanted why =
@@ -60,7 +62,15 @@ status_of_none C name (Err f) kept (Err g) said e is wanted why =
 not_both : (S : Scenario) (fault : ScenarioFault) (verdict : Result Scenario ScenarioFault) → verdict ≡ Ok S → verdict ≡ Err fault → ⊥
 not_both S fault verdict a b = let same = sym a ∙ b in cc
 
-module _ (C : Around) (name : Option (List ℕ)) (bytes : List ℕ) (text : Result (List ℕ) Ending) (kept : Option (List ℕ)) (r : Result (Unit {0}) Ending) (said : RunAnswer C name text kept r) where
+-- a scenario that can be run isn't refused
+pub runnable_not : (kinds : List (List ℕ)) (bytes : List ℕ) (S : Scenario) (ranks : List ℕ) → scenario_of bytes ≡ Ok S → AreRanks S ranks → IsPrepared S kinds → (e : Ending) → IsUnchecked kinds bytes e → e ≡ Mem
+runnable_not kinds bytes S ranks read ranked prepared e (inl (inl mem)) = mem
+runnable_not kinds bytes S ranks read ranked prepared e (inl (inr fault)) = absurd (not_both S fault.0 (scenario_of bytes) read fault.2)
+runnable_not kinds bytes S ranks read ranked prepared e (inr stuck) =
+    let same : S ≡ stuck.scenario = one_scenario bytes S stuck.scenario read stuck.read in
+    runnable_or_not kinds stuck.scenario ranks e (subst (λ (X : Scenario). AreRanks X ranks) same ranked) (subst (λ (X : Scenario). IsPrepared X kinds) same prepared) stuck.cause
+
+module _ (C : Around) (name : Option (List ℕ)) (bytes : List ℕ) (text : Result (List ℕ) Ending) (kept : Option (List ℕ)) (r : Result (Unit {0}) Ending) (said : RunAnswer C.folder C.output name text kept r) where
   -- where nothing goes wrong
   ended : HandshakesComplete → IsRunOutcome C.outside (is_some name) bytes text kept → IsFaultlessStudy C.outside bytes → IsStatusOr 0 (status r)
   ended law (inl none) f = elim none.cause [
@@ -92,14 +102,6 @@ module _ (C : Around) (name : Option (List ℕ)) (bytes : List ℕ) (text : Resu
             ]
           ]
 
-  -- a scenario that can be run isn't refused
-  runnable_not : (S : Scenario) (ranks : List ℕ) → scenario_of bytes ≡ Ok S → AreRanks S ranks → IsPrepared S (map name_of C.outside.kinds) → (e : Ending) → IsUnchecked (map name_of C.outside.kinds) bytes e → e ≡ Mem
-  runnable_not S ranks read ranked prepared e (inl (inl mem)) = mem
-  runnable_not S ranks read ranked prepared e (inl (inr fault)) = absurd (not_both S fault.0 (scenario_of bytes) read fault.2)
-  runnable_not S ranks read ranked prepared e (inr stuck) =
-      let same : S ≡ stuck.scenario = one_scenario bytes S stuck.scenario read stuck.read in
-      runnable_or_not (map name_of C.outside.kinds) stuck.scenario ranks e (subst (λ (X : Scenario). AreRanks X ranks) same ranked) (subst (λ (X : Scenario). IsPrepared X (map name_of C.outside.kinds)) same prepared) stuck.cause
-
   -- where the scenario is refused
   refused : IsRunOutcome C.outside (is_some name) bytes text kept → (e : Ending) → IsUnchecked (map name_of C.outside.kinds) bytes e → (e ≡ Mem → ⊥) → IsStatusOr 3 (status r)
   refused (inl none) e un not = status_of_none C name text kept r said none.ending none.is 3 (fault_status (map name_of C.outside.kinds) bytes none.ending (inl none.cause))
@@ -108,8 +110,8 @@ module _ (C : Around) (name : Option (List ℕ)) (bytes : List ℕ) (text : Resu
       go : IsScenarioOutcome C.outside Report (is_some name) has.scenario text kept → IsStatusOr 3 (status r)
       go (inl unready) = status_of_none C name text kept r said unready.ending unready.is 3
           (fault_status (map name_of C.outside.kinds) bytes unready.ending (inr (record { scenario = has.scenario; read = has.read; cause = unready.cause })))
-      go (inr (inl u)) = absurd (not (runnable_not has.scenario u.ranks has.read u.runnable.ranked u.runnable.prepared e un))
-      go (inr (inr p)) = absurd (not (runnable_not has.scenario p.ranks has.read p.runnable.ranked p.runnable.prepared e un))
+      go (inr (inl u)) = absurd (not (runnable_not (map name_of C.outside.kinds) bytes has.scenario u.ranks has.read u.runnable.ranked u.runnable.prepared e un))
+      go (inr (inr p)) = absurd (not (runnable_not (map name_of C.outside.kinds) bytes has.scenario p.ranks has.read p.runnable.ranked p.runnable.prepared e un))
 
 -- the run that is asked for, where the folder tells
 module _ (C : Around) (held : Files) (told : C.folder.files ≡ Some held) (scenario : List ℕ) (saved : Option (List ℕ)) (asked : IsAsked C.words (Run scenario saved)) (bytes : List ℕ) (there : held scenario ≡ Some bytes) (short : length bytes ≤ file_limit) where
@@ -118,39 +120,37 @@ module _ (C : Around) (held : Files) (told : C.folder.files ≡ Some held) (scen
   this_run Q other = one_request C.words Q (Run scenario saved) other asked
 
   -- the run is of these bytes
-  these : (r : Result (Unit {0}) Ending) → (ran : HasRunAs C r) → ran.bytes ≡ bytes
+  these : (r : Result (Unit {0}) Ending) → (ran : WasRun C scenario saved r) → ran.bytes ≡ bytes
   these r ran =
-      let same = this_run (Run ran.scenario ran.name) ran.asked in
-      let from_here : ran.scenario ≡ scenario = cc in
-      let seen = subst (λ (files : Option Files). IsHeld files ran.scenario ran.bytes) told ran.held in
-      let both : Some ran.bytes ≡ Some bytes = sym seen.0 ∙ ap held from_here ∙ there in
+      let seen = subst (λ (files : Option Files). IsHeld files scenario ran.bytes) told ran.held in
+      let both : Some ran.bytes ≡ Some bytes = sym seen.0 ∙ there in
       cc
 
   only_next : (n : List ℕ) (b : List (List ℕ)) (name : List ℕ) → IsNext (n ∷ []) b name → n ≡ name
   only_next n [] name is = is
   only_next n (x ∷ more) name is = absurd is
 
-  unread_run : (Q : Request) (e : Ending) (wanted : ℕ) → IsAsked C.words Q → IsStuck C.folder.files (files_of Q) (HasRisen C.folder.faults C.folder.new_faults) e → IsStatusOr wanted (status_of e)
+  unread_run : (Q : Request) (e : Ending) (wanted : ℕ) → IsAsked C.words Q → IsStuckBy (IsAccepted (map name_of C.outside.kinds) Q) C.folder.files (files_of Q) (HasRisen C.folder.faults C.folder.new_faults) e → IsStatusOr wanted (status_of e)
   unread_run Q e wanted other stuck =
-      let here = subst (λ (X : Request). IsStuck C.folder.files (files_of X) (HasRisen C.folder.faults C.folder.new_faults) e) (this_run Q other) stuck in
+      let here = subst (λ (X : Request). IsStuckBy (IsAccepted (map name_of C.outside.kinds) X) C.folder.files (files_of X) (HasRisen C.folder.faults C.folder.new_faults) e) (this_run Q other) stuck in
       let is : scenario ≡ here.name = only_next scenario here.read here.name here.next in
       readable_status held C.folder.files here.name (HasRisen C.folder.faults C.folder.new_faults) e wanted told (subst (IsThere held) is (record { bytes = bytes; is = there; short = short })) here.cause
 
   -- what the status of the run is, and the words ask for nothing else
-  by_run : (wanted : ℕ) → ((r : Result (Unit {0}) Ending) → HasRunAs C r → IsStatusOr wanted (status r)) → (r : Result (Unit {0}) Ending) → Ended C r → IsStatusOr wanted (status r)
-  by_run wanted of_run (Ok done) (inl made) = let wrong = this_run (Reads made.command) made.asked in absurd cc
-  by_run wanted of_run (Ok done) (inr (inl ran)) = of_run (Ok done) ran
-  by_run wanted of_run (Ok done) (inr (inr summed)) = let wrong = this_run (Demo summed.size) summed.asked in absurd cc
+  by_performed : (wanted : ℕ) → ((r : Result (Unit {0}) Ending) → WasRun C scenario saved r → IsStatusOr wanted (status r)) → (r : Result (Unit {0}) Ending) → HasPerformed C r → IsStatusOr wanted (status r)
+  by_performed wanted of_run r (inl made) = let wrong = this_run (Reads made.command) made.asked in absurd cc
+  by_performed wanted of_run r (inr ran) = of_run r (was_run C scenario saved r (subst (λ (Q : Request). IsDoneOver C Q r) (this_run ran.request ran.asked) ran.run))
+
+  by_run : (wanted : ℕ) → ((r : Result (Unit {0}) Ending) → WasRun C scenario saved r → IsStatusOr wanted (status r)) → (r : Result (Unit {0}) Ending) → Ended C r → IsStatusOr wanted (status r)
+  by_run wanted of_run (Ok done) performed = by_performed wanted of_run (Ok done) performed
   by_run wanted of_run (Err e) (inl misused) = unasked_not C.words e misused.cause wanted (Run scenario saved) asked
   by_run wanted of_run (Err e) (inr (inl unread)) = unread_run unread.request e wanted unread.asked unread.stuck
-  by_run wanted of_run (Err e) (inr (inr (inl made))) = let wrong = this_run (Reads made.command) made.asked in absurd cc
-  by_run wanted of_run (Err e) (inr (inr (inr (inl ran)))) = of_run (Err e) ran
-  by_run wanted of_run (Err e) (inr (inr (inr (inr summed)))) = let wrong = this_run (Demo summed.size) summed.asked in absurd cc
+  by_run wanted of_run (Err e) (inr (inr performed)) = by_performed wanted of_run (Err e) performed
 
   both : HandshakesComplete → (r : Result (Unit {0}) Ending) → Ended C r → (IsFaultlessStudy C.outside bytes → IsStatusOr 0 (status r)) × ((e : Ending) → IsUnchecked (map name_of C.outside.kinds) bytes e → (e ≡ Mem → ⊥) → IsStatusOr 3 (status r))
   both law r done = (
-    (λ fine. by_run 0 (λ s ran. ended C ran.name bytes ran.text ran.kept s ran.ended law (subst (λ (b : List ℕ). IsRunOutcome C.outside (is_some ran.name) b ran.text ran.kept) (these s ran) ran.outcome) fine) r done),
-    (λ e un not. by_run 3 (λ s ran. refused C ran.name bytes ran.text ran.kept s ran.ended (subst (λ (b : List ℕ). IsRunOutcome C.outside (is_some ran.name) b ran.text ran.kept) (these s ran) ran.outcome) e un not) r done),
+    (λ fine. by_run 0 (λ s ran. ended C saved bytes ran.text ran.kept s ran.ended law (subst (λ (b : List ℕ). IsRunOutcome C.outside (is_some saved) b ran.text ran.kept) (these s ran) ran.outcome) fine) r done),
+    (λ e un not. by_run 3 (λ s ran. refused C saved bytes ran.text ran.kept s ran.ended (subst (λ (b : List ℕ). IsRunOutcome C.outside (is_some saved) b ran.text ran.kept) (these s ran) ran.outcome) e un not) r done),
   )
 
 -- the same where the folder may not tell

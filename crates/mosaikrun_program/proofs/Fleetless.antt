@@ -5,7 +5,7 @@ use Rattle.mk_outside.specs.Folders.{Files}
 use Rattle.mk_scenario.specs.declared.parts.Scenario.{Scenario}
 use Rattle.mk_scenario.specs.Scenarios.{scenario_of}
 use Rattle.mk_run_crew.specs.Wholly.{is_wholly_within}
-use Rattle.mosaikrun_words.specs.declared.request.Request.TheVariants.{Run}
+use Rattle.mosaikrun_words.specs.declared.request.Request.TheVariants.{Run, Resume}
 use Rattle.mosaikrun_program.specs.Commands.{IsAsked, IsHeld}
 use Rattle.mosaikrun_program.specs.Fleetless.{IsHeldWithin, IsWithin, NeedsNoFleet}
 use Rattle.mosaikrun_program.proofs.Answering.{one_request}
@@ -15,8 +15,13 @@ same_scenario same = cc
 
 -- the run that is asked for is the one in which no simulator has a link
 pub run_within : (words : List (List ℕ)) (files : Option Files) (name : List ℕ) (saved : Option (List ℕ)) → IsAsked words (Run name saved) → NeedsNoFleet words files → IsHeldWithin files name
-run_within words files name saved asked (inl no_run) = absurd (no_run name saved asked)
+run_within words files name saved asked (inl no_run) = absurd (no_run.run name saved asked)
 run_within words files name saved asked (inr run) = subst (λ (n : List ℕ). IsHeldWithin files n) (same_scenario (one_request words (Run run.name run.saved) (Run name saved) run.asked asked)) run.file
+
+-- a run that goes on needs the fleet
+pub resume_needs : (words : List (List ℕ)) (files : Option Files) (name recorded : List ℕ) (saved : Option (List ℕ)) → IsAsked words (Resume name recorded saved) → NeedsNoFleet words files → ⊥
+resume_needs words files name recorded saved asked (inl no_run) = no_run.resume name recorded saved asked
+resume_needs words files name recorded saved asked (inr run) = let wrong = one_request words (Run run.name run.saved) (Resume name recorded saved) run.asked asked in cc
 
 -- the file's bytes are those that were read
 pub bytes_within : (files : Option Files) (name bytes : List ℕ) → IsHeld files name bytes → IsHeldWithin files name → IsWithin bytes

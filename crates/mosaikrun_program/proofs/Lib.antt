@@ -1,10 +1,14 @@
 mod Answering
+mod CarryingOn
 mod Deciding
+mod EndingResumes
 mod EndingRuns
 mod Fleetless
 mod Making
 mod NeverUsage
 mod Playing
 mod Recording
+mod Resuming
 mod RightCalls
+mod Rows
 mod Summing

@@ -5,7 +5,8 @@ use Rattle.mk_outside.specs.Counts.{HasRisen}
 use Rattle.mk_outside.specs.Folders.{Files, file_limit, with_file}
 use Rattle.mosaikrun_words.specs.declared.request.FileCommand.{FileCommand}
 use Rattle.mosaikrun_words.specs.declared.request.FileCommand.TheVariants.{Replay, Check, Pair}
-use Rattle.mosaikrun_words.specs.declared.request.PairCommand.TheVariants.{Migrate, Watch, Blame}
+use Rattle.mosaikrun_words.specs.declared.request.PairCommand.{PairCommand}
+use Rattle.mosaikrun_words.specs.declared.request.PairCommand.TheVariants.{Migrate}
 use Rattle.mk_local.specs.declared.turn.Turn.{Turn}
 use Rattle.mk_local.specs.Kinds.{name_of}
 use Rattle.mk_plan.specs.declared.Plan.{Plan}
@@ -14,8 +15,6 @@ use Rattle.mk_record.specs.Asked.{Asked}
 use Rattle.mk_record.specs.Reading.{reading, Said, Faulty}
 use Rattle.mosaikrun_records.specs.Reports as reports
 use Rattle.mosaikrun_records.specs.Saved.{IsRecord, IsUnread}
-use Rattle.mosaikrun_blame.specs.Blames.{IsBlameOutcome}
-use Rattle.mosaikrun_watch.specs.Watched.{IsWatchOutcome}
 use Rattle.mosaikrun_records.specs.Migrations.{IsMigration}
 use Rattle.mosaikrun_check.specs.Checks as checks
 use Rattle.mosaikrun_words.specs.declared.request.Request.TheVariants.{Files as Reads}
@@ -23,8 +22,8 @@ use Rattle.mosaikrun_endings.specs.declared.ending.Ending.{Ending}
 use Rattle.mosaikrun_endings.specs.declared.ending.Ending.TheVariants.{Folder, Mem}
 use Rattle.mosaikrun_program.specs.Around.{Around, FolderSeen, RulesSeen}
 use Rattle.mosaikrun_program.specs.Answers.{SaveAnswer, TextAnswer}
-use Rattle.mosaikrun_program.specs.Commands.{IsAsked, IsHeld, IsMade, IsStuck, IsUnreadable, read_by, target_of}
-use Rattle.mosaikrun_program.specs.inner.Making.{IsMadeOfOne, IsMadeOfTwo}
+use Rattle.mosaikrun_program.specs.Commands.{AreHeld, IsAsked, IsHeld, IsMade, IsNext, IsOutcomeOf, IsStuck, IsUnreadable, OfTwo, read_by, target_of}
+use Rattle.mosaikrun_program.specs.inner.Making.{IsMadeOfOne, IsUnmade}
 use Rattle.mosaikrun_program.specs.Program.{Ended}
 use Rattle.mosaikrun_program.proofs.Playing.{performed, risen_after}
 
@@ -73,10 +72,6 @@ unreadable_later mid old name some risen e same rose (inr (inr (inl missing))) =
 unreadable_later mid old name some risen e same rose (inr (inr (inr long))) =
     inr (inr (inr (long.0, long.1, subst (λ (f : Option Files). IfSome f (λ held. (bytes : List ℕ) × (held name ≡ Some bytes) × (length bytes ≡ long.0) × (file_limit < long.0))) same long.2)))
 
--- the second isn't read, and the first is a record
-pub stuck_second : (files : Option Files) (first second bytes : List ℕ) (risen : Type 0) (e : Ending) → IsHeld files first bytes → IsRecord bytes → IsUnreadable files second risen e → IsStuck files (first ∷ second ∷ []) risen e
-stuck_second files first second bytes risen e held is cause = record { read = bytes ∷ []; held = (held, tt); on = is; name = second; next = refl; cause = cause }
-
 -- the bytes that are read as these say a record, and a faulty line says none
 pub is_record : (bytes : List ℕ) (P : Plan) (A : List Arrival) (s : Option (List Asked)) → reading bytes ≡ Said P A s → IsRecord bytes
 is_record bytes P A s is = record { plan = P; arrivals = A; steps = s; read = is }
@@ -84,35 +79,48 @@ is_record bytes P A s is = record { plan = P; arrivals = A; steps = s; read = is
 no_record : (bytes : List ℕ) (line fault : ℕ) → reading bytes ≡ Faulty line fault → IsRecord bytes → ⊥
 no_record bytes line fault is r = let other = r.read in let both : Said r.plan r.arrivals r.steps ≡ Faulty line fault = sym other ∙ is in cc
 
--- the first of two files is no record, or memory was wanting
-pub first_refused : (files : Option Files) (first second bytes : List ℕ) (risen : Type 0) (makes : List ℕ → List ℕ → Result (List ℕ) Ending → Type 0) (e : Ending)
-    → ((second : List ℕ) → IsUnread bytes e → makes bytes second (Err e)) → IsHeld files first bytes → IsUnread bytes e
-    → IsStuck files (first ∷ second ∷ []) risen e ⊎ IsMadeOfTwo files first second makes (Err e)
-first_refused files first second bytes risen makes e law held (inl mem) = inl (stuck_first files first (second ∷ []) risen e (inl mem))
-first_refused files first second bytes risen makes e law held (inr fault) = inr (record {
-  read = bytes ∷ [];
-  held = (held, tt);
-  made = (no_record bytes fault.0 fault.1 fault.3, λ other. law other (inr fault));
-})
+-- the first of the files of a command that has two isn't read
+pub first_unread : (files : Option Files) (kinds : List Turn) (rules : RulesSeen) (c : PairCommand) (first second : List ℕ) (risen : Type 0) (e : Ending) → read_by (Pair c first second) ≡ first ∷ second ∷ [] → IsUnreadable files first risen e → IsUnmade files kinds rules (Pair c first second) risen e
+first_unread files kinds rules c first second risen e names cause = inl (subst (λ (n : List (List ℕ)). IsStuck files n risen e) (sym names) (stuck_first files first (second ∷ []) risen e cause))
 
--- both were read
-pub both_made : (files : Option Files) (first second bytes other : List ℕ) (makes : List ℕ → List ℕ → Result (List ℕ) Ending → Type 0) (o : Result (List ℕ) Ending)
-    → IsHeld files first bytes → IsHeld files second other → makes bytes other o → IsMadeOfTwo files first second makes o
-both_made files first second bytes other makes o held too made = record { read = bytes ∷ other ∷ []; held = (held, (too, tt)); made = made }
+-- a command whose row is one over two files
+module _ (files : Option Files) (kinds : List Turn) (rules : RulesSeen) (c : PairCommand) (first second : List ℕ) (makes : List ℕ → List ℕ → Result (List ℕ) Ending → Type 0) (names : read_by (Pair c first second) ≡ first ∷ second ∷ [])
+    (row : (read : List (List ℕ)) (o : Result (List ℕ) Ending) → OfTwo makes read o → IsOutcomeOf kinds rules (Pair c first second) read o) (bytes : List ℕ) (held : IsHeld files first bytes) where
+  -- the first is no record, or memory was wanting
+  pub first_refused : (risen : Type 0) (e : Ending) → ((other : List ℕ) → IsUnread bytes e → makes bytes other (Err e)) → IsUnread bytes e → IsUnmade files kinds rules (Pair c first second) risen e
+  first_refused risen e law (inl mem) = first_unread files kinds rules c first second risen e names (inl mem)
+  first_refused risen e law (inr fault) = inr (record {
+    read = bytes ∷ [];
+    held = subst (λ (n : List (List ℕ)). AreHeld files n (bytes ∷ [])) (sym names) (held, tt);
+    made = row (bytes ∷ []) (Err e) (no_record bytes fault.0 fault.1 fault.3, λ other. law other (inr fault));
+  })
 
--- what came of the one file that a command reads, and of two
-module _ (files : Option Files) (kinds : List Turn) (rules : RulesSeen) (name second : List ℕ) (o : Result (List ℕ) Ending) where
+  -- the second isn't read, and the first is a record
+  pub second_unread : (risen : Type 0) (e : Ending) → IsRecord bytes → IsUnreadable files second risen e → IsUnmade files kinds rules (Pair c first second) risen e
+  second_unread risen e is cause = inl (record {
+    read = bytes ∷ [];
+    held = subst (λ (n : List (List ℕ)). AreHeld files n (bytes ∷ [])) (sym names) (held, tt);
+    on = is;
+    name = second;
+    next = subst (λ (n : List (List ℕ)). IsNext n (bytes ∷ []) second) (sym names) refl;
+    cause = cause;
+  })
+
+  -- both were read
+  pub both_made : (other : List ℕ) (o : Result (List ℕ) Ending) → IsHeld files second other → makes bytes other o → IsMade files kinds rules (Pair c first second) o
+  both_made other o too made = record {
+    read = bytes ∷ other ∷ [];
+    held = subst (λ (n : List (List ℕ)). AreHeld files n (bytes ∷ other ∷ [])) (sym names) (held, (too, tt));
+    made = row (bytes ∷ other ∷ []) o made;
+  }
+
+-- what came of the one file that a command reads
+module _ (files : Option Files) (kinds : List Turn) (rules : RulesSeen) (name : List ℕ) (o : Result (List ℕ) Ending) where
   pub replay_made : (order : Option ℕ) → IsMadeOfOne files name (λ bytes. reports.IsOutcome bytes order) o → IsMade files kinds rules (Replay name order) o
   replay_made order m = record { read = m.bytes ∷ []; held = (m.held, tt); made = m.made }
 
   pub check_made : IsMadeOfOne files name (checks.IsOutcome (map name_of kinds)) o → IsMade files kinds rules (Check name) o
   check_made m = record { read = m.bytes ∷ []; held = (m.held, tt); made = m.made }
 
-  pub migrate_made : IsMadeOfOne files name IsMigration o → IsMade files kinds rules (Pair Migrate name second) o
-  migrate_made m = record { read = m.bytes ∷ []; held = (m.held, tt); made = m.made }
-
-  pub watch_made : IsMadeOfTwo files name second (IsWatchOutcome rules.names rules.folds) o → IsMade files kinds rules (Pair Watch name second) o
-  watch_made m = record { read = m.read; held = m.held; made = m.made }
-
-  pub blame_made : IsMadeOfTwo files name second IsBlameOutcome o → IsMade files kinds rules (Pair Blame name second) o
-  blame_made m = record { read = m.read; held = m.held; made = m.made }
+  pub migrate_made : (new : List ℕ) → IsMadeOfOne files name IsMigration o → IsMade files kinds rules (Pair Migrate name new) o
+  migrate_made new m = record { read = m.bytes ∷ []; held = (m.held, tt); made = m.made }

@@ -1,8 +1,9 @@
 -- No command says that the words are none.
-use Rattle.std.proofs.Common.{◌≡◌, ℕ, Bool, inl, inr, refl, sym, ap, ◌∙◌, arith, List, map, Option, None, Result, Err}
+use Rattle.std.proofs.Common.{◌≡◌, ℕ, Bool, inl, inr, refl, sym, ap, ◌∙◌, subst, arith, List, map, Option, Result, Err}
 use Rattle.mk_plan.specs.declared.Plan.{Plan}
 use Rattle.mk_plan.specs.declared.Entry.{Entry}
 use Rattle.mk_scenario.specs.declared.parts.Scenario.{Scenario}
+use Rattle.mk_record_read.specs.declared.saved.Saved.{Saved}
 use Rattle.mk_local.specs.Kinds.{name_of}
 use Rattle.mk_sched.specs.declared.faults.CoreFault.{CoreFault}
 use Rattle.mk_sched.specs.declared.faults.CoreFault.TheVariants as core
@@ -21,14 +22,17 @@ use Rattle.mosaikrun_check.specs.Checks.{IsUnchecked}
 use Rattle.mosaikrun_check.specs.Runnable.{IsUnrunnable}
 use Rattle.mosaikrun_check.proofs.OneRanking.{fault_status}
 use Rattle.mosaikrun_run.specs.declared.sayings.Form.{Form}
+use Rattle.mosaikrun_run.specs.declared.sayings.Form.TheVariants.{Report}
 use Rattle.mosaikrun_run.specs.Sayings.{halt_ending, saying_of}
 use Rattle.mosaikrun_run.specs.Outcomes.{Outside, IsRunOutcome, IsSaid, IsScenarioOutcome}
 use Rattle.mk_record.specs.ReplayEnd.{ReplayEnd}
 use Rattle.mk_record.specs.ReplayEnd.TheVariants as replay_end
 use Rattle.mosaikrun_records.specs.Reports.{IsSaidOf, IsStopped}
 use Rattle.mosaikrun_records.specs.Saved.{IsUnread}
-use Rattle.mosaikrun_blame.specs.Blames.{IsUnblamed}
-use Rattle.mosaikrun_watch.specs.Watched.{IsUntabled}
+use Rattle.mk_resume_loop.specs.declared.ending.ResumeEnd.{ResumeEnd}
+use Rattle.mk_resume_loop.specs.declared.ending.ResumeEnd.TheVariants as resume_end
+use Rattle.mosaikrun_resume.specs.Outcomes.{IsResumeOutcome, IsSavedOutcome, IsStudyOutcome}
+use Rattle.mosaikrun_resume.specs.Sayings.{resume_saying}
 use Rattle.mosaikrun_program.specs.Around.{IsSaidAs}
 
 -- neither does a check
@@ -65,7 +69,7 @@ stop_not_usage P J (core.LoopLimit s time) wrong = cc
 stop_not_usage P J (core.TooLong count) wrong = cc
 
 -- nor does a command on records
-stopped_not_usage : (bytes : List ℕ) (order : Option ℕ) → IsStopped bytes order Usage → ⊥
+pub stopped_not_usage : (bytes : List ℕ) (order : Option ℕ) → IsStopped bytes order Usage → ⊥
 stopped_not_usage bytes order s = by s.end s.said
   where
     by : (end : ReplayEnd) → IsSaidOf s.plan s.journal end Usage → ⊥
@@ -74,21 +78,9 @@ stopped_not_usage bytes order s = by s.end s.said
     by (replay_end.Other n) said = cc
     by (replay_end.Core fault) said = stop_not_usage s.plan s.journal fault (sym said)
 
-unread_not_usage : (bytes : List ℕ) → IsUnread bytes Usage → ⊥
+pub unread_not_usage : (bytes : List ℕ) → IsUnread bytes Usage → ⊥
 unread_not_usage bytes (inl mem) = cc
 unread_not_usage bytes (inr fault) = let is = fault.2 in cc
-
-pub blame_not_usage : (first second : List ℕ) → IsUnblamed first second Usage → ⊥
-blame_not_usage first second (inl unread) = unread_not_usage first unread
-blame_not_usage first second (inr (inl unread)) = unread_not_usage second unread.1
-blame_not_usage first second (inr (inr (inl stopped))) = stopped_not_usage first None stopped.stopped
-blame_not_usage first second (inr (inr (inr (inl stopped)))) = stopped_not_usage second None stopped.stopped
-blame_not_usage first second (inr (inr (inr (inr other)))) = let is = other.is in cc
-
-pub watch_not_usage : (names : List (List ℕ)) (bytes spec : List ℕ) → IsUntabled names bytes spec Usage → ⊥
-watch_not_usage names bytes spec (inl unread) = unread_not_usage bytes unread
-watch_not_usage names bytes spec (inr (inl refused)) = let is = refused.is in cc
-watch_not_usage names bytes spec (inr (inr undone)) = stopped_not_usage bytes None undone.stopped
 
 saying_not_usage : (form : Form) (ids : List (List ℕ)) (P : Plan) (J : List Entry) (o : Outcome) → saying_of form ids P J o ≡ Err Usage → ⊥
 saying_not_usage form ids P J outcome.Done wrong = cc
@@ -123,3 +115,23 @@ scenario_not_usage O form wanted S text kept (inr (inr played)) usage = said_not
 pub outcome_not_usage : (O : Outside) (wanted : Bool) (bytes : List ℕ) (text : Result (List ℕ) Ending) (kept : Option (List ℕ)) → IsRunOutcome O wanted bytes text kept → text ≡ Err Usage → ⊥
 outcome_not_usage O wanted bytes text kept (inl none) usage = unchecked_not_usage (map name_of O.kinds) bytes none.ending (inl none.cause) (same_ending text none.ending none.is usage)
 outcome_not_usage O wanted bytes text kept (inr read) usage = scenario_not_usage O _ wanted read.scenario text kept read.outcome usage
+
+-- nor does a run that goes on
+resume_saying_not : (ids : List (List ℕ)) (P : Plan) (J : List Entry) (end : ResumeEnd) → resume_saying ids P J end ≡ Err Usage → ⊥
+resume_saying_not ids P J (resume_end.Outcome o) wrong = saying_not_usage Report ids P J o wrong
+resume_saying_not ids P J (resume_end.OtherPlan n) wrong = cc
+resume_saying_not ids P J (resume_end.OtherEntry n) wrong = cc
+resume_saying_not ids P J (resume_end.Differs sim place kept heard) wrong = cc
+
+saved_not_usage : (O : Outside) (wanted : Bool) (S : Scenario) (ranks : List ℕ) (old : Saved) (text : Result (List ℕ) Ending) (kept : Option (List ℕ)) → IsSavedOutcome O wanted S ranks old text kept → text ≡ Err Usage → ⊥
+saved_not_usage O wanted S ranks old text kept (inl unrun) usage = said_not_usage _ text unrun.said (λ w. halt_not_usage (ids_of S) unrun.halt (ending_of (halt_ending (ids_of S) unrun.halt) Usage _ _ refl refl w)) usage
+saved_not_usage O wanted S ranks old text kept (inr (inl rest)) usage = said_not_usage _ text rest.said (λ w. resume_saying_not (ids_of S) rest.plan rest.journal rest.end w) usage
+saved_not_usage O wanted S ranks old text kept (inr (inr gone)) usage = said_not_usage _ text gone.said (λ w. resume_saying_not (ids_of S) gone.plan gone.journal gone.end w) usage
+
+study_not_usage : (O : Outside) (wanted : Bool) (S : Scenario) (ranks recorded : List ℕ) (text : Result (List ℕ) Ending) (kept : Option (List ℕ)) → IsStudyOutcome O wanted S ranks recorded text kept → text ≡ Err Usage → ⊥
+study_not_usage O wanted S ranks recorded text kept (inl none) usage = unread_not_usage recorded (subst (IsUnread recorded) (same_ending text none.ending none.is usage) none.cause)
+study_not_usage O wanted S ranks recorded text kept (inr has) usage = saved_not_usage O wanted S ranks has.saved text kept has.outcome usage
+
+pub resume_not_usage : (O : Outside) (wanted : Bool) (bytes recorded : List ℕ) (text : Result (List ℕ) Ending) (kept : Option (List ℕ)) → IsResumeOutcome O wanted bytes recorded text kept → text ≡ Err Usage → ⊥
+resume_not_usage O wanted bytes recorded text kept (inl none) usage = unchecked_not_usage (map name_of O.kinds) bytes none.ending none.cause (same_ending text none.ending none.is usage)
+resume_not_usage O wanted bytes recorded text kept (inr has) usage = study_not_usage O wanted has.study.scenario has.study.ranks recorded text kept has.outcome usage

@@ -1,10 +1,10 @@
 -- What becomes of the file that a run saves its record in, by how the program ended.
 use Rattle.std.proofs.Common.{◌≡◌, inl, inr, ℕ, true, List, [], Option, Some, None, Result, Ok, Err, refl, sym, ap, ◌∙◌, subst}
-use Rattle.std.specs.Prelude.{IfSome, is_some}
+use Rattle.std.specs.Prelude.{IfSome}
 use Rattle.mk_outside.specs.Counts.{HasRisen}
 use Rattle.mk_outside.specs.Folders.{Files}
 use Rattle.mosaikrun_words.specs.declared.request.Request.{Request}
-use Rattle.mosaikrun_words.specs.declared.request.Request.TheVariants.{Files as Reads, Run, Demo}
+use Rattle.mosaikrun_words.specs.declared.request.Request.TheVariants.{Files as Reads, Run}
 use Rattle.mk_record.specs.Texts.{record_text}
 use Rattle.mk_scenario.specs.declared.parts.Scenario.{Scenario}
 use Rattle.mk_scenario.specs.Scenarios.{scenario_of}
@@ -19,8 +19,9 @@ use Rattle.mosaikrun_program.specs.Around.{Around}
 use Rattle.mosaikrun_program.specs.Commands.{IsAsked, IsHeld, IsUnasked, IsUnreadable}
 use Rattle.mosaikrun_program.specs.Program.{Ended, HasPerformed, status}
 use Rattle.mosaikrun_program.specs.Recording.{HoldsRecord, IsRecordKept, KeepsRecord}
-use Rattle.mosaikrun_program.specs.Running.{IsFolderAfter, IsSaved, RunAnswer}
+use Rattle.mosaikrun_program.specs.Running.{IsDoneOver, IsFolderAfter, IsSaved, RunAnswer}
 use Rattle.mosaikrun_program.proofs.Answering.{one_request}
+use Rattle.mosaikrun_program.proofs.Playing.{was_run}
 
 -- the bytes are one scenario
 one_scenario : (X Y : Scenario) (bytes : List ℕ) → scenario_of bytes ≡ Ok X → scenario_of bytes ≡ Ok Y → X ≡ Y
@@ -28,14 +29,14 @@ one_scenario X Y bytes a b = let both : Ok X ≡ Ok Y = sym a ∙ b in cc
 
 module _ (S : Around) (bytes name : List ℕ) where
   -- a record that was saved is held
-  held_record : (answer : Result (Unit {0}) Ending) (scenario : Scenario) (text : Result (List ℕ) Ending) (kept : Option (List ℕ)) → scenario_of bytes ≡ Ok scenario → HasRecord S.outside Report scenario text kept → RunAnswer S (Some name) text kept answer → IsSaved S (Some name) kept → HoldsRecord S answer bytes name
+  held_record : (answer : Result (Unit {0}) Ending) (scenario : Scenario) (text : Result (List ℕ) Ending) (kept : Option (List ℕ)) → scenario_of bytes ≡ Ok scenario → HasRecord S.outside Report scenario text kept → RunAnswer S.folder S.output (Some name) text kept answer → IsSaved S.folder (Some name) kept → HoldsRecord S answer bytes name
   held_record answer scenario text kept read has told saved = record {
     scenario = scenario;
     read = read;
     said = text;
     text = record_text has.plan has.journal;
     record_ = record { ranks = has.ranks; plan = has.plan; journal = has.journal; outcome = has.outcome; run = has.run; said = has.said; is = refl; again = has.again };
-    answered = subst (λ (k : Option (List ℕ)). RunAnswer S (Some name) text k answer) has.is told;
+    answered = subst (λ (k : Option (List ℕ)). RunAnswer S.folder S.output (Some name) text k answer) has.is told;
     saved = subst (λ (k : Option (List ℕ)). IsFolderAfter (Some name) k S.folder.files S.folder.files_after) has.is saved;
   }
 
@@ -53,7 +54,7 @@ module _ (S : Around) (bytes name : List ℕ) where
   no_scenario e (inr fault) settled = subst IsRunFault fault.1 settled
 
   -- what came of the bytes, and that the record, where there is one, was saved
-  came : (answer : Result (Unit {0}) Ending) (text : Result (List ℕ) Ending) (kept : Option (List ℕ)) → IsRunOutcome S.outside true bytes text kept → RunAnswer S (Some name) text kept answer → IsSaved S (Some name) kept → (text ≡ Err ends.Mem → ⊥) → (IsSettled answer → IsSettled text) → KeepsRecord S answer bytes name
+  came : (answer : Result (Unit {0}) Ending) (text : Result (List ℕ) Ending) (kept : Option (List ℕ)) → IsRunOutcome S.outside true bytes text kept → RunAnswer S.folder S.output (Some name) text kept answer → IsSaved S.folder (Some name) kept → (text ≡ Err ends.Mem → ⊥) → (IsSettled answer → IsSettled text) → KeepsRecord S answer bytes name
   came answer text kept (inl none) told saved not settles = untouched answer (subst (λ (k : Option (List ℕ)). IsFolderAfter (Some name) k S.folder.files S.folder.files_after) none.idle.unrecorded saved) none.idle.quiet
       (λ settled. no_scenario none.ending none.cause (subst (λ (t : Result (List ℕ) Ending). IsSettled t) none.is (settles settled)))
   came answer text kept (inr read) told saved not settles = record {
@@ -68,7 +69,7 @@ module _ (S : Around) (bytes name : List ℕ) where
 
   module _ (unrisen : HasRisen S.folder.faults S.folder.new_faults → ⊥) where
     -- what a run's answer says
-    answered : (answer : Result (Unit {0}) Ending) (text : Result (List ℕ) Ending) (kept : Option (List ℕ)) → (answer ≡ Err ends.Mem → ⊥) → IsRunOutcome S.outside true bytes text kept → RunAnswer S (Some name) text kept answer → KeepsRecord S answer bytes name
+    answered : (answer : Result (Unit {0}) Ending) (text : Result (List ℕ) Ending) (kept : Option (List ℕ)) → (answer ≡ Err ends.Mem → ⊥) → IsRunOutcome S.outside true bytes text kept → RunAnswer S.folder S.output (Some name) text kept answer → KeepsRecord S answer bytes name
     answered (Ok done) (Ok text) kept not outcome said = came (Ok done) (Ok text) kept outcome said said.1 (λ wrong. cc) (λ settled. tt)
     answered (Ok done) (Err why) kept not outcome said = absurd said
     answered (Err e) (Ok text) kept not outcome (inl unsaved) = elim unsaved.1.1 [ inl rose ↦ absurd (unrisen rose) | inr mem ↦ absurd (not (ap (λ (x : Ending). Err x) mem)) ]
@@ -88,17 +89,12 @@ module _ (S : Around) (held : Files) (told : S.folder.files ≡ Some held) (scen
 
   performed : (answer : Result (Unit {0}) Ending) → (answer ≡ Err ends.Mem → ⊥) → HasPerformed S answer → KeepsRecord S answer bytes name
   performed answer not (inl made) = let wrong = this_run (Reads made.command) made.asked in absurd cc
-  performed answer not (inr (inl ran)) =
-      let same : Run ran.scenario ran.name ≡ Run scenario (Some name) = this_run (Run ran.scenario ran.name) ran.asked in
-      let file : ran.scenario ≡ scenario = cc in
-      let named : ran.name ≡ Some name = cc in
-      let seen = subst (λ (files : Option Files). IsHeld files ran.scenario ran.bytes) told ran.held in
-      let both : Some ran.bytes ≡ Some bytes = sym seen.0 ∙ ap held file ∙ there in
-      let these : ran.bytes ≡ bytes = cc in
-      answered S bytes name unrisen answer ran.text ran.kept not
-      (subst (λ (b : List ℕ). IsRunOutcome S.outside true b ran.text ran.kept) these (subst (λ (n : Option (List ℕ)). IsRunOutcome S.outside (is_some n) ran.bytes ran.text ran.kept) named ran.outcome))
-      (subst (λ (n : Option (List ℕ)). RunAnswer S n ran.text ran.kept answer) named ran.ended)
-  performed answer not (inr (inr summed)) = let wrong = this_run (Demo summed.size) summed.asked in absurd cc
+  performed answer not (inr ran) =
+      let w = was_run S scenario (Some name) answer (subst (λ (R : Request). IsDoneOver S R answer) (this_run ran.request ran.asked) ran.run) in
+      let seen = subst (λ (files : Option Files). IsHeld files scenario w.bytes) told w.held in
+      let both : Some w.bytes ≡ Some bytes = sym seen.0 ∙ there in
+      let these : w.bytes ≡ bytes = cc in
+      answered S bytes name unrisen answer w.text w.kept not (subst (λ (b : List ℕ). IsRunOutcome S.outside true b w.text w.kept) these w.outcome) w.ended
 
   misused_not : (e : Ending) → IsUnasked S.words e → IsRunFault e → ⊥
   misused_not e (inl mem) settled = subst IsRunFault mem settled

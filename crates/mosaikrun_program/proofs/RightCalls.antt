@@ -1,5 +1,5 @@
 -- Every call of the program is right: the headline, from what its answer says.
-use Rattle.std.proofs.Common.{◌≡◌, ℕ, Bool, false, ◌⊎◌, inl, inr, refl, sym, ap, ◌∙◌, subst, arith, List, [], map, Option, None, Some, Result, Ok, Err}
+use Rattle.std.proofs.Common.{◌≡◌, ℕ, Bool, false, ◌⊎◌, inl, inr, refl, sym, ap, ◌∙◌, subst, arith, List, [], map, Option, None, Some, Result, Ok, Err, ◌∷◌}
 use Rattle.std.specs.Prelude.{is_some, option_map}
 use Rattle.mk_base.specs.declared.LinkNo.{LinkNo}
 use Rattle.mk_base.specs.Lists.{BeginsWith}
@@ -23,27 +23,40 @@ use Rattle.mk_run.specs.Ends.{QueuedAll}
 use Rattle.mk_run.proofs.RunRight.{runs_right}
 use Rattle.mk_record.specs.Texts.{record_text}
 use Rattle.mosaikrun_words.specs.declared.request.Request.{Request}
-use Rattle.mosaikrun_words.specs.declared.request.Request.TheVariants.{Files as Reads, Run, Demo}
+use Rattle.mosaikrun_words.specs.declared.request.Request.TheVariants.{Files as Reads, Run, Resume, Demo}
 use Rattle.mosaikrun_endings.specs.declared.ending.Ending.{Ending}
-use Rattle.mosaikrun_endings.specs.declared.ending.Ending.TheVariants.{Usage, Missing, TooLong, Scenario as BadScenario, Watches, Cycle, Launch, Setup, Record, Wrong, Failed, LoopLimit, Link, Short, Differs, OtherPlan, Fleet, Folder, Output, Entries, LongItem, Mem}
+use Rattle.mosaikrun_endings.specs.declared.ending.Ending.TheVariants.{Usage, Missing, TooLong, Scenario as BadScenario, Watches, Cycle, Launch, Setup, Record, Wrong, Failed, LoopLimit, Link, Short, Differs, OtherPlan, OtherMessage, Fleet, Folder, Output, Entries, LongItem, Mem}
 use Rattle.mosaikrun_endings.specs.Endings.{status_of}
 use Rattle.mosaikrun_sayings.specs.Sayings.{ids_of}
 use Rattle.mosaikrun_run.specs.declared.sayings.Form.{Form}
 use Rattle.mosaikrun_run.specs.declared.sayings.Form.TheVariants.{Report, Summary}
-use Rattle.mosaikrun_run.specs.Outcomes.{IsPlayed, IsScenarioOutcome, IsUnrun}
+use Rattle.mosaikrun_run.specs.Outcomes.{IsPlayed, IsSaid, IsScenarioOutcome, IsUnrun}
 use Rattle.mosaikrun_run.specs.Sayings.{halt_ending, record_of, text_of}
 use Rattle.mosaikrun_run.proofs.Reporting.{said_is_done, texts_sequential}
+use Rattle.mk_local.specs.Kinds.{name_of}
+use Rattle.mk_record_read.specs.declared.saved.Saved.{Saved}
+use Rattle.mk_resume_loop.specs.declared.ending.ResumeEnd.{ResumeEnd}
+use Rattle.mk_resume_loop.specs.declared.ending.ResumeEnd.TheVariants as resume_end
+use Rattle.mk_resume.specs.Resumed.{HasFaultySaved, IsRefusedBy}
+use Rattle.mosaikrun_sayings.specs.Stops.{stop_of}
+use Rattle.mosaikrun_run.specs.Sayings.{saying_of}
+use Rattle.mosaikrun_resume.specs.Outcomes.{HasGoneOn, HasRecord, IsNotTaken, IsResumeOutcome, IsSavedOutcome, IsStudy, IsStudyOutcome}
+use Rattle.mosaikrun_resume.specs.Sayings.{resume_saying}
+use Rattle.mosaikrun_resume.proofs.Reporting as resuming
+use Rattle.mosaikrun_program.specs.Commands.{AreHeld, IsHeld, OfTwoBy}
+use Rattle.mosaikrun_program.specs.Resuming.{IsNotOnward, IsRightOnward, IsRightResume}
 use Rattle.mosaikrun_program.specs.Around.{Around, IsUntouched}
 use Rattle.mosaikrun_program.specs.Commands.{IsAsked, IsOutcomeOf, target_of}
-use Rattle.mosaikrun_program.specs.Running.{HasRunAs, IsFolderAfter, RunAnswer}
-use Rattle.mosaikrun_program.specs.Answers.{PrintAnswer, TextAnswer}
+use Rattle.mosaikrun_program.specs.Running.{IsDoneOver, IsFolderAfter, RunAnswer}
+use Rattle.mosaikrun_program.specs.Answers.{TextAnswer}
 use Rattle.mosaikrun_program.specs.Making.{HasMade}
 use Rattle.mosaikrun_program.specs.Program.{Ended, HasPerformed, status}
 use Rattle.mosaikrun_program.specs.Headline.{IsPut, IsRightCall, IsRightFor, IsRightRun, IsRightStudy, IsUnbegun, MayCome}
 use Rattle.mosaikrun_program.proofs.Answering.{one_request}
+use Rattle.mosaikrun_program.proofs.Playing.{WasRun, was_run}
 
 -- no ending has the status 0
-not_zero : (e : Ending) → status_of e ≡ 0 → ⊥
+pub not_zero : (e : Ending) → status_of e ≡ 0 → ⊥
 not_zero Usage zero = omega (arith, zero)
 not_zero (Missing name) zero = omega (arith, zero)
 not_zero (TooLong name count) zero = omega (arith, zero)
@@ -60,6 +73,7 @@ not_zero (Link sim fault) zero = omega (arith, zero)
 not_zero (Short outstanding) zero = omega (arith, zero)
 not_zero (Differs entry) zero = omega (arith, zero)
 not_zero (OtherPlan part) zero = omega (arith, zero)
+not_zero (OtherMessage sim place) zero = omega (arith, zero)
 not_zero Fleet zero = omega (arith, zero)
 not_zero Folder zero = omega (arith, zero)
 not_zero Output zero = omega (arith, zero)
@@ -180,8 +194,8 @@ module _ (C : Around) (form : Form) (wanted : Bool) (S : Scenario) (saved : Opti
   studied text kept (inr (inl unrun)) shown filed = inr (halted text kept unrun (unsaid text kept unrun shown) shown.wanting)
   studied text kept (inr (inr p)) shown filed = inr (played_as text kept p shown (filed p.plan p.journal))
 
--- what the answer of a run shows
-shown_by_run : (C : Around) (name : Option (List ℕ)) (text : Result (List ℕ) Ending) (kept : Option (List ℕ)) (r : Result (Unit {0}) Ending) → RunAnswer C name text kept r → Shown C text (status r)
+-- what the answer of what was done over a fleet shows
+shown_by_run : (C : Around) (name : Option (List ℕ)) (text : Result (List ℕ) Ending) (kept : Option (List ℕ)) (r : Result (Unit {0}) Ending) → RunAnswer C.folder C.output name text kept r → Shown C text (status r)
 shown_by_run C name (Ok t) kept (Ok done) said = record { put = λ x is zero. said.0 ∙ ap (λ y. appended y C.output.before) (let same : t ≡ x = cc in same); unput = λ e is. cc; wanting = λ is. cc }
 shown_by_run C name (Err why) kept (Ok done) said = absurd said
 shown_by_run C name (Ok t) kept (Err e) said = record { put = λ x is zero. absurd (not_zero e zero); unput = λ f is. cc; wanting = λ is. cc }
@@ -191,19 +205,8 @@ shown_by_run C name (Err why) kept (Err e) said = record {
   wanting = λ is. elim said.1 [ inl same ↦ (let mem : why ≡ Mem = cc in ap status_of (same ∙ mem)) | inr mem ↦ ap status_of mem ];
 }
 
--- what the answer of the demo shows
-shown_by_demo : (C : Around) (text : Result (List ℕ) Ending) (r : Result (Unit {0}) Ending) → PrintAnswer C.output text r → Shown C text (status r)
-shown_by_demo C (Ok t) (Ok done) said = record { put = λ x is zero. said ∙ ap (λ y. appended y C.output.before) (let same : t ≡ x = cc in same); unput = λ e is. cc; wanting = λ is. cc }
-shown_by_demo C (Err why) (Ok done) said = absurd said
-shown_by_demo C (Ok t) (Err e) said = record { put = λ x is zero. absurd (not_zero e zero); unput = λ f is. cc; wanting = λ is. cc }
-shown_by_demo C (Err why) (Err e) said = record {
-  put = λ x is. cc;
-  unput = λ f is. (said.0, not_zero e);
-  wanting = λ is. elim said.1 [ inl same ↦ (let mem : why ≡ Mem = cc in ap status_of (same ∙ mem)) | inr mem ↦ ap status_of mem ];
-}
-
 -- the record was saved under the name that was given for it, where the answer is that all is done
-filed_by : (C : Around) (name : Option (List ℕ)) (text : Result (List ℕ) Ending) (kept : Option (List ℕ)) (r : Result (Unit {0}) Ending) → RunAnswer C name text kept r
+filed_by : (C : Around) (name : Option (List ℕ)) (text : Result (List ℕ) Ending) (kept : Option (List ℕ)) (r : Result (Unit {0}) Ending) → RunAnswer C.folder C.output name text kept r
     → (P : Plan) (J : List Entry) → kept ≡ record_of (is_some name) P J → Filed C name (status r) P J
 filed_by C name text kept (Err e) said P J is zero target named = absurd (not_zero e zero)
 filed_by C name (Err why) kept (Ok done) said P J is zero target named = absurd said
@@ -214,16 +217,113 @@ filed_by C (Some given) (Ok t) kept (Ok done) said P J is zero target named =
     (subst (λ (k : Option (List ℕ)). IsFolderAfter (Some given) k C.folder.files C.folder.files_after) is said.1)
 
 -- a run
-run_right : (C : Around) (r : Result (Unit {0}) Ending) → (ran : HasRunAs C r) → IsUnbegun C (status r) ⊎ IsRightRun C ran.scenario ran.name (status r)
-run_right C r ran =
-    let shown = shown_by_run C ran.name ran.text ran.kept r ran.ended in
+run_right : (C : Around) (r : Result (Unit {0}) Ending) (scenario : List ℕ) (name : Option (List ℕ)) → WasRun C scenario name r → IsUnbegun C (status r) ⊎ IsRightRun C scenario name (status r)
+run_right C r scenario name ran =
+    let shown = shown_by_run C name ran.text ran.kept r ran.ended in
     elim ran.outcome [
       | inl none ↦ inl (record { silent = none.idle.quiet; unput = (shown.unput none.ending none.is).0; status = (shown.unput none.ending none.is).1 })
-      | inr has ↦ elim (studied C Report (is_some ran.name) has.scenario ran.name (status r) ran.text ran.kept has.outcome shown (filed_by C ran.name ran.text ran.kept r ran.ended)) [
+      | inr has ↦ elim (studied C Report (is_some name) has.scenario name (status r) ran.text ran.kept has.outcome shown (filed_by C name ran.text ran.kept r ran.ended)) [
         | inl not ↦ inl not
         | inr study ↦ inr (record { bytes = ran.bytes; held = ran.held; scenario = has.scenario; read = has.read; study = study })
       ]
     ]
+
+-- a run that goes on
+module _ (C : Around) (name : Option (List ℕ)) (text : Result (List ℕ) Ending) (kept : Option (List ℕ)) (r : Result (Unit {0}) Ending) (said : RunAnswer C.folder C.output name text kept r) where
+  seen : Shown C text (status r)
+  seen = shown_by_run C name text kept r said
+
+  -- an ending is said
+  ending_seen : (e : Ending) → IsSaid (Err e) text → (C.output.after ≡ C.output.before) × (status r ≡ 0 → ⊥)
+  ending_seen e (inl same) = seen.unput e same
+  ending_seen e (inr mem) = seen.unput Mem mem
+
+  -- nothing was done
+  quiet : (e : Ending) → text ≡ Err e → C.outside.log ≡ [] → IsUnbegun C (status r)
+  quiet e is silent = record { silent = silent; unput = (seen.unput e is).0; status = (seen.unput e is).1 }
+
+  refused_ending : (ids : List (List ℕ)) (P : Plan) (J : List Entry) (old : Saved) (end : ResumeEnd) → IsRefusedBy P old end ⊎ HasFaultySaved P old J end → (e : Ending) × (resume_saying ids P J end ≡ Err e)
+  refused_ending ids P J old (resume_end.Outcome o) (inl h) = (Mem, ap (saying_of Report ids P J) h.1)
+  refused_ending ids P J old (resume_end.OtherPlan n) (inl h) = (OtherPlan n, refl)
+  refused_ending ids P J old (resume_end.OtherEntry n) (inl h) = (Differs n, refl)
+  refused_ending ids P J old (resume_end.Differs sim place saved_ heard) (inl h) = absurd h
+  refused_ending ids P J old end (inr h) = (stop_of P J h.fault, ap (resume_saying ids P J) h.is)
+
+  module _ (S : Scenario) (ranks : List ℕ) (old : Saved) where
+    not_onward : IsUnrun C.outside S text kept ⊎ IsNotTaken C.outside S ranks old text kept → IsNotOnward C S ranks old (status r)
+    not_onward (inl unrun) = let t = ending_seen (halt_ending (ids_of S) unrun.halt) unrun.said in record { untaken = (text, kept, inl unrun); unput = t.0; status = t.1 }
+    not_onward (inr rest) =
+        let e = refused_ending (ids_of S) rest.plan rest.journal old rest.end rest.cause in
+        let t = ending_seen e.0 (subst (λ (x : Result (List ℕ) Ending). IsSaid x text) e.1 rest.said) in
+        record { untaken = (text, kept, inr rest); unput = t.0; status = t.1 }
+
+-- it went on
+onward : (C : Around) (name : Option (List ℕ)) (text : Result (List ℕ) Ending) (kept : Option (List ℕ)) (r : Result (Unit {0}) Ending) (said : RunAnswer C.folder C.output name text kept r) (S : Scenario) (ranks : List ℕ) (old : Saved)
+    → HasGoneOn C.outside (is_some name) S ranks old text kept → IsRightOnward C S ranks old name (status r)
+onward C name (Ok t) kept r said S ranks old p =
+    let shown = shown_by_run C name (Ok t) kept r said in
+    let whole = resuming.texts_sequential C.outside (is_some name) S ranks old t kept p in
+    record {
+      plan = p.plan;
+      journal = p.journal;
+      end = p.end;
+      run = p.run;
+      text = λ zero R goes. shown.put t refl zero ∙ ap (λ x. appended x C.output.before) (whole.text_is R goes);
+      heard = λ zero. whole.heard;
+      recorded = elim p.recorded [ inl is ↦ filed_by C name (Ok t) kept r said p.plan p.journal is | inr none ↦ cc ];
+    }
+onward C name (Err e) kept r said S ranks old p =
+    let not = ((shown_by_run C name (Err e) kept r said).unput e refl).1 in
+    record {
+      plan = p.plan;
+      journal = p.journal;
+      end = p.end;
+      run = p.run;
+      text = λ zero R goes. absurd (not zero);
+      heard = λ zero i l linked low. absurd (not zero);
+      recorded = λ zero target named. absurd (not zero);
+    }
+
+resume_right : (C : Around) (r : Result (Unit {0}) Ending) (scenario recorded : List ℕ) (name : Option (List ℕ)) → IsDoneOver C (Resume scenario recorded name) r → IsUnbegun C (status r) ⊎ IsRightResume C scenario recorded name (status r)
+resume_right C r scenario recorded name d = by d.read d.held d.outcome
+  where
+    wanted : Bool
+    wanted = is_some name
+
+    both : (bytes old : List ℕ) → IsHeld C.folder.files scenario bytes → IsHeld C.folder.files recorded old → IsResumeOutcome C.outside wanted bytes old d.text d.kept → IsUnbegun C (status r) ⊎ IsRightResume C scenario recorded name (status r)
+    both bytes old h k (inl none) = inl (quiet C name d.text d.kept r d.ended none.ending none.is none.idle.quiet)
+    both bytes old h k (inr has) = elim has.outcome [
+      | inl none ↦ inl (quiet C name d.text d.kept r d.ended none.ending none.is none.idle.quiet)
+      | inr rec ↦ inr (record {
+        bytes = bytes;
+        held = h;
+        study = has.study;
+        old_bytes = old;
+        old_held = k;
+        old = rec.saved;
+        read = rec.read;
+        went = went has.study.scenario has.study.ranks rec.saved rec.outcome;
+      })
+    ]
+      where
+        went : (S : Scenario) (ranks : List ℕ) (old : Saved) → IsSavedOutcome C.outside wanted S ranks old d.text d.kept → IsNotOnward C S ranks old (status r) ⊎ IsRightOnward C S ranks old name (status r)
+        went S ranks old (inl unrun) = inl (not_onward C name d.text d.kept r d.ended S ranks old (inl unrun))
+        went S ranks old (inr (inl rest)) = inl (not_onward C name d.text d.kept r d.ended S ranks old (inr rest))
+        went S ranks old (inr (inr gone)) = inr (onward C name d.text d.kept r d.ended S ranks old gone)
+
+    by : (read : List (List ℕ)) → AreHeld C.folder.files (scenario ∷ recorded ∷ []) read → OfTwoBy (IsStudy (map name_of C.outside.kinds)) (λ bytes old outcome. IsResumeOutcome C.outside wanted bytes old outcome d.kept) read d.text
+        → IsUnbegun C (status r) ⊎ IsRightResume C scenario recorded name (status r)
+    by [] h outcome = absurd outcome
+    by (bytes ∷ []) h outcome = elim (outcome.1 []) [ inl none ↦ inl (quiet C name d.text d.kept r d.ended none.ending none.is none.idle.quiet) | inr has ↦ absurd (outcome.0 has.study) ]
+    by (bytes ∷ old ∷ []) h outcome = both bytes old h.0 h.1.0 outcome
+    by (bytes ∷ old ∷ other ∷ more) h outcome = absurd outcome
+
+-- what was done over a fleet
+done_right : (C : Around) (r : Result (Unit {0}) Ending) (R : Request) → IsDoneOver C R r → IsRightFor C (status r) R
+done_right C r (Run scenario name) d = run_right C r scenario name (was_run C scenario name r d)
+done_right C r (Resume scenario recorded name) d = resume_right C r scenario recorded name d
+done_right C r (Demo size) d = studied C Summary false (demo_scenario size) None (status r) d.text None d.outcome.0 (shown_by_run C None d.text d.kept r d.ended) (λ P J is zero name named. cc)
+done_right C r (Reads command) d = absurd d.outcome
 
 -- the text of a command on files, at status 0
 put_right : (C : Around) (target : Option (List ℕ)) (text : Result (List ℕ) Ending) (r : Result (Unit {0}) Ending) → TextAnswer C target text r → status r ≡ 0 → (t : List ℕ) × (text ≡ Ok t) × IsPut C target t
@@ -247,15 +347,13 @@ made_right C r has = λ zero.
 -- where nothing was done and put out, at a status other than 0
 untouched_right : (C : Around) (n : ℕ) → (n ≡ 0 → ⊥) → IsUntouched C → (Q : Request) → IsRightFor C n Q
 untouched_right C n not untouched (Run name saved) = inl (record { silent = untouched.log; unput = untouched.unput; status = not })
+untouched_right C n not untouched (Resume name recorded saved) = inl (record { silent = untouched.log; unput = untouched.unput; status = not })
 untouched_right C n not untouched (Demo size) = inl (record { silent = untouched.log; unput = untouched.unput; status = not })
 untouched_right C n not untouched (Reads command) = λ zero. absurd (not zero)
 
 performed_right : (C : Around) (r : Result (Unit {0}) Ending) → HasPerformed C r → (R : Request) → IsAsked C.words R → IsRightFor C (status r) R
 performed_right C r (inl made) R asked = subst (IsRightFor C (status r)) (one_request C.words (Reads made.command) R made.asked asked) (made_right C r made)
-performed_right C r (inr (inl ran)) R asked = subst (IsRightFor C (status r)) (one_request C.words (Run ran.scenario ran.name) R ran.asked asked) (run_right C r ran)
-performed_right C r (inr (inr summed)) R asked =
-    subst (IsRightFor C (status r)) (one_request C.words (Demo summed.size) R summed.asked asked)
-    (studied C Summary false (demo_scenario summed.size) None (status r) summed.text None summed.outcome (shown_by_demo C summed.text r summed.ended) (λ P J is zero name named. cc))
+performed_right C r (inr ran) R asked = subst (IsRightFor C (status r)) (one_request C.words ran.request R ran.asked asked) (done_right C r ran.request ran.run)
 
 right_for : (C : Around) (r : Result (Unit {0}) Ending) → Ended C r → (R : Request) → IsAsked C.words R → IsRightFor C (status r) R
 right_for C (Ok done) performed R asked = performed_right C (Ok done) performed R asked

@@ -1,5 +1,7 @@
 -- What lies around a call of the program.
-use Rattle.std.specs.Prelude.{◌≡◌, ℕ, ◌⊎◌, List, [], Option}
+use Rattle.std.specs.Prelude.{◌≡◌, ℕ, ◌≤◌, ◌⊎◌, List, [], Option}
+use Rattle.mk_base.specs.declared.LinkNo.{LinkNo}
+use Rattle.mk_launch.specs.Starts.{AreNumbered}
 use Rattle.mk_outside.specs.Counts.{HasRisen}
 use Rattle.mk_outside.specs.Folders.{Files}
 use Rattle.mk_watch_read.specs.declared.rule.Fold.{Fold}
@@ -64,6 +66,35 @@ pub record Around : Type 0 where
   pub rules : RulesSeen
   pub folder : FolderSeen
   pub output : OutputSeen
+
+-- a fleet's links around a call: how many it had started before, and which were open, before and
+-- after; and its count of faults, before and after
+pub record LinksSeen : Type 0 where
+  pub started : ℕ
+  pub before : List LinkNo
+  pub after : List LinkNo
+  pub faults : ℕ
+  pub new_faults : ℕ
+
+-- those of a fleet before and after, by what is told of it
+abbrev pub links_seen : {F : Type 0} → (F → ℕ) → (F → List LinkNo) → (F → ℕ) → F → F → LinksSeen
+links_seen started open_links faults old new = record {
+  started = started old;
+  before = open_links old;
+  after = open_links new;
+  faults = faults old;
+  new_faults = faults new;
+}
+
+-- no count of faults falls; and where the links that were open before have numbers below the count of
+-- links started, these are open afterwards, and no others: each link that was started is closed
+pub record KeepsCountsAndLinks (folder : FolderSeen) (links : LinksSeen)
+    (out err : OutputSeen) : Type 0 where
+  pub folder_count : folder.faults ≤ folder.new_faults
+  pub fleet_count : links.faults ≤ links.new_faults
+  pub out_count : out.faults ≤ out.new_faults
+  pub err_count : err.faults ≤ err.new_faults
+  pub links_closed : AreNumbered links.started links.before → links.after ≡ links.before
 
 -- nothing was put to the output, nothing saved, and nothing done with the fleet
 pub record IsUntouched (S : Around) : Type 0 where

@@ -5,7 +5,7 @@ use Rattle.mosaikrun_words.specs.declared.request.FileCommand.{FileCommand}
 use Rattle.mosaikrun_words.specs.declared.request.FileCommand.TheVariants.{Replay, Check, Pair}
 use Rattle.mosaikrun_words.specs.declared.request.PairCommand.TheVariants.{Migrate, Watch, Blame}
 use Rattle.mosaikrun_words.specs.declared.request.Request.{Request}
-use Rattle.mosaikrun_words.specs.declared.request.Request.TheVariants.{Files as Reads, Run, Demo}
+use Rattle.mosaikrun_words.specs.declared.request.Request.TheVariants.{Files as Reads, Run, Resume, Demo}
 use Rattle.mosaikrun_words.specs.Requests.{IsRequest}
 use Rattle.mk_local.specs.declared.turn.Turn.{Turn}
 use Rattle.mk_local.specs.Kinds.{name_of}
@@ -18,6 +18,7 @@ use Rattle.mosaikrun_records.specs.Saved.{IsRecord}
 use Rattle.mosaikrun_watch.specs.Watched.{IsWatchOutcome}
 use Rattle.mosaikrun_blame.specs.Blames.{IsBlameOutcome}
 use Rattle.mosaikrun_check.specs.Checks as checks
+use Rattle.mosaikrun_resume.specs.Outcomes.{IsStudy}
 
 -- the words ask for this
 abbrev pub IsAsked : List (List ℕ) → Request → Type 0
@@ -28,22 +29,27 @@ abbrev pub read_by : FileCommand → List (List ℕ)
 read_by (Replay name order) = name ∷ []
 read_by (Check scenario) = scenario ∷ []
 read_by (Pair Migrate old new) = old ∷ []
-read_by (Pair Watch name spec) = name ∷ spec ∷ []
-read_by (Pair Blame first second) = first ∷ second ∷ []
+read_by (Pair command first second) = first ∷ second ∷ []
 
 -- and those that are read for a request
 abbrev pub files_of : Request → List (List ℕ)
 files_of (Reads command) = read_by command
 files_of (Run scenario saved) = scenario ∷ []
+files_of (Resume scenario recorded saved) = scenario ∷ recorded ∷ []
 files_of (Demo size) = []
 
 -- the name that a command saves its text under; where there is none, the text is printed
 abbrev pub target_of : FileCommand → Option (List ℕ)
-target_of (Replay name order) = None
-target_of (Check scenario) = None
 target_of (Pair Migrate old new) = Some new
-target_of (Pair Watch name spec) = None
-target_of (Pair Blame first second) = None
+target_of command = None
+
+-- the name that a file is saved under for a request: a run's record, or a command's text; where there
+-- is none, nothing is saved
+abbrev pub saved_name : Request → Option (List ℕ)
+saved_name (Reads command) = target_of command
+saved_name (Run scenario name) = name
+saved_name (Resume scenario recorded name) = name
+saved_name (Demo size) = None
 
 -- what comes of one file
 abbrev pub OfOne : (List ℕ → Result (List ℕ) Ending → Type 0) → List (List ℕ)
@@ -52,15 +58,20 @@ OfOne makes [] outcome = ⊥
 OfOne makes (bytes ∷ []) outcome = makes bytes outcome
 OfOne makes (bytes ∷ other ∷ more) outcome = ⊥
 
--- what comes of a record and a second file; of the first alone where that is no record, whatever the
--- second is
+-- what comes of a file that is accepted and a second one; of the first alone where it isn't accepted,
+-- whatever the second is
+abbrev pub OfTwoBy : (List ℕ → Type 0) → (List ℕ → List ℕ → Result (List ℕ) Ending → Type 0)
+    → List (List ℕ) → Result (List ℕ) Ending → Type 0
+OfTwoBy accepted makes [] outcome = ⊥
+OfTwoBy accepted makes (first ∷ []) outcome = (accepted first → ⊥)
+    × ((second : List ℕ) → makes first second outcome)
+OfTwoBy accepted makes (first ∷ second ∷ []) outcome = makes first second outcome
+OfTwoBy accepted makes (first ∷ second ∷ other ∷ more) outcome = ⊥
+
+-- so it is of a record and a second file
 abbrev pub OfTwo : (List ℕ → List ℕ → Result (List ℕ) Ending → Type 0) → List (List ℕ)
     → Result (List ℕ) Ending → Type 0
-OfTwo makes [] outcome = ⊥
-OfTwo makes (first ∷ []) outcome = (IsRecord first → ⊥)
-    × ((second : List ℕ) → makes first second outcome)
-OfTwo makes (first ∷ second ∷ []) outcome = makes first second outcome
-OfTwo makes (first ∷ second ∷ other ∷ more) outcome = ⊥
+OfTwo = OfTwoBy IsRecord
 
 -- what a command makes of these files' bytes, the program having these kinds and rules: its text, or why there
 -- is none
@@ -93,10 +104,18 @@ IsNext [] read name = ⊥
 IsNext (first ∷ names) [] name = first ≡ name
 IsNext (first ∷ names) (bytes ∷ read) name = IsNext names read name
 
--- the next file is read: none was read before, or a record
-abbrev pub IsReadOn : List (List ℕ) → Type 0
-IsReadOn [] = ⊤
-IsReadOn (bytes ∷ more) = IsRecord bytes
+-- what the first of two files has to be, so that the second is read: a scenario that can be run, the
+-- kinds having these names, where the run of it is to go on, and else a record
+abbrev pub IsAccepted : List (List ℕ) → Request → List ℕ → Type 0
+IsAccepted kinds (Resume scenario recorded saved) = IsStudy kinds
+IsAccepted kinds (Run scenario saved) = IsRecord
+IsAccepted kinds (Demo size) = IsRecord
+IsAccepted kinds (Reads command) = IsRecord
+
+-- the next file is read: none was read before, or one that is accepted
+abbrev pub IsReadOn : (List ℕ → Type 0) → List (List ℕ) → Type 0
+IsReadOn accepted [] = ⊤
+IsReadOn accepted (bytes ∷ more) = accepted bytes
 
 -- the file isn't there, or is longer than a file may be
 abbrev pub IsNoFile : Option (List ℕ) → Type 0
@@ -121,11 +140,15 @@ pub record IsMade (files : Option Files) (kinds : List Turn) (rules : RulesSeen)
   pub made : IsOutcomeOf kinds rules command read outcome
 
 -- of the files of these names the next one isn't read
-pub record IsStuck (files : Option Files) (names : List (List ℕ)) (risen : Type 0)
-    (e : Ending) : Type 0 where
+pub record IsStuckBy (accepted : List ℕ → Type 0) (files : Option Files) (names : List (List ℕ))
+    (risen : Type 0) (e : Ending) : Type 0 where
   pub read : List (List ℕ)
   pub held : AreHeld files names read
-  pub on : IsReadOn read
+  pub on : IsReadOn accepted read
   pub name : List ℕ
   pub next : IsNext names read name
   pub cause : IsUnreadable files name risen e
+
+-- so it is of those of a command on files
+abbrev pub IsStuck : Option Files → List (List ℕ) → Type 0 → Ending → Type 0
+IsStuck = IsStuckBy IsRecord

@@ -1,5 +1,6 @@
--- When a run comes to its end, and when its scenario is refused.
-use Rattle.std.specs.Prelude.{◌≡◌, ℕ, ◌≤◌, length, map, List, Option, Some, IfSome, Ok}
+-- When a run, or one that goes on from a record, comes to its end, and when its scenario or its record
+-- is refused.
+use Rattle.std.specs.Prelude.{◌≡◌, ℕ, ◌≤◌, length, map, List, Option, Some, None, IfSome, Ok}
 use Rattle.mk_plan.specs.declared.Plan.{Plan}
 use Rattle.mk_plan.specs.declared.Entry.{Entry}
 use Rattle.mk_outside.specs.Counts.{HasRisen}
@@ -12,11 +13,22 @@ use Rattle.mk_run_crew.specs.Completing.{IsFaultlessHandshake}
 use Rattle.mk_run.specs.declared.outcome.Outcome.{Outcome}
 use Rattle.mk_run.specs.Ends.{IsFaultless}
 use Rattle.mk_run.specs.Ran.{HasRun}
-use Rattle.mosaikrun_words.specs.declared.request.Request.TheVariants.{Run}
+use Rattle.mk_run_local.specs.Made.{kind_reply_of}
+use Rattle.mk_plan_same.specs.Parts.{IsFirstOther}
+use Rattle.mk_sched.specs.declared.faults.CoreFault.{CoreFault}
+use Rattle.mk_record.specs.Reading.{reading, Said}
+use Rattle.mk_record.specs.Seen.{came}
+use Rattle.mk_record_read.specs.declared.saved.Saved.{Saved}
+use Rattle.mk_record_restored.specs.Restored.{IsFaulted, IsOtherIn}
+use Rattle.mk_resume_loop.specs.declared.ending.ResumeEnd.{ResumeEnd}
+use Rattle.mk_resume.specs.Laws as onward
+use Rattle.mk_resume.specs.Resumed.{HasRefused, HasResumed}
+use Rattle.mosaikrun_words.specs.declared.request.Request.TheVariants.{Run, Resume}
 use Rattle.mosaikrun_endings.specs.declared.ending.Ending.{Ending}
 use Rattle.mosaikrun_endings.specs.declared.ending.Ending.TheVariants as ends
 use Rattle.mosaikrun_check.specs.Checks.{IsUnchecked}
 use Rattle.mosaikrun_check.specs.Runnable.{AreRanks}
+use Rattle.mosaikrun_records.specs.Saved.{IsUnread}
 use Rattle.mosaikrun_run.specs.Outcomes.{Outside}
 use Rattle.mosaikrun_program.specs.Around.{Around}
 use Rattle.mosaikrun_program.specs.Commands.{IsAsked}
@@ -47,3 +59,46 @@ EndsRun C n = IfSome C.folder.files (λ held. (scenario : List ℕ) (saved : Opt
     → (IsFaultlessStudy C.outside bytes → IsStatusOr 0 n)
     × ((e : Ending) → IsUnchecked (map name_of C.outside.kinds) bytes e → (e ≡ ends.Mem → ⊥)
     → IsStatusOr 3 n))
+
+-- the plan is the record's, but for the limit of entries; no entry of the record is another than its
+-- messages make; and these meet no fault
+pub record IsRightRecord (P : Plan) (old : Saved) : Type 0 where
+  pub same_plan : IsFirstOther P old.plan None
+  pub same_entries : (n : ℕ) → IsOtherIn P (map came old.arrivals) old.asks n → ⊥
+  pub no_fault : (J : List Entry) (f : CoreFault) → IsFaulted P (map came old.arrivals) J f → ⊥
+
+-- nothing went wrong that a run can show which goes on from a record: the bytes are such a scenario,
+-- whose handshake shows no fault, and a record, which is right by each plan that the handshake, where
+-- nothing followed it, may have made; and a resumed run shows no fault: each simulator repeats its
+-- saved messages, and then no message is wrong in its place, no limit is met, no link ends, no frame
+-- is garbled or too long, no count rises
+pub record IsFaultlessResume (O : Outside) (bytes recorded : List ℕ) : Type 0 where
+  pub scenario : Scenario
+  pub ranks : List ℕ
+  pub read : scenario_of bytes ≡ Ok scenario
+  pub ranked : AreRanks scenario ranks
+  pub prepared : IsPrepared scenario (map name_of O.kinds)
+  pub handshake : (any : List ℕ) → AreRanks scenario any
+      → IsFaultlessHandshake O.started scenario any O.kinds O.log (HasRisen O.faults O.new_faults)
+  pub old : Saved
+  pub old_read : reading recorded ≡ Said old.plan (map came old.arrivals) old.asks
+  pub right : (any : List ℕ) (P : Plan) → HasRefused O.started scenario any O.kinds P O.log
+      (HasRisen O.faults O.new_faults) → IsRightRecord P old
+  pub run : (any : List ℕ) (P : Plan) (J : List Entry) (end : ResumeEnd)
+      → (h : HasResumed O.started scenario any O.kinds old P J O.log O.faults O.new_faults end)
+      → onward.IsFaultless O.started scenario (kind_reply_of O.kinds scenario) P h.run.first J
+      h.run.heard O.log O.faults O.new_faults
+
+-- a run that goes on from a record's bytes, where nothing goes wrong, comes to its end: its status is
+-- 0, or that of a folder or an output that failed, or of want of memory. Where the bytes of the
+-- scenario are refused, as by a run, whatever the record is, or those of the record are no record, it
+-- is 3, or one of these
+abbrev pub EndsResume : Around → ℕ → Type 0
+EndsResume C n = IfSome C.folder.files (λ held. (scenario recorded : List ℕ)
+    (saved : Option (List ℕ)) (bytes : List ℕ) → IsAsked C.words (Resume scenario recorded saved)
+    → held scenario ≡ Some bytes → length bytes ≤ file_limit
+    → ((e : Ending) → IsUnchecked (map name_of C.outside.kinds) bytes e → (e ≡ ends.Mem → ⊥)
+    → IsStatusOr 3 n)
+    × ((old : List ℕ) → held recorded ≡ Some old → length old ≤ file_limit
+    → (IsFaultlessResume C.outside bytes old → IsStatusOr 0 n)
+    × ((e : Ending) → IsUnread old e → (e ≡ ends.Mem → ⊥) → IsStatusOr 3 n)))

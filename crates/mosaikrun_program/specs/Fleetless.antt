@@ -3,14 +3,15 @@ use Rattle.std.specs.Prelude.{◌≡◌, ◌⊎◌, ℕ, true, List, Option, Som
 use Rattle.mk_outside.specs.Folders.{Files}
 use Rattle.mk_scenario.specs.declared.parts.Scenario.{Scenario}
 use Rattle.mk_scenario.specs.Scenarios.{scenario_of}
-use Rattle.mosaikrun_words.specs.declared.request.Request.TheVariants.{Run}
+use Rattle.mosaikrun_words.specs.declared.request.Request.TheVariants.{Run, Resume}
 use Rattle.mk_run_crew.specs.Wholly.{is_wholly_within}
 use Rattle.mosaikrun_program.specs.Commands.{IsAsked}
 
--- the words ask for no run
-abbrev pub IsNoRun : List (List ℕ) → Type 0
-IsNoRun words = (scenario : List ℕ) (saved : Option (List ℕ)) → IsAsked words (Run scenario saved)
-    → ⊥
+-- the words ask for no run, and for none that goes on
+pub record IsNoRun (words : List (List ℕ)) : Type 0 where
+  pub run : (scenario : List ℕ) (saved : Option (List ℕ)) → IsAsked words (Run scenario saved) → ⊥
+  pub resume : (scenario recorded : List ℕ) (saved : Option (List ℕ))
+      → IsAsked words (Resume scenario recorded saved) → ⊥
 
 -- the bytes are a scenario whose simulators are all within the program
 pub record IsWithin (bytes : List ℕ) : Type 0 where

@@ -7,6 +7,6 @@ pub mod Headline
 pub mod Making
 pub mod Program
 pub mod Recording
+pub mod Resuming
 pub mod Running
-pub mod Summing
 pub mod inner

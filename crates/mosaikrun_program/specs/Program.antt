@@ -1,19 +1,18 @@
 -- What the program has done, by its answer.
-use Rattle.std.specs.Prelude.{◌≡◌, ℕ, ◌⊎◌, List, Option, Some, option_map, Result, Ok, Err}
+use Rattle.std.specs.Prelude.{◌≡◌, ℕ, ◌⊎◌, List, map, Option, Some, option_map, Result, Ok, Err}
 use Rattle.mk_outside.specs.Counts.{HasRisen}
 use Rattle.mk_outside.specs.Folders.{Files, with_file}
 use Rattle.mk_outside.specs.Sinks.{TookBeginning, appended}
+use Rattle.mk_local.specs.Kinds.{name_of}
 use Rattle.mosaikrun_words.specs.declared.request.Request.{Request}
-use Rattle.mosaikrun_words.specs.declared.request.FileCommand.{FileCommand}
-use Rattle.mosaikrun_words.specs.declared.request.Request.TheVariants.{Files as Reads, Run}
 use Rattle.mosaikrun_endings.specs.declared.ending.Ending.{Ending}
 use Rattle.mosaikrun_endings.specs.Endings.{line_of, status_of}
 use Rattle.mosaikrun_program.specs.Around.{Around, IsUntouched}
-use Rattle.mosaikrun_program.specs.Commands.{IsAsked, IsStuck, IsUnasked, files_of, target_of}
+use Rattle.mosaikrun_program.specs.Commands.{IsAccepted, IsAsked, IsStuckBy, IsUnasked, files_of, saved_name}
 use Rattle.mosaikrun_program.specs.Making.{HasMade}
 use Rattle.mosaikrun_program.specs.Recording.{IsRecordKept}
+use Rattle.mosaikrun_program.specs.Resuming.{IsNewRecordKept}
 use Rattle.mosaikrun_program.specs.Running.{HasRunAs}
-use Rattle.mosaikrun_program.specs.Summing.{HasSummed}
 
 -- the words ask for nothing
 pub record IsMisused (S : Around) (e : Ending) : Type 0 where
@@ -24,13 +23,13 @@ pub record IsMisused (S : Around) (e : Ending) : Type 0 where
 pub record IsUnread (S : Around) (e : Ending) : Type 0 where
   pub request : Request
   pub asked : IsAsked S.words request
-  pub stuck : IsStuck S.folder.files (files_of request)
-      (HasRisen S.folder.faults S.folder.new_faults) e
+  pub stuck : IsStuckBy (IsAccepted (map name_of S.outside.kinds) request) S.folder.files
+      (files_of request) (HasRisen S.folder.faults S.folder.new_faults) e
   pub untouched : IsUntouched S
 
--- what the words ask for was done: a command on files, a run, or the demo
+-- what the words ask for was done: a command on files, or something over a fleet
 abbrev pub HasPerformed : Around → Result (Unit {0}) Ending → Type 0
-HasPerformed S answer = HasMade S answer ⊎ (HasRunAs S answer ⊎ HasSummed S answer)
+HasPerformed S answer = HasMade S answer ⊎ HasRunAs S answer
 
 -- what an answer says
 abbrev pub Ended : Around → Result (Unit {0}) Ending → Type 0
@@ -40,9 +39,7 @@ Ended S (Err e) = IsMisused S e ⊎ (IsUnread S e ⊎ HasPerformed S (Err e))
 -- the words ask for a run that saves its record under this name, or for a command that saves its text
 -- under it
 abbrev pub IsNamed : List (List ℕ) → List ℕ → Type 0
-IsNamed words name = ((scenario : List ℕ) × IsAsked words (Run scenario (Some name)))
-    ⊎ ((command : FileCommand) × IsAsked words (Reads command)
-    × (target_of command ≡ Some name))
+IsNamed words name = (R : Request) × IsAsked words R × (saved_name R ≡ Some name)
 
 -- the folder is as before, or one file was saved, under a name that the words give for it
 abbrev pub KeepsOthers : List (List ℕ) → Option Files → Option Files → Type 0
@@ -72,6 +69,7 @@ pub record EndsWith (S : Around) (failed : Type 0) (err_before err_after : Optio
   pub ended : Ended S answer
   pub told : Told answer failed err_before err_after
   pub recorded : IsRecordKept S answer n
+  pub resumed : IsNewRecordKept S answer n
 
 -- the status that goes with an outcome, or that of a folder or an output that failed, or of want of
 -- memory

@@ -21,7 +21,7 @@ pub record HoldsRecord (S : Around) (answer : Result (Unit {0}) Ending)
   pub said : Result (List ℕ) Ending
   pub text : List ℕ
   pub record_ : HasRecord S.outside Report scenario said (Some text)
-  pub answered : RunAnswer S (Some name) said (Some text) answer
+  pub answered : RunAnswer S.folder S.output (Some name) said (Some text) answer
   pub saved : S.folder.files_after ≡ option_map (with_file name text) S.folder.files
 
 -- the file of this name holds such a record wherever all is done, the run met a fault, or the whole

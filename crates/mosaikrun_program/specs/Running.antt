@@ -1,14 +1,30 @@
--- What the program has done where its words ask for a run, by its answer.
-use Rattle.std.specs.Prelude.{◌≡◌, ℕ, ◌⊎◌, List, Option, Some, None, is_some, option_map, Result, Ok, Err}
+-- What the program has done where its words ask for something over a fleet, by its answer.
+use Rattle.std.specs.Prelude.{◌≡◌, ℕ, ◌⊎◌, List, Option, Some, None, IsSome, is_some, map, option_map, Result, Ok, Err}
 use Rattle.mk_outside.specs.Counts.{HasRisen}
 use Rattle.mk_outside.specs.Folders.{Files, with_file}
 use Rattle.mk_outside.specs.Sinks.{TookBeginning, appended}
-use Rattle.mosaikrun_words.specs.declared.request.Request.TheVariants.{Run}
+use Rattle.mosaikrun_words.specs.declared.request.Request.{Request}
+use Rattle.mosaikrun_words.specs.declared.request.Request.TheVariants.{Files as Reads, Run, Resume, Demo}
+use Rattle.mk_local.specs.Kinds.{name_of}
 use Rattle.mosaikrun_endings.specs.declared.ending.Ending.{Ending}
 use Rattle.mosaikrun_endings.specs.declared.ending.Ending.TheVariants.{Folder, Mem}
-use Rattle.mosaikrun_run.specs.Outcomes.{IsRunOutcome}
-use Rattle.mosaikrun_program.specs.Commands.{IsAsked, IsHeld}
-use Rattle.mosaikrun_program.specs.Around.{Around, IsCutBy, IsSaidAs}
+use Rattle.mosaikrun_run.specs.Outcomes.{IsRunOutcome, Outside}
+use Rattle.mosaikrun_demo.specs.Outcomes.{IsDemoOutcome}
+use Rattle.mosaikrun_resume.specs.Outcomes.{IsResumeOutcome, IsStudy}
+use Rattle.mosaikrun_program.specs.Commands.{AreHeld, IsAsked, OfOne, OfTwoBy, files_of, saved_name}
+use Rattle.mosaikrun_program.specs.Around.{Around, FolderSeen, IsCutBy, IsSaidAs, OutputSeen}
+
+-- what comes of a request over a fleet, its files having these bytes: the text or why there is none,
+-- and the record, if there is one
+abbrev pub IsOutcomeOver : Outside → Request → List (List ℕ) → Result (List ℕ) Ending
+    → Option (List ℕ) → Type 0
+IsOutcomeOver O (Run scenario name) read text kept =
+    OfOne (λ bytes outcome. IsRunOutcome O (is_some name) bytes outcome kept) read text
+IsOutcomeOver O (Resume scenario recorded name) read text kept =
+    OfTwoBy (IsStudy (map name_of O.kinds))
+    (λ bytes old outcome. IsResumeOutcome O (is_some name) bytes old outcome kept) read text
+IsOutcomeOver O (Demo size) read text kept = IsDemoOutcome O size text × (kept ≡ None)
+IsOutcomeOver O (Reads command) read text kept = ⊥
 
 -- the files after the record, if there is one, was saved under this name, if there is one
 abbrev pub IsFolderAfter : Option (List ℕ) → Option (List ℕ) → Option Files → Option Files → Type 0
@@ -17,42 +33,48 @@ IsFolderAfter (Some name) None old new = new ≡ old
 IsFolderAfter None kept old new = new ≡ old
 
 -- the record, where there is one, was saved under this name, all other files being as before; where
--- there is none, all files are as before
-abbrev pub IsSaved : Around → Option (List ℕ) → Option (List ℕ) → Type 0
-IsSaved S name kept = IsFolderAfter name kept S.folder.files S.folder.files_after
+-- there is none, or no name, all files are as before
+abbrev pub IsSaved : FolderSeen → Option (List ℕ) → Option (List ℕ) → Type 0
+IsSaved folder name kept = IsFolderAfter name kept folder.files folder.files_after
 
--- or all files are as before, since the folder failed, or memory was wanting, which is then said
-abbrev pub IsUnsaved : Around → Ending → Type 0
-IsUnsaved S e = (S.folder.files_after ≡ S.folder.files)
-    × (HasRisen S.folder.faults S.folder.new_faults ⊎ (e ≡ Mem))
+-- or there is a name, and all files are as before, since the folder failed, or memory was wanting,
+-- which is then said
+abbrev pub IsUnsaved : FolderSeen → Option (List ℕ) → Ending → Type 0
+IsUnsaved folder name e = (folder.files_after ≡ folder.files)
+    × (HasRisen folder.faults folder.new_faults ⊎ (e ≡ Mem)) × IsSome name
 
--- the run has a report, but it wasn't put out: the record wasn't saved, and nothing was put; or it
--- was, and the output has taken a beginning of the report
-abbrev pub IsUnreported : Around → Option (List ℕ) → List ℕ → Option (List ℕ) → Ending → Type 0
-IsUnreported S name text kept e = ((S.output.after ≡ S.output.before) × IsUnsaved S e
-    × IsSaidAs Folder e) ⊎ (TookBeginning text S.output.before S.output.after × IsSaved S name kept
-    × IsCutBy S.output e)
+-- there is a text, but it wasn't put out: the record wasn't saved, and nothing was put; or it was, and
+-- the output has taken a beginning of the text
+abbrev pub IsUnreported : FolderSeen → OutputSeen → Option (List ℕ) → List ℕ → Option (List ℕ)
+    → Ending → Type 0
+IsUnreported folder out name text kept e = ((out.after ≡ out.before) × IsUnsaved folder name e
+    × IsSaidAs Folder e) ⊎ (TookBeginning text out.before out.after × IsSaved folder name kept
+    × IsCutBy out e)
 
--- what an answer says of a run, of which this text or this ending came, and this record: the report
--- was put out and the record saved; or it wasn't put out; or there is no report, and the record was
--- saved, or the folder failed, or memory was wanting
-abbrev pub RunAnswer : Around → Option (List ℕ) → Result (List ℕ) Ending → Option (List ℕ)
-    → Result (Unit {0}) Ending → Type 0
-RunAnswer S name (Ok text) kept (Ok done) = (S.output.after ≡ appended text S.output.before)
-    × IsSaved S name kept
-RunAnswer S name (Err why) kept (Ok done) = ⊥
-RunAnswer S name (Ok text) kept (Err e) = IsUnreported S name text kept e
-RunAnswer S name (Err why) kept (Err e) = (S.output.after ≡ S.output.before) × IsSaidAs why e
-    × (IsSaved S name kept ⊎ IsUnsaved S e)
+-- what an answer says of what was done over a fleet, of which this text or this ending came, and this
+-- record: the text was put out and the record saved; or it wasn't put out; or there is no text, and
+-- the record was saved, or the folder failed, or memory was wanting
+abbrev pub RunAnswer : FolderSeen → OutputSeen → Option (List ℕ) → Result (List ℕ) Ending
+    → Option (List ℕ) → Result (Unit {0}) Ending → Type 0
+RunAnswer folder out name (Ok text) kept (Ok done) = (out.after ≡ appended text out.before)
+    × IsSaved folder name kept
+RunAnswer folder out name (Err why) kept (Ok done) = ⊥
+RunAnswer folder out name (Ok text) kept (Err e) = IsUnreported folder out name text kept e
+RunAnswer folder out name (Err why) kept (Err e) = (out.after ≡ out.before) × IsSaidAs why e
+    × (IsSaved folder name kept ⊎ IsUnsaved folder name e)
 
--- the words ask for a run of a scenario, whose file was read, and this came of it
-pub record HasRunAs (S : Around) (answer : Result (Unit {0}) Ending) : Type 0 where
-  pub scenario : List ℕ
-  pub name : Option (List ℕ)
-  pub asked : IsAsked S.words (Run scenario name)
-  pub bytes : List ℕ
-  pub held : IsHeld S.folder.files scenario bytes
+-- the files of this request were read, and this came of it over the fleet
+pub record IsDoneOver (S : Around) (request : Request)
+    (answer : Result (Unit {0}) Ending) : Type 0 where
+  pub read : List (List ℕ)
+  pub held : AreHeld S.folder.files (files_of request) read
   pub text : Result (List ℕ) Ending
   pub kept : Option (List ℕ)
-  pub outcome : IsRunOutcome S.outside (is_some name) bytes text kept
-  pub ended : RunAnswer S name text kept answer
+  pub outcome : IsOutcomeOver S.outside request read text kept
+  pub ended : RunAnswer S.folder S.output (saved_name request) text kept answer
+
+-- the words ask for this, and it was done
+pub record HasRunAs (S : Around) (answer : Result (Unit {0}) Ending) : Type 0 where
+  pub request : Request
+  pub asked : IsAsked S.words request
+  pub run : IsDoneOver S request answer

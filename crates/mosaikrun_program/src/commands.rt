@@ -1,17 +1,16 @@
 // The commands on files: what each makes of the files that it reads.
-ghost use Rattle.std.specs.Prelude.{◌≡◌, ◌∷◌, [], ◌≤◌, ◌⊎◌, Ok, Err, IfOk, IfErr, map, option_map};
+ghost use Rattle.std.specs.Prelude.{◌≡◌, ◌∷◌, [], ◌≤◌, ◌⊎◌, List, Ok, Err, IfOk, IfErr, map, option_map};
+ghost use Rattle.mk_local.specs.declared.turn.Turn.{Turn};
 ghost use Rattle.mk_local.specs.Kinds.{name_of};
 ghost use Rattle.mk_local.specs.Registries.{rows_in};
 ghost use Rattle.mk_outside.specs.Counts.{HasRisen};
-ghost use Rattle.mk_watch_read.specs.Rules.{folds_in, names_in};
-ghost use Rattle.mosaikrun_blame.specs.Blames.{IsBlameOutcome};
 ghost use Rattle.mosaikrun_check.specs.Checks as checks;
 ghost use Rattle.mosaikrun_records.specs.Migrations.{IsMigration};
 ghost use Rattle.mosaikrun_records.specs.Reports as reports;
-ghost use Rattle.mosaikrun_watch.specs.Watched.{IsWatchOutcome};
-ghost use Rattle.mosaikrun_program.specs.Around.{rules_seen};
-ghost use Rattle.mosaikrun_program.specs.Commands.{IsHeld, IsMade, IsStuck, IsUnreadable, read_by, target_of};
-ghost use Rattle.mosaikrun_program.specs.inner.Making.{IsMadeOfOne, IsMadeOfTwo};
+ghost use Rattle.mosaikrun_words.specs.declared.request.PairCommand.{PairCommand};
+ghost use Rattle.mosaikrun_program.specs.Around.{RulesSeen, rules_seen};
+ghost use Rattle.mosaikrun_program.specs.Commands.{IsHeld, IsMade, IsStuck, IsUnreadable, target_of};
+ghost use Rattle.mosaikrun_program.specs.inner.Making.{IsMadeOfOne, IsUnmade};
 
 use mk_base::Text;
 use mk_local::Registry;
@@ -37,10 +36,9 @@ pub fn made<D: Folder>(
     ensures text { IfOk result
         (λ text. IsMade (D.files folder.old) (rows_in kinds.now) (rules_seen rules.now) command.now
         (Ok text.items)) }
-    ensures none { IfErr result (λ e. IsStuck (D.files folder.old) (read_by command.now)
-        (HasRisen (D.faults folder.old) (D.faults folder.new)) e
-        ⊎ IsMade (D.files folder.old) (rows_in kinds.now) (rules_seen rules.now) command.now
-        (Err e)) }
+    ensures none { IfErr result (λ e. IsUnmade (D.files folder.old) (rows_in kinds.now)
+        (rules_seen rules.now) command.now
+        (HasRisen (D.faults folder.old) (D.faults folder.new)) e) }
     ensures kept { D.files folder.new ≡ D.files folder.old }
     ensures count { D.faults folder.old ≤ D.faults folder.new }
 {
@@ -53,13 +51,40 @@ pub fn made<D: Folder>(
             command,
             first,
             second,
-        } => match command {
-            PairCommand::Migrate => migrate_file(alloc, first.as_str(), folder),
-            PairCommand::Watch => {
-                watch_files(alloc, rules, first.as_str(), second.as_str(), folder)
-            }
-            PairCommand::Blame => blame_files(alloc, first.as_str(), second.as_str(), folder),
-        },
+        } => pair_made(
+            alloc,
+            rules,
+            *command,
+            first.as_str(),
+            second.as_str(),
+            folder,
+        ),
+    }
+}
+
+// The text that a command that is given two names makes of its files, or why there is none.
+fn pair_made<D: Folder>(
+    alloc: Global,
+    rules: &Rules,
+    command: PairCommand,
+    first: &str,
+    second: &str,
+    folder: &mut D,
+) -> Result<Vec<u8>, Ending>
+    ensures text { (kinds : List Turn) → IfOk result
+        (λ text. IsMade (D.files folder.old) kinds (rules_seen rules.now)
+        (FileCommand.Pair command first.now second.now) (Ok text.items)) }
+    ensures none { (kinds : List Turn) → IfErr result
+        (λ e. IsUnmade (D.files folder.old) kinds (rules_seen rules.now)
+        (FileCommand.Pair command first.now second.now)
+        (HasRisen (D.faults folder.old) (D.faults folder.new)) e) }
+    ensures kept { D.files folder.new ≡ D.files folder.old }
+    ensures count { D.faults folder.old ≤ D.faults folder.new }
+{
+    match command {
+        PairCommand::Migrate => migrate_file(alloc, first, folder),
+        PairCommand::Watch => watch_files(alloc, rules, first, second, folder),
+        PairCommand::Blame => blame_files(alloc, first, second, folder),
     }
 }
 
@@ -127,12 +152,13 @@ fn watch_files<D: Folder>(
     second: &str,
     folder: &mut D,
 ) -> Result<Vec<u8>, Ending>
-    ensures text { IfOk result (λ text. IsMadeOfTwo (D.files folder.old) first.now second.now
-        (IsWatchOutcome (names_in rules.now) (folds_in rules.now)) (Ok text.items)) }
-    ensures none { IfErr result (λ e. IsStuck (D.files folder.old) (first.now ∷ second.now ∷ [])
-        (HasRisen (D.faults folder.old) (D.faults folder.new)) e
-        ⊎ IsMadeOfTwo (D.files folder.old) first.now second.now
-        (IsWatchOutcome (names_in rules.now) (folds_in rules.now)) (Err e)) }
+    ensures text { (command : PairCommand) → command ≡ PairCommand.Watch → (kinds : List Turn)
+        → IfOk result (λ text. IsMade (D.files folder.old) kinds (rules_seen rules.now)
+        (FileCommand.Pair command first.now second.now) (Ok text.items)) }
+    ensures none { (command : PairCommand) → command ≡ PairCommand.Watch → (kinds : List Turn)
+        → IfErr result (λ e. IsUnmade (D.files folder.old) kinds (rules_seen rules.now)
+        (FileCommand.Pair command first.now second.now)
+        (HasRisen (D.faults folder.old) (D.faults folder.new)) e) }
     ensures kept { D.files folder.new ≡ D.files folder.old }
     ensures count { D.faults folder.old ≤ D.faults folder.new }
 {
@@ -150,12 +176,13 @@ fn blame_files<D: Folder>(
     second: &str,
     folder: &mut D,
 ) -> Result<Vec<u8>, Ending>
-    ensures text { IfOk result (λ text. IsMadeOfTwo (D.files folder.old) first.now second.now
-        (IsBlameOutcome) (Ok text.items)) }
-    ensures none { IfErr result (λ e. IsStuck (D.files folder.old) (first.now ∷ second.now ∷ [])
-        (HasRisen (D.faults folder.old) (D.faults folder.new)) e
-        ⊎ IsMadeOfTwo (D.files folder.old) first.now second.now
-        (IsBlameOutcome) (Err e)) }
+    ensures text { (command : PairCommand) → command ≡ PairCommand.Blame → (kinds : List Turn)
+        → (rules : RulesSeen) → IfOk result (λ text. IsMade (D.files folder.old) kinds rules
+        (FileCommand.Pair command first.now second.now) (Ok text.items)) }
+    ensures none { (command : PairCommand) → command ≡ PairCommand.Blame → (kinds : List Turn)
+        → (rules : RulesSeen) → IfErr result (λ e. IsUnmade (D.files folder.old) kinds rules
+        (FileCommand.Pair command first.now second.now)
+        (HasRisen (D.faults folder.old) (D.faults folder.new)) e) }
     ensures kept { D.files folder.new ≡ D.files folder.old }
     ensures count { D.faults folder.old ≤ D.faults folder.new }
 {
@@ -178,7 +205,7 @@ pub fn target_of(command: &FileCommand) -> Option<&str>
             second,
         } => match command {
             PairCommand::Migrate => Some(second.as_str()),
-            PairCommand::Watch | PairCommand::Blame => None,
+            _ => None,
         },
     }
 }

@@ -2,6 +2,7 @@
 #![tactic(auto)]
 
 mod commands;
+mod handing;
 mod top;
 
 pub use top::program;

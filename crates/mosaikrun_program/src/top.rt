@@ -1,31 +1,31 @@
 // The top call: all that the program does, over a folder, a fleet and two sinks.
-ghost use Rattle.std.specs.Prelude.{◌≡◌, [], ℕ, ◌≤◌, ◌<◌, ◌⊎◌, List, Some, Result, Err, IfSome, IfOk, IfErr, OnOk, OnErr, map, option_map, length};
+ghost use Rattle.std.specs.Prelude.{◌≡◌, ℕ, ◌≤◌, ◌<◌, ◌⊎◌, List, Some, Result, Err, IfSome, IfOk, IfErr, OnOk, OnErr, map, option_map};
 ghost use Rattle.std.specs.String.{string_bytes};
 ghost use Rattle.mk_outside.specs.Counts.{HasRisen};
 ghost use Rattle.mk_outside.specs.Folders.{with_file};
 ghost use Rattle.mk_outside.specs.declared.fleet.LogEntry.{LogEntry};
 ghost use Rattle.mk_outside.specs.Logs.{Adds};
-ghost use Rattle.mk_outside.specs.Sinks.{TookBeginning, appended};
 ghost use Rattle.mk_launch.specs.Starts.{AreNumbered};
 ghost use Rattle.mosaikrun_words.specs.declared.request.Request.{Request};
 ghost use Rattle.mosaikrun_words.specs.declared.request.Request.TheVariants as requests;
 ghost use Rattle.mosaikrun_words.specs.declared.request.FileCommand.{FileCommand};
+ghost use Rattle.mk_local.specs.Kinds.{name_of};
 ghost use Rattle.mk_local.specs.Registries.{rows_in};
 ghost use Rattle.mosaikrun_endings.specs.declared.ending.Ending.{Ending};
 ghost use Rattle.mosaikrun_endings.specs.declared.ending.Ending.TheVariants as ends;
 ghost use Rattle.mosaikrun_endings.specs.Endings.{line_of, outcome_status, status_of};
-ghost use Rattle.mosaikrun_run.specs.Outcomes.{Outside, outside};
-ghost use Rattle.mosaikrun_program.specs.Around.{FolderSeen, OutputSeen, RulesSeen, folder_seen, output_seen, rules_seen};
+ghost use Rattle.mosaikrun_run.specs.Outcomes.{outside};
+ghost use Rattle.mosaikrun_program.specs.Around.{FolderSeen, KeepsCountsAndLinks, RulesSeen, folder_seen, links_seen, output_seen, rules_seen};
 ghost use Rattle.mosaikrun_program.specs.inner.Around.{unused};
-ghost use Rattle.mosaikrun_program.specs.Commands.{AreHeld, IsAsked, IsNext, IsNoFile, IsOutcomeOf, IsReadOn, IsUnasked, files_of, read_by};
-ghost use Rattle.mosaikrun_program.specs.Complete.{EndsRun};
+ghost use Rattle.mosaikrun_program.specs.Commands.{AreHeld, IsAccepted, IsAsked, IsNext, IsNoFile, IsOutcomeOf, IsReadOn, IsUnasked, files_of, read_by};
+ghost use Rattle.mosaikrun_program.specs.Complete.{EndsResume, EndsRun};
 ghost use Rattle.mosaikrun_program.specs.Fleetless.{IsHeldWithin, NeedsNoFleet};
 ghost use Rattle.mosaikrun_program.specs.Headline.{IsRightCall};
-ghost use Rattle.mosaikrun_program.specs.Running.{IsFolderAfter};
-ghost use Rattle.mosaikrun_program.specs.Summing.{HasSummed};
+ghost use Rattle.mosaikrun_program.specs.Running.{IsDoneOver};
 ghost use Rattle.mosaikrun_program.specs.Program.{Ended, EndsWith, IsStatusOr, KeepsOthers, TookLine};
 
 use crate::commands::{file_bytes, made, target_of};
+use crate::handing::{hand_out, print};
 use mk_base::Text;
 use mk_local::Registry;
 use mk_outside::{FileSave, Fleet, Folder, PutAll, Sink, put_all};
@@ -33,6 +33,7 @@ use mk_run_crew::handshakes_complete;
 use mk_watch_read::Rules;
 use mosaikrun_demo::summed;
 use mosaikrun_endings::Ending;
+use mosaikrun_resume::{resumed, study_of};
 use mosaikrun_run::ran;
 use mosaikrun_words::{FileCommand, Request, read_words};
 use std::alloc::Global;
@@ -40,10 +41,11 @@ use std::sync::Wait;
 
 /// Does what the words ask. A command on files reads them, and puts what it makes of them to `out`; a migration puts nothing
 /// there, and saves a record. A run reads its scenario's file, is made over the fleet, and may wait for others; it saves its
-/// record, where the words give a name, however it ended. The demo is a run too, of a scenario that is no file. Answers the
-/// status. A scenario's simulators within the program are of these kinds, and tables are made by these rules.
+/// record, where the words give a name, however it ended. A run that goes on from a record reads that file too, once its scenario
+/// is accepted, and saves the record of the whole run. The demo is a run too, of a scenario that is no file. Answers the status. A scenario's simulators within the program are of these kinds, and tables are made by these rules.
 ///
-/// Nothing is done with the fleet, unless the words ask for a run of a scenario in which some simulator has a link.
+/// Nothing is done with the fleet, unless the words ask for a run of a scenario in which some simulator has a link, or for one that
+/// goes on from a record.
 ///
 /// At a status other than 0 `err` gets a line that says why, and `out` gets nothing, or a beginning of the text where it failed
 /// or found no memory.
@@ -90,6 +92,16 @@ pub fn program<D: Folder, F: Fleet, K: Sink, E: Sink, R: Wait>(
           output = output_seen K.written K.faults K.shortages out.old out.new;
         })
         result }
+    ensures resumes { (entries : List LogEntry) × Adds entries (F.log fleet.old) (F.log fleet.new)
+        × EndsResume
+        (record {
+          words = map string_bytes words.now;
+          outside = outside F.started F.faults (rows_in kinds.now) fleet.old fleet.new entries;
+          rules = rules_seen rules.now;
+          folder = folder_seen D.files D.faults folder.old folder.new;
+          output = output_seen K.written K.faults K.shortages out.old out.new;
+        })
+        result }
     ensures usage { (result ≡ 2) → (R : Request) → IsAsked (map string_bytes words.now) R → ⊥ }
     ensures useless { ((R : Request) → IsAsked (map string_bytes words.now) R → ⊥)
         → IsStatusOr 2 result }
@@ -101,18 +113,18 @@ pub fn program<D: Folder, F: Fleet, K: Sink, E: Sink, R: Wait>(
         → (o ≡ Err ends.Mem → ⊥) → IsStatusOr (outcome_status o) result) }
     ensures unreadable { IfSome (D.files folder.old) (λ held. (R : Request)
         → (read : List (List ℕ)) → (name : List ℕ) → IsAsked (map string_bytes words.now) R
-        → AreHeld (Some held) (files_of R) read → IsReadOn read → IsNext (files_of R) read name
-        → IsNoFile (held name) → IsStatusOr 3 result) }
+        → AreHeld (Some held) (files_of R) read
+        → IsReadOn (IsAccepted (map name_of (rows_in kinds.now)) R) read
+        → IsNext (files_of R) read name → IsNoFile (held name) → IsStatusOr 3 result) }
     ensures others_kept { KeepsOthers (map string_bytes words.now) (D.files folder.old)
         (D.files folder.new) }
-    ensures links_closed { AreNumbered (F.started fleet.old) (F.open_links fleet.old)
-        → F.open_links fleet.new ≡ F.open_links fleet.old }
     ensures fleet_unused { NeedsNoFleet (map string_bytes words.now) (D.files folder.old)
         → fleet.new ≡ fleet.old }
-    ensures folder_count { D.faults folder.old ≤ D.faults folder.new }
-    ensures fleet_count { F.faults fleet.old ≤ F.faults fleet.new }
-    ensures out_count { K.faults out.old ≤ K.faults out.new }
-    ensures err_count { E.faults err.old ≤ E.faults err.new }
+    ensures counts_and_links { KeepsCountsAndLinks
+        (folder_seen D.files D.faults folder.old folder.new)
+        (links_seen F.started F.open_links F.faults fleet.old fleet.new)
+        (output_seen K.written K.faults K.shortages out.old out.new)
+        (output_seen E.written E.faults E.shortages err.old err.new) }
 {
     // a law, which does nothing: when a run comes to its end
     handshakes_complete();
@@ -162,6 +174,23 @@ fn answer<D: Folder, F: Fleet, K: Sink, R: Wait>(
                 out,
             )
         }
+        Request::Resume {
+            scenario,
+            record,
+            save,
+        } => {
+            carry_on(
+                rt,
+                alloc,
+                scenario.as_str(),
+                record.as_str(),
+                &save,
+                folder,
+                fleet,
+                kinds,
+                out,
+            )
+        }
         Request::Demo { size } => sum_up(rt, alloc, size, fleet, kinds, out),
         Request::Files(command) => make(alloc, &command, folder, kinds, rules, out),
     }
@@ -194,6 +223,22 @@ fn make<D: Folder, K: Sink>(
     }
 }
 
+// Saves a file, or says why it isn't saved.
+fn save<D: Folder>(folder: &mut D, name: &str, bytes: &[u8]) -> Result<(), Ending>
+    ensures kept { OnOk result (D.files folder.new
+        ≡ option_map (with_file name.now bytes.now) (D.files folder.old)) }
+    ensures unsaved { OnErr result (D.files folder.new ≡ D.files folder.old) }
+    ensures cause { IfErr result (λ e. ((e ≡ ends.Folder)
+        × HasRisen (D.faults folder.old) (D.faults folder.new)) ⊎ (e ≡ ends.Mem)) }
+    ensures count { D.faults folder.old ≤ D.faults folder.new }
+{
+    match folder.save(name, bytes) {
+        FileSave::Kept => Ok(()),
+        FileSave::Failed => Err(Ending::Folder),
+        FileSave::Mem => Err(Ending::Mem),
+    }
+}
+
 // What the words ask for.
 fn asked(alloc: Global, words: &[String]) -> Result<Request, Ending>
     ensures asked { IfOk result (λ request. IsAsked (map string_bytes words.now) request) }
@@ -205,7 +250,8 @@ fn asked(alloc: Global, words: &[String]) -> Result<Request, Ending>
     }
 }
 
-// Reads a scenario's file and runs it over the fleet, saves the record under the name, if there is one, and prints the report.
+// Reads a scenario's file and runs it over the fleet; the record is saved under the name, if there is one, and the report is
+// printed.
 fn play<D: Folder, F: Fleet, K: Sink, R: Wait>(
     rt: &R,
     alloc: Global,
@@ -235,14 +281,51 @@ fn play<D: Folder, F: Fleet, K: Sink, R: Wait>(
 {
     let bytes = file_bytes(alloc, folder, scenario)?;
     let told = ran(rt, alloc, kinds, bytes.as_slice(), fleet, name.is_some());
-    match keep(folder, name, &told.record) {
-        FileSave::Kept => print(out, told.text?.as_slice()),
-        FileSave::Failed => {
-            told.text?;
-            Err(Ending::Folder)
-        }
-        FileSave::Mem => Err(Ending::Mem),
-    }
+    hand_out(told, name, folder, out)
+}
+
+// Reads a scenario's file and then, where it can be run, that of a record, and goes on with the run over the fleet; the new record
+// is saved under the name, if there is one, and the report is printed.
+fn carry_on<D: Folder, F: Fleet, K: Sink, R: Wait>(
+    rt: &R,
+    alloc: Global,
+    scenario: &str,
+    recorded: &str,
+    name: &Option<Text>,
+    folder: &mut D,
+    fleet: &mut F,
+    kinds: &Registry,
+    out: &mut K,
+) -> Result<(), Ending>
+    ensures carried { (words : List (List ℕ)) → (rules : RulesSeen)
+        → IsAsked words (requests.Resume scenario.now recorded.now name.now)
+        → (entries : List LogEntry) × Adds entries (F.log fleet.old) (F.log fleet.new)
+        × Ended (record {
+          words = words;
+          outside = outside F.started F.faults (rows_in kinds.now) fleet.old fleet.new entries;
+          rules = rules;
+          folder = folder_seen D.files D.faults folder.old folder.new;
+          output = output_seen K.written K.faults K.shortages out.old out.new;
+        }) result }
+    ensures links_closed { AreNumbered (F.started fleet.old) (F.open_links fleet.old)
+        → F.open_links fleet.new ≡ F.open_links fleet.old }
+    ensures folder_count { D.faults folder.old ≤ D.faults folder.new }
+    ensures fleet_count { F.faults fleet.old ≤ F.faults fleet.new }
+    ensures out_count { K.faults out.old ≤ K.faults out.new }
+{
+    let bytes = file_bytes(alloc, folder, scenario)?;
+    let study = study_of(alloc, kinds, bytes.as_slice())?;
+    let old = file_bytes(alloc, folder, recorded)?;
+    let told = resumed(
+        rt,
+        alloc,
+        kinds,
+        study,
+        old.as_slice(),
+        fleet,
+        name.is_some(),
+    );
+    hand_out(told, name, folder, out)
 }
 
 // Runs the demo scenario of this size over the fleet, and prints its summary.
@@ -257,15 +340,15 @@ fn sum_up<F: Fleet, K: Sink, R: Wait>(
     requires low { 1 ≤ size }
     requires high { size ≤ 100 }
     ensures summed { (words : List (List ℕ)) → (rules : RulesSeen) → (folder : FolderSeen)
-        → folder.files_after ≡ folder.files → IsAsked words (requests.Demo size)
+        → folder.files_after ≡ folder.files
         → (entries : List LogEntry) × Adds entries (F.log fleet.old) (F.log fleet.new)
-        × HasSummed (record {
+        × IsDoneOver (record {
           words = words;
           outside = outside F.started F.faults (rows_in kinds.now) fleet.old fleet.new entries;
           rules = rules;
           folder = folder;
           output = output_seen K.written K.faults K.shortages out.old out.new;
-        }) result }
+        }) (requests.Demo size) result }
     ensures links_closed { AreNumbered (F.started fleet.old) (F.open_links fleet.old)
         → F.open_links fleet.new ≡ F.open_links fleet.old }
     ensures alone { fleet.new ≡ fleet.old }
@@ -274,54 +357,6 @@ fn sum_up<F: Fleet, K: Sink, R: Wait>(
 {
     let text = summed(rt, alloc, kinds, size, fleet)?;
     print(out, text.as_slice())
-}
-
-// Saves a file, or says why it isn't saved.
-fn save<D: Folder>(folder: &mut D, name: &str, bytes: &[u8]) -> Result<(), Ending>
-    ensures kept { OnOk result (D.files folder.new
-        ≡ option_map (with_file name.now bytes.now) (D.files folder.old)) }
-    ensures unsaved { OnErr result (D.files folder.new ≡ D.files folder.old) }
-    ensures cause { IfErr result (λ e. ((e ≡ ends.Folder)
-        × HasRisen (D.faults folder.old) (D.faults folder.new)) ⊎ (e ≡ ends.Mem)) }
-    ensures count { D.faults folder.old ≤ D.faults folder.new }
-{
-    match folder.save(name, bytes) {
-        FileSave::Kept => Ok(()),
-        FileSave::Failed => Err(Ending::Folder),
-        FileSave::Mem => Err(Ending::Mem),
-    }
-}
-
-// Saves the record of a run, if there is one, under the name, if one is given.
-fn keep<D: Folder>(folder: &mut D, name: &Option<Text>, bytes: &Option<Vec<u8>>) -> FileSave
-    ensures kept { result ≡ FileSave.Kept
-        → IsFolderAfter name.now (option_map (λ b. b.items) bytes.now) (D.files folder.old)
-        (D.files folder.new) }
-    ensures failed { result ≡ FileSave.Failed → (D.files folder.new ≡ D.files folder.old)
-        × HasRisen (D.faults folder.old) (D.faults folder.new) }
-    ensures wanting { result ≡ FileSave.Mem → D.files folder.new ≡ D.files folder.old }
-    ensures count { D.faults folder.old ≤ D.faults folder.new }
-{
-    match (name, bytes) {
-        (Some(name), Some(bytes)) => folder.save(name.as_str(), bytes.as_slice()),
-        _ => FileSave::Kept,
-    }
-}
-
-// Puts a text, or says why only a beginning of it was taken.
-fn print<K: Sink>(out: &mut K, text: &[u8]) -> Result<(), Ending>
-    ensures put { OnOk result (K.written out.new ≡ appended text.now (K.written out.old)) }
-    ensures cut { OnErr result (TookBeginning text.now (K.written out.old) (K.written out.new)) }
-    ensures cause { IfErr result (λ e. ((e ≡ ends.Output)
-        × HasRisen (K.faults out.old) (K.faults out.new))
-        ⊎ ((e ≡ ends.Mem) × HasRisen (K.shortages out.old) (K.shortages out.new))) }
-    ensures count { K.faults out.old ≤ K.faults out.new }
-{
-    match put_all(out, text) {
-        PutAll::Done => Ok(()),
-        PutAll::Failed => Err(Ending::Output),
-        PutAll::Mem => Err(Ending::Mem),
-    }
 }
 
 // Says why there is no text, and answers the status. Where there is no memory for the line it says that.

@@ -31,6 +31,8 @@ const RUN: &[&str] = &["run", "s", "--record", "k"];
 
 const REPLAY: &[&str] = &["replay", "r"];
 
+const RESUME: &[&str] = &["resume", "s", "r", "--record", "k"];
+
 const FOLDER: &str = "mosaikrun: outside: folder\n";
 
 const OUTPUT: &str = "mosaikrun: outside: output\n";
@@ -126,6 +128,51 @@ const ROWS: &[Row] = &[
         err: "",
         out: THREE_STEPS,
         saved: "",
+    },
+    Row {
+        words: RESUME,
+        fails: Fails::Folder,
+        call: 0,
+        status: 6,
+        err: FOLDER,
+        out: "",
+        saved: "",
+    },
+    Row {
+        words: RESUME,
+        fails: Fails::Folder,
+        call: 1,
+        status: 6,
+        err: FOLDER,
+        out: "",
+        saved: "",
+    },
+    Row {
+        words: RESUME,
+        fails: Fails::Folder,
+        call: 2,
+        status: 6,
+        err: FOLDER,
+        out: "",
+        saved: "",
+    },
+    Row {
+        words: RESUME,
+        fails: Fails::Folder,
+        call: 3,
+        status: 0,
+        err: "",
+        out: THREE_STEPS,
+        saved: SAVED,
+    },
+    Row {
+        words: RESUME,
+        fails: Fails::Out,
+        call: 0,
+        status: 6,
+        err: OUTPUT,
+        out: "",
+        saved: SAVED,
     },
     Row {
         words: &["run", "none.toml"],

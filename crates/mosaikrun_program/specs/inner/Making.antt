@@ -1,9 +1,12 @@
--- For proofs alone. What came of one file, and of two: rows of `IsOutcomeOf`, before it is known
--- which command they are of.
-use Rattle.std.specs.Prelude.{ℕ, List, [], ◌∷◌, Option, Result}
+-- For proofs alone. What came of one file, before it is known which command it is of; and why a command
+-- makes nothing.
+use Rattle.std.specs.Prelude.{ℕ, ◌⊎◌, List, Option, Result, Err}
 use Rattle.mk_outside.specs.Folders.{Files}
+use Rattle.mk_local.specs.declared.turn.Turn.{Turn}
+use Rattle.mosaikrun_words.specs.declared.request.FileCommand.{FileCommand}
 use Rattle.mosaikrun_endings.specs.declared.ending.Ending.{Ending}
-use Rattle.mosaikrun_program.specs.Commands.{AreHeld, IsHeld, OfTwo}
+use Rattle.mosaikrun_program.specs.Around.{RulesSeen}
+use Rattle.mosaikrun_program.specs.Commands.{IsHeld, IsMade, IsStuck, read_by}
 
 -- the file of this name was read, and this came of it
 pub record IsMadeOfOne (files : Option Files) (name : List ℕ)
@@ -13,10 +16,7 @@ pub record IsMadeOfOne (files : Option Files) (name : List ℕ)
   pub held : IsHeld files name bytes
   pub made : makes bytes outcome
 
--- both files, or the first of them, were read, and this came of them
-pub record IsMadeOfTwo (files : Option Files) (first second : List ℕ)
-    (makes : List ℕ → List ℕ → Result (List ℕ) Ending → Type 0)
-    (outcome : Result (List ℕ) Ending) : Type 0 where
-  pub read : List (List ℕ)
-  pub held : AreHeld files (first ∷ second ∷ []) read
-  pub made : OfTwo makes read outcome
+-- one of the command's files isn't read, or this ending came of them
+abbrev pub IsUnmade : Option Files → List Turn → RulesSeen → FileCommand → Type 0 → Ending → Type 0
+IsUnmade files kinds rules command risen e = IsStuck files (read_by command) risen e
+    ⊎ IsMade files kinds rules command (Err e)

@@ -4,13 +4,13 @@ use Rattle.std.proofs.lemmas.Result.{err_from_is_err_and}
 use Rattle.mk_outside.proofs.OnLogs.{adds_none}
 use Rattle.mk_local.specs.Registries.{rows_in}
 use Rattle.mosaikrun_words.specs.declared.request.Request.{Request}
-use Rattle.mosaikrun_words.specs.declared.request.Request.TheVariants.{Run}
+use Rattle.mosaikrun_words.specs.declared.request.Request.TheVariants.{Run, Resume, Demo}
 use Rattle.mosaikrun_endings.specs.declared.ending.Ending.{Ending}
 use Rattle.mosaikrun_run.specs.Outcomes.{outside}
 use Rattle.mosaikrun_program.specs.Around.{Around, folder_seen, output_seen, rules_seen}
 use Rattle.mosaikrun_program.specs.Commands.{IsAsked}
 use Rattle.mosaikrun_program.specs.Program.{Ended}
-use Rattle.mosaikrun_program.proofs.Fleetless.{run_within}
+use Rattle.mosaikrun_program.proofs.Fleetless.{resume_needs, run_within}
 use Rattle.mosaikrun_program.proofs.Playing.{performed}
 use Rattle.mosaikrun_program.proofs.top.answer.Goals as goal
 
@@ -38,8 +38,8 @@ pub returns-in-Demo-clause-ended : goal.returns-in-Demo-clause-ended
 returns-in-Demo-clause-ended g c =
     let seen = folder_seen g.D.Folder.files g.D.Folder.faults c.args.folder.now c.args.folder.now in
     let asked = subst (λ (R : Request). IsAsked (map string_bytes c.args.words.now) R) c.in-Demo.is c.in_ok-scenario.ensures.asked in
-    let came = c.sum_up.ensures.summed (map string_bytes c.args.words.now) (rules_seen c.args.rules.now) seen refl asked in
-    (came.0, came.1, performed _ _ (inr (inr came.2)))
+    let came = c.sum_up.ensures.summed (map string_bytes c.args.words.now) (rules_seen c.args.rules.now) seen refl in
+    (came.0, came.1, performed _ _ (inr (record { request = Demo c.in-Demo.size; asked = asked; run = came.2 })))
 
 -- a run does nothing with the fleet where no simulator has a link
 pub returns-in-Run-clause-fleet_unused : goal.returns-in-Run-clause-fleet_unused
@@ -70,3 +70,16 @@ returns-in-Run-clause-ended g c =
     let same : c.in_ok-scenario.field-0 ≡ Run c.as_str.result.now c.in-Run.record = cc (c.in-Run.is, c.as_str.ensures) in
     let asked = subst (λ (R : Request). IsAsked (map string_bytes c.args.words.now) R) same c.in_ok-scenario.ensures.asked in
     c.play.ensures.played (map string_bytes c.args.words.now) (rules_seen c.args.rules.now) asked
+
+-- a run goes on
+pub returns-in-Resume-clause-ended : goal.returns-in-Resume-clause-ended
+returns-in-Resume-clause-ended g c =
+    let same : c.in_ok-scenario.field-0 ≡ Resume c.as_str-in-Resume.result.now c.as_str-in-Resume-2.result.now c.in-Resume.save = cc (c.in-Resume.is, c.as_str-in-Resume.ensures, c.as_str-in-Resume-2.ensures) in
+    let asked = subst (λ (R : Request). IsAsked (map string_bytes c.args.words.now) R) same c.in_ok-scenario.ensures.asked in
+    c.carry_on.ensures.carried (map string_bytes c.args.words.now) (rules_seen c.args.rules.now) asked
+
+pub returns-in-Resume-clause-fleet_unused : goal.returns-in-Resume-clause-fleet_unused
+returns-in-Resume-clause-fleet_unused g c =
+    let same : c.in_ok-scenario.field-0 ≡ Resume c.as_str-in-Resume.result.now c.as_str-in-Resume-2.result.now c.in-Resume.save = cc (c.in-Resume.is, c.as_str-in-Resume.ensures, c.as_str-in-Resume-2.ensures) in
+    let asked = subst (λ (R : Request). IsAsked (map string_bytes c.args.words.now) R) same c.in_ok-scenario.ensures.asked in
+    λ needless. absurd (resume_needs (map string_bytes c.args.words.now) (g.D.Folder.files c.args.folder.now) _ _ _ asked needless)

@@ -1,13 +1,10 @@
 use Rattle.std.proofs.Common.{◌≡◌, List, ℕ, None, Option, Ok, refl, subst}
-use Rattle.std.specs.Prelude.{OnOk, OnErr}
-use Rattle.mk_outside.specs.Sinks.{TookBeginning, appended}
 use Rattle.mk_local.specs.Registries.{rows_in}
-use Rattle.mosaikrun_program.specs.Answers.{TextAnswer}
+use Rattle.mosaikrun_program.specs.Answers.{PrintAnswer, TextAnswer}
 use Rattle.mosaikrun_program.specs.Around.{Around, folder_seen, output_seen, rules_seen}
 use Rattle.mosaikrun_program.specs.Commands.{target_of}
 use Rattle.mosaikrun_program.specs.inner.Around.{unused}
 use Rattle.mosaikrun_program.proofs.Making.{has_made}
-use Rattle.mosaikrun_program.proofs.Summing.{put_out}
 use Rattle.mosaikrun_program.proofs.top.make.Goals as goal
 
 -- the text is printed
@@ -22,10 +19,7 @@ returns-clause-made g c = λ words started faults asked.
     } in
     let text : List ℕ = c.in_ok-text.text.items in
     let out = S.output in
-    let put = put_out out text c.print.result
-    (subst (λ (t : List ℕ). OnOk c.print.result (out.after ≡ appended t out.before)) c.as_slice-in-None.ensures.value c.print.ensures.put)
-    (subst (λ (t : List ℕ). OnErr c.print.result (TookBeginning t out.before out.after)) c.as_slice-in-None.ensures.value c.print.ensures.cut)
-    c.print.ensures.cause in
+    let put = subst (λ (t : List ℕ). PrintAnswer out (Ok t) c.print.result) c.as_slice-in-None.ensures.value c.print.ensures.put in
     let target : None ≡ target_of c.args.command.now = cc (c.target_of.ensures, c.in-None.is) in
     has_made S c.args.command.now (Ok text) c.print.result asked c.in_ok-text.ensures.text
     (subst (λ (n : Option (List ℕ)). TextAnswer S n (Ok text) c.print.result) target (put, c.made.ensures.kept)) refl refl

@@ -7,7 +7,9 @@ use Rattle.mosaikrun_program.specs.Program.{IsStatusOr}
 use Rattle.mosaikrun_program.proofs.Answering.{keeps_others, said_ended, usage_only, useless_words}
 use Rattle.mosaikrun_program.proofs.Deciding.{told_decided, told_no_file}
 use Rattle.mosaikrun_program.proofs.Recording.{record_kept}
+use Rattle.mosaikrun_program.proofs.Resuming.{new_record_kept}
 use Rattle.mosaikrun_program.proofs.EndingRuns.{ends_run}
+use Rattle.mosaikrun_program.proofs.EndingResumes.{ends_resume}
 use Rattle.mosaikrun_program.proofs.RightCalls.{right_call}
 use Rattle.mosaikrun_program.proofs.top.program.Goals as goal
 
@@ -23,19 +25,22 @@ returns-in-Ok g c =
     } in
     record {
       headline = (ended.0, ended.1, right_call S (Ok tt) 0 refl ended.2);
-      ended = (ended.0, ended.1, record { answer = Ok tt; is = refl; ended = ended.2; told = refl; recorded = record_kept S (Ok tt) 0 refl ended.2 });
+      ended = (ended.0, ended.1, record { answer = Ok tt; is = refl; ended = ended.2; told = refl; recorded = record_kept S (Ok tt) 0 refl ended.2; resumed = new_record_kept S (Ok tt) 0 refl ended.2 });
       completes = (ended.0, ended.1, ends_run c.handshakes_complete.ensures S S.folder.files (Ok tt) 0 refl refl ended.2);
+      resumes = (ended.0, ended.1, ends_resume c.handshakes_complete.ensures S S.folder.files (Ok tt) 0 refl refl ended.2);
       usage = λ two. usage_only S (Ok tt) ended.2 two;
       useless = useless_words S (Ok tt) ended.2;
       decided = told_decided S S.folder.files (Ok tt) 0 refl refl ended.2;
       unreadable = told_no_file S S.folder.files (Ok tt) 0 refl refl ended.2;
       others_kept = keeps_others S (Ok tt) ended.2;
-      links_closed = c.in-Ok.ensures.links_closed;
       fleet_unused = c.in-Ok.ensures.fleet_unused;
-      folder_count = c.in-Ok.ensures.folder_count;
-      fleet_count = c.in-Ok.ensures.fleet_count;
-      out_count = c.in-Ok.ensures.out_count;
-      err_count = omega (arith);
+      counts_and_links = record {
+        folder_count = c.in-Ok.ensures.folder_count;
+        fleet_count = c.in-Ok.ensures.fleet_count;
+        out_count = c.in-Ok.ensures.out_count;
+        err_count = omega (arith);
+        links_closed = c.in-Ok.ensures.links_closed;
+      };
     }
 
 pub returns-in-Err : goal.returns-in-Err
@@ -52,17 +57,20 @@ returns-in-Err g c =
     let said = said_ended S told.0 c.in-Err.ending ended.2 told.1 in
     record {
       headline = (ended.0, ended.1, right_call S (Err told.0) c.tell.result told.2 said);
-      ended = (ended.0, ended.1, record { answer = Err told.0; is = told.2; ended = said; told = told.3; recorded = record_kept S (Err told.0) c.tell.result told.2 said });
+      ended = (ended.0, ended.1, record { answer = Err told.0; is = told.2; ended = said; told = told.3; recorded = record_kept S (Err told.0) c.tell.result told.2 said; resumed = new_record_kept S (Err told.0) c.tell.result told.2 said });
       completes = (ended.0, ended.1, ends_run c.handshakes_complete.ensures S S.folder.files (Err told.0) c.tell.result refl told.2 said);
+      resumes = (ended.0, ended.1, ends_resume c.handshakes_complete.ensures S S.folder.files (Err told.0) c.tell.result refl told.2 said);
       usage = λ two. usage_only S (Err told.0) said (sym told.2 ∙ two);
       useless = λ none. subst (IsStatusOr 2) (sym told.2) (useless_words S (Err told.0) said none);
       decided = told_decided S S.folder.files (Err told.0) c.tell.result refl told.2 said;
       unreadable = told_no_file S S.folder.files (Err told.0) c.tell.result refl told.2 said;
       others_kept = keeps_others S (Err told.0) said;
-      links_closed = c.in-Err.ensures.links_closed;
       fleet_unused = c.in-Err.ensures.fleet_unused;
-      folder_count = c.in-Err.ensures.folder_count;
-      fleet_count = c.in-Err.ensures.fleet_count;
-      out_count = c.in-Err.ensures.out_count;
-      err_count = c.tell.ensures.count;
+      counts_and_links = record {
+        folder_count = c.in-Err.ensures.folder_count;
+        fleet_count = c.in-Err.ensures.fleet_count;
+        out_count = c.in-Err.ensures.out_count;
+        err_count = c.tell.ensures.count;
+        links_closed = c.in-Err.ensures.links_closed;
+      };
     }

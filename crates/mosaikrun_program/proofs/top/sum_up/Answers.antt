@@ -1,18 +1,18 @@
-use Rattle.std.proofs.Common.{◌≡◌, inl, refl, sym, ap, ◌∙◌, subst, Result, Ok, Err}
+use Rattle.std.proofs.Common.{[], inl, refl, sym, ap, ◌∙◌, subst, None, Result, Ok, Err}
 use Rattle.std.proofs.lemmas.Result.{err_from_is_err_and}
-use Rattle.std.specs.Prelude.{OnOk, OnErr}
-use Rattle.mk_outside.specs.Sinks.{TookBeginning, appended}
 use Rattle.mk_local.specs.Registries.{rows_in}
+use Rattle.mosaikrun_words.specs.declared.request.Request.TheVariants.{Demo}
 use Rattle.mosaikrun_endings.specs.declared.ending.Ending.{Ending}
 use Rattle.mosaikrun_run.specs.Outcomes.{outside}
+use Rattle.mosaikrun_program.specs.Answers.{PrintAnswer}
 use Rattle.mosaikrun_program.specs.Around.{Around, output_seen}
-use Rattle.mosaikrun_program.specs.Summing.{HasSummed}
-use Rattle.mosaikrun_program.proofs.Summing.{put_out}
+use Rattle.mosaikrun_program.specs.Running.{IsDoneOver}
+use Rattle.mosaikrun_program.proofs.Playing.{reported}
 use Rattle.mosaikrun_program.proofs.top.sum_up.Goals as goal
 
 -- there is no summary
 pub returns-in_err-text-clause-summed : goal.returns-in_err-text-clause-summed
-returns-in_err-text-clause-summed g c = λ words rules folder unsaved asked.
+returns-in_err-text-clause-summed g c = λ words rules folder unsaved.
     let came = c.in_err-text.ensures.none in
     let S : Around = record {
       words = words;
@@ -24,32 +24,29 @@ returns-in_err-text-clause-summed g c = λ words rules folder unsaved asked.
     let e = err_from_is_err_and c.from_residual.result c.from_residual.ensures.1 in (
       came.0,
       came.1,
-      subst (λ (r : Result (Unit {0}) Ending). HasSummed S r) (sym (e.1 ∙ ap (λ x. Err x) e.2)) (record {
-        size = c.args.size;
-        asked = asked;
+      subst (λ (r : Result (Unit {0}) Ending). IsDoneOver S (Demo c.args.size) r) (sym (e.1 ∙ ap (λ x. Err x) e.2)) (record {
+        read = [];
+        held = tt;
         text = Err c.in_err-text.field-0.0;
-        outcome = came.2;
-        ended = (refl, inl refl);
-        unsaved = unsaved;
+        kept = None;
+        outcome = (came.2, refl);
+        ended = (refl, inl refl, inl unsaved);
       }),
     )
 
 -- the summary is put
 pub returns-clause-summed : goal.returns-clause-summed
-returns-clause-summed g c = λ words rules folder unsaved asked.
+returns-clause-summed g c = λ words rules folder unsaved.
     let came = c.in_ok-text.ensures.text in
     let out = output_seen g.K.Sink.written g.K.Sink.faults g.K.Sink.shortages c.args.out.now c.print.new.out in (
       came.0,
       came.1,
       record {
-        size = c.args.size;
-        asked = asked;
+        read = [];
+        held = tt;
         text = Ok c.in_ok-text.text.items;
-        outcome = came.2;
-        ended = put_out out c.in_ok-text.text.items c.print.result
-            (subst (λ t. OnOk c.print.result (out.after ≡ appended t out.before)) c.as_slice.ensures.value c.print.ensures.put)
-            (subst (λ t. OnErr c.print.result (TookBeginning t out.before out.after)) c.as_slice.ensures.value c.print.ensures.cut)
-            c.print.ensures.cause;
-        unsaved = unsaved;
+        kept = None;
+        outcome = (came.2, refl);
+        ended = reported folder out None None c.in_ok-text.text.items c.print.result unsaved (subst (λ t. PrintAnswer out (Ok t) c.print.result) c.as_slice.ensures.value c.print.ensures.put);
       },
     )

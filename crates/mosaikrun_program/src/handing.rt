@@ -1,0 +1,106 @@
+// What becomes of a text and of a record: they are printed and saved, or it is said why not.
+ghost use Rattle.std.specs.Prelude.{◌≡◌, ◌≤◌, ◌⊎◌, IsSome, Ok, Err, IfOk, IfErr, option_map};
+ghost use Rattle.mk_outside.specs.Counts.{HasRisen};
+ghost use Rattle.mosaikrun_program.specs.Answers.{PrintAnswer};
+ghost use Rattle.mosaikrun_program.specs.Around.{IsSaidAs, folder_seen, output_seen};
+ghost use Rattle.mosaikrun_program.specs.Running.{IsFolderAfter, IsUnsaved, RunAnswer};
+
+use mk_base::Text;
+use mk_outside::{FileSave, Folder, PutAll, Sink, put_all};
+use mosaikrun_endings::Ending;
+use mosaikrun_run::Told;
+
+// Saves the record of what was done over a fleet, if there is one, under the name, if one is given, and prints the text.
+pub fn hand_out<D: Folder, K: Sink>(
+    told: Told,
+    name: &Option<Text>,
+    folder: &mut D,
+    out: &mut K,
+) -> Result<(), Ending>
+    ensures text { IfOk told.text
+        (λ text. RunAnswer (folder_seen D.files D.faults folder.old folder.new)
+        (output_seen K.written K.faults K.shortages out.old out.new) name.now (Ok text.items)
+        (option_map (λ r. r.items) told.record) result) }
+    ensures none { IfErr told.text
+        (λ e. RunAnswer (folder_seen D.files D.faults folder.old folder.new)
+        (output_seen K.written K.faults K.shortages out.old out.new) name.now (Err e)
+        (option_map (λ r. r.items) told.record) result) }
+    ensures folder_count { D.faults folder.old ≤ D.faults folder.new }
+    ensures out_count { K.faults out.old ≤ K.faults out.new }
+{
+    let Told { text, record } = told;
+    match text {
+        Ok(text) => report(text.as_slice(), &record, name, folder, out),
+        Err(ending) => Err(explained(ending, &record, name, folder)),
+    }
+}
+
+// Saves the record and prints the text; where the record isn't saved it says so, and prints nothing.
+fn report<D: Folder, K: Sink>(
+    text: &[u8],
+    kept: &Option<Vec<u8>>,
+    name: &Option<Text>,
+    folder: &mut D,
+    out: &mut K,
+) -> Result<(), Ending>
+    ensures answered { RunAnswer (folder_seen D.files D.faults folder.old folder.new)
+        (output_seen K.written K.faults K.shortages out.old out.new) name.now (Ok text.now)
+        (option_map (λ r. r.items) kept.now) result }
+    ensures folder_count { D.faults folder.old ≤ D.faults folder.new }
+    ensures out_count { K.faults out.old ≤ K.faults out.new }
+{
+    match keep(folder, name, kept) {
+        FileSave::Kept => print(out, text),
+        FileSave::Failed => Err(Ending::Folder),
+        FileSave::Mem => Err(Ending::Mem),
+    }
+}
+
+// Saves the record where there is no text, and says why there is none, or that memory was wanting for the record.
+fn explained<D: Folder>(
+    ending: Ending,
+    made: &Option<Vec<u8>>,
+    name: &Option<Text>,
+    folder: &mut D,
+) -> Ending
+    ensures said { IsSaidAs ending result }
+    ensures saved { IsFolderAfter name.now (option_map (λ r. r.items) made.now)
+        (D.files folder.old) (D.files folder.new)
+        ⊎ IsUnsaved (folder_seen D.files D.faults folder.old folder.new) name.now result }
+    ensures count { D.faults folder.old ≤ D.faults folder.new }
+{
+    match keep(folder, name, made) {
+        FileSave::Kept | FileSave::Failed => ending,
+        FileSave::Mem => Ending::Mem,
+    }
+}
+
+// Saves the record of a run, if there is one, under the name, if one is given.
+fn keep<D: Folder>(folder: &mut D, name: &Option<Text>, bytes: &Option<Vec<u8>>) -> FileSave
+    ensures kept { result ≡ FileSave.Kept
+        → IsFolderAfter name.now (option_map (λ b. b.items) bytes.now) (D.files folder.old)
+        (D.files folder.new) }
+    ensures failed { result ≡ FileSave.Failed → (D.files folder.new ≡ D.files folder.old)
+        × HasRisen (D.faults folder.old) (D.faults folder.new) × IsSome name.now }
+    ensures wanting { result ≡ FileSave.Mem → (D.files folder.new ≡ D.files folder.old)
+        × IsSome name.now }
+    ensures count { D.faults folder.old ≤ D.faults folder.new }
+{
+    match (name, bytes) {
+        (Some(name), Some(bytes)) => folder.save(name.as_str(), bytes.as_slice()),
+        _ => FileSave::Kept,
+    }
+}
+
+// Puts a text, or says why only a beginning of it was taken.
+pub fn print<K: Sink>(out: &mut K, text: &[u8]) -> Result<(), Ending>
+    ensures put { PrintAnswer (output_seen K.written K.faults K.shortages out.old out.new)
+        (Ok text.now) result }
+    ensures count { K.faults out.old ≤ K.faults out.new }
+{
+    match put_all(out, text) {
+        PutAll::Done => Ok(()),
+        PutAll::Failed => Err(Ending::Output),
+        PutAll::Mem => Err(Ending::Mem),
+    }
+}
