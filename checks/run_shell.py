@@ -21,12 +21,12 @@ import time
 
 ROOT = pathlib.Path(__file__).resolve().parent.parent
 FILES = ["day.toml", "my study.toml", "day.record", "notes.txt", "sub/inner.toml"]
-COMMANDS = ["run", "replay", "check", "demo", "migrate", "watch", "blame"]
+COMMANDS = ["run", "replay", "check", "demo", "migrate", "resume", "watch", "blame"]
 
 # the words before the cursor, the last one being completed, and what bash offers
 BASH: list[tuple[list[str], list[str]]] = [
     ([""], COMMANDS),
-    (["r"], ["run", "replay"]),
+    (["r"], ["run", "replay", "resume"]),
     (["run", ""], ["day.toml", "my study.toml", "sub"]),
     (["run", "sub/"], ["sub/inner.toml"]),
     (["run", "day.toml", ""], ["--record"]),
@@ -44,11 +44,16 @@ BASH: list[tuple[list[str], list[str]]] = [
     (["demo", ""], []),
     (["migrate", "day.record", "n"], ["notes.txt"]),
     (["migrate", "a", "b", ""], []),
+    (["resume", "d"], ["day.toml"]),
+    (["resume", "day.toml", "day.r"], ["day.record"]),
+    (["resume", "--record", "n"], ["notes.txt"]),
+    (["resume", "day.toml", "day.record", ""], ["--record"]),
     (["nothing", ""], []),
 ]
 # what is typed, and what stands there after the tabulator key, in each shell
 KEYS: list[tuple[str, str]] = [
     ("mosaikrun rep", "mosaikrun replay "),
+    ("mosaikrun res", "mosaikrun resume "),
     ("mosaikrun m", "mosaikrun migrate "),
     ("mosaikrun check d", "mosaikrun check day.toml "),
     ("mosaikrun run my", "mosaikrun run my\\ study.toml "),
@@ -56,6 +61,7 @@ KEYS: list[tuple[str, str]] = [
     ("mosaikrun run day.toml --record n", "mosaikrun run day.toml --record notes.txt "),
     ("mosaikrun run --record=n", "mosaikrun run --record=notes.txt "),
     ("mosaikrun replay --order 3 day.r", "mosaikrun replay --order 3 day.record "),
+    ("mosaikrun resume day.toml day.r", "mosaikrun resume day.toml day.record "),
     ("mosaikrun migrate day.record n", "mosaikrun migrate day.record notes.txt "),
 ]
 # what a shell reads first, from the file `rc/.zshrc`: the key control-T writes what stands there into the file `line`,

@@ -7,10 +7,10 @@ _mosaikrun_files() {
 }
 
 _mosaikrun() {
-    local current=${COMP_WORDS[COMP_CWORD]} option='' pattern='*' wanted=1 given=0 place
+    local current=${COMP_WORDS[COMP_CWORD]} option='' pattern='*' later='' wanted=1 given=0 place
     COMPREPLY=()
     if ((COMP_CWORD == 1)); then
-        mapfile -t COMPREPLY < <(compgen -W "run replay check demo migrate watch blame" -- "$current")
+        mapfile -t COMPREPLY < <(compgen -W "run replay check demo migrate resume watch blame" -- "$current")
         return
     fi
     case ${COMP_WORDS[1]} in
@@ -18,6 +18,7 @@ _mosaikrun() {
         replay) option=--order ;;
         check) pattern='*.toml' ;;
         migrate | watch | blame) wanted=2 ;;
+        resume) option=--record pattern='*.toml' later='*' wanted=2 ;;
         *) return ;;
     esac
     for ((place = 2; place < COMP_CWORD; place++)); do
@@ -35,6 +36,8 @@ _mosaikrun() {
             ((given++))
         fi
     done
+    # the second file of `resume` is a record
+    ((given > 0)) && pattern=${later:-$pattern}
     if [[ $current != -* ]] && ((given < wanted)); then
         _mosaikrun_files "$current" "$pattern"
     elif [[ -n $option ]]; then
