@@ -10,37 +10,47 @@ use Rattle.mk_session.specs.declared.answers.QueueFault.{QueueFault}
 use Rattle.mk_session.specs.declared.answers.QueueFault.TheVariants as queue_fault
 use Rattle.mk_run_laws.specs.Lines.{Line, queued}
 use Rattle.mk_run_laws.specs.Crews.{IsHeard}
+use Rattle.mk_run_links.specs.Entries.{IsClockless}
 use Rattle.mk_run_links.specs.Places.{IsSet, Lines, at, crew}
 use Rattle.mk_local.specs.declared.turn.Turn.{Turn}
 use Rattle.mk_run_local.specs.Calls.{IsCalled}
 use Rattle.mk_run_local.specs.Seen.{AreOf}
-use Rattle.mk_run_crew.specs.inner.Asking.{AsksFail, AsksOnLink, AsksWithin}
+use Rattle.mk_run_crew.specs.declared.halt.Halt.{Halt}
+use Rattle.mk_run_crew.specs.inner.Asking.{AsksFail, AsksOnLink, AsksWithin, IsUnqueued}
 use Rattle.mk_run_crew.specs.inner.Calls.{unsent}
 use Rattle.mk_run_crew.specs.Seen.{CrewSeen, is_here, within_of}
 
--- the links didn't take the request
-pub asked_not : (sim : SimNo) (f : QueueFault) (call : Call) (id : ℕ) (payload : List ℕ) (C D : CrewSeen) → is_here C sim.0 ≡ false → payload ≡ call_text id call
-    → ((n : ℕ) → f ≡ queue_fault.TooLong n → n ≡ length payload) → ((n : ℕ) → f ≡ queue_fault.TooLong n → limit < n) → D ≡ C → AsksFail (unsent sim f) sim.0 call id [] C D
-asked_not sim (queue_fault.TooLong n) call id payload C D away text size beyond same = inl (record {
+-- why the links didn't take the request
+pub call_unqueued : (sim : SimNo) (f : QueueFault) (call : Call) (id : ℕ) (payload : List ℕ) → payload ≡ call_text id call → ((n : ℕ) → f ≡ queue_fault.TooLong n → n ≡ length payload) → ((n : ℕ) → f ≡ queue_fault.TooLong n → limit < n) → IsUnqueued (unsent sim f) sim.0 call id
+call_unqueued sim (queue_fault.TooLong n) call id payload text size beyond = inr (record { sim = sim; bytes = n; is = refl; same_sim = refl; length_is = size n refl ∙ ap length text; beyond = beyond n refl })
+call_unqueued sim queue_fault.Mem call id payload text size beyond = inl refl
+
+-- they took it
+pub call_queued : (i : ℕ) (call : Call) (id next : ℕ) (payload : List ℕ) (L M : Lines) → payload ≡ call_text id call → next ≡ id + 1 → ((w : Line) × IsSet i w (queued payload next w) L M) → (w : Line) × IsSet i w (queued (call_text id call) (id + 1) w) L M
+call_queued i call id next payload L M text more set = (set.0, subst (λ (n : ℕ). IsSet i set.0 (queued (call_text id call) n set.0) L M) more (subst (λ (p : List ℕ). IsSet i set.0 (queued p next set.0) L M) text set.1))
+
+-- so it wasn't made
+pub asked_not : (h : Halt) (i : ℕ) (call : Call) (id : ℕ) (C D : CrewSeen) → is_here C i ≡ false → D ≡ C → IsUnqueued h i call id → AsksFail h i call id [] C D
+asked_not h i call id C D away same (inl mem) = inl (record { quiet = refl; same = same; cause = inl mem })
+asked_not h i call id C D away same (inr l) = inl (record {
   quiet = refl;
   same = same;
-  cause = inr (record { sim = sim; bytes = n; is = refl; same_sim = refl; away = away; length_is = size n refl ∙ ap length text; beyond = beyond n refl });
+  cause = inr (record { sim = l.sim; bytes = l.bytes; is = l.is; same_sim = l.same_sim; away = away; length_is = l.length_is; beyond = l.beyond });
 })
-asked_not sim queue_fault.Mem call id payload C D away text size beyond same = inl (record { quiet = refl; same = same; cause = inl refl })
 
 -- the request was queued, and then this was heard
-pub asked_on_link : (i : ℕ) (call : Call) (id next : ℕ) (payload : List ℕ) (from : ℕ) (m : Message) (entries : List LogEntry) (V C D : CrewSeen) (mid : Lines) → V ≡ C → is_here C i ≡ false → payload ≡ call_text id call → next ≡ id + 1
-    → ((w : Line) × IsSet i w (queued payload next w) V.lines mid) → IsHeard entries from m (crew mid) (crew D.lines) → D.sims ≡ V.sims → D.kept ≡ V.kept → D.halt ≡ None → AsksOnLink i call id from m entries C D
-asked_on_link i call id next payload from m entries V C D mid same away text more set heard sims kept going = record {
+pub asked_on_link : (i : ℕ) (call : Call) (id : ℕ) (from : ℕ) (m : Message) (entries : List LogEntry) (V C D : CrewSeen) (mid : Lines) → V ≡ C → is_here C i ≡ false → ((w : Line) × IsSet i w (queued (call_text id call) (id + 1) w) V.lines mid)
+    → IsHeard entries from m (crew mid) (crew D.lines) → D.sims ≡ V.sims → D.kept ≡ V.kept → D.halt ≡ None → IsClockless entries → AsksOnLink i call id from m entries C D
+asked_on_link i call id from m entries V C D mid same away set heard sims kept going clockless = record {
   away = away;
   mid = mid;
   line = set.0;
-  set = subst (λ (X : CrewSeen). IsSet i set.0 (queued (call_text id call) (id + 1) set.0) X.lines mid) same
-      (subst (λ (n : ℕ). IsSet i set.0 (queued (call_text id call) n set.0) V.lines mid) more (subst (λ (p : List ℕ). IsSet i set.0 (queued p next set.0) V.lines mid) text set.1));
+  set = subst (λ (X : CrewSeen). IsSet i set.0 (queued (call_text id call) (id + 1) set.0) X.lines mid) same set.1;
   heard = heard;
   sims = sims ∙ ap (λ (X : CrewSeen). X.sims) same;
   kept = kept ∙ ap (λ (X : CrewSeen). X.kept) same;
   halt = going;
+  clockless = clockless;
 }
 
 -- a simulator within the program answered

@@ -24,6 +24,8 @@ use Rattle.mk_run_laws.specs.inner.Running.{IsBetween, IsSettingUp}
 use Rattle.mk_run_laws.proofs.Greeting.{fresh, requested, requested_within, replied}
 use Rattle.mk_run_laws.proofs.Stepping.{same_or_not, same_is, apart_is}
 use Rattle.mk_setup.specs.Requests.{id_before}
+use Rattle.mk_run_links.specs.Entries.{IsClockless}
+use Rattle.mk_run_links.proofs.OnEntries.{clockless_on}
 use Rattle.mk_run_links.specs.Places.{Lines, IsSet, at, crew, new_line, new_lines}
 use Rattle.mk_run_local.specs.Calls.{IsCalled}
 use Rattle.mk_run_local.specs.Made.{first_at}
@@ -62,6 +64,7 @@ module _ (started : ℕ) (S : Scenario) (rows : List Turn) where
     kept = ap (λ (W : WithinState). W.kept) n.within;
     halt = n.halt;
     places = n.places;
+    clockless = tt;
   }
 
   -- ---- one request
@@ -104,6 +107,7 @@ module _ (started : ℕ) (S : Scenario) (rows : List Turn) where
     kept = ap (λ (W : WithinState). W.kept) (a.called).moved ∙ so_far.kept;
     halt = a.halt ∙ so_far.halt;
     places = same_places ∙ so_far.places;
+    clockless = subst IsClockless (sym (ap (λ (x : List LogEntry). log ++ x) a.quiet ∙ append_nil log)) so_far.clockless;
   }
     where
       done : List Request
@@ -165,6 +169,7 @@ module _ (started : ℕ) (S : Scenario) (rows : List Turn) where
     kept = a.kept ∙ so_far.kept;
     halt = a.halt;
     places = same_places ∙ so_far.places;
+    clockless = clockless_on log entries so_far.clockless a.clockless;
   }
     where
       away : (first_at rows S r.sim ≡ None) × (is_within S r.sim ≡ false)

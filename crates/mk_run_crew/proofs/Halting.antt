@@ -34,6 +34,7 @@ use Rattle.mk_setup.specs.Requests.{id_before}
 use Rattle.mk_run_links.specs.declared.answers.LinkHalt.{LinkHalt}
 use Rattle.mk_run_links.specs.declared.answers.LinkHalt.TheVariants as link_halt
 use Rattle.mk_run_links.specs.Halts.{ShowsHalt}
+use Rattle.mk_run_links.proofs.OnEntries.{clockless_on}
 use Rattle.mk_run_links.specs.Places.{Lines, at, crew}
 use Rattle.mk_run_crew.specs.declared.halt.Halt.{Halt}
 use Rattle.mk_run_crew.specs.declared.halt.Halt.TheVariants as halt
@@ -91,6 +92,7 @@ module _ (started : ℕ) (S : Scenario) (ranks : List ℕ) (rows : List Turn) wh
     lines = lines_at a.replies log C.lines (take (length answers) (setup_requests S)) (drop (length answers) (setup_requests S)) a.between;
     rests = (a.between).rests;
     cause = cause;
+    clockless = a.clockless;
   }
 
   -- a fault is a cause, unless memory was wanting
@@ -190,6 +192,7 @@ module _ (started : ℕ) (S : Scenario) (ranks : List ℕ) (rows : List Turn) wh
     rests = rests_on a.replies log entries v.mid done r later up (a.between).rests (v.unheard).parked;
     cause = subst (ShowsCause started S ranks rows (log ++ entries) risen (done ++ r ∷ []) later) (sym v.is)
         (link_causes log entries risen (done ++ r ∷ []) later D.lines v.why v.shown at_log back (λ q. rose (v.is ∙ ap halt_of q)));
+    clockless = clockless_on log entries a.clockless v.clockless;
   }
     where
       done : List Request
@@ -233,6 +236,7 @@ module _ (started : ℕ) (S : Scenario) (ranks : List ℕ) (rows : List Turn) wh
         kinds = kinds_pushed rows S answers r m a.kinds asked (λ w. absurd (true≢false (sym w ∙ (linked_away rows started S r.sim l linked).1)));
       };
     });
+    clockless = clockless_on log entries a.clockless v.clockless;
   }
     where
       done : List Request

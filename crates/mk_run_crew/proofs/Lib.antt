@@ -9,4 +9,5 @@ mod Placing
 mod Requests
 mod Simulators
 mod Starting
+mod Trying
 pub mod Unlinked

@@ -28,19 +28,20 @@ use Rattle.mk_setup.specs.Laws.{IsOfReplies, RepliesMake}
 use Rattle.mk_setup.specs.Replies.{after_reply, arrival}
 use Rattle.mk_setup.specs.Requests.{id_before, request_of}
 use Rattle.mk_setup.specs.Seen.{SetupState}
+use Rattle.mk_run_links.specs.Entries.{IsClockless}
 use Rattle.mk_run_links.specs.Places.{AreOpen, Lines, at}
 use Rattle.mk_run_local.specs.Made.{first_at}
 use Rattle.mk_run_local.specs.Seen.{sim_at}
 use Rattle.mk_run_crew.specs.declared.halt.Halt.{Halt}
 use Rattle.mk_run_crew.specs.declared.halt.Halt.TheVariants as halt
 use Rattle.mk_run_crew.specs.Answers.{sim_after}
-use Rattle.mk_run_crew.specs.inner.Asking.{Answers, AnswersNot, Asks, AsksFail, AsksOnLink, AsksWithin, GoesSoFar, IsAnswered, IsHalting, IsNewCrew, IsNotTaken, setup_halt}
+use Rattle.mk_run_crew.specs.inner.Asking.{Answers, AnswersNot, Asks, AsksFail, AsksOnLink, AsksWithin, CanAsk, GoesSoFar, IsAnswered, IsHalting, IsNewCrew, IsNotTaken, IsStepped, StepsNot, StepsTo, setup_halt}
 use Rattle.mk_run_crew.specs.Begun.{HasBegun}
 use Rattle.mk_run_crew.specs.Seen.{CrewSeen, is_here, within_of}
 use Rattle.mk_run_crew.proofs.Ending.{begun_now}
 use Rattle.mk_run_crew.proofs.Going.{none_answered, on_link_more, within_more}
 use Rattle.mk_run_crew.proofs.Halting.{next_halts, refused_on_link, refused_within, unasked_halts, unheard_halts}
-use Rattle.mk_run_crew.proofs.Placing.{new_was}
+use Rattle.mk_run_crew.proofs.Placing.{adds_no_more, new_was}
 use Rattle.mk_run_crew.proofs.Requests.{are_replied}
 use Rattle.mk_run_crew.proofs.Simulators.{else_linked, placed_link}
 
@@ -62,13 +63,14 @@ module _ (started : ℕ) (S : Scenario) (ranks : List ℕ) (rows : List Turn) (l
   }
 
   -- all have answered
-  pub ends : (old new : Option (List LogEntry)) (C : CrewSeen) (U V : SetupState) (P : Plan) → GoesSoFar started S ranks rows old new C U → IsReady U P V → (entries : List LogEntry) × Adds entries old new × HasBegun started S ranks rows entries C P
+  pub ends : (old new : Option (List LogEntry)) (C : CrewSeen) (U V : SetupState) (P : Plan) → GoesSoFar started S ranks rows old new C U → IsReady U P V → (entries : List LogEntry) × Adds entries old new × HasBegun started S ranks rows entries C P × IsClockless entries
   ends old new C U V P g ready =
       let same : U.scenario ≡ S = (laws.stands S ranks g.answers U g.reached).scenario in (
         g.entries,
         g.adds,
         begun_now started S ranks rows g.entries g.answers C P g.answered (laws.makes S ranks g.answers U V P g.reached ready) ready.valid (ready.sims ∙ ap (λ (X : Scenario). length X.sims) same)
             (λ i less. ready.first i (subst (λ (X : Scenario). i < length X.sims) (sym same) less) ∙ ap (λ (X : Scenario). setup_count X i) same),
+        (g.answered).clockless,
       )
 
   -- the next request can't be made
@@ -155,3 +157,33 @@ module _ (started : ℕ) (S : Scenario) (ranks : List ℕ) (rows : List Turn) (l
           | inl t ↦ absurd (some t.0)
           | inr f ↦ laws.refuses S ranks g.answers W (arrival n.from n.message) n.fault reached (ap (λ (X : SetupState). X.asked) q.asked) f.fault
         ]
+
+  -- ---- one step
+
+  module _ (old mid : Option (List LogEntry)) (C : CrewSeen) (U : SetupState) (g : GoesSoFar started S ranks rows old mid C U) (prepared : IsPrepared S (map name_of rows)) where
+    pub can_ask : CanAsk C U
+    can_ask sim call id V q = (next_replied old mid C U V sim call id g q, next_line old mid C U V sim call id g q prepared)
+
+    -- it was made
+    pub steps_on : (new : Option (List LogEntry)) (entries : List LogEntry) (D : CrewSeen) (V : SetupState) → Adds entries mid new → IsStepped entries C D U V → D.places ≡ C.places → GoesSoFar started S ranks rows old new D V
+    steps_on new entries D V adds s same_places = goes_on old mid C U s.state s.sim s.call s.id g s.requested new entries D V prepared adds s.answers same_places
+
+    -- all were made
+    pub steps_end : (new : Option (List LogEntry)) (entries : List LogEntry) (D : CrewSeen) (V : SetupState) (P : Plan) → Adds entries mid new → StepsTo (Some P) entries C D U V → (all : List LogEntry) × Adds all old new × HasBegun started S ranks rows all D P × IsClockless all
+    steps_end new entries D V P adds s =
+        let t = ends old mid C U V P g s.2 in (
+          t.0,
+          adds_no_more t.0 old mid new t.1 (subst (λ (more : List LogEntry). Adds more mid new) s.0 adds),
+          subst (λ (X : CrewSeen). HasBegun started S ranks rows t.0 X P) (sym s.1) t.2,
+          t.3,
+        )
+
+    -- it wasn't made, or in vain
+    pub steps_not : (new : Option (List LogEntry)) (entries : List LogEntry) (risen all_risen : Type 0) (h : Halt) (D : CrewSeen) → Adds entries mid new → (risen → all_risen) → StepsNot risen h entries C D U → D.places ≡ C.places → (all : List LogEntry) × Adds all old new × IsHalting started S ranks rows all all_risen h D
+    steps_not new entries risen all_risen h D adds on (inl s) same_places = halts old mid C U s.state s.sim s.call s.id g s.requested new entries risen all_risen h D prepared adds on s.failed same_places
+    steps_not new entries risen all_risen h D adds on (inr u) same_places =
+        let t = stops old mid all_risen C U u.state u.fault g u.unready in (
+          t.0,
+          adds_no_more t.0 old mid new t.1 (subst (λ (more : List LogEntry). Adds more mid new) u.quiet adds),
+          subst (λ (X : CrewSeen). IsHalting started S ranks rows t.0 all_risen h X) (sym u.same) (subst (λ (x : Halt). IsHalting started S ranks rows t.0 all_risen x C) (sym u.is) t.2),
+        )

@@ -1,5 +1,5 @@
 -- The links that a start leaves, and their end.
-use Rattle.std.proofs.Common.{◌≡◌, ℕ, ◌+◌, ◌<◌, ◌||◌, not, Bool, true, false, cond, List, [], ◌∷◌, ◌++◌, take, length, Option, Some, None, slice_get, Ok, Err, refl, sym, ap, ◌∙◌, subst, inl, inr, arith, zero, suc, true≢false}
+use Rattle.std.proofs.Common.{◌≡◌, ℕ, ◌+◌, ◌<◌, ◌||◌, not, Bool, true, false, cond, List, [], ◌∷◌, ◌++◌, take, length, Option, Some, None, slice_get, Ok, Err, refl, sym, ap, ◌∙◌, subst, ◌⊎◌, inl, inr, arith, zero, suc, true≢false}
 use Rattle.std.specs.Prelude.{option_to_list, filter}
 use Rattle.std.specs.List.{list_any}
 use Rattle.mk_base.specs.declared.LinkNo.{LinkNo}
@@ -17,6 +17,8 @@ use Rattle.mk_launch.specs.Starts.{AllStarted, AreNumbered, AreStarted, AreStart
 use Rattle.mk_launch.proofs.Placing.{higher, numbered, without_lower}
 use Rattle.mk_run_laws.proofs.Stepping.{same_or_not, same_is, apart_is}
 use Rattle.mk_run_links.specs.Places.{without_all}
+use Rattle.mk_run_crew.specs.declared.halt.Halt.TheVariants as halt
+use Rattle.mk_run_crew.specs.inner.Calls.{start_halt}
 
 -- ---- numbers of links
 
@@ -127,3 +129,9 @@ leaves Mem sims old new put all = elim all.2 [
     open_ones = others_open old.started (take all.0 sims) put old.links new.links t.places t.links;
   }
 ]
+
+-- why it failed
+pub started_not : (fault : StartFault) (risen : Type 0) → (fault ≡ Mem) ⊎ risen → (start_halt fault ≡ halt.Mem) ⊎ ((start_halt fault ≡ halt.Fleet) × risen)
+started_not (Failed sim) risen (inl e) = let none : ⊥ = cc in absurd none
+started_not (Failed sim) risen (inr r) = inr (refl, r)
+started_not Mem risen why = inl refl

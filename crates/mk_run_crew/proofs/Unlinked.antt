@@ -1,5 +1,5 @@
 -- A scenario whose simulators are all within the program has no links, and its handshake comes to an end.
-use Rattle.std.proofs.Common.{◌≡◌, ℕ, zero, suc, ◌+◌, ◌-◌, ◌<◌, ◌&&◌, not, Bool, true, false, List, [], ◌∷◌, ◌++◌, length, map, take, Option, Some, None, slice_get, refl, sym, ap, ◌∙◌, subst, inl, arith, true≢false, if◌then◌else◌}
+use Rattle.std.proofs.Common.{◌≡◌, ℕ, zero, suc, ◌+◌, ◌-◌, ◌<◌, ◌&&◌, not, Bool, true, false, List, [], ◌∷◌, ◌++◌, length, map, take, Option, Some, None, slice_get, refl, sym, ap, ◌∙◌, subst, inl, inr, arith, true≢false, if◌then◌else◌}
 use Rattle.std.specs.Prelude.{filter, option_and_then, option_map, unwrap_or}
 use Rattle.std.specs.List.{list_all}
 use Rattle.mk_base.specs.declared.LinkNo.{LinkNo}
@@ -33,16 +33,13 @@ use Rattle.mk_setup.specs.Laws.{IsOfReplies, RepliesMake}
 use Rattle.mk_setup.specs.Replies.{arrival}
 use Rattle.mk_setup.specs.Seen.{SetupState}
 use Rattle.mk_run_links.specs.Places.{Lines, at, new_lines}
-use Rattle.mk_run_links.specs.Seen.{Seen}
-use Rattle.mk_run_local.specs.Seen.{AreOf, WithinState, new_within}
 use Rattle.mk_run_crew.specs.declared.halt.Halt.{Halt}
-use Rattle.mk_run_crew.specs.inner.Asking.{Answers, AnswersNot, GoesSoFar, IsHalting, IsNewCrew, setup_halt}
+use Rattle.mk_run_crew.specs.inner.Asking.{Answers, AnswersNot, CanAskWithin, GoesSoFar, IsHalting, IsNewCrew, IsStepped, StepsNot, StepsTo, setup_halt}
 use Rattle.mk_run_crew.specs.Begun.{HasBegun}
 use Rattle.mk_run_crew.specs.Halted.{HasHalted}
 use Rattle.mk_run_crew.specs.Seen.{CrewSeen, crew_of, is_here}
 use Rattle.mk_run_crew.specs.Wholly.{IsWithinHalt, is_wholly_within}
 use Rattle.mk_run_crew.specs.inner.Wholly.{no_links}
-use Rattle.mk_run_crew.proofs.Composing.{crew_is_new}
 use Rattle.mk_run_crew.proofs.Ending.{halted}
 use Rattle.mk_run_crew.proofs.Looping.{ends, goes_on, halts, next_linked, next_replied, starts, stops}
 use Rattle.mk_run_crew.proofs.Requests.{count_pushed}
@@ -106,19 +103,9 @@ lineless (s ∷ sims) zero = refl
 lineless (s ∷ sims) (suc i) = lineless sims i
 
 -- nor links
-linkless_places : (sims : List SimPart) → links_in (no_links sims) ≡ []
+pub linkless_places : (sims : List SimPart) → links_in (no_links sims) ≡ []
 linkless_places [] = refl
 linkless_places (s ∷ sims) = linkless_places sims
-
--- a crew that has these places is new
-pub new_crew_within : (S : Scenario) (rows : List Turn) (U : SetupState) (put given : List (Option LinkNo)) (L : Seen) (W : WithinState) → put ≡ no_links S.sims → given ≡ put → L ≡ record { lines = new_lines given; halt = None } → W ≡ new_within rows S
-    → AreOf rows W → U.scenario ≡ S → is_wholly_within S ≡ true → (started : ℕ) → IsNewCrew started rows U.scenario [] (record { places = put; lines = L.lines; sims = W.sims; kept = W.kept; halt = L.halt })
-new_crew_within S rows U put given L W is same lined within known scenario all started =
-    crew_is_new started rows S U put given [] [] L W (is ∙ unplaced started S all) same (sym (ap links_in is ∙ linkless_places S.sims)) lined within known scenario
-
--- and has no lines
-pub lineless_crew : (sims : List SimPart) (put given : List (Option LinkNo)) (L : Seen) → put ≡ no_links sims → given ≡ put → L ≡ record { lines = new_lines given; halt = None } → (i : ℕ) → at L.lines i ≡ None
-lineless_crew sims put given L is same lined i = ap (λ (M : Lines). at M i) (ap (λ (X : Seen). X.lines) lined ∙ ap new_lines (same ∙ is)) ∙ lineless sims i
 
 -- a crew without lines says nothing when it is stopped
 pub silently : (risen : Type 0) (C : CrewSeen) → ((i : ℕ) → at C.lines i ≡ None) → AreStopped [] risen (crew_of C)
@@ -200,6 +187,26 @@ module _ (S : Scenario) (ranks : List ℕ) (rows : List Turn) (laws : RepliesMak
 
         count : V.answered ≡ suc U.answered
         count = more.count ∙ count_pushed so_far.answers a.message ∙ ap suc (sym known.count)
+
+  -- ---- one step
+
+  module _ (C : CrewSeen) (U : SetupState) (g : GoesWithin S ranks rows C U) (prepared : IsPrepared S (map name_of rows)) where
+    pub can_ask_within : is_wholly_within S ≡ true → CanAskWithin C U
+    can_ask_within all sim call id V q = (replied_to C U V sim call id g q prepared, asks_here C U V sim call id g q prepared all)
+
+    pub steps_on_within : (D : CrewSeen) (V : SetupState) → IsStepped [] C D U V → D.places ≡ C.places → GoesWithin S ranks rows D V
+    steps_on_within D V s same_places = goes_within C U s.state s.sim s.call s.id g s.requested prepared D V s.answers same_places
+
+    pub steps_end_within : (D : CrewSeen) (V : SetupState) (P : Plan) → StepsTo (Some P) [] C D U V → (started : ℕ) → HasBegun started S ranks rows [] D P
+    steps_end_within D V P s started = subst (λ (X : CrewSeen). HasBegun started S ranks rows [] X P) (sym s.1) (ends_within C U V P g s.2 started)
+
+    pub steps_not_within : (h : Halt) (D : CrewSeen) → StepsNot ⊥ h [] C D U → D.places ≡ C.places → (started : ℕ) → IsHalting started S ranks rows [] ⊥ h D
+    steps_not_within h D (inl s) same_places started = halts_within C U s.state s.sim s.call s.id g s.requested prepared h D s.failed same_places started
+    steps_not_within h D (inr u) same_places started =
+        subst (λ (X : CrewSeen). IsHalting started S ranks rows [] ⊥ h X) (sym u.same) (subst (λ (x : Halt). IsHalting started S ranks rows [] ⊥ x C) (sym u.is) (stops_within C U u.state u.fault g u.unready started))
+
+    pub steps_fewer : (D : CrewSeen) (V : SetupState) → IsStepped [] C D U V → length (setup_requests S) - V.answered < length (setup_requests S) - U.answered
+    steps_fewer D V s = fewer_left C U s.state s.sim s.call s.id g s.requested prepared D V s.answers
 
 -- ---- what is left behind it
 

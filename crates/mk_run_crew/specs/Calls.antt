@@ -12,7 +12,8 @@ use Rattle.mk_run_laws.specs.Crews.{line_at, IsSentOnLink, IsSentWithin, IsHeard
 use Rattle.mk_run_laws.specs.Payloads.{takes_id}
 use Rattle.mk_run_links.specs.declared.answers.LinkHalt.{LinkHalt}
 use Rattle.mk_run_links.specs.declared.answers.LinkHalt.TheVariants as link_halt
-use Rattle.mk_run_links.specs.Crews.{IsLengthOf}
+use Rattle.mk_run_links.specs.Crews.{ArePending, IsLengthOf}
+use Rattle.mk_run_links.specs.Entries.{AreOfLinks}
 use Rattle.mk_run_links.specs.Halts.{ShowsHalt}
 use Rattle.mk_run_links.specs.Places.{IsLinked}
 use Rattle.mk_run_local.specs.Seen.{sim_at}
@@ -81,6 +82,17 @@ abbrev pub HearsAs : Result (SimNo × Message) Halt → List LogEntry → CrewSe
 HearsAs (Ok p) entries old new = IsHeard entries p.0.0 p.1 (crew_of old) (crew_of new)
 HearsAs (Err h) entries old new = HearsNothing h entries old new
 
+-- by reads and writes alone a message was heard; or nothing was, for this cause; or no reply was
+-- kept, and each link was looked at, on which nothing had come and all is said or the last write
+-- took nothing
+abbrev pub TriesAs : Result (Option (SimNo × Message)) Halt → List LogEntry → CrewSeen → CrewSeen
+    → Type 0
+TriesAs (Ok (Some p)) entries old new = IsHeard entries p.0.0 p.1 (crew_of old) (crew_of new)
+    × AreOfLinks entries
+TriesAs (Ok None) entries old new = IsUnheard entries (crew_of old) (crew_of new)
+    × AreOfLinks entries × ArePending entries new.lines
+TriesAs (Err h) entries old new = HearsNothing h entries old new × AreOfLinks entries
+
 -- the halt of the links that is answered again after this one: each but want of memory
 abbrev pub lasting_halt : Halt → Option LinkHalt
 lasting_halt (halt.Setup fault) = None
@@ -92,6 +104,6 @@ lasting_halt (halt.LongItem sim n) = None
 lasting_halt halt.Mem = None
 
 -- the halt that is answered again after this was heard
-abbrev pub lasting : Result (SimNo × Message) Halt → Option LinkHalt
-lasting (Ok p) = None
+abbrev pub lasting : {A : Type 0} → Result A Halt → Option LinkHalt
+lasting (Ok heard) = None
 lasting (Err h) = lasting_halt h

@@ -1,21 +1,25 @@
 // The begin of a crew: the start of the simulators, and the handshake.
-ghost use Rattle.std.specs.Prelude.{◌≡◌, ◌≤◌, ◌<◌, ◌+◌, ◌⊎◌, ◌^◌, ℕ, List, [], true, false, Some, None, length, map, IfOk, IfErr, OnOk, OnErr};
-ghost use Rattle.mk_message.specs.Written.{is_call_in_range};
+ghost use Rattle.std.specs.Prelude.{◌≡◌, ◌≤◌, ◌<◌, ◌+◌, ◌⊎◌, ◌^◌, ℕ, List, [], ◌++◌, true, false, Some, None, length, map, IfOk, IfErr, OnOk, OnErr};
+ghost use Rattle.mk_base.specs.declared.LinkNo.{LinkNo};
+ghost use Rattle.mk_message.specs.Written.{call_text, is_call_in_range};
 ghost use Rattle.mk_outside.specs.declared.fleet.LogEntry.{LogEntry};
 ghost use Rattle.mk_outside.specs.Counts.{HasRisen};
 ghost use Rattle.mk_outside.specs.Logs.{Adds};
 ghost use Rattle.mk_scenario.specs.Wellformed.{IsWellformed};
 ghost use Rattle.mk_launch.specs.Ready.{IsPrepared};
 ghost use Rattle.mk_launch.specs.Starts.{AreNumbered, AreStarted, links_in};
+ghost use Rattle.mk_launch.specs.Starts as starts;
 ghost use Rattle.mk_local.specs.Calls.{IsCallReplied};
 ghost use Rattle.mk_local.specs.Kinds.{name_of};
 ghost use Rattle.mk_local.specs.Registries.{rows_in};
-ghost use Rattle.mk_run_laws.specs.Lines.{Line};
-ghost use Rattle.mk_run_links.specs.Places.{AreOpen, AreDistinct, at, new_lines, without_all};
+ghost use Rattle.mk_run_laws.specs.Lines.{Line, queued};
+ghost use Rattle.mk_run_links.specs.Entries.{IsClockless};
+ghost use Rattle.mk_run_links.specs.Places.{AreOpen, AreDistinct, IsLinked, IsSet, at, new_lines, without_all};
 ghost use Rattle.mk_setup.specs.Handshakes.{begun};
 ghost use Rattle.mk_setup.specs.Ranked.{AreRanksOf};
 ghost use Rattle.mk_run_local.specs.Seen.{AreOf, new_within};
-ghost use Rattle.mk_run_crew.specs.inner.Asking.{Answers, AnswersNot, Asks, AsksFail, AsksOnLink, IsHalting, IsNewCrew, setup_halt};
+ghost use Rattle.mk_run_crew.specs.inner.Asking.{Answers, AnswersNot, Asks, AsksFail, AsksOnLink, CanAsk, IsHalting, IsNewCrew, IsUnqueued, StepsNot, StepsTo, setup_halt};
+ghost use Rattle.mk_run_crew.specs.inner.Calls.{start_halt};
 ghost use Rattle.mk_run_crew.specs.Begun.{HasBegun};
 ghost use Rattle.mk_run_crew.specs.Halted.{HasHalted};
 ghost use Rattle.mk_run_crew.specs.Seen.{is_here};
@@ -36,25 +40,23 @@ use mk_setup::{Setup, SetupFault, SetupNext, replies_make};
 use std::alloc::Global;
 use std::sync::Wait;
 
-// What a crew is made of, and its setup.
-#[derive(Drop)]
-pub struct Parts {
-    pub links: Links,
-    pub within: Within,
-    pub setup: Setup,
-}
-
 // The halt that a fault of the handshake is.
 pub fn setup_halt(fault: SetupFault) -> Halt
     ensures { result ≡ setup_halt fault }
 {
     match fault {
-        SetupFault::Meta(sim, fault) => Halt::Setup(SetupFault::Meta(sim, fault)),
-        SetupFault::Create(sim, fault) => Halt::Setup(SetupFault::Create(sim, fault)),
-        SetupFault::Connect(fault) => Halt::Setup(SetupFault::Connect(fault)),
-        SetupFault::Unasked(sim) => Halt::Setup(SetupFault::Unasked(sim)),
-        SetupFault::Failed(sim, text) => Halt::Setup(SetupFault::Failed(sim, text)),
         SetupFault::Mem => Halt::Mem,
+        other => Halt::Setup(other),
+    }
+}
+
+// The halt that a fault of the start is.
+fn start_halt(fault: StartFault) -> Halt
+    ensures { result ≡ start_halt fault }
+{
+    match fault {
+        StartFault::Failed(_) => Halt::Fleet,
+        StartFault::Mem => Halt::Mem,
     }
 }
 
@@ -80,42 +82,99 @@ fn start<F: Fleet>(
     let mut places = List::new(alloc);
     match start_all(alloc, scenario, fleet, &mut places) {
         Ok(()) => Ok(places),
-        Err(StartFault::Failed(_)) => {
+        Err(fault) => {
             close_all(places.as_slice(), fleet);
-            Err(Halt::Fleet)
-        }
-        Err(StartFault::Mem) => {
-            close_all(places.as_slice(), fleet);
-            Err(Halt::Mem)
+            Err(start_halt(fault))
         }
     }
 }
 
-// The lines of links at these places, the simulators within the program, and the setup, before any request.
-pub fn make_parts(
+// The lines of links at these places, and the simulators within the program, before any request.
+fn make_links(
+    alloc: Global,
+    scenario: &Scenario,
+    places: &[Option<LinkNo>],
+    kinds: &Registry,
+) -> Result<(Links, Within), Mem>
+    requires prepared { IsPrepared scenario.now (map name_of (rows_in kinds.now)) }
+    requires few { length places.now < 2 ^ 32 }
+    requires distinct { AreDistinct places.now }
+    ensures links { IfOk result (λ r. r.0
+        ≡ record { lines = new_lines places.now; halt = None }) }
+    ensures within { IfOk result (λ r. r.1 ≡ new_within (rows_in kinds.now) scenario.now) }
+    ensures known { IfOk result (λ r. AreOf (rows_in kinds.now) r.1) }
+{
+    let links = Links::new(alloc, places)?;
+    let within = Within::new(alloc, scenario, kinds)?;
+    Ok((links, within))
+}
+
+// The crew of these places and its setup, before any request; at want of memory the places again.
+pub fn new_crew(
     alloc: Global,
     scenario: Scenario,
     ranks: List<u32>,
-    places: &[Option<LinkNo>],
+    places: List<Option<LinkNo>>,
     kinds: &Registry,
-) -> Result<Parts, Mem>
+) -> Result<(Crew, Setup), List<Option<LinkNo>>>
     requires wellformed { IsWellformed scenario }
     requires ranked { AreRanksOf scenario ranks }
     requires prepared { IsPrepared scenario (map name_of (rows_in kinds.now)) }
-    requires few { length places.now < 2 ^ 32 }
-    requires distinct { AreDistinct places.now }
-    ensures links { IfOk result (λ p. p.links
-        ≡ record { lines = new_lines places.now; halt = None }) }
-    ensures within { IfOk result (λ p. p.within ≡ new_within (rows_in kinds.now) scenario) }
-    ensures known { IfOk result (λ p. AreOf (rows_in kinds.now) p.within) }
-    ensures setup { IfOk result (λ p. p.setup ≡ begun scenario ranks) }
+    requires placed { (started : ℕ) × (places ≡ starts.places started scenario.sims) }
+    ensures places { IfOk result (λ r. r.0.places ≡ places) }
+    ensures lines { IfOk result (λ r. r.0.lines ≡ new_lines places) }
+    ensures new { IfOk result (λ r. (started : ℕ) → (old open_links : List LinkNo)
+        → places ≡ starts.places started scenario.sims → open_links ≡ old ++ links_in places
+        → IsNewCrew started (rows_in kinds.now) r.1.scenario open_links r.0) }
+    ensures begun { IfOk result (λ r. r.1 ≡ begun scenario ranks) }
+    ensures back { IfErr result (λ again. again ≡ places) }
 {
-    Ok(Parts {
-        links: Links::new(alloc, places)?,
-        within: Within::new(alloc, &scenario, kinds)?,
-        setup: Setup::new(alloc, scenario, ranks)?,
-    })
+    places_are_distinct();
+    let (links, within) = match make_links(alloc, &scenario, places.as_slice(), kinds) {
+        Ok(made) => made,
+        Err(Mem) => return Err(places),
+    };
+    let crew = Crew {
+        alloc,
+        places,
+        links,
+        within,
+    };
+    match Setup::new(alloc, scenario, ranks) {
+        Ok(setup) => Ok((crew, setup)),
+        Err(Mem) => Err(crew.into_places()),
+    }
 }
+
+// Queues a request on a simulator's link. After a halt nothing has changed.
+fn queue_call(
+    alloc: Global,
+    links: &mut Links,
+    sim: SimNo,
+    call: &Call,
+    id: u64,
+) -> Result<(), Halt>
+    requires linked { IsLinked sim.0 links.old.lines }
+    requires range { is_call_in_range call.now ≡ true }
+    ensures ok { OnOk result ((w : Line)
+        × IsSet sim.0 w (queued (call_text id call.now) (id + 1) w) links.old.lines
+        links.new.lines) }
+    ensures why { IfErr result (λ h. IsUnqueued h sim.0 call.now id) }
+    ensures err { OnErr result (links.new ≡ links.old) }
+    ensures same_halt { links.new.halt ≡ links.old.halt }
+{
+    let Some(next) = id.checked_add(1) else {
+        return Err(Halt::Mem);
+    };
+    let payload = write_call(alloc, call, id)?;
+    match links.queue(sim, &payload, next) {
+        Ok(()) => Ok(()),
+        Err(fault) => Err(unsent(sim, fault)),
+    }
+}
+
+// Frees what a setup holds.
+pub fn let_go(_setup: Setup) {}
 
 impl Crew {
     // Queues a request on a simulator's link, and gives the next message of any link.
@@ -146,12 +205,8 @@ impl Crew {
             × Adds entries (F.log fleet.old) (F.log fleet.new)
             × AsksFail h sim.0 call.now id entries self.old self.new) }
     {
-        let Some(next) = id.checked_add(1) else {
-            return Err(Halt::Mem);
-        };
-        let payload = write_call(self.alloc, call, id)?;
-        if let Err(fault) = self.links.queue(sim, &payload, next) {
-            return Err(unsent(sim, fault));
+        if let Err(halt) = queue_call(self.alloc, &mut self.links, sim, call, id) {
+            return Err(halt);
         }
         match self.links.hear(rt, self.alloc, fleet) {
             Ok(heard) => Ok(heard),
@@ -203,13 +258,15 @@ impl Crew {
         kinds: &Registry,
         fleet: &mut F,
         setup: &mut Setup,
-        request: (SimNo, Call, u64),
+        sim: SimNo,
+        call: &Call,
+        id: u64,
     ) -> Result<(), Halt>
-        requires linked { is_here self.old request.0.0 ≡ false → (w : Line)
-            × (at self.old.lines request.0.0 ≡ Some w) }
+        requires linked { is_here self.old sim.0 ≡ false → (w : Line)
+            × (at self.old.lines sim.0 ≡ Some w) }
         requires open { AreOpen self.old.lines (F.open_links fleet.old) }
-        requires replied { IsCallReplied request.1 }
-        requires range { is_call_in_range request.1 ≡ true }
+        requires replied { IsCallReplied call.now }
+        requires range { is_call_in_range call.now ≡ true }
         requires going { self.old.halt ≡ None }
         ensures count { F.faults fleet.old ≤ F.faults fleet.new }
         ensures same_count { F.started fleet.new ≡ F.started fleet.old }
@@ -218,17 +275,53 @@ impl Crew {
         ensures open { AreOpen self.new.lines (F.open_links fleet.new) }
         ensures ok { OnOk result ((entries : List LogEntry)
             × Adds entries (F.log fleet.old) (F.log fleet.new)
-            × Answers request.0.0 request.1 request.2 entries self.old self.new setup.old
-            setup.new) }
+            × Answers sim.0 call.now id entries self.old self.new setup.old setup.new) }
         ensures err { IfErr result (λ h. (entries : List LogEntry)
             × Adds entries (F.log fleet.old) (F.log fleet.new)
-            × AnswersNot (HasRisen (F.faults fleet.old) (F.faults fleet.new)) h request.0.0
-            request.1 request.2 entries self.old self.new setup.old) }
+            × AnswersNot (HasRisen (F.faults fleet.old) (F.faults fleet.new)) h sim.0 call.now id
+            entries self.old self.new setup.old) }
     {
-        let (sim, call, id) = request;
-        let (from, message) = self.ask(rt, kinds, fleet, sim, &call, id)?;
+        let (from, message) = self.ask(rt, kinds, fleet, sim, call, id)?;
         match setup.arrive(from, &message) {
             Ok(()) => Ok(()),
+            Err(fault) => Err(setup_halt(fault)),
+        }
+    }
+
+    // Makes the next request of a setup; or gives the plan, once all are made.
+    fn step<F: Fleet, R: Wait>(
+        &mut self,
+        rt: &R,
+        kinds: &Registry,
+        fleet: &mut F,
+        setup: &mut Setup,
+    ) -> Result<Option<Plan>, Halt>
+        requires open { AreOpen self.old.lines (F.open_links fleet.old) }
+        requires going { self.old.halt ≡ None }
+        requires resting { setup.old.asked ≡ false }
+        requires next { CanAsk self.old setup.old }
+        ensures count { F.faults fleet.old ≤ F.faults fleet.new }
+        ensures same_count { F.started fleet.new ≡ F.started fleet.old }
+        ensures same_links { F.open_links fleet.new ≡ F.open_links fleet.old }
+        ensures same_places { self.new.places ≡ self.old.places }
+        ensures open { AreOpen self.new.lines (F.open_links fleet.new) }
+        ensures ok { IfOk result (λ plan. (entries : List LogEntry)
+            × Adds entries (F.log fleet.old) (F.log fleet.new)
+            × StepsTo plan entries self.old self.new setup.old setup.new) }
+        ensures err { IfErr result (λ h. (entries : List LogEntry)
+            × Adds entries (F.log fleet.old) (F.log fleet.new)
+            × StepsNot (HasRisen (F.faults fleet.old) (F.faults fleet.new)) h entries self.old
+            self.new setup.old) }
+    {
+        match setup.next() {
+            Ok(SetupNext::Request { sim, call, id }) => {
+                match self.make_request(rt, kinds, fleet, setup, sim, &call, id) {
+                    Ok(()) => Ok(None),
+                    Err(halt) => Err(halt),
+                }
+            }
+            Ok(SetupNext::Wait) => unreachable!(),
+            Ok(SetupNext::Ready(plan)) => Ok(Some(plan)),
             Err(fault) => Err(setup_halt(fault)),
         }
     }
@@ -257,7 +350,7 @@ impl Crew {
             (F.open_links fleet.old) self.old
             → (entries : List LogEntry) × Adds entries (F.log fleet.old) (F.log fleet.new)
             × HasBegun started setup.old.scenario setup.old.ranks
-            (rows_in kinds.now) entries self.new P) }
+            (rows_in kinds.now) entries self.new P × IsClockless entries) }
         ensures err { IfErr result (λ h. (started : ℕ)
             → IsNewCrew started (rows_in kinds.now) setup.old.scenario
             (F.open_links fleet.old) self.old
@@ -267,18 +360,59 @@ impl Crew {
     {
         replies_make();
         for _ in rt.forever() {
-            let request = match setup.next() {
-                Ok(SetupNext::Request { sim, call, id }) => (sim, call, id),
-                Ok(SetupNext::Wait) => unreachable!(),
-                Ok(SetupNext::Ready(plan)) => return Ok(plan),
-                Err(fault) => return Err(setup_halt(fault)),
-            };
-            match self.make_request(rt, kinds, fleet, setup, request) {
-                Ok(()) => {}
+            match self.step(rt, kinds, fleet, setup) {
+                Ok(Some(plan)) => return Ok(plan),
+                Ok(None) => {}
                 Err(halt) => return Err(halt),
             }
         }
         unreachable!()
+    }
+
+    // Makes the handshake of a new crew, which is stopped where it has no plan.
+    fn shake<F: Fleet, R: Wait>(
+        self,
+        rt: &R,
+        kinds: &Registry,
+        fleet: &mut F,
+        setup: Setup,
+    ) -> Result<(Crew, Plan), Halt>
+        requires begun { setup ≡ begun setup.scenario setup.ranks }
+        requires wellformed { IsWellformed setup.scenario }
+        requires prepared { IsPrepared setup.scenario (map name_of (rows_in kinds.now)) }
+        requires new { (started : ℕ)
+            × IsNewCrew started (rows_in kinds.now) setup.scenario (F.open_links fleet.old) self }
+        ensures count { F.faults fleet.old ≤ F.faults fleet.new }
+        ensures same_count { F.started fleet.new ≡ F.started fleet.old }
+        ensures same_links { OnOk result (F.open_links fleet.new ≡ F.open_links fleet.old) }
+        ensures same_places { IfOk result (λ r. r.0.places ≡ self.places) }
+        ensures open { IfOk result (λ r. AreOpen r.0.lines (F.open_links fleet.new)) }
+        ensures ok { IfOk result (λ r. (started : ℕ)
+            → IsNewCrew started (rows_in kinds.now) setup.scenario (F.open_links fleet.old) self
+            → (entries : List LogEntry) × Adds entries (F.log fleet.old) (F.log fleet.new)
+            × HasBegun started setup.scenario setup.ranks (rows_in kinds.now) entries r.0 r.1
+            × IsClockless entries) }
+        ensures err { IfErr result (λ h. (started faults : ℕ) → faults ≤ F.faults fleet.old
+            → IsNewCrew started (rows_in kinds.now) setup.scenario (F.open_links fleet.old) self
+            → (entries : List LogEntry) × Adds entries (F.log fleet.old) (F.log fleet.new)
+            × HasHalted started setup.scenario setup.ranks (rows_in kinds.now) entries
+            (HasRisen faults (F.faults fleet.new)) h × IsClockless entries) }
+        ensures closed { OnErr result (F.open_links fleet.new
+            ≡ without_all (links_in self.places) (F.open_links fleet.old)) }
+    {
+        let mut crew = self;
+        let mut setup = setup;
+        match crew.set_up(rt, kinds, fleet, &mut setup) {
+            Ok(plan) => {
+                let_go(setup);
+                Ok((crew, plan))
+            }
+            Err(halt) => {
+                let_go(setup);
+                crew.stop(fleet);
+                Err(halt)
+            }
+        }
     }
 
     /// Starts the simulators of a prepared scenario with these ranks, and makes the handshake with each: `init`, `create` for
@@ -299,7 +433,8 @@ impl Crew {
         ensures count { F.faults fleet.old ≤ F.faults fleet.new }
         ensures begun { IfOk result (λ r. (entries : List LogEntry)
             × Adds entries (F.log fleet.old) (F.log fleet.new)
-            × HasBegun (F.started fleet.old) scenario ranks (rows_in kinds.now) entries r.0 r.1) }
+            × HasBegun (F.started fleet.old) scenario ranks (rows_in kinds.now) entries r.0 r.1
+            × IsClockless entries) }
         ensures started { IfOk result (λ r. AreStarted scenario.sims
             (record { started = F.started fleet.old; links = F.open_links fleet.old })
             (record { started = F.started fleet.new; links = F.open_links fleet.new }) r.0.places) }
@@ -310,7 +445,7 @@ impl Crew {
         ensures halted { IfErr result (λ h. (entries : List LogEntry)
             × Adds entries (F.log fleet.old) (F.log fleet.new)
             × HasHalted (F.started fleet.old) scenario ranks (rows_in kinds.now) entries
-            (HasRisen (F.faults fleet.old) (F.faults fleet.new)) h) }
+            (HasRisen (F.faults fleet.old) (F.faults fleet.new)) h × IsClockless entries) }
         ensures closed { OnErr result (AreNumbered (F.started fleet.old) (F.open_links fleet.old)
             → F.open_links fleet.new ≡ F.open_links fleet.old) }
     {
@@ -319,29 +454,16 @@ impl Crew {
             Ok(places) => places,
             Err(halt) => return Err(halt),
         };
-        let Parts {
-            links,
-            within,
-            mut setup,
-        } = match make_parts(alloc, scenario, ranks, places.as_slice(), kinds) {
-            Ok(parts) => parts,
-            Err(Mem) => {
+        let (crew, setup) = match new_crew(alloc, scenario, ranks, places, kinds) {
+            Ok(made) => made,
+            Err(places) => {
                 close_all(places.as_slice(), fleet);
                 return Err(Halt::Mem);
             }
         };
-        let mut crew = Crew {
-            alloc,
-            places,
-            links,
-            within,
-        };
-        match crew.set_up(rt, kinds, fleet, &mut setup) {
-            Ok(plan) => Ok((crew, plan)),
-            Err(halt) => {
-                crew.stop(fleet);
-                Err(halt)
-            }
+        match crew.shake(rt, kinds, fleet, setup) {
+            Ok(begun) => Ok(begun),
+            Err(halt) => Err(halt),
         }
     }
 }

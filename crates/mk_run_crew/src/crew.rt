@@ -9,11 +9,12 @@ ghost use Rattle.mk_local.specs.Registries.{rows_in};
 ghost use Rattle.mk_local.specs.Replies.{IsItemReplied};
 ghost use Rattle.mk_run_laws.specs.Crews.{AreStopped, IsHeard, IsRestless};
 ghost use Rattle.mk_run_links.specs.declared.answers.LinkHalt.{LinkHalt};
+ghost use Rattle.mk_run_links.specs.Entries.{IsClockless};
 ghost use Rattle.mk_run_links.specs.Places.{AreOpen, without_all};
 ghost use Rattle.mk_plan.specs.Journals.{Arrival};
 ghost use Rattle.mk_run_local.specs.Calls.{IsFitSuccess};
 ghost use Rattle.mk_run_local.specs.Seen.{AreOf};
-ghost use Rattle.mk_run_crew.specs.Calls.{CanHear, HasNext, HearsAs, IsAllowed, SendsAs, ShowsUnsent, halt_of, lasting};
+ghost use Rattle.mk_run_crew.specs.Calls.{CanHear, HasNext, HearsAs, IsAllowed, SendsAs, ShowsUnsent, TriesAs, halt_of, lasting};
 ghost use Rattle.mk_run_crew.specs.inner.Calls.{unsent};
 ghost use Rattle.mk_run_crew.specs.Seen.{crew_of, is_here, within_of};
 
@@ -71,6 +72,13 @@ pub fn unsent(sim: SimNo, fault: QueueFault) -> Halt
 }
 
 impl Crew {
+    // The places of its links; takes no memory.
+    pub(crate) fn into_places(self) -> List<Option<LinkNo>>
+        ensures { result ≡ self.places }
+    {
+        self.places
+    }
+
     /// Sends an item to a simulator: a Step and a GetData with the next id of its link, an Answer and a Refuse, to a link, with
     /// the id of what they answer. A simulator within the program answers at once, and its reply is kept; it gets a Step at a time
     /// of 0 to 10^9, or a GetData. The kinds are those that it was begun with.
@@ -125,7 +133,7 @@ impl Crew {
         ensures lasts { self.old.halt ≡ None → self.new.halt ≡ lasting result }
         ensures heard { self.old.halt ≡ None → (entries : List LogEntry)
             × Adds entries (F.log fleet.old) (F.log fleet.new)
-            × HearsAs result entries self.old self.new }
+            × HearsAs result entries self.old self.new × IsClockless entries }
     {
         if let Some(why) = self.links.halt() {
             return Err(halt_of(why));
@@ -134,6 +142,40 @@ impl Crew {
             return Ok(heard);
         }
         match self.links.hear(rt, self.alloc, fleet) {
+            Ok(heard) => Ok(heard),
+            Err(why) => Err(halt_of(why)),
+        }
+    }
+
+    /// Gives a message as `hear` does, but waits for nobody: `None` only where no reply is kept of a simulator within the program,
+    /// nothing has come on any link, and each link has said all, or takes no more for now. A halt is answered again as by `hear`.
+    pub fn try_hear<F: Fleet>(&mut self, fleet: &mut F) -> Result<Option<(SimNo, Message)>, Halt>
+        requires { AreOpen self.old.lines (F.open_links fleet.old) }
+        ensures count { F.faults fleet.old ≤ F.faults fleet.new }
+        ensures cause { self.old.halt ≡ None → result ≡ Err Halt.Fleet
+            → HasRisen (F.faults fleet.old) (F.faults fleet.new) }
+        ensures same_count { F.started fleet.new ≡ F.started fleet.old }
+        ensures same_links { F.open_links fleet.new ≡ F.open_links fleet.old }
+        ensures same_places { self.new.places ≡ self.old.places }
+        ensures same_sims { self.new.sims ≡ self.old.sims }
+        ensures kinds { (rows : List Turn) → AreOf rows (within_of self.old)
+            → AreOf rows (within_of self.new) }
+        ensures fit { (k : Arrival) → (more : List Arrival) → self.old.kept ≡ k ∷ more
+            → IfOk result (λ o. IfSome o (λ p. IsFitSuccess p.1)) }
+        ensures again { (why : LinkHalt) → self.old.halt ≡ Some why → (result ≡ Err (halt_of why))
+            × (self.new ≡ self.old) × (fleet.new ≡ fleet.old) }
+        ensures lasts { self.old.halt ≡ None → self.new.halt ≡ lasting result }
+        ensures tried { self.old.halt ≡ None → (entries : List LogEntry)
+            × Adds entries (F.log fleet.old) (F.log fleet.new)
+            × TriesAs result entries self.old self.new }
+    {
+        if let Some(why) = self.links.halt() {
+            return Err(halt_of(why));
+        }
+        if let Some(heard) = self.within.take() {
+            return Ok(Some(heard));
+        }
+        match self.links.try_hear(fleet) {
             Ok(heard) => Ok(heard),
             Err(why) => Err(halt_of(why)),
         }
@@ -167,7 +209,7 @@ impl Crew {
         ensures stopped { (entries : List LogEntry)
             × Adds entries (F.log fleet.old) (F.log fleet.new)
             × AreStopped entries (HasRisen (F.faults fleet.old) (F.faults fleet.new)) (crew_of self)
-            × IsRestless entries }
+            × IsRestless entries × IsClockless entries }
     {
         self.links.stop(fleet);
         close_all(self.places.as_slice(), fleet);

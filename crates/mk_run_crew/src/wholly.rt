@@ -1,5 +1,5 @@
 // The begin of a crew whose simulators are all within the program: no link is started, and nobody is waited for.
-ghost use Rattle.std.specs.Prelude.{◌≡◌, ℕ, List, [], true, None, map, IfOk, IfErr, OnOk};
+ghost use Rattle.std.specs.Prelude.{◌≡◌, ℕ, List, [], true, false, None, map, IfOk, IfErr, OnOk};
 ghost use Rattle.mk_outside.specs.Counts.{HasRisen};
 ghost use Rattle.mk_scenario.specs.Wellformed.{IsWellformed};
 ghost use Rattle.mk_launch.specs.Ready.{IsPrepared};
@@ -10,7 +10,7 @@ ghost use Rattle.mk_run_laws.specs.Handshake.{is_local};
 ghost use Rattle.mk_run_links.specs.Places.{at};
 ghost use Rattle.mk_setup.specs.Handshakes.{begun};
 ghost use Rattle.mk_setup.specs.Ranked.{AreRanksOf};
-ghost use Rattle.mk_run_crew.specs.inner.Asking.{Answers, AnswersNot, Asks, AsksFail, IsHalting, IsNewCrew};
+ghost use Rattle.mk_run_crew.specs.inner.Asking.{Answers, AnswersNot, Asks, AsksFail, CanAskWithin, IsHalting, IsNewCrew, StepsNot, StepsTo};
 ghost use Rattle.mk_run_crew.specs.Begun.{HasBegun};
 ghost use Rattle.mk_run_crew.specs.Halted.{HasHalted};
 ghost use Rattle.mk_run_crew.specs.Seen.{is_here};
@@ -18,13 +18,12 @@ ghost use Rattle.mk_run_crew.specs.Wholly.{IsWithinHalt, is_wholly_within};
 ghost use Rattle.mk_run_crew.specs.inner.Wholly.{no_links};
 ghost use Rattle.mk_run_crew.specs.declared.halt.Halt.TheVariants as halts;
 
-use crate::beginning::{Parts, make_parts, setup_halt};
+use crate::beginning::{let_go, new_crew, setup_halt};
 use crate::crew::Crew;
 use crate::halt::Halt;
 use mk_base::{LinkNo, List, Mem, SimNo};
 use mk_local::Registry;
 use mk_plan::{Call, Message, Plan};
-use mk_run_links::places_are_distinct;
 use mk_scenario::{Begin, Scenario};
 use mk_setup::{Setup, SetupNext, replies_make};
 use std::alloc::Global;
@@ -87,22 +86,46 @@ impl Crew {
         &mut self,
         kinds: &Registry,
         setup: &mut Setup,
-        request: (SimNo, Call, u64),
+        sim: SimNo,
+        call: &Call,
+        id: u64,
     ) -> Result<(), Halt>
-        requires here { is_here self.old request.0.0 ≡ true }
-        requires replied { IsCallReplied request.1 }
+        requires here { is_here self.old sim.0 ≡ true }
+        requires replied { IsCallReplied call.now }
         ensures ok { OnOk result
-            (Answers request.0.0 request.1 request.2 [] self.old self.new setup.old setup.new) }
+            (Answers sim.0 call.now id [] self.old self.new setup.old setup.new) }
         ensures err { IfErr result
-            (λ h. AnswersNot ⊥ h request.0.0 request.1 request.2 [] self.old self.new setup.old) }
+            (λ h. AnswersNot ⊥ h sim.0 call.now id [] self.old self.new setup.old) }
         ensures cause { IfErr result IsWithinHalt }
         ensures same_lines { self.new.lines ≡ self.old.lines }
         ensures same_places { self.new.places ≡ self.old.places }
     {
-        let (sim, call, id) = request;
-        let (from, message) = self.ask_within(kinds, sim, &call, id)?;
+        let (from, message) = self.ask_within(kinds, sim, call, id)?;
         match setup.arrive(from, &message) {
             Ok(()) => Ok(()),
+            Err(fault) => Err(setup_halt(fault)),
+        }
+    }
+
+    // Makes the next request of a setup, within the program; or gives the plan, once all are made.
+    fn step_within(&mut self, kinds: &Registry, setup: &mut Setup) -> Result<Option<Plan>, Halt>
+        requires resting { setup.old.asked ≡ false }
+        requires next { CanAskWithin self.old setup.old }
+        ensures ok { IfOk result (λ plan. StepsTo plan [] self.old self.new setup.old setup.new) }
+        ensures err { IfErr result (λ h. StepsNot ⊥ h [] self.old self.new setup.old) }
+        ensures cause { IfErr result IsWithinHalt }
+        ensures same_lines { self.new.lines ≡ self.old.lines }
+        ensures same_places { self.new.places ≡ self.old.places }
+    {
+        match setup.next() {
+            Ok(SetupNext::Request { sim, call, id }) => {
+                match self.make_request_within(kinds, setup, sim, &call, id) {
+                    Ok(()) => Ok(None),
+                    Err(halt) => Err(halt),
+                }
+            }
+            Ok(SetupNext::Wait) => unreachable!(),
+            Ok(SetupNext::Ready(plan)) => Ok(Some(plan)),
             Err(fault) => Err(setup_halt(fault)),
         }
     }
@@ -126,15 +149,41 @@ impl Crew {
     {
         replies_make();
         'asking: loop {
-            let request = match setup.next() {
-                Ok(SetupNext::Request { sim, call, id }) => (sim, call, id),
-                Ok(SetupNext::Wait) => unreachable!(),
-                Ok(SetupNext::Ready(plan)) => return Ok(plan),
-                Err(fault) => return Err(setup_halt(fault)),
-            };
-            match self.make_request_within(kinds, setup, request) {
-                Ok(()) => {}
+            match self.step_within(kinds, setup) {
+                Ok(Some(plan)) => return Ok(plan),
+                Ok(None) => {}
                 Err(halt) => return Err(halt),
+            }
+        }
+    }
+
+    // Makes the handshake of a new crew whose simulators are all within the program.
+    fn shake_within(self, kinds: &Registry, setup: Setup) -> Result<(Crew, Plan), Halt>
+        requires begun { setup ≡ begun setup.scenario setup.ranks }
+        requires prepared { IsPrepared setup.scenario (map name_of (rows_in kinds.now)) }
+        requires wholly { is_wholly_within setup.scenario ≡ true }
+        requires new { (started : ℕ)
+            → IsNewCrew started (rows_in kinds.now) setup.scenario [] self }
+        requires linkless { (i : ℕ) → at self.lines i ≡ None }
+        ensures begun { IfOk result (λ r. (started : ℕ)
+            → HasBegun started setup.scenario setup.ranks (rows_in kinds.now) [] r.0 r.1) }
+        ensures linkless { IfOk result (λ r. (i : ℕ) → at r.0.lines i ≡ None) }
+        ensures halted { IfErr result (λ h. (started faults new_faults : ℕ)
+            → HasHalted started setup.scenario setup.ranks (rows_in kinds.now) []
+            (HasRisen faults new_faults) h) }
+        ensures cause { IfErr result IsWithinHalt }
+    {
+        let mut crew = self;
+        let mut setup = setup;
+        match crew.set_up_within(kinds, &mut setup) {
+            Ok(plan) => {
+                let_go(setup);
+                Ok((crew, plan))
+            }
+            Err(halt) => {
+                let_go(setup);
+                drop(crew.into_places());
+                Err(halt)
             }
         }
     }
@@ -161,27 +210,16 @@ impl Crew {
             (HasRisen faults new_faults) h) }
         ensures cause { IfErr result IsWithinHalt }
     {
-        places_are_distinct();
         let places = match no_links(alloc, &scenario) {
             Ok(places) => places,
             Err(Mem) => return Err(Halt::Mem),
         };
-        let Parts {
-            links,
-            within,
-            mut setup,
-        } = match make_parts(alloc, scenario, ranks, places.as_slice(), kinds) {
-            Ok(parts) => parts,
-            Err(Mem) => return Err(Halt::Mem),
+        let (crew, setup) = match new_crew(alloc, scenario, ranks, places, kinds) {
+            Ok(made) => made,
+            Err(_places) => return Err(Halt::Mem),
         };
-        let mut crew = Crew {
-            alloc,
-            places,
-            links,
-            within,
-        };
-        match crew.set_up_within(kinds, &mut setup) {
-            Ok(plan) => Ok((crew, plan)),
+        match crew.shake_within(kinds, setup) {
+            Ok(begun) => Ok(begun),
             Err(halt) => Err(halt),
         }
     }

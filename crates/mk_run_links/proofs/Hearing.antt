@@ -1,9 +1,9 @@
--- Rounds one after another, until something is heard.
-use Rattle.std.proofs.Common.{◌≡◌, ℕ, List, [], ◌∷◌, ◌++◌, Option, Some, None, Ok, Err, refl, sym, ap, ◌∙◌, subst, inl, inr}
+-- Looks and rests one after another, until something is heard.
+use Rattle.std.proofs.Common.{◌≡◌, ℕ, Bool, true, false, List, [], ◌∷◌, ◌++◌, Option, Some, None, Ok, Err, refl, sym, ap, ◌∙◌, subst, inl, inr, option_map, true≢false}
 use Rattle.mk_base.specs.declared.LinkNo.{LinkNo}
 use Rattle.mk_base.specs.declared.SimNo.{SimNo}
 use Rattle.mk_base.specs.Lists.{IsIn}
-use Rattle.mk_base.proofs.Lists.{none_some, some_same}
+use Rattle.mk_base.proofs.Lists.{append_nil, none_some, some_same}
 use Rattle.mk_plan.specs.declared.Message.{Message}
 use Rattle.mk_outside.specs.declared.fleet.LogEntry.{LogEntry}
 use Rattle.mk_outside.specs.declared.fleet.LogEntry.TheVariants.{Rest, Ended}
@@ -18,15 +18,18 @@ use Rattle.mk_run_laws.proofs.Stepping.{first_or_second, not_empty}
 use Rattle.mk_run_laws.proofs.Waiting.{moved_on, parked_rested}
 use Rattle.mk_run_links.specs.declared.answers.LinkHalt.{LinkHalt}
 use Rattle.mk_run_links.specs.declared.answers.LinkHalt.TheVariants as halt
+use Rattle.mk_run_links.specs.declared.answers.Listened.TheVariants as listened
 use Rattle.mk_run_links.specs.declared.answers.Looked.TheVariants as looked
-use Rattle.mk_run_links.specs.declared.answers.Round.TheVariants as round
-use Rattle.mk_run_links.specs.Crews.{HearsAs}
+use Rattle.mk_run_links.specs.Crews.{ArePending, HearsAs, TriesAs}
 use Rattle.mk_run_links.specs.Halts.{HeardOf, ShowsHalt}
-use Rattle.mk_run_links.specs.Places.{Lines, IsLinked, AreOpen, at, crew}
-use Rattle.mk_run_links.specs.inner.Rounds.{LooksAs, RestsAs, GoesAs, round_of}
-use Rattle.mk_run_links.proofs.Looking.{left_alone, nothing_by}
+use Rattle.mk_run_links.specs.inner.OneLine.{unparked}
+use Rattle.mk_run_links.specs.Entries.{AreOfLinks, IsClockless}
+use Rattle.mk_run_links.specs.Places.{Lines, IsLinked, AreOpen, AreParked, at, crew}
+use Rattle.mk_run_links.specs.inner.Looks.{AreWoken, LooksAs, ListensAs, RestsAs, listened_of}
+use Rattle.mk_run_links.proofs.Looking.{all_woken, left_alone, nothing_by}
+use Rattle.mk_run_links.proofs.OnEntries.{clockless_on, no_clock, no_rests, of_links_on}
 
--- ---- one round
+-- ---- one look
 
 no_rest : (C : CrewState) → AreParkedAtRests [] C
 no_rest C before after is = absurd (not_empty before after Rest is)
@@ -37,18 +40,7 @@ unrested entries C restless before after is = absurd (restless before after is)
 unheard_is : (entries : List LogEntry) (L M : Lines) → AreMoved entries (λ i. []) (crew L) (crew M) → AreParkedAtRests entries (crew L) → IsUnheard entries (crew L) (crew M)
 unheard_is entries L M moved parked = record { kept = refl; none_kept = refl; moved = moved; parked = parked }
 
-pub parked_round : (L M : Lines) (entries : List LogEntry) → LooksAs looked.Parked entries L M → GoesAs round.Again entries L M
-parked_round L M entries l = unheard_is entries L M l.0 (unrested entries (crew L) l.1)
-
-pub heard_round : (i : SimNo) (h : Heard) (L M : Lines) (entries : List LogEntry) → LooksAs (looked.Heard i h) entries L M → GoesAs (round_of i h) entries L M
-heard_round i (heard.Message m) L M entries l = on_link refl refl l.2.0 l.2.1 l.0 (unrested entries (crew L) l.1)
-heard_round i (heard.Garbled t) L M entries l = (unheard_is entries L M (nothing_by entries i.0 (crew L) (crew M) l.0) (unrested entries (crew L) l.1), l.3)
-heard_round i (heard.TooLong n) L M entries l = (unheard_is entries L M (nothing_by entries i.0 (crew L) (crew M) l.0) (unrested entries (crew L) l.1), l.3)
-heard_round i heard.Closed L M entries l = (unheard_is entries L M (nothing_by entries i.0 (crew L) (crew M) l.0) (unrested entries (crew L) l.1), l.3)
-heard_round i heard.Failed L M entries l = (unheard_is entries L M (nothing_by entries i.0 (crew L) (crew M) l.0) (unrested entries (crew L) l.1), tt)
-heard_round i heard.Mem L M entries l = (unheard_is entries L M (nothing_by entries i.0 (crew L) (crew M) l.0) (unrested entries (crew L) l.1), tt)
-
--- ---- rounds after each other
+-- ---- calls after each other
 
 pub moved_there : (entries : List LogEntry) (given : List Message) (o p : Option Line) (w : Line) → o ≡ Some w → IsMovedAt entries given o p → (v : Line) × (p ≡ Some v) × IsMoved entries given w v
 moved_there entries given None p w e moved = absurd (none_some e)
@@ -101,42 +93,145 @@ shows_later (halt.Garbled i t) a b N s = s
 shows_later (halt.LongFrame i n) a b N s = s
 shows_later halt.Mem a b N s = tt
 
+-- ---- looks at links, each in its turn
+
+-- nothing was heard so far, by reads and writes alone
+pub record Hush (L M : Lines) (old new : Option (List LogEntry)) : Type 0 where
+  pub entries : List LogEntry
+  pub adds : Adds entries old new
+  pub unheard : IsUnheard entries (crew L) (crew M)
+  pub on_links : AreOfLinks entries
+
+pub hush_begins : (L : Lines) (log : Option (List LogEntry)) → Adds [] log log → Hush L L log log
+hush_begins L log adds = record { entries = []; adds = adds; unheard = unheard_is [] L L (left_alone (crew L)).0 (no_rest (crew L)); on_links = (left_alone (crew L)).1 }
+
+pub hush_goes_on : (L M N : Lines) (old mid new : Option (List LogEntry)) (more : List LogEntry) → Hush L M old mid → Adds more mid new → LooksAs looked.Parked more M N → Hush L N old new
+hush_goes_on L M N old mid new more h adds l = record {
+  entries = h.entries ++ more;
+  adds = adds_more h.entries more old mid new h.adds adds;
+  unheard = unheard_on h.entries more L M N h.unheard (unheard_is more M N l.0 (unrested more (crew M) (no_rests more l.1)));
+  on_links = of_links_on h.entries more h.on_links l.1;
+}
+
+module _ (L M N : Lines) (old mid new : Option (List LogEntry)) (more : List LogEntry) (hush : Hush L M old mid) (adds : Adds more mid new) where
+  all_adds : Adds (hush.entries ++ more) old new
+  all_adds = adds_more hush.entries more old mid new hush.adds adds
+
+  nothing_came : (i : SimNo) → AreMoved more (λ j. []) (crew M) (crew N) → AreOfLinks more → IsUnheard (hush.entries ++ more) (crew L) (crew N) × AreOfLinks (hush.entries ++ more)
+  nothing_came i moved on_links = (unheard_on hush.entries more L M N hush.unheard (unheard_is more M N moved (unrested more (crew M) (no_rests more on_links))), of_links_on hush.entries more hush.on_links on_links)
+
+  pub hush_heard : (i : SimNo) (h : Heard) → LooksAs (looked.Heard i h) more M N → (entries : List LogEntry) × Adds entries old new × ListensAs (listened_of i h) entries L N
+  hush_heard i (heard.Message m) l = (
+    hush.entries ++ more,
+    all_adds,
+    (heard_on_link hush.entries more i.0 m L M N hush.unheard (on_link refl refl l.2.0 l.2.1 l.0 (unrested more (crew M) (no_rests more l.1))), of_links_on hush.entries more hush.on_links l.1),
+  )
+  hush_heard i (heard.Garbled t) l = let n = nothing_came i (nothing_by more i.0 (crew M) (crew N) l.0) l.1 in (hush.entries ++ more, all_adds, (n.0, n.1, shows_later (halt.Garbled i t) hush.entries more N l.3))
+  hush_heard i (heard.TooLong k) l = let n = nothing_came i (nothing_by more i.0 (crew M) (crew N) l.0) l.1 in (hush.entries ++ more, all_adds, (n.0, n.1, shows_later (halt.LongFrame i k) hush.entries more N l.3))
+  hush_heard i heard.Closed l = let n = nothing_came i (nothing_by more i.0 (crew M) (crew N) l.0) l.1 in (hush.entries ++ more, all_adds, (n.0, n.1, shows_later (halt.Gone i) hush.entries more N l.3))
+  hush_heard i heard.Failed l = let n = nothing_came i (nothing_by more i.0 (crew M) (crew N) l.0) l.1 in (hush.entries ++ more, all_adds, (n.0, n.1, tt))
+  hush_heard i heard.Mem l = let n = nothing_came i (nothing_by more i.0 (crew M) (crew N) l.0) l.1 in (hush.entries ++ more, all_adds, (n.0, n.1, tt))
+
+  pub hush_lasts : LooksAs looked.Quiet more M N → (entries : List LogEntry) × Adds entries old new × ListensAs listened.Quiet entries L N
+  hush_lasts l = (
+    hush.entries,
+    subst (λ (x : List LogEntry). Adds x old new) none all_adds,
+    (subst (λ (X : Lines). IsUnheard hush.entries (crew L) (crew X)) (sym l.0) hush.unheard, hush.on_links, subst AreParked (sym l.0) l.2),
+  )
+    where
+      none : hush.entries ++ more ≡ hush.entries
+      none = ap (λ (x : List LogEntry). hush.entries ++ x) l.1 ∙ append_nil hush.entries
+
+-- ---- looks and rests
+
 -- nothing was heard so far
 pub record Silence (L M : Lines) (old new : Option (List LogEntry)) : Type 0 where
   pub entries : List LogEntry
   pub adds : Adds entries old new
   pub unheard : IsUnheard entries (crew L) (crew M)
-
-pub silence_goes_on : (L M N : Lines) (old mid new : Option (List LogEntry)) (more : List LogEntry) → Silence L M old mid → Adds more mid new → GoesAs round.Again more M N → Silence L N old new
-silence_goes_on L M N old mid new more s adds g = record { entries = s.entries ++ more; adds = adds_more s.entries more old mid new s.adds adds; unheard = unheard_on s.entries more L M N s.unheard g }
-
-pub silence_heard : (L M N : Lines) (old mid new : Option (List LogEntry)) (more : List LogEntry) (i : SimNo) (m : Message) → Silence L M old mid → Adds more mid new → GoesAs (round.Message i m) more M N
-    → (entries : List LogEntry) × Adds entries old new × HearsAs (Ok (i, m)) entries L N
-silence_heard L M N old mid new more i m s adds g = (s.entries ++ more, adds_more s.entries more old mid new s.adds adds, heard_on_link s.entries more i.0 m L M N s.unheard g)
-
-pub silence_halted : (L M N : Lines) (old mid new : Option (List LogEntry)) (more : List LogEntry) (h : LinkHalt) → Silence L M old mid → Adds more mid new → GoesAs (round.Halted h) more M N
-    → (entries : List LogEntry) × Adds entries old new × HearsAs (Err h) entries L N
-silence_halted L M N old mid new more h s adds g = (s.entries ++ more, adds_more s.entries more old mid new s.adds adds, (unheard_on s.entries more L M N s.unheard g.0, shows_later h s.entries more N g.1))
+  pub clockless : IsClockless entries
 
 pub no_sound : (L : Lines) (log : Option (List LogEntry)) → Adds [] log log → Silence L L log log
-no_sound L log adds = record { entries = []; adds = adds; unheard = unheard_is [] L L (left_alone (crew L)).0 (no_rest (crew L)) }
+no_sound L log adds = record { entries = []; adds = adds; unheard = unheard_is [] L L (left_alone (crew L)).0 (no_rest (crew L)); clockless = tt }
+
+pub silence_heard : (L M N : Lines) (old mid new : Option (List LogEntry)) (more : List LogEntry) (i : SimNo) (m : Message) → Silence L M old mid → Adds more mid new → ListensAs (listened.Message i m) more M N
+    → (entries : List LogEntry) × Adds entries old new × HearsAs (Ok (i, m)) entries L N × IsClockless entries
+silence_heard L M N old mid new more i m s adds l = (s.entries ++ more, adds_more s.entries more old mid new s.adds adds, heard_on_link s.entries more i.0 m L M N s.unheard l.0, clockless_on s.entries more s.clockless (no_clock more l.1))
+
+pub silence_halted : (L M N : Lines) (old mid new : Option (List LogEntry)) (more : List LogEntry) (h : LinkHalt) → Silence L M old mid → Adds more mid new → ListensAs (listened.Halted h) more M N
+    → (entries : List LogEntry) × Adds entries old new × HearsAs (Err h) entries L N × IsClockless entries
+silence_halted L M N old mid new more h s adds l = (s.entries ++ more, adds_more s.entries more old mid new s.adds adds, (unheard_on s.entries more L M N s.unheard l.0, shows_later h s.entries more N l.2), clockless_on s.entries more s.clockless (no_clock more l.1))
 
 -- a rest comes where all lines are parked
-pub rested_round : (L M N : Lines) (old mid new : Option (List LogEntry)) (a b : List LogEntry) → LooksAs looked.Quiet a L M → Adds a old mid → RestsAs (Ok tt) b M N → Adds b mid new → (entries : List LogEntry) × Adds entries old new × GoesAs round.Again entries L N
-rested_round L M N old mid new a b l adds r more = (
-  a ++ b,
-  adds_more a b old mid new adds more,
-  subst (λ (x : List LogEntry). IsUnheard x (crew L) (crew N)) (sym (ap (λ (x : List LogEntry). x ++ b) l.1 ∙ r.0))
-      (unheard_is (Rest ∷ []) L N (subst (λ (X : Lines). AreMoved (Rest ∷ []) (λ i. []) (crew X) (crew N)) l.0 r.1)
-      (parked_rested [] (crew L) (crew L) (no_rest (crew L)) (left_alone (crew L)).0 l.2)),
-)
+rested : (M N O : Lines) (a : List LogEntry) → ListensAs listened.Quiet a M N → AreMoved (Rest ∷ []) (λ i. []) (crew N) (crew O) → IsUnheard (a ++ Rest ∷ []) (crew M) (crew O)
+rested M N O a l moved = unheard_is (a ++ Rest ∷ []) M O (moved_on a (Rest ∷ []) (λ i. []) (λ i. []) (crew M) (crew N) (crew O) l.0.moved moved) (parked_rested a (crew M) (crew N) (unrested a (crew M) (no_rests a l.1)) l.0.moved l.2)
 
-pub unrested_round : (h : LinkHalt) (L M N : Lines) (old mid new : Option (List LogEntry)) (a b : List LogEntry) → LooksAs looked.Quiet a L M → Adds a old mid → RestsAs (Err h) b M N → Adds b mid new
-    → (entries : List LogEntry) × Adds entries old new × GoesAs (round.Halted h) entries L N
-unrested_round h L M N old mid new a b l adds r more =
-    let none : a ++ b ≡ [] = ap (λ (x : List LogEntry). x ++ b) l.1 ∙ r.0 in
-    let same : N ≡ L = r.1 ∙ l.0 in (
-      [],
-      subst (λ (x : List LogEntry). Adds x old new) none (adds_more a b old mid new adds more),
-      (subst (λ (X : Lines). IsUnheard [] (crew L) (crew X)) (sym same) (unheard_is [] L L (left_alone (crew L)).0 (no_rest (crew L))), r.2),
-    )
+pub silence_goes_on : (L M N O : Lines) (old mid late new : Option (List LogEntry)) (a b : List LogEntry) → Silence L M old mid → Adds a mid late → ListensAs listened.Quiet a M N → Adds b late new → RestsAs (Ok tt) b N O → Silence L O old new
+silence_goes_on L M N O old mid late new a b s adds l more r = record {
+  entries = s.entries ++ (a ++ b);
+  adds = adds_more s.entries (a ++ b) old mid new s.adds (adds_more a b mid late new adds more);
+  unheard = unheard_on s.entries (a ++ b) L M O s.unheard (subst (λ (x : List LogEntry). IsUnheard (a ++ x) (crew M) (crew O)) (sym r.0) (rested M N O a l r.1));
+  clockless = clockless_on s.entries (a ++ b) s.clockless (clockless_on a b (no_clock a l.1) (subst IsClockless (sym r.0) (tt, tt)));
+}
+
+pub silence_unrested : (L M N O : Lines) (old mid late new : Option (List LogEntry)) (a b : List LogEntry) (h : LinkHalt) → Silence L M old mid → Adds a mid late → ListensAs listened.Quiet a M N → Adds b late new → RestsAs (Err h) b N O
+    → (entries : List LogEntry) × Adds entries old new × HearsAs (Err h) entries L O × IsClockless entries
+silence_unrested L M N O old mid late new a b h s adds l more r = (
+  s.entries ++ (a ++ b),
+  adds_more s.entries (a ++ b) old mid new s.adds (adds_more a b mid late new adds more),
+  (
+    unheard_on s.entries (a ++ b) L M O s.unheard (subst (λ (x : List LogEntry). IsUnheard x (crew M) (crew O)) (sym none) (subst (λ (X : Lines). IsUnheard a (crew M) (crew X)) (sym r.1) l.0)),
+    shows_later h s.entries (a ++ b) O (shows_later h a b O (subst (λ (x : List LogEntry). ShowsHalt h x O) (sym r.0) r.2)),
+  ),
+  clockless_on s.entries (a ++ b) s.clockless (clockless_on a b (no_clock a l.1) (subst IsClockless (sym r.0) tt)),
+)
+  where
+    none : a ++ b ≡ a
+    none = ap (λ (x : List LogEntry). a ++ x) r.0 ∙ append_nil a
+
+pub open_parked : (a : List LogEntry) (M N : Lines) (open_links : List LinkNo) → LooksAs looked.Parked a M N → AreOpen M open_links → AreOpen N open_links
+open_parked a M N open_links l all = open_still a M N open_links (unheard_is a M N l.0 (unrested a (crew M) (no_rests a l.1))) all
+
+pub open_quiet : (a : List LogEntry) (M N : Lines) (open_links : List LinkNo) → ListensAs listened.Quiet a M N → AreOpen M open_links → AreOpen N open_links
+open_quiet a M N open_links l all = open_still a M N open_links l.0 all
+
+pub some_quiet : (a : List LogEntry) (M N : Lines) → ListensAs listened.Quiet a M N → ((i : ℕ) × IsLinked i M) → (i : ℕ) × IsLinked i N
+some_quiet a M N l some = some_still a M N l.0 some
+
+-- ---- looks at all links, without a rest
+
+module _ (L M N : Lines) (woken : AreWoken L M) (entries : List LogEntry) where
+  begun : IsUnheard [] (crew L) (crew M)
+  begun = unheard_is [] L M (all_woken L M woken) (no_rest (crew L))
+
+  pub tried_heard : (i : SimNo) (m : Message) → ListensAs (listened.Message i m) entries M N → TriesAs (Ok (Some (i, m))) entries L N
+  tried_heard i m l = (heard_on_link [] entries i.0 m L M N begun l.0, l.1)
+
+  pub tried_halted : (h : LinkHalt) → ListensAs (listened.Halted h) entries M N → TriesAs (Err h) entries L N
+  tried_halted h l = (unheard_on [] entries L M N begun l.0, l.1, l.2)
+
+  moved_from : (o p : Option Line) (w : Line) → p ≡ Some w → IsMovedAt entries [] o p → (v : Line) × (o ≡ Some v) × IsMoved entries [] v w
+  moved_from o None w e moved = absurd (none_some e)
+  moved_from None (Some u) w e moved = absurd moved
+  moved_from (Some v) (Some u) w e moved = (v, refl, subst (λ (x : Line). IsMoved entries [] v x) (some_same e) moved)
+
+  awake : (o : Option Line) (v : Line) → option_map unparked o ≡ Some v → v.parked ≡ false
+  awake None v e = absurd (none_some e)
+  awake (Some u) v e = ap (λ (w : Line). w.parked) (sym (some_same e))
+
+  pub tried_none : ListensAs listened.Quiet entries M N → TriesAs (Ok None) entries L N
+  tried_none l = (unheard_on [] entries L M N begun l.0, l.1, looked_at)
+    where
+      looked_at : ArePending entries N
+      looked_at i w there =
+          let parked = l.2 i w there in
+          let m = moved_from (at M i) (at N i) w there (l.0.moved i) in (
+            parked,
+            elim (m.2.parked parked) [
+              | inl now ↦ now
+              | inr left ↦ absurd (true≢false (sym left.parked ∙ awake (at L i) m.0 (sym (woken i) ∙ m.1)))
+            ],
+          )
+
+pub open_woken : (L M : Lines) (open_links : List LinkNo) → AreWoken L M → AreOpen L open_links → AreOpen M open_links
+open_woken L M open_links woken all = open_still [] L M open_links (unheard_is [] L M (all_woken L M woken) (no_rest (crew L))) all

@@ -1,30 +1,33 @@
 -- What a poll of one line comes to for a whole crew.
-use Rattle.std.proofs.Common.{ℕ, ◌==◌, true, false, List, [], ◌∷◌, Option, Some, None, refl, sym, if◌then◌else◌}
+use Rattle.std.proofs.Common.{◌≡◌, ◌⊎◌, ℕ, zero, suc, ◌+◌, ◌<◌, ◌≤◌, ◌==◌, true, false, List, [], ◌∷◌, ◌++◌, Option, Some, None, refl, sym, ap, ◌∙◌, subst, inl, inr, arith, length, slice_get, option_map, option_and_then, if◌then◌else◌}
 use Rattle.mk_base.specs.declared.LinkNo.{LinkNo}
 use Rattle.mk_base.specs.declared.SimNo.{SimNo}
+use Rattle.mk_base.proofs.Lists.{none_some}
 use Rattle.mk_outside.specs.declared.fleet.LogEntry.{LogEntry}
 use Rattle.mk_session.specs.declared.answers.Heard.{Heard}
 use Rattle.mk_session.specs.declared.answers.Polled.{Polled}
 use Rattle.mk_session.specs.declared.answers.Polled.TheVariants as polled
 use Rattle.mk_run_links.specs.declared.answers.Looked.TheVariants as looked
 use Rattle.mk_run_laws.specs.Lines.{Line}
-use Rattle.mk_run_laws.specs.Crews.{CrewState, line_at, IsMovedAt, AreMoved, IsRestless}
-use Rattle.mk_run_laws.proofs.Polling.{IsForeign, foreign, foreign_rest, restless, line_left, line_unparked}
+use Rattle.mk_run_laws.specs.Crews.{CrewState, line_at, IsMovedAt, AreMoved}
+use Rattle.mk_run_laws.proofs.Polling.{IsForeign, foreign, foreign_rest, line_left, line_unparked}
 use Rattle.mk_run_laws.proofs.Waiting.{moved_on}
-use Rattle.mk_run_laws.proofs.Stepping.{not_empty}
+use Rattle.mk_run_laws.proofs.Stepping.{not_empty, same_or_not}
 use Rattle.mk_outside.specs.declared.fleet.LogEntry.TheVariants.{Rest}
 use Rattle.mk_run_laws.proofs.Greeting.{moved_one}
-use Rattle.mk_run_links.specs.inner.OneLine.{given_in, PollsAt, unparked}
-use Rattle.mk_run_links.specs.Places.{Lines, IsSet, crew}
-use Rattle.mk_run_links.specs.inner.Rounds.{only_by, LooksAs}
+use Rattle.mk_run_links.specs.inner.OneLine.{given_in, link_of, PollsAt, unparked}
+use Rattle.mk_run_links.specs.Entries.{AreOfLinks}
+use Rattle.mk_run_links.specs.Places.{Lines, IsSet, at, crew}
+use Rattle.mk_run_links.specs.inner.Looks.{AreWoken, IsWokenAt, only_by, LooksAs}
 use Rattle.mk_run_links.specs.inner.Standing.{AreApart}
+use Rattle.mk_run_links.proofs.OnEntries.{of_link}
 
 -- one line is moved, and all others stand
-pub polled_moved : (answer : Polled) (s : ℕ) (L M : Lines) (entries : List LogEntry) → AreApart L → PollsAt answer s L entries M → AreMoved entries (only_by s (given_in answer)) (crew L) (crew M) × IsRestless entries
+pub polled_moved : (answer : Polled) (s : ℕ) (L M : Lines) (entries : List LogEntry) → AreApart L → PollsAt answer s L entries M → AreMoved entries (only_by s (given_in answer)) (crew L) (crew M) × AreOfLinks entries
 polled_moved answer s L M entries apart p = (
   moved_one entries (given_in answer) (crew L) (crew M) s p.line p.after p.set.there p.set.here p.set.others p.polled.moved
       (λ i u away e. foreign (p.line).link u.link (λ q. away (apart i s u p.line e p.set.there (sym q))) entries p.polled.on_link),
-  restless (p.line).link entries p.polled.on_link,
+  of_link (p.line).link entries p.polled.on_link,
 )
 
 -- where simulator s gave nothing, nobody did
@@ -36,8 +39,8 @@ left_at None = tt
 left_at (Some w) = line_left [] w (record { unheard = refl; unsaid = refl; unread = refl; unwritten = refl })
 
 -- without entries all lines stand
-pub left_alone : (C : CrewState) → AreMoved [] (λ i. []) C C × IsRestless []
-left_alone C = ((λ i. left_at (line_at C i)), (λ before after e. not_empty before after Rest e))
+pub left_alone : (C : CrewState) → AreMoved [] (λ i. []) C C × AreOfLinks []
+left_alone C = ((λ i. left_at (line_at C i)), tt)
 
 -- what came of a look, from what came of the poll
 pub looked_heard : (h : Heard) (s : SimNo) (L M : Lines) (entries : List LogEntry) → AreApart L → PollsAt (polled.Ready h) s.0 L entries M → LooksAs (looked.Heard s h) entries L M
@@ -56,6 +59,61 @@ nobody k = record { unheard = refl; unsaid = refl; unread = refl; unwritten = re
 pub woken_moved : (s : ℕ) (L M : Lines) → ((w : Line) × IsSet s w (unparked w) L M) → AreMoved [] (λ i. []) (crew L) (crew M)
 woken_moved s L M set = nothing_by [] s (crew L) (crew M)
     (moved_one [] [] (crew L) (crew M) s set.0 (unparked set.0) set.1.there set.1.here set.1.others (line_unparked [] set.0 (nobody (set.0).link)) (λ i u away e. nobody u.link))
+
+woken_at : (o : Option Line) → IsMovedAt [] [] o (option_map unparked o)
+woken_at None = tt
+woken_at (Some w) = line_unparked [] w (nobody w.link)
+
+-- lines none of which is parked any more
+pub all_woken : (L M : Lines) → AreWoken L M → AreMoved [] (λ i. []) (crew L) (crew M)
+all_woken L M woken i = subst (λ (o : Option Line). IsMovedAt [] [] (at L i) o) (sym (woken i)) (woken_at (at L i))
+
+-- ---- lines woken one after another
+
+-- the lines of the first k simulators are no longer parked, and all others stand
+pub record Waking (k : ℕ) (L M : Lines) : Type 0 where
+  pub woken : (i : ℕ) → i < k → at M i ≡ option_map unparked (at L i)
+  pub left : (i : ℕ) → k ≤ i → at M i ≡ at L i
+
+pub none_woken : (L : Lines) → Waking 0 L L
+none_woken L = record { woken = λ i less. absurd (omega (arith, less)); left = λ i more. refl }
+
+pub one_more_woken : (k : ℕ) (L M N : Lines) → Waking k L M → IsWokenAt k M N → Waking (k + 1) L N
+one_more_woken k L M N w one = record {
+  woken = λ i less. elim (same_or_not i k) [
+    | inl q ↦ subst (λ (j : ℕ). at N j ≡ option_map unparked (at L j)) (sym q) (one.here ∙ ap (option_map unparked) (w.left k (omega arith)))
+    | inr apart ↦ one.others i apart ∙ w.woken i (below i k less apart)
+  ];
+  left = λ i more. one.others i (λ q. omega (arith, more, q)) ∙ w.left i (omega (arith, more));
+}
+  where
+    below : (i k : ℕ) → i < k + 1 → (i ≡ k → ⊥) → i < k
+    below i k less apart = grind arith
+
+none_beyond : (L : Lines) (i : ℕ) → length L ≤ i → at L i ≡ None
+none_beyond [] i beyond = refl
+none_beyond (o ∷ L) zero beyond = absurd (omega (arith, beyond))
+none_beyond (o ∷ L) (suc i) beyond = none_beyond L i (omega (arith, beyond))
+
+pub all_are_woken : (k n : ℕ) (L M : Lines) → Waking k L M → n ≡ length L → n ≤ k → AreWoken L M
+all_are_woken k n L M w count all i = elim (less_or_not i k) [
+  | inl less ↦ w.woken i less
+  | inr more ↦ let e = none_beyond L i (omega (arith, more, count, all)) in w.left i more ∙ e ∙ ap (option_map unparked) (sym e)
+]
+  where
+    less_or_not : (i k : ℕ) → (i < k) ⊎ (k ≤ i)
+    less_or_not i k = grind arith
+
+-- what one waking does, where the simulator has a line and where it has none
+pub woken_one : (s : ℕ) (L M : Lines) → ((w : Line) × IsSet s w (unparked w) L M) → IsWokenAt s L M
+woken_one s L M set = record { here = set.1.here ∙ sym (ap (option_map unparked) set.1.there); others = set.1.others }
+
+pub none_linked : (o : Option Line) → None ≡ link_of o → o ≡ None
+none_linked None e = refl
+none_linked (Some w) e = absurd (none_some e)
+
+pub woken_none : (s : ℕ) (L : Lines) → at L s ≡ None → IsWokenAt s L L
+woken_none s L none = record { here = none ∙ sym (ap (option_map unparked) none); others = λ i apart. refl }
 
 rested_at : (o : Option Line) → IsMovedAt (Rest ∷ []) [] o o
 rested_at None = tt

@@ -1,9 +1,9 @@
 -- The turns of a crew's links, while one line is set.
-use Rattle.std.proofs.Common.{◌≡◌, ℕ, inl, inr, Bool, true, false, not, cond, List, [], ◌∷◌, ◌++◌, Some, refl, sym, ap, ◌∙◌, subst, true≢false, if◌then◌else◌}
+use Rattle.std.proofs.Common.{◌≡◌, ◌<◌, ℕ, arith, length, inl, inr, Bool, true, false, not, cond, List, [], ◌∷◌, ◌++◌, Option, None, Some, refl, sym, ap, ◌∙◌, subst, true≢false, if◌then◌else◌}
 use Rattle.std.specs.List.{list_any}
 use Rattle.mk_base.specs.declared.LinkNo.{LinkNo}
 use Rattle.mk_base.specs.Lists.{IsIn}
-use Rattle.mk_base.proofs.Lists.{some_same, in_front, in_back, filter_in, some_passes}
+use Rattle.mk_base.proofs.Lists.{none_some, some_same, in_front, in_back, filter_in, some_passes}
 use Rattle.mk_poll.specs.Turning.{Turning}
 use Rattle.mk_poll.specs.Links.{same_link, without, made_parked, made_ready, IsAdded, TakeOf}
 use Rattle.mk_outside.specs.declared.fleet.LogEntry.{LogEntry}
@@ -12,7 +12,7 @@ use Rattle.mk_session.specs.declared.answers.Polled.{Polled}
 use Rattle.mk_session.specs.declared.answers.Polled.TheVariants as polled
 use Rattle.mk_run_laws.specs.Lines.{Line, queued}
 use Rattle.mk_run_laws.proofs.Stepping.{same_or_not, same_is, apart_is}
-use Rattle.mk_run_links.specs.inner.OneLine.{PollsAt, unparked}
+use Rattle.mk_run_links.specs.inner.OneLine.{PollsAt, link_of, unparked}
 use Rattle.mk_run_links.specs.Places.{Lines, IsSet, at}
 use Rattle.mk_run_links.specs.inner.Standing.{HasTurn, AreApart, StandsBut, Stands}
 
@@ -125,6 +125,13 @@ ready_stand s v M t l but here on = elim (list_any (λ (other : LinkNo). same_li
 abbrev IsAt : ℕ → Lines → LinkNo → Type 0
 IsAt s L l = (w : Line) × (at L s ≡ Some w) × (w.link ≡ l)
 
+pub linked_at : (s : ℕ) (L : Lines) (l : LinkNo) → Some l ≡ link_of (at L s) → IsAt s L l
+linked_at s L l is = go (at L s) refl is
+  where
+    go : (o : Option Line) → at L s ≡ o → Some l ≡ link_of o → IsAt s L l
+    go None e q = absurd (none_some (sym q))
+    go (Some w) e q = (w, e, some_same (sym q))
+
 pub sent_stands : (s : ℕ) (L M : Lines) (t u : Turning) (l : LinkNo) (payload : List ℕ) (next : ℕ) → Stands L t → IsAt s L l → ((w : Line) × IsSet s w (queued payload next w) L M) → u ≡ made_ready l t → Stands M u
 sent_stands s L M t u l payload next st on set is =
     let same : (set.0).link ≡ l = ap (λ (x : Line). x.link) (some_same (sym set.1.there ∙ on.1)) ∙ on.2 in
@@ -150,6 +157,12 @@ stray_stands L t u x l st taken none is = subst (Stands L) (sym is) (stray_parke
 
 pub parked_added : (u x : Turning) (l : LinkNo) → x ≡ made_parked l u → IsAdded l x
 parked_added u x l is = subst (IsAdded l) (sym is) (inr (inr (in_back l u.parked (l ∷ []) (inl refl))))
+
+-- where the first ready link was taken and parked, one fewer is ready
+pub one_fewer : (t u x : Turning) (l : LinkNo) → TakeOf t (Some l) u → x ≡ made_parked l u → length x.ready < length t.ready
+one_fewer t u x l taken is =
+    let after : x.ready ≡ taken.0 = ap (λ (y : Turning). y.ready) is ∙ ap (λ (y : Turning). y.ready) taken.2 in
+    omega (arith, ap length after, ap length taken.1)
 
 pub woken_stands : (s : ℕ) (L M : Lines) (t u : Turning) (l : LinkNo) → Stands L t → IsAt s L l → ((w : Line) × IsSet s w (unparked w) L M) → u ≡ made_ready l t → Stands M u
 woken_stands s L M t u l st on set is =

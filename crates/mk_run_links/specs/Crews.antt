@@ -1,14 +1,15 @@
 -- What the calls of a run's links do.
-use Rattle.std.specs.Prelude.{◌≡◌, ℕ, List, [], length, Some, Result, Ok, Err}
+use Rattle.std.specs.Prelude.{◌≡◌, ℕ, true, List, [], length, Option, Some, None, Result, Ok, Err}
 use Rattle.mk_base.specs.declared.SimNo.{SimNo}
 use Rattle.mk_outside.specs.declared.fleet.LogEntry.{LogEntry}
 use Rattle.mk_plan.specs.declared.Item.{Item}
 use Rattle.mk_plan.specs.declared.Message.{Message}
 use Rattle.mk_message.specs.Written.{item_text}
-use Rattle.mk_run_laws.specs.Lines.{Line}
+use Rattle.mk_run_laws.specs.Lines.{IsParkedIn, Line}
 use Rattle.mk_run_laws.specs.Crews.{IsRestless, IsHeard, IsUnheard, AreStopped}
 use Rattle.mk_run_links.specs.declared.answers.LinkHalt.{LinkHalt}
 use Rattle.mk_run_links.specs.Halts.{ShowsHalt}
+use Rattle.mk_run_links.specs.Entries.{AreOfLinks, IsClockless}
 use Rattle.mk_run_links.specs.Places.{Lines, at, crew}
 
 -- the payload of an item to simulator s, with the next id of its line, has n bytes
@@ -21,6 +22,25 @@ abbrev pub HearsAs : Result (SimNo × Message) LinkHalt → List LogEntry → Li
 HearsAs (Ok p) entries old new = IsHeard entries p.0.0 p.1 (crew old) (crew new)
 HearsAs (Err h) entries old new = IsUnheard entries (crew old) (crew new) × ShowsHalt h entries new
 
--- every line was stopped, and the fleet didn't rest
+-- by these entries each line was looked at, nothing had come on it, and all of it is said or its
+-- last write took nothing
+abbrev pub ArePending : List LogEntry → Lines → Type 0
+ArePending entries lines = (i : ℕ) (w : Line) → at lines i ≡ Some w
+    → (w.parked ≡ true) × IsParkedIn entries w
+
+-- by reads and writes alone a message was heard; or nothing was, for this cause; or nothing was,
+-- and
+-- each line was looked at
+abbrev pub TriesAs : Result (Option (SimNo × Message)) LinkHalt → List LogEntry → Lines → Lines
+    → Type 0
+TriesAs (Ok (Some p)) entries old new = IsHeard entries p.0.0 p.1 (crew old) (crew new)
+    × AreOfLinks entries
+TriesAs (Ok None) entries old new = IsUnheard entries (crew old) (crew new) × AreOfLinks entries
+    × ArePending entries new
+TriesAs (Err h) entries old new = IsUnheard entries (crew old) (crew new) × AreOfLinks entries
+    × ShowsHalt h entries new
+
+-- every line was stopped, and the fleet didn't rest, nor was a clock read or a nap taken
 abbrev pub StopsAll : List LogEntry → Type 0 → Lines → Type 0
 StopsAll entries risen lines = AreStopped entries risen (crew lines) × IsRestless entries
+    × IsClockless entries

@@ -1,6 +1,5 @@
 -- Why nothing more is heard on a run's links, and what their lines show of that.
 use Rattle.std.specs.Prelude.{◌≡◌, List, Option, None, Some, Result, Ok, Err, ⊤, ℕ}
-use Rattle.mk_base.specs.declared.SimNo.{SimNo}
 use Rattle.mk_outside.specs.declared.fleet.LogEntry.{LogEntry}
 use Rattle.mk_outside.specs.declared.fleet.LogEntry.TheVariants.{Ended}
 use Rattle.mk_outside.specs.Logs.{last_read}
@@ -46,6 +45,6 @@ lasting_halt (halt.LongFrame sim n) = Some (halt.LongFrame sim n)
 lasting_halt halt.Mem = None
 
 -- the halt that is kept after this was heard
-abbrev pub lasting : Result (SimNo × Message) LinkHalt → Option LinkHalt
-lasting (Ok p) = None
+abbrev pub lasting : {A : Type 0} → Result A LinkHalt → Option LinkHalt
+lasting (Ok heard) = None
 lasting (Err h) = lasting_halt h

@@ -1,4 +1,5 @@
 pub mod Places
+pub mod Entries
 pub mod Halts
 pub mod Seen
 pub mod Crews

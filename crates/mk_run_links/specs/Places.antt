@@ -1,5 +1,5 @@
 -- The lines of a crew, each at the place of its simulator.
-use Rattle.std.specs.Prelude.{◌≡◌, ℕ, false, not, List, [], map, filter, Option, Some, option_map, option_and_then, slice_get}
+use Rattle.std.specs.Prelude.{◌≡◌, ℕ, true, false, not, List, [], map, filter, Option, Some, option_map, option_and_then, slice_get}
 use Rattle.std.specs.List.{list_any}
 use Rattle.mk_base.specs.declared.LinkNo.{LinkNo}
 use Rattle.mk_base.specs.Lists.{IsIn}
@@ -34,6 +34,10 @@ IsOpenAt i lines open_links = (w : Line) → at lines i ≡ Some w → IsIn w.li
 -- the links of all lines are open
 abbrev pub AreOpen : Lines → List LinkNo → Type 0
 AreOpen lines open_links = (i : ℕ) → IsOpenAt i lines open_links
+
+-- all lines are parked
+abbrev pub AreParked : Lines → Type 0
+AreParked lines = (i : ℕ) (w : Line) → at lines i ≡ Some w → w.parked ≡ true
 
 -- the crew that has these lines, and keeps no reply
 abbrev pub crew : Lines → CrewState

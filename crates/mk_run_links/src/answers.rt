@@ -38,10 +38,11 @@ pub enum Looked {
     Quiet,
 }
 
-// What came of a look, or of a rest where all links are parked.
+// What came of looks at links, each in its turn.
 #[derive(Drop)]
-pub enum Round {
+pub enum Listened {
     Message(SimNo, Message),
     Halted(LinkHalt),
-    Again,
+    // Nothing has come: all links are parked.
+    Quiet,
 }

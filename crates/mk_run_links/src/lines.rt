@@ -91,6 +91,16 @@ impl CrewLines {
         }
     }
 
+    // The link of a simulator's line, if it has one.
+    pub fn link_at(&self, sim: SimNo) -> Option<LinkNo>
+        ensures { result ≡ link_of (at self.now sim.0) }
+    {
+        match self.lines.get(sim.0 as usize) {
+            Some(Some(line)) => Some(line.link()),
+            Some(None) | None => None,
+        }
+    }
+
     // The next id of a simulator's line.
     pub fn next(&self, sim: SimNo) -> u64
         requires { IsLinked sim.0 self.now }

@@ -9,12 +9,14 @@ ghost use Rattle.mk_run_laws.specs.Lines.{Line, queued};
 ghost use Rattle.mk_poll.specs.Links.{IsAdded};
 ghost use Rattle.mk_run_laws.specs.Crews.{AreMoved, IsSentOnLink};
 ghost use Rattle.mk_run_laws.specs.Payloads.{id_after};
-ghost use Rattle.mk_run_links.specs.Crews.{HearsAs, IsLengthOf, StopsAll};
-ghost use Rattle.mk_run_links.specs.Halts.{lasting};
+ghost use Rattle.mk_run_links.specs.Crews.{HearsAs, IsLengthOf, StopsAll, TriesAs};
+ghost use Rattle.mk_run_links.specs.Halts.{lasting, lasting_halt};
+ghost use Rattle.mk_run_links.specs.Entries.{IsClockless};
 ghost use Rattle.mk_run_links.specs.Places.{AreDistinct, AreOpen, IsLinked, IsSet, at, crew, new_line, new_lines};
-ghost use Rattle.mk_run_links.specs.inner.Rounds.{GoesAs, LooksAs, RestsAs, round_of};
+ghost use Rattle.mk_run_links.specs.inner.Looks.{AreWoken, IsWokenAt, ListensAs, LooksAs, RestsAs, listened_of};
+ghost use Rattle.mk_run_links.specs.inner.Standing.{Stands};
 
-use crate::answers::{LinkHalt, Looked, Round};
+use crate::answers::{LinkHalt, Listened, Looked};
 use crate::line::CrewLine;
 use crate::lines::CrewLines;
 use mk_base::{LinkNo, Mem, SimNo};
@@ -88,27 +90,84 @@ fn unmarked(alloc: Global, n: usize) -> Result<Vec<bool>, Mem>
     Ok(marks)
 }
 
-// The halt that is answered again.
-fn lasting(heard: &Result<(SimNo, Message), LinkHalt>) -> Option<LinkHalt>
-    ensures { result ≡ lasting heard.now }
+// The halt that is answered again after this one.
+fn lasting_halt(halt: LinkHalt) -> Option<LinkHalt>
+    ensures { result ≡ lasting_halt halt }
 {
-    match heard {
-        Err(LinkHalt::Mem) | Ok(_) => None,
-        Err(halt) => Some(*halt),
+    match halt {
+        LinkHalt::Mem => None,
+        LinkHalt::Fleet | LinkHalt::Gone(_) | LinkHalt::Garbled(_, _) | LinkHalt::LongFrame(_, _) =>
+            Some(halt),
     }
 }
 
-// What a round answers where this was heard of a simulator.
-fn round_of(sim: SimNo, heard: Heard) -> Round
-    ensures { result ≡ round_of sim heard }
+// What came of looks where this was heard of a simulator.
+fn listened_of(sim: SimNo, heard: Heard) -> Listened
+    ensures { result ≡ listened_of sim heard }
 {
     match heard {
-        Heard::Message(message) => Round::Message(sim, message),
-        Heard::Garbled(test) => Round::Halted(LinkHalt::Garbled(sim, test)),
-        Heard::TooLong(n) => Round::Halted(LinkHalt::LongFrame(sim, n)),
-        Heard::Closed => Round::Halted(LinkHalt::Gone(sim)),
-        Heard::Failed => Round::Halted(LinkHalt::Fleet),
-        Heard::Mem => Round::Halted(LinkHalt::Mem),
+        Heard::Message(message) => Listened::Message(sim, message),
+        Heard::Garbled(test) => Listened::Halted(LinkHalt::Garbled(sim, test)),
+        Heard::TooLong(n) => Listened::Halted(LinkHalt::LongFrame(sim, n)),
+        Heard::Closed => Listened::Halted(LinkHalt::Gone(sim)),
+        Heard::Failed => Listened::Halted(LinkHalt::Fleet),
+        Heard::Mem => Listened::Halted(LinkHalt::Mem),
+    }
+}
+
+// Polls the link that has been ready for longest.
+fn look<F: Fleet>(lines: &mut CrewLines, turns: &mut Turns, fleet: &mut F) -> Looked
+    requires stands { Stands lines.old turns.old }
+    requires open { AreOpen lines.old (F.open_links fleet.old) }
+    ensures count { F.faults fleet.old ≤ F.faults fleet.new }
+    ensures cause { (sim : SimNo) → result ≡ Looked.Heard sim Heard.Failed
+        → HasRisen (F.faults fleet.old) (F.faults fleet.new) }
+    ensures same_count { F.started fleet.new ≡ F.started fleet.old }
+    ensures same_links { F.open_links fleet.new ≡ F.open_links fleet.old }
+    ensures stands { Stands lines.new turns.new }
+    ensures fewer { result ≡ Looked.Parked → length turns.new.ready < length turns.old.ready }
+    ensures looked { (entries : List LogEntry)
+        × Adds entries (F.log fleet.old) (F.log fleet.new)
+        × LooksAs result entries lines.old lines.new }
+{
+    let Some(link) = turns.take() else {
+        return Looked::Quiet;
+    };
+    let Some(sim) = lines.sim_on(link) else {
+        turns.park(link);
+        return Looked::Parked;
+    };
+    let polled = lines.poll(sim, fleet);
+    turns.park(link);
+    match polled {
+        Polled::Pending => Looked::Parked,
+        Polled::Ready(heard) => {
+            turns.ready(link);
+            Looked::Heard(sim, heard)
+        }
+    }
+}
+
+// Polls links, each in its turn, until something is heard or all are parked. It waits for nobody.
+fn listen<F: Fleet>(lines: &mut CrewLines, turns: &mut Turns, fleet: &mut F) -> Listened
+    requires stands { Stands lines.old turns.old }
+    requires open { AreOpen lines.old (F.open_links fleet.old) }
+    ensures count { F.faults fleet.old ≤ F.faults fleet.new }
+    ensures cause { result ≡ Listened.Halted LinkHalt.Fleet
+        → HasRisen (F.faults fleet.old) (F.faults fleet.new) }
+    ensures same_count { F.started fleet.new ≡ F.started fleet.old }
+    ensures same_links { F.open_links fleet.new ≡ F.open_links fleet.old }
+    ensures stands { Stands lines.new turns.new }
+    ensures listened { (entries : List LogEntry)
+        × Adds entries (F.log fleet.old) (F.log fleet.new)
+        × ListensAs result entries lines.old lines.new }
+{
+    'looking: loop {
+        match look(lines, turns, fleet) {
+            Looked::Heard(sim, heard) => return listened_of(sim, heard),
+            Looked::Parked => {}
+            Looked::Quiet => return Listened::Quiet,
+        }
     }
 }
 
@@ -188,35 +247,20 @@ impl Links {
         Ok(())
     }
 
-    // Polls the link that has been ready for longest.
-    fn look<F: Fleet>(&mut self, fleet: &mut F) -> Looked
+    // Polls links, each in its turn, until something is heard or all are parked.
+    fn listen<F: Fleet>(&mut self, fleet: &mut F) -> Listened
         requires { AreOpen self.old.lines (F.open_links fleet.old) }
         ensures count { F.faults fleet.old ≤ F.faults fleet.new }
-        ensures cause { (sim : SimNo) → result ≡ Looked.Heard sim Heard.Failed
+        ensures cause { result ≡ Listened.Halted LinkHalt.Fleet
             → HasRisen (F.faults fleet.old) (F.faults fleet.new) }
         ensures same_count { F.started fleet.new ≡ F.started fleet.old }
         ensures same_links { F.open_links fleet.new ≡ F.open_links fleet.old }
         ensures same_halt { self.new.halt ≡ self.old.halt }
-        ensures looked { (entries : List LogEntry)
+        ensures listened { (entries : List LogEntry)
             × Adds entries (F.log fleet.old) (F.log fleet.new)
-            × LooksAs result entries self.old.lines self.new.lines }
+            × ListensAs result entries self.old.lines self.new.lines }
     {
-        let Some(link) = self.turns.take() else {
-            return Looked::Quiet;
-        };
-        let Some(sim) = self.lines.sim_on(link) else {
-            self.turns.park(link);
-            return Looked::Parked;
-        };
-        let polled = self.lines.poll(sim, fleet);
-        self.turns.park(link);
-        match polled {
-            Polled::Pending => Looked::Parked,
-            Polled::Ready(heard) => {
-                self.turns.ready(link);
-                Looked::Heard(sim, heard)
-            }
-        }
+        listen(&mut self.lines, &mut self.turns, fleet)
     }
 
     // The link is no longer parked.
@@ -269,30 +313,28 @@ impl Links {
         }
     }
 
-    // A look, or a rest where no link is ready.
-    fn round<F: Fleet>(&mut self, alloc: Global, fleet: &mut F) -> Round
-        requires open { AreOpen self.old.lines (F.open_links fleet.old) }
-        requires some { (i : ℕ) × IsLinked i self.old.lines }
-        ensures count { F.faults fleet.old ≤ F.faults fleet.new }
-        ensures cause { result ≡ Round.Halted LinkHalt.Fleet
-            → HasRisen (F.faults fleet.old) (F.faults fleet.new) }
-        ensures same_count { F.started fleet.new ≡ F.started fleet.old }
-        ensures same_links { F.open_links fleet.new ≡ F.open_links fleet.old }
+    // The link of a simulator, if it has one, is no longer parked.
+    fn wake_sim(&mut self, sim: SimNo)
         ensures same_halt { self.new.halt ≡ self.old.halt }
-        ensures went { (entries : List LogEntry) × Adds entries (F.log fleet.old) (F.log fleet.new)
-            × GoesAs result entries self.old.lines self.new.lines }
+        ensures woken { IsWokenAt sim.0 self.old.lines self.new.lines }
     {
-        match self.look(fleet) {
-            Looked::Heard(sim, heard) => round_of(sim, heard),
-            Looked::Parked => Round::Again,
-            Looked::Quiet => match self.rest(alloc, fleet) {
-                Ok(()) => Round::Again,
-                Err(halt) => Round::Halted(halt),
-            },
+        if let Some(link) = self.lines.link_at(sim) {
+            self.lines.wake(sim);
+            self.turns.ready(link);
         }
     }
 
-    // Goes round until something is heard.
+    // No link is parked any more.
+    fn wake_all(&mut self)
+        ensures same_halt { self.new.halt ≡ self.old.halt }
+        ensures woken { AreWoken self.old.lines self.new.lines }
+    {
+        for i in 0..self.lines.len() {
+            self.wake_sim(SimNo(i as u32));
+        }
+    }
+
+    // Polls links, and waits on them where all are parked, until something is heard.
     fn hear_next<F: Fleet, R: Wait>(
         &mut self,
         rt: &R,
@@ -308,16 +350,40 @@ impl Links {
         ensures same_links { F.open_links fleet.new ≡ F.open_links fleet.old }
         ensures same_halt { self.new.halt ≡ self.old.halt }
         ensures heard { (entries : List LogEntry) × Adds entries (F.log fleet.old) (F.log fleet.new)
-            × HearsAs result entries self.old.lines self.new.lines }
+            × HearsAs result entries self.old.lines self.new.lines × IsClockless entries }
     {
         for _ in rt.forever() {
-            match self.round(alloc, fleet) {
-                Round::Message(sim, message) => return Ok((sim, message)),
-                Round::Halted(halt) => return Err(halt),
-                Round::Again => {}
+            match self.listen(fleet) {
+                Listened::Message(sim, message) => return Ok((sim, message)),
+                Listened::Halted(halt) => return Err(halt),
+                Listened::Quiet => match self.rest(alloc, fleet) {
+                    Ok(()) => {}
+                    Err(halt) => return Err(halt),
+                },
             }
         }
         unreachable!()
+    }
+
+    // Polls each link once, until something is heard.
+    fn try_next<F: Fleet>(&mut self, fleet: &mut F) -> Result<Option<(SimNo, Message)>, LinkHalt>
+        requires open { AreOpen self.old.lines (F.open_links fleet.old) }
+        ensures count { F.faults fleet.old ≤ F.faults fleet.new }
+        ensures cause { result ≡ Err LinkHalt.Fleet
+            → HasRisen (F.faults fleet.old) (F.faults fleet.new) }
+        ensures same_count { F.started fleet.new ≡ F.started fleet.old }
+        ensures same_links { F.open_links fleet.new ≡ F.open_links fleet.old }
+        ensures same_halt { self.new.halt ≡ self.old.halt }
+        ensures tried { (entries : List LogEntry)
+            × Adds entries (F.log fleet.old) (F.log fleet.new)
+            × TriesAs result entries self.old.lines self.new.lines }
+    {
+        self.wake_all();
+        match self.listen(fleet) {
+            Listened::Message(sim, message) => Ok(Some((sim, message))),
+            Listened::Halted(halt) => Err(halt),
+            Listened::Quiet => Ok(None),
+        }
     }
 
     /// Gives the next message of a link. A halt but for want of memory is answered again by each later call, which then
@@ -340,14 +406,49 @@ impl Links {
         ensures lasts { self.old.halt ≡ None → self.new.halt ≡ lasting result }
         ensures heard { self.old.halt ≡ None → (entries : List LogEntry)
             × Adds entries (F.log fleet.old) (F.log fleet.new)
-            × HearsAs result entries self.old.lines self.new.lines }
+            × HearsAs result entries self.old.lines self.new.lines × IsClockless entries }
     {
         if let Some(halt) = self.halt {
             return Err(halt);
         }
-        let heard = self.hear_next(rt, alloc, fleet);
-        self.halt = lasting(&heard);
-        heard
+        match self.hear_next(rt, alloc, fleet) {
+            Ok(heard) => Ok(heard),
+            Err(halt) => {
+                self.halt = lasting_halt(halt);
+                Err(halt)
+            }
+        }
+    }
+
+    /// Gives the next message of a link, as `hear` does, but waits for nobody: it looks at each link, and gives `None` only where
+    /// nothing has come on any of them and each has said all, or takes no more for now. A halt is answered again as by `hear`.
+    pub fn try_hear<F: Fleet>(
+        &mut self,
+        fleet: &mut F,
+    ) -> Result<Option<(SimNo, Message)>, LinkHalt>
+        requires open { AreOpen self.old.lines (F.open_links fleet.old) }
+        ensures count { F.faults fleet.old ≤ F.faults fleet.new }
+        ensures cause { self.old.halt ≡ None → result ≡ Err LinkHalt.Fleet
+            → HasRisen (F.faults fleet.old) (F.faults fleet.new) }
+        ensures same_count { F.started fleet.new ≡ F.started fleet.old }
+        ensures same_links { F.open_links fleet.new ≡ F.open_links fleet.old }
+        ensures again { (h : LinkHalt) → self.old.halt ≡ Some h → (result ≡ Err h)
+            × (self.new ≡ self.old) × (fleet.new ≡ fleet.old) }
+        ensures lasts { self.old.halt ≡ None → self.new.halt ≡ lasting result }
+        ensures tried { self.old.halt ≡ None → (entries : List LogEntry)
+            × Adds entries (F.log fleet.old) (F.log fleet.new)
+            × TriesAs result entries self.old.lines self.new.lines }
+    {
+        if let Some(halt) = self.halt {
+            return Err(halt);
+        }
+        match self.try_next(fleet) {
+            Ok(heard) => Ok(heard),
+            Err(halt) => {
+                self.halt = lasting_halt(halt);
+                Err(halt)
+            }
+        }
     }
 
     /// Says what is unsent and then a stop on each link, until all is said or a write takes nothing. It takes no memory.

@@ -10,9 +10,11 @@ use Rattle.mk_outside.specs.declared.fleet.LogEntry.TheVariants.{Rest}
 use Rattle.mk_outside.specs.Logs.{Adds}
 use Rattle.mk_plan.specs.declared.Call.{Call}
 use Rattle.mk_plan.specs.declared.Message.{Message}
+use Rattle.mk_plan.specs.declared.Plan.{Plan}
 use Rattle.mk_scenario.specs.declared.parts.Scenario.{Scenario}
 use Rattle.mk_launch.specs.Starts.{places}
 use Rattle.mk_local.specs.declared.turn.Turn.{Turn}
+use Rattle.mk_local.specs.Calls.{IsCallReplied}
 use Rattle.mk_run_laws.specs.Lines.{Line, IsLineAt, queued}
 use Rattle.mk_run_laws.specs.Crews.{IsHeard, IsUnheard}
 use Rattle.mk_run_laws.specs.Handshake.{Request, setup_requests, call_to, call_payloads, sim_link}
@@ -21,11 +23,12 @@ use Rattle.mk_run_laws.specs.Running.{SetupReplies}
 use Rattle.mk_run_laws.specs.inner.Running.{IsBetween}
 use Rattle.mk_setup.specs.declared.fault.SetupFault.{SetupFault}
 use Rattle.mk_setup.specs.declared.fault.SetupFault.TheVariants as fault
-use Rattle.mk_setup.specs.Answers.{IsRefused}
+use Rattle.mk_setup.specs.Answers.{IsReady, IsRefused, IsRequested, IsUnready}
 use Rattle.mk_setup.specs.Handshakes.{IsReached}
 use Rattle.mk_setup.specs.Replies.{after_reply, arrival}
 use Rattle.mk_setup.specs.Seen.{SetupState}
 use Rattle.mk_run_links.specs.declared.answers.LinkHalt.{LinkHalt}
+use Rattle.mk_run_links.specs.Entries.{IsClockless}
 use Rattle.mk_run_links.specs.Halts.{ShowsHalt}
 use Rattle.mk_run_links.specs.Places.{IsSet, Lines, at, crew, new_lines}
 use Rattle.mk_run_local.specs.Calls.{IsCalled}
@@ -59,11 +62,25 @@ pub record AsksOnLink (i : ℕ) (call : Call) (id from : ℕ) (m : Message) (ent
   pub sims : new.sims ≡ old.sims
   pub kept : new.kept ≡ old.kept
   pub halt : new.halt ≡ None
+  pub clockless : IsClockless entries
 
 -- the answer to a request, or another message in its place
 abbrev pub Asks : ℕ → Call → ℕ → ℕ → Message → List LogEntry → CrewSeen → CrewSeen → Type 0
 Asks i call id from m entries old new = AsksWithin i call id from m entries old new
     ⊎ AsksOnLink i call id from m entries old new
+
+-- why a link didn't take the request: its payload is longer than a frame may be, or memory was
+-- wanting
+pub record IsLongCall (h : Halt) (i : ℕ) (call : Call) (id : ℕ) : Type 0 where
+  pub sim : SimNo
+  pub bytes : ℕ
+  pub is : h ≡ halt.LongItem sim bytes
+  pub same_sim : sim.0 ≡ i
+  pub length_is : bytes ≡ length (call_text id call)
+  pub beyond : limit < bytes
+
+abbrev pub IsUnqueued : Halt → ℕ → Call → ℕ → Type 0
+IsUnqueued h i call id = (h ≡ halt.Mem) ⊎ IsLongCall h i call id
 
 -- the payload is longer than a frame may be
 pub record IsTooLongToAsk (h : Halt) (i : ℕ) (call : Call) (id : ℕ) (old : CrewSeen) : Type 0 where
@@ -93,6 +110,7 @@ pub record AsksInVain (h : Halt) (i : ℕ) (call : Call) (id : ℕ) (entries : L
   pub is : h ≡ halt_of why
   pub unheard : IsUnheard entries (crew mid) (crew new.lines)
   pub shown : ShowsHalt why entries new.lines
+  pub clockless : IsClockless entries
 
 abbrev pub AsksFail : Halt → ℕ → Call → ℕ → List LogEntry → CrewSeen → CrewSeen → Type 0
 AsksFail h i call id entries old new = AsksNot h i call id entries old new
@@ -132,6 +150,58 @@ abbrev pub AnswersNot : Type 0 → Halt → ℕ → Call → ℕ → List LogEnt
 AnswersNot risen h i call id entries old new U = (AsksFail h i call id entries old new
     × (h ≡ halt.Fleet → risen)) ⊎ IsNotTaken h i call id entries old new U
 
+-- what the setup asks for next can be asked: it gets a reply, and its simulator has a line, unless
+-- it is within the program
+abbrev pub CanAsk : CrewSeen → SetupState → Type 0
+CanAsk C U = (sim : SimNo) (call : Call) (id : ℕ) (V : SetupState) → IsRequested U sim call id V
+    → IsCallReplied call
+    × (is_here C sim.0 ≡ false → (w : Line) × (at C.lines sim.0 ≡ Some w))
+
+-- it gets a reply of a simulator within the program
+abbrev pub CanAskWithin : CrewSeen → SetupState → Type 0
+CanAskWithin C U = (sim : SimNo) (call : Call) (id : ℕ) (V : SetupState)
+    → IsRequested U sim call id V → IsCallReplied call × (is_here C sim.0 ≡ true)
+
+-- the next request was made, and the setup took what came
+pub record IsStepped (entries : List LogEntry) (old new : CrewSeen)
+    (U V : SetupState) : Type 0 where
+  pub sim : SimNo
+  pub call : Call
+  pub id : ℕ
+  pub state : SetupState
+  pub requested : IsRequested U sim call id state
+  pub answers : Answers sim.0 call id entries old new state V
+
+-- or all were made, and this is the plan
+abbrev pub StepsTo : Option Plan → List LogEntry → CrewSeen → CrewSeen → SetupState → SetupState
+    → Type 0
+StepsTo None entries old new U V = IsStepped entries old new U V
+StepsTo (Some P) entries old new U V = (entries ≡ []) × (new ≡ old) × IsReady U P V
+
+-- the next request was made in vain
+pub record IsStuck (risen : Type 0) (h : Halt) (entries : List LogEntry) (old new : CrewSeen)
+    (U : SetupState) : Type 0 where
+  pub sim : SimNo
+  pub call : Call
+  pub id : ℕ
+  pub state : SetupState
+  pub requested : IsRequested U sim call id state
+  pub failed : AnswersNot risen h sim.0 call id entries old new state
+
+-- or it can't be made
+pub record IsUnmade (h : Halt) (entries : List LogEntry) (old new : CrewSeen)
+    (U : SetupState) : Type 0 where
+  pub fault : SetupFault
+  pub is : h ≡ setup_halt fault
+  pub quiet : entries ≡ []
+  pub same : new ≡ old
+  pub state : SetupState
+  pub unready : IsUnready U fault state
+
+abbrev pub StepsNot : Type 0 → Halt → List LogEntry → CrewSeen → CrewSeen → SetupState → Type 0
+StepsNot risen h entries old new U = IsStuck risen h entries old new U
+    ⊎ IsUnmade h entries old new U
+
 -- a crew before its first request: the links, so many having been started before, are open, and
 -- their lines are new; and no simulator within the program has been asked
 pub record IsNewCrew (started : ℕ) (rows : List Turn) (S : Scenario) (open_links : List LinkNo)
@@ -159,6 +229,7 @@ pub record IsAnswered (started : ℕ) (S : Scenario) (rows : List Turn) (log : L
   pub kept : C.kept ≡ []
   pub halt : C.halt ≡ None
   pub places : C.places ≡ places started S.sims
+  pub clockless : IsClockless log
 
 -- the handshake so far: these entries were added, and the setup and the crew have come about
 -- together by the answers
@@ -183,3 +254,4 @@ pub record IsHalting (started : ℕ) (S : Scenario) (ranks : List ℕ) (rows : L
   pub rests : (before after : List LogEntry) → log ≡ before ++ Rest ∷ after
       → IsWellInSetup started S before × (AllSetUp started S before → ⊥)
   pub cause : ShowsCause started S ranks rows log risen queued later h
+  pub clockless : IsClockless log

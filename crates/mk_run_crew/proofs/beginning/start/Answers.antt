@@ -1,29 +1,33 @@
-use Rattle.std.proofs.Common.{List, subst, sym, ap, ◌∙◌}
+use Rattle.std.proofs.Common.{List, subst, sym, ap, ◌∙◌, inl, inr}
 use Rattle.mk_base.specs.declared.LinkNo.{LinkNo}
 use Rattle.mk_base.specs.Lists.{Each, IsIn}
+use Rattle.mk_outside.specs.Counts.{HasRisen}
 use Rattle.mk_launch.specs.Starts.{links_in}
 use Rattle.mk_run_links.specs.Places.{without_all, AreDistinct}
-use Rattle.mk_run_crew.proofs.Starting.{leaves, others_stay}
+use Rattle.mk_run_crew.proofs.Placing.{risen_later}
+use Rattle.mk_run_crew.proofs.Starting.{leaves, others_stay, started_not}
 use Rattle.mk_run_crew.proofs.beginning.start.Goals as goal
 
 pub close_all-requires-clause-open : goal.close_all-requires-clause-open
 close_all-requires-clause-open g c =
-    let l = leaves c.in-Err-Failed.field-0 _ _ _ _ c.in-Err-Failed.ensures.started in
+    let l = leaves c.in-Err.fault _ _ _ _ c.in-Err.ensures.started in
     subst (λ (ps : List _). Each (λ (link : LinkNo). IsIn link (g.F.Fleet.open_links c.start_all.new.fleet)) (links_in ps)) (sym c.as_slice.ensures) l.open_ones
 
-pub returns-in-Err-Failed-clause-closed : goal.returns-in-Err-Failed-clause-closed
-returns-in-Err-Failed-clause-closed g c =
+pub close_all-requires-clause-distinct : goal.close_all-requires-clause-distinct
+close_all-requires-clause-distinct g c =
+    let l = leaves c.in-Err.fault _ _ _ _ c.in-Err.ensures.started in
+    subst AreDistinct (sym (c.as_slice.ensures ∙ l.places)) (c.places_are_distinct.ensures (g.F.Fleet.started c.args.fleet.now) l.first)
+
+pub returns-in-Err-clause-cause : goal.returns-in-Err-clause-cause
+returns-in-Err-clause-cause g c =
+    let f0 = g.F.Fleet.faults c.args.fleet.now in
+    let f1 = g.F.Fleet.faults c.start_all.new.fleet in
+    let f2 = g.F.Fleet.faults c.close_all.new.fleet in
+    rw c.start_halt.ensures
+    (started_not c.in-Err.fault (HasRisen f0 f2) (elim c.in-Err.ensures.cause [ inl e ↦ inl e | inr r ↦ inr (risen_later f0 f1 f2 c.close_all.ensures.count r) ]))
+
+pub returns-in-Err-clause-closed : goal.returns-in-Err-clause-closed
+returns-in-Err-clause-closed g c =
     λ low_ones.
-    let l = leaves c.in-Err-Failed.field-0 _ _ _ _ c.in-Err-Failed.ensures.started in
+    let l = leaves c.in-Err.fault _ _ _ _ c.in-Err.ensures.started in
     c.close_all.ensures.closed ∙ ap (λ (ps : List _). without_all (links_in ps) (g.F.Fleet.open_links c.start_all.new.fleet)) c.as_slice.ensures ∙ others_stay _ l.first c.start_all.new.links _ _ l.places low_ones (l.links low_ones)
-
-pub close_all-requires-in-Err-Mem-clause-open : goal.close_all-requires-in-Err-Mem-clause-open
-close_all-requires-in-Err-Mem-clause-open g c =
-    let l = leaves c.in-Err-Mem.field-0 _ _ _ _ c.in-Err-Mem.ensures.started in
-    subst (λ (ps : List _). Each (λ (link : LinkNo). IsIn link (g.F.Fleet.open_links c.start_all.new.fleet)) (links_in ps)) (sym c.as_slice-in-Err-Mem.ensures) l.open_ones
-
-pub returns-clause-closed : goal.returns-clause-closed
-returns-clause-closed g c =
-    λ low_ones.
-    let l = leaves c.in-Err-Mem.field-0 _ _ _ _ c.in-Err-Mem.ensures.started in
-    c.close_all-in-Err-Mem.ensures.closed ∙ ap (λ (ps : List _). without_all (links_in ps) (g.F.Fleet.open_links c.start_all.new.fleet)) c.as_slice-in-Err-Mem.ensures ∙ others_stay _ l.first c.start_all.new.links _ _ l.places low_ones (l.links low_ones)

@@ -1,8 +1,9 @@
-use Rattle.std.proofs.Common.{[], Err, ap, refl, ◌∙◌}
+use Rattle.std.proofs.Common.{[], ap, refl, ◌∙◌}
 use Rattle.mk_outside.proofs.OnLogs.{adds_none}
 use Rattle.mk_run_links.specs.Seen.{Seen}
 use Rattle.mk_run_crew.specs.Seen.{CrewSeen}
 use Rattle.mk_run_crew.proofs.Asked.{asked_not, asked_on_link}
+use Rattle.mk_run_crew.proofs.crew.Crew.ask_link.Goals.{in-Ok, in-Err-hear}
 use Rattle.mk_run_crew.proofs.crew.Crew.ask_link.Goals as goal
 
 pub returns-in-Err-clause-err : goal.returns-in-Err-clause-err
@@ -10,17 +11,19 @@ returns-in-Err-clause-err g c =
     let crew : Seen → CrewSeen = λ s. record { places = c.self.inside.places; lines = s.lines; sims = (c.self.inside.within).sims; kept = (c.self.inside.within).kept; halt = s.halt } in (
       [],
       adds_none _,
-      rw c.unsent.ensures
-          (asked_not c.args.sim c.in-Err.fault c.args.call.now c.args.id c.deref.result.now c.args.self.now _ c.requires.away (c.deref.ensures.value ∙ c.in_ok-payload.ensures) (λ n e. c.in-Err.ensures.too_long n (ap Err e))
-          (λ n e. c.in-Err.ensures.too_long_only n (ap Err e)) (ap crew c.in-Err.ensures.err ∙ c.self.view_is)),
+      asked_not c.in-Err.halt c.args.sim.0 c.args.call.now c.args.id c.args.self.now _ c.requires.away (ap crew c.in-Err.ensures.err ∙ c.self.view_is) c.in-Err.ensures.why,
     )
 
-pub returns-in-Ok-clause-ok : goal.returns-in-Ok-clause-ok
-returns-in-Ok-clause-ok g c =
-    let going = c.in_default-queue.ensures.same_halt ∙ ap (λ (x : CrewSeen). x.halt) c.self.view_is ∙ c.requires.going in
-    let h = c.in-Ok.ensures.heard going in (
-      h.0,
-      h.1,
-      asked_on_link c.args.sim.0 c.args.call.now c.args.id c.in-Some.next c.deref.result.now (c.in-Ok.heard).0.0 (c.in-Ok.heard).1 h.0 _ c.args.self.now _ c.queue.new.self.lines c.self.view_is c.requires.away
-          (c.deref.ensures.value ∙ c.in_ok-payload.ensures) c.in-Some.ensures.1 c.in_default-queue.ensures.ok h.2 refl refl (c.in-Ok.ensures.lasts going),
-    )
+pub returns-clause-ok : goal.returns-clause-ok
+returns-clause-ok g c =
+    let going = c.in_default.ensures.same_halt ∙ ap (λ (x : CrewSeen). x.halt) c.self.view_is ∙ c.requires.going in
+    elim c.match-hear.branch [
+      | in-Ok w ↦
+          let h = w.in-Ok.ensures.heard going in
+          rw w.result-is (
+            h.0,
+            h.1,
+            asked_on_link c.args.sim.0 c.args.call.now c.args.id (w.in-Ok.heard).0.0 (w.in-Ok.heard).1 h.0 _ c.args.self.now _ c.queue_call.new.links.lines c.self.view_is c.requires.away c.in_default.ensures.ok h.2 refl refl (w.in-Ok.ensures.lasts going) h.3,
+          )
+      | in-Err-hear w ↦ rw w.result-is tt
+    ]

@@ -1,10 +1,10 @@
-use Rattle.std.proofs.Common.{refl, sym, subst, ap, ◌∙◌, arith}
+use Rattle.std.proofs.Common.{Option, refl, sym, subst, ap, ◌∙◌, arith}
 use Rattle.mk_outside.specs.Counts.{HasRisen}
 use Rattle.mk_outside.proofs.OnLogs.{adds_none}
+use Rattle.mk_plan.specs.declared.Plan.{Plan}
 use Rattle.mk_local.specs.Registries.{rows_in}
-use Rattle.mk_setup.specs.declared.answers.SetupNext.{SetupNext}
-use Rattle.mk_setup.specs.Answers.{NextOf}
-use Rattle.mk_run_crew.proofs.Looping.{ends, goes_on, halts, new_open, next_line, next_replied, starts, stops}
+use Rattle.mk_run_crew.specs.inner.Asking.{StepsTo}
+use Rattle.mk_run_crew.proofs.Looping.{can_ask, new_open, starts, steps_end, steps_not, steps_on}
 use Rattle.mk_run_crew.proofs.Placing.{risen_on}
 use Rattle.mk_run_crew.proofs.crew.Crew.set_up.Goals as goal
 
@@ -18,47 +18,44 @@ loop-init g c = record {
   so_far = λ started new. starts started c.args.setup.now.scenario c.args.setup.now.ranks (rows_in c.args.kinds.now) c.replies_make.ensures (g.F.Fleet.open_links c.args.fleet.now) _ c.args.self.now c.args.setup.now new c.requires.begun (adds_none _);
 }
 
-pub returns-in-Ok-Ready-clause-ok : goal.returns-in-Ok-Ready-clause-ok
-returns-in-Ok-Ready-clause-ok g c started new =
-    ends started c.args.setup.now.scenario c.args.setup.now.ranks (rows_in c.args.kinds.now) c.replies_make.ensures _ _ c.loop.self c.loop.setup c.next-in-loop.new.self c.in-Ok-Ready.plan (c.loop.invariant.so_far started new) (subst (λ (n : SetupNext). NextOf c.loop.setup n c.next-in-loop.new.self) c.in-Ok-Ready.field-0-is c.in-Ok-Ready.ensures.ok)
+pub step-requires-clause-next : goal.step-requires-clause-next
+step-requires-clause-next g c =
+    can_ask c.requires.new.0 c.args.setup.now.scenario c.args.setup.now.ranks (rows_in c.args.kinds.now) c.replies_make.ensures _ _ c.loop.self c.loop.setup (c.loop.invariant.so_far c.requires.new.0 c.requires.new.1) c.requires.prepared
 
-pub returns-in-Err-clause-err : goal.returns-in-Err-clause-err
-returns-in-Err-clause-err g c started new =
-    rw c.setup_halt.ensures
-    (stops started c.args.setup.now.scenario c.args.setup.now.ranks (rows_in c.args.kinds.now) c.replies_make.ensures _ _ (HasRisen (g.F.Fleet.faults c.args.fleet.now) (g.F.Fleet.faults c.loop.fleet)) c.loop.self c.loop.setup c.next-in-loop.new.self
-    c.in-Err.fault (c.loop.invariant.so_far started new) c.in-Err.ensures.refused)
+pub step-requires-clause-resting : goal.step-requires-clause-resting
+step-requires-clause-resting g c = (c.loop.invariant.so_far c.requires.new.0 c.requires.new.1).resting
 
-pub make_request-requires-clause-linked : goal.make_request-requires-clause-linked
-make_request-requires-clause-linked g c away =
-    next_line c.requires.new.0 c.args.setup.now.scenario c.args.setup.now.ranks (rows_in c.args.kinds.now) c.replies_make.ensures _ _ c.loop.self c.loop.setup c.next-in-loop.new.self c.in-Ok-Request.sim c.in-Ok-Request.call c.in-Ok-Request.id
-    (c.loop.invariant.so_far c.requires.new.0 c.requires.new.1) (subst (λ (n : SetupNext). NextOf c.loop.setup n c.next-in-loop.new.self) c.in-Ok-Request.field-0-is c.in-Ok-Request.ensures.ok) c.requires.prepared away
+pub step-requires-clause-going : goal.step-requires-clause-going
+step-requires-clause-going g c = ((c.loop.invariant.so_far c.requires.new.0 c.requires.new.1).answered).halt
 
-pub make_request-requires-clause-replied : goal.make_request-requires-clause-replied
-make_request-requires-clause-replied g c =
-    next_replied c.requires.new.0 c.args.setup.now.scenario c.args.setup.now.ranks (rows_in c.args.kinds.now) c.replies_make.ensures _ _ c.loop.self c.loop.setup c.next-in-loop.new.self c.in-Ok-Request.sim c.in-Ok-Request.call c.in-Ok-Request.id
-    (c.loop.invariant.so_far c.requires.new.0 c.requires.new.1) (subst (λ (n : SetupNext). NextOf c.loop.setup n c.next-in-loop.new.self) c.in-Ok-Request.field-0-is c.in-Ok-Request.ensures.ok)
+pub returns-in-Ok-Some-clause-ok : goal.returns-in-Ok-Some-clause-ok
+returns-in-Ok-Some-clause-ok g c started new =
+    let made = c.in-Ok-Some.ensures.ok in
+    steps_end started c.args.setup.now.scenario c.args.setup.now.ranks (rows_in c.args.kinds.now) c.replies_make.ensures _ _ c.loop.self c.loop.setup (c.loop.invariant.so_far started new) c.requires.prepared _ made.0 c.step.new.self c.step.new.setup c.in-Ok-Some.plan made.1
+    (subst (λ (o : Option Plan). StepsTo o made.0 c.loop.self c.step.new.self c.loop.setup c.step.new.setup) c.in-Ok-Some.field-0-is made.2)
 
 pub loop-preserved : goal.loop-preserved
 loop-preserved g c =
     let so_far = c.loop.invariant in
-    let made = c.in-Ok.ensures in
+    let all = c.in-Ok-None.ensures in
+    let made = all.ok in
     record {
-      counted = omega (arith, so_far.counted, made.count);
-      same_count = made.same_count ∙ so_far.same_count;
-      same_links = made.same_links ∙ so_far.same_links;
-      same_places = made.same_places ∙ so_far.same_places;
-      are_open = made.open;
+      counted = omega (arith, so_far.counted, all.count);
+      same_count = all.same_count ∙ so_far.same_count;
+      same_links = all.same_links ∙ so_far.same_links;
+      same_places = all.same_places ∙ so_far.same_places;
+      are_open = all.open;
       so_far = λ started new.
-          goes_on started c.args.setup.now.scenario c.args.setup.now.ranks (rows_in c.args.kinds.now) c.replies_make.ensures _ _ c.loop.self c.loop.setup c.next-in-loop.new.self c.in-Ok-Request.sim c.in-Ok-Request.call c.in-Ok-Request.id (so_far.so_far started new)
-          (subst (λ (n : SetupNext). NextOf c.loop.setup n c.next-in-loop.new.self) c.in-Ok-Request.field-0-is c.in-Ok-Request.ensures.ok) _ made.ok.0 c.make_request.new.self c.make_request.new.setup c.requires.prepared made.ok.1 made.ok.2 made.same_places;
+          steps_on started c.args.setup.now.scenario c.args.setup.now.ranks (rows_in c.args.kinds.now) c.replies_make.ensures _ _ c.loop.self c.loop.setup (so_far.so_far started new) c.requires.prepared _ made.0 c.step.new.self c.step.new.setup made.1
+          (subst (λ (o : Option Plan). StepsTo o made.0 c.loop.self c.step.new.self c.loop.setup c.step.new.setup) c.in-Ok-None.field-0-is made.2) all.same_places;
     }
 
-pub returns-in-Err-make_request-clause-err : goal.returns-in-Err-make_request-clause-err
-returns-in-Err-make_request-clause-err g c started new =
-    let made = c.in-Err-make_request.ensures in
+pub returns-in-Err-clause-err : goal.returns-in-Err-clause-err
+returns-in-Err-clause-err g c started new =
+    let all = c.in-Err.ensures in
+    let made = all.err in
     let f0 = g.F.Fleet.faults c.args.fleet.now in
     let f1 = g.F.Fleet.faults c.loop.fleet in
-    let f2 = g.F.Fleet.faults c.make_request.new.fleet in
-    halts started c.args.setup.now.scenario c.args.setup.now.ranks (rows_in c.args.kinds.now) c.replies_make.ensures _ _ c.loop.self c.loop.setup c.next-in-loop.new.self c.in-Ok-Request.sim c.in-Ok-Request.call c.in-Ok-Request.id
-    (c.loop.invariant.so_far started new) (subst (λ (n : SetupNext). NextOf c.loop.setup n c.next-in-loop.new.self) c.in-Ok-Request.field-0-is c.in-Ok-Request.ensures.ok) _ made.err.0 (HasRisen f1 f2) (HasRisen f0 f2) c.in-Err-make_request.halt c.make_request.new.self c.requires.prepared made.err.1
-    (risen_on f0 f1 f2 c.loop.invariant.counted) made.err.2 made.same_places
+    let f2 = g.F.Fleet.faults c.step.new.fleet in
+    steps_not started c.args.setup.now.scenario c.args.setup.now.ranks (rows_in c.args.kinds.now) c.replies_make.ensures _ _ c.loop.self c.loop.setup (c.loop.invariant.so_far started new) c.requires.prepared _ made.0 (HasRisen f1 f2) (HasRisen f0 f2) c.in-Err.halt c.step.new.self made.1
+    (risen_on f0 f1 f2 c.loop.invariant.counted) made.2 all.same_places

@@ -1,8 +1,8 @@
-use Rattle.std.proofs.Common.{refl, sym, subst, ◌∙◌, true≢false}
+use Rattle.std.proofs.Common.{[], Option, refl, subst, ◌∙◌}
+use Rattle.mk_plan.specs.declared.Plan.{Plan}
 use Rattle.mk_local.specs.Registries.{rows_in}
-use Rattle.mk_setup.specs.declared.answers.SetupNext.{SetupNext}
-use Rattle.mk_setup.specs.Answers.{IsWaiting, NextOf}
-use Rattle.mk_run_crew.proofs.Unlinked.{asks_here, ends_within, fewer_left, goes_within, halts_within, replied_to, starts_within, stops_within, within_halt}
+use Rattle.mk_run_crew.specs.inner.Asking.{StepsTo}
+use Rattle.mk_run_crew.proofs.Unlinked.{can_ask_within, starts_within, steps_end_within, steps_fewer, steps_not_within, steps_on_within}
 use Rattle.mk_run_crew.proofs.crew.Crew.set_up_within.Goals as goal
 
 pub asking-init : goal.asking-init
@@ -12,52 +12,33 @@ asking-init g c = record {
   so_far = starts_within c.args.setup.now.scenario c.args.setup.now.ranks (rows_in c.args.kinds.now) c.replies_make.ensures c.args.self.now c.args.setup.now c.requires.new c.requires.begun;
 }
 
-pub returns-in-Ok-Ready-clause-ok : goal.returns-in-Ok-Ready-clause-ok
-returns-in-Ok-Ready-clause-ok g c started =
-    ends_within c.args.setup.now.scenario c.args.setup.now.ranks (rows_in c.args.kinds.now) c.replies_make.ensures c.asking.self c.asking.setup c.next.new.self c.in-Ok-Ready.plan c.asking.invariant.so_far
-    (subst (λ (n : SetupNext). NextOf c.asking.setup n c.next.new.self) c.in-Ok-Ready.field-0-is c.in-Ok-Ready.ensures.ok) started
+pub step_within-requires-clause-resting : goal.step_within-requires-clause-resting
+step_within-requires-clause-resting g c = (c.asking.invariant.so_far 0).resting
 
-pub returns-in-Err-clause-err : goal.returns-in-Err-clause-err
-returns-in-Err-clause-err g c started =
-    rw c.setup_halt.ensures
-    (stops_within c.args.setup.now.scenario c.args.setup.now.ranks (rows_in c.args.kinds.now) c.replies_make.ensures c.asking.self c.asking.setup c.next.new.self c.in-Err.fault c.asking.invariant.so_far c.in-Err.ensures.refused started)
+pub step_within-requires-clause-next : goal.step_within-requires-clause-next
+step_within-requires-clause-next g c =
+    can_ask_within c.args.setup.now.scenario c.args.setup.now.ranks (rows_in c.args.kinds.now) c.replies_make.ensures c.asking.self c.asking.setup c.asking.invariant.so_far c.requires.prepared c.requires.wholly
 
-pub returns-in-Err-clause-cause : goal.returns-in-Err-clause-cause
-returns-in-Err-clause-cause g c = rw c.setup_halt.ensures (within_halt c.in-Err.fault)
-
-pub make_request_within-requires-clause-here : goal.make_request_within-requires-clause-here
-make_request_within-requires-clause-here g c =
-    asks_here c.args.setup.now.scenario c.args.setup.now.ranks (rows_in c.args.kinds.now) c.replies_make.ensures c.asking.self c.asking.setup c.next.new.self c.in-Ok-Request.sim c.in-Ok-Request.call c.in-Ok-Request.id c.asking.invariant.so_far
-    (subst (λ (n : SetupNext). NextOf c.asking.setup n c.next.new.self) c.in-Ok-Request.field-0-is c.in-Ok-Request.ensures.ok) c.requires.prepared c.requires.wholly
-
-pub make_request_within-requires-clause-replied : goal.make_request_within-requires-clause-replied
-make_request_within-requires-clause-replied g c =
-    replied_to c.args.setup.now.scenario c.args.setup.now.ranks (rows_in c.args.kinds.now) c.replies_make.ensures c.asking.self c.asking.setup c.next.new.self c.in-Ok-Request.sim c.in-Ok-Request.call c.in-Ok-Request.id c.asking.invariant.so_far
-    (subst (λ (n : SetupNext). NextOf c.asking.setup n c.next.new.self) c.in-Ok-Request.field-0-is c.in-Ok-Request.ensures.ok) c.requires.prepared
+pub returns-in-Ok-Some-clause-ok : goal.returns-in-Ok-Some-clause-ok
+returns-in-Ok-Some-clause-ok g c started =
+    steps_end_within c.args.setup.now.scenario c.args.setup.now.ranks (rows_in c.args.kinds.now) c.replies_make.ensures c.asking.self c.asking.setup c.asking.invariant.so_far c.requires.prepared c.step_within.new.self c.step_within.new.setup c.in-Ok-Some.plan
+    (subst (λ (o : Option Plan). StepsTo o [] c.asking.self c.step_within.new.self c.asking.setup c.step_within.new.setup) c.in-Ok-Some.field-0-is c.in-Ok-Some.ensures.ok) started
 
 pub asking-preserved : goal.asking-preserved
-asking-preserved g c =
-    let made = c.in-Ok.ensures in
-    record {
-      same_lines = made.same_lines ∙ c.asking.invariant.same_lines;
-      same_places = made.same_places ∙ c.asking.invariant.same_places;
-      so_far = goes_within c.args.setup.now.scenario c.args.setup.now.ranks (rows_in c.args.kinds.now) c.replies_make.ensures c.asking.self c.asking.setup c.next.new.self c.in-Ok-Request.sim c.in-Ok-Request.call c.in-Ok-Request.id
-          c.asking.invariant.so_far (subst (λ (n : SetupNext). NextOf c.asking.setup n c.next.new.self) c.in-Ok-Request.field-0-is c.in-Ok-Request.ensures.ok) c.requires.prepared c.make_request_within.new.self c.make_request_within.new.setup made.ok
-          made.same_places;
-    }
+asking-preserved g c = record {
+  same_lines = c.in-Ok-None.ensures.same_lines ∙ c.asking.invariant.same_lines;
+  same_places = c.in-Ok-None.ensures.same_places ∙ c.asking.invariant.same_places;
+  so_far =
+      steps_on_within c.args.setup.now.scenario c.args.setup.now.ranks (rows_in c.args.kinds.now) c.replies_make.ensures c.asking.self c.asking.setup c.asking.invariant.so_far c.requires.prepared c.step_within.new.self c.step_within.new.setup
+      (subst (λ (o : Option Plan). StepsTo o [] c.asking.self c.step_within.new.self c.asking.setup c.step_within.new.setup) c.in-Ok-None.field-0-is c.in-Ok-None.ensures.ok) c.in-Ok-None.ensures.same_places;
+}
 
 pub asking-smaller : goal.asking-smaller
 asking-smaller g c =
-    fewer_left c.args.setup.now.scenario c.args.setup.now.ranks (rows_in c.args.kinds.now) c.replies_make.ensures c.asking.self c.asking.setup c.next.new.self c.in-Ok-Request.sim c.in-Ok-Request.call c.in-Ok-Request.id
-    c.asking.invariant.so_far (subst (λ (n : SetupNext). NextOf c.asking.setup n c.next.new.self) c.in-Ok-Request.field-0-is c.in-Ok-Request.ensures.ok) c.requires.prepared c.make_request_within.new.self c.make_request_within.new.setup c.in-Ok.ensures.ok
+    steps_fewer c.args.setup.now.scenario c.args.setup.now.ranks (rows_in c.args.kinds.now) c.replies_make.ensures c.asking.self c.asking.setup c.asking.invariant.so_far c.requires.prepared c.step_within.new.self c.step_within.new.setup
+    (subst (λ (o : Option Plan). StepsTo o [] c.asking.self c.step_within.new.self c.asking.setup c.step_within.new.setup) c.in-Ok-None.field-0-is c.in-Ok-None.ensures.ok)
 
-pub returns-in-Err-make_request_within-clause-err : goal.returns-in-Err-make_request_within-clause-err
-returns-in-Err-make_request_within-clause-err g c started =
-    let made = c.in-Err-make_request_within.ensures in
-    halts_within c.args.setup.now.scenario c.args.setup.now.ranks (rows_in c.args.kinds.now) c.replies_make.ensures c.asking.self c.asking.setup c.next.new.self c.in-Ok-Request.sim c.in-Ok-Request.call c.in-Ok-Request.id c.asking.invariant.so_far
-    (subst (λ (n : SetupNext). NextOf c.asking.setup n c.next.new.self) c.in-Ok-Request.field-0-is c.in-Ok-Request.ensures.ok) c.requires.prepared c.in-Err-make_request_within.halt c.make_request_within.new.self made.err made.same_places started
-
-pub unreachable-requires : goal.unreachable-requires
-unreachable-requires g c =
-    let w : IsWaiting c.asking.setup c.next.new.self = subst (λ (n : SetupNext). NextOf c.asking.setup n c.next.new.self) c.in-Ok-Wait.field-0-is c.in-Ok-Wait.ensures.ok in
-    true≢false (sym w.asked ∙ (c.asking.invariant.so_far 0).resting)
+pub returns-in-Err-clause-err : goal.returns-in-Err-clause-err
+returns-in-Err-clause-err g c started =
+    steps_not_within c.args.setup.now.scenario c.args.setup.now.ranks (rows_in c.args.kinds.now) c.replies_make.ensures c.asking.self c.asking.setup c.asking.invariant.so_far c.requires.prepared c.in-Err.halt c.step_within.new.self c.in-Err.ensures.err
+    c.in-Err.ensures.same_places started

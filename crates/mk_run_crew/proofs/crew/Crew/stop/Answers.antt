@@ -27,4 +27,5 @@ returns-clause-stopped g c =
       adds_no_more s.0 _ _ _ s.1 c.close_all.ensures.logged,
       subst (λ (x : CrewSeen). AreStopped s.0 (HasRisen f0 f2) (crew_of x)) c.self.view_is (stopped_later s.0 f0 (g.F.Fleet.faults c.stop.new.fleet) f2 (crew c.self.inside.links.lines) c.close_all.ensures.count s.2.0),
       s.2.1,
+      s.2.2,
     )
