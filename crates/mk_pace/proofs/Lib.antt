@@ -1,0 +1,5 @@
+pub mod Beginning
+pub mod Early
+pub mod Telling
+pub mod Whole
+pub mod WholeRuns

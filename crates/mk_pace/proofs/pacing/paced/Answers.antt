@@ -1,0 +1,34 @@
+use Rattle.std.proofs.Common.{◌++◌, refl}
+use Rattle.mk_outside.proofs.OnLogs.{adds_more}
+use Rattle.mk_local.specs.Registries.{rows_in}
+use Rattle.mk_pace.proofs.Early.{begun_not}
+use Rattle.mk_pace.proofs.Telling.{rises, rising_clockless, rising_more}
+use Rattle.mk_pace.proofs.pacing.paced.Goals as goal
+
+pub pace_plan-requires-clause-started : goal.pace_plan-requires-clause-started
+pace_plan-requires-clause-started g c =
+    let b = c.in-Ok.ensures.begun in (
+      record { started = g.F.Fleet.started c.args.fleet.now; scenario = c.args.scenario; ranks = c.args.ranks; rows = rows_in c.args.kinds.now; log = b.0 },
+      refl,
+      record { prepared = c.requires.prepared; begun = b.2; clockless = b.3 },
+    )
+
+pub returns-in-Ok-clause-ran : goal.returns-in-Ok-clause-ran
+returns-in-Ok-clause-ran g c =
+    let b = c.in-Ok.ensures.begun in
+    let r = c.pace_plan.ensures.ran in (
+      b.0 ++ r.0,
+      adds_more b.0 r.0 _ _ _ b.1 r.1.adds,
+      rises (b.0 ++ r.0) _ _ (rising_more b.0 r.0 _ _ _ (rising_clockless b.0 _ _ b.1 b.3) r.1),
+      r.2 (record { started = g.F.Fleet.started c.args.fleet.now; scenario = c.args.scenario; ranks = c.args.ranks; rows = rows_in c.args.kinds.now; log = b.0 }) (g.F.Fleet.faults c.args.fleet.now) c.in-Ok.ensures.count
+          (record { prepared = c.requires.prepared; begun = b.2; clockless = b.3 }),
+    )
+
+pub returns-in-Err-clause-ran : goal.returns-in-Err-clause-ran
+returns-in-Err-clause-ran g c =
+    let h = c.in-Err.ensures.halted in (
+      h.0,
+      h.1,
+      rises h.0 _ _ (rising_clockless h.0 _ _ h.1 h.3),
+      begun_not (g.F.Fleet.started c.args.fleet.now) c.args.scenario c.args.ranks (rows_in c.args.kinds.now) c.args.factor c.args.strict h.0 (g.F.Fleet.faults c.args.fleet.now) (g.F.Fleet.faults c.begin.new.fleet) c.in-Err.halt c.outcome_of.result c.unpaced.result h.2 h.3 c.outcome_of.ensures c.unpaced.ensures,
+    )

@@ -1,0 +1,5 @@
+use Rattle.mk_pace_laws.proofs.Napping.{naps_well}
+use Rattle.mk_pace_laws.proofs.laws.naps_are_well.Goals as goal
+
+pub returns : goal.returns
+returns c = naps_well

@@ -1,0 +1,5 @@
+use Rattle.mk_pace_laws.proofs.PacesRight.{paces_right}
+use Rattle.mk_pace_laws.proofs.laws.paces_are_right.Goals as goal
+
+pub returns : goal.returns
+returns c = paces_right

@@ -1,0 +1,6 @@
+pub mod Clocks
+pub mod Ends
+pub mod Laws
+pub mod Moments
+pub mod Naps
+pub mod Paced

@@ -1,0 +1,122 @@
+-- What a paced run means, and what a call of `paced` comes to.
+use Rattle.std.specs.Prelude.{◌≡◌, ℕ, ◌<◌, ◌≤◌, List, [], ◌∷◌, ◌++◌, length, filter, Option, Some, None, true, false}
+use Rattle.std.specs.List.{list_any}
+use Rattle.mk_base.specs.declared.LinkNo.{LinkNo}
+use Rattle.mk_plan.specs.declared.Plan.{Plan}
+use Rattle.mk_plan.specs.declared.Journal.{Journal}
+use Rattle.mk_plan.specs.declared.Item.{Item}
+use Rattle.mk_plan.specs.declared.Message.{Message}
+use Rattle.mk_plan.specs.declared.Entry.{Entry}
+use Rattle.mk_plan.specs.Plans.{IsValidPlan, first_id, sim_count}
+use Rattle.mk_plan.specs.Journals.{got, view}
+use Rattle.mk_plan.specs.Orderly.{IsEager}
+use Rattle.mk_outside.specs.Counts.{HasRisen}
+use Rattle.mk_outside.specs.declared.fleet.LogEntry.{LogEntry}
+use Rattle.mk_outside.specs.declared.fleet.LogEntry.TheVariants.{Nap, Rest, Told}
+use Rattle.mk_scenario.specs.declared.parts.Scenario.{Scenario}
+use Rattle.mk_local.specs.declared.turn.Turn.{Turn}
+use Rattle.mk_run_laws.specs.Handshake.{is_within, setup_count, setup_requests, sim_link}
+use Rattle.mk_run_laws.specs.Kinds.{Replies}
+use Rattle.mk_run_laws.specs.Laws.{IsJournalOf}
+use Rattle.mk_run_laws.specs.Payloads.{takes_id}
+use Rattle.mk_run_laws.specs.Rests.{AllSetUp, IsWellInSetup}
+use Rattle.mk_run_laws.specs.Running.{SetupReplies}
+use Rattle.mk_run_laws.specs.Runs.{IsLinkOfRun}
+use Rattle.mk_setup.specs.Handshakes.{IsMade}
+use Rattle.mk_run_local.specs.Made.{kind_reply_of}
+use Rattle.mk_run_crew.specs.Answers.{AreKindAnswers, answers_to}
+use Rattle.mk_run.specs.declared.outcome.Outcome.{Outcome}
+use Rattle.mk_run.specs.Ends.{AreInRange, IsAwaiting}
+use Rattle.mk_run.specs.Ran.{HasNotRun}
+use Rattle.mk_pace_laws.specs.declared.end.Moment.{Moment}
+use Rattle.mk_pace_laws.specs.declared.end.PaceEnd.{PaceEnd}
+use Rattle.mk_pace_laws.specs.declared.end.PaceEnd.TheVariants as pace
+use Rattle.mk_pace_laws.specs.Clocks.{IsRising, is_told}
+use Rattle.mk_pace_laws.specs.Ends.{IsBroken, QueuedOut, Shows, fault_of}
+use Rattle.mk_pace_laws.specs.Moments.{AreMoments, Tempo, sent_out}
+use Rattle.mk_pace_laws.specs.Naps.{AreAllLinked, IsTimely, NapsLook, NapsWell}
+
+-- the fleet didn't sleep
+abbrev pub IsAwake : List LogEntry → Type 0
+IsAwake entries = (before after : List LogEntry) → entries ≡ before ++ Nap ∷ after → ⊥
+
+-- the clock was first looked at when all had set up, and told the origin
+pub record IsOrigin (started : ℕ) (S : Scenario) (log : List LogEntry) (origin : ℕ) : Type 0 where
+  pub before : List LogEntry
+  pub later : List LogEntry
+  pub parts : log ≡ before ++ Told origin ∷ later
+  pub set_up : AllSetUp started S before
+  pub untold : list_any is_told before ≡ false
+  pub awake : IsAwake before
+
+-- what is said on a link: of the journal's items those before the first Step that was never sent,
+-- and no Step before its moment was told
+pub record IsPacedLink (started : ℕ) (S : Scenario) (replies : SetupReplies) (T : Tempo)
+    (J : List Entry) (moments : List Moment) (log : List LogEntry) (risen : Type 0) (end : PaceEnd)
+    (i : ℕ) (l : LinkNo) : Type 0 where
+  pub items : List Item
+  pub run : IsLinkOfRun S replies J log risen i l items
+  pub queued : QueuedOut end (sent_out J moments i) items
+  pub timely : IsTimely T S i l items log
+
+-- a paced run with a plan and a journal, over the entries that it added to the log: what holds of a
+-- run holds of it, but for items that were never sent; a simulator within the program replied to
+-- what was sent alone; the fleet rests only in the handshake; where it sleeps, nothing is due, and
+-- each link has been looked at; where the run was broken off some request was open, and nobody was
+-- ready
+pub record IsPaced (started : ℕ) (S : Scenario) (reply : Replies) (P : Plan) (J : List Entry)
+    (T : Tempo) (strict : Option ℕ) (moments : List Moment) (log : List LogEntry)
+    (faults new_faults : ℕ) (end : PaceEnd) : Type 0 where
+  pub replies : SetupReplies
+  pub valid : IsValidPlan P
+  pub journal : IsJournalOf started S reply P log J
+  pub eager : IsEager P J
+  pub within : length J ≤ P.entries
+  pub in_range : AreInRange J
+  pub origin : IsOrigin started S log T.origin
+  pub links : (i : ℕ) (l : LinkNo) → sim_link started S i ≡ Some l
+      → IsPacedLink started S replies T J moments log (HasRisen faults new_faults) end i l
+  pub moments_are : AreMoments T strict J log moments
+  pub replied : (i : ℕ) → is_within S i ≡ true
+      → length (got J i) ≤ length (filter takes_id (sent_out J moments i))
+  pub setup_rests : (before after : List LogEntry) → log ≡ before ++ Rest ∷ after
+      → IsWellInSetup started S before × (AllSetUp started S before → ⊥)
+  pub naps : IsRising log → AreAllLinked S → NapsWell started S P T J log
+  pub looks : NapsLook started S log
+  pub shown : Shows started S P T strict J moments log faults new_faults end
+  pub fault : (view P J).fault ≡ fault_of end
+  pub unfinished : IsBroken end → IsAwaiting P J
+
+-- the handshake was made, the clock told the origin, and what came of the run then
+pub record HasPaced (started : ℕ) (S : Scenario) (ranks : List ℕ) (rows : List Turn) (factor : ℕ)
+    (strict : Option ℕ) (P : Plan) (J : List Entry) (moments : List Moment) (log : List LogEntry)
+    (faults new_faults : ℕ) (end : PaceEnd) : Type 0 where
+  pub answers : List Message
+  pub made : IsMade S ranks answers P
+  pub kinds : AreKindAnswers rows S answers
+  pub first : (i : ℕ) → i < sim_count P → first_id P i ≡ setup_count S i
+  pub origin : ℕ
+  pub run : IsPaced started S (kind_reply_of rows S) P J
+      (record { origin = origin; factor = factor }) strict moments log faults new_faults end
+  pub told : (i : ℕ) (l : LinkNo) → sim_link started S i ≡ Some l
+      → run.replies i ≡ answers_to i (setup_requests S) answers
+
+-- the handshake ended early, or there was no memory for the run, or the clock failed when it was
+-- first looked at; the fleet didn't sleep
+pub record HasNotPaced (started : ℕ) (S : Scenario) (ranks : List ℕ) (rows : List Turn)
+    (log : List LogEntry) (risen : Type 0) (end : PaceEnd) : Type 0 where
+  pub outcome : Outcome
+  pub is : end ≡ pace.Outcome outcome
+  pub run : HasNotRun started S ranks rows log risen outcome
+  pub awake : IsAwake log
+
+-- a paced run with its plan and its journal, or with neither
+abbrev pub PacesAs : ℕ → Scenario → List ℕ → List Turn → ℕ → Option ℕ → Option Plan → Option Journal
+    → List Moment → List LogEntry → ℕ → ℕ → PaceEnd → Type 0
+PacesAs started S ranks rows factor strict (Some P)
+    (Some J) moments log faults new_faults end = HasPaced started S ranks rows factor strict P
+    J.entries moments log faults new_faults end
+PacesAs started S ranks rows factor strict (Some P) None moments log faults new_faults end = ⊥
+PacesAs started S ranks rows factor strict None (Some J) moments log faults new_faults end = ⊥
+PacesAs started S ranks rows factor strict None None moments log faults new_faults end = HasNotPaced
+    started S ranks rows log (HasRisen faults new_faults) end × (moments ≡ [])

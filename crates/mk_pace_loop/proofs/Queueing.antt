@@ -1,0 +1,111 @@
+-- The lines of a paced run: while a clock is read, messages are heard, and items are queued that the
+-- journal has had for longer.
+use Rattle.std.proofs.Common.{◌≡◌, ℕ, ◌+◌, true, cond, false, List, [], ◌∷◌, ◌++◌, length, filter, length-append, Option, Some, None, refl, sym, ap, ◌∙◌, subst, append_assoc, arith}
+use Rattle.mk_base.specs.declared.LinkNo.{LinkNo}
+use Rattle.mk_base.proofs.Lists.{filter_append, none_some, some_same}
+use Rattle.mk_plan.specs.declared.Item.{Item}
+use Rattle.mk_plan.specs.declared.Item.TheVariants.{Step, GetData, Answer, Refuse}
+use Rattle.mk_plan.specs.declared.Message.{Message}
+use Rattle.mk_message.specs.Written.{item_text}
+use Rattle.mk_scenario.specs.declared.parts.Scenario.{Scenario}
+use Rattle.mk_outside.specs.declared.fleet.LogEntry.{LogEntry}
+use Rattle.mk_outside.specs.declared.fleet.LogEntry.TheVariants.{Told, Nap}
+use Rattle.mk_run_laws.specs.Crews.{CrewState, AreMoved, IsMovedAt, IsSentOnLink, line_at}
+use Rattle.mk_run_laws.specs.Handshake.{setup_count, setup_payloads}
+use Rattle.mk_run_laws.specs.Lines.{IsLineAt, IsMoved, Line, queued}
+use Rattle.mk_run_laws.specs.Payloads.{id_after, item_payloads, takes_id}
+use Rattle.mk_run_laws.specs.Running.{SetupReplies}
+use Rattle.mk_run_laws.specs.inner.Running.{HasLine}
+use Rattle.mk_run_laws.proofs.Moving.{line_moved, line_queued}
+use Rattle.mk_run_laws.proofs.Polling.{IsForeign, line_left}
+
+-- ---- entries of the clock are of no line
+
+foreign_told : (n : ℕ) (k : LinkNo) → IsForeign k (Told n ∷ [])
+foreign_told n k = record { unheard = refl; unsaid = refl; unread = refl; unwritten = refl }
+
+foreign_nap : (k : LinkNo) → IsForeign k (Nap ∷ [])
+foreign_nap k = record { unheard = refl; unsaid = refl; unread = refl; unwritten = refl }
+
+left_at : (entries : List LogEntry) → ((k : LinkNo) → IsForeign k entries) → (o : Option Line) → IsMovedAt entries [] o o
+left_at entries foreign None = tt
+left_at entries foreign (Some w) = line_left entries w (foreign w.link)
+
+-- a reading
+pub told_moved : (n : ℕ) (C : CrewState) → AreMoved (Told n ∷ []) (λ i. []) C C
+told_moved n C i = left_at (Told n ∷ []) (foreign_told n) (line_at C i)
+
+-- a nap
+pub nap_moved : (C : CrewState) → AreMoved (Nap ∷ []) (λ i. []) C C
+nap_moved C i = left_at (Nap ∷ []) foreign_nap (line_at C i)
+
+-- ---- a line that has moved
+
+moved_to : (entries : List LogEntry) (given : List Message) (o p : Option Line) (w : Line) → o ≡ Some w → IsMovedAt entries given o p → (v : Line) × (p ≡ Some v) × IsMoved entries given w v
+moved_to entries given None p w e moved = absurd (none_some e)
+moved_to entries given (Some u) None w e moved = absurd moved
+moved_to entries given (Some u) (Some v) w e moved = (v, refl, subst (λ (x : Line). IsMoved entries given x v) (some_same e) moved)
+
+-- whatever items were queued on it
+pub has_line_moved : (S : Scenario) (replies : SetupReplies) (log entries : List LogEntry) (i : ℕ) (l : LinkNo) (ms given : List Message) (items : List Item) (C D : CrewState) → HasLine S replies log i l ms items C → IsMovedAt entries given (line_at C i) (line_at D i)
+    → HasLine S replies (log ++ entries) i l (ms ++ given) items D
+has_line_moved S replies log entries i l ms given items C D h moved =
+    let m = moved_to entries given (line_at C i) (line_at D i) h.line h.there moved in
+    let payloads : List (List ℕ) = setup_payloads S i ++ item_payloads (setup_count S i) items in
+    let next : ℕ = id_after (setup_count S i) items in
+    record {
+      line = m.0;
+      there = m.1;
+      link = m.2.link ∙ h.link;
+      in_step = subst (λ (x : List Message). IsLineAt (log ++ entries) x payloads next m.0) (append_assoc (replies i) ms given) (line_moved log entries (replies i ++ ms) given payloads next h.line m.0 h.in_step m.2);
+    }
+
+-- ---- an item that is queued
+
+items_push : (id : ℕ) (items : List Item) (item : Item) → item_payloads id (items ++ item ∷ []) ≡ item_payloads id items ++ item_text (id_after id items) item ∷ []
+items_push id [] item = ap (λ (n : ℕ). item_text n item ∷ []) (let e : id ≡ id + 0 = omega arith in e)
+items_push id (i ∷ items) item =
+    ap (λ (l : List (List ℕ)). item_text id i ∷ l)
+    (items_push (id_after id (i ∷ [])) items item ∙ ap (λ (n : ℕ). item_payloads (id_after id (i ∷ [])) items ++ item_text n item ∷ []) (ids_join id i items))
+  where
+    ids_join : (id : ℕ) (i : Item) (items : List Item) → id_after (id_after id (i ∷ [])) items ≡ id_after id (i ∷ items)
+    ids_join id i items = elim (takes_id i) as (λ b. (id + length (cond b (i ∷ []) [])) + length (filter takes_id items) ≡ id + length (cond b (i ∷ filter takes_id items) (filter takes_id items))) [
+      | true ↦ omega arith
+      | false ↦ omega arith
+    ]
+
+ids_push : (id : ℕ) (items : List Item) (item : Item) → id_after (id_after id items) (item ∷ []) ≡ id_after id (items ++ item ∷ [])
+ids_push id items item =
+    let e : length (filter takes_id (items ++ item ∷ [])) ≡ length (filter takes_id items) + length (filter takes_id (item ∷ [])) = ap length (filter_append takes_id items (item ∷ [])) ∙ length-append (filter takes_id items) (filter takes_id (item ∷ [])) in
+    omega (arith, e)
+
+-- an item that takes no id has one text
+text_same : (item : Item) (id other : ℕ) → (takes_id item ≡ true → id ≡ other) → item_text id item ≡ item_text other item
+text_same (Step x inputs advance) id other h = ap (λ (n : ℕ). item_text n (Step x inputs advance)) (h refl)
+text_same (GetData wanted) id other h = ap (λ (n : ℕ). item_text n (GetData wanted)) (h refl)
+text_same (Answer asked content) id other h = refl
+text_same (Refuse asked reason) id other h = refl
+
+-- the line is in step with any messages and items, and then with one item more
+pub line_sent : (S : Scenario) (replies : SetupReplies) (log : List LogEntry) (C D : CrewState) (s : ℕ) (l : LinkNo) (messages : List Message) (items : List Item) (item : Item) (id : ℕ) → HasLine S replies log s l messages items C → IsSentOnLink s item id C D
+    → ((w : Line) → line_at C s ≡ Some w → takes_id item ≡ true → id ≡ w.next) → HasLine S replies log s l messages (items ++ item ∷ []) D
+line_sent S replies log C D s l messages items item id h sent_so right =
+    let same : h.line ≡ sent_so.line = some_same (sym h.there ∙ sent_so.there) in
+    let n : ℕ = setup_count S s in
+    let w : Line = h.line in
+    let next_is : w.next ≡ id_after n items = h.in_step.next_id in
+    let text : item_text id item ≡ item_text (id_after n items) item = text_same item id (id_after n items) (λ takes. right w h.there takes ∙ next_is) in
+    let after_is : id_after w.next (item ∷ []) ≡ id_after n (items ++ item ∷ []) = ap (λ (m : ℕ). id_after m (item ∷ [])) next_is ∙ ids_push n items item in
+    let new : Line = queued (item_text id item) (id_after w.next (item ∷ [])) w in
+    let at : IsLineAt log (replies s ++ messages) ((setup_payloads S s ++ item_payloads n items) ++ item_text id item ∷ []) (id_after w.next (item ∷ [])) new =
+    line_queued log (replies s ++ messages) (setup_payloads S s ++ item_payloads n items) (id_after n items) (id_after w.next (item ∷ [])) (item_text id item) w h.in_step in
+    let payloads_are : (setup_payloads S s ++ item_payloads n items) ++ item_text id item ∷ [] ≡ setup_payloads S s ++ item_payloads n (items ++ item ∷ []) =
+    append_assoc (setup_payloads S s) (item_payloads n items) (item_text id item ∷ []) ∙ ap (λ (t : List ℕ). setup_payloads S s ++ (item_payloads n items ++ t ∷ [])) text
+    ∙ ap (λ (ps : List (List ℕ)). setup_payloads S s ++ ps) (sym (items_push n items item)) in
+    record {
+      line = new;
+      there = sent_so.here ∙ ap (λ (v : Line). Some (queued (item_text id item) (id_after v.next (item ∷ [])) v)) (sym same);
+      link = h.link;
+      in_step = subst (λ (m : ℕ). IsLineAt log (replies s ++ messages) (setup_payloads S s ++ item_payloads n (items ++ item ∷ [])) m new) after_is
+          (subst (λ (ps : List (List ℕ)). IsLineAt log (replies s ++ messages) ps (id_after w.next (item ∷ [])) new) payloads_are at);
+    }

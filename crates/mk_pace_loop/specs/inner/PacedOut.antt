@@ -1,0 +1,114 @@
+-- When a paced run has ended, and its crew is still to be stopped. For proofs alone.
+use Rattle.std.specs.Prelude.{◌≡◌, ◌⊎◌, ℕ, ◌≤◌, ⊤, true, List, [], ◌∷◌, ◌++◌, length, filter, Option, Some, None}
+use Rattle.mk_base.specs.declared.LinkNo.{LinkNo}
+use Rattle.mk_base.specs.declared.SimNo.{SimNo}
+use Rattle.mk_base.specs.Lists.{BeginsWith, IsIn}
+use Rattle.mk_plan.specs.declared.Entry.{Entry}
+use Rattle.mk_plan.specs.declared.Item.{Item}
+use Rattle.mk_plan.specs.declared.Message.{Message}
+use Rattle.mk_plan.specs.declared.Plan.{Plan}
+use Rattle.mk_plan.specs.Journals.{view, sent, got}
+use Rattle.mk_plan.specs.Ready.{IsDone}
+use Rattle.mk_frame.specs.Frames.{IsTooLong}
+use Rattle.mk_outside.specs.declared.fleet.LogEntry.{LogEntry}
+use Rattle.mk_outside.specs.declared.fleet.LogEntry.TheVariants.{Ended, Rest}
+use Rattle.mk_session.specs.Fronts.{BeginsGarbled}
+use Rattle.mk_sched.specs.Cores.{Stands}
+use Rattle.mk_run_laws.specs.Crews.{CrewState}
+use Rattle.mk_run_laws.specs.Handshake.{is_within, sim_link}
+use Rattle.mk_run_laws.specs.Hearing.{first_message}
+use Rattle.mk_run_laws.specs.Kinds.{KeepsToKinds}
+use Rattle.mk_run_laws.specs.Payloads.{takes_id}
+use Rattle.mk_run_laws.specs.Rests.{AllSetUp, IsWellInSetup}
+use Rattle.mk_run_laws.specs.inner.Running.{HasLine}
+use Rattle.mk_run.specs.declared.outcome.Outcome.{Outcome}
+use Rattle.mk_run.specs.declared.outcome.Outcome.TheVariants as outcome
+use Rattle.mk_run.specs.Ends.{AreInRange, IsAwaiting, IsFull, IsLastFaulty, IsOpenWithin}
+use Rattle.mk_run.specs.inner.Underway.{HasNoOther, IsPatient, Setting, Suits, reply_in}
+use Rattle.mk_pace_laws.specs.declared.end.Moment.{Moment}
+use Rattle.mk_pace_laws.specs.declared.end.PaceEnd.{PaceEnd}
+use Rattle.mk_pace_laws.specs.declared.end.PaceEnd.TheVariants as pace
+use Rattle.mk_pace_laws.specs.Ends.{IsBroken, IsLate, IsLongAmong, QueuedOut, fault_of}
+use Rattle.mk_pace_laws.specs.Moments.{AreMoments, Tempo, sent_out}
+use Rattle.mk_pace_laws.specs.Naps.{AreAllLinked, AreNaps, AreTold, IsTimely, NapsLook}
+use Rattle.mk_pace_laws.specs.Paced.{IsOrigin}
+
+-- a line at the end: the messages that it gave go on from those of the journal, and the items
+-- queued on it are those that were sent out, the moment of each Step among them having been told
+pub record IsLastPacedLine (S : Setting) (T : Tempo) (J : List Entry) (moments : List Moment)
+    (log : List LogEntry) (C : CrewState) (end : PaceEnd) (i : ℕ) (l : LinkNo) : Type 0 where
+  pub messages : List Message
+  pub items : List Item
+  pub line : HasLine S.scenario S.replies log i l messages items C
+  pub given : BeginsWith messages (got J i)
+  pub queued : BeginsWith (sent J i) items
+  pub out : QueuedOut end (sent_out J moments i) items
+  pub told : AreTold T log items
+  pub timely : IsTimely T S.scenario i l items log
+
+-- the line of simulator i gave all messages that the journal got, and holds no further one
+pub record HasGivenPaced (S : Setting) (J : List Entry) (log : List LogEntry) (C : CrewState)
+    (i : ℕ) (l : LinkNo) : Type 0 where
+  pub linked : sim_link S.started S.scenario i ≡ Some l
+  pub items : List Item
+  pub line : HasLine S.scenario S.replies log i l (got J i) items C
+  pub none_held : first_message line.line.held ≡ None
+
+-- a message was heard on a link that the journal hasn't got: the line gave it behind those that the
+-- journal got, and the items queued on it are the first of the journal's
+pub record IsAheadPaced (S : Setting) (J : List Entry) (log : List LogEntry)
+    (C : CrewState) : Type 0 where
+  pub sim : SimNo
+  pub message : Message
+  pub link : LinkNo
+  pub linked : sim_link S.started S.scenario sim.0 ≡ Some link
+  pub items : List Item
+  pub line : HasLine S.scenario S.replies log sim.0 link (got J sim.0 ++ message ∷ []) items C
+  pub queued : BeginsWith (sent J sim.0) items
+
+-- what an outcome shows before the crew is stopped
+abbrev pub EndsOutcome : Type 0 → Setting → Plan → List Entry → List LogEntry → CrewState → Outcome
+    → Type 0
+EndsOutcome risen S P J log C outcome.Done = IsDone P (view P J)
+EndsOutcome risen S P J log C (outcome.Setup f) = ⊥
+EndsOutcome risen S P J log C (outcome.Core f) = IsLastFaulty P J f
+    ⊎ IsFull P J f (IsAheadPaced S J log C ⊎ IsOpenWithin S.scenario P J)
+EndsOutcome risen S P J log C outcome.Fleet = risen
+EndsOutcome risen S P J log C (outcome.Gone i) = (l : LinkNo) × HasGivenPaced S J log C i.0 l
+    × IsIn (Ended l) log
+EndsOutcome risen S P J log C (outcome.Garbled i n) = (l : LinkNo)
+    × (g : HasGivenPaced S J log C i.0 l) × BeginsGarbled g.line.line.held n
+EndsOutcome risen S P J log C (outcome.LongFrame i n) = (l : LinkNo)
+    × (g : HasGivenPaced S J log C i.0 l) × IsTooLong n g.line.line.held
+EndsOutcome risen S P J log C (outcome.LongItem i n) = IsLongAmong P J i.0 n
+EndsOutcome risen S P J log C outcome.Mem = ⊤
+
+abbrev pub EndsPace : Type 0 → Setting → Plan → Tempo → Option ℕ → List Entry → List Moment
+    → List LogEntry → CrewState → PaceEnd → Type 0
+EndsPace risen S P T strict J moments log C (pace.Outcome end) = EndsOutcome risen S P J log C end
+EndsPace risen S P T strict J moments log C
+    (pace.Late sim time late allowed) = IsLate T strict J moments log sim time late allowed
+
+-- the paced run has come to its end
+pub record HasPacedOut (risen : Type 0) (S : Setting) (T : Tempo) (strict : Option ℕ) (P : Plan)
+    (J : List Entry) (moments : List Moment) (log : List LogEntry) (C : CrewState)
+    (end : PaceEnd) : Type 0 where
+  pub suits : Suits S P
+  pub stands : Stands P J
+  pub patient : IsPatient P J
+  pub in_range : AreInRange J
+  pub kinds : KeepsToKinds (reply_in S) (is_within S.scenario) P J
+  pub lines : (i : ℕ) (l : LinkNo) → sim_link S.started S.scenario i ≡ Some l
+      → IsLastPacedLine S T J moments log C end i l
+  pub no_other : HasNoOther S C
+  pub origin : IsOrigin S.started S.scenario log T.origin
+  pub moments_are : AreMoments T strict J log moments
+  pub within : (i : ℕ) → is_within S.scenario i ≡ true
+      → length (got J i) ≤ length (filter takes_id (sent_out J moments i))
+  pub setup_rests : (before after : List LogEntry) → log ≡ before ++ Rest ∷ after
+      → IsWellInSetup S.started S.scenario before × (AllSetUp S.started S.scenario before → ⊥)
+  pub naps : AreAllLinked S.scenario → AreNaps S.started S.scenario S.replies P T J log
+  pub looks : NapsLook S.started S.scenario log
+  pub ends : EndsPace risen S P T strict J moments log C end
+  pub fault : (view P J).fault ≡ fault_of end
+  pub unfinished : IsBroken end → IsAwaiting P J

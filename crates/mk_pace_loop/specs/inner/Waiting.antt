@@ -1,0 +1,73 @@
+-- What waits of a paced run. For proofs alone.
+use Rattle.std.specs.Prelude.{◌≡◌, ℕ, ◌+◌, ◌<◌, ◌≤◌, ⊤, pos, ◌≤ℤ◌, List, [], ◌∷◌, ◌++◌, length, Option, Some, slice_get}
+use Rattle.mk_base.specs.declared.SimNo.{SimNo}
+use Rattle.mk_plan.specs.declared.Item.{Item}
+use Rattle.mk_plan.specs.declared.Item.TheVariants.{Step, GetData, Answer, Refuse}
+use Rattle.mk_sched.specs.Cores.{CoreState}
+use Rattle.mk_pace_held.specs.declared.held.First.{First}
+use Rattle.mk_pace_held.specs.declared.held.Held.{Held}
+use Rattle.mk_pace_held.specs.Firsts.{IsChanged, first_at}
+use Rattle.mk_pace_laws.specs.declared.end.Moment.{Moment}
+use Rattle.mk_pace_laws.specs.declared.end.PaceEnd.{PaceEnd}
+use Rattle.mk_pace_laws.specs.declared.end.PaceEnd.TheVariants as pace
+use Rattle.mk_pace_laws.specs.Moments.{Tempo}
+use Rattle.mk_pace_loop.specs.inner.Pacing.{DueAs}
+
+-- for each simulator what waits of its items, the moments of what was sent, the tempo, and how many
+-- milliseconds late a Step may be
+pub record WaitingSeen : Type 0 where
+  pub holds : List (List Held)
+  pub moments : List Moment
+  pub tempo : Tempo
+  pub strict : Option ℕ
+
+-- the tempo and the bound are as they were
+pub record IsOnTempo (old new : WaitingSeen) : Type 0 where
+  pub tempo : new.tempo ≡ old.tempo
+  pub strict : new.strict ≡ old.strict
+
+-- only what waits of simulator s has changed, from this to that
+pub record IsHeldAnew (s : ℕ) (was now : List Held) (old new : WaitingSeen) : Type 0 where
+  pub changed : IsChanged s was now old.holds new.holds
+  pub moments : new.moments ≡ old.moments
+  pub same : IsOnTempo old new
+
+-- the item that the journal ends with waits last of simulator s, with this id
+pub record IsHeldLast (core : CoreState) (s : SimNo) (item : Item) (id : ℕ)
+    (old new : WaitingSeen) : Type 0 where
+  pub was : List Held
+  pub held : Held
+  pub anew : IsHeldAnew s.0 was (was ++ held ∷ []) old new
+  pub place : held.place + 1 ≡ length core.entries
+  pub numbered : held.id ≡ id
+  pub due : DueAs old.tempo item held.due
+
+-- the Step that waits first of each simulator has a later moment than this
+abbrev pub AreEarly : ℕ → List (List Held) → Type 0
+AreEarly told holds = (i : ℕ) (q : List Held) (f : First) → slice_get holds i ≡ Some q
+    → first_at (record { 0 = i }) q ≡ Some f → told < f.due.moment
+
+-- the Step that waits first is this late at this reading, and more than is allowed
+pub record IsTooLate (first : First) (told : ℕ) (W : WaitingSeen) (end : PaceEnd) : Type 0 where
+  pub late : ℕ
+  pub allowed : ℕ
+  pub strict : W.strict ≡ Some allowed
+  pub told_is : told ≡ first.due.moment + late
+  pub beyond : allowed < late
+  pub is : end ≡ pace.Late first.sim (first.due.at).time late allowed
+
+-- a Step is at a time of a run
+abbrev pub HasTime : Item → Type 0
+HasTime (Step x inputs advance) = (pos 0 ≤ℤ x.time) × (x.time ≤ℤ pos 1000000000)
+HasTime (GetData wanted) = ⊤
+HasTime (Answer id content) = ⊤
+HasTime (Refuse id reason) = ⊤
+
+-- something waits of simulator s
+abbrev pub IsSomeHeld : ℕ → WaitingSeen → Type 0
+IsSomeHeld s W = (h : Held) × (q : List Held) × (slice_get W.holds s ≡ Some (h ∷ q))
+
+-- so many milliseconds behind this reading no Step that waits first of a simulator is overdue
+abbrev pub IsInTime : ℕ → ℕ → List (List Held) → Type 0
+IsInTime told ms holds = (i : ℕ) (q : List Held) (f : First) → slice_get holds i ≡ Some q
+    → first_at (record { 0 = i }) q ≡ Some f → told + ms ≤ f.due.moment
