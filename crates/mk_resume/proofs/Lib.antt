@@ -2,6 +2,7 @@ pub mod Alike
 pub mod Beginning
 pub mod Completing
 pub mod DoneRuns
+pub mod Linkless
 pub mod OneOther
 pub mod Refused
 pub mod Saying

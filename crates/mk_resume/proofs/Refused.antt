@@ -1,6 +1,7 @@
 -- What is left of a handshake whose record wasn't taken, and what a call comes to by its parts.
 use Rattle.std.proofs.Common.{◌≡◌, inl, inr, ℕ, ◌<◌, true, false, List, [], ◌++◌, map, Option, None, Some, All, sym, ap, ◌∙◌, subst, refl}
 use Rattle.mk_base.proofs.Lists.{append_nil}
+use Rattle.mk_base.specs.declared.LinkNo.{LinkNo}
 use Rattle.mk_plan.specs.declared.Plan.{Plan}
 use Rattle.mk_plan.specs.declared.Journal.{Journal}
 use Rattle.mk_plan.specs.Plans.{first_id, sim_count}
@@ -14,9 +15,10 @@ use Rattle.mk_plan_same.specs.Parts.{IsFirstOther}
 use Rattle.mk_record_restored.specs.Restored.{IsOnward, IsRestored}
 use Rattle.mk_sched.specs.Cores.{CoreState}
 use Rattle.mk_setup.specs.Handshakes.{IsMade}
-use Rattle.mk_run_laws.specs.Handshake.{setup_requests}
+use Rattle.mk_run_laws.specs.Handshake.{setup_requests, sim_link}
 use Rattle.mk_run_laws.specs.Running.{SetupReplies}
 use Rattle.mk_run_laws.specs.Crews.{AreStopped, IsRestless}
+use Rattle.mk_run_laws.specs.Runs.{IsLinkOfRun}
 use Rattle.mk_run_laws.proofs.Clauses.{handshake_says}
 use Rattle.mk_run_laws.proofs.Ending.{link_ended}
 use Rattle.mk_run_laws.proofs.Stepping.{first_or_second}
@@ -33,17 +35,24 @@ module _ (A : Start) (C : CrewSeen) (P : Plan) (s : IsStarted A C P) (stops : Li
   stopped : AreStopped stops risen (crew_of C)
   stopped = stopped_by stops some risen (crew_of C) rises stop
 
+  -- each link is that of a run that was stopped where it began
+  link_over : (i : ℕ) (l : LinkNo) → sim_link A.started A.scenario i ≡ Some l → IsLinkOfRun A.scenario s.begun.replies [] (A.log ++ stops) risen i l []
+  link_over i l linked = link_ended A.started A.scenario s.begun.replies s.begun.counts [] A.log stops risen (crew_of C) stopped i l linked [] []
+      ((run_begins A.started A.scenario A.ranks A.rows A.log C P s.begun s.prepared).running.lines i l linked) ([], refl) ([], refl)
+
   pub has_refused : HasRefused A.started A.scenario A.ranks A.rows P (A.log ++ stops) risen
   has_refused = record {
     answers = s.begun.answers;
     made = s.begun.made;
     kinds = s.begun.kinds;
+    replies = s.begun.replies;
+    replied = λ i l linked. (link_over i l linked).replied;
+    told = s.begun.told;
     valid = s.begun.valid;
     sims = s.begun.sims;
     says = λ reply i l linked. let t = s.begun.begun.lines i l linked in
         handshake_says A.started A.scenario reply A.log stops risen i l (setup_requests A.scenario) [] (sym (append_nil (setup_requests A.scenario))) (s.begun.replies i) t.0 t.2 t.3 (stopped i t.0 t.1);
-    whole = λ i l linked. (link_ended A.started A.scenario s.begun.replies s.begun.counts [] A.log stops risen (crew_of C) stopped i l linked [] []
-        ((run_begins A.started A.scenario A.ranks A.rows A.log C P s.begun s.prepared).running.lines i l linked) ([], refl) ([], refl)).whole;
+    whole = λ i l linked. (link_over i l linked).whole;
     rests = λ before after is. elim (first_or_second A.log stops before after Rest is) [
       | inl t ↦ (s.begun.rests before t.0 t.1, s.begun.begun.setting_up before t.0 t.1)
       | inr t ↦ absurd (restless t.0 after t.2)

@@ -1,5 +1,5 @@
 -- The laws of a resumed run.
-use Rattle.std.specs.Prelude.{◌≡◌, ◌⊎◌, ℕ, ◌<◌, Bool, List, length, map, Option, None, Some, IsSome}
+use Rattle.std.specs.Prelude.{◌≡◌, ◌⊎◌, ℕ, ◌<◌, Bool, List, length, take, map, Option, None, Some, IsSome}
 use Rattle.mk_base.specs.declared.LinkNo.{LinkNo}
 use Rattle.mk_base.specs.declared.SimNo.{SimNo}
 use Rattle.mk_base.specs.Lists.{BeginsWith, IsIn}
@@ -27,11 +27,12 @@ use Rattle.mk_sched.specs.declared.faults.CoreFault.{CoreFault}
 use Rattle.mk_sched.specs.Answers.{SomeReady}
 use Rattle.mk_local.specs.declared.turn.Turn.{Turn}
 use Rattle.mk_setup.specs.Handshakes.{IsMade}
-use Rattle.mk_run_laws.specs.Hearing.{rest_heard}
-use Rattle.mk_run_laws.specs.Handshake.{setup_count, sim_link}
+use Rattle.mk_run_laws.specs.Hearing.{messages_heard, rest_heard}
+use Rattle.mk_run_laws.specs.Handshake.{setup_count, setup_requests, sim_link}
 use Rattle.mk_run_laws.specs.Kinds.{Replies}
 use Rattle.mk_run_laws.specs.Runs.{SaidWhole, run_frames}
 use Rattle.mk_run_laws.specs.Laws.{IsJournalOf}
+use Rattle.mk_run_crew.specs.Answers.{answers_to}
 use Rattle.mk_run.specs.declared.outcome.Outcome.TheVariants as outcome
 use Rattle.mk_run.specs.Ends.{IsRun}
 use Rattle.mk_run.specs.Laws.{ArePromised, HasSentAll, LinkSaysRight}
@@ -134,12 +135,16 @@ pub record EndsExactly (P : Plan) (saved : Saved) (end : ResumeEnd) : Type 0 whe
       → IsFaulted P (map came saved.arrivals) J f
       → (end ≡ ends.Outcome (outcome.Core f)) ⊎ (end ≡ ends.Outcome outcome.Mem)
 
--- the handshake made a plan, and over it the ends are those
-pub record HasEndedExactly (S : Scenario) (ranks : List ℕ) (saved : Saved)
-    (end : ResumeEnd) : Type 0 where
+-- the handshake made a plan of answers, which on each link are the first messages that were heard,
+-- and over it the ends are those
+pub record HasEndedExactly (started : ℕ) (S : Scenario) (ranks : List ℕ) (saved : Saved)
+    (log : List LogEntry) (end : ResumeEnd) : Type 0 where
   pub plan : Plan
   pub answers : List Message
   pub made : IsMade S ranks answers plan
+  pub heard : (i : ℕ) (l : LinkNo) → sim_link started S i ≡ Some l
+      → take (setup_count S i) (messages_heard (heard_on l log))
+      ≡ answers_to i (setup_requests S) answers
   pub exactly : EndsExactly plan saved end
 
 -- so it is of each call, but where the handshake ended early
@@ -149,4 +154,4 @@ ResumeEndsExactly = (started : ℕ) (S : Scenario) (ranks : List ℕ) (rows : Li
     (faults new_faults : ℕ) (end : ResumeEnd)
     → ResumesAs started S ranks rows saved taken P J log faults new_faults end
     → HasNotBegun started S ranks rows log (HasRisen faults new_faults) end
-    ⊎ HasEndedExactly S ranks saved end
+    ⊎ HasEndedExactly started S ranks saved log end

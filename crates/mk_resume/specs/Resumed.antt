@@ -1,5 +1,5 @@
 -- What a resumed run means, over its whole log, and what each end shows.
-use Rattle.std.specs.Prelude.{◌≡◌, ◌⊎◌, ℕ, ◌<◌, ◌≤◌, ⊤, true, false, Bool, List, [], ◌∷◌, ◌++◌, length, map, Option, Some, None, slice_get}
+use Rattle.std.specs.Prelude.{◌≡◌, ◌⊎◌, ℕ, ◌<◌, ◌≤◌, ⊤, true, false, Bool, List, [], ◌∷◌, ◌++◌, length, take, map, Option, Some, None, slice_get}
 use Rattle.mk_base.specs.declared.LinkNo.{LinkNo}
 use Rattle.mk_base.specs.declared.SimNo.{SimNo}
 use Rattle.mk_base.specs.Lists.{BeginsWith, IsIn}
@@ -29,7 +29,7 @@ use Rattle.mk_sched.specs.declared.faults.CoreFault.{CoreFault}
 use Rattle.mk_sched.specs.Answers.{SomeOpen, SomeReady}
 use Rattle.mk_local.specs.declared.turn.Turn.{Turn}
 use Rattle.mk_setup.specs.Handshakes.{IsMade}
-use Rattle.mk_run_laws.specs.Hearing.{rest_heard}
+use Rattle.mk_run_laws.specs.Hearing.{messages_heard, rest_heard}
 use Rattle.mk_run_laws.specs.Handshake.{setup_count, setup_requests, sim_link, is_within}
 use Rattle.mk_run_laws.specs.Kinds.{Replies}
 use Rattle.mk_run_laws.specs.Rests.{run_messages, AllSetUp, IsWellInSetup}
@@ -163,14 +163,21 @@ pub record HasResumed (started : ℕ) (S : Scenario) (ranks : List ℕ) (rows : 
   pub told : (i : ℕ) (l : LinkNo) → sim_link started S i ≡ Some l
       → run.replies i ≡ answers_to i (setup_requests S) answers
 
--- the handshake was made, with this plan, and the run went no further: on each link the whole
--- handshake was said and a stop, but where a write took nothing or the count of faults rose, and
--- nothing else; and where the fleet rested, not all had set up
+-- the handshake was made, with this plan, and the run went no further: the plan is made of the
+-- answers to all requests, and on each link the first messages that were heard are the answers to
+-- the simulator's requests; there the whole handshake was said and a stop, but where a write took
+-- nothing or the count of faults rose, and nothing else; and where the fleet rested, not all had set
+-- up
 pub record HasRefused (started : ℕ) (S : Scenario) (ranks : List ℕ) (rows : List Turn) (P : Plan)
     (log : List LogEntry) (risen : Type 0) : Type 0 where
   pub answers : List Message
   pub made : IsMade S ranks answers P
   pub kinds : AreKindAnswers rows S answers
+  pub replies : SetupReplies
+  pub replied : (i : ℕ) (l : LinkNo) → sim_link started S i ≡ Some l
+      → take (setup_count S i) (messages_heard (heard_on l log)) ≡ replies i
+  pub told : (i : ℕ) (l : LinkNo) → sim_link started S i ≡ Some l
+      → replies i ≡ answers_to i (setup_requests S) answers
   pub valid : IsValidPlan P
   pub sims : sim_count P ≡ length S.sims
   pub says : (reply : Replies) (i : ℕ) (l : LinkNo) → sim_link started S i ≡ Some l

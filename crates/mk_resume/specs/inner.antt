@@ -1,2 +1,3 @@
 -- What proofs alone need.
 pub mod Going
+pub mod Given

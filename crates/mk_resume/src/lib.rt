@@ -6,6 +6,7 @@
 mod accepting;
 mod laws;
 mod resuming;
+mod wholly;
 
 pub use laws::{
     done_resumed_runs_are_runs, resume_ends_exactly, resumed_runs_complete, resumed_runs_say_right,

@@ -14,6 +14,7 @@ ghost use Rattle.mk_run_links.specs.Places.{AreOpen, without_all};
 ghost use Rattle.mk_setup.specs.Ranked.{AreRanksOf};
 ghost use Rattle.mk_run_local.specs.Seen.{AreOf};
 ghost use Rattle.mk_run_crew.specs.Seen.{within_of};
+ghost use Rattle.mk_run_crew.specs.Wholly.{is_wholly_within};
 ghost use Rattle.mk_run.specs.inner.Underway.{Setting};
 ghost use Rattle.mk_run.specs.inner.Turns.{AreLinksOpen, IsStill};
 ghost use Rattle.mk_resume_loop.specs.inner.Turns.{IsSized};
@@ -21,6 +22,7 @@ ghost use Rattle.mk_resume.specs.Resumed.{ResumesAs};
 ghost use Rattle.mk_resume.specs.inner.Going.{CatchesUpAs, GoesOnAs, IsFresh, IsStarted, PlanResumesAs, Start};
 
 use crate::accepting::{Accepted, accept, nothing_left};
+use crate::wholly::resume_within;
 use mk_base::List;
 use mk_local::Registry;
 use mk_outside::Fleet;
@@ -28,7 +30,7 @@ use mk_plan::{Journal, Plan};
 use mk_record_read::Saved;
 use mk_resume_loop::{Behind, ResumeEnd, begin, drive};
 use mk_run::outcome_of;
-use mk_run_crew::Crew;
+use mk_run_crew::{Crew, is_wholly_within};
 use mk_scenario::Scenario;
 use mk_sched::Core;
 use std::alloc::Global;
@@ -53,10 +55,40 @@ pub struct ResumeRan {
 /// all messages before it have come; its messages are compared with the saved ones; and where it
 /// has sent all of these again, its further messages go to the core, until the first end.
 /// Simulators within the program are of these kinds. At the end each link that was started is
-/// stopped and closed, for which no memory is needed.
+/// stopped and closed, for which no memory is needed. Where all simulators are within the program
+/// nothing is done with the fleet.
 ///
 /// The messages of the record are known ones, as `read_record` ensures.
 pub fn resume<F: Fleet, R: Wait>(
+    rt: &R,
+    alloc: Global,
+    scenario: Scenario,
+    ranks: List<u32>,
+    saved: Saved,
+    fleet: &mut F,
+    kinds: &Registry,
+) -> ResumeRan
+    requires wellformed { IsWellformed scenario }
+    requires ranked { AreRanksOf scenario ranks }
+    requires prepared { IsPrepared scenario (map name_of (rows_in kinds.now)) }
+    requires known { All (IsKnown saved.plan) (map came saved.arrivals) }
+    ensures count { F.faults fleet.old ≤ F.faults fleet.new }
+    ensures ran { (entries : List LogEntry) × Adds entries (F.log fleet.old) (F.log fleet.new)
+        × ResumesAs (F.started fleet.old) scenario ranks
+        (rows_in kinds.now) saved result.taken result.plan result.journal entries
+        (F.faults fleet.old) (F.faults fleet.new) result.end }
+    ensures closed { AreNumbered (F.started fleet.old) (F.open_links fleet.old)
+        → F.open_links fleet.new ≡ F.open_links fleet.old }
+    ensures within { is_wholly_within scenario ≡ true → fleet.new ≡ fleet.old }
+{
+    if is_wholly_within(&scenario) {
+        return resume_within(rt, alloc, scenario, ranks, saved, kinds);
+    }
+    resume_over(rt, alloc, scenario, ranks, saved, fleet, kinds)
+}
+
+// Goes on with the run over a fleet, whether or not it is used.
+pub fn resume_over<F: Fleet, R: Wait>(
     rt: &R,
     alloc: Global,
     scenario: Scenario,

@@ -6,6 +6,7 @@ ghost use Rattle.mk_outside.specs.Logs.{Adds};
 ghost use Rattle.mk_launch.specs.Starts.{AreNumbered};
 ghost use Rattle.mk_local.specs.Kinds.{name_of};
 ghost use Rattle.mk_local.specs.Registries.{rows_in};
+ghost use Rattle.mk_run_crew.specs.Wholly.{is_wholly_within};
 ghost use Rattle.mk_record.specs.Reading.{reading, Said};
 ghost use Rattle.mk_record.specs.Seen.{came};
 ghost use Rattle.mk_record.specs.Steps.{IsKnown};
@@ -79,7 +80,7 @@ fn with_ranks(scenario: Scenario, accepted: Accepted) -> Study
 
 /// Goes on with a run of the study from the record of these bytes, over a fleet, its simulators within the program being of these
 /// kinds; and says what it comes to, with the record of the whole run, where one is wanted and the old one was taken. It may wait
-/// for others. Every link that it starts is closed at the end.
+/// for others. Every link that it starts is closed at the end; where all simulators are within the program the fleet is as before.
 pub fn resumed<F: Fleet, R: Wait>(
     rt: &R,
     alloc: Global,
@@ -95,6 +96,7 @@ pub fn resumed<F: Fleet, R: Wait>(
     ensures count { F.faults fleet.old ≤ F.faults fleet.new }
     ensures closed { AreNumbered (F.started fleet.old) (F.open_links fleet.old)
         → F.open_links fleet.new ≡ F.open_links fleet.old }
+    ensures within { is_wholly_within study.scenario ≡ true → fleet.new ≡ fleet.old }
     ensures text { IfOk result.text (λ text. (entries : List LogEntry)
         × Adds entries (F.log fleet.old) (F.log fleet.new)
         × IsStudyOutcome (outside F.started F.faults (rows_in kinds.now) fleet.old fleet.new entries)
@@ -129,6 +131,7 @@ fn go_on<F: Fleet, R: Wait>(
     ensures count { F.faults fleet.old ≤ F.faults fleet.new }
     ensures closed { AreNumbered (F.started fleet.old) (F.open_links fleet.old)
         → F.open_links fleet.new ≡ F.open_links fleet.old }
+    ensures within { is_wholly_within study.scenario ≡ true → fleet.new ≡ fleet.old }
     ensures text { IfOk result.text (λ text. (entries : List LogEntry)
         × Adds entries (F.log fleet.old) (F.log fleet.new)
         × IsSavedOutcome (outside F.started F.faults (rows_in kinds.now) fleet.old fleet.new entries)

@@ -1,0 +1,8 @@
+-- The links of a fleet that starts none. For proofs alone.
+use Rattle.std.specs.Prelude.{List, [], ◌∷◌, Option, None, Some}
+use Rattle.mk_base.specs.declared.LinkNo.{LinkNo}
+
+-- the link that it was given, if it has one
+abbrev pub given : Option LinkNo → List LinkNo
+given None = []
+given (Some link) = link ∷ []
