@@ -1,24 +1,28 @@
 // What all links share: the system's set of sockets, and a buffer.
 ghost use Rattle.std.specs.Prelude.{◌≡◌, ◌≢◌, ◌<◌, ◌≤◌, ◌++◌, [], true, IfOk, IfSome, length, drop};
 ghost use Rattle.mk_base.specs.Lists.{IsIn};
-ghost use Rattle.mk_outside.specs.Fleets.{ReadAs};
+ghost use Rattle.mk_outside.specs.Fleets.{IsWritten, ReadAs};
 
 use crate::socket::Socket;
 use mio::event::Event;
-use mio::{Events, Poll};
+use mio::{Events, Poll, Registry};
 use mk_base::LinkNo;
-use mk_outside::ReadLink;
+use mk_outside::{ReadLink, WriteLink};
 use std::alloc::Global;
 use std::io;
 use std::io::ErrorKind;
 use std::net::Net;
 use std::process::OpenProcess;
+use std::time::{Clock, Duration};
 
 // How many bytes one read may give.
 const BUFFER: usize = 16_384;
 
 // How many changes one wait may tell. The others are told by the next one.
 const CHANGES: usize = 256;
+
+// After how long a wait looks again at the children that are awaited, in milliseconds.
+const GLANCE: u64 = 100;
 
 /// The set of sockets whose changes the system tells, and where a read's bytes go first, since no clause says what the
 /// system leaves of a buffer.
@@ -41,18 +45,15 @@ impl Desk {
         })
     }
 
-    /// Has the system tell of the socket's changes, under the link's number.
-    pub fn register<P: OpenProcess + Drop>(
-        &self,
-        socket: &mut Socket<P>,
-        number: usize,
-    ) -> io::Result<()> {
-        socket.register(self.poll.registry(), number)
+    /// Has the system tell of the socket's changes.
+    pub fn register<P: OpenProcess + Drop>(&self, socket: &mut Socket<P>) -> io::Result<()> {
+        socket.register(self.poll.registry())
     }
 
     /// Reads from a socket into the front of a buffer.
-    pub fn read<P: OpenProcess + Drop>(
+    pub fn read<R: Clock, P: OpenProcess + Drop>(
         &mut self,
+        rt: &R,
         socket: &mut Socket<P>,
         into: &mut [u8],
     ) -> ReadLink
@@ -61,16 +62,30 @@ impl Desk {
     {
         let most = BUFFER.min(into.len());
         let buffer: &mut [u8] = &mut *self.buffer;
-        let answer = socket.read(&mut buffer[..most]);
+        let answer = socket.read(rt, self.poll.registry(), &mut buffer[..most]);
         if let ReadLink::Got(count) = answer {
             put_front(into, &buffer[..count]);
         }
         answer
     }
 
-    /// Waits until one of these links is ready, and gives its place. It sleeps until the system tells of a change.
-    pub fn find_ready<P: OpenProcess + Drop>(
+    /// Writes the front of these bytes to a socket.
+    pub fn write<R: Clock, P: OpenProcess + Drop>(
+        &self,
+        rt: &R,
+        socket: &mut Socket<P>,
+        bytes: &[u8],
+    ) -> WriteLink
+        requires { bytes.now ≢ [] }
+        ensures { IsWritten result bytes.now }
+    {
+        socket.write(rt, self.poll.registry(), bytes)
+    }
+
+    /// Waits until one of these links is ready, and gives its place.
+    pub fn find_ready<R: Clock, P: OpenProcess + Drop>(
         &mut self,
+        rt: &R,
         sockets: &mut [Option<Socket<P>>],
         links: &[LinkNo],
     ) -> io::Result<usize>
@@ -80,17 +95,51 @@ impl Desk {
             if let Some(place) = first_ready(sockets, links) {
                 return Ok(place);
             }
-            self.take_changes(sockets)?;
+            self.sleep(rt, sockets, links)?;
         }
         Err(io::Error::from(ErrorKind::TimedOut))
     }
 
-    // Waits until the system tells of changes, and has each socket take in its own.
+    /// Waits until no child is awaited any more. It is an error where one is late, or has failed.
+    pub fn settle<R: Clock, P: OpenProcess + Drop>(
+        &mut self,
+        rt: &R,
+        sockets: &mut [Option<Socket<P>>],
+    ) -> io::Result<()> {
+        for _ in 0..u64::MAX {
+            if !take_in_all(rt, self.poll.registry(), sockets)? {
+                return Ok(());
+            }
+            self.take_changes(sockets, Some(Duration::from_millis(GLANCE)))?;
+        }
+        Err(io::Error::from(ErrorKind::TimedOut))
+    }
+
+    // Sleeps until the system tells of a change. It tells none where a child that is awaited is
+    // late or has failed, so while there is one this wakes now and then and looks.
+    fn sleep<R: Clock, P: OpenProcess + Drop>(
+        &mut self,
+        rt: &R,
+        sockets: &mut [Option<Socket<P>>],
+        links: &[LinkNo],
+    ) -> io::Result<()> {
+        if links.iter().any(|link| is_awaited(sockets, *link)) {
+            self.take_changes(sockets, Some(Duration::from_millis(GLANCE)))?;
+            notice_all(rt, sockets, links);
+            Ok(())
+        } else {
+            self.take_changes(sockets, None)
+        }
+    }
+
+    // Waits until the system tells of changes, at most so long where that is given, and has each
+    // socket take in its own.
     fn take_changes<P: OpenProcess + Drop>(
         &mut self,
         sockets: &mut [Option<Socket<P>>],
+        most: Option<Duration>,
     ) -> io::Result<()> {
-        self.poll.poll(&mut self.events, None)?;
+        self.poll.poll(&mut self.events, most)?;
         for event in &self.events {
             take_change(sockets, event);
         }
@@ -111,6 +160,43 @@ fn is_ready<P: OpenProcess + Drop>(sockets: &[Option<Socket<P>>], link: LinkNo) 
         Some(Some(socket)) => socket.is_ready(),
         _ => false,
     }
+}
+
+// Whether the child of the link of this number has still to connect.
+fn is_awaited<P: OpenProcess + Drop>(sockets: &[Option<Socket<P>>], link: LinkNo) -> bool {
+    match sockets.get(link.0 as usize) {
+        Some(Some(socket)) => socket.is_awaited(),
+        _ => false,
+    }
+}
+
+// Makes those of these links ready whose child is awaited and is late, or has failed.
+fn notice_all<R: Clock, P: OpenProcess + Drop>(
+    rt: &R,
+    sockets: &mut [Option<Socket<P>>],
+    links: &[LinkNo],
+) {
+    for link in links {
+        if let Some(Some(socket)) = sockets.get_mut(link.0 as usize) {
+            socket.notice(rt);
+        }
+    }
+}
+
+// Takes in the children that have connected, and tells whether one is awaited still.
+fn take_in_all<R: Clock, P: OpenProcess + Drop>(
+    rt: &R,
+    registry: &Registry,
+    sockets: &mut [Option<Socket<P>>],
+) -> io::Result<bool> {
+    let mut awaits = false;
+    for number in 0..sockets.len() {
+        if let Some(Some(socket)) = sockets.get_mut(number) {
+            socket.take_in(rt, registry)?;
+            awaits = awaits || socket.is_awaited();
+        }
+    }
+    Ok(awaits)
 }
 
 // The place of the first link that is ready.

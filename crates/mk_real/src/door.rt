@@ -1,7 +1,7 @@
 // How a connection comes to be: by a listening socket for one child, or by connecting to a port.
 use mio::event::Source;
 use mio::net::{TcpListener, TcpStream};
-use mio::{Events, Interest, Poll, Token};
+use mio::{Events, Interest, Poll, Registry, Token};
 use std::alloc::Global;
 use std::io;
 use std::io::ErrorKind;
@@ -103,52 +103,77 @@ pub fn connect<R: Net + Clock>(
 #[derive(Drop)]
 pub struct Door {
     listener: TcpListener,
-    watch: Watch,
 }
 
 // The connection that has come, if one has.
 fn take_connection(listener: &TcpListener) -> io::Result<Option<TcpStream>> {
-    match listener.accept() {
-        Ok((stream, _)) => Ok(Some(stream)),
-        Err(e) => match e.kind() {
-            ErrorKind::WouldBlock | ErrorKind::Interrupted | ErrorKind::ConnectionAborted => Ok(
-                None,
-            ),
-            _ => Err(e),
-        },
-    }
-}
-
-// The first that connects, within so long a time.
-fn await_connection<R: Clock>(
-    rt: &R,
-    listener: &TcpListener,
-    watch: &mut Watch,
-    patience: Duration,
-) -> io::Result<TcpStream> {
-    let start = Instant::now(rt)?;
     for _ in 0..u64::MAX {
-        if let Some(stream) = take_connection(listener)? {
-            return Ok(stream);
+        match listener.accept() {
+            Ok((stream, _)) => return Ok(Some(stream)),
+            Err(e) => match e.kind() {
+                ErrorKind::WouldBlock => return Ok(None),
+                ErrorKind::Interrupted | ErrorKind::ConnectionAborted => {}
+                _ => return Err(e),
+            },
         }
-        watch.wait(rt, &start, patience)?;
     }
-    Err(io::Error::from(ErrorKind::TimedOut))
+    Ok(None)
 }
 
 impl Door {
     /// Listens at a port that was free, and gives the port.
-    pub fn open<R: Net>(rt: &R, alloc: Global) -> io::Result<(Door, u16)> {
-        let mut listener = TcpListener::bind(rt, address(0))?;
+    pub fn open<R: Net>(rt: &R) -> io::Result<(Door, u16)> {
+        let listener = TcpListener::bind(rt, address(0))?;
         let port = listener.local_addr()?.port();
-        let watch = Watch::new(rt, alloc, &mut listener, Interest::READABLE)?;
-        Ok((Door { listener, watch }, port))
+        Ok((Door { listener }, port))
     }
 
-    /// The first that connects, within so long a time. The listening socket is closed then.
-    pub fn admit<R: Clock>(mut self, rt: &R, patience: Duration) -> io::Result<TcpStream> {
-        let stream = await_connection(rt, &self.listener, &mut self.watch, patience)?;
+    /// Has the system tell when somebody connects, under this number.
+    pub fn register(&mut self, registry: &Registry, number: usize) -> io::Result<()> {
+        registry.register(&mut self.listener, Token(number), Interest::READABLE)
+    }
+
+    /// The first that has connected, if one has. It waits for nobody.
+    pub fn admit(&self) -> io::Result<Option<TcpStream>> {
+        let Some(stream) = take_connection(&self.listener)? else {
+            return Ok(None);
+        };
         stream.set_nodelay(true)?;
-        Ok(stream)
+        Ok(Some(stream))
+    }
+}
+
+/// A door at which a child is awaited, for so long a time since its start.
+#[derive(Drop)]
+pub struct AwaitedAt {
+    door: Door,
+    start: Instant,
+    patience: Duration,
+}
+
+impl AwaitedAt {
+    /// A child that is started now is awaited at this door.
+    pub fn new<R: Clock>(rt: &R, door: Door, patience: Duration) -> io::Result<AwaitedAt> {
+        let start = Instant::now(rt)?;
+        Ok(AwaitedAt {
+            door,
+            start,
+            patience,
+        })
+    }
+
+    /// Has the system tell when somebody connects, under this number.
+    pub fn register(&mut self, registry: &Registry, number: usize) -> io::Result<()> {
+        self.door.register(registry, number)
+    }
+
+    /// The first that has connected, if one has. It waits for nobody.
+    pub fn admit(&self) -> io::Result<Option<TcpStream>> {
+        self.door.admit()
+    }
+
+    /// Whether its time is over, or can't be told.
+    pub fn is_late<R: Clock>(&self, rt: &R) -> bool {
+        time_left(rt, &self.start, self.patience).is_err()
     }
 }

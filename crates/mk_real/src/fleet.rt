@@ -1,10 +1,11 @@
 // Links to simulators over sockets on this machine.
-ghost use Rattle.std.specs.Prelude.{◌≡◌, ◌≢◌, ◌<◌, [], IfOk, length};
-ghost use Rattle.mk_outside.specs.Fleets.{ReadAs, without};
+ghost use Rattle.std.specs.Prelude.{◌≡◌, ◌≢◌, ◌<◌, ◌≤◌, [], IfOk, length};
+ghost use Rattle.mk_outside.specs.Counts.{HasRisen};
+ghost use Rattle.mk_outside.specs.Fleets.{IsWritten, ReadAs, StartedAs, without};
 
 use crate::desk::{Desk, mark};
-use crate::door::{Door, connect};
-use crate::socket::{Socket, end, spawn};
+use crate::door::{AwaitedAt, Door, connect};
+use crate::socket::{Socket, spawn};
 use crate::ticks::Ticks;
 use mk_base::{LinkNo, List, Text};
 use mk_outside::{Fleet, Listened, Now, Paced, ReadLink, Slept, Start, Started, Waited, WriteLink};
@@ -80,36 +81,33 @@ impl<'a> MioFleet<&'a HostRuntime> {
     }
 }
 
-// Starts a child, and takes in its connection. A child that doesn't connect is ended.
+// Starts a child, which is awaited at the door. It waits for nobody.
 fn start_child<R: Net + Processes + Clock>(
     host: &Host<R>,
     door: Option<Door>,
     words: &List<Text>,
+    number: usize,
 ) -> io::Result<Socket<R::Started>> {
     let Some(door) = door else {
         return Err(io::Error::from(ErrorKind::NotConnected));
     };
+    let awaited = AwaitedAt::new(&host.rt, door, host.patience)?;
     let child = spawn(&host.rt, host.alloc, words.as_slice(), host.output)?;
-    match door.admit(&host.rt, host.patience) {
-        Ok(stream) => Ok(Socket::new(stream, Some(child))),
-        Err(e) => {
-            end(child);
-            Err(e)
-        }
-    }
+    Ok(Socket::of_child(number, awaited, child))
 }
 
-// The socket of a new link.
+// The socket of a new link, which has this number.
 fn begin<R: Net + Processes + Clock>(
     host: &Host<R>,
     door: &mut Option<Door>,
     start: &Start,
+    number: usize,
 ) -> io::Result<Socket<R::Started>> {
     match start {
-        Start::Command(words) => start_child(host, door.take(), words),
+        Start::Command(words) => start_child(host, door.take(), words, number),
         Start::Connect(port) => {
             let stream = connect(&host.rt, host.alloc, *port, host.patience)?;
-            Ok(Socket::new(stream, None))
+            Ok(Socket::of_stream(number, stream))
         }
     }
 }
@@ -122,14 +120,27 @@ fn set_desk<R: Net>(host: &Host<R>, desk: &mut Option<Desk>) -> io::Result<()> {
     Ok(())
 }
 
-// Has the system tell of a new link's changes.
-fn register<P: OpenProcess + Drop>(
-    desk: &Option<Desk>,
-    socket: &mut Socket<P>,
-    number: usize,
+// Waits for the children that were started, before a port is connected to: one of them may listen
+// there.
+fn settle<R: Clock, P: OpenProcess + Drop>(
+    rt: &R,
+    desk: &mut Option<Desk>,
+    sockets: &mut [Option<Socket<P>>],
+    start: &Start,
 ) -> io::Result<()> {
+    let Some(desk) = desk else {
+        return Ok(());
+    };
+    match start {
+        Start::Command(_) => Ok(()),
+        Start::Connect(_) => desk.settle(rt, sockets),
+    }
+}
+
+// Has the system tell of a new link's changes.
+fn register<P: OpenProcess + Drop>(desk: &Option<Desk>, socket: &mut Socket<P>) -> io::Result<()> {
     match desk {
-        Some(desk) => desk.register(socket, number),
+        Some(desk) => desk.register(socket),
         None => Err(io::Error::from(ErrorKind::NotFound)),
     }
 }
@@ -143,8 +154,8 @@ fn open<R: Net + Processes + Clock>(
     number: usize,
 ) -> io::Result<Socket<R::Started>> {
     set_desk(host, desk)?;
-    let mut socket = begin(host, door, start)?;
-    match register(desk, &mut socket, number) {
+    let mut socket = begin(host, door, start, number)?;
+    match register(desk, &mut socket) {
         Ok(()) => Ok(socket),
         Err(e) => {
             socket.give_up();
@@ -154,7 +165,8 @@ fn open<R: Net + Processes + Clock>(
 }
 
 // Reads on the link of this number.
-fn read_on<P: OpenProcess + Drop>(
+fn read_on<R: Clock, P: OpenProcess + Drop>(
+    rt: &R,
     desk: &mut Option<Desk>,
     sockets: &mut [Option<Socket<P>>],
     number: usize,
@@ -167,13 +179,34 @@ fn read_on<P: OpenProcess + Drop>(
         return ReadLink::Failed;
     };
     match sockets.get_mut(number) {
-        Some(Some(socket)) => desk.read(socket, into),
+        Some(Some(socket)) => desk.read(rt, socket, into),
         _ => ReadLink::Failed,
     }
 }
 
+// Writes on the link of this number.
+fn write_on<R: Clock, P: OpenProcess + Drop>(
+    rt: &R,
+    desk: &Option<Desk>,
+    sockets: &mut [Option<Socket<P>>],
+    number: usize,
+    bytes: &[u8],
+) -> WriteLink
+    requires { bytes.now ≢ [] }
+    ensures { IsWritten result bytes.now }
+{
+    let Some(desk) = desk else {
+        return WriteLink::Failed;
+    };
+    match sockets.get_mut(number) {
+        Some(Some(socket)) => desk.write(rt, socket, bytes),
+        _ => WriteLink::Failed,
+    }
+}
+
 // Waits until one of these links is ready, and gives its place.
-fn find_ready<P: OpenProcess + Drop>(
+fn find_ready<R: Clock, P: OpenProcess + Drop>(
+    rt: &R,
     desk: &mut Option<Desk>,
     sockets: &mut [Option<Socket<P>>],
     links: &[LinkNo],
@@ -181,38 +214,29 @@ fn find_ready<P: OpenProcess + Drop>(
     ensures { IfOk result (λ place. place < length links.now) }
 {
     match desk {
-        Some(desk) => desk.find_ready(sockets, links),
+        Some(desk) => desk.find_ready(rt, sockets, links),
         None => Err(io::Error::from(ErrorKind::NotFound)),
     }
 }
 
-impl<R: Net + Processes + Clock> Fleet for MioFleet<R> {
-    ghost use Rattle.std.specs.Prelude.{None};
-
-    ghost faults = { λ f. f.faults };
-
-    ghost started = { λ f. length f.sockets.items };
-
-    ghost open_links = { λ f. f.links.items };
-
-    ghost log = { λ _. None };
-
-    fn listen(&mut self) -> Listened {
-        self.door = None;
-        match Door::open(&self.host.rt, self.host.alloc) {
-            Ok((door, port)) => {
-                self.door = Some(door);
-                Listened::At(port)
-            }
-            Err(e) if e.kind() == ErrorKind::OutOfMemory => Listened::Mem,
-            Err(_) => {
-                self.faults = self.faults.saturating_add(1);
-                Listened::Failed
-            }
-        }
+impl<R: Net + Processes + Clock> MioFleet<R> {
+    // Waits for the children that this start needs; false where one of them is late, or has failed.
+    fn settle(&mut self, start: &Start) -> bool
+        ensures same_faults { self.new.faults ≡ self.old.faults }
+        ensures same_count { length self.new.sockets.items ≡ length self.old.sockets.items }
+        ensures same_links { self.new.links.items ≡ self.old.links.items }
+    {
+        let sockets = self.sockets.as_mut_slice();
+        settle(&self.host.rt, &mut self.desk, sockets, start).is_ok()
     }
 
-    fn start(&mut self, start: &Start) -> Started {
+    // Starts a link.
+    fn begin_link(&mut self, start: &Start) -> Started
+        ensures count { self.old.faults ≤ self.new.faults }
+        ensures cause { result ≡ Started.Failed → HasRisen self.old.faults self.new.faults }
+        ensures starts { StartedAs result (length self.old.sockets.items)
+            (length self.new.sockets.items) self.old.links.items self.new.links.items }
+    {
         let number = self.sockets.len();
         if number >= u32::MAX as usize {
             return Started::Mem;
@@ -234,10 +258,46 @@ impl<R: Net + Processes + Clock> Fleet for MioFleet<R> {
             }
         }
     }
+}
+
+impl<R: Net + Processes + Clock> Fleet for MioFleet<R> {
+    ghost use Rattle.std.specs.Prelude.{None};
+
+    ghost faults = { λ f. f.faults };
+
+    ghost started = { λ f. length f.sockets.items };
+
+    ghost open_links = { λ f. f.links.items };
+
+    ghost log = { λ _. None };
+
+    fn listen(&mut self) -> Listened {
+        self.door = None;
+        match Door::open(&self.host.rt) {
+            Ok((door, port)) => {
+                self.door = Some(door);
+                Listened::At(port)
+            }
+            Err(e) if e.kind() == ErrorKind::OutOfMemory => Listened::Mem,
+            Err(_) => {
+                self.faults = self.faults.saturating_add(1);
+                Listened::Failed
+            }
+        }
+    }
+
+    fn start(&mut self, start: &Start) -> Started {
+        if !self.settle(start) {
+            self.faults = self.faults.saturating_add(1);
+            return Started::Failed;
+        }
+        self.begin_link(start)
+    }
 
     fn read(&mut self, link: LinkNo, into: &mut [u8]) -> ReadLink {
         let number = link.0 as usize;
-        let answer = read_on(&mut self.desk, self.sockets.as_mut_slice(), number, into);
+        let sockets = self.sockets.as_mut_slice();
+        let answer = read_on(&self.host.rt, &mut self.desk, sockets, number, into);
         if let ReadLink::Failed = answer {
             self.faults = self.faults.saturating_add(1);
         }
@@ -245,10 +305,9 @@ impl<R: Net + Processes + Clock> Fleet for MioFleet<R> {
     }
 
     fn write(&mut self, link: LinkNo, bytes: &[u8]) -> WriteLink {
-        let answer = match self.sockets.get_mut(link.0 as usize) {
-            Some(Some(socket)) => socket.write(bytes),
-            _ => WriteLink::Failed,
-        };
+        let number = link.0 as usize;
+        let sockets = self.sockets.as_mut_slice();
+        let answer = write_on(&self.host.rt, &self.desk, sockets, number, bytes);
         if let WriteLink::Failed = answer {
             self.faults = self.faults.saturating_add(1);
         }
@@ -256,8 +315,8 @@ impl<R: Net + Processes + Clock> Fleet for MioFleet<R> {
     }
 
     fn wait(&mut self, links: &[LinkNo], ready: &mut [bool]) -> Waited {
-        let found = find_ready(&mut self.desk, self.sockets.as_mut_slice(), links);
-        match found {
+        let sockets = self.sockets.as_mut_slice();
+        match find_ready(&self.host.rt, &mut self.desk, sockets, links) {
             Ok(first) => {
                 mark(self.sockets.as_slice(), links, ready, first);
                 Waited::Marked

@@ -1,6 +1,7 @@
-// The socket of a link, and the child program at its other side.
-ghost use Rattle.std.specs.Prelude.{◌≡◌, ◌≤◌, ◌<◌, ℕ, length};
+// The socket of a link, and the child program at its other side, awaited until it has connected.
+ghost use Rattle.std.specs.Prelude.{◌≡◌, ◌≢◌, ◌≤◌, ◌<◌, ℕ, length};
 
+use crate::door::AwaitedAt;
 use mio::event::Event;
 use mio::net::TcpStream;
 use mio::{Interest, Registry, Token};
@@ -10,24 +11,106 @@ use std::alloc::Global;
 use std::io;
 use std::io::{ErrorKind, Read, Stderr, Write};
 use std::process::{Child, Command, OpenProcess, Processes, Stdio};
+use std::time::Clock;
+
+// What a link has at this side: a door at which its child is awaited, or the stream.
+#[derive(Drop)]
+enum Side {
+    Awaited(AwaitedAt),
+    Stream(TcpStream),
+}
 
 /// A link's socket. The system tells of a change once, so what it told is kept until a call has found that it is over.
 #[derive(Drop)]
 pub struct Socket<P: OpenProcess> {
-    stream: TcpStream,
+    // The link's number, under which the system tells of changes.
+    number: usize,
+    side: Side,
     child: Option<Child<P>>,
-    // A read has found nothing, and no change was told since.
+    // A read has found nothing, or nobody has connected, and no change was told since.
     silent: bool,
-    // A write has found no room, and no change was told since.
+    // A write has found no room, or nobody to write to, and no change was told since.
     full: bool,
     // There is room again, and nothing was written since.
     freed: bool,
 }
 
+// Has the system tell of a stream's changes, under this number.
+fn register(registry: &Registry, stream: &mut TcpStream, number: usize) -> io::Result<()> {
+    let both = Interest::READABLE | Interest::WRITABLE;
+    registry.register(stream, Token(number), both)
+}
+
+// The stream of a child that is awaited, if it has connected. The system tells of its changes
+// under this number.
+fn admit_at(
+    awaited: &AwaitedAt,
+    registry: &Registry,
+    number: usize,
+) -> io::Result<Option<TcpStream>> {
+    let Some(mut stream) = awaited.admit()? else {
+        return Ok(None);
+    };
+    register(registry, &mut stream, number)?;
+    Ok(Some(stream))
+}
+
+// Reads what is there, and tells whether that was nothing. Whoever has broken the connection off
+// has closed it.
+fn hear(stream: &mut TcpStream, silent: &mut bool, into: &mut [u8]) -> ReadLink
+    requires { 0 < length into.old }
+    ensures { (n : ℕ) → result ≡ ReadLink.Got n → (0 < n) × (n ≤ length into.new) }
+{
+    match stream.read(into) {
+        Ok(0) => ReadLink::Closed,
+        Ok(n) => ReadLink::Got(n),
+        Err(e) => match e.kind() {
+            ErrorKind::WouldBlock => {
+                *silent = true;
+                ReadLink::NotYet
+            }
+            ErrorKind::Interrupted => ReadLink::NotYet,
+            ErrorKind::ConnectionReset | ErrorKind::BrokenPipe => ReadLink::Closed,
+            _ => ReadLink::Failed,
+        },
+    }
+}
+
+// What came of a write where the system gave this error. Where the connection was broken off
+// nothing is taken, and the next read tells so.
+fn refused(kind: ErrorKind, full: &mut bool, freed: &mut bool) -> WriteLink
+    ensures { (n : ℕ) → result ≢ WriteLink.Put n }
+{
+    match kind {
+        ErrorKind::WouldBlock => {
+            *full = true;
+            WriteLink::NotYet
+        }
+        ErrorKind::Interrupted | ErrorKind::ConnectionReset | ErrorKind::BrokenPipe => {
+            *freed = true;
+            WriteLink::NotYet
+        }
+        _ => WriteLink::Failed,
+    }
+}
+
+// Whether a child has ended by a failure. One that has ended well may have started a program that
+// connects in its place.
+fn has_failed<P: OpenProcess + Drop>(child: &mut Option<Child<P>>) -> bool {
+    let Some(child) = child else {
+        return false;
+    };
+    match child.try_wait() {
+        Ok(Some(status)) => !status.success(),
+        Ok(None) | Err(_) => false,
+    }
+}
+
 impl<P: OpenProcess + Drop> Socket<P> {
-    pub fn new(stream: TcpStream, child: Option<Child<P>>) -> Socket<P> {
+    fn new(number: usize, side: Side, child: Option<Child<P>>) -> Socket<P> {
         Socket {
-            stream,
+            number,
+            side,
             child,
             silent: false,
             full: false,
@@ -35,10 +118,22 @@ impl<P: OpenProcess + Drop> Socket<P> {
         }
     }
 
-    /// Has the system tell of changes, under this number.
-    pub fn register(&mut self, registry: &Registry, number: usize) -> io::Result<()> {
-        let both = Interest::READABLE | Interest::WRITABLE;
-        registry.register(&mut self.stream, Token(number), both)
+    /// The socket of the link of this number, over a stream.
+    pub fn of_stream(number: usize, stream: TcpStream) -> Socket<P> {
+        Socket::new(number, Side::Stream(stream), None)
+    }
+
+    /// The socket of the link of this number, to a child that is awaited.
+    pub fn of_child(number: usize, awaited: AwaitedAt, child: Child<P>) -> Socket<P> {
+        Socket::new(number, Side::Awaited(awaited), Some(child))
+    }
+
+    /// Has the system tell of changes.
+    pub fn register(&mut self, registry: &Registry) -> io::Result<()> {
+        match &mut self.side {
+            Side::Awaited(awaited) => awaited.register(registry, self.number),
+            Side::Stream(stream) => register(registry, stream, self.number),
+        }
     }
 
     /// Takes in a change that the system told.
@@ -57,68 +152,140 @@ impl<P: OpenProcess + Drop> Socket<P> {
         !self.silent || self.freed
     }
 
+    /// Whether its child has still to connect.
+    pub fn is_awaited(&self) -> bool {
+        match &self.side {
+            Side::Awaited(_) => true,
+            Side::Stream(_) => false,
+        }
+    }
+
+    // Whether a child is awaited that is late, or has failed.
+    fn is_over<R: Clock>(&mut self, rt: &R) -> bool {
+        match &self.side {
+            Side::Awaited(awaited) => awaited.is_late(rt) || has_failed(&mut self.child),
+            Side::Stream(_) => false,
+        }
+    }
+
+    /// Makes the link ready where the child that is awaited is late, or has failed: the next read
+    /// tells so.
+    pub fn notice<R: Clock>(&mut self, rt: &R) {
+        if self.is_over(rt) {
+            self.silent = false;
+        }
+    }
+
+    // Puts the stream of a child that has connected in the door's place. Where a write has found
+    // nobody, there is room now.
+    fn open(&mut self, stream: TcpStream) {
+        self.side = Side::Stream(stream);
+        self.freed = self.full;
+        self.full = false;
+    }
+
+    // The stream of a child that is awaited, if it has connected.
+    fn arrival(&self, registry: &Registry) -> io::Result<Option<TcpStream>> {
+        match &self.side {
+            Side::Awaited(awaited) => admit_at(awaited, registry, self.number),
+            Side::Stream(_) => Ok(None),
+        }
+    }
+
+    // Takes in a child that is awaited, if it has connected; else the link isn't ready. It is an
+    // error where the child is late, or has failed.
+    fn admit<R: Clock>(&mut self, rt: &R, registry: &Registry) -> io::Result<()> {
+        // what connected before it was over is taken in
+        let over = self.is_over(rt);
+        match self.arrival(registry)? {
+            Some(stream) => self.open(stream),
+            None if over => return Err(io::Error::from(ErrorKind::TimedOut)),
+            None => self.silent = true,
+        }
+        Ok(())
+    }
+
+    /// Takes in the child where one is awaited and has connected.
+    pub fn take_in<R: Clock>(&mut self, rt: &R, registry: &Registry) -> io::Result<()> {
+        if self.is_awaited() {
+            self.admit(rt, registry)?;
+        }
+        Ok(())
+    }
+
     /// Reads what is there. Whoever has broken the connection off has closed it.
-    pub fn read(&mut self, into: &mut [u8]) -> ReadLink
+    pub fn read<R: Clock>(&mut self, rt: &R, registry: &Registry, into: &mut [u8]) -> ReadLink
         requires { 0 < length into.old }
         ensures { (n : ℕ) → result ≡ ReadLink.Got n → (0 < n) × (n ≤ length into.new) }
     {
-        match self.stream.read(into) {
-            Ok(0) => ReadLink::Closed,
-            Ok(n) => ReadLink::Got(n),
-            Err(e) => match e.kind() {
-                ErrorKind::WouldBlock => {
-                    self.silent = true;
-                    ReadLink::NotYet
-                }
-                ErrorKind::Interrupted => ReadLink::NotYet,
-                ErrorKind::ConnectionReset | ErrorKind::BrokenPipe => ReadLink::Closed,
-                _ => ReadLink::Failed,
-            },
+        if self.take_in(rt, registry).is_err() {
+            return ReadLink::Failed;
+        }
+        match &mut self.side {
+            Side::Awaited(_) => ReadLink::NotYet,
+            Side::Stream(stream) => hear(stream, &mut self.silent, into),
         }
     }
 
-    /// Writes as much as there is room for. Where the connection was broken off it takes nothing, and the next read
-    /// tells so.
-    pub fn write(&mut self, bytes: &[u8]) -> WriteLink
+    /// Writes as much as there is room for.
+    pub fn write<R: Clock>(&mut self, rt: &R, registry: &Registry, bytes: &[u8]) -> WriteLink
         requires { 0 < length bytes.now }
         ensures { (n : ℕ) → result ≡ WriteLink.Put n → (0 < n) × (n ≤ length bytes.now) }
     {
+        if self.take_in(rt, registry).is_err() {
+            return WriteLink::Failed;
+        }
         self.full = false;
         self.freed = false;
-        match self.stream.write(bytes) {
-            Ok(0) => WriteLink::Failed,
-            Ok(n) => WriteLink::Put(n),
-            Err(e) => match e.kind() {
-                ErrorKind::WouldBlock => {
-                    self.full = true;
-                    WriteLink::NotYet
-                }
-                ErrorKind::Interrupted | ErrorKind::ConnectionReset | ErrorKind::BrokenPipe => {
-                    self.freed = true;
-                    WriteLink::NotYet
-                }
-                _ => WriteLink::Failed,
+        match &mut self.side {
+            Side::Awaited(_) => {
+                self.full = true;
+                WriteLink::NotYet
+            }
+            Side::Stream(stream) => match stream.write(bytes) {
+                Ok(0) => WriteLink::Failed,
+                Ok(n) => WriteLink::Put(n),
+                Err(e) => refused(e.kind(), &mut self.full, &mut self.freed),
             },
         }
     }
 
-    /// Closes the connection, and waits until the child has ended.
+    // Whether a child is awaited that has not connected. The connection of one that has is closed.
+    fn is_absent(&self) -> bool {
+        match &self.side {
+            Side::Awaited(awaited) => !matches!(awaited.admit(), Ok(Some(_))),
+            Side::Stream(_) => false,
+        }
+    }
+
+    /// Closes the connection, and waits until the child has ended. One that has not connected is
+    /// ended.
     pub fn close(self) -> io::Result<()> {
-        let Socket { stream, child, .. } = self;
-        drop(stream);
+        if self.is_absent() {
+            self.give_up();
+            return Ok(());
+        }
+        self.leave()
+    }
+
+    // Closes the connection, and waits until the child has ended.
+    fn leave(self) -> io::Result<()> {
+        let Socket { side, child, .. } = self;
+        drop(side);
         match child {
             Some(mut child) => await_end(&mut child),
             None => Ok(()),
         }
     }
 
-    /// Closes the connection, and ends the child.
+    /// Ends the child, and then closes the connection or the door: so one that has not connected
+    /// never finds the door closed.
     pub fn give_up(self) {
-        let Socket { stream, child, .. } = self;
-        drop(stream);
+        let Socket { side, child, .. } = self;
         if let Some(child) = child {
             end(child);
         }
+        drop(side);
     }
 }
 
@@ -128,8 +295,8 @@ fn await_end<P: OpenProcess + Drop>(child: &mut Child<P>) -> io::Result<()> {
     Ok(())
 }
 
-/// Ends a child, and waits until it has ended.
-pub fn end<P: OpenProcess + Drop>(mut child: Child<P>) {
+// Ends a child, and waits until it has ended.
+fn end<P: OpenProcess + Drop>(mut child: Child<P>) {
     if child.kill().is_ok() {
         let _ = child.wait();
     }
