@@ -20,8 +20,27 @@ fn parts(request: &Request) -> (&str, &str, &str, i64) {
             record.as_str(),
             name_in(save).len() as i64,
         ),
+        Request::Paced {
+            scenario,
+            factor,
+            strict,
+            record,
+        } => (
+            "paced",
+            scenario.as_str(),
+            name_in(record),
+            pace_number(*factor, *strict),
+        ),
         Request::Demo { size } => ("demo", "", "", i64::from(*size)),
         Request::Files(command) => file_parts(command),
+    }
+}
+
+// A pace as one number: the factor, in billions where it is strict, and then by how much a Step may be late.
+fn pace_number(factor: u32, strict: Option<u32>) -> i64 {
+    match strict {
+        Some(ms) => i64::from(factor) * 1_000_000_000 + i64::from(ms),
+        None => i64::from(factor),
     }
 }
 
@@ -67,7 +86,7 @@ fn is_asked(alloc: Global, line: &str, want: (&str, &str, &str, i64)) -> Result<
     }
 }
 
-const LINES: [(&str, (&str, &str, &str, i64)); 20] = [
+const LINES: [(&str, (&str, &str, &str, i64)); 25] = [
     ("run a", ("run", "a", "", -1)),
     ("run --record=r a", ("run", "a", "r", -1)),
     ("run --record r a", ("run", "a", "r", -1)),
@@ -90,6 +109,17 @@ const LINES: [(&str, (&str, &str, &str, i64)); 20] = [
     ("resume --record r a b", ("resume", "a", "b", 1)),
     ("resume --record=rr a b", ("resume", "a", "b", 2)),
     ("resume a --record=r b", ("resume", "a", "b", 1)),
+    ("paced a 1000", ("paced", "a", "", 1000)),
+    ("paced a 0000000001 --record r", ("paced", "a", "r", 1)),
+    (
+        "paced --strict 0 a --record=r 1",
+        ("paced", "a", "r", 1_000_000_000),
+    ),
+    (
+        "paced --record r a --strict=86400000 86400000",
+        ("paced", "a", "r", 86_400_000_086_400_000),
+    ),
+    ("paced a 5 --strict 7", ("paced", "a", "", 5_000_000_007)),
     ("demo 0000000100", ("demo", "", "", 100)),
 ];
 
@@ -97,6 +127,36 @@ const LINES: [(&str, (&str, &str, &str, i64)); 20] = [
 fn words_are_one_request(rt: HostRuntime) -> Result<(), Fail> {
     for (line, want) in &LINES {
         assert!(rt; is_asked(rt.alloc(), line, *want)?, "{line}");
+    }
+    Ok(())
+}
+
+const NONE: [&str; 12] = [
+    "paced a",
+    "paced a 0",
+    "paced a 86400001",
+    "paced a 00000000001",
+    "paced a b",
+    "paced a 5 6",
+    "paced a 5 --strict",
+    "paced a 5 --strict 86400001",
+    "paced a 5 --strict 1 --strict=1",
+    "paced a 5 --strict --record r",
+    "paced a 5 --order 1",
+    "resume a b --strict 1",
+];
+
+#[test]
+fn words_are_no_request(rt: HostRuntime) -> Result<(), Fail> {
+    for line in &NONE {
+        let mut words = Vec::new(rt.alloc());
+        for word in line.split(' ') {
+            words.push(word.to_string(rt.alloc())?)?;
+        }
+        assert!(rt;
+            read_words(rt.alloc(), words.as_slice())?.is_none(),
+            "{line}"
+        );
     }
     Ok(())
 }

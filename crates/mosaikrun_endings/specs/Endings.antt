@@ -2,7 +2,7 @@
 use Rattle.std.specs.Prelude.{ℕ, ◌||◌, List, ◌∷◌, ◌++◌, map, flat_map, ◌==◌, if◌then◌else◌, codes, Result, Ok, Err}
 use Rattle.std.specs.Fmt.{decimal, signed_decimal}
 use Rattle.mosaikrun_endings.specs.declared.ending.Ending.{Ending}
-use Rattle.mosaikrun_endings.specs.declared.ending.Ending.TheVariants.{Usage, Missing, TooLong, Scenario, Watches, Cycle, Launch, Setup, Record, Wrong, Failed, LoopLimit, Link, Short, Differs, OtherPlan, OtherMessage, Fleet, Folder, Output, Entries, LongItem, Mem}
+use Rattle.mosaikrun_endings.specs.declared.ending.Ending.TheVariants.{Usage, Missing, TooLong, Scenario, Watches, Cycle, Launch, Setup, Record, Wrong, Failed, LoopLimit, Link, Short, Differs, OtherPlan, OtherMessage, Late, Fleet, Folder, Output, Entries, LongItem, Mem}
 use Rattle.mosaikrun_endings.specs.Launches.{text_of_launch}
 use Rattle.mosaikrun_endings.specs.Links.{text_of_link}
 use Rattle.mosaikrun_endings.specs.Scenarios.{text_of_scenario}
@@ -12,7 +12,7 @@ use Rattle.mosaikrun_endings.specs.Watches.{text_of_watches}
 -- what is said of it
 abbrev pub text_of : Ending → List ℕ
 text_of Usage = codes
-    "usage: run SCENARIO [--record FILE] or replay RECORD [--order N] or check SCENARIO or demo N or migrate OLD NEW or resume SCENARIO RECORD [--record FILE] or watch RECORD SPEC or blame FIRST SECOND"
+    "usage: run SCENARIO [--record FILE] or replay RECORD [--order N] or check SCENARIO or demo N or migrate OLD NEW or resume SCENARIO RECORD [--record FILE] or watch RECORD SPEC or blame FIRST SECOND or paced SCENARIO FACTOR [--strict MS] [--record FILE]"
 text_of (Missing name) = name ++ codes ": no such file"
 text_of (TooLong name count) = name ++ codes ": " ++ decimal count
     ++ codes " bytes, limit 536870912"
@@ -35,6 +35,9 @@ text_of (Differs entry) = codes "run 9: record entry " ++ decimal entry ++ codes
 text_of (OtherPlan part) = codes "run 10: record of another plan (" ++ decimal part ++ codes ")"
 text_of (OtherMessage sim place) = codes "run 11: " ++ sim ++ codes " message " ++ decimal place
     ++ codes " differs"
+text_of (Late sim time late allowed) = codes "run 12: " ++ sim ++ codes " step at "
+    ++ signed_decimal time ++ codes " late by " ++ decimal late ++ codes " ms, allowed "
+    ++ decimal allowed
 text_of Fleet = codes "outside: fleet"
 text_of Folder = codes "outside: folder"
 text_of Output = codes "outside: output"
@@ -70,6 +73,7 @@ status_of (Short outstanding) = 5
 status_of (Differs entry) = 5
 status_of (OtherPlan part) = 5
 status_of (OtherMessage sim place) = 5
+status_of (Late sim time late allowed) = 5
 status_of Fleet = 6
 status_of Folder = 6
 status_of Output = 6

@@ -36,7 +36,7 @@ impl Ending {
         match self {
             Ending::Usage => put(
                 out,
-                "usage: run SCENARIO [--record FILE] or replay RECORD [--order N] or check SCENARIO or demo N or migrate OLD NEW or resume SCENARIO RECORD [--record FILE] or watch RECORD SPEC or blame FIRST SECOND",
+                "usage: run SCENARIO [--record FILE] or replay RECORD [--order N] or check SCENARIO or demo N or migrate OLD NEW or resume SCENARIO RECORD [--record FILE] or watch RECORD SPEC or blame FIRST SECOND or paced SCENARIO FACTOR [--strict MS] [--record FILE]",
             ),
             Ending::Missing { name } => put_missing(out, name),
             Ending::TooLong { name, count } => put_too_long(alloc, out, name, *count),
@@ -68,6 +68,12 @@ impl Ending {
                 ")",
             ),
             Ending::OtherMessage { sim, place } => put_other_message(alloc, out, sim, *place),
+            Ending::Late {
+                sim,
+                time,
+                late,
+                allowed,
+            } => put_late(alloc, out, sim, *time, *late, *allowed),
             Ending::Fleet => put(out, "outside: fleet"),
             Ending::Folder => put(out, "outside: folder"),
             Ending::Output => put(out, "outside: output"),
@@ -219,6 +225,30 @@ fn put_other_message(
     put(out, " message ")?;
     put_number(alloc, out, place)?;
     put(out, " differs")
+}
+
+// Puts into an empty text what is said of a step that is too late.
+fn put_late(
+    alloc: Global,
+    out: &mut Vec<u8>,
+    sim: &Text,
+    time: i64,
+    late: u64,
+    allowed: u64,
+) -> Result<(), AllocError>
+    requires { out.old.items ≡ [] }
+    ensures { OnOk result (out.new.items ≡ codes "run 12: " ++ sim.now ++ codes " step at "
+        ++ signed_decimal time ++ codes " late by " ++ decimal late ++ codes " ms, allowed "
+        ++ decimal allowed) }
+{
+    put(out, "run 12: ")?;
+    put(out, sim.as_str())?;
+    put(out, " step at ")?;
+    put(out, time.to_string(alloc)?.as_str())?;
+    put(out, " late by ")?;
+    put_number(alloc, out, late)?;
+    put(out, " ms, allowed ")?;
+    put_number(alloc, out, allowed)
 }
 
 // Puts into an empty text these words, and a text behind them.

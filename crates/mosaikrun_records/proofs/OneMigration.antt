@@ -12,7 +12,7 @@ use Rattle.mk_record.specs.ReplayEnd.TheVariants as ends
 use Rattle.mosaikrun_records.specs.Reports.{IsSaidOf}
 use Rattle.mosaikrun_records.proofs.OneOutcome.{same_plan, same_arrivals, same_end}
 use Rattle.mosaikrun_endings.specs.declared.ending.Ending.{Ending}
-use Rattle.mosaikrun_endings.specs.declared.ending.Ending.TheVariants.{Usage, Missing, TooLong, Scenario, Watches, Cycle, Launch, Setup, Record, Wrong, Failed, LoopLimit, Link, Short, Differs, OtherPlan, OtherMessage, Fleet, Folder, Output, Entries, LongItem, Mem}
+use Rattle.mosaikrun_endings.specs.declared.ending.Ending.TheVariants.{Usage, Missing, TooLong, Scenario, Watches, Cycle, Launch, Setup, Record, Wrong, Failed, LoopLimit, Link, Short, Differs, OtherPlan, OtherMessage, Late, Fleet, Folder, Output, Entries, LongItem, Mem}
 use Rattle.mosaikrun_records.specs.Migrations.{IsKept, IsLost, IsRecordOf, IsNoRecordOf, IsMigration, Unmigrated}
 
 -- of an end one thing is said
@@ -84,6 +84,7 @@ cause_of bytes (Short outstanding) h = absurd h
 cause_of bytes (Differs entry) h = inr (stopped (Differs entry) h)
 cause_of bytes (OtherPlan part) h = absurd h
 cause_of bytes (OtherMessage sim place) h = absurd h
+cause_of bytes (Late sim time late allowed) h = absurd h
 cause_of bytes Folder h = absurd h
 cause_of bytes (Setup setup) h = absurd h
 cause_of bytes (Link sim fault) h = absurd h

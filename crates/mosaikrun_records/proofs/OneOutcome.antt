@@ -13,7 +13,7 @@ use Rattle.mk_record.specs.ReplayEnd.{ReplayEnd}
 use Rattle.mk_record.specs.ReplayEnd.TheVariants as ends
 use Rattle.mk_record_replay.proofs.OneOrder.{one_replay_by}
 use Rattle.mosaikrun_endings.specs.declared.ending.Ending.{Ending}
-use Rattle.mosaikrun_endings.specs.declared.ending.Ending.TheVariants.{Usage, Missing, TooLong, Scenario, Watches, Cycle, Launch, Setup, Record, Wrong, Failed, LoopLimit, Link, Short, Differs, OtherPlan, OtherMessage, Fleet, Folder, Output, Entries, LongItem, Mem}
+use Rattle.mosaikrun_endings.specs.declared.ending.Ending.TheVariants.{Usage, Missing, TooLong, Scenario, Watches, Cycle, Launch, Setup, Record, Wrong, Failed, LoopLimit, Link, Short, Differs, OtherPlan, OtherMessage, Late, Fleet, Folder, Output, Entries, LongItem, Mem}
 use Rattle.mosaikrun_records.specs.Reports.{IsDoneBy, IsReportOf, IsStopped, IsSaidOf, IsOutcome, Unreported}
 
 -- the record of bytes that are read as two is one
@@ -94,6 +94,7 @@ cause_of bytes order (Short outstanding) h = inr (stopped (Short outstanding) h)
 cause_of bytes order (Differs entry) h = inr (stopped (Differs entry) h)
 cause_of bytes order (OtherPlan part) h = absurd h
 cause_of bytes order (OtherMessage sim place) h = absurd h
+cause_of bytes order (Late sim time late allowed) h = absurd h
 cause_of bytes order Folder h = absurd h
 cause_of bytes order (Setup setup) h = absurd h
 cause_of bytes order (Link sim fault) h = absurd h

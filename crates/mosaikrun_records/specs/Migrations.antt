@@ -14,7 +14,7 @@ use Rattle.mk_record.specs.ReplayEnd.{ReplayEnd}
 use Rattle.mk_record.specs.ReplayEnd.TheVariants as ends
 use Rattle.mosaikrun_records.specs.Reports.{IsSaidOf}
 use Rattle.mosaikrun_endings.specs.declared.ending.Ending.{Ending}
-use Rattle.mosaikrun_endings.specs.declared.ending.Ending.TheVariants.{Usage, Missing, TooLong, Scenario, Watches, Cycle, Launch, Setup, Record, Wrong, Failed, LoopLimit, Link, Short, Differs, OtherPlan, OtherMessage, Fleet, Folder, Output, Entries, LongItem, Mem}
+use Rattle.mosaikrun_endings.specs.declared.ending.Ending.TheVariants.{Usage, Missing, TooLong, Scenario, Watches, Cycle, Launch, Setup, Record, Wrong, Failed, LoopLimit, Link, Short, Differs, OtherPlan, OtherMessage, Late, Fleet, Folder, Output, Entries, LongItem, Mem}
 
 -- no entry of the record differs, and all its messages are in the journal, whatever the end is
 abbrev pub IsKept : List Arrival → List Entry → ReplayEnd → Type 0
@@ -77,6 +77,7 @@ Unmigrated bytes (Short outstanding) = ⊥
 Unmigrated bytes (Differs entry) = IsNoRecordOf bytes (Differs entry)
 Unmigrated bytes (OtherPlan part) = ⊥
 Unmigrated bytes (OtherMessage sim place) = ⊥
+Unmigrated bytes (Late sim time late allowed) = ⊥
 Unmigrated bytes Folder = ⊥
 Unmigrated bytes (Setup setup) = ⊥
 Unmigrated bytes (Link sim fault) = ⊥

@@ -15,7 +15,7 @@ use Rattle.mk_record.specs.ReplayEnd.{ReplayEnd}
 use Rattle.mk_record.specs.ReplayEnd.TheVariants as ends
 use Rattle.mosaikrun_sayings.specs.Stops.{stop_of}
 use Rattle.mosaikrun_endings.specs.declared.ending.Ending.{Ending}
-use Rattle.mosaikrun_endings.specs.declared.ending.Ending.TheVariants.{Usage, Missing, TooLong, Scenario, Watches, Cycle, Launch, Setup, Record, Wrong, Failed, LoopLimit, Link, Short, Differs, OtherPlan, OtherMessage, Fleet, Folder, Output, Entries, LongItem, Mem}
+use Rattle.mosaikrun_endings.specs.declared.ending.Ending.TheVariants.{Usage, Missing, TooLong, Scenario, Watches, Cycle, Launch, Setup, Record, Wrong, Failed, LoopLimit, Link, Short, Differs, OtherPlan, OtherMessage, Late, Fleet, Folder, Output, Entries, LongItem, Mem}
 
 -- the replay in this order comes to a journal in which all is done; one of the messages as they
 -- came, which begins with the steps and messages of a record of version 2, or one of them in the
@@ -77,6 +77,7 @@ Unreported bytes order (Short outstanding) = IsStopped bytes order (Short outsta
 Unreported bytes order (Differs entry) = IsStopped bytes order (Differs entry)
 Unreported bytes order (OtherPlan part) = ⊥
 Unreported bytes order (OtherMessage sim place) = ⊥
+Unreported bytes order (Late sim time late allowed) = ⊥
 Unreported bytes order Folder = ⊥
 Unreported bytes order (Setup setup) = ⊥
 Unreported bytes order (Link sim fault) = ⊥

@@ -78,11 +78,11 @@ halt_not ids (halt.LongItem sim n) settled = settled
 halt_not ids halt.Mem settled = settled
 
 module _ (O : Outside) (form : Form) (S : Scenario) (text : Result (List ℕ) Ending) (kept : Option (List ℕ)) where
-  unready_not : IsUnready O S text kept → IsSettled text ⊎ IsStepSaid O.started S O.log → ⊥
+  pub unready_not : IsUnready O S text kept → IsSettled text ⊎ IsStepSaid O.started S O.log → ⊥
   unready_not u (inl settled) = unrunnable_not (map name_of O.kinds) S u.ending u.cause (subst (λ (t : Result (List ℕ) Ending). IsSettled t) u.is settled)
   unready_not u (inr said) = nothing_said O.started S O.log u.idle.quiet said
 
-  unrun_not : IsUnrun O S text kept → (text ≡ Err ends.Mem → ⊥) → IsSettled text ⊎ IsStepSaid O.started S O.log → ⊥
+  pub unrun_not : IsUnrun O S text kept → (text ≡ Err ends.Mem → ⊥) → IsSettled text ⊎ IsStepSaid O.started S O.log → ⊥
   unrun_not u not (inl settled) = elim u.said [ inl same ↦ halt_not (ids_of S) u.halt (subst (λ (t : Result (List ℕ) Ending). IsSettled t) same settled) | inr mem ↦ not mem ]
   unrun_not u not (inr said) = halted_said O.started S u.ranks O.kinds O.log (HasRisen O.faults O.new_faults) u.halt u.halted said
 

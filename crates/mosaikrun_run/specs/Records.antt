@@ -61,6 +61,7 @@ IsRunFault (ends.Short outstanding) = ⊥
 IsRunFault (ends.Differs entry) = ⊥
 IsRunFault (ends.OtherPlan part) = ⊥
 IsRunFault (ends.OtherMessage sim place) = ⊥
+IsRunFault (ends.Late sim time late allowed) = ⊥
 IsRunFault ends.Fleet = ⊥
 IsRunFault ends.Folder = ⊥
 IsRunFault ends.Output = ⊥

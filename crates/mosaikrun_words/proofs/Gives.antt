@@ -4,12 +4,11 @@ use Rattle.clap.proofs.OnLiterals.{clap_on_literals}
 use Rattle.clap.proofs.WalkLemmas.{first_value-rows}
 use Rattle.clap.specs.Words.{App, HasMatchesOf, first_of, first_value, found_of, is_simple, matches_of, takes}
 use Rattle.clap.specs.declared.parser.matches.ArgMatches.{ArgMatches}
-use Rattle.mosaikrun_words.specs.inner.Apps.{one_app, option_app, two_app, two_option_app}
+use Rattle.mosaikrun_words.specs.inner.Apps.{one_app, option_app, two_app}
 use Rattle.mosaikrun_words.specs.inner.Arranged.{long, name_of}
 use Rattle.mosaikrun_words.specs.Words.{Text, is_value}
-use Rattle.mosaikrun_words.specs.declared.reading.TwoFound.{TwoFound}
 use Rattle.mosaikrun_words.specs.declared.request.OptionName.{OptionName}
-use Rattle.mosaikrun_words.specs.declared.request.OptionName.TheVariants.{Record, Order}
+use Rattle.mosaikrun_words.specs.declared.request.OptionName.TheVariants.{Record, Order, Strict}
 
 no_hyphen : (b : Bool) → not b ≡ true → b ≡ false
 no_hyphen true e = absurd (true≢false (sym e))
@@ -37,6 +36,9 @@ option_gives Record (x ∷ xs) (y ∷ ys) h k =
 option_gives Order (x ∷ xs) (y ∷ ys) h k =
     let e = no_hyphen (x == 45) h in let d = no_hyphen (y == 45) k in
     (record { simple = refl; takes = simp (e, d) refl; found = simp (e, d) refl }, record { simple = refl; takes = simp (e, d) refl; found = simp (e, d) refl })
+option_gives Strict (x ∷ xs) (y ∷ ys) h k =
+    let e = no_hyphen (x == 45) h in let d = no_hyphen (y == 45) k in
+    (record { simple = refl; takes = simp (e, d) refl; found = simp (e, d) refl }, record { simple = refl; takes = simp (e, d) refl; found = simp (e, d) refl })
 
 -- the same, where the option's name and its spelling are known
 pub option_gives_so : (o : OptionName) (name spelled s v : Text) → name ≡ name_of o → spelled ≡ long (name_of o) → is_value s ≡ true → is_value v ≡ true
@@ -52,36 +54,6 @@ two_gives (x ∷ xs) [] h k = absurd (true≢false (sym k))
 two_gives (x ∷ xs) (y ∷ ys) h k =
     let e = no_hyphen (x == 45) h in let d = no_hyphen (y == 45) k in
     (record { simple = refl; takes = simp (e, d) refl; found = simp (e, d) refl }, record { simple = refl; takes = simp (e, d) refl; found = simp (e, d) refl })
-
--- what is found is what was given
-pub same_three : (a b v s t w : Text) → a ≡ s → b ≡ t → v ≡ w → ◌≡◌ {A = TwoFound} (record { first = a; second = b; value = Some v }) (record { first = s; second = t; value = Some w })
-same_three a b v s t w one other third = cc
-
--- the words of two positional words and an option are taken, and each value is found
-pub record GivesTwo (a : App) (words : List Text) (name s t v : Text) : Type 0 where
-  pub first : Gives a words (codes "first") s
-  pub second : Gives a words (codes "second") t
-  pub value : Gives a words name v
-
-pub two_option_gives : (o : OptionName) (s t v : Text) → is_value s ≡ true → is_value t ≡ true → is_value v ≡ true
-    → GivesTwo (two_option_app (name_of o)) (s ∷ t ∷ long (name_of o) ∷ v ∷ []) (name_of o) s t v
-unfolding clap_on_literals
-two_option_gives o [] t v h k l = absurd (true≢false (sym h))
-two_option_gives o (x ∷ xs) [] v h k l = absurd (true≢false (sym k))
-two_option_gives o (x ∷ xs) (y ∷ ys) [] h k l = absurd (true≢false (sym l))
-two_option_gives Record (x ∷ xs) (y ∷ ys) (z ∷ zs) h k l =
-    let e = no_hyphen (x == 45) h in let d = no_hyphen (y == 45) k in let f = no_hyphen (z == 45) l in
-    record { first = record { simple = refl; takes = simp (e, d, f) refl; found = simp (e, d, f) refl }; second = record { simple = refl; takes = simp (e, d, f) refl; found = simp (e, d, f) refl }; value = record { simple = refl; takes = simp (e, d, f) refl; found = simp (e, d, f) refl } }
-two_option_gives Order (x ∷ xs) (y ∷ ys) (z ∷ zs) h k l =
-    let e = no_hyphen (x == 45) h in let d = no_hyphen (y == 45) k in let f = no_hyphen (z == 45) l in
-    record { first = record { simple = refl; takes = simp (e, d, f) refl; found = simp (e, d, f) refl }; second = record { simple = refl; takes = simp (e, d, f) refl; found = simp (e, d, f) refl }; value = record { simple = refl; takes = simp (e, d, f) refl; found = simp (e, d, f) refl } }
-
--- the same, where the option's name and its spelling are known
-pub two_option_gives_so : (o : OptionName) (name spelled s t v : Text) → name ≡ name_of o → spelled ≡ long (name_of o) → is_value s ≡ true → is_value t ≡ true → is_value v ≡ true
-    → GivesTwo (two_option_app name) (s ∷ t ∷ spelled ∷ v ∷ []) name s t v
-two_option_gives_so o name spelled s t v name_is spelled_is h k l =
-    subst (λ (n : Text). GivesTwo (two_option_app n) (s ∷ t ∷ spelled ∷ v ∷ []) n s t v) (sym name_is)
-    (subst (λ (w : Text). GivesTwo (two_option_app (name_of o)) (s ∷ t ∷ w ∷ v ∷ []) (name_of o) s t v) (sym spelled_is) (two_option_gives o s t v h k l))
 
 -- what `clap` found is what it gives
 pub found_value : (a : App) (words : List Text) (id value : Text) (m : ArgMatches) → Gives a words id value → HasMatchesOf a words m → first_value (found_of m) id ≡ Some value

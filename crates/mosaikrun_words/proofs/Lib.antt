@@ -1,3 +1,4 @@
 pub mod Gives
+pub mod Groups
 pub mod Requested
 pub mod Spelled

@@ -1,22 +1,26 @@
 -- The request that is found is what the words are, and what they are is found.
-use Rattle.std.proofs.Common.{◌≡◌, ◌↔◌, ◌&&◌, Bool, ℕ, true, false, cond, List, [], ◌∷◌, Option, Some, None, option_map, option_and_then, refl, sym, ap, ◌∙◌, subst, codes, true≢false, inl, inr}
+use Rattle.std.proofs.Common.{◌≡◌, ◌↔◌, ◌&&◌, Bool, ℕ, true, false, cond, List, [], ◌∷◌, ◌++◌, Option, Some, None, option_map, option_and_then, refl, sym, ap, ◌∙◌, subst, codes, inl, inr}
 use Rattle.std.proofs.lemmas.Slice.Eq.{bytes_eq-Decides}
-use Rattle.mk_base.specs.Lists.{IsIn, same_text}
+use Rattle.mk_base.specs.Lists.{Each, same_text}
 use Rattle.mosaikrun_words.specs.declared.reading.Found.{Found}
 use Rattle.mosaikrun_words.specs.declared.reading.Two.{Two}
-use Rattle.mosaikrun_words.specs.declared.reading.TwoFound.{TwoFound}
+use Rattle.mosaikrun_words.specs.declared.words.Pace.{Pace}
 use Rattle.mosaikrun_words.specs.declared.request.Command.{Command}
 use Rattle.mosaikrun_words.specs.declared.request.Command.TheVariants as command
 use Rattle.mosaikrun_words.specs.declared.request.Request.{Request}
 use Rattle.mosaikrun_words.specs.declared.request.PairCommand.{PairCommand}
 use Rattle.mosaikrun_words.specs.declared.request.PairCommand.TheVariants.{Migrate, Watch, Blame}
 use Rattle.mosaikrun_words.specs.declared.request.FileCommand.TheVariants.{Replay, Check, Pair}
-use Rattle.mosaikrun_words.specs.declared.request.Request.TheVariants.{Files, Run, Resume, Demo}
+use Rattle.mosaikrun_words.specs.declared.request.Request.TheVariants.{Files, Run, Resume, Paced, Demo}
 use Rattle.mosaikrun_words.specs.declared.words.TheConstants.{COMMANDS}
-use Rattle.mosaikrun_words.specs.inner.Arranged.{check_of, command_of, demo_of, have_words, number_in, one_word, only_word, pair_of, replay_in, replay_of, request_among, request_by, request_of, resume_of, run_of, two_and_option, two_words, word_of}
-use Rattle.mosaikrun_words.specs.Requests.{IsNumberGiven, IsRequest, IsSpelled, if_given, is_check, is_demo, is_pair, is_replay, is_resume, is_run, missing, pair_word, there}
-use Rattle.mosaikrun_words.specs.Words.{Text, is_value}
-use Rattle.mosaikrun_words.proofs.Spelled.{IsFound, found_is, found_of, found_two_is, found_two_of, number_from, number_is, only_is, only_of, two_is, two_of}
+use Rattle.mosaikrun_words.specs.inner.Arranged.{alone, number_in, one_word, only_word, two_words, word_with}
+use Rattle.mosaikrun_words.specs.inner.Asked.{check_of, command_of, demo_of, have_words, number_given, pace_in, pace_of, paced_in, paced_of, pair_of, replay_in, replay_of, request_among, request_by, request_of, resume_in, resume_of, resume_with, run_of, word_of}
+use Rattle.mosaikrun_words.specs.inner.Sorted.{Shape, sorted_of}
+use Rattle.mosaikrun_words.specs.Numbers.{IsNumber}
+use Rattle.mosaikrun_words.specs.Requests.{IsNumberGiven, IsRequest, IsSpelled, if_given, is_check, is_demo, is_paced, is_pair, is_replay, is_resume, is_run, missing, most_milliseconds, pair_word, there}
+use Rattle.mosaikrun_words.specs.Words.{Given, Text, is_value}
+use Rattle.mosaikrun_words.proofs.Groups.{AreGroups, sorted_is, sorted_so, spelled_so}
+use Rattle.mosaikrun_words.proofs.Spelled.{AreValues, IsFound, found_is, found_of, number_from, number_is, only_is, only_of, two_is, two_of, word_with_from, word_with_is}
 
 -- a request and the word of its command before the rest
 abbrev IsRest : Command → List Text → Request → Type 0
@@ -27,6 +31,14 @@ spelled_by word name rest f found = record { rest = rest; is = refl; spelled = f
 
 spelled_alone : (word : Text) (rest : List Text) (t : Text) → rest ≡ t ∷ [] → is_value t ≡ true → IsSpelled word (t ∷ []) [] (word ∷ rest)
 spelled_alone word rest t is h = record { rest = rest; is = refl; spelled = inl is; plain_values = (h, tt); given_values = tt }
+
+each_append : {X : Type 0} (P : X → Type 0) (xs ys : List X) → Each P xs → Each P ys → Each P (xs ++ ys)
+each_append P [] ys h k = k
+each_append P (x ∷ xs) ys h k = (h.0, each_append P xs ys h.1 k)
+
+each_split : {X : Type 0} (P : X → Type 0) (xs ys : List X) → Each P (xs ++ ys) → Each P xs × Each P ys
+each_split P [] ys h = (tt, h)
+each_split P (x ∷ xs) ys h = let t = each_split P xs ys h.1 in ((h.0, t.0), t.1)
 
 -- what is found is right
 
@@ -40,14 +52,88 @@ run_right rest R e = by (one_word (codes "record") rest) refl e
         subst (IsRest command.Run rest) same (refl, is_run f.word f.value (spelled_by (codes "run") (codes "record") rest f (found_is (codes "record") rest f is)))
 
 resume_right : (rest : List Text) (R : Request) → resume_of rest ≡ Some R → IsRest command.Resume rest R
-resume_right rest R e = by (two_and_option (codes "record") rest) refl e
+resume_right rest R e = by (sorted_of rest) refl e
   where
-    by : (o : Option TwoFound) → two_and_option (codes "record") rest ≡ o → option_map (λ (f : TwoFound). Resume f.first f.second f.value) o ≡ Some R → IsRest command.Resume rest R
-    by None is h = cc
-    by (Some f) is h =
-        let same : Resume f.first f.second f.value ≡ R = cc in
-        let found = found_two_is (codes "record") rest f is in
-        subst (IsRest command.Resume rest) same (refl, is_resume f.first f.second f.value (record { rest = rest; is = refl; spelled = found.spelled; plain_values = (found.first, (found.second, tt)); given_values = found.value }))
+    others : (a b : Text) (r : Option Text) → AreGroups rest (record { first = Some a; second = Some b; strict = None; save = r }) → (f : Option Found) → word_with a r ≡ f → (g : Option Found) → alone b ≡ g → option_and_then (λ (x : Found). option_map (λ (y : Found). Resume x.word y.word x.value) g) f ≡ Some R → IsRest command.Resume rest R
+    others a b r groups None is g alone_is k = cc
+    others a b r groups (Some f) is None alone_is k = cc
+    others a b r groups (Some f) is (Some g) alone_is k =
+        let one = word_with_is (codes "record") a r f is in
+        let two = word_with_is (codes "record") b None g alone_is in
+        let same : Resume f.word g.word f.value ≡ R = cc in
+        let spelled : IsSpelled (codes "resume") (a ∷ b ∷ []) (if_given (codes "record") r) (codes "resume" ∷ rest) = record { rest = rest; is = refl; spelled = spelled_so rest a b None r groups; plain_values = (one.word, (two.word, tt)); given_values = one.value } in
+        let named : Resume a b r ≡ Resume f.word g.word f.value = sym (ap (λ (x : Found). Resume x.word g.word x.value) one.is ∙ ap (λ (x : Found). Resume a x.word r) two.is) in
+        subst (IsRest command.Resume rest) (named ∙ same) (refl, is_resume a b r spelled)
+
+    by_words : (a b s r : Option Text) → AreGroups rest (record { first = a; second = b; strict = s; save = r }) → resume_in a b s (record { first = a; second = b; strict = s; save = r }) ≡ Some R → IsRest command.Resume rest R
+    by_words None b s r groups k = cc
+    by_words (Some a) None s r groups k = cc
+    by_words (Some a) (Some b) (Some v) r groups k = cc
+    by_words (Some a) (Some b) None r groups k = others a b r groups (word_with a r) refl (alone b) refl k
+
+    by : (o : Option Shape) → sorted_of rest ≡ o → option_and_then (λ (p : Shape). resume_in p.first p.second p.strict p) o ≡ Some R → IsRest command.Resume rest R
+    by None is k = cc
+    by (Some p) is k = by_words p.first p.second p.strict p.save (sorted_so rest p is) k
+
+-- numbers that are given are written so
+given_is : (least most : ℕ) (t : Option Text) (n : Option ℕ) → number_given least most t ≡ Some n → IsNumberGiven least most t n
+given_is least most None n e = let same : None ≡ n = cc in subst (IsNumberGiven least most None) same missing
+given_is least most (Some text) n e = by (number_in least most text) refl e
+  where
+    by : (o : Option ℕ) → number_in least most text ≡ o → option_map (λ k. Some k) o ≡ Some n → IsNumberGiven least most (Some text) n
+    by None is k = cc
+    by (Some m) is k = let same : Some m ≡ n = cc in subst (IsNumberGiven least most (Some text)) same (there text m (number_is least most text m is))
+
+given_from : (least most : ℕ) (t : Option Text) (n : Option ℕ) → IsNumberGiven least most t n → number_given least most t ≡ Some n
+given_from least most _ _ missing = refl
+given_from least most _ _ (there text n is) = ap (option_map (λ k. Some k)) (number_from least most text n is)
+
+-- a pace that is found is written so
+record IsPace (b : Text) (s : Option Text) (p : Pace) : Type 0 where
+  value : is_value b ≡ true
+  values : AreValues (codes "strict") s
+  factor : IsNumber 1 most_milliseconds p.factor b
+  strict : IsNumberGiven 0 most_milliseconds s p.strict
+
+pace_is : (b : Text) (s : Option Text) (p : Pace) → pace_of b s ≡ Some p → IsPace b s p
+pace_is b s p e = by (word_with b s) refl e
+  where
+    numbers : (f : Found) → word_with b s ≡ Some f → (n : Option ℕ) → number_in 1 most_milliseconds f.word ≡ n → (m : Option (Option ℕ)) → number_given 0 most_milliseconds f.value ≡ m → option_and_then (λ k. option_map (λ l. let q : Pace = record { factor = k; strict = l } in q) m) n ≡ Some p → IsPace b s p
+    numbers f is None n_is m m_is k = cc
+    numbers f is (Some n) n_is None m_is k = cc
+    numbers f is (Some n) n_is (Some m) m_is k =
+        let found = word_with_is (codes "strict") b s f is in
+        let made : Pace = record { factor = n; strict = m } in
+        let same : made ≡ p = cc in
+        subst (IsPace b s) same (record { value = found.word; values = found.value; factor = number_is 1 most_milliseconds b n (sym (ap (λ (x : Found). number_in 1 most_milliseconds x.word) found.is) ∙ n_is); strict = given_is 0 most_milliseconds s m (sym (ap (λ (x : Found). number_given 0 most_milliseconds x.value) found.is) ∙ m_is) })
+
+    by : (o : Option Found) → word_with b s ≡ o → option_and_then pace_in o ≡ Some p → IsPace b s p
+    by None is k = cc
+    by (Some f) is k = numbers f is (number_in 1 most_milliseconds f.word) refl (number_given 0 most_milliseconds f.value) refl k
+
+paced_right : (rest : List Text) (R : Request) → paced_of rest ≡ Some R → IsRest command.Paced rest R
+paced_right rest R e = by (sorted_of rest) refl e
+  where
+    others : (a b : Text) (s r : Option Text) → AreGroups rest (record { first = Some a; second = Some b; strict = s; save = r }) → (p : Option Pace) → pace_of b s ≡ p → (f : Option Found) → word_with a r ≡ f → option_and_then (λ (x : Pace). option_map (λ (y : Found). Paced y.word x.factor x.strict y.value) f) p ≡ Some R → IsRest command.Paced rest R
+    others a b s r groups None p_is f f_is k = cc
+    others a b s r groups (Some p) p_is None f_is k = cc
+    others a b s r groups (Some p) p_is (Some f) f_is k =
+        let one = word_with_is (codes "record") a r f f_is in
+        let pace = pace_is b s p p_is in
+        let same : Paced f.word p.factor p.strict f.value ≡ R = cc in
+        let values = each_append (λ (g : Given). is_value g.1 ≡ true) (if_given (codes "strict") s) (if_given (codes "record") r) pace.values one.value in
+        let spelled : IsSpelled (codes "paced") (a ∷ b ∷ []) (if_given (codes "strict") s ++ if_given (codes "record") r) (codes "paced" ∷ rest) = record { rest = rest; is = refl; spelled = spelled_so rest a b s r groups; plain_values = (one.word, (pace.value, tt)); given_values = values } in
+        let named : Paced a p.factor p.strict r ≡ Paced f.word p.factor p.strict f.value = sym (ap (λ (x : Found). Paced x.word p.factor p.strict x.value) one.is) in
+        subst (IsRest command.Paced rest) (named ∙ same) (refl, is_paced a b p.factor s p.strict r spelled pace.factor pace.strict)
+
+    by_words : (a b s r : Option Text) → AreGroups rest (record { first = a; second = b; strict = s; save = r }) → paced_in a b (record { first = a; second = b; strict = s; save = r }) ≡ Some R → IsRest command.Paced rest R
+    by_words None b s r groups k = cc
+    by_words (Some a) None s r groups k = cc
+    by_words (Some a) (Some b) s r groups k = others a b s r groups (pace_of b s) refl (word_with a r) refl k
+
+    by : (o : Option Shape) → sorted_of rest ≡ o → option_and_then (λ (p : Shape). paced_in p.first p.second p) o ≡ Some R → IsRest command.Paced rest R
+    by None is k = cc
+    by (Some p) is k = by_words p.first p.second p.strict p.save (sorted_so rest p is) k
 
 replay_right : (rest : List Text) (R : Request) → replay_of rest ≡ Some R → IsRest command.Replay rest R
 replay_right rest R e = by (one_word (codes "order") rest) refl e
@@ -118,6 +204,7 @@ right command.Replay = replay_right
 right command.Check = check_right
 right command.Demo = demo_right
 right command.Resume = resume_right
+right command.Paced = paced_right
 right (command.Pair c) = pair_right c
 
 both_true : (a b : Bool) → (a && b) ≡ true → (a ≡ true) × (b ≡ true)
@@ -156,11 +243,29 @@ two_rest word a b words s = elim s.spelled [ inl e ↦ ap two_words e ∙ two_of
 
 found_by : (words : List Text) (R : Request) → IsRequest words R → IsFoundBy words R
 found_by words _ (is_run s f spelled) = record { rest = spelled.rest; is = spelled.is; found = ap (option_map (λ (x : Found). Run x.word x.value)) (found_one (codes "run") (codes "record") s f words spelled) }
-found_by words _ (is_resume s r f spelled) = record {
-  rest = spelled.rest;
-  is = spelled.is;
-  found = ap (option_map (λ (x : TwoFound). Resume x.first x.second x.value)) (found_two_of (codes "record") spelled.rest (record { first = s; second = r; value = f }) (record { spelled = spelled.spelled; first = spelled.plain_values.0; second = spelled.plain_values.1.0; value = spelled.given_values }));
-}
+found_by words _ (is_resume s r f spelled) =
+    let values = spelled.plain_values in
+    let sorted = sorted_is spelled.rest s r None f values.0 values.1.0 spelled.spelled in
+    record {
+      rest = spelled.rest;
+      is = spelled.is;
+      found = ap (option_and_then (λ (p : Shape). resume_in p.first p.second p.strict p)) sorted
+          ∙ ap (option_and_then (λ (x : Found). resume_with x r)) (word_with_from (codes "record") s f values.0 spelled.given_values)
+          ∙ ap (option_map (λ (y : Found). Resume s y.word f)) (word_with_from (codes "record") r None values.1.0 tt);
+    }
+found_by words _ (is_paced s t n u m f spelled number given) =
+    let values = spelled.plain_values in
+    let sorted = sorted_is spelled.rest s t u f values.0 values.1.0 spelled.spelled in
+    let of_options = each_split (λ (g : Given). is_value g.1 ≡ true) (if_given (codes "strict") u) (if_given (codes "record") f) spelled.given_values in
+    record {
+      rest = spelled.rest;
+      is = spelled.is;
+      found = ap (option_and_then (λ (p : Shape). paced_in p.first p.second p)) sorted
+          ∙ ap (λ (o : Option Found). option_and_then (λ (p : Pace). option_map (λ (x : Found). Paced x.word p.factor p.strict x.value) (word_with s f)) (option_and_then pace_in o)) (word_with_from (codes "strict") t u values.1.0 of_options.0)
+          ∙ ap (λ (o : Option ℕ). option_and_then (λ (p : Pace). option_map (λ (x : Found). Paced x.word p.factor p.strict x.value) (word_with s f)) (option_and_then (λ k. option_map (λ l. let q : Pace = record { factor = k; strict = l } in q) (number_given 0 most_milliseconds u)) o)) (number_from 1 most_milliseconds t n number)
+          ∙ ap (λ (o : Option (Option ℕ)). option_and_then (λ (p : Pace). option_map (λ (x : Found). Paced x.word p.factor p.strict x.value) (word_with s f)) (option_map (λ l. let q : Pace = record { factor = n; strict = l } in q) o)) (given_from 0 most_milliseconds u m given)
+          ∙ ap (option_map (λ (x : Found). Paced x.word n m x.value)) (word_with_from (codes "record") s f values.0 of_options.1);
+    }
 found_by words _ (is_replay r t n spelled given) = record { rest = spelled.rest; is = spelled.is; found = ap (option_and_then (λ (x : Found). replay_in x.word x.value)) (found_one (codes "replay") (codes "order") r t words spelled) ∙ ordered t n given }
   where
     ordered : (t : Option Text) (n : Option ℕ) → IsNumberGiven 0 4294967295 t n → replay_in r t ≡ Some (Files (Replay r n))
@@ -177,6 +282,7 @@ found_there command.Replay rest = refl
 found_there command.Check rest = refl
 found_there command.Demo rest = refl
 found_there command.Resume rest = refl
+found_there command.Paced rest = refl
 found_there (command.Pair Migrate) rest = refl
 found_there (command.Pair Watch) rest = refl
 found_there (command.Pair Blame) rest = refl

@@ -1,13 +1,12 @@
 -- The words that are found are spelled so, and those that are spelled so are found.
-use Rattle.std.proofs.Common.{◌≡◌, ℕ, ◌≤◌, ◌==◌, Bool, true, false, cond, ◌&&◌, nat_le, List, [], ◌∷◌, ◌++◌, length, map, Option, Some, None, option_map, MatchOption, Bor, refl, sym, ap, ◌∙◌, subst, arith, true≢false, inl, inr}
+use Rattle.std.proofs.Common.{◌≡◌, ℕ, ◌≤◌, ◌==◌, Bool, true, false, cond, ◌&&◌, nat_le, List, [], ◌∷◌, ◌++◌, length, Option, Some, None, option_map, MatchOption, Bor, refl, sym, ap, ◌∙◌, subst, arith, true≢false, inl, inr}
 use Rattle.std.proofs.lemmas.Bool.Decides.{nat_tests}
 use Rattle.std.proofs.lemmas.Slice.Eq.{bytes_eq-Decides}
 use Rattle.std.specs.List.{list_all}
 use Rattle.mk_base.specs.Lists.{Each, IsIn, same_text}
 use Rattle.mosaikrun_words.specs.declared.reading.Found.{Found}
 use Rattle.mosaikrun_words.specs.declared.reading.Two.{Two}
-use Rattle.mosaikrun_words.specs.declared.reading.TwoFound.{TwoFound}
-use Rattle.mosaikrun_words.specs.inner.Arranged.{alone, behind, long, number_in, one_word, only_word, pair, start, triple, two_and_more, two_and_option, two_words, value_after}
+use Rattle.mosaikrun_words.specs.inner.Arranged.{alone, behind, long, number_in, one_word, only_word, pair, start, two_words, value_after, word_with}
 use Rattle.mosaikrun_words.specs.Numbers.{IsNumber, is_digit, most_digits, number_of}
 use Rattle.mosaikrun_words.specs.Requests.{if_given}
 use Rattle.mosaikrun_words.specs.Words.{Given, Text, is_value, spellings}
@@ -17,7 +16,7 @@ same_self t = (bytes_eq-Decides t t).1 refl
 
 -- what follows a beginning
 
-after_is : (p w v : Text) → value_after p w ≡ Some v → w ≡ p ++ v
+pub after_is : (p w v : Text) → value_after p w ≡ Some v → w ≡ p ++ v
 after_is [] w v e = let same : w ≡ v = cc in same
 after_is (a ∷ more) [] v e = cc
 after_is (a ∷ more) (b ∷ word) v e = elim (a == b) as (λ t. (a == b) ≡ t → cond t (value_after more word) None ≡ Some v → (b ∷ word) ≡ a ∷ (more ++ v)) [
@@ -39,7 +38,7 @@ after_found p w None none = by (value_after p w) refl
 after_found p w (Some v) is = sym (ap (value_after p) is ∙ after_of p v.now)
 
 -- the option and its value may stand so
-abbrev AreValues : Text → Option Text → Type 0
+abbrev pub AreValues : Text → Option Text → Type 0
 AreValues name o = Each (λ (g : Given). is_value g.1 ≡ true) (if_given name o)
 
 -- the words spell one positional word and what is given of the option
@@ -146,6 +145,29 @@ module _ (name : Text) where
       by w (Some v) h g (inr (inr (inr (inl e)))) = let k : is_value v ≡ true = g.0 in ap (one_word name) e ∙ rw h (ap (pair w) (after_of (start name) v) ∙ simp (h, k) refl)
       by w (Some v) h g (inr (inr (inr (inr never)))) = absurd never
 
+-- a word and what may be given of an option
+pub record IsWordWith (name w : Text) (o : Option Text) (f : Found) : Type 0 where
+  pub is : f ≡ record { word = w; value = o }
+  pub word : is_value w ≡ true
+  pub value : AreValues name o
+
+pub word_with_is : (name w : Text) (o : Option Text) (f : Found) → word_with w o ≡ Some f → IsWordWith name w o f
+word_with_is name w (Some v) f e =
+    let p = pair_is w (Some v) f e in
+    let same : v ≡ p.value = let given = p.given in cc in
+    record { is = subst (λ (x : Text). f ≡ with w x) (sym same) p.is; word = p.word_is; value = (subst (λ (x : Text). is_value x ≡ true) (sym same) p.value_is, tt) }
+word_with_is name w None f e = elim (is_value w) as (λ b. is_value w ≡ b → cond b (Some (let g : Found = record { word = w; value = None } in g)) None ≡ Some f → IsWordWith name w None f) [
+  | true ↦ λ t h.
+      let plain : Found = record { word = w; value = None } in
+      let same : plain ≡ f = cc in
+      record { is = sym same; word = t; value = tt }
+  | false ↦ λ t h. cc
+] refl e
+
+pub word_with_from : (name w : Text) (o : Option Text) → is_value w ≡ true → AreValues name o → word_with w o ≡ Some (record { word = w; value = o })
+word_with_from name w None h g = rw h refl
+word_with_from name w (Some v) h g = let k : is_value v ≡ true = g.0 in simp (h, k) refl
+
 -- one word alone
 
 pub only_is : (words : List Text) (t : Text) → only_word words ≡ Some t → (words ≡ t ∷ []) × (is_value t ≡ true)
@@ -176,106 +198,6 @@ two_is (a ∷ b ∷ c ∷ more) t e = cc
 
 pub two_of : (a b : Text) → is_value a ≡ true → is_value b ≡ true → two_words (a ∷ b ∷ []) ≡ Some (record { first = a; second = b })
 two_of a b h k = simp (h, k) refl
-
--- two words, and the option
-
--- the words spell two positional words and what is given of the option
-pub record IsTwoFound (name : Text) (words : List Text) (f : TwoFound) : Type 0 where
-  pub spelled : IsIn words (spellings (f.first ∷ f.second ∷ []) (if_given name f.value))
-  pub first : is_value f.first ≡ true
-  pub second : is_value f.second ≡ true
-  pub value : AreValues name f.value
-
-abbrev two_with : Text → Text → Option Text → TwoFound
-two_with a b o = record { first = a; second = b; value = o }
-
--- three that are made are made of values
-record IsTriple (a b : Text) (o : Option Text) (f : TwoFound) : Type 0 where
-  value : Text
-  given : o ≡ Some value
-  first_is : is_value a ≡ true
-  second_is : is_value b ≡ true
-  value_is : is_value value ≡ true
-  is : f ≡ two_with a b (Some value)
-
-triple_is : (a b : Text) (o : Option Text) (f : TwoFound) → triple a b o ≡ Some f → IsTriple a b o f
-triple_is a b None f e = cc
-triple_is a b (Some v) f e = elim (is_value a && is_value b && is_value v) as (λ t. (is_value a && is_value b && is_value v) ≡ t → cond t (Some (two_with a b (Some v))) None ≡ Some f → IsTriple a b (Some v) f) [
-  | true ↦ λ t h.
-      let p = both_true (is_value a && is_value b) (is_value v) t in
-      let q = both_true (is_value a) (is_value b) p.0 in
-      let same : two_with a b (Some v) ≡ f = cc in
-      record { value = v; given = refl; first_is = q.0; second_is = q.1; value_is = p.1; is = sym same }
-  | false ↦ λ t h. cc
-] refl e
-
--- three or more words behind two are too many
-pub too_many : {X : Type 0} (f : X → Text) (name a b : Text) (xs : List X) → 3 ≤ length xs → None ≡ two_and_more name a b (map f xs)
-too_many f name a b [] h = absurd (omega (arith, h))
-too_many f name a b (x ∷ []) h = absurd (omega (arith, h))
-too_many f name a b (x ∷ y ∷ []) h = absurd (omega (arith, h))
-too_many f name a b (x ∷ y ∷ z ∷ more) h = refl
-
-module _ (name : Text) where
-  abbrev two_spellings : Text → Text → Text → List (List Text)
-  two_spellings a b v = spellings (a ∷ b ∷ []) ((name, v) ∷ [])
-
-  -- what a spelling of two values and an option's value is found as
-  spelled_so : (words : List Text) (a b : Text) (o : Option Text) (f : TwoFound) → triple a b o ≡ Some f → ((v : Text) → o ≡ Some v → IsIn words (two_spellings a b v)) → IsTwoFound name words f
-  spelled_so words a b o f e there =
-      let p = triple_is a b o f e in
-      subst (IsTwoFound name words) (sym p.is) (record { spelled = there p.value p.given; first = p.first_is; second = p.second_is; value = (p.value_is, tt) })
-
-  joined_there : (o v : Text) → value_after (start name) o ≡ Some v → o ≡ start name ++ v
-  joined_there o v e = after_is (start name) o v e
-
-  apart_there : (b c v : Text) → behind name b c ≡ Some v → (b ≡ long name) × (c ≡ v)
-  apart_there b c v e = behind_is name b c v e
-
-  -- the option as two words is before, between or behind the others, and then as one word
-  pub found_two_is : (words : List Text) (f : TwoFound) → two_and_option name words ≡ Some f → IsTwoFound name words f
-  found_two_is [] f e = cc
-  found_two_is (a ∷ []) f e = cc
-  found_two_is (a ∷ b ∷ []) f e = elim (is_value a && is_value b) as (λ t. (is_value a && is_value b) ≡ t → cond t (Some (two_with a b None)) None ≡ Some f → IsTwoFound name (a ∷ b ∷ []) f) [
-    | true ↦ λ t h.
-        let p = both_true (is_value a) (is_value b) t in
-        let same : two_with a b None ≡ f = cc in
-        subst (IsTwoFound name (a ∷ b ∷ [])) same (record { spelled = inl refl; first = p.0; second = p.1; value = tt })
-    | false ↦ λ t h. cc
-  ] refl e
-  found_two_is (a ∷ b ∷ c ∷ []) f e = elim (is_value a) as (λ t. cond t (cond (is_value b) (triple a b (value_after (start name) c)) (triple a c (value_after (start name) b))) (triple b c (value_after (start name) a)) ≡ Some f → IsTwoFound name (a ∷ b ∷ c ∷ []) f) [
-    | true ↦ λ h. elim (is_value b) as (λ t. cond t (triple a b (value_after (start name) c)) (triple a c (value_after (start name) b)) ≡ Some f → IsTwoFound name (a ∷ b ∷ c ∷ []) f) [
-      | true ↦ λ k. spelled_so (a ∷ b ∷ c ∷ []) a b (value_after (start name) c) f k (λ v is. inr (inr (inr (inr (inr (inl (ap (λ (x : Text). a ∷ b ∷ x ∷ []) (joined_there c v is))))))))
-      | false ↦ λ k. spelled_so (a ∷ b ∷ c ∷ []) a c (value_after (start name) b) f k (λ v is. inr (inr (inr (inr (inl (ap (λ (x : Text). a ∷ x ∷ c ∷ []) (joined_there b v is)))))))
-    ] h
-    | false ↦ λ h. spelled_so (a ∷ b ∷ c ∷ []) b c (value_after (start name) a) f h (λ v is. inr (inr (inr (inl (ap (λ (x : Text). x ∷ b ∷ c ∷ []) (joined_there a v is))))))
-  ] e
-  found_two_is (a ∷ b ∷ c ∷ d ∷ []) f e = elim (is_value a) as (λ t. cond t (cond (is_value b) (triple a b (behind name c d)) (triple a d (behind name b c))) (triple c d (behind name a b)) ≡ Some f → IsTwoFound name (a ∷ b ∷ c ∷ d ∷ []) f) [
-    | true ↦ λ h. elim (is_value b) as (λ t. cond t (triple a b (behind name c d)) (triple a d (behind name b c)) ≡ Some f → IsTwoFound name (a ∷ b ∷ c ∷ d ∷ []) f) [
-      | true ↦ λ k. spelled_so (a ∷ b ∷ c ∷ d ∷ []) a b (behind name c d) f k (λ v is. let t = apart_there c d v is in inr (inr (inl (ap (λ (x : Text). a ∷ b ∷ x ∷ d ∷ []) t.0 ∙ ap (λ (x : Text). a ∷ b ∷ long name ∷ x ∷ []) t.1))))
-      | false ↦ λ k. spelled_so (a ∷ b ∷ c ∷ d ∷ []) a d (behind name b c) f k (λ v is. let t = apart_there b c v is in inr (inl (ap (λ (x : Text). a ∷ x ∷ c ∷ d ∷ []) t.0 ∙ ap (λ (x : Text). a ∷ long name ∷ x ∷ d ∷ []) t.1)))
-    ] h
-    | false ↦ λ h. spelled_so (a ∷ b ∷ c ∷ d ∷ []) c d (behind name a b) f h (λ v is. let t = apart_there a b v is in inl (ap (λ (x : Text). x ∷ b ∷ c ∷ d ∷ []) t.0 ∙ ap (λ (x : Text). long name ∷ x ∷ c ∷ d ∷ []) t.1))
-  ] e
-  found_two_is (a ∷ b ∷ c ∷ d ∷ x ∷ more) f e = cc
-
-  -- words that spell them are found
-  pub found_two_of : (words : List Text) (f : TwoFound) → IsTwoFound name words f → two_and_option name words ≡ Some f
-  found_two_of words f there = by f.first f.second f.value there.first there.second there.value there.spelled
-    where
-      made : (a b v : Text) → is_value a ≡ true → is_value b ≡ true → is_value v ≡ true → triple a b (Some v) ≡ Some (two_with a b (Some v))
-      made a b v h k g = simp (h, k, g) refl
-
-      by : (a b : Text) (o : Option Text) → is_value a ≡ true → is_value b ≡ true → AreValues name o → IsIn words (spellings (a ∷ b ∷ []) (if_given name o)) → two_and_option name words ≡ Some (two_with a b o)
-      by a b None h k g (inl e) = ap (two_and_option name) e ∙ simp (h, k) refl
-      by a b None h k g (inr never) = absurd never
-      by a b (Some v) h k g (inl e) = ap (two_and_option name) e ∙ rw (same_self (long name)) (made a b v h k g.0)
-      by a b (Some v) h k g (inr (inl e)) = ap (two_and_option name) e ∙ rw (h, same_self (long name)) (made a b v h k g.0)
-      by a b (Some v) h k g (inr (inr (inl e))) = ap (two_and_option name) e ∙ rw (h, k, same_self (long name)) (made a b v h k g.0)
-      by a b (Some v) h k g (inr (inr (inr (inl e)))) = ap (two_and_option name) e ∙ ap (triple a b) (after_of (start name) v) ∙ made a b v h k g.0
-      by a b (Some v) h k g (inr (inr (inr (inr (inl e))))) = ap (two_and_option name) e ∙ rw h (ap (triple a b) (after_of (start name) v) ∙ made a b v h k g.0)
-      by a b (Some v) h k g (inr (inr (inr (inr (inr (inl e)))))) = ap (two_and_option name) e ∙ rw (h, k) (ap (triple a b) (after_of (start name) v) ∙ made a b v h k g.0)
-      by a b (Some v) h k g (inr (inr (inr (inr (inr (inr never)))))) = absurd never
 
 -- numbers
 

@@ -1,11 +1,11 @@
 -- The requests, and the words that each of them is spelled by.
-use Rattle.std.specs.Prelude.{◌≡◌, ℕ, true, List, [], ◌∷◌, Option, Some, None, codes}
+use Rattle.std.specs.Prelude.{◌≡◌, ℕ, true, List, [], ◌∷◌, ◌++◌, Option, Some, None, codes}
 use Rattle.mk_base.specs.Lists.{Each, IsIn}
 use Rattle.mosaikrun_words.specs.declared.request.PairCommand.{PairCommand}
 use Rattle.mosaikrun_words.specs.declared.request.PairCommand.TheVariants.{Migrate, Watch, Blame}
 use Rattle.mosaikrun_words.specs.declared.request.FileCommand.TheVariants.{Replay, Check, Pair}
 use Rattle.mosaikrun_words.specs.declared.request.Request.{Request}
-use Rattle.mosaikrun_words.specs.declared.request.Request.TheVariants.{Files, Run, Resume, Demo}
+use Rattle.mosaikrun_words.specs.declared.request.Request.TheVariants.{Files, Run, Resume, Paced, Demo}
 use Rattle.mosaikrun_words.specs.Numbers.{IsNumber}
 use Rattle.mosaikrun_words.specs.Words.{Text, Given, is_value, spellings}
 
@@ -36,6 +36,10 @@ pair_word Migrate = codes "migrate"
 pair_word Watch = codes "watch"
 pair_word Blame = codes "blame"
 
+-- the most milliseconds to a unit of time, and the most by which a Step may be late: a day
+abbrev pub most_milliseconds : ℕ
+most_milliseconds = 86400000
+
 -- the words are this request
 pub data IsRequest (words : List Text) : Request → Type 0 where
   is_run : (s : Text) (f : Option Text)
@@ -44,6 +48,11 @@ pub data IsRequest (words : List Text) : Request → Type 0 where
   is_resume : (s r : Text) (f : Option Text)
       → IsSpelled (codes "resume") (s ∷ r ∷ []) (if_given (codes "record") f) words
       → IsRequest words (Resume s r f)
+  is_paced : (s t : Text) (n : ℕ) (u : Option Text) (m : Option ℕ) (f : Option Text)
+      → IsSpelled (codes "paced") (s ∷ t ∷ [])
+      (if_given (codes "strict") u ++ if_given (codes "record") f) words
+      → IsNumber 1 most_milliseconds n t → IsNumberGiven 0 most_milliseconds u m
+      → IsRequest words (Paced s n m f)
   is_replay : (r : Text) (t : Option Text) (n : Option ℕ)
       → IsSpelled (codes "replay") (r ∷ []) (if_given (codes "order") t) words
       → IsNumberGiven 0 4294967295 t n → IsRequest words (Files (Replay r n))

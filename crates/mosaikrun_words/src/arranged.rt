@@ -1,12 +1,10 @@
 // The words after a command, brought into one spelling: the positional words, and then the option as two words.
 ghost use Rattle.std.specs.Prelude.{◌≡◌, ◌&&◌, ◌++◌, ℕ, List, IfOk, MatchOption, map, option_map, if◌then◌else◌};
 ghost use Rattle.std.specs.String.{string_bytes};
-ghost use Rattle.mosaikrun_words.specs.inner.Arranged.{alone, behind, both, long, name_of, one_word, only_word, pair, start, triple, two_and_more, two_and_option, two_words, value_after};
+ghost use Rattle.mosaikrun_words.specs.inner.Arranged.{alone, behind, long, name_of, one_word, only_word, pair, start, two_words, value_after, word_with};
 ghost use Rattle.mosaikrun_words.specs.Words.{is_value};
 
-use crate::reading::{
-    Found, Two, TwoFound, long, name_of, read_one, read_option, read_two, read_two_option,
-};
+use crate::reading::{Found, Two, long, name_of, read_one, read_option, read_two};
 use crate::request::OptionName;
 use mk_base::{Mem, Text};
 use std::alloc::Global;
@@ -45,132 +43,24 @@ pub fn two_words(alloc: Global, rest: &[String]) -> Result<Option<Two>, Mem>
     }
 }
 
-// Two words, and the option of this name wherever it stands.
-pub fn two_and_option(
+// A word, and the value of an option, if it is given.
+pub fn word_with(
     alloc: Global,
     option: OptionName,
-    rest: &[String],
-) -> Result<Option<TwoFound>, Mem>
-    ensures { IfOk result (λ found. found
-        ≡ two_and_option (name_of option) (map string_bytes rest.now)) }
-{
-    match rest {
-        [a, b, more @ ..] => two_and_more(alloc, option, a.as_str(), b.as_str(), more),
-        _ => Ok(None),
-    }
-}
-
-// Two words, and no more, one more, or two.
-fn two_and_more(
-    alloc: Global,
-    option: OptionName,
-    a: &str,
-    b: &str,
-    more: &[String],
-) -> Result<Option<TwoFound>, Mem>
-    ensures { IfOk result (λ found. found
-        ≡ two_and_more (name_of option) a.now b.now (map string_bytes more.now)) }
-{
-    match more {
-        [] => both(alloc, a, b),
-        [c] => beside_two(alloc, option, a, b, c.as_str()),
-        [c, d] => among_two(alloc, option, a, b, c.as_str(), d.as_str()),
-        _ => Ok(None),
-    }
-}
-
-// Two words alone.
-fn both(alloc: Global, a: &str, b: &str) -> Result<Option<TwoFound>, Mem>
-    ensures { IfOk result (λ found. found ≡ both a.now b.now) }
-{
-    if is_value(a) && is_value(b) {
-        let Two { first, second } = read_two(alloc, a, b)?;
-        Ok(Some(TwoFound {
-            first,
-            second,
-            value: None,
-        }))
-    } else {
-        Ok(None)
-    }
-}
-
-// Two words beside an option that is one word with its value.
-fn beside_two(
-    alloc: Global,
-    option: OptionName,
-    a: &str,
-    b: &str,
-    c: &str,
-) -> Result<Option<TwoFound>, Mem>
-    ensures { IfOk result (λ found. found ≡ (if is_value a.now
-        then (if is_value b.now then triple a.now b.now (value_after (start (name_of option)) c.now)
-        else triple a.now c.now (value_after (start (name_of option)) b.now))
-        else triple b.now c.now (value_after (start (name_of option)) a.now))) }
-{
-    if is_value(a) {
-        if is_value(b) {
-            triple(alloc, option, a, b, value_after(start(option), c))
-        } else {
-            triple(alloc, option, a, c, value_after(start(option), b))
-        }
-    } else {
-        triple(alloc, option, b, c, value_after(start(option), a))
-    }
-}
-
-// Two words before, behind or around an option and its value.
-fn among_two(
-    alloc: Global,
-    option: OptionName,
-    a: &str,
-    b: &str,
-    c: &str,
-    d: &str,
-) -> Result<Option<TwoFound>, Mem>
-    ensures { IfOk result (λ found. found ≡ (if is_value a.now
-        then (if is_value b.now then triple a.now b.now (behind (name_of option) c.now d.now)
-        else triple a.now d.now (behind (name_of option) b.now c.now))
-        else triple c.now d.now (behind (name_of option) a.now b.now))) }
-{
-    if is_value(a) {
-        if is_value(b) {
-            triple(alloc, option, a, b, behind(option, c, d))
-        } else {
-            triple(alloc, option, a, d, behind(option, b, c))
-        }
-    } else {
-        triple(alloc, option, c, d, behind(option, a, b))
-    }
-}
-
-// Two words and the value of an option.
-fn triple(
-    alloc: Global,
-    option: OptionName,
-    first: &str,
-    second: &str,
+    word: &str,
     value: Option<&str>,
-) -> Result<Option<TwoFound>, Mem>
+) -> Result<Option<Found>, Mem>
     ensures { IfOk result (λ found. found
-        ≡ triple first.now second.now (option_map (λ v. v.now) value.entry)) }
+        ≡ word_with word.now (option_map (λ v. v.now) value.entry)) }
 {
     match value {
-        Some(value) => {
-            if is_value(first) && is_value(second) && is_value(value) {
-                let (name, spelled) = (name_of(option), long(option));
-                let found = read_two_option(alloc, option, name, spelled, first, second, value)?;
-                Ok(Some(found))
-            } else {
-                Ok(None)
-            }
-        }
-        None => Ok(None),
+        Some(value) => pair(alloc, option, word, Some(value)),
+        None => alone(alloc, word),
     }
 }
 
 // A word alone.
-fn alone(alloc: Global, word: &str) -> Result<Option<Found>, Mem>
+pub fn alone(alloc: Global, word: &str) -> Result<Option<Found>, Mem>
     ensures { IfOk result (λ found. found ≡ alone word.now) }
 {
     if is_value(word) {
@@ -243,7 +133,7 @@ fn behind<'a>(option: OptionName, word: &str, value: &'a str) -> Option<&'a str>
 }
 
 // What follows the beginning, if the word has it.
-fn value_after<'a>(start: &str, word: &'a str) -> Option<&'a str>
+pub fn value_after<'a>(start: &str, word: &'a str) -> Option<&'a str>
     ensures { option_map (λ v. v.now) result ≡ value_after start.now word.entry.now }
 {
     stripped(start, word)
@@ -257,17 +147,18 @@ fn stripped<'a>(start: &str, word: &'a str) -> Option<&'a str>
     word.strip_prefix(start)
 }
 
-fn start(option: OptionName) -> &'static str
+pub fn start(option: OptionName) -> &'static str
     ensures { result.now ≡ start (name_of option) }
 {
     match option {
         OptionName::Record => "--record=",
         OptionName::Order => "--order=",
+        OptionName::Strict => "--strict=",
     }
 }
 
 // Whether the word may name a file or be a value.
-fn is_value(word: &str) -> bool
+pub fn is_value(word: &str) -> bool
     ensures { result ≡ is_value word.now }
 {
     match word.as_bytes() {

@@ -5,6 +5,7 @@ mod arranged;
 mod number;
 mod reading;
 mod request;
+mod sorted;
 mod words;
 
 pub use request::{FileCommand, PairCommand, Request};

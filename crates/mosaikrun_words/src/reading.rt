@@ -2,7 +2,7 @@
 ghost use Rattle.std.specs.Prelude.{◌≡◌, true, false, IfOk, Some, is_some, map};
 ghost use Rattle.clap.specs.Words.{HasMatchesOf, app_of, first_value, found_of, rule_of, takes};
 ghost use Rattle.clap.specs.declared.builder.Command.TheViews.{out-Command as fields_of};
-ghost use Rattle.mosaikrun_words.specs.inner.Apps.{bare, one_app, option_app, positional, two_app, two_option_app, valued};
+ghost use Rattle.mosaikrun_words.specs.inner.Apps.{bare, one_app, option_app, positional, two_app, valued};
 ghost use Rattle.mosaikrun_words.specs.inner.Arranged.{long, name_of};
 ghost use Rattle.mosaikrun_words.specs.Words.{is_value};
 
@@ -24,14 +24,6 @@ pub struct Found {
 pub struct Two {
     pub first: Text,
     pub second: Text,
-}
-
-// Two positional words, and the value of the option, if it is given.
-#[derive(Drop)]
-pub struct TwoFound {
-    pub first: Text,
-    pub second: Text,
-    pub value: Option<Text>,
 }
 
 // One positional word.
@@ -81,33 +73,6 @@ pub fn read_two(alloc: Global, first: &str, second: &str) -> Result<Two, Mem>
     })
 }
 
-// Two positional words, and an option of this name, which is spelled so, with its value.
-pub fn read_two_option(
-    alloc: Global,
-    option: OptionName,
-    name: &str,
-    spelled: &str,
-    first: &str,
-    second: &str,
-    value: &str,
-) -> Result<TwoFound, Mem>
-    requires name { name.now ≡ name_of option }
-    requires spelled { spelled.now ≡ long (name_of option) }
-    requires first { is_value first.now ≡ true }
-    requires second { is_value second.now ≡ true }
-    requires value { is_value value.now ≡ true }
-    ensures { IfOk result
-        (λ f. f ≡ record { first = first.now; second = second.now; value = Some value.now }) }
-{
-    let words = [first, second, spelled, value];
-    let matches = read(two_option_command(alloc, name)?, &words)?;
-    Ok(TwoFound {
-        first: value_of(alloc, &matches, "first")?,
-        second: value_of(alloc, &matches, "second")?,
-        value: Some(value_of(alloc, &matches, name)?),
-    })
-}
-
 // What `clap` finds in words that the command takes.
 fn read<'a>(command: Command<'a>, words: &'a [&'a str]) -> Result<ArgMatches<'a>, Mem>
     requires { takes (app_of command) (map (λ w. w.now) words.now) ≡ true }
@@ -139,6 +104,7 @@ pub fn name_of(option: OptionName) -> &'static str
     match option {
         OptionName::Record => "record",
         OptionName::Order => "order",
+        OptionName::Strict => "strict",
     }
 }
 
@@ -148,6 +114,7 @@ pub fn long(option: OptionName) -> &'static str
     match option {
         OptionName::Record => "--record",
         OptionName::Order => "--order",
+        OptionName::Strict => "--strict",
     }
 }
 
@@ -187,12 +154,6 @@ fn option_command<'a>(alloc: Global, name: &'a str) -> Result<Command<'a>, Alloc
     ensures shape { IfOk result (λ c. app_of c ≡ option_app name.entry.now) }
 {
     one_command(alloc)?.arg(valued(alloc, name))
-}
-
-fn two_option_command<'a>(alloc: Global, name: &'a str) -> Result<Command<'a>, AllocError>
-    ensures shape { IfOk result (λ c. app_of c ≡ two_option_app name.entry.now) }
-{
-    two_command(alloc)?.arg(valued(alloc, name))
 }
 
 fn two_command<'a>(alloc: Global) -> Result<Command<'a>, AllocError>

@@ -1,7 +1,7 @@
 // What the command line asks for.
 use mk_base::Text;
 
-/// What the words ask for: a command on files, a run, one that goes on, or the demo.
+/// What the words ask for: a command on files, a run, one that goes on, one by a clock, or the demo.
 #[derive(Drop)]
 pub enum Request {
     /// Reads files, and prints or saves what it makes of them.
@@ -17,6 +17,15 @@ pub enum Request {
         scenario: Text,
         record: Text,
         save: Option<Text>,
+    },
+    /// Runs the scenario of this file by a clock, with so many milliseconds to a unit of time, from 1 to 86,400,000; no Step may be sent
+    /// more milliseconds late than the number for it, at most 86,400,000, where one is given; and saves the record of the run under the
+    /// other name, where one is given.
+    Paced {
+        scenario: Text,
+        factor: u32,
+        strict: Option<u32>,
+        record: Option<Text>,
     },
     /// Runs the demo scenario of this size, from 1 to 100.
     Demo {
@@ -63,6 +72,7 @@ pub enum Command {
     Check,
     Demo,
     Resume,
+    Paced,
     Pair(PairCommand),
 }
 
@@ -71,4 +81,5 @@ pub enum Command {
 pub enum OptionName {
     Record,
     Order,
+    Strict,
 }

@@ -32,6 +32,3 @@ option_app name = with_rule one_app (valued name)
 
 abbrev pub two_app : App
 two_app = with_rule one_app (positional (codes "second"))
-
-abbrev pub two_option_app : Text → App
-two_option_app name = with_rule two_app (valued name)

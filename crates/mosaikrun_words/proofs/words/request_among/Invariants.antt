@@ -1,6 +1,6 @@
 use Rattle.std.proofs.Common.{◌≡◌, drop, map}
 use Rattle.std.specs.String.{string_bytes}
-use Rattle.mosaikrun_words.specs.inner.Arranged.{request_among}
+use Rattle.mosaikrun_words.specs.inner.Asked.{request_among}
 use Rattle.mosaikrun_words.proofs.words.request_among.Given as goal
 
 abbrev pub invariant-loop-name : goal.invariant-loop-name
