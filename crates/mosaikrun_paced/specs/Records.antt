@@ -1,0 +1,43 @@
+-- When the record of a paced run has to be there, and what it is.
+use Rattle.std.specs.Prelude.{◌≡◌, ◌⊎◌, ℕ, ℤ, ⊤, List, Option, Some, Result, Ok, Err}
+use Rattle.mk_plan.specs.declared.Plan.{Plan}
+use Rattle.mk_plan.specs.declared.Entry.{Entry}
+use Rattle.mk_scenario.specs.declared.parts.Scenario.{Scenario}
+use Rattle.mk_record.specs.Texts.{record_text}
+use Rattle.mk_pace_laws.specs.declared.end.Moment.{Moment}
+use Rattle.mk_pace_laws.specs.declared.end.PaceEnd.{PaceEnd}
+use Rattle.mk_pace_laws.specs.Paced.{HasPaced}
+use Rattle.mosaikrun_endings.specs.declared.ending.Ending.{Ending}
+use Rattle.mosaikrun_endings.specs.declared.ending.Ending.TheVariants.{Late}
+use Rattle.mosaikrun_run.specs.Outcomes.{IsReadAgain, IsSaid, Outside}
+use Rattle.mosaikrun_run.specs.Records.{IsRunFault}
+use Rattle.mosaikrun_sayings.specs.Sayings.{ids_of}
+use Rattle.mosaikrun_paced.specs.Sayings.{pace_saying}
+
+-- the ending is a Step that was too late
+pub record IsLateEnding (e : Ending) : Type 0 where
+  pub sim : List ℕ
+  pub time : ℤ
+  pub late : ℕ
+  pub allowed : ℕ
+  pub is : e ≡ Late sim time late allowed
+
+-- all is done, the run met a fault, or a Step was too late
+abbrev pub IsPaceSettled : {V : Type 0} → Result V Ending → Type 0
+IsPaceSettled (Ok value) = ⊤
+IsPaceSettled (Err e) = IsRunFault e ⊎ IsLateEnding e
+
+-- there is a record, which is that of the plan and the journal of a paced run, and says these where it
+-- is read again; and what was said of this same run, of its end, is its report, or why there is none
+pub record HasPaceRecord (O : Outside) (factor : ℕ) (strict : Option ℕ) (S : Scenario)
+    (text : Result (List ℕ) Ending) (kept : Option (List ℕ)) : Type 0 where
+  pub ranks : List ℕ
+  pub plan : Plan
+  pub journal : List Entry
+  pub moments : List Moment
+  pub end : PaceEnd
+  pub run : HasPaced O.started S ranks O.kinds factor strict plan journal moments O.log O.faults
+      O.new_faults end
+  pub said : IsSaid (pace_saying (ids_of S) plan journal end) text
+  pub is : kept ≡ Some (record_text plan journal)
+  pub again : IsReadAgain plan journal (record_text plan journal)

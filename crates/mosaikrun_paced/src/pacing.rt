@@ -1,0 +1,214 @@
+// From the bytes of a scenario's file to the text and the record of its paced run.
+ghost use Rattle.std.specs.Prelude.{◌≡◌, ◌≤◌, ◌⊎◌, ℕ, List, IfOk, IfErr, IfSome, IsSome, Ok, Err, None, map, option_map, true};
+ghost use Rattle.std.specs.List.{list_all};
+ghost use Rattle.mk_outside.specs.declared.fleet.LogEntry.{LogEntry};
+ghost use Rattle.mk_outside.specs.Logs.{Adds};
+ghost use Rattle.mk_launch.specs.Starts.{AreNumbered};
+ghost use Rattle.mk_local.specs.Kinds.{name_of};
+ghost use Rattle.mk_local.specs.Registries.{rows_in};
+ghost use Rattle.mk_pace_laws.specs.Clocks.{IsRising};
+ghost use Rattle.mk_record.specs.Writable.{is_writable};
+ghost use Rattle.mk_scenario.specs.Wellformed.{IsWellformed};
+ghost use Rattle.mosaikrun_check.specs.Runnable.{IsRunnable};
+ghost use Rattle.mosaikrun_endings.specs.declared.ending.Ending.TheVariants as endings;
+ghost use Rattle.mosaikrun_run.specs.Outcomes.{IsReadAgain, IsSaid, outside};
+ghost use Rattle.mosaikrun_run.specs.Sayings.{record_of};
+ghost use Rattle.mosaikrun_sayings.specs.Sayings.{ids_of};
+ghost use Rattle.mosaikrun_paced.specs.Outcomes.{IsPacedOutcome, IsPacedScenario};
+ghost use Rattle.mosaikrun_paced.specs.Sayings.{pace_saying};
+
+use crate::sayings::{saying_at, unpaced};
+use mk_base::{List, Text};
+use mk_local::Registry;
+use mk_outside::Paced;
+use mk_pace::{PaceEnd, PaceRan, paced};
+use mk_plan::{Journal, Plan};
+use mk_scenario::Scenario;
+use mosaikrun_check::scenario_of;
+use mosaikrun_endings::Ending;
+use mosaikrun_run::{Accepted, Told, accept, record_of};
+use std::alloc::Global;
+use std::sync::Wait;
+
+/// Reads a scenario file's bytes, and runs the scenario over a fleet with a clock, its simulators within the program being of these
+/// kinds: with `factor` milliseconds to a unit of time, and no Step being sent more than `strict` milliseconds late, where that is
+/// given. It may wait for others. Every link that it starts is closed at the end.
+pub fn paced_ran<F: Paced, R: Wait>(
+    rt: &R,
+    alloc: Global,
+    kinds: &Registry,
+    bytes: &[u8],
+    fleet: &mut F,
+    factor: u64,
+    strict: Option<u64>,
+    is_recorded: bool,
+) -> Told
+    requires least { 1 ≤ factor }
+    requires most { factor ≤ 86400000 }
+    requires allowed { IfSome strict (λ ms. ms ≤ 86400000) }
+    ensures count { F.faults fleet.old ≤ F.faults fleet.new }
+    ensures closed { AreNumbered (F.started fleet.old) (F.open_links fleet.old)
+        → F.open_links fleet.new ≡ F.open_links fleet.old }
+    ensures rising { (entries : List LogEntry) × Adds entries (F.log fleet.old) (F.log fleet.new)
+        × (IsSome (F.log fleet.new) → IsRising entries) }
+    ensures text { IfOk result.text (λ text. (entries : List LogEntry)
+        × Adds entries (F.log fleet.old) (F.log fleet.new)
+        × IsPacedOutcome (outside F.started F.faults (rows_in kinds.now) fleet.old fleet.new entries)
+        factor strict is_recorded bytes.now (Ok text.items)
+        (option_map (λ r. r.items) result.record)) }
+    ensures none { IfErr result.text (λ e. (entries : List LogEntry)
+        × Adds entries (F.log fleet.old) (F.log fleet.new)
+        × IsPacedOutcome (outside F.started F.faults (rows_in kinds.now) fleet.old fleet.new entries)
+        factor strict is_recorded bytes.now (Err e) (option_map (λ r. r.items) result.record)) }
+{
+    match scenario_of(alloc, bytes) {
+        Ok(scenario) => {
+            play(
+                rt,
+                alloc,
+                kinds,
+                scenario,
+                fleet,
+                factor,
+                strict,
+                is_recorded,
+            )
+        }
+        Err(ending) => unrecorded(ending),
+    }
+}
+
+// Runs a scenario, if it can be run.
+fn play<F: Paced, R: Wait>(
+    rt: &R,
+    alloc: Global,
+    kinds: &Registry,
+    scenario: Scenario,
+    fleet: &mut F,
+    factor: u64,
+    strict: Option<u64>,
+    is_recorded: bool,
+) -> Told
+    requires wellformed { IsWellformed scenario }
+    requires least { 1 ≤ factor }
+    requires most { factor ≤ 86400000 }
+    requires allowed { IfSome strict (λ ms. ms ≤ 86400000) }
+    ensures count { F.faults fleet.old ≤ F.faults fleet.new }
+    ensures closed { AreNumbered (F.started fleet.old) (F.open_links fleet.old)
+        → F.open_links fleet.new ≡ F.open_links fleet.old }
+    ensures rising { (entries : List LogEntry) × Adds entries (F.log fleet.old) (F.log fleet.new)
+        × (IsSome (F.log fleet.new) → IsRising entries) }
+    ensures text { IfOk result.text (λ text. (entries : List LogEntry)
+        × Adds entries (F.log fleet.old) (F.log fleet.new)
+        × IsPacedScenario (outside F.started F.faults
+        (rows_in kinds.now) fleet.old fleet.new entries) factor strict is_recorded scenario
+        (Ok text.items) (option_map (λ r. r.items) result.record)) }
+    ensures none { IfErr result.text (λ e. (entries : List LogEntry)
+        × Adds entries (F.log fleet.old) (F.log fleet.new)
+        × IsPacedScenario (outside F.started F.faults
+        (rows_in kinds.now) fleet.old fleet.new entries) factor strict is_recorded scenario (Err e)
+        (option_map (λ r. r.items) result.record)) }
+{
+    match accept(alloc, kinds, &scenario) {
+        Ok(accepted) => pace(
+            rt,
+            alloc,
+            kinds,
+            scenario,
+            accepted,
+            fleet,
+            factor,
+            strict,
+            is_recorded,
+        ),
+        Err(ending) => unrecorded(ending),
+    }
+}
+
+// Runs a scenario by the clock, and says how it ended.
+fn pace<F: Paced, R: Wait>(
+    rt: &R,
+    alloc: Global,
+    kinds: &Registry,
+    scenario: Scenario,
+    accepted: Accepted,
+    fleet: &mut F,
+    factor: u64,
+    strict: Option<u64>,
+    is_recorded: bool,
+) -> Told
+    requires wellformed { IsWellformed scenario }
+    requires runnable { IsRunnable (map name_of (rows_in kinds.now)) scenario accepted.ranks }
+    requires ids { accepted.ids ≡ ids_of scenario }
+    requires least { 1 ≤ factor }
+    requires most { factor ≤ 86400000 }
+    requires allowed { IfSome strict (λ ms. ms ≤ 86400000) }
+    ensures count { F.faults fleet.old ≤ F.faults fleet.new }
+    ensures closed { AreNumbered (F.started fleet.old) (F.open_links fleet.old)
+        → F.open_links fleet.new ≡ F.open_links fleet.old }
+    ensures rising { (entries : List LogEntry) × Adds entries (F.log fleet.old) (F.log fleet.new)
+        × (IsSome (F.log fleet.new) → IsRising entries) }
+    ensures text { IfOk result.text (λ text. (entries : List LogEntry)
+        × Adds entries (F.log fleet.old) (F.log fleet.new)
+        × IsPacedScenario (outside F.started F.faults
+        (rows_in kinds.now) fleet.old fleet.new entries) factor strict is_recorded scenario
+        (Ok text.items) (option_map (λ r. r.items) result.record)) }
+    ensures none { IfErr result.text (λ e. (entries : List LogEntry)
+        × Adds entries (F.log fleet.old) (F.log fleet.new)
+        × IsPacedScenario (outside F.started F.faults
+        (rows_in kinds.now) fleet.old fleet.new entries) factor strict is_recorded scenario (Err e)
+        (option_map (λ r. r.items) result.record)) }
+{
+    let Accepted { ranks, ids } = accepted;
+    let PaceRan {
+        end,
+        plan,
+        journal,
+        moments: _,
+    } = paced(rt, alloc, scenario, ranks, fleet, kinds, factor, strict);
+    match (plan, journal) {
+        (Some(plan), Some(journal)) => tell(alloc, &ids, end, &plan, &journal, is_recorded),
+        (None, None) => unrecorded(unpaced(alloc, &ids, end)),
+        (Some(_), None) | (None, Some(_)) => unreachable!(),
+    }
+}
+
+// What is said of a run with a plan and a journal, and its record.
+fn tell(
+    alloc: Global,
+    ids: &List<Text>,
+    end: PaceEnd,
+    plan: &Plan,
+    journal: &Journal,
+    is_recorded: bool,
+) -> Told
+    requires { list_all is_writable journal.now.entries ≡ true }
+    ensures text { IfOk result.text
+        (λ text. IsSaid (pace_saying ids.now plan.now journal.now.entries end) (Ok text.items)) }
+    ensures none { IfErr result.text
+        (λ e. IsSaid (pace_saying ids.now plan.now journal.now.entries end) (Err e)) }
+    ensures recorded { (option_map (λ r. r.items) result.record
+        ≡ record_of is_recorded plan.now journal.now.entries)
+        ⊎ ((result.record ≡ None) × (result.text ≡ Err endings.Mem)) }
+    ensures again { IfSome result.record
+        (λ r. IsReadAgain plan.now journal.now.entries r.items) }
+{
+    match record_of(alloc, plan, journal, is_recorded) {
+        Ok(record) => Told {
+            text: saying_at(alloc, ids, end, plan, journal),
+            record,
+        },
+        Err(_) => unrecorded(Ending::Mem),
+    }
+}
+
+// Nothing is to be recorded.
+fn unrecorded(ending: Ending) -> Told
+    ensures text { result.text ≡ Err ending }
+    ensures record { result.record ≡ None }
+{
+    Told {
+        text: Err(ending),
+        record: None,
+    }
+}
