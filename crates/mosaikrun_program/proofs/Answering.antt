@@ -6,7 +6,7 @@ use Rattle.mosaikrun_words.specs.declared.request.Request.{Request}
 use Rattle.mosaikrun_words.specs.declared.request.Request.TheVariants.{Files as Reads}
 use Rattle.mosaikrun_words.proofs.Requested.{requested}
 use Rattle.mosaikrun_endings.specs.declared.ending.Ending.{Ending}
-use Rattle.mosaikrun_endings.specs.declared.ending.Ending.TheVariants.{Usage, Missing, TooLong, Scenario, Watches, Cycle, Launch, Setup, Record, Wrong, Failed, LoopLimit, Link, Short, Differs, OtherPlan, OtherMessage, Fleet, Folder, Output, Entries, LongItem, Mem}
+use Rattle.mosaikrun_endings.specs.declared.ending.Ending.TheVariants.{Usage, Missing, TooLong, Scenario, Watches, Cycle, Launch, Setup, Record, Wrong, Failed, LoopLimit, Link, Short, Differs, OtherPlan, OtherMessage, Late, Fleet, Folder, Output, Entries, LongItem, Mem}
 use Rattle.mosaikrun_endings.specs.Endings.{status_of}
 use Rattle.mosaikrun_program.specs.Commands.{IsAsked, IsOutcomeOf, IsUnasked, IsUnreadable, saved_name, target_of}
 use Rattle.mosaikrun_program.specs.Answers.{PrintAnswer, SaveAnswer, TextAnswer}
@@ -101,6 +101,7 @@ only_usage (Short outstanding) two = absurd (omega (arith, two))
 only_usage (Differs entry) two = absurd (omega (arith, two))
 only_usage (OtherPlan part) two = absurd (omega (arith, two))
 only_usage (OtherMessage sim place) two = absurd (omega (arith, two))
+only_usage (Late sim time late allowed) two = absurd (omega (arith, two))
 only_usage Fleet two = absurd (omega (arith, two))
 only_usage Folder two = absurd (omega (arith, two))
 only_usage Output two = absurd (omega (arith, two))
@@ -127,6 +128,7 @@ is_memory (Short outstanding) = inr (λ wrong. cc)
 is_memory (Differs entry) = inr (λ wrong. cc)
 is_memory (OtherPlan part) = inr (λ wrong. cc)
 is_memory (OtherMessage sim place) = inr (λ wrong. cc)
+is_memory (Late sim time late allowed) = inr (λ wrong. cc)
 is_memory Fleet = inr (λ wrong. cc)
 is_memory Folder = inr (λ wrong. cc)
 is_memory Output = inr (λ wrong. cc)

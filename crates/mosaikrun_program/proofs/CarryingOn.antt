@@ -1,12 +1,11 @@
 -- What a run that goes on from a record has come to, as an answer.
-use Rattle.std.proofs.Common.{◌≡◌, ◌≤◌, ℕ, List, [], ◌∷◌, inl, inr, map, Option, None, Result, Ok, Err, refl, sym, ap, ◌∙◌, subst, arith}
+use Rattle.std.proofs.Common.{◌≡◌, ◌≤◌, ℕ, List, [], ◌∷◌, inl, inr, map, Option, None, Result, Err, refl, arith}
 use Rattle.std.specs.Prelude.{is_some}
 use Rattle.mk_outside.specs.Counts.{HasRisen}
 use Rattle.mk_local.specs.Kinds.{name_of}
 use Rattle.mosaikrun_words.specs.declared.request.Request.TheVariants.{Resume}
 use Rattle.mosaikrun_check.specs.Checks.{IsUnchecked}
 use Rattle.mosaikrun_endings.specs.declared.ending.Ending.{Ending}
-use Rattle.mosaikrun_endings.specs.declared.ending.Ending.TheVariants.{Mem}
 use Rattle.mosaikrun_resume.specs.Outcomes.{IsStudy, IsStudyOutcome}
 use Rattle.mosaikrun_program.specs.Around.{Around}
 use Rattle.mosaikrun_program.specs.Commands.{IsAsked, IsHeld, IsUnreadable}

@@ -59,7 +59,7 @@ status_of_none C name (Err f) kept (Err g) said e is wanted why =
     ]
 
 -- a file's fault and the scenario that it is exclude one another
-not_both : (S : Scenario) (fault : ScenarioFault) (verdict : Result Scenario ScenarioFault) → verdict ≡ Ok S → verdict ≡ Err fault → ⊥
+pub not_both : (S : Scenario) (fault : ScenarioFault) (verdict : Result Scenario ScenarioFault) → verdict ≡ Ok S → verdict ≡ Err fault → ⊥
 not_both S fault verdict a b = let same = sym a ∙ b in cc
 
 -- a scenario that can be run isn't refused

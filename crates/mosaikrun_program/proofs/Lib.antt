@@ -1,11 +1,13 @@
 mod Answering
 mod CarryingOn
 mod Deciding
+mod EndingPaces
 mod EndingResumes
 mod EndingRuns
 mod Fleetless
 mod Making
 mod NeverUsage
+mod Pacing
 mod Playing
 mod Recording
 mod Resuming

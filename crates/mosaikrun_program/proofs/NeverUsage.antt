@@ -33,6 +33,10 @@ use Rattle.mk_resume_loop.specs.declared.ending.ResumeEnd.{ResumeEnd}
 use Rattle.mk_resume_loop.specs.declared.ending.ResumeEnd.TheVariants as resume_end
 use Rattle.mosaikrun_resume.specs.Outcomes.{IsResumeOutcome, IsSavedOutcome, IsStudyOutcome}
 use Rattle.mosaikrun_resume.specs.Sayings.{resume_saying}
+use Rattle.mk_pace_laws.specs.declared.end.PaceEnd.{PaceEnd}
+use Rattle.mk_pace_laws.specs.declared.end.PaceEnd.TheVariants as pace_end
+use Rattle.mosaikrun_paced.specs.Outcomes.{IsPacedOutcome, IsPacedScenario}
+use Rattle.mosaikrun_paced.specs.Sayings.{pace_saying}
 use Rattle.mosaikrun_program.specs.Around.{IsSaidAs}
 
 -- neither does a check
@@ -135,3 +139,17 @@ study_not_usage O wanted S ranks recorded text kept (inr has) usage = saved_not_
 pub resume_not_usage : (O : Outside) (wanted : Bool) (bytes recorded : List ℕ) (text : Result (List ℕ) Ending) (kept : Option (List ℕ)) → IsResumeOutcome O wanted bytes recorded text kept → text ≡ Err Usage → ⊥
 resume_not_usage O wanted bytes recorded text kept (inl none) usage = unchecked_not_usage (map name_of O.kinds) bytes none.ending none.cause (same_ending text none.ending none.is usage)
 resume_not_usage O wanted bytes recorded text kept (inr has) usage = study_not_usage O wanted has.study.scenario has.study.ranks recorded text kept has.outcome usage
+
+-- nor does a run by a clock
+pace_saying_not : (ids : List (List ℕ)) (P : Plan) (J : List Entry) (end : PaceEnd) → pace_saying ids P J end ≡ Err Usage → ⊥
+pace_saying_not ids P J (pace_end.Outcome o) wrong = saying_not_usage Report ids P J o wrong
+pace_saying_not ids P J (pace_end.Late sim time late allowed) wrong = cc
+
+paced_scenario_not : (O : Outside) (factor : ℕ) (strict : Option ℕ) (wanted : Bool) (S : Scenario) (text : Result (List ℕ) Ending) (kept : Option (List ℕ)) → IsPacedScenario O factor strict wanted S text kept → text ≡ Err Usage → ⊥
+paced_scenario_not O factor strict wanted S text kept (inl unready) usage = unrunnable_not_usage (map name_of O.kinds) S unready.ending unready.cause (same_ending text unready.ending unready.is usage)
+paced_scenario_not O factor strict wanted S text kept (inr (inl unpaced)) usage = said_not_usage _ text unpaced.unrun.said (λ w. halt_not_usage (ids_of S) unpaced.unrun.halt (ending_of (halt_ending (ids_of S) unpaced.unrun.halt) Usage _ _ refl refl w)) usage
+paced_scenario_not O factor strict wanted S text kept (inr (inr p)) usage = said_not_usage _ text p.said (λ w. pace_saying_not (ids_of S) p.plan p.journal p.end w) usage
+
+pub paced_not_usage : (O : Outside) (factor : ℕ) (strict : Option ℕ) (wanted : Bool) (bytes : List ℕ) (text : Result (List ℕ) Ending) (kept : Option (List ℕ)) → IsPacedOutcome O factor strict wanted bytes text kept → text ≡ Err Usage → ⊥
+paced_not_usage O factor strict wanted bytes text kept (inl none) usage = unchecked_not_usage (map name_of O.kinds) bytes none.ending (inl none.cause) (same_ending text none.ending none.is usage)
+paced_not_usage O factor strict wanted bytes text kept (inr has) usage = paced_scenario_not O factor strict wanted has.scenario text kept has.outcome usage

@@ -3,9 +3,10 @@ use Rattle.std.proofs.Common.{◌≡◌, ℕ, ◌≤◌, arith, inl, inr, ◌∙
 use Rattle.std.specs.Prelude.{is_some, IfOk, IfErr}
 use Rattle.mk_outside.specs.Counts.{HasRisen}
 use Rattle.mk_outside.specs.Folders.{Files}
-use Rattle.mosaikrun_words.specs.declared.request.Request.TheVariants.{Run}
+use Rattle.mosaikrun_words.specs.declared.request.Request.TheVariants.{Run, Paced}
 use Rattle.mosaikrun_endings.specs.declared.ending.Ending.{Ending}
 use Rattle.mosaikrun_run.specs.Outcomes.{IsRunOutcome}
+use Rattle.mosaikrun_paced.specs.Outcomes.{IsPacedOutcome}
 use Rattle.mosaikrun_program.specs.Answers.{PrintAnswer}
 use Rattle.mosaikrun_program.specs.Around.{Around, FolderSeen, OutputSeen}
 use Rattle.mosaikrun_program.specs.Commands.{AreHeld, IsHeld, OfOne}
@@ -36,6 +37,26 @@ was_run S scenario name answer d = by d.read d.held d.outcome
 
 pub is_run : (S : Around) (scenario : List ℕ) (name : Option (List ℕ)) (answer : Result (Unit {0}) Ending) → WasRun S scenario name answer → IsDoneOver S (Run scenario name) answer
 is_run S scenario name answer w = record { read = w.bytes ∷ []; held = (w.held, tt); text = w.text; kept = w.kept; outcome = w.outcome; ended = w.ended }
+
+-- what a run of a scenario's file by a clock came to
+pub record WasPaced (S : Around) (scenario : List ℕ) (factor : ℕ) (strict : Option ℕ) (name : Option (List ℕ)) (answer : Result (Unit {0}) Ending) : Type 0 where
+  pub bytes : List ℕ
+  pub held : IsHeld S.folder.files scenario bytes
+  pub text : Result (List ℕ) Ending
+  pub kept : Option (List ℕ)
+  pub outcome : IsPacedOutcome S.outside factor strict (is_some name) bytes text kept
+  pub ended : RunAnswer S.folder S.output name text kept answer
+
+pub was_paced : (S : Around) (scenario : List ℕ) (factor : ℕ) (strict : Option ℕ) (name : Option (List ℕ)) (answer : Result (Unit {0}) Ending) → IsDoneOver S (Paced scenario factor strict name) answer → WasPaced S scenario factor strict name answer
+was_paced S scenario factor strict name answer d = by d.read d.held d.outcome
+  where
+    by : (read : List (List ℕ)) → AreHeld S.folder.files (scenario ∷ []) read → OfOne (λ b o. IsPacedOutcome S.outside factor strict (is_some name) b o d.kept) read d.text → WasPaced S scenario factor strict name answer
+    by [] held none = absurd none
+    by (bytes ∷ []) held outcome = record { bytes = bytes; held = held.0; text = d.text; kept = d.kept; outcome = outcome; ended = d.ended }
+    by (bytes ∷ other ∷ more) held none = absurd none
+
+pub is_paced : (S : Around) (scenario : List ℕ) (factor : ℕ) (strict : Option ℕ) (name : Option (List ℕ)) (answer : Result (Unit {0}) Ending) → WasPaced S scenario factor strict name answer → IsDoneOver S (Paced scenario factor strict name) answer
+is_paced S scenario factor strict name answer w = record { read = w.bytes ∷ []; held = (w.held, tt); text = w.text; kept = w.kept; outcome = w.outcome; ended = w.ended }
 
 -- the output has taken the text, or a beginning of it
 pub reported : (folder : FolderSeen) (out : OutputSeen) (name kept : Option (List ℕ)) (text : List ℕ) (answer : Result (Unit {0}) Ending) → IsSaved folder name kept → PrintAnswer out (Ok text) answer → RunAnswer folder out name (Ok text) kept answer

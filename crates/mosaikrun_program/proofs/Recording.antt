@@ -24,7 +24,7 @@ use Rattle.mosaikrun_program.proofs.Answering.{one_request}
 use Rattle.mosaikrun_program.proofs.Playing.{was_run}
 
 -- the bytes are one scenario
-one_scenario : (X Y : Scenario) (bytes : List ℕ) → scenario_of bytes ≡ Ok X → scenario_of bytes ≡ Ok Y → X ≡ Y
+pub one_scenario : (X Y : Scenario) (bytes : List ℕ) → scenario_of bytes ≡ Ok X → scenario_of bytes ≡ Ok Y → X ≡ Y
 one_scenario X Y bytes a b = let both : Ok X ≡ Ok Y = sym a ∙ b in cc
 
 module _ (S : Around) (bytes name : List ℕ) where

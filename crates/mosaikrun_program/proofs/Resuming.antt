@@ -1,5 +1,5 @@
 -- What becomes of the file that a run that goes on saves its record in, by how the program ended.
-use Rattle.std.proofs.Common.{◌≡◌, ◌≤◌, ◌<◌, ◌⊎◌, inl, inr, ℕ, true, List, [], ◌∷◌, length, map, Option, Some, None, Result, Ok, Err, refl, sym, ap, ◌∙◌, subst, arith}
+use Rattle.std.proofs.Common.{◌≡◌, ◌≤◌, ◌⊎◌, inl, inr, ℕ, true, List, [], ◌∷◌, length, map, Option, Some, None, Result, Ok, Err, refl, sym, ap, ◌∙◌, subst, arith}
 use Rattle.std.specs.Prelude.{IfSome}
 use Rattle.mk_base.proofs.Lists.{some_same}
 use Rattle.mk_outside.specs.Counts.{HasRisen}
@@ -9,7 +9,6 @@ use Rattle.mk_record.specs.Reading.{reading, Said, Faulty}
 use Rattle.mk_record.specs.Seen.{came as came_}
 use Rattle.mk_record.specs.Texts.{record_text}
 use Rattle.mk_record_read.specs.declared.saved.Saved.{Saved}
-use Rattle.mk_scenario.specs.declared.parts.Scenario.{Scenario}
 use Rattle.mosaikrun_words.specs.declared.request.Request.{Request}
 use Rattle.mosaikrun_words.specs.declared.request.Request.TheVariants.{Files as Reads, Resume}
 use Rattle.mosaikrun_check.specs.CheckText.{check_text}
@@ -20,7 +19,7 @@ use Rattle.mosaikrun_endings.specs.declared.ending.Ending.TheVariants as ends
 use Rattle.mosaikrun_endings.specs.Endings.{status_of}
 use Rattle.mosaikrun_records.specs.Saved.{IsRecord, IsUnread}
 use Rattle.mosaikrun_run.specs.Outcomes.{IsReadAgain}
-use Rattle.mosaikrun_resume.specs.Outcomes.{HasGoneOn, IsResumeOutcome, IsSavedOutcome, IsStudy, IsStudyOutcome}
+use Rattle.mosaikrun_resume.specs.Outcomes.{IsResumeOutcome, IsSavedOutcome, IsStudy}
 use Rattle.mosaikrun_program.specs.Around.{Around}
 use Rattle.mosaikrun_program.specs.Commands.{AreHeld, IsAccepted, IsAsked, IsHeld, IsNext, IsStuckBy, IsUnasked, IsUnreadable, OfTwoBy, files_of}
 use Rattle.mosaikrun_program.specs.Program.{Ended, HasPerformed, status}

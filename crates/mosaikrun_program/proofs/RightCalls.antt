@@ -23,9 +23,9 @@ use Rattle.mk_run.specs.Ends.{QueuedAll}
 use Rattle.mk_run.proofs.RunRight.{runs_right}
 use Rattle.mk_record.specs.Texts.{record_text}
 use Rattle.mosaikrun_words.specs.declared.request.Request.{Request}
-use Rattle.mosaikrun_words.specs.declared.request.Request.TheVariants.{Files as Reads, Run, Resume, Demo}
+use Rattle.mosaikrun_words.specs.declared.request.Request.TheVariants.{Files as Reads, Run, Resume, Paced, Demo}
 use Rattle.mosaikrun_endings.specs.declared.ending.Ending.{Ending}
-use Rattle.mosaikrun_endings.specs.declared.ending.Ending.TheVariants.{Usage, Missing, TooLong, Scenario as BadScenario, Watches, Cycle, Launch, Setup, Record, Wrong, Failed, LoopLimit, Link, Short, Differs, OtherPlan, OtherMessage, Fleet, Folder, Output, Entries, LongItem, Mem}
+use Rattle.mosaikrun_endings.specs.declared.ending.Ending.TheVariants.{Usage, Missing, TooLong, Scenario as BadScenario, Watches, Cycle, Launch, Setup, Record, Wrong, Failed, LoopLimit, Link, Short, Differs, OtherPlan, OtherMessage, Late, Fleet, Folder, Output, Entries, LongItem, Mem}
 use Rattle.mosaikrun_endings.specs.Endings.{status_of}
 use Rattle.mosaikrun_sayings.specs.Sayings.{ids_of}
 use Rattle.mosaikrun_run.specs.declared.sayings.Form.{Form}
@@ -40,7 +40,7 @@ use Rattle.mk_resume_loop.specs.declared.ending.ResumeEnd.TheVariants as resume_
 use Rattle.mk_resume.specs.Resumed.{HasFaultySaved, IsRefusedBy}
 use Rattle.mosaikrun_sayings.specs.Stops.{stop_of}
 use Rattle.mosaikrun_run.specs.Sayings.{saying_of}
-use Rattle.mosaikrun_resume.specs.Outcomes.{HasGoneOn, HasRecord, IsNotTaken, IsResumeOutcome, IsSavedOutcome, IsStudy, IsStudyOutcome}
+use Rattle.mosaikrun_resume.specs.Outcomes.{HasGoneOn, IsNotTaken, IsResumeOutcome, IsSavedOutcome, IsStudy}
 use Rattle.mosaikrun_resume.specs.Sayings.{resume_saying}
 use Rattle.mosaikrun_resume.proofs.Reporting as resuming
 use Rattle.mosaikrun_program.specs.Commands.{AreHeld, IsHeld, OfTwoBy}
@@ -53,7 +53,14 @@ use Rattle.mosaikrun_program.specs.Making.{HasMade}
 use Rattle.mosaikrun_program.specs.Program.{Ended, HasPerformed, status}
 use Rattle.mosaikrun_program.specs.Headline.{IsPut, IsRightCall, IsRightFor, IsRightRun, IsRightStudy, IsUnbegun, MayCome}
 use Rattle.mosaikrun_program.proofs.Answering.{one_request}
-use Rattle.mosaikrun_program.proofs.Playing.{WasRun, was_run}
+use Rattle.mosaikrun_program.specs.Pacing.{IsRightPaced, IsRightPacedRun}
+use Rattle.mk_plan.specs.Report.{report}
+use Rattle.mk_scenario.specs.Scenarios.{scenario_of}
+use Rattle.mk_pace_laws.specs.declared.end.PaceEnd.TheVariants as pace_end
+use Rattle.mk_pace_laws.proofs.PacesRight.{paces_right}
+use Rattle.mosaikrun_paced.specs.Outcomes.{IsPacedOutcome, IsPacedRun, IsPacedScenario}
+use Rattle.mosaikrun_paced.proofs.Reporting as pacing
+use Rattle.mosaikrun_program.proofs.Playing.{WasPaced, WasRun, was_paced, was_run}
 
 -- no ending has the status 0
 pub not_zero : (e : Ending) → status_of e ≡ 0 → ⊥
@@ -74,6 +81,7 @@ not_zero (Short outstanding) zero = omega (arith, zero)
 not_zero (Differs entry) zero = omega (arith, zero)
 not_zero (OtherPlan part) zero = omega (arith, zero)
 not_zero (OtherMessage sim place) zero = omega (arith, zero)
+not_zero (Late sim time late allowed) zero = omega (arith, zero)
 not_zero Fleet zero = omega (arith, zero)
 not_zero Folder zero = omega (arith, zero)
 not_zero Output zero = omega (arith, zero)
@@ -318,10 +326,65 @@ resume_right C r scenario recorded name d = by d.read d.held d.outcome
     by (bytes ∷ old ∷ []) h outcome = both bytes old h.0 h.1.0 outcome
     by (bytes ∷ old ∷ other ∷ more) h outcome = absurd outcome
 
+-- a run by a clock
+module _ (C : Around) (factor : ℕ) (strict : Option ℕ) (S : Scenario) (name : Option (List ℕ)) where
+  -- a run with its plan
+  paced : (text : Result (List ℕ) Ending) (kept : Option (List ℕ)) (n : ℕ) (p : IsPacedRun C.outside factor strict (is_some name) S text kept) → (n ≡ 0 → p.end ≡ pace_end.Outcome outcome.Done)
+      → (n ≡ 0 → (R : Messages) → MayCome C.outside S p.plan R → C.output.after ≡ appended (report p.plan (run_items p.plan R)) C.output.before)
+      → Filed C name n p.plan p.journal → IsRightPacedRun C factor strict S name n
+  paced text kept n p over told filed =
+      let O = C.outside in
+      let right = paces_right O.started S (kind_reply_of O.kinds S) p.plan p.journal (record { origin = p.run.origin; factor = factor }) strict p.moments O.log O.faults O.new_faults p.end p.run.run in
+      let come : Messages = λ i. coming (sim_link O.started S i) (run_messages S O.log i) (got p.journal i) in
+      record {
+        ranks = p.ranks;
+        plan = p.plan;
+        journal = p.journal;
+        moments = p.moments;
+        end = p.end;
+        run = p.run;
+        right = right;
+        possible = λ zero. (
+          come,
+          record {
+            by_kind = (right.done (over zero)).answers come (λ i low. goes_on (sim_link O.started S i) (run_messages S O.log i) (got p.journal i) (p.run.run.journal.links i));
+            links = λ i l linked. is_heard (sim_link O.started S i) (run_messages S O.log i) (got p.journal i) l linked;
+          },
+        );
+        text = told;
+        recorded = filed;
+      }
+
+  paced_as : (text : Result (List ℕ) Ending) (kept : Option (List ℕ)) (r : Result (Unit {0}) Ending) → RunAnswer C.folder C.output name text kept r → IsPacedRun C.outside factor strict (is_some name) S text kept → IsRightPacedRun C factor strict S name (status r)
+  paced_as (Ok t) kept r said p =
+      let shown = shown_by_run C name (Ok t) kept r said in
+      paced (Ok t) kept (status r) p
+      (λ zero. (pacing.done_alone (ids_of S) p.plan p.journal p.end t p.said).0)
+      (λ zero R may. shown.put t refl zero ∙ ap (λ x. appended x C.output.before) (pacing.texts_sequential paces_right C.outside factor strict (is_some name) S t kept p R may).0)
+      (elim p.recorded [ inl is ↦ filed_by C name (Ok t) kept r said p.plan p.journal is | inr none ↦ cc ])
+  paced_as (Err e) kept r said p =
+      let not = ((shown_by_run C name (Err e) kept r said).unput e refl).1 in
+      paced (Err e) kept (status r) p (λ zero. absurd (not zero)) (λ zero R may. absurd (not zero)) (λ zero target named. absurd (not zero))
+
+pace_right : (C : Around) (r : Result (Unit {0}) Ending) (scenario : List ℕ) (factor : ℕ) (strict : Option ℕ) (name : Option (List ℕ)) → WasPaced C scenario factor strict name r → IsUnbegun C (status r) ⊎ IsRightPaced C scenario factor strict name (status r)
+pace_right C r scenario factor strict name ran = by ran.outcome
+  where
+    went : (S : Scenario) → scenario_of ran.bytes ≡ Ok S → IsPacedScenario C.outside factor strict (is_some name) S ran.text ran.kept → IsUnbegun C (status r) ⊎ IsRightPaced C scenario factor strict name (status r)
+    went S read (inl unready) = inl (quiet C name ran.text ran.kept r ran.ended unready.ending unready.is unready.idle.quiet)
+    went S read (inr (inl unpaced)) =
+        let t = ending_seen C name ran.text ran.kept r ran.ended (halt_ending (ids_of S) unpaced.unrun.halt) unpaced.unrun.said in
+        inr (record { bytes = ran.bytes; held = ran.held; scenario = S; read = read; went = inl (record { unpaced = (ran.text, ran.kept, unpaced); unput = t.0; status = t.1 }) })
+    went S read (inr (inr p)) = inr (record { bytes = ran.bytes; held = ran.held; scenario = S; read = read; went = inr (paced_as C factor strict S name ran.text ran.kept r ran.ended p) })
+
+    by : IsPacedOutcome C.outside factor strict (is_some name) ran.bytes ran.text ran.kept → IsUnbegun C (status r) ⊎ IsRightPaced C scenario factor strict name (status r)
+    by (inl none) = inl (quiet C name ran.text ran.kept r ran.ended none.ending none.is none.idle.quiet)
+    by (inr has) = went has.scenario has.read has.outcome
+
 -- what was done over a fleet
 done_right : (C : Around) (r : Result (Unit {0}) Ending) (R : Request) → IsDoneOver C R r → IsRightFor C (status r) R
 done_right C r (Run scenario name) d = run_right C r scenario name (was_run C scenario name r d)
 done_right C r (Resume scenario recorded name) d = resume_right C r scenario recorded name d
+done_right C r (Paced scenario factor strict name) d = pace_right C r scenario factor strict name (was_paced C scenario factor strict name r d)
 done_right C r (Demo size) d = studied C Summary false (demo_scenario size) None (status r) d.text None d.outcome.0 (shown_by_run C None d.text d.kept r d.ended) (λ P J is zero name named. cc)
 done_right C r (Reads command) d = absurd d.outcome
 
@@ -348,6 +411,7 @@ made_right C r has = λ zero.
 untouched_right : (C : Around) (n : ℕ) → (n ≡ 0 → ⊥) → IsUntouched C → (Q : Request) → IsRightFor C n Q
 untouched_right C n not untouched (Run name saved) = inl (record { silent = untouched.log; unput = untouched.unput; status = not })
 untouched_right C n not untouched (Resume name recorded saved) = inl (record { silent = untouched.log; unput = untouched.unput; status = not })
+untouched_right C n not untouched (Paced name factor strict saved) = inl (record { silent = untouched.log; unput = untouched.unput; status = not })
 untouched_right C n not untouched (Demo size) = inl (record { silent = untouched.log; unput = untouched.unput; status = not })
 untouched_right C n not untouched (Reads command) = λ zero. absurd (not zero)
 

@@ -9,7 +9,7 @@ use Rattle.mosaikrun_words.specs.declared.request.FileCommand.{FileCommand}
 use Rattle.mosaikrun_words.specs.declared.request.FileCommand.TheVariants.{Replay, Check, Pair}
 use Rattle.mosaikrun_words.specs.declared.request.PairCommand.TheVariants.{Migrate, Watch, Blame}
 use Rattle.mosaikrun_words.specs.declared.request.Request.{Request}
-use Rattle.mosaikrun_words.specs.declared.request.Request.TheVariants.{Files as Reads, Run, Resume, Demo}
+use Rattle.mosaikrun_words.specs.declared.request.Request.TheVariants.{Files as Reads, Run, Resume, Paced, Demo}
 use Rattle.mosaikrun_endings.specs.declared.ending.Ending.{Ending}
 use Rattle.mosaikrun_endings.specs.declared.ending.Ending.TheVariants.{Usage, Mem}
 use Rattle.mosaikrun_endings.specs.Endings.{outcome_status}
@@ -23,10 +23,11 @@ use Rattle.mosaikrun_watch.specs.Watched.{IsWatchOutcome}
 use Rattle.mosaikrun_watch.proofs.OneWatch.{one_outcome as one_watch}
 use Rattle.mosaikrun_run.specs.Outcomes.{IsRunOutcome, Outside}
 use Rattle.mosaikrun_program.specs.Around.{RulesSeen}
-use Rattle.mosaikrun_resume.specs.Outcomes.{IsResumeOutcome, IsStudy}
+use Rattle.mosaikrun_resume.specs.Outcomes.{IsStudy}
+use Rattle.mosaikrun_paced.specs.Outcomes.{IsPacedOutcome}
 use Rattle.mosaikrun_program.specs.Commands.{AreHeld, IsAccepted, IsNext, IsNoFile, IsOutcomeOf, IsReadOn, OfOne, OfTwo, OfTwoBy, files_of, read_by}
 use Rattle.mosaikrun_program.specs.Running.{IsOutcomeOver}
-use Rattle.mosaikrun_program.proofs.NeverUsage.{outcome_not_usage, resume_not_usage, scenario_not_usage, stopped_not_usage, unchecked_not_usage, unread_not_usage}
+use Rattle.mosaikrun_program.proofs.NeverUsage.{outcome_not_usage, paced_not_usage, resume_not_usage, scenario_not_usage, stopped_not_usage, unchecked_not_usage, unread_not_usage}
 
 -- the file of this name is there, and short enough
 pub record IsThere (held : Files) (name : List ℕ) : Type 0 where
@@ -204,6 +205,10 @@ row_over O (Resume scenario recorded saved) = record { next = λ held read befor
     never (bytes ∷ []) text kept outcome usage = resume_not_usage O (is_some saved) bytes [] text kept (outcome.1 []) usage
     never (bytes ∷ old ∷ []) text kept outcome usage = resume_not_usage O (is_some saved) bytes old text kept outcome usage
     never (bytes ∷ old ∷ other ∷ more) text kept none usage = none
+row_over O (Paced scenario factor strict saved) = record { next = λ held read before name text kept h k on made comes. next_of_one held _ scenario read before name text h made comes; never = never }
+  where
+    never : (read : List (List ℕ)) (text : Result (List ℕ) Ending) (kept : Option (List ℕ)) → IsOutcomeOver O (Paced scenario factor strict saved) read text kept → text ≡ Err Usage → ⊥
+    never read text kept made usage = let x = one_read (λ b o. IsPacedOutcome O factor strict (is_some saved) b o kept) read text made in paced_not_usage O factor strict (is_some saved) x.bytes text kept x.made usage
 row_over O (Demo size) = record {
   next = λ held read before name text kept h k on made comes. absurd comes;
   never = λ read text kept made usage. scenario_not_usage O _ _ _ text _ made.0 usage;

@@ -5,7 +5,7 @@ use Rattle.mosaikrun_words.specs.declared.request.FileCommand.{FileCommand}
 use Rattle.mosaikrun_words.specs.declared.request.FileCommand.TheVariants.{Replay, Check, Pair}
 use Rattle.mosaikrun_words.specs.declared.request.PairCommand.TheVariants.{Migrate, Watch, Blame}
 use Rattle.mosaikrun_words.specs.declared.request.Request.{Request}
-use Rattle.mosaikrun_words.specs.declared.request.Request.TheVariants.{Files as Reads, Run, Resume, Demo}
+use Rattle.mosaikrun_words.specs.declared.request.Request.TheVariants.{Files as Reads, Run, Resume, Paced, Demo}
 use Rattle.mosaikrun_words.specs.Requests.{IsRequest}
 use Rattle.mk_local.specs.declared.turn.Turn.{Turn}
 use Rattle.mk_local.specs.Kinds.{name_of}
@@ -36,6 +36,7 @@ abbrev pub files_of : Request → List (List ℕ)
 files_of (Reads command) = read_by command
 files_of (Run scenario saved) = scenario ∷ []
 files_of (Resume scenario recorded saved) = scenario ∷ recorded ∷ []
+files_of (Paced scenario factor strict saved) = scenario ∷ []
 files_of (Demo size) = []
 
 -- the name that a command saves its text under; where there is none, the text is printed
@@ -49,6 +50,7 @@ abbrev pub saved_name : Request → Option (List ℕ)
 saved_name (Reads command) = target_of command
 saved_name (Run scenario name) = name
 saved_name (Resume scenario recorded name) = name
+saved_name (Paced scenario factor strict name) = name
 saved_name (Demo size) = None
 
 -- what comes of one file
@@ -109,6 +111,7 @@ IsNext (first ∷ names) (bytes ∷ read) name = IsNext names read name
 abbrev pub IsAccepted : List (List ℕ) → Request → List ℕ → Type 0
 IsAccepted kinds (Resume scenario recorded saved) = IsStudy kinds
 IsAccepted kinds (Run scenario saved) = IsRecord
+IsAccepted kinds (Paced scenario factor strict saved) = IsRecord
 IsAccepted kinds (Demo size) = IsRecord
 IsAccepted kinds (Reads command) = IsRecord
 

@@ -1,5 +1,5 @@
--- When a run, or one that goes on from a record, comes to its end, and when its scenario or its record
--- is refused.
+-- When a run, one that goes on from a record, or one by a clock comes to its end, and when its scenario
+-- or its record is refused.
 use Rattle.std.specs.Prelude.{◌≡◌, ℕ, ◌≤◌, length, map, List, Option, Some, None, IfSome, Ok}
 use Rattle.mk_plan.specs.declared.Plan.{Plan}
 use Rattle.mk_plan.specs.declared.Entry.{Entry}
@@ -21,9 +21,13 @@ use Rattle.mk_record.specs.Seen.{came}
 use Rattle.mk_record_read.specs.declared.saved.Saved.{Saved}
 use Rattle.mk_record_restored.specs.Restored.{IsFaulted, IsOtherIn}
 use Rattle.mk_resume_loop.specs.declared.ending.ResumeEnd.{ResumeEnd}
+use Rattle.mk_pace_laws.specs.declared.end.Moment.{Moment}
+use Rattle.mk_pace_laws.specs.declared.end.PaceEnd.{PaceEnd}
+use Rattle.mk_pace_laws.specs.Laws.{IsFaultlessPace}
+use Rattle.mk_pace_laws.specs.Paced.{HasPaced}
 use Rattle.mk_resume.specs.Laws as onward
 use Rattle.mk_resume.specs.Resumed.{HasRefused, HasResumed}
-use Rattle.mosaikrun_words.specs.declared.request.Request.TheVariants.{Run, Resume}
+use Rattle.mosaikrun_words.specs.declared.request.Request.TheVariants.{Run, Resume, Paced}
 use Rattle.mosaikrun_endings.specs.declared.ending.Ending.{Ending}
 use Rattle.mosaikrun_endings.specs.declared.ending.Ending.TheVariants as ends
 use Rattle.mosaikrun_check.specs.Checks.{IsUnchecked}
@@ -68,10 +72,11 @@ pub record IsRightRecord (P : Plan) (old : Saved) : Type 0 where
   pub no_fault : (J : List Entry) (f : CoreFault) → IsFaulted P (map came old.arrivals) J f → ⊥
 
 -- nothing went wrong that a run can show which goes on from a record: the bytes are such a scenario,
--- whose handshake shows no fault, and a record, which is right by each plan that the handshake, where
--- nothing followed it, may have made; and a resumed run shows no fault: each simulator repeats its
--- saved messages, and then no message is wrong in its place, no limit is met, no link ends, no frame
--- is garbled or too long, no count rises
+-- whose handshake shows no fault, and a record, which, where nothing followed the handshake, is right
+-- by the plan that its answers make, those of simulators with a link being the first messages that
+-- were heard there; and a resumed run shows no fault: each simulator repeats its saved messages, and
+-- then no message is wrong in its place, no limit is met, no link ends, no frame is garbled or too
+-- long, no count rises
 pub record IsFaultlessResume (O : Outside) (bytes recorded : List ℕ) : Type 0 where
   pub scenario : Scenario
   pub ranks : List ℕ
@@ -102,3 +107,33 @@ EndsResume C n = IfSome C.folder.files (λ held. (scenario recorded : List ℕ)
     × ((old : List ℕ) → held recorded ≡ Some old → length old ≤ file_limit
     → (IsFaultlessResume C.outside bytes old → IsStatusOr 0 n)
     × ((e : Ending) → IsUnread old e → (e ≡ ends.Mem → ⊥) → IsStatusOr 3 n)))
+
+-- nothing went wrong: the bytes are such a scenario, whose handshake shows no fault, and neither does a
+-- paced run of it: no message is wrong in its place, no limit is met, no link ends, no frame is garbled
+-- or too long, no count rises, and no Step is too late
+pub record IsFaultlessPacedStudy (O : Outside) (factor : ℕ) (strict : Option ℕ)
+    (bytes : List ℕ) : Type 0 where
+  pub scenario : Scenario
+  pub ranks : List ℕ
+  pub read : scenario_of bytes ≡ Ok scenario
+  pub ranked : AreRanks scenario ranks
+  pub prepared : IsPrepared scenario (map name_of O.kinds)
+  pub handshake : (any : List ℕ) → AreRanks scenario any
+      → IsFaultlessHandshake O.started scenario any O.kinds O.log (HasRisen O.faults O.new_faults)
+  pub run : (any : List ℕ) (P : Plan) (J : List Entry) (moments : List Moment) (end : PaceEnd)
+      → (h : HasPaced O.started scenario any O.kinds factor strict P J moments O.log O.faults
+      O.new_faults end)
+      → IsFaultlessPace O.started scenario P J (record { origin = h.origin; factor = factor }) strict
+      moments O.log O.faults O.new_faults
+
+-- a paced run of a file's bytes, where nothing goes wrong, comes to its end: its status is 0, or that of
+-- a folder or an output that failed, or of want of memory. Where the bytes are refused, as by a run, it
+-- is 3, or one of these
+abbrev pub EndsPaced : Around → ℕ → Type 0
+EndsPaced C n = IfSome C.folder.files (λ held. (scenario : List ℕ) (factor : ℕ) (strict : Option ℕ)
+    (saved : Option (List ℕ)) (bytes : List ℕ)
+    → IsAsked C.words (Paced scenario factor strict saved) → held scenario ≡ Some bytes
+    → length bytes ≤ file_limit
+    → (IsFaultlessPacedStudy C.outside factor strict bytes → IsStatusOr 0 n)
+    × ((e : Ending) → IsUnchecked (map name_of C.outside.kinds) bytes e → (e ≡ ends.Mem → ⊥)
+    → IsStatusOr 3 n))

@@ -28,7 +28,7 @@ use Rattle.mk_setup.specs.Handshakes.{IsMade}
 use Rattle.mk_record.specs.Texts.{record_text}
 use Rattle.mosaikrun_words.specs.declared.request.Request.{Request}
 use Rattle.mosaikrun_words.specs.declared.request.FileCommand.{FileCommand}
-use Rattle.mosaikrun_words.specs.declared.request.Request.TheVariants.{Files, Run, Resume, Demo}
+use Rattle.mosaikrun_words.specs.declared.request.Request.TheVariants.{Files, Run, Resume, Paced, Demo}
 use Rattle.mosaikrun_run.specs.declared.sayings.Form.{Form}
 use Rattle.mosaikrun_run.specs.declared.sayings.Form.TheVariants.{Report, Summary}
 use Rattle.mosaikrun_run.specs.Outcomes.{Outside}
@@ -36,6 +36,7 @@ use Rattle.mosaikrun_run.specs.Sayings.{text_of}
 use Rattle.mosaikrun_program.specs.Around.{Around}
 use Rattle.mosaikrun_program.specs.Commands.{AreHeld, IsAsked, IsHeld, IsOutcomeOf, read_by, target_of}
 use Rattle.mosaikrun_program.specs.Resuming.{IsRightResume}
+use Rattle.mosaikrun_program.specs.Pacing.{IsRightPaced}
 
 -- messages of the simulators that may come: on each link those that were heard there, and whatever
 -- goes on; of simulators within the program what their kinds answer
@@ -127,6 +128,8 @@ abbrev pub IsRightFor : Around → ℕ → Request → Type 0
 IsRightFor C n (Run scenario saved) = IsUnbegun C n ⊎ IsRightRun C scenario saved n
 IsRightFor C n (Resume scenario recorded saved) = IsUnbegun C n
     ⊎ IsRightResume C scenario recorded saved n
+IsRightFor C n (Paced scenario factor strict saved) = IsUnbegun C n
+    ⊎ IsRightPaced C scenario factor strict saved n
 IsRightFor C n (Demo size) = IsUnbegun C n ⊎ IsRightStudy C Summary (demo_scenario size) None n
 IsRightFor C n (Files command) = n ≡ 0 → IsRightText C command
 

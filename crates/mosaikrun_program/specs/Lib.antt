@@ -5,6 +5,7 @@ pub mod Complete
 pub mod Fleetless
 pub mod Headline
 pub mod Making
+pub mod Pacing
 pub mod Program
 pub mod Recording
 pub mod Resuming

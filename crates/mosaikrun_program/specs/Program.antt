@@ -12,6 +12,7 @@ use Rattle.mosaikrun_program.specs.Commands.{IsAccepted, IsAsked, IsStuckBy, IsU
 use Rattle.mosaikrun_program.specs.Making.{HasMade}
 use Rattle.mosaikrun_program.specs.Recording.{IsRecordKept}
 use Rattle.mosaikrun_program.specs.Resuming.{IsNewRecordKept}
+use Rattle.mosaikrun_program.specs.Pacing.{IsPaceRecordKept}
 use Rattle.mosaikrun_program.specs.Running.{HasRunAs}
 
 -- the words ask for nothing
@@ -70,6 +71,7 @@ pub record EndsWith (S : Around) (failed : Type 0) (err_before err_after : Optio
   pub told : Told answer failed err_before err_after
   pub recorded : IsRecordKept S answer n
   pub resumed : IsNewRecordKept S answer n
+  pub paced : IsPaceRecordKept S answer n
 
 -- the status that goes with an outcome, or that of a folder or an output that failed, or of want of
 -- memory

@@ -4,13 +4,14 @@ use Rattle.mk_outside.specs.Counts.{HasRisen}
 use Rattle.mk_outside.specs.Folders.{Files, with_file}
 use Rattle.mk_outside.specs.Sinks.{TookBeginning, appended}
 use Rattle.mosaikrun_words.specs.declared.request.Request.{Request}
-use Rattle.mosaikrun_words.specs.declared.request.Request.TheVariants.{Files as Reads, Run, Resume, Demo}
+use Rattle.mosaikrun_words.specs.declared.request.Request.TheVariants.{Files as Reads, Run, Resume, Paced, Demo}
 use Rattle.mk_local.specs.Kinds.{name_of}
 use Rattle.mosaikrun_endings.specs.declared.ending.Ending.{Ending}
 use Rattle.mosaikrun_endings.specs.declared.ending.Ending.TheVariants.{Folder, Mem}
 use Rattle.mosaikrun_run.specs.Outcomes.{IsRunOutcome, Outside}
 use Rattle.mosaikrun_demo.specs.Outcomes.{IsDemoOutcome}
 use Rattle.mosaikrun_resume.specs.Outcomes.{IsResumeOutcome, IsStudy}
+use Rattle.mosaikrun_paced.specs.Outcomes.{IsPacedOutcome}
 use Rattle.mosaikrun_program.specs.Commands.{AreHeld, IsAsked, OfOne, OfTwoBy, files_of, saved_name}
 use Rattle.mosaikrun_program.specs.Around.{Around, FolderSeen, IsCutBy, IsSaidAs, OutputSeen}
 
@@ -23,6 +24,9 @@ IsOutcomeOver O (Run scenario name) read text kept =
 IsOutcomeOver O (Resume scenario recorded name) read text kept =
     OfTwoBy (IsStudy (map name_of O.kinds))
     (λ bytes old outcome. IsResumeOutcome O (is_some name) bytes old outcome kept) read text
+IsOutcomeOver O (Paced scenario factor strict name) read text kept =
+    OfOne (λ bytes outcome. IsPacedOutcome O factor strict (is_some name) bytes outcome kept) read
+    text
 IsOutcomeOver O (Demo size) read text kept = IsDemoOutcome O size text × (kept ≡ None)
 IsOutcomeOver O (Reads command) read text kept = ⊥
 

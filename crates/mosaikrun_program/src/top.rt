@@ -1,5 +1,5 @@
 // The top call: all that the program does, over a folder, a fleet and two sinks.
-ghost use Rattle.std.specs.Prelude.{◌≡◌, ℕ, ◌≤◌, ◌<◌, ◌⊎◌, List, Some, Result, Err, IfSome, IfOk, IfErr, OnOk, OnErr, map, option_map};
+ghost use Rattle.std.specs.Prelude.{◌≡◌, ℕ, ◌≤◌, ◌<◌, ◌⊎◌, List, Some, Result, Err, IfSome, IsSome, IfOk, IfErr, OnOk, OnErr, map, option_map};
 ghost use Rattle.std.specs.String.{string_bytes};
 ghost use Rattle.mk_outside.specs.Counts.{HasRisen};
 ghost use Rattle.mk_outside.specs.Folders.{with_file};
@@ -15,10 +15,13 @@ ghost use Rattle.mosaikrun_endings.specs.declared.ending.Ending.{Ending};
 ghost use Rattle.mosaikrun_endings.specs.declared.ending.Ending.TheVariants as ends;
 ghost use Rattle.mosaikrun_endings.specs.Endings.{line_of, outcome_status, status_of};
 ghost use Rattle.mosaikrun_run.specs.Outcomes.{outside};
+ghost use Rattle.mosaikrun_words.specs.Requests.{most_milliseconds};
+ghost use Rattle.mk_pace_laws.specs.Clocks.{IsRising};
 ghost use Rattle.mosaikrun_program.specs.Around.{FolderSeen, KeepsCountsAndLinks, RulesSeen, folder_seen, links_seen, output_seen, rules_seen};
 ghost use Rattle.mosaikrun_program.specs.inner.Around.{unused};
 ghost use Rattle.mosaikrun_program.specs.Commands.{AreHeld, IsAccepted, IsAsked, IsNext, IsNoFile, IsOutcomeOf, IsReadOn, IsUnasked, files_of, read_by};
-ghost use Rattle.mosaikrun_program.specs.Complete.{EndsResume, EndsRun};
+ghost use Rattle.mosaikrun_program.specs.Pacing.{AsksForPace};
+ghost use Rattle.mosaikrun_program.specs.Complete.{EndsPaced, EndsResume, EndsRun};
 ghost use Rattle.mosaikrun_program.specs.Fleetless.{IsHeldWithin, NeedsNoFleet};
 ghost use Rattle.mosaikrun_program.specs.Headline.{IsRightCall};
 ghost use Rattle.mosaikrun_program.specs.Running.{IsDoneOver};
@@ -28,11 +31,12 @@ use crate::commands::{file_bytes, made, target_of};
 use crate::handing::{hand_out, print};
 use mk_base::Text;
 use mk_local::Registry;
-use mk_outside::{FileSave, Fleet, Folder, PutAll, Sink, put_all};
+use mk_outside::{FileSave, Fleet, Folder, Paced, PutAll, Sink, put_all};
 use mk_run_crew::handshakes_complete;
 use mk_watch_read::Rules;
 use mosaikrun_demo::summed;
 use mosaikrun_endings::Ending;
+use mosaikrun_paced::paced_ran;
 use mosaikrun_resume::{resumed, study_of};
 use mosaikrun_run::ran;
 use mosaikrun_words::{FileCommand, Request, read_words};
@@ -42,14 +46,16 @@ use std::sync::Wait;
 /// Does what the words ask. A command on files reads them, and puts what it makes of them to `out`; a migration puts nothing
 /// there, and saves a record. A run reads its scenario's file, is made over the fleet, and may wait for others; it saves its
 /// record, where the words give a name, however it ended. A run that goes on from a record reads that file too, once its scenario
-/// is accepted, and saves the record of the whole run. The demo is a run too, of a scenario that is no file. Answers the status. A scenario's simulators within the program are of these kinds, and tables are made by these rules.
+/// is accepted, and saves the record of the whole run. A run by the clock holds each Step until its moment. The demo is a run
+/// too, of a scenario that is no file. Answers the status. A scenario's simulators within the program are of these kinds, and
+/// tables are made by these rules.
 ///
-/// Nothing is done with the fleet, unless the words ask for a run of a scenario in which some simulator has a link, or for one that
-/// goes on from a record.
+/// Nothing is done with the fleet, unless the words ask for a run by a clock, or for a run, or one that goes on from a record, of a
+/// scenario in which some simulator has a link.
 ///
 /// At a status other than 0 `err` gets a line that says why, and `out` gets nothing, or a beginning of the text where it failed
 /// or found no memory.
-pub fn program<D: Folder, F: Fleet, K: Sink, E: Sink, R: Wait>(
+pub fn program<D: Folder, F: Paced, K: Sink, E: Sink, R: Wait>(
     rt: &R,
     alloc: Global,
     words: &[String],
@@ -102,6 +108,19 @@ pub fn program<D: Folder, F: Fleet, K: Sink, E: Sink, R: Wait>(
           output = output_seen K.written K.faults K.shortages out.old out.new;
         })
         result }
+    ensures paces { (entries : List LogEntry) × Adds entries (F.log fleet.old) (F.log fleet.new)
+        × EndsPaced
+        (record {
+          words = map string_bytes words.now;
+          outside = outside F.started F.faults (rows_in kinds.now) fleet.old fleet.new entries;
+          rules = rules_seen rules.now;
+          folder = folder_seen D.files D.faults folder.old folder.new;
+          output = output_seen K.written K.faults K.shortages out.old out.new;
+        })
+        result }
+    ensures rising { AsksForPace (map string_bytes words.now) → (entries : List LogEntry)
+        × Adds entries (F.log fleet.old) (F.log fleet.new)
+        × (IsSome (F.log fleet.new) → IsRising entries) }
     ensures usage { (result ≡ 2) → (R : Request) → IsAsked (map string_bytes words.now) R → ⊥ }
     ensures useless { ((R : Request) → IsAsked (map string_bytes words.now) R → ⊥)
         → IsStatusOr 2 result }
@@ -135,7 +154,7 @@ pub fn program<D: Folder, F: Fleet, K: Sink, E: Sink, R: Wait>(
 }
 
 // Reads the words, and does what they ask.
-fn answer<D: Folder, F: Fleet, K: Sink, R: Wait>(
+fn answer<D: Folder, F: Paced, K: Sink, R: Wait>(
     rt: &R,
     alloc: Global,
     words: &[String],
@@ -157,6 +176,9 @@ fn answer<D: Folder, F: Fleet, K: Sink, R: Wait>(
         → F.open_links fleet.new ≡ F.open_links fleet.old }
     ensures fleet_unused { NeedsNoFleet (map string_bytes words.now) (D.files folder.old)
         → fleet.new ≡ fleet.old }
+    ensures rising { AsksForPace (map string_bytes words.now) → (entries : List LogEntry)
+        × Adds entries (F.log fleet.old) (F.log fleet.new)
+        × (IsSome (F.log fleet.new) → IsRising entries) }
     ensures folder_count { D.faults folder.old ≤ D.faults folder.new }
     ensures fleet_count { F.faults fleet.old ≤ F.faults fleet.new }
     ensures out_count { K.faults out.old ≤ K.faults out.new }
@@ -185,6 +207,25 @@ fn answer<D: Folder, F: Fleet, K: Sink, R: Wait>(
                 scenario.as_str(),
                 record.as_str(),
                 &save,
+                folder,
+                fleet,
+                kinds,
+                out,
+            )
+        }
+        Request::Paced {
+            scenario,
+            factor,
+            strict,
+            record,
+        } => {
+            pace(
+                rt,
+                alloc,
+                scenario.as_str(),
+                factor,
+                strict,
+                &record,
                 folder,
                 fleet,
                 kinds,
@@ -309,6 +350,7 @@ fn carry_on<D: Folder, F: Fleet, K: Sink, R: Wait>(
         }) result }
     ensures links_closed { AreNumbered (F.started fleet.old) (F.open_links fleet.old)
         → F.open_links fleet.new ≡ F.open_links fleet.old }
+    ensures within { IsHeldWithin (D.files folder.old) scenario.now → fleet.new ≡ fleet.old }
     ensures folder_count { D.faults folder.old ≤ D.faults folder.new }
     ensures fleet_count { F.faults fleet.old ≤ F.faults fleet.new }
     ensures out_count { K.faults out.old ≤ K.faults out.new }
@@ -326,6 +368,64 @@ fn carry_on<D: Folder, F: Fleet, K: Sink, R: Wait>(
         name.is_some(),
     );
     hand_out(told, name, folder, out)
+}
+
+// Reads a scenario's file and runs it over the fleet by its clock, with so many milliseconds to a unit of time; the record is saved
+// under the name, if there is one, and the report is printed.
+fn pace<D: Folder, F: Paced, K: Sink, R: Wait>(
+    rt: &R,
+    alloc: Global,
+    scenario: &str,
+    factor: u32,
+    strict: Option<u32>,
+    name: &Option<Text>,
+    folder: &mut D,
+    fleet: &mut F,
+    kinds: &Registry,
+    out: &mut K,
+) -> Result<(), Ending>
+    requires least { 1 ≤ factor }
+    requires most { factor ≤ most_milliseconds }
+    requires allowed { IfSome strict (λ ms. ms ≤ most_milliseconds) }
+    ensures paced { (words : List (List ℕ)) → (rules : RulesSeen)
+        → IsAsked words (requests.Paced scenario.now factor strict name.now)
+        → (entries : List LogEntry) × Adds entries (F.log fleet.old) (F.log fleet.new)
+        × Ended (record {
+          words = words;
+          outside = outside F.started F.faults (rows_in kinds.now) fleet.old fleet.new entries;
+          rules = rules;
+          folder = folder_seen D.files D.faults folder.old folder.new;
+          output = output_seen K.written K.faults K.shortages out.old out.new;
+        }) result }
+    ensures links_closed { AreNumbered (F.started fleet.old) (F.open_links fleet.old)
+        → F.open_links fleet.new ≡ F.open_links fleet.old }
+    ensures rising { (entries : List LogEntry) × Adds entries (F.log fleet.old) (F.log fleet.new)
+        × (IsSome (F.log fleet.new) → IsRising entries) }
+    ensures folder_count { D.faults folder.old ≤ D.faults folder.new }
+    ensures fleet_count { F.faults fleet.old ≤ F.faults fleet.new }
+    ensures out_count { K.faults out.old ≤ K.faults out.new }
+{
+    let bytes = file_bytes(alloc, folder, scenario)?;
+    let told = paced_ran(
+        rt,
+        alloc,
+        kinds,
+        bytes.as_slice(),
+        fleet,
+        factor as u64,
+        wide(strict),
+        name.is_some(),
+    );
+    hand_out(told, name, folder, out)
+}
+
+fn wide(number: Option<u32>) -> Option<u64>
+    ensures { result ≡ number }
+{
+    match number {
+        Some(number) => Some(u64::from(number)),
+        None => None,
+    }
 }
 
 // Runs the demo scenario of this size over the fleet, and prints its summary.

@@ -17,7 +17,7 @@ fn owned(alloc: Global, words: &[&str]) -> Result<Vec<String>, Mem> {
     Ok(copies)
 }
 
-/// The status of the call with these words, by a program without rules of tables.
+/// The status of the call with these words, by a program without rules of tables, over a fleet whose clock stands still.
 pub fn status_of<R: Wait, D: Folder, K: Sink, E: Sink>(
     rt: &R,
     alloc: Global,
@@ -27,8 +27,23 @@ pub fn status_of<R: Wait, D: Folder, K: Sink, E: Sink>(
     out: &mut K,
     err: &mut E,
 ) -> Result<u8, Mem> {
+    status_by_clock(rt, alloc, words, folder, 0, kinds, out, err)
+}
+
+/// The same over a fleet whose clock goes on by so many milliseconds at each look, and by those of each sleep.
+pub fn status_by_clock<R: Wait, D: Folder, K: Sink, E: Sink>(
+    rt: &R,
+    alloc: Global,
+    words: &[&str],
+    folder: &mut D,
+    tick: u64,
+    kinds: &Registry,
+    out: &mut K,
+    err: &mut E,
+) -> Result<u8, Mem> {
     let words = owned(alloc, words)?;
     let mut fleet = PlainFleet::new(alloc, List::new(alloc), 1, 0, 0)?;
+    fleet.set_clock(0, tick, 1000);
     Ok(program(
         rt,
         alloc,

@@ -11,6 +11,8 @@ mod files;
 #[cfg(test)]
 mod kinds;
 #[cfg(test)]
+mod pacing;
+#[cfg(test)]
 mod pieces;
 #[cfg(test)]
 mod saving;

@@ -4,13 +4,15 @@ use Rattle.std.proofs.lemmas.Result.{err_from_is_err_and}
 use Rattle.mk_outside.proofs.OnLogs.{adds_none}
 use Rattle.mk_local.specs.Registries.{rows_in}
 use Rattle.mosaikrun_words.specs.declared.request.Request.{Request}
-use Rattle.mosaikrun_words.specs.declared.request.Request.TheVariants.{Run, Resume, Demo}
+use Rattle.mosaikrun_words.specs.declared.request.Request.TheVariants.{Run, Resume, Paced, Demo}
 use Rattle.mosaikrun_endings.specs.declared.ending.Ending.{Ending}
 use Rattle.mosaikrun_run.specs.Outcomes.{outside}
 use Rattle.mosaikrun_program.specs.Around.{Around, folder_seen, output_seen, rules_seen}
 use Rattle.mosaikrun_program.specs.Commands.{IsAsked}
 use Rattle.mosaikrun_program.specs.Program.{Ended}
-use Rattle.mosaikrun_program.proofs.Fleetless.{resume_needs, run_within}
+use Rattle.mosaikrun_program.proofs.Fleetless.{pace_needs, resume_within, run_within}
+use Rattle.mosaikrun_paced.proofs.Telling.{rising_none}
+use Rattle.mosaikrun_program.proofs.Pacing.{pace_of_words, within_bounds}
 use Rattle.mosaikrun_program.proofs.Playing.{performed}
 use Rattle.mosaikrun_program.proofs.top.answer.Goals as goal
 
@@ -59,6 +61,7 @@ returns-in-Files g c = record {
   );
   links_closed = λ low_ones. refl;
   fleet_unused = λ needless. refl;
+  rising = λ pace. ([], adds_none (g.F.Fleet.log c.args.fleet.now), λ told. rising_none);
   folder_count = c.make.ensures.folder_count;
   fleet_count = omega (arith);
   out_count = c.make.ensures.out_count;
@@ -82,4 +85,55 @@ pub returns-in-Resume-clause-fleet_unused : goal.returns-in-Resume-clause-fleet_
 returns-in-Resume-clause-fleet_unused g c =
     let same : c.in_ok-scenario.field-0 ≡ Resume c.as_str-in-Resume.result.now c.as_str-in-Resume-2.result.now c.in-Resume.save = cc (c.in-Resume.is, c.as_str-in-Resume.ensures, c.as_str-in-Resume-2.ensures) in
     let asked = subst (λ (R : Request). IsAsked (map string_bytes c.args.words.now) R) same c.in_ok-scenario.ensures.asked in
-    λ needless. absurd (resume_needs (map string_bytes c.args.words.now) (g.D.Folder.files c.args.folder.now) _ _ _ asked needless)
+    λ needless. c.carry_on.ensures.within (resume_within (map string_bytes c.args.words.now) (g.D.Folder.files c.args.folder.now) _ _ _ asked needless)
+
+-- a run by a clock is made
+pub returns-in-Paced-clause-ended : goal.returns-in-Paced-clause-ended
+returns-in-Paced-clause-ended g c =
+    let same : c.in_ok-scenario.field-0 ≡ Paced c.as_str-in-Paced.result.now c.in-Paced.factor c.in-Paced.strict c.in-Paced.record = cc (c.in-Paced.is, c.as_str-in-Paced.ensures) in
+    let asked = subst (λ (R : Request). IsAsked (map string_bytes c.args.words.now) R) same c.in_ok-scenario.ensures.asked in
+    c.pace.ensures.paced (map string_bytes c.args.words.now) (rules_seen c.args.rules.now) asked
+
+pub returns-in-Paced-clause-fleet_unused : goal.returns-in-Paced-clause-fleet_unused
+returns-in-Paced-clause-fleet_unused g c =
+    let same : c.in_ok-scenario.field-0 ≡ Paced c.as_str-in-Paced.result.now c.in-Paced.factor c.in-Paced.strict c.in-Paced.record = cc (c.in-Paced.is, c.as_str-in-Paced.ensures) in
+    let asked = subst (λ (R : Request). IsAsked (map string_bytes c.args.words.now) R) same c.in_ok-scenario.ensures.asked in
+    λ needless. absurd (pace_needs (map string_bytes c.args.words.now) (g.D.Folder.files c.args.folder.now) _ _ _ _ asked needless)
+
+pub returns-in-Paced-clause-rising : goal.returns-in-Paced-clause-rising
+returns-in-Paced-clause-rising g c = λ pace. c.pace.ensures.rising
+
+-- the pace is within its bounds
+pub pace-requires-clause-least : goal.pace-requires-clause-least
+pace-requires-clause-least g c =
+    let asked = subst (λ (R : Request). IsAsked (map string_bytes c.args.words.now) R) c.in-Paced.is c.in_ok-scenario.ensures.asked in
+    (within_bounds (map string_bytes c.args.words.now) _ _ _ _ asked).least
+
+pub pace-requires-clause-most : goal.pace-requires-clause-most
+pace-requires-clause-most g c =
+    let asked = subst (λ (R : Request). IsAsked (map string_bytes c.args.words.now) R) c.in-Paced.is c.in_ok-scenario.ensures.asked in
+    (within_bounds (map string_bytes c.args.words.now) _ _ _ _ asked).most
+
+pub pace-requires-clause-allowed : goal.pace-requires-clause-allowed
+pace-requires-clause-allowed g c =
+    let asked = subst (λ (R : Request). IsAsked (map string_bytes c.args.words.now) R) c.in-Paced.is c.in_ok-scenario.ensures.asked in
+    (within_bounds (map string_bytes c.args.words.now) _ _ _ _ asked).allowed
+
+-- no other request is one for a pace
+pub returns-in-Run-clause-rising : goal.returns-in-Run-clause-rising
+returns-in-Run-clause-rising g c =
+    let asked = subst (λ (R : Request). IsAsked (map string_bytes c.args.words.now) R) c.in-Run.is c.in_ok-scenario.ensures.asked in
+    λ pace. let wrong = pace_of_words (map string_bytes c.args.words.now) (Run c.in-Run.scenario c.in-Run.record) asked pace in absurd cc
+
+pub returns-in-Resume-clause-rising : goal.returns-in-Resume-clause-rising
+returns-in-Resume-clause-rising g c =
+    let asked = subst (λ (R : Request). IsAsked (map string_bytes c.args.words.now) R) c.in-Resume.is c.in_ok-scenario.ensures.asked in
+    λ pace. let wrong = pace_of_words (map string_bytes c.args.words.now) (Resume c.in-Resume.scenario c.in-Resume.record c.in-Resume.save) asked pace in absurd cc
+
+pub returns-in-Demo-clause-rising : goal.returns-in-Demo-clause-rising
+returns-in-Demo-clause-rising g c =
+    let asked = subst (λ (R : Request). IsAsked (map string_bytes c.args.words.now) R) c.in-Demo.is c.in_ok-scenario.ensures.asked in
+    λ pace. let wrong = pace_of_words (map string_bytes c.args.words.now) (Demo c.in-Demo.size) asked pace in absurd cc
+
+pub returns-in_err-scenario-clause-rising : goal.returns-in_err-scenario-clause-rising
+returns-in_err-scenario-clause-rising g c = λ pace. ([], adds_none (g.F.Fleet.log c.args.fleet.now), λ told. rising_none)

@@ -1,7 +1,6 @@
-use Rattle.std.proofs.Common.{◌≡◌, List, [], ◌∷◌, ℕ, inl, inr, refl, sym, ap, ◌∙◌, subst, map, None, Ok, Result, Err, option_map}
+use Rattle.std.proofs.Common.{◌≡◌, List, [], ℕ, inl, inr, refl, sym, ap, ◌∙◌, subst, map, Ok, Result, Err, option_map}
 use Rattle.std.proofs.lemmas.Result.{err_from_is_err_and}
 use Rattle.mk_outside.specs.declared.fleet.LogEntry.{LogEntry}
-use Rattle.mk_outside.specs.Folders.{Files}
 use Rattle.mk_outside.specs.Logs.{Adds}
 use Rattle.mk_outside.proofs.OnLogs.{adds_none}
 use Rattle.mk_local.specs.Kinds.{name_of}
@@ -11,12 +10,14 @@ use Rattle.mosaikrun_words.specs.declared.request.Request.TheVariants.{Resume}
 use Rattle.mosaikrun_check.specs.Checks.{IsUnchecked}
 use Rattle.mosaikrun_endings.specs.declared.ending.Ending.{Ending}
 use Rattle.mosaikrun_run.specs.Outcomes.{outside}
+use Rattle.mosaikrun_run.proofs.Telling.{within_also}
 use Rattle.mosaikrun_resume.specs.Outcomes.{IsStudy, IsStudyOutcome}
 use Rattle.mosaikrun_program.specs.Around.{Around, folder_seen, output_seen}
 use Rattle.mosaikrun_program.specs.Commands.{IsHeld}
 use Rattle.mosaikrun_program.specs.Running.{RunAnswer}
 use Rattle.mosaikrun_program.specs.Program.{Ended}
 use Rattle.mosaikrun_program.proofs.CarryingOn.{first_refused, gone_on, low, second_stuck}
+use Rattle.mosaikrun_program.proofs.Fleetless.{does_nothing}
 use Rattle.mosaikrun_program.proofs.Making.{unreadable_later}
 use Rattle.mosaikrun_program.proofs.Playing.{answered_since, either, risen_after}
 use Rattle.mosaikrun_program.proofs.top.carry_on.Goals as goal
@@ -127,3 +128,9 @@ returns-clause-carried g c = λ words rules asked.
       gone_on S c.args.scenario.now c.args.recorded.now name asked c.hand_out.result bytes old c.in_ok-bytes.ensures.read too study text kept outcome
           (answered_since S.folder mid.files mid.faults (c.file_bytes-2.ensures.kept ∙ c.file_bytes.ensures.kept) (low c.file_bytes.ensures.count c.file_bytes-2.ensures.count) out name text kept c.hand_out.result told.2),
     )
+
+-- nothing is done with the fleet where no simulator has a link
+pub returns-clause-within : goal.returns-clause-within
+returns-clause-within g c =
+    does_nothing (g.D.Folder.files c.args.folder.now) c.args.scenario.now c.in_ok-bytes.bytes.items c.as_slice.result.now c.in_ok-bytes.ensures.read c.as_slice.ensures.value
+    (λ S read within. c.resumed-told.ensures.within (within_also S c.in_ok-study.study.scenario c.as_slice.result.now read c.in_ok-study.ensures.read within))

@@ -9,7 +9,9 @@ use Rattle.mosaikrun_program.proofs.Deciding.{told_decided, told_no_file}
 use Rattle.mosaikrun_program.proofs.Recording.{record_kept}
 use Rattle.mosaikrun_program.proofs.Resuming.{new_record_kept}
 use Rattle.mosaikrun_program.proofs.EndingRuns.{ends_run}
+use Rattle.mosaikrun_program.proofs.EndingPaces.{ends_paced}
 use Rattle.mosaikrun_program.proofs.EndingResumes.{ends_resume}
+use Rattle.mosaikrun_program.proofs.Pacing.{pace_record_kept}
 use Rattle.mosaikrun_program.proofs.RightCalls.{right_call}
 use Rattle.mosaikrun_program.proofs.top.program.Goals as goal
 
@@ -25,9 +27,11 @@ returns-in-Ok g c =
     } in
     record {
       headline = (ended.0, ended.1, right_call S (Ok tt) 0 refl ended.2);
-      ended = (ended.0, ended.1, record { answer = Ok tt; is = refl; ended = ended.2; told = refl; recorded = record_kept S (Ok tt) 0 refl ended.2; resumed = new_record_kept S (Ok tt) 0 refl ended.2 });
+      ended = (ended.0, ended.1, record { answer = Ok tt; is = refl; ended = ended.2; told = refl; recorded = record_kept S (Ok tt) 0 refl ended.2; resumed = new_record_kept S (Ok tt) 0 refl ended.2; paced = pace_record_kept S (Ok tt) 0 refl ended.2 });
       completes = (ended.0, ended.1, ends_run c.handshakes_complete.ensures S S.folder.files (Ok tt) 0 refl refl ended.2);
       resumes = (ended.0, ended.1, ends_resume c.handshakes_complete.ensures S S.folder.files (Ok tt) 0 refl refl ended.2);
+      paces = (ended.0, ended.1, ends_paced c.handshakes_complete.ensures S S.folder.files (Ok tt) 0 refl refl ended.2);
+      rising = c.in-Ok.ensures.rising;
       usage = λ two. usage_only S (Ok tt) ended.2 two;
       useless = useless_words S (Ok tt) ended.2;
       decided = told_decided S S.folder.files (Ok tt) 0 refl refl ended.2;
@@ -57,9 +61,11 @@ returns-in-Err g c =
     let said = said_ended S told.0 c.in-Err.ending ended.2 told.1 in
     record {
       headline = (ended.0, ended.1, right_call S (Err told.0) c.tell.result told.2 said);
-      ended = (ended.0, ended.1, record { answer = Err told.0; is = told.2; ended = said; told = told.3; recorded = record_kept S (Err told.0) c.tell.result told.2 said; resumed = new_record_kept S (Err told.0) c.tell.result told.2 said });
+      ended = (ended.0, ended.1, record { answer = Err told.0; is = told.2; ended = said; told = told.3; recorded = record_kept S (Err told.0) c.tell.result told.2 said; resumed = new_record_kept S (Err told.0) c.tell.result told.2 said; paced = pace_record_kept S (Err told.0) c.tell.result told.2 said });
       completes = (ended.0, ended.1, ends_run c.handshakes_complete.ensures S S.folder.files (Err told.0) c.tell.result refl told.2 said);
       resumes = (ended.0, ended.1, ends_resume c.handshakes_complete.ensures S S.folder.files (Err told.0) c.tell.result refl told.2 said);
+      paces = (ended.0, ended.1, ends_paced c.handshakes_complete.ensures S S.folder.files (Err told.0) c.tell.result refl told.2 said);
+      rising = c.in-Err.ensures.rising;
       usage = λ two. usage_only S (Err told.0) said (sym told.2 ∙ two);
       useless = λ none. subst (IsStatusOr 2) (sym told.2) (useless_words S (Err told.0) said none);
       decided = told_decided S S.folder.files (Err told.0) c.tell.result refl told.2 said;

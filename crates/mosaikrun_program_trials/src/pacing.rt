@@ -1,0 +1,99 @@
+// Calls of the program that run a scenario by a clock in memory.
+
+use crate::calls::status_by_clock;
+use crate::files::{COUNTER, LATE, SAVED, THREE_STEPS};
+use mk_base::{List, Mem};
+use mk_fakes::{MemFolder, MemSink};
+use mk_local::Registry;
+use std::alloc::Global;
+use std::sync::Wait;
+
+// Words, how far the clock goes on at each look, and what comes of it: the status, what the outputs have, and what is saved as `k`.
+struct Row {
+    words: &'static [&'static str],
+    tick: u64,
+    status: u8,
+    err: &'static str,
+    out: &'static str,
+    saved: &'static str,
+}
+
+const ROWS: &[Row] = &[
+    Row {
+        words: &["paced", "s", "1000", "--strict", "0", "--record", "k"],
+        tick: 0,
+        status: 0,
+        err: "",
+        out: THREE_STEPS,
+        saved: SAVED,
+    },
+    Row {
+        words: &["paced", "--record=k", "s", "1000", "--strict=0"],
+        tick: 7,
+        status: 5,
+        err: "mosaikrun: run 12: A-0 step at 0 late by 7 ms, allowed 0\n",
+        out: "",
+        saved: LATE,
+    },
+    Row {
+        words: &["paced", "s", "1000", "--strict", "7"],
+        tick: 7,
+        status: 0,
+        err: "",
+        out: THREE_STEPS,
+        saved: "",
+    },
+    Row {
+        words: &["paced", "s", "1000"],
+        tick: 9000,
+        status: 0,
+        err: "",
+        out: THREE_STEPS,
+        saved: "",
+    },
+];
+
+fn folder_of(alloc: Global) -> Result<MemFolder, Mem> {
+    let mut folder = MemFolder::new(alloc, List::new(alloc));
+    folder.add("s", COUNTER.as_bytes())?;
+    Ok(folder)
+}
+
+// Whether that came of the call which the row says.
+fn is_told(row: &Row, status: u8, folder: &MemFolder, out: &MemSink, err: &MemSink) -> bool {
+    status == row.status
+        && err.bytes() == row.err.as_bytes()
+        && out.bytes() == row.out.as_bytes()
+        && folder.file("k").unwrap_or(b"".as_slice()) == row.saved.as_bytes()
+}
+
+fn is_right<R: Wait>(rt: &R, alloc: Global, kinds: &Registry, row: &Row) -> Result<bool, Mem> {
+    let mut folder = folder_of(alloc)?;
+    let mut out = MemSink::new(alloc, List::new(alloc));
+    let mut err = MemSink::new(alloc, List::new(alloc));
+    let status = status_by_clock(
+        rt,
+        alloc,
+        row.words,
+        &mut folder,
+        row.tick,
+        kinds,
+        &mut out,
+        &mut err,
+    )?;
+    Ok(is_told(row, status, &folder, &out, &err))
+}
+
+/// The first row that isn't as it says.
+pub fn first_wrong_pace<R: Wait>(
+    rt: &R,
+    alloc: Global,
+    kinds: &Registry,
+) -> Result<Option<usize>, Mem> {
+    for place in 0..ROWS.len() {
+        if !is_right(rt, alloc, kinds, &ROWS[place])? {
+            return Ok(Some(place));
+        }
+    }
+    Ok(None)
+}
