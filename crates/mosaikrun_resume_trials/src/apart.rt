@@ -1,9 +1,9 @@
 // Two counters over links, of which one is still behind while the other has caught up and goes on.
 
-use crate::going::{Outcome, is_both, told, willing};
-use crate::scripts::{When, length_of, push_reply};
+use crate::going::told;
 use mk_base::{List, Mem};
 use mk_fakes::Chunk;
+use mosaikrun_samples::{Outcome, When, is_both, length_of, push_reply, willing};
 use std::alloc::Global;
 use std::sync::Wait;
 
@@ -103,7 +103,7 @@ fn when(link: u32, place: usize) -> When {
 
 fn push_replies(alloc: Global, chunks: &mut List<Chunk>, link: u32) -> Result<(), Mem> {
     for (place, reply) in REPLIES.iter().enumerate() {
-        push_reply(alloc, chunks, when(link, place), reply)?;
+        push_reply(alloc, chunks, when(link, place), reply, 1000)?;
     }
     Ok(())
 }

@@ -1,25 +1,16 @@
 // A counter over a link, which was stepped twice when its run was cut short: what the run comes to that goes on from its record.
 
-use crate::going::{Outcome, is_both, said_on, told, willing};
-use crate::scripts::{When, frames_of, length_of, push_reply};
+use crate::going::told;
 use mk_base::{LinkNo, List, Mem};
 use mk_fakes::{Chunk, MemFleet};
+use mosaikrun_samples::{
+    COUNTER, Outcome, RECORD, TALK, TEXT, counter_requests, is_both, once, push_reply,
+    requests_length, said_on, willing,
+};
 use std::alloc::Global;
 use std::sync::Wait;
 
-// One simulator, begun by a command; the same with more time, and with a limit of entries.
-const COUNTER: &str = r#"until = 3
-[[sim]]
-name = "A"
-command = "a %(addr)s"
-params = { step = 1 }
-[[entities]]
-id = "a"
-sim = "A-0"
-model = "Count"
-params = { start = 0 }
-"#;
-
+// The same with more time, and with a limit of entries.
 const LONGER: &str = r#"until = 4
 [[sim]]
 name = "A"
@@ -45,26 +36,6 @@ model = "Count"
 params = { start = 0 }
 "#;
 
-// What is said on its link, with the stop, and what it replies.
-const REQUESTS: [&str; 7] = [
-    r#"[0,0,["init",["A-0"],{"step":1,"time_resolution":1}]]"#,
-    r#"[0,1,["create",[1,"Count"],{"start":0}]]"#,
-    r#"[0,2,["setup_done",[],{}]]"#,
-    r#"[0,3,["step",[0,{},3],{}]]"#,
-    r#"[0,4,["step",[1,{},3],{}]]"#,
-    r#"[0,5,["step",[2,{},3],{}]]"#,
-    r#"[0,6,["stop",[],{}]]"#,
-];
-
-const REPLIES: [&str; 6] = [
-    r#"[1,0,{"api_version": "3.0.13", "models": {"Count": {"public": true, "params": ["start"], "attrs": ["out"]}}}]"#,
-    r#"[1,1,[{"eid": "0", "type": "Count"}]]"#,
-    "[1,2,null]",
-    "[1,3,1]",
-    "[1,4,2]",
-    "[1,5,3]",
-];
-
 // The record of the run that was cut short, and that of one that came to a limit of four entries.
 const CUT: &str = r#"mosaikrun 1
 run [3,100,2000000]
@@ -87,23 +58,7 @@ got [0,[1,5,3]]
 end 3
 "#;
 
-const REPORT: &str = "0 sim A-0\nstep 0:0 {}\nstep 1:0 {}\nstep 2:0 {}\nend 3\n";
-
-// The record of the whole run, the same with the other limit of entries, and that of the run up to its third step.
-const WHOLE: &str = r#"mosaikrun 2
-run [3,100,2000000]
-sim ["A-0","time-based",3,0,[]]
-model [0,"Count",["out"],false]
-entity [0,"0",[]]
-ask [0,0,0,3]
-got [0,[1,3,1]]
-ask [0,1,0,3]
-got [0,[1,4,2]]
-ask [0,2,0,3]
-got [0,[1,5,3]]
-end 6
-"#;
-
+// The record of the whole run with the other limit of entries, and that of the run up to its third step.
 const WHOLE_ROOMY: &str = r#"mosaikrun 2
 run [3,100,100]
 sim ["A-0","time-based",3,0,[]]
@@ -146,8 +101,8 @@ const ROWS: [Row; 4] = [
         scenario: COUNTER,
         old: CUT,
         first: "[1,3,1]",
-        text: REPORT,
-        new: WHOLE,
+        text: TEXT,
+        new: RECORD,
     },
     Row {
         scenario: COUNTER,
@@ -167,7 +122,7 @@ const ROWS: [Row; 4] = [
         scenario: ROOMY,
         old: LIMITED,
         first: "[1,3,1]",
-        text: REPORT,
+        text: TEXT,
         new: WHOLE_ROOMY,
     },
 ];
@@ -175,14 +130,10 @@ const ROWS: [Row; 4] = [
 // What comes on the link, each reply once its request was said.
 fn replies(alloc: Global, first: &str) -> Result<List<Chunk>, Mem> {
     let mut chunks = List::new(alloc);
-    for place in 0..REPLIES.len() {
-        let when = When {
-            link: 0,
-            on: 0,
-            after: length_of(&REQUESTS[..=place]),
-        };
-        let reply = if place == 3 { first } else { REPLIES[place] };
-        push_reply(alloc, &mut chunks, when, reply)?;
+    for place in 0..TALK.len() {
+        let when = once(requests_length(&TALK[..=place]));
+        let reply = if place == 3 { first } else { TALK[place].1 };
+        push_reply(alloc, &mut chunks, when, reply, 1000)?;
     }
     Ok(chunks)
 }
@@ -219,7 +170,7 @@ fn a_run_goes_on_from_its_record(rt: HostRuntime) {
 
 // Whether all requests are said on the link, byte for byte, as in a run that wasn't cut.
 fn is_said<R: Wait>(rt: &R, alloc: Global) -> Result<bool, Mem> {
-    let wanted = frames_of(alloc, &REQUESTS)?;
+    let wanted = counter_requests(alloc, true)?;
     let mut fleet = fleet_of(alloc, "[1,3,1]")?;
     drop(told(rt, alloc, COUNTER, CUT, &mut fleet)?);
     is_heard(alloc, &fleet, wanted.as_slice())

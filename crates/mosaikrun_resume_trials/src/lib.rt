@@ -8,5 +8,3 @@ mod apart;
 mod counter;
 #[cfg(test)]
 mod going;
-#[cfg(test)]
-mod scripts;

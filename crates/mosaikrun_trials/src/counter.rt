@@ -1,69 +1,17 @@
 // A counter over a link, stepped three times: what is said to it byte for byte, however its replies are cut.
 
-use crate::runs::{Outcome, said_on, told_alone};
-use crate::scripts::{Exchange, push_frame, replies_of, requests_of};
+use crate::runs::told_alone;
 use mk_base::{LinkNo, List, Mem};
 use mk_fakes::MemFleet;
+use mosaikrun_samples::{
+    COUNTER, Outcome, RECORD, TALK, TEXT, counter_requests, is_both, replies_of, said_on,
+};
 use std::alloc::Global;
 use std::sync::Wait;
 
-/// One simulator, begun by a command.
-pub const COUNTER: &str = r#"until = 3
-[[sim]]
-name = "A"
-command = "a %(addr)s"
-params = { step = 1 }
-[[entities]]
-id = "a"
-sim = "A-0"
-model = "Count"
-params = { start = 0 }
-"#;
-
-const INIT: Exchange = (
-    r#"[0,0,["init",["A-0"],{"step":1,"time_resolution":1}]]"#,
-    r#"[1,0,{"api_version": "3.0.13", "models": {"Count": {"public": true, "params": ["start"], "attrs": ["out"]}}}]"#,
-);
-
-const CREATE: Exchange = (
-    r#"[0,1,["create",[1,"Count"],{"start":0}]]"#,
-    r#"[1,1,[{"eid": "0", "type": "Count"}]]"#,
-);
-
-const SETUP_DONE: Exchange = (r#"[0,2,["setup_done",[],{}]]"#, "[1,2,null]");
-
-/// What is said on its link but for the stop.
-pub const TALK: [Exchange; 6] = [
-    INIT,
-    CREATE,
-    SETUP_DONE,
-    (r#"[0,3,["step",[0,{},3],{}]]"#, "[1,3,1]"),
-    (r#"[0,4,["step",[1,{},3],{}]]"#, "[1,4,2]"),
-    (r#"[0,5,["step",[2,{},3],{}]]"#, "[1,5,3]"),
-];
-
-pub const STOP: &str = r#"[0,6,["stop",[],{}]]"#;
-
-// The text and the record of its run.
-const TEXT: &str = "0 sim A-0\nstep 0:0 {}\nstep 1:0 {}\nstep 2:0 {}\nend 3\n";
-
-pub const RECORD: &str = r#"mosaikrun 2
-run [3,100,2000000]
-sim ["A-0","time-based",3,0,[]]
-model [0,"Count",["out"],false]
-entity [0,"0",[]]
-ask [0,0,0,3]
-got [0,[1,3,1]]
-ask [0,1,0,3]
-got [0,[1,4,2]]
-ask [0,2,0,3]
-got [0,[1,5,3]]
-end 6
-"#;
-
 /// Whether that is what its run came to.
 pub fn is_whole(outcome: &Outcome) -> bool {
-    outcome.text.as_slice() == TEXT.as_bytes() && outcome.record.as_slice() == RECORD.as_bytes()
+    is_both(outcome, TEXT, RECORD)
 }
 
 // Whether a run of it over this fleet is done, and these bytes are said on the link.
@@ -82,15 +30,6 @@ fn is_told_whole<R: Wait>(rt: &R, alloc: Global, fleet: &mut MemFleet) -> Result
 fn is_said(alloc: Global, fleet: &MemFleet, said: &[u8]) -> Result<bool, Mem> {
     let heard = said_on(alloc, fleet, LinkNo(0))?;
     Ok(heard.as_slice() == said)
-}
-
-/// What is said on its link, with the stop or without it.
-pub fn requests(alloc: Global, stopped: bool) -> Result<Vec<u8>, Mem> {
-    let mut said = requests_of(alloc, &TALK)?;
-    if stopped {
-        push_frame(&mut said, STOP.as_bytes())?;
-    }
-    Ok(said)
 }
 
 // Of how many bytes the pieces are in which replies come, how many bytes are taken at a time, at each which write none are, and
@@ -118,7 +57,7 @@ fn fleet(alloc: Global, way: Way) -> Result<MemFleet, Mem> {
 }
 
 fn is_done_in_way<R: Wait>(rt: &R, alloc: Global, way: Way) -> Result<bool, Mem> {
-    let said = requests(alloc, way.3)?;
+    let said = counter_requests(alloc, way.3)?;
     let mut fleet = fleet(alloc, way)?;
     is_done(rt, alloc, &mut fleet, said.as_slice())
 }

@@ -1,10 +1,10 @@
 // The counter's run over a fleet of which one call fails.
 
-use crate::counter::{COUNTER, RECORD, TALK, is_whole};
-use crate::runs::{Outcome, told_alone, willing};
-use crate::scripts::replies_of;
+use crate::counter::is_whole;
+use crate::runs::told_alone;
 use mk_base::{List, Mem};
 use mk_fakes::{LogEntry, MemFleet};
+use mosaikrun_samples::{COUNTER, Outcome, RECORD, TALK, replies_of, willing};
 use std::alloc::Global;
 use std::sync::Wait;
 

@@ -16,8 +16,6 @@ mod orders;
 #[cfg(test)]
 mod runs;
 #[cfg(test)]
-mod scripts;
-#[cfg(test)]
 mod served;
 #[cfg(test)]
 mod talks;

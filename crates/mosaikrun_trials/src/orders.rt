@@ -1,10 +1,11 @@
 // The household study over links whose simulators answer in different orders, beside the same run within the program.
 
-use crate::runs::{Outcome, told, willing};
+use crate::runs::told;
 use crate::talks::{Hold, Part, Talk, replies_in, talks_of};
 use crate::within::journal_within;
 use mk_base::{List, Mem};
 use mk_local::Registry;
+use mosaikrun_samples::{Outcome, willing};
 use std::alloc::Global;
 use std::sync::Wait;
 

@@ -1,12 +1,10 @@
 // What a child of one of the kinds says on its link, as it is served there.
 
-use crate::counter::requests;
-use crate::runs::{said_on, willing};
-use crate::scripts::{frames_of, once, push_chunk};
 use mk_base::{LinkNo, List, Mem};
 use mk_fakes::{Chunk, MemFleet};
 use mk_local::Registry;
 use mk_simapi::child;
+use mosaikrun_samples::{counter_requests, frames_of, once, push_chunk, said_on, willing};
 use std::alloc::Global;
 use std::sync::Wait;
 
@@ -72,7 +70,7 @@ const REPLIES: [&str; 6] = [
 
 /// Whether a counter that is stepped three times and stopped replies as it must.
 pub fn is_counter_served<R: Wait>(rt: &R, alloc: Global, kinds: &Registry) -> Result<bool, Mem> {
-    let requests = requests(alloc, true)?;
+    let requests = counter_requests(alloc, true)?;
     let said = replies_to(rt, alloc, kinds, "counter", requests.as_slice())?;
     Ok(said.as_slice() == frames_of(alloc, &REPLIES)?.as_slice())
 }

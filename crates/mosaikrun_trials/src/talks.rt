@@ -1,13 +1,12 @@
 // What children say on their links in the whole of a run, and when it comes.
 
-use crate::counter::STOP;
-use crate::scripts::{When, frames_of, push_chunk, push_frame};
 use crate::served::replies_to;
 use mk_base::{List, Mem, SimNo};
 use mk_fakes::Chunk;
 use mk_local::Registry;
 use mk_message::write_item;
 use mk_plan::{Entry, Item, Journal};
+use mosaikrun_samples::{STOP, When, frames_of, push_chunk, push_frame};
 use std::alloc::Global;
 use std::sync::Wait;
 

@@ -33,6 +33,24 @@ pub fn push_frame(bytes: &mut Vec<u8>, payload: &[u8]) -> Result<(), Mem> {
     }
 }
 
+/// The frames of payloads, one behind the other.
+pub fn frames_of(alloc: Global, payloads: &[&str]) -> Result<Vec<u8>, Mem> {
+    let mut bytes = Vec::new(alloc);
+    for payload in payloads {
+        push_frame(&mut bytes, payload.as_bytes())?;
+    }
+    Ok(bytes)
+}
+
+/// How many bytes the frames of payloads have.
+pub fn length_of(payloads: &[&str]) -> u64 {
+    let mut length = 0u64;
+    for payload in payloads {
+        length = length.saturating_add(payload.len() as u64 + 4);
+    }
+    length
+}
+
 /// Appends these bytes to what comes; no bytes are the link's end.
 pub fn push_chunk(
     alloc: Global,
@@ -49,8 +67,8 @@ pub fn push_chunk(
     })
 }
 
-// Appends the frame of a payload to what comes, in pieces of so many bytes, at least one.
-fn push_reply(
+/// Appends the frame of a payload to what comes, in pieces of so many bytes, at least one.
+pub fn push_reply(
     alloc: Global,
     chunks: &mut List<Chunk>,
     when: When,
@@ -65,15 +83,6 @@ fn push_reply(
     Ok(())
 }
 
-/// The frames of payloads, one behind the other.
-pub fn frames_of(alloc: Global, payloads: &[&str]) -> Result<Vec<u8>, Mem> {
-    let mut bytes = Vec::new(alloc);
-    for payload in payloads {
-        push_frame(&mut bytes, payload.as_bytes())?;
-    }
-    Ok(bytes)
-}
-
 /// The frames of the requests, one behind the other.
 pub fn requests_of(alloc: Global, talk: &[Exchange]) -> Result<Vec<u8>, Mem> {
     let mut said = Vec::new(alloc);
@@ -83,8 +92,8 @@ pub fn requests_of(alloc: Global, talk: &[Exchange]) -> Result<Vec<u8>, Mem> {
     Ok(said)
 }
 
-// How many bytes the frames of the requests have.
-fn length_of(talk: &[Exchange]) -> u64 {
+/// How many bytes the frames of the requests have.
+pub fn requests_length(talk: &[Exchange]) -> u64 {
     let mut length = 0u64;
     for exchange in talk {
         length = length.saturating_add(exchange.0.len() as u64 + 4);
@@ -96,7 +105,7 @@ fn length_of(talk: &[Exchange]) -> u64 {
 pub fn replies_of(alloc: Global, talk: &[Exchange], piece: usize) -> Result<List<Chunk>, Mem> {
     let mut chunks = List::new(alloc);
     for i in 0..talk.len() {
-        let when = once(length_of(&talk[..=i]));
+        let when = once(requests_length(&talk[..=i]));
         push_reply(alloc, &mut chunks, when, talk[i].1, piece)?;
     }
     Ok(chunks)
