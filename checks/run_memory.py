@@ -34,10 +34,24 @@ COMMANDS = (
     ["migrate", "old.record", "new.record"],
     ["check", "study.toml"],
     ["run", "study.toml", "--record", "study.record"],
+    ["resume", "study.toml", "cut.record", "--record", "study.record"],
     ["demo", "1"],
 )
 WANTING = b"mosaikrun: out of memory\n"
 Seen = tuple[int, bytes, bytes, dict[str, bytes], int]
+
+
+def cut_record(program: str) -> str:
+    """Returns the first half of the record of the study's run."""
+    with tempfile.TemporaryDirectory() as room:
+        pathlib.Path(room, "study.toml").write_text(SCENARIO, encoding="utf-8")
+        words = [program, "run", "study.toml", "--record", "whole.record"]
+        subprocess.run(words, cwd=room, capture_output=True, timeout=60, check=True)
+        lines = pathlib.Path(room, "whole.record").read_text(encoding="utf-8").splitlines()
+    first = next(place for place, line in enumerate(lines) if line.startswith(("ask ", "got ")))
+    entries = lines[first:-1]
+    kept = entries[: len(entries) // 2]
+    return "\n".join([*lines[:first], *kept, f"end {len(kept)}"]) + "\n"
 
 
 def seen(program: str, library: str, words: list[str], refused: int | None) -> Seen:
@@ -93,6 +107,7 @@ def main() -> int:
         return 2
     program, most = str(pathlib.Path(sys.argv[1]).resolve()), int(sys.argv[2]) if len(sys.argv) == 3 else 400
     right = wrong = 0
+    FILES["cut.record"] = cut_record(program)
     with tempfile.TemporaryDirectory() as room:
         library = f"{room}/refuse.so"
         subprocess.run(["cc", "-O1", "-shared", "-fPIC", "-o", library, CHECKS / "refuse_memory.c"], check=True)

@@ -21,7 +21,7 @@ import time
 
 ROOT = pathlib.Path(__file__).resolve().parent.parent
 FILES = ["day.toml", "my study.toml", "day.record", "notes.txt", "sub/inner.toml"]
-COMMANDS = ["run", "replay", "check", "demo", "migrate", "resume", "watch", "blame"]
+COMMANDS = ["run", "replay", "check", "demo", "migrate", "resume", "paced", "watch", "blame"]
 
 # the words before the cursor, the last one being completed, and what bash offers
 BASH: list[tuple[list[str], list[str]]] = [
@@ -48,6 +48,10 @@ BASH: list[tuple[list[str], list[str]]] = [
     (["resume", "day.toml", "day.r"], ["day.record"]),
     (["resume", "--record", "n"], ["notes.txt"]),
     (["resume", "day.toml", "day.record", ""], ["--record"]),
+    (["paced", "d"], ["day.toml"]),
+    (["paced", "day.toml", "1000", ""], ["--record", "--strict"]),
+    (["paced", "day.toml", "1000", "--strict", "5", "--"], ["--record"]),
+    (["paced", "--record", "n"], ["notes.txt"]),
     (["nothing", ""], []),
 ]
 # what is typed, and what stands there after the tabulator key, in each shell
@@ -55,6 +59,7 @@ KEYS: list[tuple[str, str]] = [
     ("mosaikrun rep", "mosaikrun replay "),
     ("mosaikrun res", "mosaikrun resume "),
     ("mosaikrun m", "mosaikrun migrate "),
+    ("mosaikrun p", "mosaikrun paced "),
     ("mosaikrun check d", "mosaikrun check day.toml "),
     ("mosaikrun run my", "mosaikrun run my\\ study.toml "),
     ("mosaikrun run sub/", "mosaikrun run sub/inner.toml "),

@@ -7,31 +7,35 @@ _mosaikrun_files() {
 }
 
 _mosaikrun() {
-    local current=${COMP_WORDS[COMP_CWORD]} option='' pattern='*' later='' wanted=1 given=0 place
+    local current=${COMP_WORDS[COMP_CWORD]} options='' pattern='*' later='' wanted=1 given=0 place word
     COMPREPLY=()
     if ((COMP_CWORD == 1)); then
-        mapfile -t COMPREPLY < <(compgen -W "run replay check demo migrate resume watch blame" -- "$current")
+        mapfile -t COMPREPLY < <(compgen -W "run replay check demo migrate resume paced watch blame" -- "$current")
         return
     fi
     case ${COMP_WORDS[1]} in
-        run) option=--record pattern='*.toml' ;;
-        replay) option=--order ;;
+        run) options=--record pattern='*.toml' ;;
+        replay) options=--order ;;
         check) pattern='*.toml' ;;
         migrate | watch | blame) wanted=2 ;;
-        resume) option=--record pattern='*.toml' later='*' wanted=2 ;;
+        resume) options=--record pattern='*.toml' later='*' wanted=2 ;;
+        paced) options='--record --strict' pattern='*.toml' ;;
         *) return ;;
     esac
     for ((place = 2; place < COMP_CWORD; place++)); do
-        if [[ -n $option && ${COMP_WORDS[place]} == "$option" ]]; then
+        word=${COMP_WORDS[place]}
+        if [[ $word == --* && " $options " == *" $word "* ]]; then
             # its value is the next word; in --record=FILE bash makes a word of the mark between
             [[ ${COMP_WORDS[place + 1]} == "=" ]] && ((place++))
             ((place++))
             if ((place >= COMP_CWORD)); then
                 [[ $current == "=" ]] && current=''
-                [[ $option == --record ]] && _mosaikrun_files "$current" '*'
+                [[ $word == --record ]] && _mosaikrun_files "$current" '*'
                 return
             fi
-            option=''
+            # each option is given at most once
+            options=" $options "
+            options=${options/ $word / }
         else
             ((given++))
         fi
@@ -40,8 +44,8 @@ _mosaikrun() {
     ((given > 0)) && pattern=${later:-$pattern}
     if [[ $current != -* ]] && ((given < wanted)); then
         _mosaikrun_files "$current" "$pattern"
-    elif [[ -n $option ]]; then
-        mapfile -t COMPREPLY < <(compgen -W "$option" -- "$current")
+    elif [[ -n $options ]]; then
+        mapfile -t COMPREPLY < <(compgen -W "$options" -- "$current")
     fi
 }
 
