@@ -4,3 +4,5 @@ pub mod Values
 pub mod OfOutlines
 pub mod Compact
 pub mod Back
+mod Turns
+mod Gathering

@@ -1,16 +1,12 @@
 -- What is read: the trees of values, their numbers and their nesting.
-use Rattle.std.proofs.Common.{◌≡◌, ℕ, zero, suc, pred, ◌<◌, ◌≤◌, ◌^◌, pos, ◌&&◌, List, [], ◌∷◌, map, drop, max, Bool, true, false, nat_lt, nat_le, if◌then◌else◌, String, Global, string_bytes, Option, Some, None, option_map, option_and_then, Ordering, Less, Equal, Greater, refl, sym, ap, ap₂, ◌∙◌, subst, arith}
+use Rattle.std.proofs.Common.{◌≡◌, ℕ, zero, suc, pred, ◌<◌, ◌≤◌, ◌^◌, pos, ◌&&◌, List, [], ◌∷◌, drop, max, Bool, true, false, nat_lt, nat_le, if◌then◌else◌, Option, Some, None, option_map, option_and_then, Ordering, Less, Equal, Greater, refl, sym, ap, ap₂, ◌∙◌, subst, arith}
 use Rattle.std.proofs.lemmas.Bool.{and_parts, and_from, ltb-true, leb-true}
 use Rattle.std.proofs.lemmas.Int.{ints}
 use Rattle.std.proofs.lemmas.Str.{IsUtf8-from_is_utf8, is_utf8-from_IsUtf8}
 use Rattle.std.specs.Prelude.{⊤, IsUtf8}
 use Rattle.std.specs.Str.{is_utf8}
-use Rattle.std.specs.List.{list_all, AllByRecursion}
-use Rattle.std.specs.List.Sorted.{IsStrictlySortedBy}
-use Rattle.std.specs.Map.{keys_of}
-use Rattle.std.specs.String.{string_cmp}
-use Rattle.std.specs.Ordering.{nat_cmp, match_ordering}
-use Rattle.std.specs.Cmp.Lexicographic.{slice_cmp}
+use Rattle.std.specs.List.{list_all}
+use Rattle.std.specs.Ordering.{match_ordering}
 use Rattle.std.specs.Float.{binary64, float_is_finite}
 use Rattle.fast_float.specs.Text.{Parts, scan, digits_of, nearest, with_sign}
 use Rattle.json.specs.Json as json
@@ -18,38 +14,14 @@ use Rattle.json.specs.Token.{Token}
 use Rattle.json.specs.Lex.{tokens}
 use Rattle.serde_json.specs.Data as value
 use Rattle.serde_json.specs.Data.{Num, unsigned, negative, float, Data, Items, no_items, item, Members, no_members, member, put}
+use Rattle.serde_json.proofs.Nesting.{depth-read}
 use Rattle.serde_json.specs.Read.{is_integer, float_of, number_from, number_of, of_json, of_items, of_members, read, max_depth}
-use Rattle.serde_json.specs.View.{view, items_view, members_view}
-use Rattle.serde_json.specs.declared.value.Value.{Value}
 use Rattle.mk_base.specs.declared.json.Json as tree
 use Rattle.mk_base.specs.Trees.{in_range, is_in_range, nesting}
 use Rattle.mk_json.specs.Parsed as made
 use Rattle.mk_json.specs.Parsed.{tree_of, parsed}
 use Rattle.mk_json.proofs.LevelTests.{range-List, range-Object}
 use Rattle.mk_json.proofs.Layers.{folded-Null, folded-Bool, folded-Whole, folded-Odd, folded-Text, folded-List, folded-Object}
-
--- ---- lists of values
-
-pub items_of-items_view : (vs : List Value) → made.items_of (items_view vs) ≡ map (λ v. tree_of (view v)) vs
-items_of-items_view [] = refl
-items_of-items_view (v ∷ vs) = ap (λ ts. tree_of (view v) ∷ ts) (items_of-items_view vs)
-
-abbrev pub member_of : String Global × Value → List ℕ × tree.Json
-member_of e = (string_bytes e.0, tree_of (view e.1))
-
-pub members_of-members_view : (es : List (String Global × Value)) → made.members_of (members_view es) ≡ map member_of es
-members_of-members_view [] = refl
-members_of-members_view (e ∷ es) = ap (λ ts. member_of e ∷ ts) (members_of-members_view es)
-
--- a map's entries stand in order of their names
-later_names : (k : String Global) (es : List (String Global × Value)) → AllByRecursion (λ l. string_cmp k l ≡ Less) (keys_of es) → AllByRecursion (λ l. slice_cmp nat_cmp (string_bytes k) l ≡ Less) (keys_of (map member_of es))
-later_names k [] h = tt
-later_names k (e ∷ es) h = (h.0, later_names k es h.1)
-
-pub sorted-member_of : (es : List (String Global × Value)) → IsStrictlySortedBy string_cmp (keys_of es) → IsStrictlySortedBy (slice_cmp nat_cmp) (keys_of (map member_of es))
-unfolding IsStrictlySortedBy
-sorted-member_of [] h = tt
-sorted-member_of (e ∷ es) h = (later_names e.0 es h.0, sorted-member_of es h.1)
 
 -- ---- nesting
 
@@ -188,3 +160,16 @@ parsed_none bytes h = elim (is_utf8 bytes) as (λ b. is_utf8 bytes ≡ b → (if
   | true ↦ λ e. ap (option_map tree_of) (h (IsUtf8-from_is_utf8 bytes e))
   | false ↦ λ e. refl
 ] refl
+
+-- the tree of what is read
+abbrev pub IsRead : List ℕ → tree.Json → Type 0
+IsRead bytes t = (d : Data) × (read bytes ≡ Some d) × (t ≡ tree_of d)
+
+pub in_range-read : (bytes : List ℕ) (t : tree.Json) → IsRead bytes t → is_in_range t ≡ true
+in_range-read bytes t w = ap is_in_range w.2 ∙ read-in_range bytes w.0 w.1
+
+pub nesting-read : (bytes : List ℕ) (t : tree.Json) → IsRead bytes t → nesting t ≤ 127
+nesting-read bytes t w = subst (λ (n : ℕ). n ≤ 127) (sym (ap nesting w.2 ∙ nesting-tree_of w.0)) (depth-read bytes w.0 w.1)
+
+pub parsed-read : (bytes : List ℕ) (t : tree.Json) → IsUtf8 bytes → IsRead bytes t → parsed bytes ≡ Some t
+parsed-read bytes t text w = parsed_is bytes w.0 text w.1 ∙ ap Some (sym w.2)

@@ -1,10 +1,11 @@
 // The data among the trees.
-ghost use Rattle.std.specs.Prelude.{◌≡◌, ◌≤◌, ◌<◌, ◌↔◌, true, false, Err, IfOk};
+ghost use Rattle.std.specs.Prelude.{◌≡◌, ◌≤◌, ◌<◌, ◌↔◌, true, false, Err, IfOk, OnOk};
 ghost use Rattle.mk_base.specs.Texts.{text_of};
+ghost use Rattle.mk_base.specs.Proper.{is_proper};
 ghost use Rattle.mk_base.specs.Trees.{nesting, is_whole, is_in_range, is_datum};
 
 use crate::put_json;
-use mk_base::{Datum, Json};
+use mk_base::{Datum, Json, Mem};
 use std::alloc::Global;
 use thiserror::Error;
 
@@ -34,9 +35,29 @@ pub fn datum(alloc: Global, tree: &Json) -> Result<Datum, DatumFault>
     if !tree.nests_within(100) {
         return Err(DatumFault::TooDeep);
     }
-    let mut text = Vec::new(alloc);
-    match put_json(alloc, &mut text, tree) {
-        Ok(()) => Ok(Datum::of(text)),
+    match written(alloc, tree) {
+        Ok(text) => Ok(Datum::of(text)),
         Err(_) => Err(DatumFault::Mem),
+    }
+}
+
+fn written(alloc: Global, tree: &Json) -> Result<Vec<u8>, Mem>
+    requires { is_in_range tree.now ≡ true }
+    ensures ok { IfOk result (λ v. v.items ≡ text_of tree.now) }
+    ensures proper { OnOk result (is_proper tree.now ≡ true) }
+{
+    let mut text = Vec::with_capacity(alloc, room_for(tree))?;
+    put_json(alloc, &mut text, tree)?;
+    Ok(text)
+}
+
+// How many bytes to make room for at first: the digits of a whole number and its sign, a text with
+// its quotes, some for values with values in them.
+fn room_for(tree: &Json) -> usize {
+    match tree {
+        Json::Null | Json::Bool(_) | Json::Odd => 5,
+        Json::Whole(_) => 20,
+        Json::Text(text) => text.bytes().len().saturating_add(2),
+        Json::List(_) | Json::Object(_) => 64,
     }
 }

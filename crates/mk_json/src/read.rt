@@ -1,14 +1,21 @@
-// From bytes to a tree.
-ghost use Rattle.std.specs.Prelude.{◌≡◌, ◌≤◌, true, Err, IfOk, None, Some};
+// From bytes to a tree, token by token.
+ghost use Rattle.std.specs.Prelude.{◌≡◌, ◌≤◌, ◌<◌, length, true, Err, IfOk, OnOk, None, Some, option_map};
+ghost use Rattle.json.specs.Json.{value, items, members};
+ghost use Rattle.serde_json.specs.Data as values;
+ghost use Rattle.serde_json.specs.Read as meant;
 ghost use Rattle.mk_base.specs.Trees.{nesting, is_in_range};
-ghost use Rattle.mk_json.specs.Parsed.{tree_of, items_of, members_of, number_of, parsed};
-ghost use Rattle.mk_base.specs.Proper.{is_proper};
-ghost use Rattle.serde_json.specs.View.{view, items_view, members_view, number_view};
+ghost use Rattle.mk_json.specs.Parsed.{tree_of, items_of, members_of, parsed};
 
+use crate::members::gathered;
+use crate::number::number;
+use json::{Invalid, Reader, Scratch, Token};
 use mk_base::{Json, List, Mem, Members, Text};
-use serde_json::{Map, Number, Value};
 use std::alloc::Global;
+use std::str;
 use thiserror::Error;
+
+// How deep lists and objects may stand in one another.
+const MAX_DEPTH: usize = 127;
 
 /// Why bytes have no tree.
 #[derive(Debug, Drop, Error)]
@@ -17,6 +24,28 @@ pub enum JsonFault {
     NotJson,
     #[error("out of memory")]
     Mem,
+}
+
+impl From<Invalid> for JsonFault {
+    ghost use Rattle.std.specs.Prelude.{◌≡◌};
+    ghost use Rattle.mk_json.specs.declared.read.JsonFault.TheVariants as fault;
+
+    ghost from_gives = { λ _ e. e ≡ fault.NotJson };
+
+    fn from(_e: Invalid) -> JsonFault {
+        JsonFault::NotJson
+    }
+}
+
+impl From<Mem> for JsonFault {
+    ghost use Rattle.std.specs.Prelude.{◌≡◌};
+    ghost use Rattle.mk_json.specs.declared.read.JsonFault.TheVariants as fault;
+
+    ghost from_gives = { λ _ e. e ≡ fault.Mem };
+
+    fn from(_e: Mem) -> JsonFault {
+        JsonFault::Mem
+    }
 }
 
 /// The tree of a text of JSON (RFC 8259) in UTF-8, as `serde_json` reads it: of a name that stands
@@ -29,63 +58,116 @@ pub fn read_json(alloc: Global, bytes: &[u8]) -> Result<Json, JsonFault>
     ensures in_range { IfOk result (λ t. is_in_range t ≡ true) }
     ensures nests { IfOk result (λ t. nesting t ≤ 127) }
 {
-    let value = match Value::from_slice(alloc, bytes) {
-        Ok(value) => value,
-        Err(e) => {
-            if e.is_memory() {
-                return Err(JsonFault::Mem);
-            }
-            return Err(JsonFault::NotJson);
-        }
+    let mut scratch = Scratch::new(alloc);
+    read_json_in(alloc, &mut scratch, bytes)
+}
+
+/// As `read_json`, with room that is kept from text to text.
+pub fn read_json_in(alloc: Global, scratch: &mut Scratch, bytes: &[u8]) -> Result<Json, JsonFault>
+    ensures ok { IfOk result (λ t. parsed bytes.now ≡ Some t) }
+    ensures refused { result ≡ Err JsonFault.NotJson → parsed bytes.now ≡ None }
+    ensures in_range { IfOk result (λ t. is_in_range t ≡ true) }
+    ensures nests { IfOk result (λ t. nesting t ≤ 127) }
+{
+    match str::from_utf8(bytes) {
+        Ok(text) => read_text(alloc, scratch, text),
+        Err(_) => Err(JsonFault::NotJson),
+    }
+}
+
+fn read_text(alloc: Global, scratch: &mut Scratch, text: &str) -> Result<Json, JsonFault>
+    ensures ok { IfOk result
+        (λ t. (d : values.Data) × (meant.read text.now ≡ Some d) × (t ≡ tree_of d)) }
+    ensures refused { result ≡ Err JsonFault.NotJson → meant.read text.now ≡ None }
+{
+    let Ok(mut reader) = Reader::new(text, scratch) else {
+        return Err(JsonFault::Mem);
     };
-    match convert(alloc, &value) {
-        Ok(tree) => Ok(tree),
-        Err(_) => Err(JsonFault::Mem),
+    let tree = read(alloc, &mut reader, MAX_DEPTH)?;
+    if reader.next().is_some() {
+        return Err(JsonFault::NotJson);
+    }
+    Ok(tree)
+}
+
+#[cycle(read)]
+#[inline(always)]
+fn read(alloc: Global, reader: &mut Reader<'_>, depth: usize) -> Result<Json, JsonFault>
+    ensures ok { IfOk result (λ t. (d : values.Data)
+        × (meant.converted meant.of_json (value depth reader.old) ≡ Some (d, reader.new))
+        × (t ≡ tree_of d)) }
+    ensures shorter { OnOk result (length reader.new < length reader.old) }
+    ensures refused { result ≡ Err JsonFault.NotJson
+        → meant.converted meant.of_json (value depth reader.old) ≡ None }
+{
+    let token = reader.next().ok_or(JsonFault::NotJson)?;
+    match token {
+        Token::String(text) => Ok(Json::Text(Text::of(alloc, text)?)),
+        Token::Number(text) => match number(text) {
+            Some(tree) => Ok(tree),
+            None => Err(JsonFault::NotJson),
+        },
+        Token::Bool(b) => Ok(Json::Bool(b)),
+        Token::Null => Ok(Json::Null),
+        Token::EndObject | Token::EndArray | Token::Key(_) | Token::Bad => {
+            Err(JsonFault::NotJson)
+        }
+        Token::BeginArray => {
+            if depth == 0 {
+                return Err(JsonFault::NotJson);
+            }
+            Ok(Json::List(read_items(alloc, reader, depth - 1)?))
+        }
+        Token::BeginObject => {
+            if depth == 0 {
+                return Err(JsonFault::NotJson);
+            }
+            Ok(Json::Object(read_members(alloc, reader, depth - 1)?))
+        }
     }
 }
 
-fn number(n: &Number) -> Json
-    ensures { result ≡ number_of (number_view n.now) }
+#[cycle(read)]
+#[inline(never)]
+fn read_items(alloc: Global, reader: &mut Reader<'_>, depth: usize) -> Result<List<Json>, JsonFault>
+    ensures ok { IfOk result (λ ts. (ds : values.Items)
+        × (meant.converted meant.of_items (items (value depth) (length reader.old) reader.old)
+        ≡ Some (ds, reader.new)) × (ts ≡ items_of ds)) }
+    ensures shorter { OnOk result (length reader.new < length reader.old) }
+    ensures refused { result ≡ Err JsonFault.NotJson
+        → meant.converted meant.of_items (items (value depth) (length reader.old) reader.old)
+        ≡ None }
 {
-    match n.as_i128() {
-        Some(x) => Json::Whole(x),
-        None => Json::Odd,
+    let mut found = List::new(alloc);
+    'items: while !reader.take_end_array() {
+        let item = read(alloc, reader, depth)?;
+        found.push(item)?;
     }
-}
-
-#[cycle(convert)]
-fn convert(alloc: Global, value: &Value) -> Result<Json, Mem>
-    ensures { IfOk result (λ t. t ≡ tree_of (view value.now)) }
-{
-    match value {
-        Value::Null => Ok(Json::Null),
-        Value::Bool(b) => Ok(Json::Bool(*b)),
-        Value::Number(n) => Ok(number(n)),
-        Value::String(text) => Ok(Json::Text(Text::of(alloc, text.as_str())?)),
-        Value::Array(items) => Ok(Json::List(convert_items(alloc, items)?)),
-        Value::Object(members) => Ok(Json::Object(convert_members(alloc, members)?)),
-    }
-}
-
-#[cycle(convert)]
-fn convert_items(alloc: Global, items: &Vec<Value>) -> Result<List<Json>, Mem>
-    ensures { IfOk result (λ ts. ts ≡ items_of (items_view items.now.items)) }
-{
-    let mut found = List::with_room(alloc, items.len())?;
-    for item in items {
-        found.push(convert(alloc, item)?)?;
-    }
+    found.trim();
     Ok(found)
 }
 
-#[cycle(convert)]
-fn convert_members(alloc: Global, members: &Map<String, Value>) -> Result<Members<Json>, Mem>
-    ensures { IfOk result (λ ts. ts ≡ members_of (members_view members.now.entries)) }
+#[cycle(read)]
+#[inline(never)]
+fn read_members(
+    alloc: Global,
+    reader: &mut Reader<'_>,
+    depth: usize,
+) -> Result<Members<Json>, JsonFault>
+    ensures ok { IfOk result (λ ts. (ms : values.Members)
+        × (meant.converted (λ ns. meant.of_members ns values.no_members)
+        (members (value depth) (length reader.old) reader.old) ≡ Some (ms, reader.new))
+        × (ts ≡ members_of ms)) }
+    ensures shorter { OnOk result (length reader.new < length reader.old) }
+    ensures refused { result ≡ Err JsonFault.NotJson
+        → meant.converted (λ ns. meant.of_members ns values.no_members)
+        (members (value depth) (length reader.old) reader.old) ≡ None }
 {
-    let mut found = List::with_room(alloc, members.len())?;
-    for (name, member) in members.iter() {
-        let name = Text::of(alloc, name.as_str())?;
-        found.push((name, convert(alloc, member)?))?;
+    let mut found = List::new(alloc);
+    'members: while let Some(name) = reader.next_key()? {
+        let key = Text::of(alloc, name)?;
+        let member = read(alloc, reader, depth)?;
+        found.push((key, member))?;
     }
-    Ok(Members::from_sorted(found))
+    Ok(gathered(alloc, found)?)
 }
