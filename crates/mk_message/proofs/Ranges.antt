@@ -2,6 +2,7 @@
 use Rattle.std.proofs.Common.{◌≡◌, ℕ, Bool, true, false, List, [], ◌∷◌, Option, Some, None, Result, Ok, option_map, option_and_then, if◌then◌else◌, refl, sym, ap, ◌∙◌, subst}
 use Rattle.std.proofs.lemmas.Bool.{and_parts, and_from}
 use Rattle.std.specs.List.{list_all}
+use Rattle.std.specs.Prelude.{Err, IfOk}
 use Rattle.mk_base.specs.declared.json.Json as tree
 use Rattle.mk_base.specs.declared.json.Json.{Json}
 use Rattle.mk_base.specs.declared.json.Json.TheVariants as v
@@ -105,3 +106,8 @@ fits_in t m e r =
     let i = passed 4 (id_in p.0.1) (λ id. tested 5 (content_in k.0 id p.0.2) (λ m. Ok m)) m k.2 in
     let c = passed 5 (content_in k.0 i.0 p.0.2) (λ m. Ok m) m i.2 in
     content_fits k.0 i.0 p.0.2 m (c.1 ∙ ap Some (same_ok (Ok c.0) c.0 m refl c.2)) (three_fit t p.0 p.1 r).2
+
+-- what was read of a tree in range is in range
+pub fits_taken : (t : Json) (r : Result Message ℕ) → r ≡ message_in t → IfOk r (λ m. trees.is_in_range t ≡ true → is_in_range m ≡ true)
+fits_taken t (Ok m) e = fits_in t m (sym e)
+fits_taken t (Err n) e = tt

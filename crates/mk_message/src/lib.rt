@@ -10,5 +10,6 @@ mod writing;
 pub use calls::write_call;
 pub use groups::{inputs_bytes, wanted_bytes};
 pub use items::write_item;
-pub use reading::{ReadFault, read, read_tree};
+pub use mk_json::Scratch;
+pub use reading::{ReadFault, read, read_in, read_tree, take_tree};
 pub use writing::write;

@@ -2,10 +2,11 @@
 ghost use Rattle.std.specs.Prelude.{◌≡◌, ℕ, true, Ok, Err, None, Some, IfOk, option_map};
 ghost use Rattle.mk_base.specs.Trees as trees;
 ghost use Rattle.mk_message.specs.Written.{is_in_range};
-ghost use Rattle.mk_message.specs.Messages.{kind_in, id_in, request_in, content_in, message_in, message_of};
+ghost use Rattle.mk_message.specs.Messages.{three_of, three_in, kind_in, id_in, request_in, content_in, message_in, message_of};
+ghost use Rattle.mk_message.specs.inner.Asks.{ask_in, ask_named};
 
-use mk_base::{Json, Mem};
-use mk_json::{JsonFault, read_json};
+use mk_base::{Json, List, Mem, Text};
+use mk_json::{JsonFault, Scratch, read_json_in};
 use mk_plan::Message;
 use std::alloc::Global;
 use thiserror::Error;
@@ -49,8 +50,19 @@ pub fn read(alloc: Global, payload: &[u8]) -> Result<Message, ReadFault>
         → message_of payload.now ≡ Err n }
     ensures in_range { IfOk result (λ m. is_in_range m ≡ true) }
 {
-    match read_json(alloc, payload) {
-        Ok(tree) => read_tree(alloc, &tree),
+    let mut scratch = Scratch::new(alloc);
+    read_in(alloc, &mut scratch, payload)
+}
+
+/// As `read`, with room that is kept from payload to payload.
+pub fn read_in(alloc: Global, scratch: &mut Scratch, payload: &[u8]) -> Result<Message, ReadFault>
+    ensures ok { IfOk result (λ m. message_of payload.now ≡ Ok m) }
+    ensures refused { (n : ℕ) → result ≡ Err (ReadFault.NotAMessage n)
+        → message_of payload.now ≡ Err n }
+    ensures in_range { IfOk result (λ m. is_in_range m ≡ true) }
+{
+    match read_json_in(alloc, scratch, payload) {
+        Ok(tree) => told(take_tree(tree)),
         Err(JsonFault::NotJson) => Err(ReadFault::NotAMessage(1)),
         Err(JsonFault::Mem) => Err(ReadFault::Mem),
     }
@@ -64,30 +76,67 @@ pub fn read_tree(alloc: Global, tree: &Json) -> Result<Message, ReadFault>
     ensures in_range { IfOk result
         (λ m. trees.is_in_range tree.now ≡ true → is_in_range m ≡ true) }
 {
-    message_of_tree(alloc, tree)
+    let tree = tree.copy(alloc)?;
+    told(take_tree(tree))
 }
 
-fn message_of_tree(alloc: Global, tree: &Json) -> Result<Message, ReadFault>
-    ensures ok { IfOk result (λ m. message_in tree.now ≡ Ok m) }
-    ensures refused { (n : ℕ) → result ≡ Err (ReadFault.NotAMessage n)
-        → message_in tree.now ≡ Err n }
+fn told(read: Result<Message, u8>) -> Result<Message, ReadFault>
+    ensures ok { IfOk result (λ m. read ≡ Ok m) }
+    ensures refused { (n : ℕ) → result ≡ Err (ReadFault.NotAMessage n) → read ≡ Err n }
 {
-    let Json::List(parts) = tree else {
-        return Err(ReadFault::NotAMessage(2));
-    };
-    let [first, second, content] = parts.as_slice() else {
-        return Err(ReadFault::NotAMessage(2));
-    };
-    let Some(kind) = kind_of(first) else {
-        return Err(ReadFault::NotAMessage(3));
-    };
-    let Some(id) = id_of(second) else {
-        return Err(ReadFault::NotAMessage(4));
-    };
-    match content_of(alloc, kind, id, content)? {
-        Some(message) => Ok(message),
-        None => Err(ReadFault::NotAMessage(5)),
+    match read {
+        Ok(message) => Ok(message),
+        Err(test) => Err(ReadFault::NotAMessage(test)),
     }
+}
+
+/// The message that a tree has, with the tree's parts moved into it, or the number of the first of
+/// the tests 2 to 5 that the tree fails.
+pub fn take_tree(tree: Json) -> Result<Message, u8>
+    ensures value { result ≡ message_in tree }
+    ensures in_range { IfOk result (λ m. trees.is_in_range tree ≡ true → is_in_range m ≡ true) }
+{
+    message_of_tree(tree)
+}
+
+fn message_of_tree(tree: Json) -> Result<Message, u8>
+    ensures { result ≡ message_in tree }
+{
+    let Some((first, second, content)) = three_in(tree) else {
+        return Err(2);
+    };
+    let Some(kind) = kind_of(&first) else {
+        return Err(3);
+    };
+    let Some(id) = id_of(&second) else {
+        return Err(4);
+    };
+    match content_of(kind, id, content) {
+        Some(message) => Ok(message),
+        None => Err(5),
+    }
+}
+
+fn three_in(tree: Json) -> Option<(Json, Json, Json)>
+    ensures { result ≡ three_in tree }
+{
+    match tree {
+        Json::List(parts) => three_of(parts),
+        _ => None,
+    }
+}
+
+fn three_of(parts: List<Json>) -> Option<(Json, Json, Json)>
+    ensures { result ≡ three_of parts }
+{
+    if parts.len() != 3 {
+        return None;
+    }
+    let mut left = parts;
+    let third = left.pop()?;
+    let second = left.pop()?;
+    let first = left.pop()?;
+    Some((first, second, third))
 }
 
 fn kind_of(tree: &Json) -> Option<Kind>
@@ -110,41 +159,53 @@ fn id_of(tree: &Json) -> Option<u64>
     }
 }
 
-fn content_of(alloc: Global, kind: Kind, id: u64, content: &Json) -> Result<Option<Message>, Mem>
-    ensures { IfOk result (λ m. m ≡ content_in kind id content.now) }
+fn content_of(kind: Kind, id: u64, content: Json) -> Option<Message>
+    ensures { result ≡ content_in kind id content }
 {
     match kind {
-        Kind::Request => request_of(alloc, id, content),
-        Kind::Success => Ok(Some(Message::Success {
-            id,
-            content: content.copy(alloc)?,
-        })),
+        Kind::Request => request_of(id, content),
+        Kind::Success => Some(Message::Success { id, content }),
         Kind::Failure => match content {
-            Json::Text(text) => Ok(Some(Message::Failure {
-                id,
-                text: text.copy()?,
-            })),
-            _ => Ok(None),
+            Json::Text(text) => Some(Message::Failure { id, text }),
+            _ => None,
         },
     }
 }
 
-fn request_of(alloc: Global, id: u64, content: &Json) -> Result<Option<Message>, Mem>
-    ensures { IfOk result (λ m. m ≡ request_in id content.now) }
+fn request_of(id: u64, content: Json) -> Option<Message>
+    ensures { result ≡ request_in id content }
 {
-    let Json::List(parts) = content else {
-        return Ok(None);
-    };
-    let [Json::Text(name), Json::List(args), named] = parts.as_slice() else {
-        return Ok(None);
-    };
-    if !named.is_object() {
-        return Ok(None);
+    match three_in(content) {
+        Some((name, args, named)) => ask_of(id, name, args, named),
+        None => None,
     }
-    Ok(Some(Message::Ask {
-        id,
-        name: name.copy()?,
-        args: args.copy(alloc)?,
-        named: named.copy(alloc)?,
-    }))
+}
+
+fn ask_of(id: u64, name: Json, args: Json, named: Json) -> Option<Message>
+    ensures { result ≡ ask_in id name args named }
+{
+    match name {
+        Json::Text(name) => ask_named(id, name, args, named),
+        _ => None,
+    }
+}
+
+fn ask_named(id: u64, name: Text, args: Json, named: Json) -> Option<Message>
+    ensures { result ≡ ask_named id name args named }
+{
+    match args {
+        Json::List(args) => {
+            if named.is_object() {
+                Some(Message::Ask {
+                    id,
+                    name,
+                    args,
+                    named,
+                })
+            } else {
+                None
+            }
+        }
+        _ => None,
+    }
 }

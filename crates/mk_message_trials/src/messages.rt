@@ -4,7 +4,9 @@ ghost use Rattle.mk_message.specs.Written.{is_call_in_range, is_in_range};
 
 use crate::texts::{datum_of, tree_of};
 use mk_base::{List, Mem, Text, Tier};
-use mk_message::{ReadFault, read, write, write_call, write_item};
+use mk_message::{
+    ReadFault, Scratch, read, read_in, read_tree, take_tree, write, write_call, write_item,
+};
 use mk_plan::{Call, Input, Item, Message, Want};
 use std::alloc::Global;
 
@@ -33,12 +35,19 @@ fn is_failed(fault: ReadFault, want: Result<&str, u8>) -> bool {
     }
 }
 
-// Whether what the payload is read as is written as this text, or it fails the test of this number.
-fn is_again(alloc: Global, payload: &[u8], want: Result<&str, u8>) -> bool {
-    match read(alloc, payload) {
+// Whether what was read is written as this text, or failed the test of this number.
+fn is_told(alloc: Global, told: Result<Message, ReadFault>, want: Result<&str, u8>) -> bool
+    requires { IfOk told (λ m. is_in_range m ≡ true) }
+{
+    match told {
         Ok(message) => is_right(alloc, &message, want),
         Err(fault) => is_failed(fault, want),
     }
+}
+
+fn is_again(alloc: Global, scratch: &mut Scratch, payload: &[u8], want: Result<&str, u8>) -> bool {
+    is_told(alloc, read(alloc, payload), want)
+        && is_told(alloc, read_in(alloc, scratch, payload), want)
 }
 
 const PAYLOADS: [(&[u8], Result<&'static str, u8>); 10] = [
@@ -62,8 +71,9 @@ const PAYLOADS: [(&[u8], Result<&'static str, u8>); 10] = [
 
 // How many are read and written again so, up to the first that isn't.
 fn count_again(alloc: Global) -> usize {
+    let mut scratch = Scratch::new(alloc);
     for (place, (payload, want)) in PAYLOADS.iter().enumerate() {
-        if !is_again(alloc, payload, *want) {
+        if !is_again(alloc, &mut scratch, payload, *want) {
             return place;
         }
     }
@@ -73,6 +83,25 @@ fn count_again(alloc: Global) -> usize {
 #[test]
 fn payloads_are_read_and_written_again(rt: HostRuntime) {
     assert_eq!(rt; count_again(rt.alloc()), PAYLOADS.len());
+}
+
+const SUCCESS: &str = "[1,0,[\"a\",{}]]";
+
+fn is_copied(alloc: Global) -> bool {
+    let tree = tree_of(alloc, SUCCESS);
+    is_told(alloc, read_tree(alloc, &tree), Ok(SUCCESS))
+}
+
+fn is_moved(alloc: Global) -> bool {
+    match take_tree(tree_of(alloc, SUCCESS)) {
+        Ok(message) => is_right(alloc, &message, Ok(SUCCESS)),
+        Err(_) => false,
+    }
+}
+
+#[test]
+fn a_tree_is_read_as_its_text_is(rt: HostRuntime) {
+    assert!(rt; is_copied(rt.alloc()) && is_moved(rt.alloc()));
 }
 
 // An input's entity, its attribute, its source and its value.

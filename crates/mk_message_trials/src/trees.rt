@@ -3,7 +3,7 @@ ghost use Rattle.std.specs.Prelude.{◌≡◌, true};
 ghost use Rattle.mk_base.specs.Trees.{is_in_range};
 
 use mk_base::{Json, Mem, Text};
-use mk_json::{DatumFault, JsonFault, datum, put_json, put_text, read_json};
+use mk_json::{DatumFault, JsonFault, Scratch, datum, put_json, put_text, read_json, read_json_in};
 use std::alloc::Global;
 
 // Whether a tree is written as this.
@@ -18,8 +18,8 @@ fn is_written(alloc: Global, tree: &Json, want: &str) -> bool
 }
 
 // Whether what the bytes are read as is written as this.
-fn is_again(alloc: Global, bytes: &[u8], want: &str) -> bool {
-    match read_json(alloc, bytes) {
+fn is_again(alloc: Global, scratch: &mut Scratch, bytes: &[u8], want: &str) -> bool {
+    match read_json_in(alloc, scratch, bytes) {
         Ok(tree) => is_written(alloc, &tree, want),
         Err(JsonFault::NotJson) => want == "no JSON",
         Err(JsonFault::Mem) => false,
@@ -45,12 +45,21 @@ fn is_datum(alloc: Global, bytes: &[u8], want: &str) -> bool {
     }
 }
 
-const TREES: [(&[u8], &str); 15] = [
+// 34 names, each below the one before it, and the same in byte order.
+const FALLING: &[u8] =
+    b"{\"z\":1,\"y\":1,\"x\":1,\"w\":1,\"v\":1,\"u\":1,\"t\":1,\"s\":1,\"r\":1,\"q\":1,\"p\":1,\"o\":1,\"n\":1,\"m\":1,\"l\":1,\"k\":1,\"j\":1,\"i\":1,\"h\":1,\"g\":1,\"f\":1,\"e\":1,\"d\":1,\"c\":1,\"b\":1,\"a\":1,\"H\":1,\"G\":1,\"F\":1,\"E\":1,\"D\":1,\"C\":1,\"B\":1,\"A\":1}";
+
+const RISING: &str =
+    "{\"A\":1,\"B\":1,\"C\":1,\"D\":1,\"E\":1,\"F\":1,\"G\":1,\"H\":1,\"a\":1,\"b\":1,\"c\":1,\"d\":1,\"e\":1,\"f\":1,\"g\":1,\"h\":1,\"i\":1,\"j\":1,\"k\":1,\"l\":1,\"m\":1,\"n\":1,\"o\":1,\"p\":1,\"q\":1,\"r\":1,\"s\":1,\"t\":1,\"u\":1,\"v\":1,\"w\":1,\"x\":1,\"y\":1,\"z\":1}";
+
+const TREES: [(&[u8], &str); 17] = [
     (
         b" {\"b\":1, \"a\":[true,null,-5]}\n",
         "{\"a\":[true,null,-5],\"b\":1}",
     ),
     (b"{\"a\":1,\"a\":2}", "{\"a\":2}"),
+    (b"{\"b\":1,\"a\":2,\"b\":{}}", "{\"a\":2,\"b\":{}}"),
+    (FALLING, RISING),
     (b"[1.5,1e2,-0,18446744073709551616]", "[0.5,0.5,0.5,0.5]"),
     (
         b"[18446744073709551615,-9223372036854775808]",
@@ -93,8 +102,9 @@ const DATA: [(&[u8], &str); 9] = [
 
 // How many are read and written again so, up to the first that isn't.
 fn trees_again(alloc: Global) -> usize {
+    let mut scratch = Scratch::new(alloc);
     for (place, (bytes, want)) in TREES.iter().enumerate() {
-        if !is_again(alloc, bytes, want) {
+        if !is_again(alloc, &mut scratch, bytes, want) {
             return place;
         }
     }
