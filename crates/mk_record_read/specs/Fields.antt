@@ -7,7 +7,7 @@ use Rattle.mk_base.specs.declared.tier.Via.{Via}
 use Rattle.mk_base.specs.declared.tier.Via.TheVariants.{Plain, Shift, Weak}
 use Rattle.mk_base.specs.Lists.{same_text, all_there}
 use Rattle.mk_base.specs.Texts.{text_of}
-use Rattle.mk_base.specs.Trees.{bool_in, whole_in, text_in, items_in, is_datum}
+use Rattle.mk_base.specs.Trees.{whole_in, text_in, items_in, is_datum}
 
 -- the line isn't of a kind that may stand there, or not of its kind's form
 abbrev pub misformed : ℕ

@@ -4,7 +4,6 @@ use Rattle.mk_plan.specs.declared.Plan.{Plan}
 use Rattle.mk_plan.specs.Journals.{Arrival}
 use Rattle.mk_plan.specs.Plans.{sim_count}
 use Rattle.mk_message.specs.Written.{is_in_range}
-use Rattle.mk_record_read.specs.Seen.{came}
 
 -- the message came from a simulator of the plan, and each whole number in its content or arguments
 -- is in range

@@ -1,12 +1,14 @@
 // What each kind of line adds to the plan, to the messages that came, or to the steps that were asked for.
-ghost use Rattle.std.specs.Prelude.{◌≡◌, Ok, Some, OnOk, IfOk, IfErr, true, ◌&&◌, map, nat_abs, ◌∷◌, []};
+ghost use Rattle.std.specs.Prelude.{◌≡◌, Ok, Err, Some, OnOk, IfOk, IfErr, MatchOption, true, ◌&&◌, map, nat_abs, ◌∷◌, []};
 ghost use Rattle.std.specs.List.{list_all};
 ghost use Rattle.std.specs.Result.{result_ok};
 ghost use Rattle.mk_message.specs.Messages.{message_in};
-ghost use Rattle.mk_base.specs.Trees.{is_in_range};
+ghost use Rattle.mk_base.specs.Trees.{is_in_range, items_in};
+ghost use Rattle.mk_plan.specs.declared.Plan as plans;
 ghost use Rattle.mk_record_read.specs.inner.Faults.{IsBeyond, IsFaultOf, IsMissing};
 ghost use Rattle.mk_record_read.specs.inner.Lines.{conn_put, entity_put, model_put, sim_put};
-ghost use Rattle.mk_record_read.specs.Fields.{is_below};
+ghost use Rattle.mk_record_read.specs.Fields.{is_below, found, misformed};
+ghost use Rattle.mk_record_read.specs.Steps.{IsKnown};
 ghost use Rattle.mk_record_read.specs.Lines.{run_fits, event_fits, sim_fits, entity_fits, with_run, with_sim, with_model, with_entity, with_way, with_conn, with_async, arrival_in, asked_in, step_asked, step_fits};
 ghost use Rattle.mk_record_read.specs.Seen.{came};
 ghost use Rattle.mk_record_read.specs.inner.Seen.{is_second};
@@ -18,7 +20,7 @@ use crate::fields::{
 use crate::kinds::Version;
 use crate::saved::{Arrival, Asked};
 use mk_base::{Datum, Json, List, Mem, SimKind, SimNo, Text, Tier, Via};
-use mk_message::{ReadFault, read_tree};
+use mk_message::take_tree;
 use mk_plan::{AsyncPair, Conn, Message, Plan, PlanEntity, PlanModel, PlanSim};
 use std::alloc::Global;
 
@@ -466,29 +468,51 @@ pub fn add_async(plan: &mut Plan, items: &[Json]) -> Result<(), LineFault>
     Ok(())
 }
 
-pub fn arrival_of(alloc: Global, plan: &Plan, items: &[Json]) -> Result<Arrival, LineFault>
-    ensures ok { IfOk result (λ a. arrival_in plan.now items.now ≡ Ok (came a)) }
-    ensures err { IfErr result (IsFaultOf (arrival_in plan.now items.now)) }
+// The message of a line, whose parts are moved into it.
+pub fn arrival_of(plan: &Plan, tree: Json) -> Result<Arrival, LineFault>
+    ensures ok { IfOk result
+        (λ a. found misformed (items_in tree) (arrival_in plan.now) ≡ Ok (came a)) }
+    ensures err { IfErr result
+        (IsFaultOf (found misformed (items_in tree) (arrival_in plan.now))) }
+    ensures known { is_in_range tree ≡ true → IfOk result (λ a. IsKnown plan.now (came a)) }
 {
-    match items {
-        [sim, message] => arrival_of_fields(alloc, plan, sim, message),
+    match tree {
+        Json::List(items) => arrival_among(plan, items),
         _ => Err(MISFORMED),
     }
 }
 
+fn arrival_among(plan: &Plan, items: List<Json>) -> Result<Arrival, LineFault>
+    ensures ok { IfOk result (λ a. arrival_in plan.now items ≡ Ok (came a)) }
+    ensures err { IfErr result (IsFaultOf (arrival_in plan.now items)) }
+{
+    match pair_of(items) {
+        Some((sim, message)) => arrival_of_fields(plan, &sim, message),
+        None => Err(MISFORMED),
+    }
+}
+
+// The two items of a list of two.
+fn pair_of(items: List<Json>) -> Option<(Json, Json)>
+    ensures { MatchOption result ((P : plans.Plan) → arrival_in P items ≡ Err misformed)
+        (λ p. items ≡ p.0 ∷ p.1 ∷ []) }
+{
+    if items.len() != 2 {
+        return None;
+    }
+    let mut left = items;
+    let second = left.pop()?;
+    let first = left.pop()?;
+    Some((first, second))
+}
+
 // The same where the line has as many fields as it needs.
-fn arrival_of_fields(
-    alloc: Global,
-    plan: &Plan,
-    sim: &Json,
-    message: &Json,
-) -> Result<Arrival, LineFault>
-    ensures ok { IfOk result
-        (λ a. arrival_in plan.now (sim.now ∷ message.now ∷ []) ≡ Ok (came a)) }
-    ensures err { IfErr result (IsFaultOf (arrival_in plan.now (sim.now ∷ message.now ∷ []))) }
+fn arrival_of_fields(plan: &Plan, sim: &Json, message: Json) -> Result<Arrival, LineFault>
+    ensures ok { IfOk result (λ a. arrival_in plan.now (sim.now ∷ message ∷ []) ≡ Ok (came a)) }
+    ensures err { IfErr result (IsFaultOf (arrival_in plan.now (sim.now ∷ message ∷ []))) }
 {
     let sim = whole_of(sim)?;
-    let message = message_of(alloc, message)?;
+    let message = message_of(message)?;
     let sim = place_among(plan.sims.len(), sim)?;
     Ok(Arrival {
         sim: SimNo(sim),
@@ -561,14 +585,13 @@ fn step_fits(time: i128, tier: i128, max_advance: i128) -> bool
     is_from(0, 1000000000, time) && is_from(0, 1000, tier) && is_from(0, 1000000000, max_advance)
 }
 
-fn message_of(alloc: Global, tree: &Json) -> Result<Message, LineFault>
-    ensures ok { IfOk result (λ m. result_ok (message_in tree.now) ≡ Some m) }
-    ensures err { IfErr result (IsMissing (result_ok (message_in tree.now))) }
+fn message_of(tree: Json) -> Result<Message, LineFault>
+    ensures ok { IfOk result (λ m. result_ok (message_in tree) ≡ Some m) }
+    ensures err { IfErr result (IsMissing (result_ok (message_in tree))) }
 {
-    match read_tree(alloc, tree) {
+    match take_tree(tree) {
         Ok(message) => Ok(message),
-        Err(ReadFault::NotAMessage(_)) => Err(MISFORMED),
-        Err(ReadFault::Mem) => Err(LineFault::Mem),
+        Err(_) => Err(MISFORMED),
     }
 }
 

@@ -22,7 +22,7 @@ use crate::lines::{
 use crate::saved::{Arrival, Asked};
 use itoa::Buffer;
 use mk_base::Json;
-use mk_json::{JsonFault, read_json};
+use mk_json::{JsonFault, Scratch, read_json_in};
 use mk_plan::Plan;
 use std::alloc::Global;
 
@@ -30,12 +30,12 @@ const MISFORMED: LineFault = LineFault::Bad(1);
 
 const MISCOUNTED: LineFault = LineFault::Bad(4);
 
-fn tree_of(alloc: Global, text: &[u8]) -> Result<Json, LineFault>
+fn tree_of(alloc: Global, scratch: &mut Scratch, text: &[u8]) -> Result<Json, LineFault>
     ensures ok { IfOk result (λ t. parsed text.now ≡ Some t) }
     ensures err { IfErr result (IsMissing (parsed text.now)) }
     ensures in_range { IfOk result (λ t. is_in_range t ≡ true) }
 {
-    match read_json(alloc, text) {
+    match read_json_in(alloc, scratch, text) {
         Ok(tree) => Ok(tree),
         Err(JsonFault::NotJson) => Err(MISFORMED),
         Err(JsonFault::Mem) => Err(LineFault::Mem),
@@ -44,6 +44,7 @@ fn tree_of(alloc: Global, text: &[u8]) -> Result<Json, LineFault>
 
 pub fn add_part(
     alloc: Global,
+    scratch: &mut Scratch,
     plan: &mut Plan,
     version: Version,
     kind: LineKind,
@@ -56,7 +57,7 @@ pub fn add_part(
         (IsFaultOf
         (found misformed (items_read text.now) (with_part (is_second version) kind plan.old))) }
 {
-    let tree = tree_of(alloc, text)?;
+    let tree = tree_of(alloc, scratch, text)?;
     let items = items_of(&tree)?;
     add_items(alloc, plan, version, kind, items)
 }
@@ -86,25 +87,35 @@ fn add_items(
     }
 }
 
-pub fn read_arrival(alloc: Global, plan: &Plan, text: &[u8]) -> Result<Arrival, LineFault>
+pub fn read_arrival(
+    alloc: Global,
+    scratch: &mut Scratch,
+    plan: &Plan,
+    text: &[u8],
+) -> Result<Arrival, LineFault>
     ensures ok { IfOk result
         (λ a. found misformed (items_read text.now) (arrival_in plan.now) ≡ Ok (came a)) }
     ensures err { IfErr result
         (IsFaultOf (found misformed (items_read text.now) (arrival_in plan.now))) }
     ensures known { IfOk result (λ a. IsKnown plan.now (came a)) }
 {
-    let tree = tree_of(alloc, text)?;
-    let items = items_of(&tree)?;
-    arrival_of(alloc, plan, items)
+    let tree = tree_of(alloc, scratch, text)?;
+    arrival_of(plan, tree)
 }
 
-pub fn read_asked(alloc: Global, plan: &Plan, before: u64, text: &[u8]) -> Result<Asked, LineFault>
+pub fn read_asked(
+    alloc: Global,
+    scratch: &mut Scratch,
+    plan: &Plan,
+    before: u64,
+    text: &[u8],
+) -> Result<Asked, LineFault>
     ensures ok { IfOk result
         (λ a. found misformed (items_read text.now) (asked_in plan.now before) ≡ Ok a) }
     ensures err { IfErr result
         (IsFaultOf (found misformed (items_read text.now) (asked_in plan.now before))) }
 {
-    let tree = tree_of(alloc, text)?;
+    let tree = tree_of(alloc, scratch, text)?;
     let items = items_of(&tree)?;
     asked_of(plan, before, items)
 }

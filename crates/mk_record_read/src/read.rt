@@ -15,6 +15,7 @@ use crate::kinds::{LineKind, Version, ends_plan, kind_of_word, may_stand, place}
 use crate::parts::{add_part, read_arrival, read_asked, read_end};
 use crate::saved::{Asked, Progress, Saved};
 use mk_base::{List, Mem};
+use mk_json::Scratch;
 use mk_plan::Plan;
 use mk_plan_check::{PlanFault, check_plan};
 use std::alloc::Global;
@@ -42,6 +43,7 @@ fn test_plan(alloc: Global, plan: &Plan) -> Result<(), LineFault>
 // Adds a line of a kind that may stand here; whether it ends the record.
 fn take_part(
     alloc: Global,
+    scratch: &mut Scratch,
     progress: &mut Progress,
     kind: LineKind,
     text: &[u8],
@@ -54,14 +56,14 @@ fn take_part(
 {
     match kind {
         LineKind::Head => take_head(alloc, progress, text),
-        LineKind::Run => take_addition(alloc, progress, kind, text),
-        LineKind::Sim => take_addition(alloc, progress, kind, text),
-        LineKind::Model => take_addition(alloc, progress, kind, text),
-        LineKind::Entity => take_addition(alloc, progress, kind, text),
-        LineKind::Conn => take_addition(alloc, progress, kind, text),
-        LineKind::Async => take_addition(alloc, progress, kind, text),
-        LineKind::Ask => take_ask(alloc, progress, text),
-        LineKind::Got => take_message(alloc, progress, text),
+        LineKind::Run => take_addition(alloc, scratch, progress, kind, text),
+        LineKind::Sim => take_addition(alloc, scratch, progress, kind, text),
+        LineKind::Model => take_addition(alloc, scratch, progress, kind, text),
+        LineKind::Entity => take_addition(alloc, scratch, progress, kind, text),
+        LineKind::Conn => take_addition(alloc, scratch, progress, kind, text),
+        LineKind::Async => take_addition(alloc, scratch, progress, kind, text),
+        LineKind::Ask => take_ask(alloc, scratch, progress, text),
+        LineKind::Got => take_message(alloc, scratch, progress, text),
         LineKind::End => take_end(progress, text),
     }
 }
@@ -85,6 +87,7 @@ fn take_head(alloc: Global, progress: &mut Progress, text: &[u8]) -> Result<bool
 
 fn take_addition(
     alloc: Global,
+    scratch: &mut Scratch,
     progress: &mut Progress,
     kind: LineKind,
     text: &[u8],
@@ -96,31 +99,47 @@ fn take_addition(
         (plan_step (state_of progress.old) kind text.now) result progress.new }
 {
     let version = version_of(progress);
-    add_part(alloc, &mut progress.plan, version, kind, text)?;
+    add_part(alloc, scratch, &mut progress.plan, version, kind, text)?;
     progress.last = place(kind);
     Ok(false)
 }
 
-fn take_message(alloc: Global, progress: &mut Progress, text: &[u8]) -> Result<bool, LineFault>
+fn take_message(
+    alloc: Global,
+    scratch: &mut Scratch,
+    progress: &mut Progress,
+    text: &[u8],
+) -> Result<bool, LineFault>
     requires valid { IsValidPlan progress.old.plan }
     requires sound { IsSound progress.old }
     ensures { IsTaken progress.old
         (part_step (state_of progress.old) LineKind.Got text.now) result progress.new }
 {
-    let arrival = read_arrival(alloc, &progress.plan, text)?;
+    let arrival = read_arrival(alloc, scratch, &progress.plan, text)?;
     progress.arrivals.push(arrival)?;
     progress.last = place(LineKind::Got);
     Ok(false)
 }
 
 // Adds a step that was asked for; such lines stand in version 2 alone.
-fn take_ask(alloc: Global, progress: &mut Progress, text: &[u8]) -> Result<bool, LineFault>
+fn take_ask(
+    alloc: Global,
+    scratch: &mut Scratch,
+    progress: &mut Progress,
+    text: &[u8],
+) -> Result<bool, LineFault>
     requires valid { IsValidPlan progress.old.plan }
     requires sound { IsSound progress.old }
     ensures { IsTaken progress.old
         (part_step (state_of progress.old) LineKind.Ask text.now) result progress.new }
 {
-    let asked = read_asked(alloc, &progress.plan, progress.arrivals.len() as u64, text)?;
+    let asked = read_asked(
+        alloc,
+        scratch,
+        &progress.plan,
+        progress.arrivals.len() as u64,
+        text,
+    )?;
     add_step(alloc, &mut progress.asks, asked)?;
     progress.last = place(LineKind::Ask);
     Ok(false)
@@ -171,7 +190,12 @@ fn line_count(progress: &Progress) -> u128
 }
 
 // Adds a line; whether it ends the record.
-fn take_line(alloc: Global, progress: &mut Progress, line: &[u8]) -> Result<bool, LineFault>
+fn take_line(
+    alloc: Global,
+    scratch: &mut Scratch,
+    progress: &mut Progress,
+    line: &[u8],
+) -> Result<bool, LineFault>
     requires { IsSound progress.old }
     ensures { IsTaken progress.old
         (line_step (state_of progress.old) line.now) result progress.new }
@@ -180,11 +204,12 @@ fn take_line(alloc: Global, progress: &mut Progress, line: &[u8]) -> Result<bool
     let Some(kind) = kind_of_word(version_of(progress), word) else {
         return Err(MISFORMED);
     };
-    take_kind(alloc, progress, kind, text)
+    take_kind(alloc, scratch, progress, kind, text)
 }
 
 fn take_kind(
     alloc: Global,
+    scratch: &mut Scratch,
     progress: &mut Progress,
     kind: LineKind,
     text: &[u8],
@@ -199,7 +224,7 @@ fn take_kind(
     if !may_stand(progress.last, kind) {
         return Err(MISFORMED);
     }
-    take_part(alloc, progress, kind, text)
+    take_part(alloc, scratch, progress, kind, text)
 }
 
 fn word_and_rest(line: &[u8]) -> (&[u8], &[u8])
@@ -253,10 +278,11 @@ fn read_lines(alloc: Global, progress: &mut Progress, bytes: &[u8]) -> Result<()
     ensures faulty { (l n : ℕ) → result ≡ Err (RecordFault.Line l n)
         → reading bytes.now ≡ Faulty l n }
 {
+    let mut scratch = Scratch::new(alloc);
     let mut number: u64 = 1;
     let mut rest = bytes;
     while let Some((line, after)) = line_and_rest(rest) {
-        match take_line(alloc, progress, line) {
+        match take_line(alloc, &mut scratch, progress, line) {
             Ok(false) => {}
             Ok(true) => return closed(number, after),
             Err(fault) => return Err(at_line(number, fault)),
