@@ -13,6 +13,8 @@ ghost use Rattle.mk_plan.specs.Walks.{Reach, nobody, IsEarliest};
 ghost use Rattle.mk_plan.specs.Ready.{IsReady, last_step, start};
 ghost use Rattle.mk_plan.specs.Advance.{IsAdvance};
 ghost use Rattle.mk_plan.specs.Orderly.{IsOrderlySoFar, IsFirstReady};
+ghost use Rattle.mk_tiers.specs.Noted.{HasNoted};
+ghost use Rattle.mk_tiers.specs.Seen.{IsOf, IsEarliestIn};
 ghost use Rattle.mk_sched_agenda.specs.Outlets.{AreOutletsOf, triggering_from, outlets_in};
 ghost use Rattle.mk_sched_agenda.specs.Mirrors.{AgendaState, IsOfPlan, Mirrors};
 ghost use Rattle.mk_sched_agenda.specs.Endings.{CanBeMade, IsLast, EndOf};
@@ -25,6 +27,7 @@ use crate::outlets::{Beyond, Outlet, outlets_of};
 use crate::triggers::{bring_all, first_beyond};
 use mk_base::{List, Mem, SimNo, Tier};
 use mk_plan::Plan;
+use mk_tiers::Bits;
 use std::alloc::Global;
 use std::marker::Model;
 
@@ -137,34 +140,40 @@ impl Agenda {
     /// where nothing can make it step any more.
     pub fn earliest(&self, sim: SimNo) -> Option<Tier>
         requires { sim.0 < length self.now.queues }
-        ensures { (P : Plan) → (V : View) → IsValidPlan P → Mirrors P V self.now
+        ensures earliest { (P : Plan) → (V : View) → IsValidPlan P → Mirrors P V self.now
             → MatchOption result ((y : Tier) → Reach P (start P V) nobody sim.0 y
             → ⊥) (λ e. IsEarliest P (start P V) sim.0 e) }
+        ensures bounds { (P : Plan) → IsValidPlan P → IsOf P self.now.bounds
+            → IsEarliestIn P self.now.bounds sim.0 result }
     {
         self.dues.bounds.earliest(sim)
     }
 
-    /// A simulator that may be asked for a step was sent it: its turn opens. Takes no memory.
-    pub fn step(&mut self, sim: SimNo)
+    /// A simulator that may be asked for a step was sent it: its turn opens. Whoever may then step from another time on than
+    /// before is noted. Takes no memory.
+    pub fn step(&mut self, sim: SimNo, noted: &mut Bits)
         requires { sim.0 < length self.old.queues }
         ensures count { length self.new.queues ≡ length self.old.queues }
         ensures outlets { self.new.outlets ≡ self.old.outlets }
         ensures mirrors { (P : Plan) → (V : View) → (x : Tier) → (ins : List Input) → (advance : ℤ)
             → IsReady P V sim.0 x → Mirrors P V self.old
             → Mirrors P (note_sent P V sim.0 (Step x ins advance)) self.new }
+        ensures noted { HasNoted self.old.bounds self.new.bounds noted.old noted.new }
     {
-        self.dues.begin_turn(sim);
+        self.dues.begin_turn(sim, noted);
     }
 
     /// The last message of a simulator's turn came: its outputs are made at `made` and go to those of its triggering
     /// connections that `given` marks, and it asked for the next time `next`. Answers the first trigger beyond the loop limit,
-    /// if there is one, and changes nothing then. After want of memory the agenda says nothing any more.
+    /// if there is one, and changes nothing then. Whoever may then step from another time on than before is noted. After want
+    /// of memory the agenda says nothing any more.
     pub fn end_turn(
         &mut self,
         sim: SimNo,
         made: Tier,
         next: Option<i64>,
         given: &[bool],
+        noted: &mut Bits,
     ) -> Result<Option<Beyond>, Mem>
         requires sim { sim.0 < length self.old.queues }
         requires made { CanBeMade made }
@@ -175,13 +184,15 @@ impl Agenda {
         ensures ends { (P : Plan) → (J : List Entry) → (T : OpenTurn) → (m : Message)
             → IsLast P J sim T m made next given.now → Mirrors P (view P J) self.old
             → IfOk result (λ beyond. EndOf P J sim T m self.old beyond self.new) }
+        ensures noted { OnOk result
+            (HasNoted self.old.bounds self.new.bounds noted.old noted.new) }
     {
         let outlets = self.outlets[sim.0 as usize].as_slice();
         if let Some(beyond) = first_beyond(&self.limits, outlets, given, made) {
             return Ok(Some(beyond));
         }
-        self.dues.close_turn(&self.limits, sim, next)?;
-        bring_all(&mut self.dues, &self.limits, outlets, given, made)?;
+        self.dues.close_turn(&self.limits, sim, next, noted)?;
+        bring_all(&mut self.dues, &self.limits, outlets, given, made, noted)?;
         Ok(None)
     }
 }

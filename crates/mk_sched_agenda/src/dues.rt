@@ -4,6 +4,7 @@ ghost use Rattle.std.specs.Option.{ForSome};
 ghost use Rattle.std.specs.List.{list_any};
 ghost use Rattle.mk_plan.specs.declared.Plan.{Plan};
 ghost use Rattle.mk_nextstep.specs.Queues.{added, later, least};
+ghost use Rattle.mk_tiers.specs.Noted.{HasNoted};
 ghost use Rattle.mk_tiers.specs.Seen.{IsOf, start_in};
 ghost use Rattle.mk_tiers.specs.Standing.{IsOwn};
 ghost use Rattle.mk_sched_agenda.specs.Dues.{queue_in, last_in};
@@ -12,7 +13,7 @@ ghost use Rattle.mk_sched_agenda.specs.inner.Dues.{IsTidy, is_open, with_own, wi
 use crate::limits::{Limits, is_inside};
 use mk_base::{Mem, SimNo, Tier};
 use mk_nextstep::Queue;
-use mk_tiers::Bounds;
+use mk_tiers::{Bits, Bounds};
 
 // The steps to come of each simulator, its last step, whose turn is open, and the bounds of their starts.
 #[derive(Drop)]
@@ -51,8 +52,8 @@ impl Dues {
         self.opened.iter().any(|opened| *opened)
     }
 
-    // The simulator is asked for the first of its steps: its turn opens.
-    pub fn begin_turn(&mut self, sim: SimNo)
+    // The simulator is asked for the first of its steps: its turn opens. Whoever may then step from another time on is noted.
+    pub fn begin_turn(&mut self, sim: SimNo, noted: &mut Bits)
         requires sim { sim.0 < length self.old.queues.items }
         requires lasts { sim.0 < length self.old.lasts.items }
         requires tidy { IsTidy self.old.queues.items self.old.opened.items self.old.bounds }
@@ -64,15 +65,22 @@ impl Dues {
         ensures bounds { self.new.bounds
             ≡ with_start self.old.bounds sim.0 (least (queue_in self.old.queues.items sim.0)) true }
         ensures plan { (P : Plan) → IsOf P self.old.bounds → IsOf P self.new.bounds }
+        ensures noted { HasNoted self.old.bounds self.new.bounds noted.old noted.new }
     {
         let at = self.queues[sim.0 as usize].take();
         self.lasts[sim.0 as usize] = at;
         self.opened[sim.0 as usize] = true;
-        self.bounds.set_own(sim, at, true);
+        self.bounds.set_own_noting(sim, at, true, noted);
     }
 
     // Its turn closes, by which it asks for this next time.
-    pub fn close_turn(&mut self, limits: &Limits, sim: SimNo, next: Option<i64>) -> Result<(), Mem>
+    pub fn close_turn(
+        &mut self,
+        limits: &Limits,
+        sim: SimNo,
+        next: Option<i64>,
+        noted: &mut Bits,
+    ) -> Result<(), Mem>
         requires sim { sim.0 < length self.old.queues.items }
         requires tidy { IsTidy self.old.queues.items self.old.opened.items self.old.bounds }
         requires until { limits.now.until ≤ℤ pos 1000000000 }
@@ -88,17 +96,19 @@ impl Dues {
             ≡ with_start self.old.bounds sim.0
             (least (queue_in self.new.queues.items sim.0)) false) }
         ensures plan { (P : Plan) → IsOf P self.old.bounds → IsOf P self.new.bounds }
+        ensures noted { OnOk result
+            (HasNoted self.old.bounds self.new.bounds noted.old noted.new) }
     {
         let queue = &mut self.queues[sim.0 as usize];
         add_next(queue, limits, next)?;
         let first = queue.least();
         self.opened[sim.0 as usize] = false;
-        self.bounds.set_own(sim, first, false);
+        self.bounds.set_own_noting(sim, first, false, noted);
         Ok(())
     }
 
     // A delivery triggers a step.
-    pub fn trigger(&mut self, to: SimNo, at: Tier) -> Result<(), Mem>
+    pub fn trigger(&mut self, to: SimNo, at: Tier, noted: &mut Bits) -> Result<(), Mem>
         requires sim { to.0 < length self.old.queues.items }
         requires tidy { IsTidy self.old.queues.items self.old.opened.items self.old.bounds }
         requires own { IsOwn (Some at) }
@@ -113,16 +123,18 @@ impl Dues {
             (queue_in self.old.queues.items to.0) to.0 at) }
         ensures plan { (P : Plan) → IsOf P self.old.bounds → IsOf P self.new.bounds }
         ensures opened { self.new.opened.items ≡ self.old.opened.items }
+        ensures noted { OnOk result
+            (HasNoted self.old.bounds self.new.bounds noted.old noted.new) }
     {
         let queue = &mut self.queues[to.0 as usize];
         let is_first = is_first(queue, at);
         queue.add_trigger(at)?;
-        self.start_at(to, at, is_first);
+        self.start_at(to, at, is_first, noted);
         Ok(())
     }
 
     // A step that is the first one is the start, where no turn is open.
-    fn start_at(&mut self, to: SimNo, at: Tier, is_first: bool)
+    fn start_at(&mut self, to: SimNo, at: Tier, is_first: bool, noted: &mut Bits)
         requires opened { to.0 < length self.old.opened.items }
         requires sim { to.0 < length self.old.bounds.owns }
         requires own { IsOwn (Some at) }
@@ -133,9 +145,10 @@ impl Dues {
             ≡ (if is_first && not (is_open self.old.opened.items to.0)
             then with_start self.old.bounds to.0 (Some at) false else self.old.bounds) }
         ensures plan { (P : Plan) → IsOf P self.old.bounds → IsOf P self.new.bounds }
+        ensures noted { HasNoted self.old.bounds self.new.bounds noted.old noted.new }
     {
         if is_first && !self.opened[to.0 as usize] {
-            self.bounds.set_own(to, Some(at), false);
+            self.bounds.set_own_noting(to, Some(at), false, noted);
         }
     }
 }

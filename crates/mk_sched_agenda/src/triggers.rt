@@ -12,11 +12,13 @@ ghost use Rattle.mk_sched_agenda.specs.Endings.{CanBeMade};
 ghost use Rattle.mk_sched_agenda.specs.Outlets.{IsOutletOf, triggering_from};
 ghost use Rattle.mk_sched_agenda.specs.inner.Coming.{HasCome, IsEnding, beyond_over, first_beyond};
 ghost use Rattle.mk_order.proofs.Limits.{IsInLimit};
+ghost use Rattle.mk_tiers.specs.Noted.{HasNoted};
 
 use crate::dues::Dues;
 use crate::limits::{Limits, is_inside};
 use crate::outlets::{Beyond, Outlet};
 use mk_base::{Mem, Tier};
+use mk_tiers::Bits;
 
 // The first of the given outputs, made at `made_at`, that triggers a step beyond the loop limit.
 pub fn first_beyond(
@@ -64,6 +66,7 @@ pub fn bring_all(
     outlets: &[Outlet],
     given: &[bool],
     made_at: Tier,
+    noted: &mut Bits,
 ) -> Result<(), Mem>
     requires tidy { IsTidy dues.old.queues.items dues.old.opened.items dues.old.bounds }
     requires until { limits.now.until ≤ℤ pos 1000000000 }
@@ -80,9 +83,10 @@ pub fn bring_all(
         → HasCome P V s f [] dues.old.queues.items dues.old.bounds
         → OnOk result (HasCome P V s f
         (triggering_from P s) dues.new.queues.items dues.new.bounds) }
+    ensures noted { OnOk result (HasNoted dues.old.bounds dues.new.bounds noted.old noted.new) }
 {
     for (place, outlet) in outlets.iter().enumerate() {
-        bring(dues, limits, outlet, given[place], made_at)?;
+        bring(dues, limits, outlet, given[place], made_at, noted)?;
     }
     Ok(())
 }
@@ -94,6 +98,7 @@ fn bring(
     outlet: &Outlet,
     given: bool,
     made_at: Tier,
+    noted: &mut Bits,
 ) -> Result<(), Mem>
     requires tidy { IsTidy dues.old.queues.items dues.old.opened.items dues.old.bounds }
     requires until { limits.now.until ≤ℤ pos 1000000000 }
@@ -110,10 +115,11 @@ fn bring(
         → limits.now ≡ limits_of P → IsInLimit P s f
         → HasCome P V s f cs dues.old.queues.items dues.old.bounds
         → OnOk result (HasCome P V s f (cs ++ c ∷ []) dues.new.queues.items dues.new.bounds) }
+    ensures noted { OnOk result (HasNoted dues.old.bounds dues.new.bounds noted.old noted.new) }
 {
     let at = made_at.after(outlet.via);
     if is_brought(limits, given, at) {
-        dues.trigger(outlet.to, at)?;
+        dues.trigger(outlet.to, at, noted)?;
     }
     Ok(())
 }

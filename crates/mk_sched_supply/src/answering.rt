@@ -17,7 +17,7 @@ ghost use Rattle.mk_plan.specs.Inputs.{value_at};
 ghost use Rattle.mk_plan.specs.Sequential.{response};
 ghost use Rattle.mk_plan.specs.Journals.{OpenTurn, View, note_right, note_sent, view};
 ghost use Rattle.mk_plan_names.specs.Names.{AreNamesOf};
-ghost use Rattle.mk_buffers.specs.Standing.{Stands, least_mark};
+ghost use Rattle.mk_buffers.specs.Standing.{HasSameMarks, Stands, least_mark};
 ghost use Rattle.mk_buffers.specs.Marking.{asks_of};
 ghost use Rattle.mk_async.specs.Asked.{IsGivenBy, asked_in, is_asked_in_range};
 ghost use Rattle.mk_sched_open.specs.Turns.{IsRight};
@@ -52,6 +52,7 @@ impl Stock {
         requires late { at.time ≤ℤ pos 1000000000000000000 }
         requires low { at.tier ≤ 1000000 }
         requires range { list_all is_in_range args.now ≡ true }
+        ensures marks { HasSameMarks self.old.buffers self.new.buffers }
         ensures item { (V : View) (T : OpenTurn) → IsStockOf plan.now V self.old
             → IfOk result (λ item. item
             ≡ response plan.now (supply plan.now V.acts) sim.0 at T.place

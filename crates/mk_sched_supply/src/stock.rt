@@ -19,7 +19,7 @@ ghost use Rattle.mk_plan.specs.Ready.{IsReady};
 ghost use Rattle.mk_order.proofs.LaterQuestions.{IsMarkOf};
 ghost use Rattle.mk_sched_open.specs.Turns.{IsRight};
 ghost use Rattle.mk_buffers.specs.Bounds.{most_kept};
-ghost use Rattle.mk_buffers.specs.Standing.{HasRaised, Stands, least_mark, outputs_held};
+ghost use Rattle.mk_buffers.specs.Standing.{HasRaised, HasSameMarks, Stands, least_mark, outputs_held};
 ghost use Rattle.mk_sched_supply.specs.Outputs.{AreData, AreOutputsIn, values_in};
 
 use crate::feeds::{Feed, feeds_of};
@@ -112,7 +112,8 @@ impl Stock {
         requires late { made.time ≤ℤ pos 1000000000000000000 }
         requires low { made.tier ≤ 1000000 }
         requires data { AreData (values_in outputs.now) }
-        ensures { (P : Plan) (J : List Entry) (m : Message) (T : OpenTurn) (content : Json)
+        ensures marks { HasSameMarks self.old.buffers self.new.buffers }
+        ensures stock { (P : Plan) (J : List Entry) (m : Message) (T : OpenTurn) (content : Json)
             → MayCome P J (Got sim m) → IsRight P (view P J) sim.0 m T None
             → outputs_in (ended_turn T m) ≡ Some content
             → made ≡ acts.made (ended_turn T m) → AreOutputsIn P sim.0 content outputs.now

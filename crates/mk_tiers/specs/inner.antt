@@ -4,7 +4,6 @@ pub mod Beginning
 pub mod Clear
 pub mod Levels
 pub mod Outer
-pub mod Sets
 pub mod Standing
 pub mod Times
 pub mod Wires

@@ -3,7 +3,7 @@ use Rattle.std.specs.Prelude.{◌≡◌, ℕ, ◌<◌, ◌≤◌, true, false, L
 use Rattle.mk_base.specs.Lists.{IsIn}
 use Rattle.mk_tiers.specs.declared.arcs.Arc.{Arc}
 use Rattle.mk_tiers.specs.declared.bits.Bits.{Bits}
-use Rattle.mk_tiers.specs.inner.Sets.{has}
+use Rattle.mk_tiers.specs.Sets.{has}
 use Rattle.mk_tiers.specs.Times.{never}
 use Rattle.mk_tiers.specs.inner.Times.{over}
 use Rattle.mk_tiers.specs.Arcs.{row}

@@ -2,7 +2,7 @@
 use Rattle.std.specs.Prelude.{◌≡◌, ℕ, Bool, true, false, List, slice_index, slice_index_or}
 use Rattle.mk_tiers.specs.declared.arcs.Arc.{Arc}
 use Rattle.mk_tiers.specs.declared.bits.Bits.{Bits}
-use Rattle.mk_tiers.specs.inner.Sets.{has}
+use Rattle.mk_tiers.specs.Sets.{has}
 use Rattle.mk_tiers.specs.Times.{never}
 use Rattle.mk_tiers.specs.Arcs.{row}
 use Rattle.mk_tiers.specs.inner.Arcs.{IsFree}

@@ -5,6 +5,7 @@ use Rattle.mk_plan.specs.Plans.{owner}
 use Rattle.mk_order.proofs.Entries.{Brings}
 use Rattle.mk_sched_agenda.specs.inner.Dues.{is_inside}
 use Rattle.mk_sched_agenda.proofs.Ending.{come_more, come_apart, brought_by, not_brought}
+use Rattle.mk_tiers.proofs.Noting.{noted_none}
 use Rattle.mk_sched_agenda.proofs.triggers.bring.Goals as goal
 
 pub returns-in_ok-trigger-clause-come : goal.returns-in_ok-trigger-clause-come
@@ -20,3 +21,6 @@ returns-else-is_brought-clause-come c = λ P V s f cs e is m given at limits kep
     let L = c.args.limits.now in
     let off : (c.args.given && is_inside L (delayed c.args.made_at c.args.outlet.now.via)) ≡ false = ap (λ (y : Tier). c.args.given && is_inside L y) (sym c.after-at.ensures) ∙ sym c.is_brought.ensures ∙ c.if-is_brought.false in
     come_apart P V s f cs e (not_brought P s f L c.args.outlet.now e c.args.made_at c.args.given kept is given at limits off) c.args.dues.now.queues.items c.args.dues.now.bounds h
+
+pub returns-else-is_brought-clause-noted : goal.returns-else-is_brought-clause-noted
+returns-else-is_brought-clause-noted c = noted_none c.args.dues.now.bounds c.args.noted.now

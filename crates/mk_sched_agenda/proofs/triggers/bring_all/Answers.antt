@@ -1,5 +1,6 @@
 use Rattle.std.proofs.Common.{take, ◌∙◌}
 use Rattle.mk_sched_agenda.specs.Outlets.{triggering_from}
+use Rattle.mk_tiers.proofs.Noting.{noted_both}
 use Rattle.mk_sched_agenda.proofs.Ending.{come_next, come_all}
 use Rattle.mk_sched_agenda.proofs.triggers.bring_all.Goals as goal
 
@@ -11,6 +12,7 @@ loop-place-preserved c = (
   λ P V s f ending h. come_next P V s f c.args.limits.now c.args.outlets.now c.args.given.now c.args.made_at ending c.loop-place.place _ _ c.loop-place-test.true
       c.loop-place.dues.queues.items c.bring.new.dues.queues.items c.loop-place.dues.bounds c.bring.new.dues.bounds (c.loop-place.invariant.3 P V s f ending h)
       (c.in_ok-bring.ensures.come P V s f (take c.loop-place.place (triggering_from P s))),
+  noted_both c.args.dues.now.bounds c.loop-place.dues.bounds c.bring.new.dues.bounds c.args.noted.now c.loop-place.noted c.bring.new.noted c.loop-place.invariant.4 c.in_ok-bring.ensures.noted,
 )
 
 pub returns-clause-come : goal.returns-clause-come

@@ -2,6 +2,7 @@ use Rattle.std.proofs.Common.{◌≡◌, ℕ, [], length, take}
 use Rattle.mk_plan.specs.declared.Plan.{Plan}
 use Rattle.mk_plan.specs.Acts.{Act}
 use Rattle.mk_plan.specs.Journals.{View}
+use Rattle.mk_tiers.specs.Noted.{HasNoted}
 use Rattle.mk_sched_agenda.specs.Outlets.{triggering_from}
 use Rattle.mk_sched_agenda.specs.inner.Dues.{IsTidy}
 use Rattle.mk_sched_agenda.specs.inner.Coming.{HasCome, IsEnding}
@@ -13,3 +14,4 @@ invariant-loop-place l = IsTidy l.dues.queues.items l.dues.opened.items l.dues.b
     × (l.dues.lasts.items ≡ l.fn.dues.lasts.items)
     × ((P : Plan) → (V : View) → (s : ℕ) → (f : Act) → IsEnding P s f l.limits l.outlets l.given l.fn.made_at → HasCome P V s f [] l.fn.dues.queues.items l.fn.dues.bounds
     → HasCome P V s f (take l.place (triggering_from P s)) l.dues.queues.items l.dues.bounds)
+    × HasNoted l.fn.dues.bounds l.dues.bounds l.fn.noted l.noted

@@ -9,6 +9,7 @@ use Rattle.mk_sched_agenda.specs.inner.Coming.{IsEnding, HasCome, first_beyond}
 use Rattle.mk_sched_agenda.proofs.Rows.{outlets_at}
 use Rattle.mk_sched_agenda.proofs.Mirroring.{sound_same, outlets_wide, outlets_sound}
 use Rattle.mk_sched_agenda.proofs.Ended.{fault_by, no_fault, is_ending, come_closed, come_ended}
+use Rattle.mk_tiers.proofs.Noting.{noted_none, noted_both}
 use Rattle.mk_sched_agenda.proofs.agenda.Agenda.end_turn.Goals as goal
 
 pub first_beyond-requires-clause-widths : goal.first_beyond-requires-clause-widths
@@ -66,3 +67,11 @@ returns-clause-ends c = rw (← c.self.view_is) (λ P J T m h mirrors.
       come_ended P J c.args.sim T m c.args.made c.args.next c.args.given.now h _ mirrors queued fine c.bring_all.new.dues.opened.items c.bring_all.new.dues.queues.items c.bring_all.new.dues.bounds c.bring_all.new.dues.lasts.items (c.bring_all.ensures.lasts ∙ c.close_turn.ensures.lasts) c.bring_all.ensures.tidy
           (c.in_ok-bring_all.ensures.come P (view P J) s (ended_turn T m) ending closed),
     ))
+
+pub returns-in-Some-clause-noted : goal.returns-in-Some-clause-noted
+returns-in-Some-clause-noted c = noted_none c.args.self.now.bounds c.args.noted.now
+
+pub returns-clause-noted : goal.returns-clause-noted
+returns-clause-noted c = rw (← c.self.view_is) (
+    noted_both c.self.inside.dues.bounds c.close_turn.new.self.bounds c.bring_all.new.dues.bounds c.args.noted.now c.close_turn.new.noted c.bring_all.new.noted c.in_ok-close_turn.ensures.noted c.in_ok-bring_all.ensures.noted
+    )

@@ -16,12 +16,12 @@ returns-clause-queues c =
 pub returns-clause-bounds : goal.returns-clause-bounds
 returns-clause-bounds c =
     let Q = c.args.self.now.queues.items in
-    c.set_own.ensures.changed ∙ ap (λ (o : Option Tier). with_start c.args.self.now.bounds c.args.sim.0 o true) (c.take-at.ensures.first ∙ ap least (sym (queue_at Q c.args.sim.0 c.index_mut.result.now c.requires.sim c.index_mut.ensures.value)))
+    c.set_own_noting.ensures.changed ∙ ap (λ (o : Option Tier). with_start c.args.self.now.bounds c.args.sim.0 o true) (c.take-at.ensures.first ∙ ap least (sym (queue_at Q c.args.sim.0 c.index_mut.result.now c.requires.sim c.index_mut.ensures.value)))
 
 pub returns-clause-tidy : goal.returns-clause-tidy
 returns-clause-tidy c =
     let Q = c.args.self.now.queues.items in
     let O = c.args.self.now.opened.items in
-    subst (λ (R : List (List Due)). IsTidy R (slice_set O c.args.sim.0 true) c.set_own.new.self) (sym (returns-clause-queues c))
+    subst (λ (R : List (List Due)). IsTidy R (slice_set O c.args.sim.0 true) c.set_own_noting.new.self) (sym (returns-clause-queues c))
     (subst (λ (B : Seen). IsTidy (slice_set Q c.args.sim.0 (later (queue_in Q c.args.sim.0))) (slice_set O c.args.sim.0 true) B) (sym (returns-clause-bounds c))
     (begun_tidy Q O c.args.self.now.bounds c.requires.tidy c.args.sim.0 c.requires.sim))

@@ -19,7 +19,10 @@ loop-place-preserved c = (
       (at_index c.args.outputs.now.values.items c.loop-place.place c.index.result.now (omega arith) c.index.ensures) low values (c.loop-place.invariant.2 P S content st low values) (λ T w st at. c.in_ok-take_output.ensures.given P T w st low at),
 )
 
-pub returns : goal.returns
-returns c = λ P J m T content may right is when out h.
+pub returns-clause-marks : goal.returns-clause-marks
+returns-clause-marks c = c.loop-place.invariant.0.marks
+
+pub returns-clause-stock : goal.returns-clause-stock
+returns-clause-stock c = λ P J m T content may right is when out h.
     let low = got_below P (view P J) c.args.sim m (view P J).owed may.allowed.1 in
     stock_taken P J c.args.sim m T content c.args.made c.args.outputs.now c.args.self.now c.loop-place.self c.loop-place.place may right is when out h c.loop-place.invariant.0 (omega arith) (c.loop-place.invariant.2 P h.supplied.0 content h.supplied.1 low out.values)

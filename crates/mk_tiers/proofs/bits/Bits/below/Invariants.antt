@@ -1,0 +1,5 @@
+use Rattle.mk_tiers.specs.Sets.{HasAllBelow}
+use Rattle.mk_tiers.proofs.bits.Bits.below.Given as goal
+
+abbrev pub invariant-loop-number : goal.invariant-loop-number
+invariant-loop-number l = HasAllBelow l.number l.all

@@ -1,0 +1,5 @@
+use Rattle.mk_tiers.proofs.Setting.{joined}
+use Rattle.mk_tiers.proofs.bits.Bits.or.Goals as goal
+
+pub returns : goal.returns
+returns c = joined c.args.self.words c.args.other.words
