@@ -164,7 +164,7 @@ fn give_message(core: &mut Core, sim: SimNo, message: Message) -> Result<Given, 
         (λ given. GivenMessage core.old
         (record { sim = sim.0; message = message }) given core.new) }
 {
-    match take(core, &Arrival { sim, message })? {
+    match take(core, Arrival { sim, message })? {
         None => Ok(Given::Going),
         Some(fault) => Ok(Given::Stopped(fault)),
     }

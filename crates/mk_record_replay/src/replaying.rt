@@ -154,7 +154,7 @@ pub fn give_all(core: &mut Core, arrivals: List<Arrival>) -> Result<ReplayEnd, M
     let mut left = last_first(arrivals);
     let mut half = left.len() / 2;
     while let Some(arrival) = left.pop() {
-        if let Some(fault) = give_up(core, arrival)? {
+        if let Some(fault) = give(core, arrival)? {
             return Ok(ReplayEnd::Core(fault));
         }
         half = give_room_back(&mut left, half);
@@ -183,20 +183,11 @@ fn give_room_back(left: &mut List<Arrival>, half: usize) -> usize
     left.len() / 2
 }
 
-// The same as `give`, after which the message is dropped.
-fn give_up(core: &mut Core, arrival: Arrival) -> Result<Option<CoreFault>, Mem>
+// Asks whoever is ready, and then gives one message; the fault that ends the replay, if there is one.
+fn give(core: &mut Core, arrival: Arrival) -> Result<Option<CoreFault>, Mem>
     requires going { core.old.ended ≡ None }
     requires known { CanArrive core.old.plan arrival }
     ensures { IfOk result (λ fault. GivenBy core.old (came arrival) fault core.new) }
-{
-    give(core, &arrival)
-}
-
-// Asks whoever is ready, and then gives one message; the fault that ends the replay, if there is one.
-fn give(core: &mut Core, arrival: &Arrival) -> Result<Option<CoreFault>, Mem>
-    requires going { core.old.ended ≡ None }
-    requires known { CanArrive core.old.plan arrival.now }
-    ensures { IfOk result (λ fault. GivenBy core.old (came arrival.now) fault core.new) }
 {
     match settle(core)? {
         Next::Fault(fault) => Ok(Some(fault)),
@@ -207,14 +198,15 @@ fn give(core: &mut Core, arrival: &Arrival) -> Result<Option<CoreFault>, Mem>
 }
 
 // Gives one message; the fault that it makes.
-pub fn take(core: &mut Core, arrival: &Arrival) -> Result<Option<CoreFault>, Mem>
+pub fn take(core: &mut Core, arrival: Arrival) -> Result<Option<CoreFault>, Mem>
     requires going { core.old.ended ≡ None }
-    requires known { CanArrive core.old.plan arrival.now }
+    requires known { CanArrive core.old.plan arrival }
     requires nobody { IsUnready core.old }
-    ensures given { IfOk result (λ fault. GivenBy core.old (came arrival.now) fault core.new) }
-    ensures grown { IfOk result (λ fault. GrownBy core.old (came arrival.now) fault core.new) }
+    ensures given { IfOk result (λ fault. GivenBy core.old (came arrival) fault core.new) }
+    ensures grown { IfOk result (λ fault. GrownBy core.old (came arrival) fault core.new) }
 {
-    match core.arrive(arrival.sim, &arrival.message)? {
+    let Arrival { sim, message } = arrival;
+    match core.take(sim, message)? {
         Taken::Quiet => Ok(None),
         Taken::Send => Ok(None),
         Taken::Fault(fault) => Ok(Some(fault)),

@@ -1,5 +1,5 @@
 -- The core takes a message: it is wrong, there is no room, or the turn goes on.
-use Rattle.std.proofs.Common.{◌≡◌, ◌≢◌, ℕ, ◌+◌, ◌<◌, ◌≤◌, false, List, [], ◌∷◌, ◌++◌, length, Option, Some, None, Result, Ok, Err, IfOk, refl, sym, ap, ◌∙◌, subst, inl, inr, arith, IsSome, true≢false}
+use Rattle.std.proofs.Common.{◌≡◌, ◌≢◌, ℕ, ◌+◌, ◌≤◌, false, List, [], ◌∷◌, ◌++◌, length, Option, Some, None, Result, Ok, Err, IfOk, IfErr, refl, sym, ap, ◌∙◌, subst, inl, inr, arith, IsSome, true≢false}
 use Rattle.mk_base.specs.declared.Mem.{Mem}
 use Rattle.mk_base.specs.declared.SimNo.{SimNo}
 use Rattle.mk_base.specs.declared.tier.Tier.{Tier}
@@ -16,7 +16,6 @@ use Rattle.mk_plan.specs.declared.Want.{Want}
 use Rattle.mk_plan.specs.declared.Place.{Place}
 use Rattle.mk_plan.specs.declared.Cause.{Cause}
 use Rattle.mk_plan.specs.declared.Cause.TheVariants as cause
-use Rattle.mk_plan.specs.Plans.{sim_count}
 use Rattle.mk_plan.specs.Turns.{wrong, wanted}
 use Rattle.mk_plan.specs.Acts.{is_ask}
 use Rattle.mk_plan.specs.Deliveries.{supply}
@@ -39,9 +38,11 @@ use Rattle.mk_sched.specs.declared.faults.CoreFault.{CoreFault}
 use Rattle.mk_sched.specs.declared.faults.CoreFault.TheVariants.{TooLong}
 use Rattle.mk_sched.specs.declared.faults.Ended.{Ended}
 use Rattle.mk_sched.specs.declared.faults.Ended.TheVariants.{Faulty, OutOfMemory}
+use Rattle.mk_sched.specs.declared.faults.Taken.{Taken}
 use Rattle.mk_sched.specs.declared.faults.Taken.TheVariants as taken
-use Rattle.mk_sched.specs.Answers.{HasRoom, IsAnswered, IsFaulty, IsUnanswered, fault_in}
-use Rattle.mk_sched.specs.inner.Kept.{IsCurrent, IsKept, HasTaken, IsTaking, core_of, fault_by}
+use Rattle.mk_sched.specs.declared.taking.Upshot.{Upshot}
+use Rattle.mk_sched.specs.Answers.{HasRoom, fault_in}
+use Rattle.mk_sched.specs.inner.Kept.{IsCurrent, IsKept, HasTaken, IsTaking, Leaves, core_of, entries_by, fault_by, taken_by}
 use Rattle.mk_sched.proofs.Standing.{kept_push, kept_twice, ended_kept, one_longer}
 use Rattle.mk_sched.proofs.Judged.{noted_wrong, noted_right}
 
@@ -58,6 +59,12 @@ taken_full P J K kept sim m full = record {
   ok = inr (inl (record { going = refl; named = refl; full = full; ended = refl }));
   err = tt;
 }
+
+-- what follows a message is in the journal
+pub taken_pushed : (P : Plan) (J : List Entry) (K : Kept) → IsKept P J K None → (sim : SimNo) (m : Message) (u : Upshot) (L : Kept) → Leaves P J sim m u L → (r : Result Taken Mem) (M : List Entry) → IfOk r (λ t. (t ≡ taken_by u) × (M ≡ entries_by J sim m u)) → IfErr r (λ _. M ≡ J) → HasTaken P J sim m r L M
+taken_pushed P J K kept sim m u L leaves (Ok t) M ok err =
+    subst (λ (n : Taken). HasTaken P J sim m (Ok n) L M) (sym ok.0) (subst (λ (N : List Entry). HasTaken P J sim m (Ok (taken_by u)) L N) (sym ok.1) leaves)
+taken_pushed P J K kept sim m u L leaves (Err e) M ok err = taken_failed P J K kept sim m e L M err
 
 pub few_entries : (P : Plan) (J : List Entry) (K : Kept) (end : Option Ended) → IsKept P J K end → length J ≤ 20000000
 few_entries P J K end kept = let a : length J ≤ P.entries = kept.within in let b : P.entries ≤ 20000000 = kept.valid.well_formed.limits.entries.1 in omega arith

@@ -1,18 +1,16 @@
 -- What a message is judged to be, and what right messages and their data are like.
-use Rattle.std.proofs.Common.{◌≡◌, ℕ, ◌+◌, ◌≤◌, ◌<◌, ◌^◌, ℤ, pos, negsuc, ◌≤ℤ◌, ◌<ℤ◌, Bool, true, false, not, ◌&&◌, ◌||◌, List, [], ◌∷◌, map, filter, Option, Some, None, option_map, option_and_then, unwrap_or, refl, sym, ap, ◌∙◌, subst, arith, true≢false, int_lt, int_le, nat_le, if◌then◌else◌, ◌==◌, FitsSigned, w64, inl, inr}
+use Rattle.std.proofs.Common.{◌≡◌, ℕ, ◌+◌, ◌≤◌, ◌<◌, ◌^◌, ℤ, pos, negsuc, ◌≤ℤ◌, Bool, true, false, not, ◌&&◌, ◌||◌, List, [], ◌∷◌, filter, Option, Some, None, option_map, option_and_then, unwrap_or, refl, sym, ap, ◌∙◌, subst, arith, true≢false, int_lt, int_le, nat_le, if◌then◌else◌, ◌==◌, FitsSigned, w64, inl, inr}
 use Rattle.std.specs.Option.{ForSome}
-use Rattle.std.specs.List.{list_all, list_any, find}
+use Rattle.std.specs.List.{list_any}
 use Rattle.std.proofs.lemmas.Int.{ints}
 use Rattle.mk_base.specs.declared.SimNo.{SimNo}
 use Rattle.mk_base.specs.declared.tier.Tier.{Tier}
-use Rattle.mk_base.specs.declared.json.Json.{Json, Json-F, out-Json, map-Json}
-use Rattle.mk_base.specs.Lists.{IsIn, same_text, value_under}
+use Rattle.mk_base.specs.declared.json.Json.{Json}
+use Rattle.mk_base.specs.Lists.{IsIn}
 use Rattle.mk_base.specs.Tiers.{moment}
-use Rattle.mk_base.specs.Trees.{whole_in, member, is_datum, is_in_range, range_step, is_object, is_whole, nesting, value_depth}
-use Rattle.mk_base.proofs.FoldsAgree.{folded_out}
-use Rattle.mk_base.proofs.Lists.{none_some, some_same, passes_some}
+use Rattle.mk_base.specs.Trees.{whole_in, is_object, is_whole, nesting, value_depth}
+use Rattle.mk_base.proofs.Lists.{none_some, passes_some}
 use Rattle.mk_plan.specs.declared.Plan.{Plan}
-use Rattle.mk_plan.specs.declared.Conn.{Conn}
 use Rattle.mk_plan.specs.declared.Want.{Want}
 use Rattle.mk_plan.specs.declared.Message.{Message}
 use Rattle.mk_plan.specs.declared.Message.TheVariants.{Ask, Success, Failure}
@@ -23,14 +21,13 @@ use Rattle.mk_plan.specs.declared.Cause.TheVariants.{Wrong, Failed}
 use Rattle.mk_plan.specs.declared.Entry.TheVariants.{Got}
 use Rattle.mk_plan.specs.Plans.{has_outputs, owner, kind_of}
 use Rattle.mk_plan.specs.Turns.{unasked, first_cause, is_number, time_in, holds_of, part_for, value_for, wrong, wrong_data, next_place, wanted}
-use Rattle.mk_plan.specs.Acts.{content_of}
 use Rattle.mk_plan.specs.Journals.{View, OpenTurn, place_at, note, note_got, note_right, fault_of}
 use Rattle.mk_plan_judge.specs.Places.{open_id}
-use Rattle.mk_plan_judge.proofs.Right.{right_value_is_datum, right_data_reply, right_step_reply, right_next_fits, right_output_time_fits}
-use Rattle.mk_sched_agenda.specs.Outlets.{triggering_in, triggering_from}
+use Rattle.mk_plan_judge.proofs.Right.{right_data_reply, right_step_reply, right_next_fits, right_output_time_fits}
+use Rattle.mk_sched_agenda.specs.Outlets.{triggering_from}
 use Rattle.mk_sched_agenda.specs.Endings.{CanBeMade}
 use Rattle.mk_sched_open.specs.Turns.{IsRight, IsInRun, IsPlaceInRun, next_in}
-use Rattle.mk_sched.specs.inner.Kept.{IsJudged, EndsStep, EndsFetch, made_at}
+use Rattle.mk_sched.specs.inner.Kept.{IsJudged, made_at}
 
 module _ (P : Plan) (V : View) (s : SimNo) (m : Message) where
   pub judge : (place : Place) → place ≡ place_at (V.open_at s.0) → IsPlaceInRun place → wrong P s.0 place m ≡ None → (q : Option Place) → next_place P s.0 place m ≡ q → IsJudged P V s.0 m place q
@@ -84,6 +81,19 @@ pub fetch_end : (P : Plan) (i : ℕ) (x : Tier) (id : ℕ) (m : Message) → wro
 fetch_end P i x id (Ask n name args named) right = absurd (none_some (sym right))
 fetch_end P i x id (Success n content) right = record { answered = n; content = content; message = refl }
 fetch_end P i x id (Failure n text) right = absurd (failed (n == id) right)
+
+-- where the message that ends a turn is no success reply, it isn't right
+pub no_step_end : (P : Plan) (V : View) (s : ℕ) (m : Message) (place : Place) → IsJudged P V s m place None → (x : Tier) (id asks : ℕ) → place ≡ Stepping x id asks → ((n : ℕ) (content : Json) → m ≡ Success n content → ⊥) → ⊥
+no_step_end P V s m place judged x id asks is never =
+    let there : judged.turn.place ≡ Stepping x id asks = judged.same ∙ is in
+    let end = (step_end P s x id asks m (subst (λ (p : Place). wrong P s p m ≡ None) there judged.right.right) (subst (λ (p : Place). next_place P s p m ≡ None) there judged.right.goes)).0 in
+    never end.answered end.content end.message
+
+pub no_fetch_end : (P : Plan) (V : View) (s : ℕ) (m : Message) (place : Place) → IsJudged P V s m place None → (x : Tier) (id : ℕ) → place ≡ Fetching x id → ((n : ℕ) (content : Json) → m ≡ Success n content → ⊥) → ⊥
+no_fetch_end P V s m place judged x id is never =
+    let there : judged.turn.place ≡ Fetching x id = judged.same ∙ is in
+    let end = fetch_end P s x id m (subst (λ (p : Place). wrong P s p m ≡ None) there judged.right.right) in
+    never end.answered end.content end.message
 
 -- a turn goes on in the Step alone
 pub record GoesOn (p : Place) : Type 0 where

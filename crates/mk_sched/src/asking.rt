@@ -6,8 +6,8 @@ ghost use Rattle.mk_plan.specs.Ready.{IsReady};
 ghost use Rattle.mk_plan.specs.Advance.{IsAdvance};
 ghost use Rattle.mk_plan.specs.Orderly.{IsFirstReady};
 ghost use Rattle.mk_sched.specs.Answers.{IsAsked};
-ghost use Rattle.mk_sched.specs.inner.Holding.{IsSettled};
-ghost use Rattle.mk_sched.specs.inner.Kept.{IsKept, HasAdvanced, core_of};
+ghost use Rattle.mk_sched.specs.inner.Holding.{HasTold, IsSettled, Notes};
+ghost use Rattle.mk_sched.specs.inner.Kept.{IsKept, HasAdvanced, core_of, end_after_next};
 
 use crate::entries::{is_full, too_long};
 use crate::faults::Next;
@@ -22,7 +22,10 @@ use mk_sched_supply::stock_stays;
 pub fn advance(plan: &Plan, kept: &mut Kept, journal: &mut Journal) -> Result<Next, Mem>
     requires kept { IsKept plan.now journal.old.entries kept.old None }
     requires settled { IsSettled plan.now journal.old.entries kept.old None }
-    ensures { HasAdvanced plan.now journal.old.entries result kept.new journal.new.entries }
+    requires told { HasTold plan.now kept.old None }
+    ensures advanced { HasAdvanced plan.now journal.old.entries result kept.new
+        journal.new.entries }
+    ensures told { HasTold plan.now kept.new (end_after_next result) }
 {
     match kept.agenda.first_ready() {
         Some(ready) => {
@@ -55,6 +58,8 @@ fn ask(kept: &mut Kept, journal: &mut Journal, ready: Ready) -> Result<(), Mem>
         × IsAsked (core_of P journal.old.entries None) ready.sim
         (core_of P journal.new.entries None)) }
     ensures err { IfErr result (λ _. journal.new.entries ≡ journal.old.entries) }
+    ensures stock { kept.new.stock ≡ kept.old.stock }
+    ensures notes { IfOk result (λ _. Notes kept.old kept.new) }
 {
     let Ready { sim, at } = ready;
     let previous = kept.agenda.last_step(sim);
@@ -68,7 +73,7 @@ fn ask(kept: &mut Kept, journal: &mut Journal, ready: Ready) -> Result<(), Mem>
             max_advance,
         },
     ))?;
-    kept.agenda.step(sim);
+    kept.agenda.step(sim, &mut kept.untold);
     kept.sims.begin(sim, at);
     stock_stays();
     Ok(())

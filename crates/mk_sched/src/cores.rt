@@ -7,7 +7,7 @@ ghost use Rattle.mk_plan.specs.Journals.{view};
 ghost use Rattle.mk_buffers.specs.Bounds.{most_kept};
 ghost use Rattle.mk_sched.specs.Cores.{CoreState, Stands, is_message_in_range};
 ghost use Rattle.mk_sched.specs.Answers.{NextOf, ArriveOf, IsOutOfMemory, SomeReady, open_id, id_at};
-ghost use Rattle.mk_sched.specs.Holding.{IsFloor};
+ghost use Rattle.mk_sched.specs.Holding.{IsFloor, IsHeld};
 ghost use Rattle.mk_sched.specs.inner.Kept.{end_after_next, end_after_arrive};
 
 use crate::asking::advance;
@@ -36,7 +36,7 @@ pub struct Core {
 
 impl Model for Core {
     ghost use Rattle.mk_sched.specs.Cores.{CoreState};
-    ghost use Rattle.mk_sched.specs.inner.Holding.{IsSettled};
+    ghost use Rattle.mk_sched.specs.inner.Holding.{HasTold, IsSettled};
     ghost use Rattle.mk_sched.specs.inner.Kept.{IsKept};
     ghost use Rattle.mk_base.specs.contracts.json.Json as json;
     ghost use Rattle.std.specs.Coded.{codes};
@@ -48,7 +48,8 @@ impl Model for Core {
     ghost view = { λ a. record { plan = a.plan; entries = a.journal.entries; ended = a.ended } };
 
     ghost invariant = { λ a. IsKept a.plan a.journal.entries a.kept a.ended
-        × IsSettled a.plan a.journal.entries a.kept a.ended };
+        × IsSettled a.plan a.journal.entries a.kept a.ended
+        × HasTold a.plan a.kept a.ended };
 }
 
 impl Core {
@@ -88,12 +89,34 @@ impl Core {
         answer
     }
 
-    /// Takes a message of a simulator: the journal gets it, and what is owed after it, which is then to be sent to that simulator. After a
-    /// fault it is that fault, and nothing changes; after want of memory it is want of memory.
+    /// Takes a copy of a message of a simulator, as `take` takes the message itself.
     pub fn arrive(&mut self, sim: SimNo, message: &Message) -> Result<Taken, Mem>
         requires there { sim.0 < sim_count self.old.plan }
         requires form { is_message_in_range message.now ≡ true }
         ensures ok { IfOk result (λ taken. ArriveOf self.old sim message.now taken self.new) }
+        ensures err { IfErr result (λ _. IsOutOfMemory self.old self.new) }
+        ensures stands { Stands self.new.plan self.new.entries }
+    {
+        match self.ended {
+            Some(Ended::Faulty(fault)) => return Ok(Taken::Fault(fault)),
+            Some(Ended::OutOfMemory) => return Err(Mem),
+            None => {}
+        }
+        match message.copy(self.alloc) {
+            Ok(own) => self.take(sim, own),
+            Err(Mem) => {
+                self.ended = Some(Ended::OutOfMemory);
+                Err(Mem)
+            }
+        }
+    }
+
+    /// Takes a message of a simulator: the journal gets it, and what is owed after it, which is then to be sent to that simulator. After a
+    /// fault it is that fault, and nothing changes; after want of memory it is want of memory.
+    pub fn take(&mut self, sim: SimNo, message: Message) -> Result<Taken, Mem>
+        requires there { sim.0 < sim_count self.old.plan }
+        requires form { is_message_in_range message ≡ true }
+        ensures ok { IfOk result (λ taken. ArriveOf self.old sim message taken self.new) }
         ensures err { IfErr result (λ _. IsOutOfMemory self.old self.new) }
         ensures stands { Stands self.new.plan self.new.entries }
     {
@@ -131,7 +154,12 @@ impl Core {
     /// late outputs of the journal: outputs whose making, or whose delivery over some connection before the run's end, is later
     /// than `m`, which is any time before which there is neither the run's end, nor an outstanding step, nor a step that may
     /// still come.
+    ///
+    /// They are then also held so (`IsHeld`): by buffers that stand for the outputs of the acts, in which each simulator's mark is the
+    /// earliest time at which it may still step; so they are few at the least of these marks.
     pub fn kept(&self) -> usize
+        ensures held { self.now.ended ≡ None → (SomeReady self.now.plan self.now.entries → ⊥)
+            → IsHeld self.now.plan self.now.entries result }
         ensures few { self.now.ended ≡ None → (SomeReady self.now.plan self.now.entries → ⊥)
             → (m : Tier) → IsFloor self.now.plan (view self.now.plan self.now.entries) m
             → result ≤ most_kept self.now.plan

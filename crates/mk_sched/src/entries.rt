@@ -1,11 +1,11 @@
 // How entries are added to a journal, as far as there is room.
 ghost use Rattle.std.specs.Prelude.{◌≡◌, ◌+◌, ◌∷◌, ◌++◌, ◌==◌, [], length, IfOk, IfErr};
-ghost use Rattle.mk_plan.specs.declared.Entry.TheVariants.{Got, Sent};
+ghost use Rattle.mk_sched.specs.inner.Kept.{taken_by, entries_by};
 
-use crate::faults::CoreFault;
+use crate::faults::{CoreFault, Taken};
+use crate::taking::Upshot;
 use mk_base::{Mem, SimNo};
-use mk_plan::{Entry, Item, Journal, Message, Plan};
-use std::alloc::Global;
+use mk_plan::{Entry, Journal, Message, Plan};
 
 // Whether the journal holds as many entries as the plan allows.
 pub fn is_full(plan: &Plan, journal: &Journal) -> bool
@@ -31,36 +31,44 @@ pub fn too_long(plan: &Plan) -> CoreFault
     }
 }
 
-// Ends the journal with a message of the simulator.
-pub fn push_message(
-    alloc: Global,
+// Ends the journal with a message of the simulator, and with what is sent after it, if there is something; what follows then.
+pub fn push_all(
     journal: &mut Journal,
     sim: SimNo,
-    message: &Message,
-) -> Result<(), Mem>
-    ensures ok { IfOk result (λ _. journal.new.entries ≡ journal.old.entries
-        ++ Got sim message.now ∷ []) }
+    message: Message,
+    upshot: Upshot,
+) -> Result<Taken, Mem>
+    ensures ok { IfOk result (λ taken. (taken ≡ taken_by upshot)
+        × (journal.new.entries ≡ entries_by journal.old.entries sim message upshot)) }
     ensures err { IfErr result (λ _. journal.new.entries ≡ journal.old.entries) }
 {
-    let entry = Entry::Got(sim, message.copy(alloc)?);
-    journal.entries.push(entry)
+    let got = Entry::Got(sim, message);
+    match upshot {
+        Upshot::Quiet => push_one(journal, got, Taken::Quiet),
+        Upshot::Send(item) => push_two(journal, got, Entry::Sent(sim, item)),
+        Upshot::Fault(fault) => push_one(journal, got, Taken::Fault(fault)),
+    }
 }
 
-// Ends the journal with a message of the simulator, and with what is sent after it.
-pub fn push_answered(
-    alloc: Global,
-    journal: &mut Journal,
-    sim: SimNo,
-    message: &Message,
-    item: Item,
-) -> Result<(), Mem>
-    ensures ok { IfOk result (λ _. journal.new.entries ≡ journal.old.entries
-        ++ Got sim message.now ∷ [] ++ Sent sim item ∷ []) }
+// Ends the journal with an entry; what follows then.
+fn push_one(journal: &mut Journal, entry: Entry, taken: Taken) -> Result<Taken, Mem>
+    ensures ok { IfOk result (λ t. (t ≡ taken)
+        × (journal.new.entries ≡ journal.old.entries ++ entry ∷ [])) }
     ensures err { IfErr result (λ _. journal.new.entries ≡ journal.old.entries) }
 {
-    push_message(alloc, journal, sim, message)?;
-    match journal.entries.push(Entry::Sent(sim, item)) {
-        Ok(()) => Ok(()),
+    journal.entries.push(entry)?;
+    Ok(taken)
+}
+
+// Ends the journal with two entries, of which the second is to be sent.
+fn push_two(journal: &mut Journal, first: Entry, second: Entry) -> Result<Taken, Mem>
+    ensures ok { IfOk result (λ t. (t ≡ Taken.Send)
+        × (journal.new.entries ≡ journal.old.entries ++ first ∷ [] ++ second ∷ [])) }
+    ensures err { IfErr result (λ _. journal.new.entries ≡ journal.old.entries) }
+{
+    journal.entries.push(first)?;
+    match journal.entries.push(second) {
+        Ok(()) => Ok(Taken::Send),
         Err(Mem) => {
             journal.entries.pop();
             Err(Mem)

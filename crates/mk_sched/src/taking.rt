@@ -11,14 +11,16 @@ ghost use Rattle.mk_plan.specs.Plans.{IsValidPlan, sim_count};
 ghost use Rattle.mk_plan.specs.Deliveries.{supply};
 ghost use Rattle.mk_plan.specs.Sequential.{response};
 ghost use Rattle.mk_plan.specs.Journals.{OpenTurn, view, note_right, note_sent};
+ghost use Rattle.mk_buffers.specs.Standing.{HasSameMarks};
 ghost use Rattle.mk_sched_open.specs.Turns.{IsInRun, IsRight, next_in};
 ghost use Rattle.mk_sched_supply.specs.Stock.{IsStockOf, MayCome};
 ghost use Rattle.mk_sched_supply.specs.Asking.{IsInStep};
 ghost use Rattle.mk_sched.specs.Cores.{is_message_in_range};
-ghost use Rattle.mk_sched.specs.inner.Kept.{IsKept, HasTaken, IsTaking, IsJudged, time_at, fault_by};
+ghost use Rattle.mk_sched.specs.inner.Holding.{Notes};
+ghost use Rattle.mk_sched.specs.inner.Kept.{IsKept, HasTaken, IsTaking, IsJudged, Leaves, time_at, fault_by};
 
 use crate::ending::end_turn;
-use crate::entries::{has_last_room, is_full, push_answered, push_message, too_long};
+use crate::entries::{has_last_room, is_full, push_all, too_long};
 use crate::faults::{CoreFault, Taken};
 use crate::kept::Kept;
 use mk_base::{List, Mem, SimNo, Tier};
@@ -28,6 +30,14 @@ use mk_sched_open::ends_of_turns;
 use mk_sched_supply::{Stock, stock_stays};
 use std::alloc::Global;
 
+// What follows a message with which the journal then ends: nothing; this is sent; or a fault.
+#[derive(Drop)]
+pub enum Upshot {
+    Quiet,
+    Send(Item),
+    Fault(CoreFault),
+}
+
 // Ends the journal with a message of the simulator, and with what is owed after it, as far as there is room.
 pub fn take(
     alloc: Global,
@@ -35,27 +45,46 @@ pub fn take(
     kept: &mut Kept,
     journal: &mut Journal,
     sim: SimNo,
-    message: &Message,
+    message: Message,
 ) -> Result<Taken, Mem>
     requires kept { IsKept plan.now journal.old.entries kept.old None }
     requires there { sim.0 < sim_count plan.now }
-    requires form { is_message_in_range message.now ≡ true }
-    ensures { HasTaken plan.now journal.old.entries sim message.now result kept.new
+    requires form { is_message_in_range message ≡ true }
+    ensures taken { HasTaken plan.now journal.old.entries sim message result kept.new
         journal.new.entries }
+    ensures marks { HasSameMarks kept.old.stock.buffers kept.new.stock.buffers }
+    ensures notes { IfOk result (λ _. Notes kept.old kept.new) }
 {
     if is_full(plan, journal) {
         return Ok(Taken::Fault(too_long(plan)));
     }
+    match weigh(alloc, plan, kept, journal, sim, &message) {
+        Ok(upshot) => push_all(journal, sim, message, upshot),
+        Err(Mem) => Err(Mem),
+    }
+}
+
+// What follows a message for which there is room.
+fn weigh(
+    alloc: Global,
+    plan: &Plan,
+    kept: &mut Kept,
+    journal: &Journal,
+    sim: SimNo,
+    message: &Message,
+) -> Result<Upshot, Mem>
+    requires taking { IsTaking plan.now journal.now.entries kept.old sim message.now }
+    ensures leaves { IfOk result
+        (λ upshot. Leaves plan.now journal.now.entries sim message.now upshot kept.new) }
+    ensures marks { HasSameMarks kept.old.stock.buffers kept.new.stock.buffers }
+    ensures notes { IfOk result (λ _. Notes kept.old kept.new) }
+{
     let place = kept.sims.place(sim);
     match wrong(plan, kept.stock.wants(sim), sim, &place, message) {
-        Some(cause) => {
-            let fault = fault_by(sim, kept.sims.heard(sim), cause);
-            push_message(alloc, journal, sim, message)?;
-            Ok(Taken::Fault(fault))
-        }
+        Some(cause) => Ok(Upshot::Fault(fault_by(sim, kept.sims.heard(sim), cause))),
         None => match next_place(plan, sim, &place, message) {
             Some(next) => go_on(alloc, plan, kept, journal, sim, message, place, next),
-            None => end_turn(alloc, plan, kept, journal, sim, message, place),
+            None => end_turn(plan, kept, journal, sim, message, place),
         },
     }
 }
@@ -74,33 +103,33 @@ fn fault_by(sim: SimNo, heard: u64, cause: Cause) -> CoreFault
     }
 }
 
-// The turn goes on after the message, which came at `place`: what is owed is sent, if there is room for it.
+// The turn goes on after the message, which came at `place`: what is owed is to be sent, if there is room for it.
 fn go_on(
     alloc: Global,
     plan: &Plan,
     kept: &mut Kept,
-    journal: &mut Journal,
+    journal: &Journal,
     sim: SimNo,
     message: &Message,
     place: Place,
     next: Place,
-) -> Result<Taken, Mem>
-    requires taking { IsTaking plan.now journal.old.entries kept.old sim message.now }
-    requires judged { IsJudged plan.now (view plan.now journal.old.entries) sim.0 message.now place
+) -> Result<Upshot, Mem>
+    requires taking { IsTaking plan.now journal.now.entries kept.old sim message.now }
+    requires judged { IsJudged plan.now (view plan.now journal.now.entries) sim.0 message.now place
         (Some next) }
-    ensures { HasTaken plan.now journal.old.entries sim message.now result kept.new
-        journal.new.entries }
+    ensures leaves { IfOk result
+        (λ upshot. Leaves plan.now journal.now.entries sim message.now upshot kept.new) }
+    ensures marks { HasSameMarks kept.old.stock.buffers kept.new.stock.buffers }
+    ensures notes { IfOk result (λ _. Notes kept.old kept.new) }
 {
     if has_last_room(plan, journal) {
-        push_message(alloc, journal, sim, message)?;
-        return Ok(Taken::Fault(too_long(plan)));
+        return Ok(Upshot::Fault(too_long(plan)));
     }
     ends_of_turns();
     let at = time_at(&place);
     let item = owed_after(alloc, plan, &mut kept.stock, sim, at, message)?;
-    push_answered(alloc, journal, sim, message, item)?;
     kept.sims.go_on(sim, next, next_in(message));
-    Ok(Taken::Send)
+    Ok(Upshot::Send(item))
 }
 
 // The time of what is open.
@@ -128,7 +157,8 @@ fn owed_after(
     requires asked { IsInStep plan.now sim.0 at stock.old }
     requires run { IsInRun at }
     requires form { is_message_in_range message.now ≡ true }
-    ensures { (J : List Entry) → (T : OpenTurn) → (q : Place)
+    ensures marks { HasSameMarks stock.old.buffers stock.new.buffers }
+    ensures owed { (J : List Entry) → (T : OpenTurn) → (q : Place)
         → MayCome plan.now J (Got sim message.now)
         → IsRight plan.now (view plan.now J) sim.0 message.now T (Some q) → T.at ≡ at
         → IsStockOf plan.now (view plan.now J) stock.old

@@ -10,6 +10,7 @@ use mk_plan::Plan;
 use mk_plan_check::{PlanFault, check_plan};
 use mk_plan_samples::{Who, number};
 use mk_sched_agenda::Agenda;
+use mk_tiers::Bits;
 use std::alloc::Global;
 use std::test::Fail;
 
@@ -62,7 +63,7 @@ fn ask(agenda: &mut Agenda, who: Who) -> Option<((i64, u32), i64)>
         return None;
     }
     let advance = agenda.max_advance(sim, ready.at);
-    agenda.step(sim);
+    agenda.step(sim, &mut Bits::new());
     let last = agenda.last_step(sim)?;
     Some(((last.time, last.tier), advance))
 }
@@ -81,7 +82,7 @@ fn finish(
 {
     let sim = number(who);
     let flags = vec![in alloc; given; agenda.outlets(sim).len()]?;
-    match agenda.end_turn(sim, made(at.0, at.1), next(time), &flags)? {
+    match agenda.end_turn(sim, made(at.0, at.1), next(time), &flags, &mut Bits::new())? {
         Some(beyond) => Ok(Some(beyond.time)),
         None => Ok(None),
     }

@@ -36,14 +36,19 @@ fn next(core: &mut Core) -> Result<&'static str, Mem> {
     }
 }
 
-// What follows a message.
-fn take(core: &mut Core, sim: u32, message: &Message) -> Result<&'static str, Mem>
-    requires { is_message_in_range message.now ≡ true }
+// What follows a message, of which the counter gives a copy.
+fn take(core: &mut Core, sim: u32, message: Message) -> Result<&'static str, Mem>
+    requires { is_message_in_range message ≡ true }
 {
     if sim as usize >= core.plan().sims.len() {
         return Ok("nobody");
     }
-    match core.arrive(SimNo(sim), message)? {
+    let taken = if sim == 0 {
+        core.arrive(SimNo(sim), &message)?
+    } else {
+        core.take(SimNo(sim), message)?
+    };
+    match taken {
         Taken::Quiet => Ok("quiet"),
         Taken::Send => Ok("send"),
         Taken::Fault(_) => Ok("fault"),
@@ -70,7 +75,7 @@ fn success(alloc: Global, id: u64, text: &str) -> Result<Message, JsonFault>
 // What follows a reply to what is open.
 fn reply(alloc: Global, core: &mut Core, sim: u32, text: &str) -> Result<&'static str, Fail> {
     let message = success(alloc, open_id(core, sim), text)?;
-    Ok(take(core, sim, &message)?)
+    Ok(take(core, sim, message)?)
 }
 
 // What a core answers to a line: a question for what is next, or a reply.

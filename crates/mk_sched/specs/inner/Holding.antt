@@ -1,27 +1,45 @@
 -- For proofs alone. Beside `Holding`, which has what a reader needs.
-use Rattle.std.specs.Prelude.{◌≡◌, ℕ, ◌<◌, List, Option, None}
+use Rattle.std.specs.Prelude.{◌≡◌, ℕ, ◌<◌, false, List, Option, None, unwrap_or}
 use Rattle.mk_base.specs.declared.tier.Tier.{Tier}
-use Rattle.mk_base.specs.Tiers.{IsUpTo}
+use Rattle.mk_base.specs.Tiers.{IsUpTo, moment}
 use Rattle.mk_plan.specs.declared.Plan.{Plan}
 use Rattle.mk_plan.specs.declared.Entry.{Entry}
 use Rattle.mk_plan.specs.Plans.{sim_count}
-use Rattle.mk_plan.specs.Journals.{View, view}
-use Rattle.mk_plan.specs.Walks.{nobody}
+use Rattle.mk_tiers.specs.declared.bits.Bits.{Bits}
+use Rattle.mk_tiers.specs.Noted.{HasNoted}
+use Rattle.mk_tiers.specs.Seen.{Seen, IsEarliestIn}
+use Rattle.mk_tiers.specs.Sets.{has}
 use Rattle.mk_buffers.specs.Standing.{mark_of}
 use Rattle.mk_sched_supply.specs.declared.stock.Stock.{Stock}
 use Rattle.mk_sched.specs.declared.kept.Kept.{Kept}
 use Rattle.mk_sched.specs.declared.faults.Ended.{Ended}
 use Rattle.mk_sched.specs.Answers.{SomeReady}
-use Rattle.mk_sched.specs.Holding.{IsFloor}
 
 -- the marks of the first n simulators are at this time or after it
 abbrev pub AreMarked : Stock → ℕ → Tier → Type 0
 AreMarked k n m = (s : ℕ) → s < n → IsUpTo m (mark_of k.buffers s)
 
--- the stock was told each floor of the view
-abbrev pub IsTold : Plan → View → Stock → Type 0
-IsTold P V k = (m : Tier) → IsFloor P V m → AreMarked k (sim_count P) m
+-- the mark is at or after the time from which on s may step, or the run's end where it never may
+abbrev pub IsToldTo : Plan → Seen → ℕ → Tier → Type 0
+IsToldTo P B s m = (e : Option Tier) × IsEarliestIn P B s e × IsUpTo (unwrap_or e (moment P.until)) m
 
--- where the core has not ended, and nobody is ready, the stock was told each floor
+-- the stock was told this of all
+abbrev pub AllAreTold : Plan → Seen → Stock → Type 0
+AllAreTold P B k = (s : ℕ) → s < sim_count P → s < 256 → IsToldTo P B s (mark_of k.buffers s)
+
+-- and this of all but those in the set
+abbrev pub AreTold : Plan → Seen → Stock → Bits → Type 0
+AreTold P B k untold = (s : ℕ) → s < sim_count P → s < 256 → has untold s ≡ false
+    → IsToldTo P B s (mark_of k.buffers s)
+
+-- where the core has not ended, the stock was told of all who aren't noted
+abbrev pub HasTold : Plan → Kept → Option Ended → Type 0
+HasTold P K end = end ≡ None → AreTold P K.agenda.bounds K.stock K.untold
+
+-- where the core has not ended, and nobody is ready, the stock was told of all
 abbrev pub IsSettled : Plan → List Entry → Kept → Option Ended → Type 0
-IsSettled P J K end = end ≡ None → (SomeReady P J → ⊥) → IsTold P (view P J) K.stock
+IsSettled P J K end = end ≡ None → (SomeReady P J → ⊥) → AllAreTold P K.agenda.bounds K.stock
+
+-- who may step from another time on is noted
+abbrev pub Notes : Kept → Kept → Type 0
+Notes K L = HasNoted K.agenda.bounds L.agenda.bounds K.untold L.untold

@@ -1,5 +1,5 @@
 -- What is kept beside the journal, and what one call leaves of it. For proofs alone.
-use Rattle.std.specs.Prelude.{◌≡◌, ◌≢◌, ℕ, ◌<◌, ◌≤◌, ℤ, int_lt, true, List, length, Option, Some, None, unwrap_or, option_map, option_and_then, if◌then◌else◌, Result, Ok, Err, IfOk, IfErr}
+use Rattle.std.specs.Prelude.{◌≡◌, ◌≢◌, ℕ, ◌<◌, ◌≤◌, ℤ, int_lt, true, List, [], ◌∷◌, ◌++◌, length, Option, Some, None, unwrap_or, option_map, option_and_then, if◌then◌else◌, Result, Ok, Err, IfOk, IfErr}
 use Rattle.mk_base.specs.declared.Mem.{Mem}
 use Rattle.mk_base.specs.declared.SimNo.{SimNo}
 use Rattle.mk_base.specs.declared.tier.Tier.{Tier}
@@ -9,6 +9,7 @@ use Rattle.mk_base.specs.Trees.{whole_in}
 use Rattle.mk_plan.specs.Turns.{time_in}
 use Rattle.mk_plan.specs.declared.Plan.{Plan}
 use Rattle.mk_plan.specs.declared.Entry.{Entry}
+use Rattle.mk_plan.specs.declared.Entry.TheVariants.{Sent, Got}
 use Rattle.mk_plan.specs.declared.Message.{Message}
 use Rattle.mk_plan.specs.declared.Place.{Place}
 use Rattle.mk_plan.specs.declared.Place.TheVariants.{Idle, Stepping, Fetching}
@@ -31,6 +32,8 @@ use Rattle.mk_sched.specs.declared.faults.Next.{Next}
 use Rattle.mk_sched.specs.declared.faults.Next.TheVariants as next
 use Rattle.mk_sched.specs.declared.faults.Taken.{Taken}
 use Rattle.mk_sched.specs.declared.faults.Taken.TheVariants as taken
+use Rattle.mk_sched.specs.declared.taking.Upshot.{Upshot}
+use Rattle.mk_sched.specs.declared.taking.Upshot.TheVariants as upshot
 use Rattle.mk_sched.specs.Cores.{CoreState, is_message_in_range}
 use Rattle.mk_sched.specs.Answers.{NextOf, ArriveOf}
 use Rattle.mk_sched.specs.inner.Holding.{IsSettled}
@@ -85,6 +88,22 @@ pub record HasTaken (P : Plan) (J : List Entry) (sim : SimNo) (m : Message)
   pub ok : IfOk answer
       (λ taken. ArriveOf (core_of P J None) sim m taken (core_of P M (end_after_arrive answer)))
   pub err : IfErr answer (λ _. M ≡ J)
+
+-- what is answered where this follows a message
+abbrev pub taken_by : Upshot → Taken
+taken_by upshot.Quiet = taken.Quiet
+taken_by (upshot.Send item) = taken.Send
+taken_by (upshot.Fault fault) = taken.Fault fault
+
+-- the journal with a message and what follows it
+abbrev pub entries_by : List Entry → SimNo → Message → Upshot → List Entry
+entries_by J sim m upshot.Quiet = J ++ Got sim m ∷ []
+entries_by J sim m (upshot.Send item) = J ++ Got sim m ∷ [] ++ Sent sim item ∷ []
+entries_by J sim m (upshot.Fault fault) = J ++ Got sim m ∷ []
+
+-- this follows a message, and leaves what is kept
+abbrev pub Leaves : Plan → List Entry → SimNo → Message → Upshot → Kept → Type 0
+Leaves P J sim m u L = HasTaken P J sim m (Ok (taken_by u)) L (entries_by J sim m u)
 
 -- there is room for the message
 pub record IsTaking (P : Plan) (J : List Entry) (K : Kept) (sim : SimNo)

@@ -8,13 +8,13 @@ use Rattle.mk_record_replay.proofs.Giving.{ends_within, more_given, next_arrives
 use Rattle.mk_record_replay.proofs.Pushing.{on_way_first}
 use Rattle.mk_record_replay.proofs.replaying.give_all.Goals as goal
 
-pub give_up-requires-clause-known : goal.give_up-requires-clause-known
-give_up-requires-clause-known c = let l = c.loop-arrival.invariant in
+pub give-requires-clause-known : goal.give-requires-clause-known
+give-requires-clause-known c = let l = c.loop-arrival.invariant in
     next_arrives c.args.arrivals l.given c.loop-arrival.left c.pop.new.self c.in-Some.arrival l.parts c.in-Some.ensures c.args.core.now.plan c.loop-arrival.core l.plan c.requires.known
 
 pub returns-in-Some-2 : goal.returns-in-Some-2
 returns-in-Some-2 c = let l = c.loop-arrival.invariant in
-    ends_within c.args.arrivals l.given c.loop-arrival.left c.pop.new.self c.in-Some.arrival l.parts c.in-Some.ensures c.args.core.now.plan c.loop-arrival.core c.give_up.new.core c.in_ok-fault.field-0 c.in-Some-2.fault
+    ends_within c.args.arrivals l.given c.loop-arrival.left c.pop.new.self c.in-Some.arrival l.parts c.in-Some.ensures c.args.core.now.plan c.loop-arrival.core c.give.new.core c.in_ok-fault.field-0 c.in-Some-2.fault
     l.plan l.on_way c.in-Some-2.is c.in_ok-fault.ensures
 
 pub loop-arrival-init : goal.loop-arrival-init
@@ -32,7 +32,7 @@ loop-arrival-preserved c = let l = c.loop-arrival.invariant in
     let left = c.loop-arrival.left in
     let less = c.pop.new.self in
     let none : c.in_ok-fault.field-0 ≡ None = c.in_default-2.is in
-    let next = more_given c.args.arrivals l.given left less a l.parts c.in-Some.ensures c.args.core.now.plan c.loop-arrival.core c.give_up.new.core c.in_ok-fault.field-0 l.plan l.on_way none c.in_ok-fault.ensures in
+    let next = more_given c.args.arrivals l.given left less a l.parts c.in-Some.ensures c.args.core.now.plan c.loop-arrival.core c.give.new.core c.in_ok-fault.field-0 l.plan l.on_way none c.in_ok-fault.ensures in
     record {
       going = next.0;
       plan = next.1;

@@ -7,6 +7,7 @@ use Rattle.mk_plan.specs.Journals.{view}
 use Rattle.mk_plan.specs.Deliveries.{supply}
 use Rattle.mk_plan.specs.Inputs.{inputs}
 use Rattle.mk_plan.specs.Ready.{last_step}
+use Rattle.mk_tiers.specs.Noted.{HasNoted}
 use Rattle.mk_sched_agenda.specs.Mirrors.{AgendaState, Mirrors}
 use Rattle.mk_sched.proofs.Asked.{its, last_closed, ready_low, in_run, asked_may, asked}
 use Rattle.mk_sched.proofs.asking.ask.Goals as goal
@@ -28,3 +29,6 @@ returns-clause-ok c = λ P kept room first.
     (c.begin.ensures.sims P (view P J) _ c.in_ok-inputs.inputs c.max_advance-max_advance.result now.sims first.0.closed (in_run P J K kept s.0 x first.0))
     (c.step.ensures.mirrors P (view P J) x c.in_ok-inputs.inputs c.max_advance-max_advance.result first.0 (subst (Mirrors P (view P J)) (sym same) now.agenda))
     (c.stock_stays.ensures.step P J K.stock s x c.in_ok-inputs.inputs c.max_advance-max_advance.result (asked_may P J K kept s x first c.in_ok-inputs.inputs ins c.max_advance-max_advance.result promise) now.stock)
+
+pub returns-clause-notes : goal.returns-clause-notes
+returns-clause-notes c = subst (λ (A : AgendaState). HasNoted A.bounds c.step.new.self.bounds c.args.kept.now.untold c.step.new.noted) c.max_advance-max_advance.ensures.same c.step.ensures.noted

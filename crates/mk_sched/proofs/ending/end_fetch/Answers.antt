@@ -1,4 +1,5 @@
-use Rattle.std.proofs.Common.{◌≡◌, ◌∙◌, [], Option, Ok, refl, sym, ap, subst}
+use Rattle.std.proofs.Common.{◌∙◌, ◌++◌, ◌∷◌, [], Option, Ok, refl, sym, subst}
+use Rattle.mk_plan.specs.declared.Entry.TheVariants.{Got}
 use Rattle.mk_plan.specs.Journals.{view, ended_turn}
 use Rattle.mk_sched_agenda.specs.declared.outlets.Beyond.{Beyond}
 use Rattle.mk_sched_agenda.specs.Endings.{EndOf}
@@ -35,8 +36,8 @@ end_turn-requires-clause-given c =
     let law = c.ends_of_turns.ensures.fetched P (view P J) _ K.sims s.0 T c.args.at c.requires.ends.id m c.args.content.now now.sims taking.there right.opened judged.same c.requires.content in
     given_all P J K s m taking T right c.as_slice.result.now (c.as_slice.ensures.value ∙ (c.in_ok-outputs.ensures.outputs P now.stock.plan taking.there).given (ended_turn T m) law.0)
 
-pub returns-in-Some : goal.returns-in-Some
-returns-in-Some c =
+pub returns-in-Some-clause-leaves : goal.returns-in-Some-clause-leaves
+returns-in-Some-clause-leaves c =
     let P = c.args.plan.now in
     let J = c.args.journal.now.entries in
     let K = c.args.kept.now in
@@ -51,11 +52,11 @@ returns-in-Some c =
     let end = c.in_ok-ended.ensures.ends P J T m (last P J K s m taking T right _ _ _ (c.made_at-made.ensures ∙ fetch_made P J K s m taking T right c.args.at c.args.content.now law) (c.next-next.ensures P (view P J) _ T c.args.at c.requires.ends.id m now.sims right.opened judged.same)
     (c.as_slice.ensures.value ∙ (c.in_ok-outputs.ensures.outputs P now.stock.plan taking.there).given (ended_turn T m) law.0)) now.agenda in
     let limit = subst (λ (o : Option Beyond). EndOf P J s T m K.agenda o c.end_turn.new.self) c.in-Some.is end in
-    subst (λ (f : CoreFault). HasTaken P J s m (Ok (taken.Fault f)) (record { sims = K.sims; agenda = c.end_turn.new.self; stock = K.stock }) c.push_message.new.journal.entries) (sym c.limit_by.ensures)
-    (taken_limit P J K s m taking T right c.in-Some.beyond limit.0 (record { sims = K.sims; agenda = c.end_turn.new.self; stock = K.stock }) c.push_message.new.journal.entries c.in_ok-push_message-in-Some.ensures.ok)
+    subst (λ (f : CoreFault). HasTaken P J s m (Ok (taken.Fault f)) (record { sims = K.sims; agenda = c.end_turn.new.self; stock = K.stock; untold = c.end_turn.new.noted }) (J ++ Got s m ∷ [])) (sym c.limit_by.ensures)
+    (taken_limit P J K s m taking T right c.in-Some.beyond limit.0 (record { sims = K.sims; agenda = c.end_turn.new.self; stock = K.stock; untold = c.end_turn.new.noted }) (J ++ Got s m ∷ []) refl)
 
-pub returns : goal.returns
-returns c =
+pub returns-clause-leaves : goal.returns-clause-leaves
+returns-clause-leaves c =
     let P = c.args.plan.now in
     let J = c.args.journal.now.entries in
     let K = c.args.kept.now in
@@ -72,7 +73,7 @@ returns c =
     let end = c.in_ok-ended.ensures.ends P J T m (last P J K s m taking T right _ _ _ made_is (c.next-next.ensures P (view P J) _ T c.args.at c.requires.ends.id m now.sims right.opened judged.same)
     (c.as_slice.ensures.value ∙ outs.given (ended_turn T m) law.0)) now.agenda in
     let fine = subst (λ (o : Option Beyond). EndOf P J s T m K.agenda o c.end_turn.new.self) c.in-None.is end in
-    taken_ended P J K s m taking T right fine.0 (record { sims = c.end.new.self; agenda = c.end_turn.new.self; stock = c.take_outputs.new.self }) c.push_message-in-None.new.journal.entries c.in_ok-push_message-in-None.ensures.ok
+    taken_ended P J K s m taking T right fine.0 (record { sims = c.end.new.self; agenda = c.end_turn.new.self; stock = c.take_outputs.new.self; untold = c.end_turn.new.noted }) (J ++ Got s m ∷ []) refl
     (c.end.ensures.sims P (view P J) _ m T (few_entries P J K _ taking.kept) now.sims right)
     fine.1
-    (c.in_ok-take_outputs-in-None.ensures P J m T c.args.content.now (got_may P J K s m taking) right law.0 made_is outs now.stock)
+    (c.in_ok-take_outputs-in-None.ensures.stock P J m T c.args.content.now (got_may P J K s m taking) right law.0 made_is outs now.stock)

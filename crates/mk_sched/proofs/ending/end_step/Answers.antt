@@ -1,4 +1,5 @@
-use Rattle.std.proofs.Common.{◌≡◌, ◌∙◌, [], Option, Ok, refl, sym, ap, subst}
+use Rattle.std.proofs.Common.{◌∙◌, ◌++◌, ◌∷◌, [], Option, Ok, refl, sym, ap, subst}
+use Rattle.mk_plan.specs.declared.Entry.TheVariants.{Got}
 use Rattle.mk_plan.specs.Journals.{view}
 use Rattle.mk_plan.specs.Acts.{content_of}
 use Rattle.mk_sched_agenda.specs.declared.outlets.Beyond.{Beyond}
@@ -20,8 +21,8 @@ end_turn-requires-clause-given c =
     let ends = ends_step P J K c.args.sim m c.requires.taking judged.turn judged.right c.args.at c.requires.ends in
     given_all P J K c.args.sim m c.requires.taking judged.turn judged.right [] (given_none P J K c.args.sim m c.requires.taking judged.turn judged.right ends.1)
 
-pub returns-in-Some : goal.returns-in-Some
-returns-in-Some c =
+pub returns-in-Some-clause-leaves : goal.returns-in-Some-clause-leaves
+returns-in-Some-clause-leaves c =
     let P = c.args.plan.now in
     let J = c.args.journal.now.entries in
     let K = c.args.kept.now in
@@ -37,11 +38,11 @@ returns-in-Some c =
     let law = c.ends_of_turns.ensures.stepped P (view P J) _ K.sims s.0 T c.args.at c.requires.ends.id c.requires.ends.asks m ends.0.content now.sims taking.there right.opened judged.same is in
     let end = c.in_ok-ended.ensures.ends P J T m (last P J K s m taking T right c.args.at _ [] (step_made P J K s m taking T right c.args.at ends.0.content is law) (c.next_in.ensures ∙ step_next P J K s m taking T right c.args.at ends.0.content is law) (given_none P J K s m taking T right ends.1)) now.agenda in
     let limit = subst (λ (o : Option Beyond). EndOf P J s T m K.agenda o c.end_turn.new.self) c.in-Some.is end in
-    subst (λ (f : CoreFault). HasTaken P J s m (Ok (taken.Fault f)) (record { sims = K.sims; agenda = c.end_turn.new.self; stock = K.stock }) c.push_message.new.journal.entries) (sym c.limit_by.ensures)
-    (taken_limit P J K s m taking T right c.in-Some.beyond limit.0 (record { sims = K.sims; agenda = c.end_turn.new.self; stock = K.stock }) c.push_message.new.journal.entries c.in_ok-push_message.ensures.ok)
+    subst (λ (f : CoreFault). HasTaken P J s m (Ok (taken.Fault f)) (record { sims = K.sims; agenda = c.end_turn.new.self; stock = K.stock; untold = c.end_turn.new.noted }) (J ++ Got s m ∷ [])) (sym c.limit_by.ensures)
+    (taken_limit P J K s m taking T right c.in-Some.beyond limit.0 (record { sims = K.sims; agenda = c.end_turn.new.self; stock = K.stock; untold = c.end_turn.new.noted }) (J ++ Got s m ∷ []) refl)
 
-pub returns-in-None : goal.returns-in-None
-returns-in-None c =
+pub returns-in-None-clause-leaves : goal.returns-in-None-clause-leaves
+returns-in-None-clause-leaves c =
     let P = c.args.plan.now in
     let J = c.args.journal.now.entries in
     let K = c.args.kept.now in
@@ -57,7 +58,7 @@ returns-in-None c =
     let law = c.ends_of_turns.ensures.stepped P (view P J) _ K.sims s.0 T c.args.at c.requires.ends.id c.requires.ends.asks m ends.0.content now.sims taking.there right.opened judged.same is in
     let end = c.in_ok-ended.ensures.ends P J T m (last P J K s m taking T right c.args.at _ [] (step_made P J K s m taking T right c.args.at ends.0.content is law) (c.next_in.ensures ∙ step_next P J K s m taking T right c.args.at ends.0.content is law) (given_none P J K s m taking T right ends.1)) now.agenda in
     let fine = subst (λ (o : Option Beyond). EndOf P J s T m K.agenda o c.end_turn.new.self) c.in-None.is end in
-    taken_ended P J K s m taking T right fine.0 (record { sims = c.end.new.self; agenda = c.end_turn.new.self; stock = K.stock }) c.push_message.new.journal.entries c.in_ok-push_message.ensures.ok
+    taken_ended P J K s m taking T right fine.0 (record { sims = c.end.new.self; agenda = c.end_turn.new.self; stock = K.stock; untold = c.end_turn.new.noted }) (J ++ Got s m ∷ []) refl
     (c.end.ensures.sims P (view P J) _ m T (few_entries P J K _ taking.kept) now.sims right)
     fine.1
     (c.stock_stays.ensures.ended P J K.stock s m T (got_may P J K s m taking) right (step_outputs P J K s m taking T right c.args.at ends.0.content is law) now.stock)

@@ -15,16 +15,19 @@ use Rattle.mk_sched.specs.inner.Kept.{HasTaken, time_at}
 use Rattle.mk_sched.proofs.Standing.{not_same_number}
 use Rattle.mk_sched.proofs.Judged.{is_open, goes_on}
 use Rattle.mk_sched.proofs.Arrived.{its, got_may, few_entries, taken_left, taken_sent}
+use Rattle.mk_tiers.proofs.Noting.{noted_none}
 use Rattle.mk_sched.proofs.taking.go_on.Goals as goal
 
-pub returns-then-has_last_room : goal.returns-then-has_last_room
-returns-then-has_last_room c =
+pub returns-then-has_last_room-clause-leaves : goal.returns-then-has_last_room-clause-leaves
+returns-then-has_last_room-clause-leaves c =
     let P = c.args.plan.now in
     let J = c.args.journal.now.entries in
     let K = c.args.kept.now in
+    let s = c.args.sim in
+    let m = c.args.message.now in
     let judged = c.requires.judged in
-    subst (λ (f : CoreFault). HasTaken P J c.args.sim c.args.message.now (Ok (taken.Fault f)) K c.push_message.new.journal.entries) (sym c.too_long.ensures)
-    (taken_left P J K c.args.sim c.args.message.now c.requires.taking judged.turn c.args.next judged.right (eqb-true _ _ (sym c.has_last_room.ensures ∙ c.if-has_last_room.true)) K c.push_message.new.journal.entries c.in_ok-push_message.ensures.ok)
+    subst (λ (f : CoreFault). HasTaken P J s m (Ok (taken.Fault f)) K (J ++ Got s m ∷ [])) (sym c.too_long.ensures)
+    (taken_left P J K s m c.requires.taking judged.turn c.args.next judged.right (eqb-true _ _ (sym c.has_last_room.ensures ∙ c.if-has_last_room.true)) K (J ++ Got s m ∷ []) refl)
 
 pub owed_after-requires-clause-asked : goal.owed_after-requires-clause-asked
 owed_after-requires-clause-asked c =
@@ -55,8 +58,8 @@ owed_after-requires-clause-run c =
     let on = goes_on P s.0 T.place m c.args.next right.goes in
     subst IsInRun (sym (c.time_at-at.ensures on.at (λ e. is_open P s.0 T.place m right.right (judged.same ∙ e)) ∙ ap (λ (p : Place). time_at p on.at) (sym judged.same ∙ on.place))) (subst IsPlaceInRun (sym judged.same ∙ on.place) judged.run).0
 
-pub returns : goal.returns
-returns c =
+pub returns-clause-leaves : goal.returns-clause-leaves
+returns-clause-leaves c =
     let P = c.args.plan.now in
     let J = c.args.journal.now.entries in
     let K = c.args.kept.now in
@@ -71,9 +74,15 @@ returns c =
     let on = goes_on P s.0 T.place m q right.goes in
     let law = c.ends_of_turns.ensures.stepped P (view P J) _ K.sims s.0 T on.at on.id on.asks (Success 0 leaf.Null) leaf.Null now.sims taking.there right.opened on.place refl in
     let at : T.at ≡ c.time_at-at.result = law.1 ∙ sym (c.time_at-at.ensures on.at (λ e. is_open P s.0 T.place m right.right (judged.same ∙ e)) ∙ ap (λ (p : Place). time_at p on.at) (sym judged.same ∙ on.place)) in
-    let owed = c.in_ok-item.ensures J T q (got_may P J K s m taking) right at now.stock in
-    taken_sent P J K s m taking T q right (not_same_number _ _ (sym c.has_last_room.ensures ∙ c.if-has_last_room.false)) (record { sims = c.go_on.new.self; agenda = K.agenda; stock = c.owed_after.new.stock }) c.push_answered.new.journal.entries
-    (c.in_ok-push_answered.ensures.ok ∙ ap (λ (i : Item). J ++ Got s m ∷ [] ++ Sent s i ∷ []) owed.0)
+    let owed = c.in_ok-item.ensures.owed J T q (got_may P J K s m taking) right at now.stock in
+    taken_sent P J K s m taking T q right (not_same_number _ _ (sym c.has_last_room.ensures ∙ c.if-has_last_room.false)) (record { sims = c.go_on.new.self; agenda = K.agenda; stock = c.owed_after.new.stock; untold = K.untold }) (J ++ Got s m ∷ [] ++ Sent s c.in_ok-item.item ∷ [])
+    (ap (λ (i : Item). J ++ Got s m ∷ [] ++ Sent s i ∷ []) owed.0)
     (c.go_on.ensures.sims P (view P J) _ m T (few_entries P J K _ taking.kept) now.sims right c.next_in.ensures)
     refl
     (subst (λ (i : Item). IsStockOf P (note_sent P (note_right P (view P J) s.0 m T (Some q)) s.0 i) c.owed_after.new.stock) owed.0 owed.1)
+
+pub returns-then-has_last_room-clause-notes : goal.returns-then-has_last_room-clause-notes
+returns-then-has_last_room-clause-notes c = noted_none c.args.kept.now.agenda.bounds c.args.kept.now.untold
+
+pub returns-clause-notes : goal.returns-clause-notes
+returns-clause-notes c = noted_none c.args.kept.now.agenda.bounds c.args.kept.now.untold

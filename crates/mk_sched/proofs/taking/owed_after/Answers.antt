@@ -9,8 +9,8 @@ use Rattle.mk_sched_supply.specs.Stock.{MayCome}
 use Rattle.mk_sched.proofs.Arrived.{owed_asked, owed_fetched}
 use Rattle.mk_sched.proofs.taking.owed_after.Goals as goal
 
-pub returns-in-Ask : goal.returns-in-Ask
-returns-in-Ask c = λ J T q may right at stock.
+pub returns-in-Ask-clause-owed : goal.returns-in-Ask-clause-owed
+returns-in-Ask-clause-owed c = λ J T q may right at stock.
     let P = c.args.plan.now in
     let s = c.args.sim in
     let coming = subst (λ (m : Message). MayCome P J (Got s m)) c.in-Ask.is may in
@@ -19,8 +19,8 @@ returns-in-Ask c = λ J T q may right at stock.
     (c.answer.ensures.item (view P J) T stock)
     (c.answer.ensures.stock J T q coming is at stock)
 
-pub returns-in-Success : goal.returns-in-Success
-returns-in-Success c = λ J T q may right at stock.
+pub returns-in-Success-clause-owed : goal.returns-in-Success-clause-owed
+returns-in-Success-clause-owed c = λ J T q may right at stock.
     let P = c.args.plan.now in
     let s = c.args.sim in
     let m = c.args.message.now in
@@ -28,8 +28,8 @@ returns-in-Success c = λ J T q may right at stock.
     owed_fetched P (view P J) s.0 T q c.args.stock.now m reply c.wants.result.now (c.wants.ensures P stock.plan) c.get_data.result c.get_data.ensures
     (λ item late is. c.stock_stays.ensures.fetching P J c.args.stock.now s m T q item may right reply late is stock)
 
-pub returns-in-Failure : goal.returns-in-Failure
-returns-in-Failure c = λ J T q may right at stock.
+pub returns-in-Failure-clause-owed : goal.returns-in-Failure-clause-owed
+returns-in-Failure-clause-owed c = λ J T q may right at stock.
     let P = c.args.plan.now in
     let s = c.args.sim in
     let m = c.args.message.now in

@@ -1,5 +1,8 @@
 use Rattle.mk_sched.proofs.cores.Core.kept.Goals as goal
-use Rattle.mk_sched.proofs.Settled.{few_kept}
+use Rattle.mk_sched.proofs.Settled.{few_kept, held_of}
 
-pub returns : goal.returns
-returns c = record { few = rw (← c.self.view_is) (few_kept _ _ _ _ c.self.invariant c.kept.result (λ V stock. c.kept.ensures.few _ V stock)) }
+pub returns-clause-held : goal.returns-clause-held
+returns-clause-held c = rw (← c.self.view_is) (held_of _ _ _ _ c.self.invariant.0 c.self.invariant.1 c.kept.result c.kept.ensures.count (λ V stock. c.kept.ensures.few _ V stock))
+
+pub returns-clause-few : goal.returns-clause-few
+returns-clause-few c = rw (← c.self.view_is) (few_kept _ _ _ _ c.self.invariant.0 c.self.invariant.1 c.kept.result (λ V stock. c.kept.ensures.few _ V stock))
