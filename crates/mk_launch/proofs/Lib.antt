@@ -1,3 +1,4 @@
+pub mod Asking
 pub mod Bytes
 pub mod Faulty
 pub mod Finishing

@@ -1,3 +1,4 @@
+pub mod Asking
 pub mod Marks
 pub mod Parts
 pub mod Ready

@@ -1,5 +1,4 @@
 -- What proofs alone need.
 pub mod Reading
 pub mod Starting
-pub mod Starts
 pub mod Steps

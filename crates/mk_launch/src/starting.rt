@@ -3,12 +3,14 @@ ghost use Rattle.std.specs.Prelude.{◌≡◌, ◌⊎◌, ℕ, ◌+◌, ◌<◌,
 ghost use Rattle.std.specs.Result.{result_err};
 ghost use Rattle.mk_base.specs.Lists.{IsIn};
 ghost use Rattle.mk_outside.specs.Counts.{HasRisen};
+ghost use Rattle.mk_outside.specs.Asked.{Asked, Asks};
 ghost use Rattle.mk_outside.specs.Logs.{Adds};
 ghost use Rattle.mk_launch.specs.Words.{template_words};
 ghost use Rattle.mk_launch.specs.Ready.{IsPrepared};
+ghost use Rattle.mk_launch.specs.Asking.{AsksBy, IsCommand};
 ghost use Rattle.mk_launch.specs.Starts.{AllStarted};
-ghost use Rattle.mk_launch.specs.inner.Starts.{IsCommand};
-ghost use Rattle.mk_launch.specs.inner.Starting.{BegunAs, BegunLink, CanStart, without_place};
+ghost use Rattle.mk_launch.specs.inner.Starting.{BegunAs, BegunAsks, BegunLink, CanStart, begun_asks, without_place};
+ghost use Rattle.mk_scenario.specs.declared.parts.Begin.TheVariants as begins;
 ghost use Rattle.mk_launch.specs.declared.faults.StartFault.TheVariants as faults;
 
 use crate::faults::{LaunchFault, StartFault};
@@ -27,7 +29,8 @@ pub enum Begun {
 }
 
 /// Starts the simulators in their order, and puts a place for each into `links`: its link, or `None` within the program. Before
-/// each start by a command it listens, and makes the command's words for that port.
+/// each start by a command it listens, and makes the command's words for that port: over a fleet that tells what it was asked,
+/// `asked` says so.
 ///
 /// At a refusal the places are those of the simulators before the one at which it stopped, and their links stay open. A link
 /// whose place found no memory has been closed.
@@ -46,6 +49,8 @@ pub fn start_all<F: Fleet>(
     ensures cause { IfErr result (λ fault. (fault ≡ faults.Mem)
         ⊎ HasRisen (F.faults fleet.old) (F.faults fleet.new)) }
     ensures count { F.faults fleet.old ≤ F.faults fleet.new }
+    ensures asked { (asks : List Asked) × Asks asks (F.asked fleet.old) (F.asked fleet.new)
+        × AsksBy result scenario.now.sims asks }
     ensures logged { Adds [] (F.log fleet.old) (F.log fleet.new) }
 {
     for (i, sim) in scenario.sims.as_slice().iter().enumerate() {
@@ -74,6 +79,7 @@ fn put_place<F: Fleet>(
         × (F.open_links fleet.new ≡ without_place place (F.open_links fleet.old))) }
     ensures same_count { F.started fleet.new ≡ F.started fleet.old }
     ensures count { F.faults fleet.old ≤ F.faults fleet.new }
+    ensures same_asked { F.asked fleet.new ≡ F.asked fleet.old }
     ensures logged { Adds [] (F.log fleet.old) (F.log fleet.new) }
 {
     match links.push(place) {
@@ -91,6 +97,7 @@ fn close_place<F: Fleet>(fleet: &mut F, place: Option<LinkNo>)
     ensures closed { F.open_links fleet.new ≡ without_place place (F.open_links fleet.old) }
     ensures same_count { F.started fleet.new ≡ F.started fleet.old }
     ensures count { F.faults fleet.old ≤ F.faults fleet.new }
+    ensures same_asked { F.asked fleet.new ≡ F.asked fleet.old }
     ensures logged { Adds [] (F.log fleet.old) (F.log fleet.new) }
 {
     match place {
@@ -107,6 +114,8 @@ fn begin<F: Fleet>(alloc: Global, begin: &Begin, fleet: &mut F) -> Begun
         (record { started = F.started fleet.new; links = F.open_links fleet.new }) }
     ensures cause { result ≡ Begun.Failed → HasRisen (F.faults fleet.old) (F.faults fleet.new) }
     ensures count { F.faults fleet.old ≤ F.faults fleet.new }
+    ensures asked { (asks : List Asked) × Asks asks (F.asked fleet.old) (F.asked fleet.new)
+        × BegunAsks result begin.now asks }
     ensures logged { Adds [] (F.log fleet.old) (F.log fleet.new) }
 {
     match begin {
@@ -124,6 +133,8 @@ fn begin_command<F: Fleet>(alloc: Global, template: &Text, fleet: &mut F) -> Beg
         (record { started = F.started fleet.new; links = F.open_links fleet.new }) }
     ensures cause { result ≡ Begun.Failed → HasRisen (F.faults fleet.old) (F.faults fleet.new) }
     ensures count { F.faults fleet.old ≤ F.faults fleet.new }
+    ensures asked { (asks : List Asked) × Asks asks (F.asked fleet.old) (F.asked fleet.new)
+        × BegunAsks result (begins.Command template.now) asks }
     ensures logged { Adds [] (F.log fleet.old) (F.log fleet.new) }
 {
     match fleet.listen() {
@@ -155,6 +166,7 @@ fn begin_link<F: Fleet>(fleet: &mut F, start: &Start) -> Begun
         (record { started = F.started fleet.new; links = F.open_links fleet.new }) }
     ensures cause { result ≡ Begun.Failed → HasRisen (F.faults fleet.old) (F.faults fleet.new) }
     ensures count { F.faults fleet.old ≤ F.faults fleet.new }
+    ensures asks { Asks (begun_asks result start.now) (F.asked fleet.old) (F.asked fleet.new) }
     ensures logged { Adds [] (F.log fleet.old) (F.log fleet.new) }
 {
     match fleet.start(start) {

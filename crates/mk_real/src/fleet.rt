@@ -271,6 +271,8 @@ impl<R: Net + Processes + Clock> Fleet for MioFleet<R> {
 
     ghost log = { λ _. None };
 
+    ghost asked = { λ _. None };
+
     fn listen(&mut self) -> Listened {
         self.door = None;
         match Door::open(&self.host.rt) {

@@ -3,8 +3,9 @@ ghost use Rattle.std.specs.Prelude.{◌≡◌, ◌<◌, ◌^◌, ℕ, List, leng
 ghost use Rattle.mk_launch.specs.Ready.{IsPrepared};
 
 use mk_base::{List, Mem, SimNo, Text};
-use mk_fakes::MemFleet;
+use mk_fakes::{Ask, AskedFleet, MemFleet};
 use mk_launch::{StartFault, prepare, start_all, words};
+use mk_outside::Start;
 use mk_scenario::{Scenario, read_scenario};
 use std::alloc::Global;
 use std::test::Fail;
@@ -107,6 +108,94 @@ fn simulators_are_started_in_their_order(rt: HostRuntime) -> Result<(), Fail> {
     for (failing, wanted, places) in &STARTS {
         let (fault, links) = begun(rt.alloc(), *failing)?;
         assert!(rt; fault == *wanted && links.as_str() == *places);
+    }
+    Ok(())
+}
+
+// A port that listening gives, a connection to a port, and a command's words.
+#[derive(Drop)]
+enum Wanted {
+    Port(u16),
+    Connection(u16),
+    Words(&'static [&'static str]),
+}
+
+fn is_wanted(ask: &Ask, wanted: &Wanted) -> bool {
+    match (ask, wanted) {
+        (Ask::Listened(port), Wanted::Port(want)) => port == want,
+        (Ask::Begun(Start::Connect(port)), Wanted::Connection(want)) => port == want,
+        (Ask::Begun(Start::Command(words)), Wanted::Words(want)) => {
+            are_same(words.as_slice(), want)
+        }
+        _ => false,
+    }
+}
+
+fn are_wanted(asks: &[Ask], wanted: &[Wanted]) -> bool {
+    for (ask, want) in asks.iter().zip(wanted) {
+        if !is_wanted(ask, want) {
+            return false;
+        }
+    }
+    asks.len() == wanted.len()
+}
+
+// Whether a fleet that fails at this call is asked for these at the start of a scenario's simulators.
+fn is_asked_for(
+    alloc: Global,
+    scenario: &Scenario,
+    failing: u64,
+    wanted: &[Wanted],
+) -> Result<bool, Mem>
+    requires few { length scenario.now.sims < 2 ^ 32 }
+    requires prepared { (kinds : List (List ℕ)) × IsPrepared scenario.now kinds }
+{
+    let mut fleet = AskedFleet::new(alloc, fleet_failing(alloc, failing)?);
+    let mut links = List::new(alloc);
+    let _fault = start_all(alloc, scenario, &mut fleet, &mut links).err();
+    Ok(are_wanted(fleet.asks(), wanted))
+}
+
+// A simulator by a command, one within the program, and one at a port.
+const THREE: &str = "until = 1
+sim = [{name = 'A', command = '\"my sim\" --at=%(addr)s 100%%'}, {name = 'B', local = 'sum'}, {name = 'C', connect = '127.0.0.1:4000'}]
+";
+
+// What these three ask for, where the fleet fails at no call, at the second start, at the first one, and as it is to listen.
+const ASKED: [(u64, &[Wanted]); 4] = [
+    (
+        9,
+        &[
+            Wanted::Port(5000),
+            Wanted::Words(&["my sim", "--at=127.0.0.1:5000", "100%"]),
+            Wanted::Connection(4000),
+        ],
+    ),
+    (
+        2,
+        &[
+            Wanted::Port(5000),
+            Wanted::Words(&["my sim", "--at=127.0.0.1:5000", "100%"]),
+        ],
+    ),
+    (1, &[Wanted::Port(5000)]),
+    (0, &[]),
+];
+
+fn three_ask_for(alloc: Global, failing: u64, wanted: &[Wanted]) -> Result<bool, Fail> {
+    let kinds = kinds(alloc)?;
+    let scenario = read_scenario(alloc, THREE.as_bytes())?;
+    prepare(alloc, &scenario, &kinds)?;
+    if scenario.sims.len() != 3 {
+        return Ok(false);
+    }
+    Ok(is_asked_for(alloc, &scenario, failing, wanted)?)
+}
+
+#[test]
+fn a_start_asks_for_a_port_its_words_and_connections(rt: HostRuntime) -> Result<(), Fail> {
+    for (failing, wanted) in &ASKED {
+        assert!(rt; three_ask_for(rt.alloc(), *failing, wanted)?);
     }
     Ok(())
 }

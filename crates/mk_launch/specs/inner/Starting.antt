@@ -1,14 +1,17 @@
 -- For proofs alone. How one simulator is begun. Only private contracts and proofs need it.
-use Rattle.std.specs.Prelude.{◌≡◌, ◌+◌, List, ◌++◌, Option, Some, None, option_to_list}
+use Rattle.std.specs.Prelude.{◌≡◌, ◌+◌, List, [], ◌∷◌, ◌++◌, Option, Some, None, option_to_list}
 use Rattle.std.specs.Bool.{⊤}
 use Rattle.std.specs.Result.{result_err}
 use Rattle.mk_base.specs.declared.LinkNo.{LinkNo}
+use Rattle.mk_outside.specs.Asked.{Asked, to_start}
+use Rattle.mk_outside.specs.declared.fleet.Start.{Start}
 use Rattle.mk_outside.specs.Fleets.{without}
 use Rattle.mk_scenario.specs.declared.parts.Begin.{Begin}
 use Rattle.mk_scenario.specs.declared.parts.Begin.TheVariants.{Command, Connect, Local}
 use Rattle.mk_launch.specs.declared.starting.Begun.{Begun}
 use Rattle.mk_launch.specs.declared.starting.Begun.TheVariants.{Place, Failed, Mem}
 use Rattle.mk_launch.specs.Words.{template_words}
+use Rattle.mk_launch.specs.Asking.{AsksFor, AsksSome}
 use Rattle.mk_launch.specs.Starts.{Links, link_of, link_count, place_of}
 
 -- a command has words
@@ -42,3 +45,15 @@ BegunLink Mem old new = AreSame old new
 abbrev pub without_place : Option LinkNo → List LinkNo → List LinkNo
 without_place None links = links
 without_place (Some link) links = without link links
+
+-- what the start of a link asks
+abbrev pub begun_asks : Begun → Start → List Asked
+begun_asks (Place place) start = to_start start ∷ []
+begun_asks Failed start = []
+begun_asks Mem start = []
+
+-- what the start of one simulator asks: all of it where it has come to its place
+abbrev pub BegunAsks : Begun → Begin → List Asked → Type 0
+BegunAsks (Place place) begin asks = AsksFor begin asks
+BegunAsks Failed begin asks = AsksSome begin asks
+BegunAsks Mem begin asks = AsksSome begin asks
