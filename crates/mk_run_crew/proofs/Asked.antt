@@ -9,9 +9,10 @@ use Rattle.mk_plan.specs.declared.Message.{Message}
 use Rattle.mk_session.specs.declared.answers.QueueFault.{QueueFault}
 use Rattle.mk_session.specs.declared.answers.QueueFault.TheVariants as queue_fault
 use Rattle.mk_run_laws.specs.Lines.{Line, queued}
+use Rattle.mk_run_laws.specs.Payloads.{IsFramed}
 use Rattle.mk_run_laws.specs.Crews.{IsHeard}
-use Rattle.mk_run_links.specs.Entries.{IsClockless}
-use Rattle.mk_run_links.specs.Places.{IsSet, Lines, at, crew}
+use Rattle.mk_run_links.specs.Entries.{AreOn}
+use Rattle.mk_run_links.specs.Places.{IsLineLink, IsSet, Lines, at, crew}
 use Rattle.mk_local.specs.declared.turn.Turn.{Turn}
 use Rattle.mk_run_local.specs.Calls.{IsCalled}
 use Rattle.mk_run_local.specs.Seen.{AreOf}
@@ -39,18 +40,19 @@ asked_not h i call id C D away same (inr l) = inl (record {
 })
 
 -- the request was queued, and then this was heard
-pub asked_on_link : (i : ℕ) (call : Call) (id : ℕ) (from : ℕ) (m : Message) (entries : List LogEntry) (V C D : CrewSeen) (mid : Lines) → V ≡ C → is_here C i ≡ false → ((w : Line) × IsSet i w (queued (call_text id call) (id + 1) w) V.lines mid)
-    → IsHeard entries from m (crew mid) (crew D.lines) → D.sims ≡ V.sims → D.kept ≡ V.kept → D.halt ≡ None → IsClockless entries → AsksOnLink i call id from m entries C D
-asked_on_link i call id from m entries V C D mid same away set heard sims kept going clockless = record {
+pub asked_on_link : (i : ℕ) (call : Call) (id : ℕ) (from : ℕ) (m : Message) (entries : List LogEntry) (V C D : CrewSeen) (mid : Lines) → V ≡ C → is_here C i ≡ false → ((w : Line) × IsSet i w (queued (call_text id call) (id + 1) w) V.lines mid) → IsFramed (call_text id call)
+    → IsHeard entries from m (crew mid) (crew D.lines) → D.sims ≡ V.sims → D.kept ≡ V.kept → D.halt ≡ None → AreOn (IsLineLink mid) entries → AsksOnLink i call id from m entries C D
+asked_on_link i call id from m entries V C D mid same away set one heard sims kept going on_links = record {
   away = away;
   mid = mid;
   line = set.0;
   set = subst (λ (X : CrewSeen). IsSet i set.0 (queued (call_text id call) (id + 1) set.0) X.lines mid) same set.1;
+  framed = one;
   heard = heard;
   sims = sims ∙ ap (λ (X : CrewSeen). X.sims) same;
   kept = kept ∙ ap (λ (X : CrewSeen). X.kept) same;
   halt = going;
-  clockless = clockless;
+  on_links = on_links;
 }
 
 -- a simulator within the program answered

@@ -15,6 +15,7 @@ use Rattle.mk_launch.specs.Starts.{places}
 use Rattle.mk_local.specs.declared.turn.Turn.{Turn}
 use Rattle.mk_local.specs.Calls.{after_call, call_reply}
 use Rattle.mk_local.specs.Simulators.{Simulator}
+use Rattle.mk_run_laws.specs.Payloads.{IsFramed}
 use Rattle.mk_run_laws.specs.Lines.{Line, queued}
 use Rattle.mk_run_laws.specs.Crews.{CrewState, line_at, AreMoved, AreParkedAtRests, IsHeard, on_link, given_by}
 use Rattle.mk_run_laws.specs.Handshake.{Request, setup_requests, call_to, sim_link, is_within}
@@ -24,16 +25,16 @@ use Rattle.mk_run_laws.specs.inner.Running.{IsBetween, IsSettingUp}
 use Rattle.mk_run_laws.proofs.Greeting.{fresh, requested, requested_within, replied}
 use Rattle.mk_run_laws.proofs.Stepping.{same_or_not, same_is, apart_is}
 use Rattle.mk_setup.specs.Requests.{id_before}
-use Rattle.mk_run_links.specs.Entries.{IsClockless}
-use Rattle.mk_run_links.proofs.OnEntries.{clockless_on}
-use Rattle.mk_run_links.specs.Places.{Lines, IsSet, at, crew, new_line, new_lines}
+use Rattle.mk_run_links.specs.Entries.{AreOn, IsRunLink}
+use Rattle.mk_run_links.proofs.OnEntries.{on_more, on_run}
+use Rattle.mk_run_links.specs.Places.{IsLineLink, Lines, IsSet, at, crew, new_line, new_lines}
 use Rattle.mk_run_local.specs.Calls.{IsCalled}
 use Rattle.mk_run_local.specs.Made.{first_at}
 use Rattle.mk_run_local.specs.Seen.{WithinState, AreOf, first_of, new_within, sim_at}
 use Rattle.mk_run_crew.specs.Answers.{answers_to, sim_after, AreKindAnswers, IsKindAnswer}
 use Rattle.mk_run_crew.specs.inner.Asking.{AsksWithin, AsksOnLink, IsAnswered, IsNewCrew}
 use Rattle.mk_run_crew.specs.Seen.{CrewSeen, within_of, is_here}
-use Rattle.mk_run_crew.proofs.Placing.{moved_back, new_at, new_was, set_back}
+use Rattle.mk_run_crew.proofs.Placing.{moved_back, new_at, new_was, set_back, set_there}
 use Rattle.mk_run_crew.proofs.Requests.{answers_none, answers_pushed, after_one_more, after_other, count_pushed, cut_at, kinds_pushed, still_none}
 use Rattle.mk_run_crew.proofs.Simulators.{link_placed, linked_away, placed_link, within_away}
 
@@ -64,7 +65,7 @@ module _ (started : ℕ) (S : Scenario) (rows : List Turn) where
     kept = ap (λ (W : WithinState). W.kept) n.within;
     halt = n.halt;
     places = n.places;
-    clockless = tt;
+    on_links = tt;
   }
 
   -- ---- one request
@@ -107,7 +108,7 @@ module _ (started : ℕ) (S : Scenario) (rows : List Turn) where
     kept = ap (λ (W : WithinState). W.kept) (a.called).moved ∙ so_far.kept;
     halt = a.halt ∙ so_far.halt;
     places = same_places ∙ so_far.places;
-    clockless = subst IsClockless (sym (ap (λ (x : List LogEntry). log ++ x) a.quiet ∙ append_nil log)) so_far.clockless;
+    on_links = subst (AreOn (IsRunLink started S)) (sym (ap (λ (x : List LogEntry). log ++ x) a.quiet ∙ append_nil log)) so_far.on_links;
   }
     where
       done : List Request
@@ -141,14 +142,21 @@ module _ (started : ℕ) (S : Scenario) (rows : List Turn) where
       no_front e = cc
   heard_moved entries i m L M (on_link k l w there moved parked) = (moved, parked)
 
+  -- entries on the lines' links, once a request was queued, are on the run's
+  pub asked_on : (log entries : List LogEntry) (replies : SetupReplies) (done later : List Request) (C : CrewSeen) (M : Lines) (s : ℕ) (w v : Line) → AreOn (IsRunLink started S) log → IsBetween started S replies log (crew C.lines) done later
+      → ((i : ℕ) (u : Line) → at C.lines i ≡ Some u → (l : LinkNo) × (sim_link started S i ≡ Some l)) → IsSet s w v C.lines M → v.link ≡ w.link → AreOn (IsLineLink M) entries → AreOn (IsRunLink started S) (log ++ entries)
+  asked_on log entries replies done later C M s w v before between back set same more = on_more (IsRunLink started S) log entries before (on_run started S M entries
+      (λ i l q. let t = between.lines i l q in let x = set_there s w v C.lines M set same i t.0 t.1 in (x.0, x.1, x.2 ∙ t.2))
+      (λ i u e. let b = set_back s w v C.lines M set same i u e in back i b.0 b.1) more)
+
   -- the request was queued
   pub set_up_so : (replies : SetupReplies) (log : List LogEntry) (answers : List Message) (L M : Lines) (r : Request) (id : ℕ) (l : LinkNo) (w : Line)
       → IsBetween started S replies log (crew L) (take (length answers) (setup_requests S)) (drop (length answers) (setup_requests S))
-      → slice_get (setup_requests S) (length answers) ≡ Some r → id ≡ id_before S (length answers) r.sim → sim_link started S r.sim ≡ Some l → IsSet r.sim w (queued (call_text id r.call) (id + 1) w) L M
+      → slice_get (setup_requests S) (length answers) ≡ Some r → id ≡ id_before S (length answers) r.sim → sim_link started S r.sim ≡ Some l → IsSet r.sim w (queued (call_text id r.call) (id + 1) w) L M → IsFramed (call_text id r.call)
       → IsSettingUp started S replies log (crew M) (take (length answers) (setup_requests S)) r (drop (suc (length answers)) (setup_requests S))
-  set_up_so replies log answers L M r id l w b asked numbered linked set =
+  set_up_so replies log answers L M r id l w b asked numbered linked set one =
       requested started S replies log (crew L) (crew M) (take (length answers) (setup_requests S)) r (drop (suc (length answers)) (setup_requests S)) l (next_between replies log (crew L) (length answers) r asked b) linked
-      (λ v there. set.here ∙ ap (λ (n : ℕ). Some (queued (call_text n r.call) (n + 1) w)) (number v there) ∙ ap (λ (x : Line). Some (queued (call_text v.next r.call) (v.next + 1) x)) (some_same (sym set.there ∙ there))) set.others
+      (λ v there. (set.here ∙ ap (λ (n : ℕ). Some (queued (call_text n r.call) (n + 1) w)) (number v there) ∙ ap (λ (x : Line). Some (queued (call_text v.next r.call) (v.next + 1) x)) (some_same (sym set.there ∙ there)), subst (λ (n : ℕ). IsFramed (call_text n r.call)) (number v there) one)) set.others
     where
       number : (v : Line) → at L r.sim ≡ Some v → id ≡ v.next
       number v there = let t = b.lines r.sim l linked in numbered ∙ sym t.3.next_id ∙ ap (λ (x : Line). x.next) (some_same (sym t.1 ∙ there))
@@ -160,7 +168,7 @@ module _ (started : ℕ) (S : Scenario) (rows : List Turn) where
     replies = λ i. so_far.replies i ++ given_by r.sim m i;
     between = after_next (λ i. so_far.replies i ++ given_by r.sim m i) (log ++ entries) (crew D.lines) answers m r asked
         (replied started S so_far.replies log entries (crew a.mid) (crew D.lines) (take (length answers) (setup_requests S)) r (drop (suc (length answers)) (setup_requests S)) m
-        (set_up_so so_far.replies log answers C.lines a.mid r id l a.line so_far.between asked numbered linked a.set) (so_far.between).rests moved.0 moved.1);
+        (set_up_so so_far.replies log answers C.lines a.mid r id l a.line so_far.between asked numbered linked a.set a.framed) (so_far.between).rests moved.0 moved.1);
     told = λ i k e. ap (λ (ms : List Message). ms ++ given_by r.sim m i) (so_far.told i k e) ∙ sym (answers_pushed i (setup_requests S) answers r m asked);
     kinds = kinds_pushed rows S answers r m so_far.kinds asked (λ w. absurd (true≢false (sym w ∙ away.1)));
     sims = λ i. ap (λ (xs : List (Option Simulator)). option_and_then (λ (o : Option Simulator). o) (slice_get xs i)) a.sims ∙ so_far.sims i ∙ come i (same_or_not i r.sim) ∙ ap (λ (n : ℕ). sim_after rows S n i) (sym (count_pushed answers m));
@@ -169,7 +177,7 @@ module _ (started : ℕ) (S : Scenario) (rows : List Turn) where
     kept = a.kept ∙ so_far.kept;
     halt = a.halt;
     places = same_places ∙ so_far.places;
-    clockless = clockless_on log entries so_far.clockless a.clockless;
+    on_links = asked_on log entries so_far.replies (take (length answers) (setup_requests S)) (drop (length answers) (setup_requests S)) C a.mid r.sim a.line _ so_far.on_links so_far.between so_far.back a.set refl a.on_links;
   }
     where
       away : (first_at rows S r.sim ≡ None) × (is_within S r.sim ≡ false)

@@ -34,7 +34,6 @@ use Rattle.mk_setup.specs.Requests.{id_before}
 use Rattle.mk_run_links.specs.declared.answers.LinkHalt.{LinkHalt}
 use Rattle.mk_run_links.specs.declared.answers.LinkHalt.TheVariants as link_halt
 use Rattle.mk_run_links.specs.Halts.{ShowsHalt}
-use Rattle.mk_run_links.proofs.OnEntries.{clockless_on}
 use Rattle.mk_run_links.specs.Places.{Lines, at, crew}
 use Rattle.mk_run_crew.specs.declared.halt.Halt.{Halt}
 use Rattle.mk_run_crew.specs.declared.halt.Halt.TheVariants as halt
@@ -43,7 +42,7 @@ use Rattle.mk_run_crew.specs.inner.Asking.{AsksNot, AsksInVain, AsksWithin, Asks
 use Rattle.mk_run_crew.specs.Calls.{halt_of}
 use Rattle.mk_run_crew.specs.Halted.{IsLongRequest, IsSetupFault, ShowsCause, count_to}
 use Rattle.mk_run_crew.specs.Seen.{CrewSeen, is_here, within_of}
-use Rattle.mk_run_crew.proofs.Going.{heard_moved, set_up_so, within_more}
+use Rattle.mk_run_crew.proofs.Going.{asked_on, heard_moved, set_up_so, within_more}
 use Rattle.mk_run_crew.proofs.Placing.{moved_there, moved_back, set_back}
 use Rattle.mk_run_crew.proofs.Requests.{answers_pushed, cut_at, kinds_pushed}
 use Rattle.mk_run_crew.proofs.Simulators.{linked_away}
@@ -92,7 +91,8 @@ module _ (started : ℕ) (S : Scenario) (ranks : List ℕ) (rows : List Turn) wh
     lines = lines_at a.replies log C.lines (take (length answers) (setup_requests S)) (drop (length answers) (setup_requests S)) a.between;
     rests = (a.between).rests;
     cause = cause;
-    clockless = a.clockless;
+    back = a.back;
+    on_links = a.on_links;
   }
 
   -- a fault is a cause, unless memory was wanting
@@ -192,7 +192,8 @@ module _ (started : ℕ) (S : Scenario) (ranks : List ℕ) (rows : List Turn) wh
     rests = rests_on a.replies log entries v.mid done r later up (a.between).rests (v.unheard).parked;
     cause = subst (ShowsCause started S ranks rows (log ++ entries) risen (done ++ r ∷ []) later) (sym v.is)
         (link_causes log entries risen (done ++ r ∷ []) later D.lines v.why v.shown at_log back (λ q. rose (v.is ∙ ap halt_of q)));
-    clockless = clockless_on log entries a.clockless v.clockless;
+    back = back;
+    on_links = asked_on started S rows log entries a.replies (take (length answers) (setup_requests S)) (drop (length answers) (setup_requests S)) C v.mid r.sim v.line _ a.on_links a.between a.back v.set refl v.on_links;
   }
     where
       done : List Request
@@ -202,7 +203,7 @@ module _ (started : ℕ) (S : Scenario) (ranks : List ℕ) (rows : List Turn) wh
       later = drop (suc (length answers)) (setup_requests S)
 
       up : IsSettingUp started S a.replies log (crew v.mid) done r later
-      up = set_up_so started S rows a.replies log answers C.lines v.mid r id l v.line a.between asked numbered linked v.set
+      up = set_up_so started S rows a.replies log answers C.lines v.mid r id l v.line a.between asked numbered linked v.set v.framed
 
       at_log : AreAt started S (log ++ entries) (done ++ r ∷ []) D.lines
       at_log i k e = let t = moved_at a.replies log entries (λ i. []) v.mid D.lines done r later up (v.unheard).moved i k e in (a.replies i ++ [], t.0, t.1, t.2, t.3)
@@ -236,7 +237,8 @@ module _ (started : ℕ) (S : Scenario) (ranks : List ℕ) (rows : List Turn) wh
         kinds = kinds_pushed rows S answers r m a.kinds asked (λ w. absurd (true≢false (sym w ∙ (linked_away rows started S r.sim l linked).1)));
       };
     });
-    clockless = clockless_on log entries a.clockless v.clockless;
+    back = back;
+    on_links = asked_on started S rows log entries a.replies (take (length answers) (setup_requests S)) (drop (length answers) (setup_requests S)) C v.mid r.sim v.line _ a.on_links a.between a.back v.set refl v.on_links;
   }
     where
       done : List Request
@@ -246,7 +248,7 @@ module _ (started : ℕ) (S : Scenario) (ranks : List ℕ) (rows : List Turn) wh
       later = drop (suc (length answers)) (setup_requests S)
 
       up : IsSettingUp started S a.replies log (crew v.mid) done r later
-      up = set_up_so started S rows a.replies log answers C.lines v.mid r id l v.line a.between asked numbered linked v.set
+      up = set_up_so started S rows a.replies log answers C.lines v.mid r id l v.line a.between asked numbered linked v.set v.framed
 
       moved : AreMoved entries (given_by from m) (crew v.mid) (crew D.lines) × AreParkedAtRests entries (crew v.mid)
       moved = heard_moved started S rows entries from m v.mid D.lines v.heard
@@ -254,6 +256,9 @@ module _ (started : ℕ) (S : Scenario) (ranks : List ℕ) (rows : List Turn) wh
       line : (i : ℕ) (k : LinkNo) → sim_link started S i ≡ Some k
           → (w : Line) × (at D.lines i ≡ Some w) × (w.link ≡ k) × IsLineAt (log ++ entries) (a.replies i ++ given_by from m i) (call_payloads 0 (filter_map (call_to i) (done ++ r ∷ []))) (count_to i (done ++ r ∷ [])) w
       line = moved_at a.replies log entries (given_by from m) v.mid D.lines done r later up moved.0
+
+      back : (i : ℕ) (w : Line) → at D.lines i ≡ Some w → (k : LinkNo) × (sim_link started S i ≡ Some k)
+      back i w q = let b = moved_back entries (given_by from m i) (at v.mid i) (at D.lines i) w q (moved.0 i) in let c = set_back r.sim v.line _ C.lines v.mid v.set refl i b.0 b.1 in a.back i c.0 c.1
 
   -- it came of a simulator within the program
   pub refused_within : (log entries : List LogEntry) (risen : Type 0) (answers : List Message) (C D : CrewSeen) (r : Request) (id from : ℕ) (m : Message) (e : SetupFault) → IsAnswered started S rows log answers C → slice_get (setup_requests S) (length answers) ≡ Some r

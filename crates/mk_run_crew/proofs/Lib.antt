@@ -8,6 +8,8 @@ mod Looping
 mod Placing
 mod Requests
 mod Simulators
+pub mod Started
 mod Starting
+pub mod Stopped
 mod Trying
 pub mod Unlinked

@@ -28,7 +28,6 @@ use Rattle.mk_setup.specs.Laws.{IsOfReplies, RepliesMake}
 use Rattle.mk_setup.specs.Replies.{after_reply, arrival}
 use Rattle.mk_setup.specs.Requests.{id_before, request_of}
 use Rattle.mk_setup.specs.Seen.{SetupState}
-use Rattle.mk_run_links.specs.Entries.{IsClockless}
 use Rattle.mk_run_links.specs.Places.{AreOpen, Lines, at}
 use Rattle.mk_run_local.specs.Made.{first_at}
 use Rattle.mk_run_local.specs.Seen.{sim_at}
@@ -63,14 +62,13 @@ module _ (started : ℕ) (S : Scenario) (ranks : List ℕ) (rows : List Turn) (l
   }
 
   -- all have answered
-  pub ends : (old new : Option (List LogEntry)) (C : CrewSeen) (U V : SetupState) (P : Plan) → GoesSoFar started S ranks rows old new C U → IsReady U P V → (entries : List LogEntry) × Adds entries old new × HasBegun started S ranks rows entries C P × IsClockless entries
+  pub ends : (old new : Option (List LogEntry)) (C : CrewSeen) (U V : SetupState) (P : Plan) → GoesSoFar started S ranks rows old new C U → IsReady U P V → (entries : List LogEntry) × Adds entries old new × HasBegun started S ranks rows entries C P
   ends old new C U V P g ready =
       let same : U.scenario ≡ S = (laws.stands S ranks g.answers U g.reached).scenario in (
         g.entries,
         g.adds,
         begun_now started S ranks rows g.entries g.answers C P g.answered (laws.makes S ranks g.answers U V P g.reached ready) ready.valid (ready.sims ∙ ap (λ (X : Scenario). length X.sims) same)
             (λ i less. ready.first i (subst (λ (X : Scenario). i < length X.sims) (sym same) less) ∙ ap (λ (X : Scenario). setup_count X i) same),
-        (g.answered).clockless,
       )
 
   -- the next request can't be made
@@ -169,13 +167,12 @@ module _ (started : ℕ) (S : Scenario) (ranks : List ℕ) (rows : List Turn) (l
     steps_on new entries D V adds s same_places = goes_on old mid C U s.state s.sim s.call s.id g s.requested new entries D V prepared adds s.answers same_places
 
     -- all were made
-    pub steps_end : (new : Option (List LogEntry)) (entries : List LogEntry) (D : CrewSeen) (V : SetupState) (P : Plan) → Adds entries mid new → StepsTo (Some P) entries C D U V → (all : List LogEntry) × Adds all old new × HasBegun started S ranks rows all D P × IsClockless all
+    pub steps_end : (new : Option (List LogEntry)) (entries : List LogEntry) (D : CrewSeen) (V : SetupState) (P : Plan) → Adds entries mid new → StepsTo (Some P) entries C D U V → (all : List LogEntry) × Adds all old new × HasBegun started S ranks rows all D P
     steps_end new entries D V P adds s =
         let t = ends old mid C U V P g s.2 in (
           t.0,
           adds_no_more t.0 old mid new t.1 (subst (λ (more : List LogEntry). Adds more mid new) s.0 adds),
           subst (λ (X : CrewSeen). HasBegun started S ranks rows t.0 X P) (sym s.1) t.2,
-          t.3,
         )
 
     -- it wasn't made, or in vain

@@ -109,12 +109,12 @@ risen_on a b c less (inr h) = inr h
 pub stopped_later : (entries : List LogEntry) (a b c : ℕ) (C : CrewState) → b ≤ c → AreStopped entries (HasRisen a b) C → AreStopped entries (HasRisen a c) C
 stopped_later entries a b c C less all i w there =
     let s = all i w there in
-    record { unheard = s.unheard; said = s.said; whole = elim s.whole [ inl e ↦ inl e | inr m ↦ inr (elim m [ inl e ↦ inl e | inr h ↦ inr (risen_later a b c less h) ]) ] }
+    record { unheard = s.unheard; said = s.said; framed = s.framed; whole = elim s.whole [ inl e ↦ inl e | inr m ↦ inr (elim m [ inl e ↦ inl e | inr h ↦ inr (risen_later a b c less h) ]) ] }
 
 pub stopped_on : (entries : List LogEntry) (a b c : ℕ) (C : CrewState) → a ≤ b → AreStopped entries (HasRisen b c) C → AreStopped entries (HasRisen a c) C
 stopped_on entries a b c C less all i w there =
     let s = all i w there in
-    record { unheard = s.unheard; said = s.said; whole = elim s.whole [ inl e ↦ inl e | inr m ↦ inr (elim m [ inl e ↦ inl e | inr h ↦ inr (risen_on a b c less h) ]) ] }
+    record { unheard = s.unheard; said = s.said; framed = s.framed; whole = elim s.whole [ inl e ↦ inl e | inr m ↦ inr (elim m [ inl e ↦ inl e | inr h ↦ inr (risen_on a b c less h) ]) ] }
 
 -- ---- entries of a call that adds none behind
 

@@ -212,4 +212,4 @@ module _ (S : Scenario) (ranks : List ℕ) (rows : List Turn) (laws : RepliesMak
 
 -- the handshake ended early
 pub halted_within : (started : ℕ) (S : Scenario) (ranks : List ℕ) (rows : List Turn) (faults new_faults : ℕ) (h : Halt) (C : CrewSeen) → ((i : ℕ) → at C.lines i ≡ None) → IsHalting started S ranks rows [] ⊥ h C → HasHalted started S ranks rows [] (HasRisen faults new_faults) h
-halted_within started S ranks rows faults new_faults h C none g = halted started S ranks rows [] [] ⊥ (HasRisen faults new_faults) h C g (silently (HasRisen faults new_faults) C none) restless (λ e. absurd e)
+halted_within started S ranks rows faults new_faults h C none g = halted started S ranks rows [] [] ⊥ (HasRisen faults new_faults) h C g (silently (HasRisen faults new_faults) C none) restless tt (λ e. absurd e)

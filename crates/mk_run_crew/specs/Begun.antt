@@ -15,6 +15,7 @@ use Rattle.mk_run_laws.specs.Handshake.{setup_requests, setup_count, sim_link}
 use Rattle.mk_run_laws.specs.Rests.{IsWellInSetup}
 use Rattle.mk_run_laws.specs.Running.{SetupReplies, IsBegun}
 use Rattle.mk_setup.specs.Handshakes.{IsMade}
+use Rattle.mk_run_links.specs.Entries.{AreOn, IsRunLink}
 use Rattle.mk_run_local.specs.Made as setups
 use Rattle.mk_run_local.specs.Seen.{AreOf, sim_at}
 use Rattle.mk_run_crew.specs.Answers.{answers_to, AreKindAnswers}
@@ -22,7 +23,8 @@ use Rattle.mk_run_crew.specs.Seen.{CrewSeen, crew_of, within_of}
 
 -- the handshake is over: the plan is made of the answers to all requests, which were heard on the
 -- links over the log, or are those of kinds; where the fleet rested, what was asked by then had
--- been said; and each simulator within the program is what its setup made of it
+-- been said; each simulator within the program is what its setup made of it; and no link but the
+-- run's was read or written
 pub record HasBegun (started : ℕ) (S : Scenario) (ranks : List ℕ) (rows : List Turn)
     (log : List LogEntry) (C : CrewSeen) (P : Plan) : Type 0 where
   pub answers : List Message
@@ -45,3 +47,4 @@ pub record HasBegun (started : ℕ) (S : Scenario) (ranks : List ℕ) (rows : Li
       × (sim_link started S i ≡ Some l)
   pub places : C.places ≡ places started S.sims
   pub halt : C.halt ≡ None
+  pub on_links : AreOn (IsRunLink started S) log

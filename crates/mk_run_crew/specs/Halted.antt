@@ -17,6 +17,7 @@ use Rattle.mk_run_laws.specs.Hearing.{rest_heard}
 use Rattle.mk_run_laws.specs.Kinds.{Replies}
 use Rattle.mk_run_laws.specs.Rests.{AllSetUp, IsWellInSetup}
 use Rattle.mk_run_laws.specs.Runs.{SaysRight, SaidWhole}
+use Rattle.mk_run_links.specs.Entries.{AreOnOrOfClock, IsRunLink}
 use Rattle.mk_setup.specs.declared.fault.SetupFault.{SetupFault}
 use Rattle.mk_setup.specs.Handshakes.{IsFaultyAfter}
 use Rattle.mk_run_crew.specs.declared.halt.Halt.{Halt}
@@ -67,8 +68,10 @@ ShowsCause started S ranks rows log risen queued later
 ShowsCause started S ranks rows log risen queued later halt.Mem = ⊤
 
 -- the handshake ended early: on each link a beginning of the frames of the first requests and of a
--- stop was said, and but for want of memory all of it, unless a write took nothing or the count of
--- faults rose; where the fleet rested, what was asked by then had been said, and not all had set up
+-- stop was said, none with a payload longer than a frame's may be, and all of it, unless a write
+-- took nothing or the count of faults rose, or memory was wanting before anything was said or heard
+-- on any link; where the fleet rested, what was asked by then had been said, and not all had set
+-- up; and no link but the run's was read or written
 pub record HasHalted (started : ℕ) (S : Scenario) (ranks : List ℕ) (rows : List Turn)
     (log : List LogEntry) (risen : Type 0) (h : Halt) : Type 0 where
   pub queued : List Request
@@ -76,8 +79,9 @@ pub record HasHalted (started : ℕ) (S : Scenario) (ranks : List ℕ) (rows : L
   pub parts : setup_requests S ≡ queued ++ later
   pub says : (reply : Replies) (i : ℕ) (l : LinkNo) → sim_link started S i ≡ Some l
       → SaysRight started S reply None log i l (count_to i queued) [] true
-  pub whole : (h ≡ halt.Mem → ⊥) → (i : ℕ) (l : LinkNo) → sim_link started S i ≡ Some l
-      → SaidWhole S log risen i l (count_to i queued) []
+  pub whole : ((h ≡ halt.Mem) × (log ≡ []) → ⊥) → (i : ℕ) (l : LinkNo)
+      → sim_link started S i ≡ Some l → SaidWhole S log risen i l (count_to i queued) []
   pub rests : (before after : List LogEntry) → log ≡ before ++ Rest ∷ after
       → IsWellInSetup started S before × (AllSetUp started S before → ⊥)
   pub cause : ShowsCause started S ranks rows log risen queued later h
+  pub on_links : AreOnOrOfClock (IsRunLink started S) log

@@ -4,5 +4,6 @@ pub mod Answers
 pub mod Begun
 pub mod Completing
 pub mod Halted
+pub mod Started
 pub mod Wholly
 pub mod inner

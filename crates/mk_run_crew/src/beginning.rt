@@ -13,6 +13,7 @@ ghost use Rattle.mk_local.specs.Calls.{IsCallReplied};
 ghost use Rattle.mk_local.specs.Kinds.{name_of};
 ghost use Rattle.mk_local.specs.Registries.{rows_in};
 ghost use Rattle.mk_run_laws.specs.Lines.{Line, queued};
+ghost use Rattle.mk_run_laws.specs.Payloads.{IsFramed};
 ghost use Rattle.mk_run_links.specs.Entries.{IsClockless};
 ghost use Rattle.mk_run_links.specs.Places.{AreOpen, AreDistinct, IsLinked, IsSet, at, new_lines, without_all};
 ghost use Rattle.mk_setup.specs.Handshakes.{begun};
@@ -22,6 +23,7 @@ ghost use Rattle.mk_run_crew.specs.inner.Asking.{Answers, AnswersNot, Asks, Asks
 ghost use Rattle.mk_run_crew.specs.inner.Calls.{start_halt};
 ghost use Rattle.mk_run_crew.specs.Begun.{HasBegun};
 ghost use Rattle.mk_run_crew.specs.Halted.{HasHalted};
+ghost use Rattle.mk_run_crew.specs.Started.{IsOfStart, StartsLinks};
 ghost use Rattle.mk_run_crew.specs.Seen.{is_here};
 ghost use Rattle.mk_run_crew.specs.declared.halt.Halt.TheVariants as halts;
 
@@ -75,6 +77,8 @@ fn start<F: Fleet>(
         ⊎ ((h ≡ halts.Fleet) × HasRisen (F.faults fleet.old) (F.faults fleet.new))) }
     ensures closed { OnErr result (AreNumbered (F.started fleet.old) (F.open_links fleet.old)
         → F.open_links fleet.new ≡ F.open_links fleet.old) }
+    ensures most { OnErr result ((F.started fleet.old ≤ F.started fleet.new)
+        × (F.started fleet.new ≤ F.started fleet.old + length scenario.now.sims)) }
     ensures count { F.faults fleet.old ≤ F.faults fleet.new }
     ensures logged { Adds [] (F.log fleet.old) (F.log fleet.new) }
 {
@@ -159,6 +163,7 @@ fn queue_call(
     ensures ok { OnOk result ((w : Line)
         × IsSet sim.0 w (queued (call_text id call.now) (id + 1) w) links.old.lines
         links.new.lines) }
+    ensures framed { OnOk result (IsFramed (call_text id call.now)) }
     ensures why { IfErr result (λ h. IsUnqueued h sim.0 call.now id) }
     ensures err { OnErr result (links.new ≡ links.old) }
     ensures same_halt { links.new.halt ≡ links.old.halt }
@@ -350,7 +355,7 @@ impl Crew {
             (F.open_links fleet.old) self.old
             → (entries : List LogEntry) × Adds entries (F.log fleet.old) (F.log fleet.new)
             × HasBegun started setup.old.scenario setup.old.ranks
-            (rows_in kinds.now) entries self.new P × IsClockless entries) }
+            (rows_in kinds.now) entries self.new P) }
         ensures err { IfErr result (λ h. (started : ℕ)
             → IsNewCrew started (rows_in kinds.now) setup.old.scenario
             (F.open_links fleet.old) self.old
@@ -390,8 +395,7 @@ impl Crew {
         ensures ok { IfOk result (λ r. (started : ℕ)
             → IsNewCrew started (rows_in kinds.now) setup.scenario (F.open_links fleet.old) self
             → (entries : List LogEntry) × Adds entries (F.log fleet.old) (F.log fleet.new)
-            × HasBegun started setup.scenario setup.ranks (rows_in kinds.now) entries r.0 r.1
-            × IsClockless entries) }
+            × HasBegun started setup.scenario setup.ranks (rows_in kinds.now) entries r.0 r.1) }
         ensures err { IfErr result (λ h. (started faults : ℕ) → faults ≤ F.faults fleet.old
             → IsNewCrew started (rows_in kinds.now) setup.scenario (F.open_links fleet.old) self
             → (entries : List LogEntry) × Adds entries (F.log fleet.old) (F.log fleet.new)
@@ -433,8 +437,7 @@ impl Crew {
         ensures count { F.faults fleet.old ≤ F.faults fleet.new }
         ensures begun { IfOk result (λ r. (entries : List LogEntry)
             × Adds entries (F.log fleet.old) (F.log fleet.new)
-            × HasBegun (F.started fleet.old) scenario ranks (rows_in kinds.now) entries r.0 r.1
-            × IsClockless entries) }
+            × HasBegun (F.started fleet.old) scenario ranks (rows_in kinds.now) entries r.0 r.1) }
         ensures started { IfOk result (λ r. AreStarted scenario.sims
             (record { started = F.started fleet.old; links = F.open_links fleet.old })
             (record { started = F.started fleet.new; links = F.open_links fleet.new }) r.0.places) }
@@ -445,7 +448,9 @@ impl Crew {
         ensures halted { IfErr result (λ h. (entries : List LogEntry)
             × Adds entries (F.log fleet.old) (F.log fleet.new)
             × HasHalted (F.started fleet.old) scenario ranks (rows_in kinds.now) entries
-            (HasRisen (F.faults fleet.old) (F.faults fleet.new)) h × IsClockless entries) }
+            (HasRisen (F.faults fleet.old) (F.faults fleet.new)) h × IsClockless entries
+            × StartsLinks scenario (F.started fleet.old) (F.started fleet.new)
+            (IsOfStart h entries)) }
         ensures closed { OnErr result (AreNumbered (F.started fleet.old) (F.open_links fleet.old)
             → F.open_links fleet.new ≡ F.open_links fleet.old) }
     {

@@ -9,8 +9,8 @@ ghost use Rattle.mk_local.specs.Registries.{rows_in};
 ghost use Rattle.mk_local.specs.Replies.{IsItemReplied};
 ghost use Rattle.mk_run_laws.specs.Crews.{AreStopped, IsHeard, IsRestless};
 ghost use Rattle.mk_run_links.specs.declared.answers.LinkHalt.{LinkHalt};
-ghost use Rattle.mk_run_links.specs.Entries.{IsClockless};
-ghost use Rattle.mk_run_links.specs.Places.{AreOpen, without_all};
+ghost use Rattle.mk_run_links.specs.Entries.{AreOn};
+ghost use Rattle.mk_run_links.specs.Places.{AreOpen, IsLineLink, without_all};
 ghost use Rattle.mk_plan.specs.Journals.{Arrival};
 ghost use Rattle.mk_run_local.specs.Calls.{IsFitSuccess};
 ghost use Rattle.mk_run_local.specs.Seen.{AreOf};
@@ -133,7 +133,8 @@ impl Crew {
         ensures lasts { self.old.halt ≡ None → self.new.halt ≡ lasting result }
         ensures heard { self.old.halt ≡ None → (entries : List LogEntry)
             × Adds entries (F.log fleet.old) (F.log fleet.new)
-            × HearsAs result entries self.old self.new × IsClockless entries }
+            × HearsAs result entries self.old self.new
+            × AreOn (IsLineLink self.old.lines) entries }
     {
         if let Some(why) = self.links.halt() {
             return Err(halt_of(why));
@@ -209,7 +210,7 @@ impl Crew {
         ensures stopped { (entries : List LogEntry)
             × Adds entries (F.log fleet.old) (F.log fleet.new)
             × AreStopped entries (HasRisen (F.faults fleet.old) (F.faults fleet.new)) (crew_of self)
-            × IsRestless entries × IsClockless entries }
+            × IsRestless entries × AreOn (IsLineLink self.lines) entries }
     {
         self.links.stop(fleet);
         close_all(self.places.as_slice(), fleet);

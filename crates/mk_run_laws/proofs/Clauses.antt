@@ -22,13 +22,13 @@ use Rattle.mk_scenario.specs.declared.parts.Scenario.{Scenario}
 use Rattle.mk_outside.specs.declared.fleet.LogEntry.{LogEntry}
 use Rattle.mk_outside.specs.Logs.{said_on}
 use Rattle.mk_run_laws.specs.Handshake.{Request, setup_requests, call_to, calls_to, call_payloads, setup_payloads, setup_count, sim_link, is_within}
-use Rattle.mk_run_laws.specs.Payloads.{link_payloads}
+use Rattle.mk_run_laws.specs.Payloads.{AreFramed, link_payloads}
 use Rattle.mk_run_laws.specs.Lines.{Line, IsLineAt, IsStopped}
 use Rattle.mk_run_laws.specs.Kinds.{Replies, KeepsToKinds}
 use Rattle.mk_run_laws.specs.Rests.{run_messages}
 use Rattle.mk_run_laws.specs.Running.{SetupReplies}
 use Rattle.mk_run_laws.specs.Runs.{IsPossible, IsLinkOfRun, SaysRight}
-use Rattle.mk_run_laws.proofs.Moving.{said_at_stop}
+use Rattle.mk_run_laws.proofs.Moving.{said_at_stop, framed_at_stop}
 use Rattle.mk_run_laws.proofs.Saying.{items_begin}
 
 -- a run's link says what it should
@@ -39,6 +39,7 @@ run_says P valid started S sims reply log J orderly kinds links replies risen i 
   handshake = omega arith;
   behind = inr (refl, there P);
   said = run.said;
+  framed = run.framed;
   as_executed = λ Q same R may low. let e : P ≡ Q = some_same same in subst (λ (G : Plan). BeginsWith (run_items G R i) (map bare items)) e
       (items_begin P valid started S sims reply log J orderly kinds links R (subst (λ (G : Plan). IsPossible started S reply G log R) (sym e) may) i (subst (λ (G : Plan). i < sim_count G) (sym e) low) items run.items_sent);
 }
@@ -72,6 +73,7 @@ handshake_says started S reply log entries risen i l queued later is ms w link a
   behind = inl refl;
   said = subst (λ (k : LinkNo). BeginsWith (frames_of (link_payloads S i (length (filter_map (call_to i) queued)) [] true)) (said_on k (log ++ entries))) link
       (subst (λ (ps : List (List ℕ)). BeginsWith (frames_of ps) (said_on w.link (log ++ entries))) payloads_are (said_at_stop log entries ms (call_payloads 0 (filter_map (call_to i) queued)) (length (filter_map (call_to i) queued)) risen w at stopped));
+  framed = subst AreFramed payloads_are (framed_at_stop log entries ms (call_payloads 0 (filter_map (call_to i) queued)) (length (filter_map (call_to i) queued)) risen w at stopped);
   as_executed = λ P e. absurd (none_some e);
 }
   where
@@ -84,4 +86,4 @@ handshake_says started S reply log entries risen i l queued later is ms w link a
 
 -- a link that was only closed, or not started, says nothing
 pub silence_says : (started : ℕ) (S : Scenario) (reply : Replies) (log : List LogEntry) (i : ℕ) (l : LinkNo) → said_on l log ≡ [] → SaysRight started S reply None log i l 0 [] false
-silence_says started S reply log i l silent = record { handshake = omega arith; behind = inl refl; said = ([], sym silent ∙ sym (append_nil (said_on l log))); as_executed = λ P e. absurd (none_some e) }
+silence_says started S reply log i l silent = record { handshake = omega arith; behind = inl refl; said = ([], sym silent ∙ sym (append_nil (said_on l log))); framed = tt; as_executed = λ P e. absurd (none_some e) }

@@ -19,7 +19,7 @@ use Rattle.mk_outside.specs.Logs.{heard_on, said_on, last_write}
 use Rattle.mk_run_laws.specs.Hearing.{messages_heard, rest_heard, first_message}
 use Rattle.mk_run_laws.specs.Handshake.{setup_count, setup_payloads, call_payloads, calls_to, sim_link}
 use Rattle.mk_plan.specs.declared.Call.{Call}
-use Rattle.mk_run_laws.specs.Payloads.{item_payloads, id_after, link_payloads}
+use Rattle.mk_run_laws.specs.Payloads.{AreFramed, item_payloads, id_after, link_payloads}
 use Rattle.mk_run_laws.specs.Lines.{Line, IsStopped}
 use Rattle.mk_run_laws.specs.Rests.{run_messages}
 use Rattle.mk_run_laws.specs.Crews.{CrewState, AreStopped, IsRestless}
@@ -27,7 +27,7 @@ use Rattle.mk_run_laws.specs.Running.{SetupReplies, RestsEnd}
 use Rattle.mk_run_laws.specs.inner.Running.{HasLine}
 use Rattle.mk_run_laws.specs.Runs.{run_frames, IsLinkOfRun}
 use Rattle.mk_run_laws.proofs.Taking.{taken_heard, taken_rest, none_heard}
-use Rattle.mk_run_laws.proofs.Moving.{said_at_stop, all_at_stop, heard_at_stop}
+use Rattle.mk_run_laws.proofs.Moving.{said_at_stop, framed_at_stop, all_at_stop, heard_at_stop}
 use Rattle.mk_run_laws.proofs.Stepping.{first_or_second}
 
 -- there are as many payloads as calls
@@ -66,6 +66,7 @@ module _ (started : ℕ) (S : Scenario) (replies : SetupReplies) (counts : (i : 
     items_sent = queued;
     said = subst (λ (k : LinkNo). BeginsWith (run_frames S i items) (said_on k (log ++ entries))) h.link (subst (λ (ps : List (List ℕ)). BeginsWith (frames_of ps) (said_on h.line.link (log ++ entries))) (sym (payloads_of_run S i items))
         (said_at_stop log entries (replies i ++ messages) (setup_payloads S i ++ item_payloads (setup_count S i) items) (id_after (setup_count S i) items) risen h.line h.in_step stopped_here));
+    framed = subst AreFramed (sym (payloads_of_run S i items)) (framed_at_stop log entries (replies i ++ messages) (setup_payloads S i ++ item_payloads (setup_count S i) items) (id_after (setup_count S i) items) risen h.line h.in_step stopped_here);
     whole = subst (λ (k : LinkNo). (said_on k (log ++ entries) ≡ run_frames S i items) ⊎ ((last_write k (log ++ entries) ≡ Some (NotSaid k)) ⊎ risen)) h.link
         (subst (λ (ps : List (List ℕ)). (said_on h.line.link (log ++ entries) ≡ frames_of ps) ⊎ ((last_write h.line.link (log ++ entries) ≡ Some (NotSaid h.line.link)) ⊎ risen)) (sym (payloads_of_run S i items))
         (all_at_stop log entries (replies i ++ messages) (setup_payloads S i ++ item_payloads (setup_count S i) items) (id_after (setup_count S i) items) risen h.line h.in_step stopped_here));

@@ -13,6 +13,7 @@ use Rattle.mk_run_laws.specs.Handshake.{Request, setup_requests, call_to, call_p
 use Rattle.mk_run_laws.specs.Hearing.{Takes}
 use Rattle.mk_run_laws.specs.Hearing as hearing
 use Rattle.mk_run_laws.specs.Lines.{Line, IsMoved, IsLineAt, queued}
+use Rattle.mk_run_laws.specs.Payloads.{IsFramed}
 use Rattle.mk_run_laws.specs.Rests.{AllSetUp, IsWellInSetup}
 use Rattle.mk_run_laws.specs.Crews.{CrewState, line_at, IsMovedAt, given_by, AreMoved, AreParkedAtRests}
 use Rattle.mk_run_laws.specs.Running.{SetupReplies, IsBegun}
@@ -64,7 +65,7 @@ payloads_push id (d ∷ calls) c = ap (λ (l : List (List ℕ)). call_text id d 
 module _ (started : ℕ) (S : Scenario) where
   -- a request is queued on its line
   pub requested : (replies : SetupReplies) (log : List LogEntry) (C D : CrewState) (done : List Request) (now : Request) (later : List Request) (l : LinkNo) → IsBetween started S replies log C done (now ∷ later) → sim_link started S now.sim ≡ Some l
-      → ((w : Line) → line_at C now.sim ≡ Some w → line_at D now.sim ≡ Some (queued (call_text w.next now.call) (w.next + 1) w)) → ((i : ℕ) → (i ≡ now.sim → ⊥) → line_at D i ≡ line_at C i) → IsSettingUp started S replies log D done now later
+      → ((w : Line) → line_at C now.sim ≡ Some w → (line_at D now.sim ≡ Some (queued (call_text w.next now.call) (w.next + 1) w)) × IsFramed (call_text w.next now.call)) → ((i : ℕ) → (i ≡ now.sim → ⊥) → line_at D i ≡ line_at C i) → IsSettingUp started S replies log D done now later
   requested replies log C D done now later l b linked here others = record {
     parts = b.parts;
     linked = (l, linked);
@@ -90,13 +91,13 @@ module _ (started : ℕ) (S : Scenario) where
           let cs : List Call = filter_map (call_to now.sim) done in
           let all : filter_map (call_to now.sim) (done ++ now ∷ []) ≡ cs ++ now.call ∷ [] = calls_push now.sim done now ∙ ap (λ (ds : List Call). cs ++ ds) (one_here now) in
           let at : IsLineAt log (replies now.sim) (call_payloads 0 cs ++ call_text (t.0).next now.call ∷ []) ((t.0).next + 1) (queued (call_text (t.0).next now.call) ((t.0).next + 1) t.0) =
-          line_queued log (replies now.sim) (call_payloads 0 cs) (length cs) ((t.0).next + 1) (call_text (t.0).next now.call) t.0 t.3 in
+          line_queued log (replies now.sim) (call_payloads 0 cs) (length cs) ((t.0).next + 1) (call_text (t.0).next now.call) t.0 t.3 (here t.0 t.1).1 in
           let next : (t.0).next ≡ length cs = t.3.next_id in
           let size : (t.0).next + 1 ≡ length (cs ++ now.call ∷ []) = let e = length-append cs (now.call ∷ []) in omega (arith, e, next) in
           let texts : call_payloads 0 cs ++ call_text (t.0).next now.call ∷ [] ≡ call_payloads 0 (cs ++ now.call ∷ []) =
           ap (λ (n : ℕ). call_payloads 0 cs ++ call_text n now.call ∷ []) (let e : (t.0).next ≡ 0 + length cs = omega (arith, next) in e) ∙ sym (payloads_push 0 cs now.call) in (
             queued (call_text (t.0).next now.call) ((t.0).next + 1) t.0,
-            here t.0 t.1,
+            (here t.0 t.1).0,
             t.2,
             subst (λ (ds : List Call). IsLineAt log (replies now.sim) (call_payloads 0 ds) (length ds) (queued (call_text (t.0).next now.call) ((t.0).next + 1) t.0)) (sym all)
                 (subst (λ (n : ℕ). IsLineAt log (replies now.sim) (call_payloads 0 (cs ++ now.call ∷ [])) n (queued (call_text (t.0).next now.call) ((t.0).next + 1) t.0)) size
@@ -154,6 +155,6 @@ module _ (started : ℕ) (S : Scenario) where
   fresh C new = record {
     parts = refl;
     counts = λ i l e. refl;
-    lines = λ i l e. (record { link = l; held = []; unsent = []; parked = false; next = 0 }, new i l e, refl, record { heard = hearing.none []; said = refl; next_id = refl; parked = λ p. absurd (true≢false (sym p)) });
+    lines = λ i l e. (record { link = l; held = []; unsent = []; parked = false; next = 0 }, new i l e, refl, record { heard = hearing.none []; said = refl; framed = tt; next_id = refl; parked = λ p. absurd (true≢false (sym p)) });
     rests = λ before after is. absurd (not_empty before after Rest is);
   }

@@ -11,6 +11,7 @@ use Rattle.mk_outside.specs.declared.fleet.LogEntry.{LogEntry}
 use Rattle.mk_outside.specs.declared.fleet.LogEntry.TheVariants.{NotHeard, NotSaid}
 use Rattle.mk_outside.specs.Logs.{heard_by, said_by, heard_on, said_on, later_of, last_that, last_read, last_write, is_read, is_write}
 use Rattle.mk_run_laws.specs.Hearing.{Takes}
+use Rattle.mk_run_laws.specs.Payloads.{AreFramed, IsFramed}
 use Rattle.mk_run_laws.specs.Lines.{Line, IsParkedIn, IsLeft, IsMoved, IsLineAt, queued, IsStopped}
 use Rattle.mk_run_laws.proofs.Taking.{takes_more}
 
@@ -75,6 +76,7 @@ line_moved log entries ms given payloads next old new at moved = record {
       (takes_more (heard_on old.link log) (heard_on old.link entries) old.held new.held ms given at.heard moved.taken));
   said = ap (λ (l : LinkNo). said_on l (log ++ entries) ++ new.unsent) moved.link ∙ ap (λ (b : List ℕ). b ++ new.unsent) (said_more old.link log entries)
       ∙ append_assoc (said_on old.link log) (said_on old.link entries) new.unsent ∙ ap (λ (b : List ℕ). said_on old.link log ++ b) moved.said ∙ at.said;
+  framed = at.framed;
   next_id = moved.next ∙ at.next_id;
   parked = λ p. elim (moved.parked p) [ inl now ↦ parked_later log entries new now | inr left ↦ parked_still log entries old new left (at.parked left.parked) ];
 }
@@ -104,12 +106,18 @@ moved_twice a b given later old mid new one two = record {
   ];
 }
 
--- a payload is queued
-pub line_queued : (log : List LogEntry) (ms : List Message) (payloads : List (List ℕ)) (next after : ℕ) (payload : List ℕ) (old : Line) → IsLineAt log ms payloads next old
+-- one payload more that a frame may have
+pub framed_push : (payloads : List (List ℕ)) (payload : List ℕ) → AreFramed payloads → IsFramed payload → AreFramed (payloads ++ payload ∷ [])
+framed_push [] payload all one = (one, tt)
+framed_push (p ∷ payloads) payload all one = (all.0, framed_push payloads payload all.1 one)
+
+-- a payload is queued that a frame may have
+pub line_queued : (log : List LogEntry) (ms : List Message) (payloads : List (List ℕ)) (next after : ℕ) (payload : List ℕ) (old : Line) → IsLineAt log ms payloads next old → IsFramed payload
     → IsLineAt log ms (payloads ++ payload ∷ []) after (queued payload after old)
-line_queued log ms payloads next after payload old at = record {
+line_queued log ms payloads next after payload old at one = record {
   heard = at.heard;
   said = sym (append_assoc (said_on old.link log) old.unsent (frame_of payload)) ∙ ap (λ (b : List ℕ). b ++ frame_of payload) at.said ∙ sym (frames_push payloads payload);
+  framed = framed_push payloads payload at.framed one;
   next_id = refl;
   parked = λ p. absurd (true≢false (sym p));
 }
@@ -139,6 +147,10 @@ all_at_stop log entries ms payloads next risen w at stopped = elim stopped.whole
   | inr (inl not) ↦ inr (inl (last_later (is_write w.link) log entries (NotSaid w.link) not))
   | inr (inr rose) ↦ inr (inr rose)
 ]
+
+-- and no payload is longer than a frame's may be
+pub framed_at_stop : (log entries : List LogEntry) (ms : List Message) (payloads : List (List ℕ)) (next : ℕ) (risen : Type 0) (w : Line) → IsLineAt log ms payloads next w → IsStopped entries risen w → AreFramed (payloads ++ call_text next Stop ∷ [])
+framed_at_stop log entries ms payloads next risen w at stopped = framed_push payloads (call_text next Stop) at.framed (subst (λ (n : ℕ). IsFramed (call_text n Stop)) at.next_id stopped.framed)
 
 -- nothing is heard while a line is stopped
 pub heard_at_stop : (log entries : List LogEntry) (risen : Type 0) (w : Line) → IsStopped entries risen w → heard_on w.link (log ++ entries) ≡ heard_on w.link log

@@ -1,6 +1,5 @@
 -- What the calls of a session come to for its own line and for all others.
-use Rattle.std.proofs.Common.{◌≡◌, ℕ, ◌==◌, true, false, List, [], ◌∷◌, ◌++◌, take, drop, Some, None, Ok, refl, sym, ap, ◌∙◌, subst, ◌⊎◌, inl, inr}
-use Rattle.std.proofs.lemmas.List.{take-append-drop}
+use Rattle.std.proofs.Common.{◌≡◌, ℕ, ◌==◌, true, false, List, [], ◌∷◌, ◌++◌, Some, None, Ok, refl, sym, ap, ◌∙◌, subst, ◌⊎◌, inl, inr}
 use Rattle.mk_base.specs.declared.LinkNo.{LinkNo}
 use Rattle.mk_base.specs.Lists.{Each}
 use Rattle.mk_base.proofs.Lists.{append_nil}
@@ -11,7 +10,7 @@ use Rattle.mk_outside.specs.declared.fleet.LogEntry.{LogEntry}
 use Rattle.mk_outside.specs.declared.fleet.LogEntry.TheVariants.{Heard, NotHeard, Said, NotSaid, Ended, Rest, Told, Nap}
 use Rattle.mk_outside.specs.Logs.{IsOf, heard_on, said_on, last_read, last_write}
 use Rattle.mk_run_laws.specs.Hearing.{Takes, none, more}
-use Rattle.mk_run_laws.specs.Lines.{Line, IsMoved, last_bytes, IsStopped}
+use Rattle.mk_run_laws.specs.Lines.{Line, IsMoved}
 use Rattle.mk_run_laws.proofs.Stepping.{apart_is, not_empty}
 
 -- a poll that is pending parks its line
@@ -118,10 +117,3 @@ pub restless : (l : LinkNo) (entries : List LogEntry) → Each (IsOf l) entries 
 restless l [] all before after is = not_empty before after Rest is
 restless l (e ∷ entries) all [] after is = subst (λ (x : LogEntry). IsOf l x) (heads is).0 all.0
 restless l (e ∷ entries) all (b ∷ before) after is = restless l entries all.1 before after (heads is).1
-
--- a line that was flushed is stopped: all its last bytes were said, or the first of them before a write that took nothing or failed
-pub flushed_whole : (entries : List LogEntry) (risen : Type 0) (w : Line) → heard_on w.link entries ≡ [] → said_on w.link entries ≡ last_bytes w → IsStopped entries risen w
-flushed_whole entries risen w unheard all = record { unheard = unheard; said = ([], sym (append_nil (said_on w.link entries) ∙ all)); whole = inl all }
-
-pub flushed_part : (entries : List LogEntry) (risen : Type 0) (w : Line) (n : ℕ) → heard_on w.link entries ≡ [] → said_on w.link entries ≡ take n (last_bytes w) → (last_write w.link entries ≡ Some (NotSaid w.link)) ⊎ risen → IsStopped entries risen w
-flushed_part entries risen w n unheard some why = record { unheard = unheard; said = (drop n (last_bytes w), sym (ap (λ (b : List ℕ). b ++ drop n (last_bytes w)) some ∙ take-append-drop n (last_bytes w))); whole = inr why }

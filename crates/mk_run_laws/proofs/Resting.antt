@@ -157,6 +157,7 @@ module _ (started : ℕ) (S : Scenario) (replies : SetupReplies) (counts : (i : 
     pub well_at_rest : IsWellAtRest started S P J before
     well_at_rest = record {
       has_all = λ i l linked. ap (λ (A : List Entry). got A i) rest_is ∙ sym (heard_of_link i l linked);
+      replied = λ i inside. ap (λ (A : List Entry). (view P A).open_at i) rest_is ∙ r.replied i inside;
       nobody = λ i x ready. r.nobody i x (subst (λ (A : List Entry). IsReady P (view P A) i x) rest_is ready);
       said = λ i l linked. let t = r.line i l linked in subst (λ (A : List Entry). SaysAll l before (all_frames S i (sent A i))) (sym rest_is)
           (subst (λ (k : LinkNo). SaysAll k before (all_frames S i (sent r.at i))) t.1 (parked_said before (replies i ++ got r.at i) _ _ t.0 t.2 t.3));

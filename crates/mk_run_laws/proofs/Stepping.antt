@@ -197,7 +197,7 @@ module _ (started : ℕ) (S : Scenario) (replies : SetupReplies) (reply : Replie
   -- ---- the parts
 
   abbrev rest_longer : (J : List Entry) (e : Entry) (before : List LogEntry) (r : IsRestOf started S replies P J before) → IsRestOf started S replies P (J ++ e ∷ []) before
-  rest_longer J e before r = record { at = r.at; more = r.more ++ e ∷ []; parts = ap (λ (l : List Entry). l ++ e ∷ []) r.parts ∙ append_assoc r.at r.more (e ∷ []); nobody = r.nobody; line = r.line }
+  rest_longer J e before r = record { at = r.at; more = r.more ++ e ∷ []; parts = ap (λ (l : List Entry). l ++ e ∷ []) r.parts ∙ append_assoc r.at r.more (e ∷ []); nobody = r.nobody; replied = r.replied; line = r.line }
 
   begins_longer : (more : List Entry) (e : Entry) → BeginsOnLink started S more → BeginsOnLink started S (more ++ e ∷ [])
   begins_longer more e (s, m, later, l, is, linked) = (s, m, later ++ e ∷ [], l, ap (λ (k : List Entry). k ++ e ∷ []) is, linked)
@@ -256,7 +256,7 @@ module _ (started : ℕ) (S : Scenario) (replies : SetupReplies) (reply : Replie
           let text : item_text id item ≡ item_text (id_after n (sent J s.0)) item = text_same item id (id_after n (sent J s.0)) (λ takes. right w h.there takes ∙ next_is) in
           let after_is : id_after w.next (item ∷ []) ≡ id_after n (sent J s.0 ++ item ∷ []) = ap (λ (m : ℕ). id_after m (item ∷ [])) next_is ∙ ids_push n (sent J s.0) item in
           let at : IsLineAt log (replies s.0 ++ got J s.0) ((setup_payloads S s.0 ++ item_payloads n (sent J s.0)) ++ item_text id item ∷ []) (id_after w.next (item ∷ [])) (queued (item_text id item) (id_after w.next (item ∷ [])) w) =
-          line_queued log (replies s.0 ++ got J s.0) (setup_payloads S s.0 ++ item_payloads n (sent J s.0)) (id_after n (sent J s.0)) (id_after w.next (item ∷ [])) (item_text id item) w h.in_step in
+          line_queued log (replies s.0 ++ got J s.0) (setup_payloads S s.0 ++ item_payloads n (sent J s.0)) (id_after n (sent J s.0)) (id_after w.next (item ∷ [])) (item_text id item) w h.in_step sent_so.framed in
           let payloads_are : (setup_payloads S s.0 ++ item_payloads n (sent J s.0)) ++ item_text id item ∷ [] ≡ setup_payloads S s.0 ++ item_payloads n (sent J s.0 ++ item ∷ []) =
           append_assoc (setup_payloads S s.0) (item_payloads n (sent J s.0)) (item_text id item ∷ []) ∙ ap (λ (t : List ℕ). setup_payloads S s.0 ++ (item_payloads n (sent J s.0) ++ t ∷ [])) text
           ∙ ap (λ (ps : List (List ℕ)). setup_payloads S s.0 ++ ps) (sym (items_push n (sent J s.0) item)) in
@@ -331,14 +331,26 @@ module _ (started : ℕ) (S : Scenario) (replies : SetupReplies) (reply : Replie
   but_away : (s : ℕ) (awaits : ℕ → List Message) (i : ℕ) → (i ≡ s → ⊥) → but s awaits i ≡ awaits i
   but_away s awaits i n = ap (λ (b : Bool). if b then [] else awaits i) (apart_is i s n)
 
+  -- where no reply is kept, no request is open within the program
+  pub none_open : (J : List Entry) (log : List LogEntry) (C : CrewState) → IsRunning started S replies reply P J log C → C.kept ≡ [] → (i : ℕ) → is_within S i ≡ true → (view P J).open_at i ≡ None
+  none_open J log C run none i inside = go ((view P J).open_at i) (sym (run.kept i) ∙ ap (kept_of i) none)
+    where
+      go : (o : Option OpenTurn) → (if is_within S i && is_some o then reply i (map bare (sent J i)) ∷ [] else []) ≡ [] → o ≡ None
+      go None q = refl
+      go (Some t) q = absurd (not_nil (sym (ap (λ (b : Bool). if b && true then reply i (map bare (sent J i)) ∷ [] else []) inside) ∙ q))
+        where
+          not_nil : {X : Type 0} {x : X} {xs : List X} → x ∷ xs ≡ [] → ⊥
+          not_nil e = cc
+
   -- lines that were moved to a rest are in step with the journal
-  abbrev parked_rest : (J : List Entry) (log entries : List LogEntry) (C : CrewState) (run : IsRunning started S replies reply P J log C) → IsUnready P J → AreParkedAtRests entries C
+  abbrev parked_rest : (J : List Entry) (log entries : List LogEntry) (C : CrewState) (run : IsRunning started S replies reply P J log C) → IsUnready P J → C.kept ≡ [] → AreParkedAtRests entries C
       → (before after : List LogEntry) → entries ≡ before ++ Rest ∷ after → IsRestOf started S replies P J (log ++ before)
-  parked_rest J log entries C run nobody parked before after is = record {
+  parked_rest J log entries C run nobody none parked before after is = record {
     at = J;
     more = [];
     parts = sym (append_nil J);
     nobody = nobody;
+    replied = none_open J log C run none;
     line = λ i l linked. let h = run.lines i l linked in let t = parked before after is i h.line h.there in (
       t.0,
       t.1.link ∙ h.link,
@@ -352,10 +364,10 @@ module _ (started : ℕ) (S : Scenario) (replies : SetupReplies) (reply : Replie
   over_ends J log rests before after is up = let t = rests before after is up in (t.0, inr t.1)
 
   -- the run ends while a message was waited for, or it was heard and not taken
-  pub rests_at_end : (J : List Entry) (log entries : List LogEntry) (C : CrewState) (run : IsRunning started S replies reply P J log C) → IsUnready P J → AreParkedAtRests entries C → RestsEnd started S replies P J (log ++ entries)
-  rests_at_end J log entries C run nobody parked before after is up = elim (first_or_second log entries before after Rest is) [
+  pub rests_at_end : (J : List Entry) (log entries : List LogEntry) (C : CrewState) (run : IsRunning started S replies reply P J log C) → IsUnready P J → C.kept ≡ [] → AreParkedAtRests entries C → RestsEnd started S replies P J (log ++ entries)
+  rests_at_end J log entries C run nobody none parked before after is up = elim (first_or_second log entries before after Rest is) [
     | inl t ↦ over_ends J log run.rests before t.0 t.1 up
-    | inr t ↦ subst (λ (b : List LogEntry). (r : IsRestOf started S replies P J b) × ((r.more ≡ []) ⊎ BeginsOnLink started S r.more)) (sym t.1) (parked_rest J log entries C run nobody parked t.0 after t.2, inl refl)
+    | inr t ↦ subst (λ (b : List LogEntry). (r : IsRestOf started S replies P J b) × ((r.more ≡ []) ⊎ BeginsOnLink started S r.more)) (sym t.1) (parked_rest J log entries C run nobody none parked t.0 after t.2, inl refl)
   ]
 
   moved_there : (entries : List LogEntry) (given : List Message) (o p : Option Line) (w : Line) → o ≡ Some w → IsMovedAt entries given o p → (v : Line) × (p ≡ Some v) × IsMoved entries given w v
@@ -386,12 +398,12 @@ module _ (started : ℕ) (S : Scenario) (replies : SetupReplies) (reply : Replie
   same_lines i C D e = ap (λ (l : List (Option Line)). option_and_then (λ (o : Option Line). o) (slice_get l i)) e
 
   -- the rests so far, where a message of a link comes next
-  rests_heard : (J : List Entry) (log entries : List LogEntry) (C : CrewState) (s : SimNo) (m : Message) (l : LinkNo) (run : IsRunning started S replies reply P J log C) → IsUnready P J → AreParkedAtRests entries C
+  rests_heard : (J : List Entry) (log entries : List LogEntry) (C : CrewState) (s : SimNo) (m : Message) (l : LinkNo) (run : IsRunning started S replies reply P J log C) → IsUnready P J → C.kept ≡ [] → AreParkedAtRests entries C
       → sim_link started S s.0 ≡ Some l → RestsOver started S replies P (J ++ Got s m ∷ []) (log ++ entries)
-  rests_heard J log entries C s m l run nobody parked linked before after is up = elim (first_or_second log entries before after Rest is) [
+  rests_heard J log entries C s m l run nobody none parked linked before after is up = elim (first_or_second log entries before after Rest is) [
     | inl t ↦ rests_longer J (Got s m) log run.rests before t.0 t.1 up
     | inr t ↦ subst (λ (b : List LogEntry). (r : IsRestOf started S replies P (J ++ Got s m ∷ []) b) × BeginsOnLink started S r.more) (sym t.1)
-        (rest_longer J (Got s m) (log ++ t.0) (parked_rest J log entries C run nobody parked t.0 after t.2), (s, m, [], l, refl, linked))
+        (rest_longer J (Got s m) (log ++ t.0) (parked_rest J log entries C run nobody none parked t.0 after t.2), (s, m, [], l, refl, linked))
   ]
 
   -- the head of what was kept was awaited
@@ -463,7 +475,7 @@ module _ (started : ℕ) (S : Scenario) (replies : SetupReplies) (reply : Replie
       | inr apart ↦ sym (but_away s.0 (awaited S reply P J) i apart)
     ];
     kinds = kinds_got J s m (λ h. absurd (true≢false (sym h ∙ linked_out s.0 l.0 l.1))) run.kinds;
-    rests = rests_heard J log entries C s m l.0 run nobody parked l.1;
+    rests = rests_heard J log entries C s m l.0 run nobody none parked l.1;
   }
     where
       l : (l : LinkNo) × (sim_link started S s.0 ≡ Some l)

@@ -7,7 +7,7 @@ use Rattle.mk_plan.specs.Journals.{Arrival}
 use Rattle.mk_message.specs.Written.{item_text}
 use Rattle.mk_outside.specs.declared.fleet.LogEntry.{LogEntry}
 use Rattle.mk_outside.specs.declared.fleet.LogEntry.TheVariants.{Rest}
-use Rattle.mk_run_laws.specs.Payloads.{id_after}
+use Rattle.mk_run_laws.specs.Payloads.{IsFramed, id_after}
 use Rattle.mk_run_laws.specs.Lines.{Line, IsMoved, queued, IsStopped}
 
 -- the line of each simulator that has a link, and the replies of simulators within the program that
@@ -68,11 +68,13 @@ pub record IsUnheard (entries : List LogEntry) (old new : CrewState) : Type 0 wh
   pub moved : AreMoved entries (λ i. []) old new
   pub parked : AreParkedAtRests entries old
 
--- an item was queued on the line of simulator s, with the line's next id
+-- an item, whose payload a frame may have, was queued on the line of simulator s, with the line's next
+-- id
 pub record IsSentOnLink (s : ℕ) (item : Item) (id : ℕ) (old new : CrewState) : Type 0 where
   pub line : Line
   pub there : line_at old s ≡ Some line
   pub here : line_at new s ≡ Some (queued (item_text id item) (id_after line.next (item ∷ [])) line)
+  pub framed : IsFramed (item_text id item)
   pub others : (i : ℕ) → (i ≡ s → ⊥) → line_at new i ≡ line_at old i
   pub kept : new.kept ≡ old.kept
 

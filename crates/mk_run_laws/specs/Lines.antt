@@ -10,6 +10,7 @@ use Rattle.mk_outside.specs.declared.fleet.LogEntry.{LogEntry}
 use Rattle.mk_outside.specs.declared.fleet.LogEntry.TheVariants.{NotHeard, NotSaid}
 use Rattle.mk_outside.specs.Logs.{heard_on, said_on, last_read, last_write}
 use Rattle.mk_run_laws.specs.Hearing.{Takes}
+use Rattle.mk_run_laws.specs.Payloads.{AreFramed, IsFramed}
 
 -- the link, the bytes heard and not yet given, the bytes unsent, whether it is parked, and the next
 -- id
@@ -42,12 +43,13 @@ pub record IsMoved (entries : List LogEntry) (given : List Message) (old new : L
   pub taken : Takes (old.held ++ heard_on old.link entries) given new.held
   pub parked : new.parked ≡ true → IsParkedIn entries new ⊎ IsLeft entries old new
 
--- over the whole log the line gave these messages, these payloads were queued on it, and this is
--- the next id
+-- over the whole log the line gave these messages, these payloads, each of them one that a frame may
+-- have, were queued on it, and this is the next id
 pub record IsLineAt (log : List LogEntry) (messages : List Message) (payloads : List (List ℕ))
     (next : ℕ) (line : Line) : Type 0 where
   pub heard : Takes (heard_on line.link log) messages line.held
   pub said : said_on line.link log ++ line.unsent ≡ frames_of payloads
+  pub framed : AreFramed payloads
   pub next_id : line.next ≡ next
   pub parked : line.parked ≡ true → IsParkedIn log line
 
@@ -67,9 +69,11 @@ abbrev pub last_bytes : Line → List ℕ
 last_bytes line = line.unsent ++ frame_of (call_text line.next Stop)
 
 -- by these entries the line was stopped: nothing was heard, and a beginning of its last bytes was
--- said; all of them, but where a write took nothing or the count of faults rose
+-- said; all of them, but where a write took nothing or the count of faults rose; and a frame may have
+-- the stop's payload
 pub record IsStopped (entries : List LogEntry) (risen : Type 0) (line : Line) : Type 0 where
   pub unheard : heard_on line.link entries ≡ []
   pub said : BeginsWith (last_bytes line) (said_on line.link entries)
+  pub framed : IsFramed (call_text line.next Stop)
   pub whole : (said_on line.link entries ≡ last_bytes line)
       ⊎ ((last_write line.link entries ≡ Some (NotSaid line.link)) ⊎ risen)

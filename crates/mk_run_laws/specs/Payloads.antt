@@ -1,11 +1,21 @@
 -- The payloads of a run's items, and all that may be said on a link.
-use Rattle.std.specs.Prelude.{ℕ, ◌+◌, Bool, true, false, List, [], ◌∷◌, ◌++◌, length, take, filter}
+use Rattle.std.specs.Prelude.{ℕ, ◌+◌, ◌≤◌, Bool, true, false, List, [], ◌∷◌, ◌++◌, length, take, filter}
+use Rattle.mk_base.specs.Lists.{Each}
+use Rattle.mk_frame.specs.Frames.{limit}
 use Rattle.mk_plan.specs.declared.Call.TheVariants.{Stop}
 use Rattle.mk_plan.specs.declared.Item.{Item}
 use Rattle.mk_plan.specs.declared.Item.TheVariants.{Step, GetData, Answer, Refuse}
 use Rattle.mk_message.specs.Written.{item_text, call_text}
 use Rattle.mk_scenario.specs.declared.parts.Scenario.{Scenario}
 use Rattle.mk_run_laws.specs.Handshake.{setup_payloads}
+
+-- the payload is no longer than a frame's may be
+abbrev pub IsFramed : List ℕ → Type 0
+IsFramed payload = length payload ≤ limit
+
+-- and so is each of these
+abbrev pub AreFramed : List (List ℕ) → Type 0
+AreFramed payloads = Each IsFramed payloads
 
 -- the item takes an id of the link; an Answer and a Refuse carry that of the request they answer
 abbrev pub takes_id : Item → Bool

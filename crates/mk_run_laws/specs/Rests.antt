@@ -1,5 +1,5 @@
 -- What holds where a fleet waits.
-use Rattle.std.specs.Prelude.{◌≡◌, ℕ, zero, suc, ◌==◌, ◌≤◌, ◌⊎◌, List, [], ◌∷◌, ◌++◌, length, drop, filter_map, Option, Some, None, option_map, if◌then◌else◌}
+use Rattle.std.specs.Prelude.{◌≡◌, ℕ, zero, suc, ◌==◌, ◌≤◌, ◌⊎◌, true, List, [], ◌∷◌, ◌++◌, length, drop, filter_map, Option, Some, None, option_map, if◌then◌else◌}
 use Rattle.mk_base.specs.declared.LinkNo.{LinkNo}
 use Rattle.mk_base.specs.declared.tier.Tier.{Tier}
 use Rattle.mk_plan.specs.declared.Plan.{Plan}
@@ -15,7 +15,7 @@ use Rattle.mk_outside.specs.declared.fleet.LogEntry.{LogEntry}
 use Rattle.mk_outside.specs.declared.fleet.LogEntry.TheVariants.{NotHeard, NotSaid, Rest}
 use Rattle.mk_outside.specs.Logs.{heard_on, said_on, last_read, last_write}
 use Rattle.mk_run_laws.specs.Hearing.{messages_heard}
-use Rattle.mk_run_laws.specs.Handshake.{Request, setup_requests, call_to, call_payloads, setup_count, setup_payloads, sim_link}
+use Rattle.mk_run_laws.specs.Handshake.{Request, setup_requests, call_to, call_payloads, setup_count, setup_payloads, sim_link, is_within}
 use Rattle.mk_run_laws.specs.Payloads.{item_payloads}
 
 -- the numbers, with that of s as given
@@ -59,12 +59,15 @@ abbrev pub SaysAll : LinkNo → List LogEntry → List ℕ → Type 0
 SaysAll l log bytes = (said_on l log ≡ bytes)
     ⊎ (IsProperPrefix (said_on l log) bytes × (last_write l log ≡ Some (NotSaid l)))
 
--- where a run rests, J being its journal: what was there by then has all messages heard by then,
--- nobody is ready in it, all of its items were said, and nothing more had come
+-- where a run rests, J being its journal: what was there by then has all messages heard by then, and
+-- all replies of simulators within the program; nobody is ready in it, all of its items were said, and
+-- nothing more had come
 pub record IsWellAtRest (started : ℕ) (S : Scenario) (P : Plan) (J : List Entry)
     (before : List LogEntry) : Type 0 where
   pub has_all : (i : ℕ) (l : LinkNo) → sim_link started S i ≡ Some l
       → got (at_rest started S before J) i ≡ run_messages S before i l
+  pub replied : (i : ℕ) → is_within S i ≡ true
+      → (view P (at_rest started S before J)).open_at i ≡ None
   pub nobody : (i : ℕ) (x : Tier) → IsReady P (view P (at_rest started S before J)) i x → ⊥
   pub said : (i : ℕ) (l : LinkNo) → sim_link started S i ≡ Some l
       → SaysAll l before (all_frames S i (sent (at_rest started S before J) i))

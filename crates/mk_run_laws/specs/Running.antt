@@ -30,14 +30,15 @@ abbrev pub IsInStep : Scenario → SetupReplies → List LogEntry → ℕ → Li
 IsInStep S replies log i messages items w = IsLineAt log (replies i ++ messages) (setup_payloads S i
     ++ item_payloads (setup_count S i) items) (id_after (setup_count S i) items) w
 
--- when the fleet rested behind these entries, the journal was a beginning of J, nobody was ready,
--- and each line was parked, in step with that journal
+-- when the fleet rested behind these entries, the journal was a beginning of J, nobody was ready, no
+-- request was open within the program, and each line was parked, in step with that journal
 pub record IsRestOf (started : ℕ) (S : Scenario) (replies : SetupReplies) (P : Plan)
     (J : List Entry) (before : List LogEntry) : Type 0 where
   pub at : List Entry
   pub more : List Entry
   pub parts : J ≡ at ++ more
   pub nobody : (i : ℕ) (x : Tier) → IsReady P (view P at) i x → ⊥
+  pub replied : (i : ℕ) → is_within S i ≡ true → (view P at).open_at i ≡ None
   pub line : (i : ℕ) (l : LinkNo) → sim_link started S i ≡ Some l → (w : Line) × (w.link ≡ l)
       × (w.parked ≡ true) × IsInStep S replies before i (got at i) (sent at i) w
 

@@ -16,7 +16,7 @@ use Rattle.mk_outside.specs.declared.fleet.LogEntry.TheVariants.{NotSaid}
 use Rattle.mk_outside.specs.Logs.{heard_on, said_on, last_write}
 use Rattle.mk_run_laws.specs.Hearing.{messages_heard}
 use Rattle.mk_run_laws.specs.Handshake.{setup_count, sim_link, is_within}
-use Rattle.mk_run_laws.specs.Payloads.{link_payloads}
+use Rattle.mk_run_laws.specs.Payloads.{AreFramed, link_payloads}
 use Rattle.mk_run_laws.specs.Kinds.{Replies, AnswersByKind}
 use Rattle.mk_run_laws.specs.Rests.{run_messages}
 use Rattle.mk_run_laws.specs.Running.{SetupReplies}
@@ -43,19 +43,21 @@ run_frames S i items = frames_of (link_payloads S i (setup_count S i) items true
 
 -- the link of a run with the journal J: its first messages are the setup replies, those got are the
 -- first of the others; what was said is a beginning of the frames of the handshake, of these first
--- items of the journal, and of a stop, and all of it but where a write took nothing or the count of
--- faults rose
+-- items of the journal, and of a stop, each of them one that is allowed, and all of it but where a write
+-- took nothing or the count of faults rose
 pub record IsLinkOfRun (S : Scenario) (replies : SetupReplies) (J : List Entry)
     (log : List LogEntry) (risen : Type 0) (i : ℕ) (l : LinkNo) (items : List Item) : Type 0 where
   pub replied : take (setup_count S i) (messages_heard (heard_on l log)) ≡ replies i
   pub got : BeginsWith (run_messages S log i l) (got J i)
   pub items_sent : BeginsWith (sent J i) items
   pub said : BeginsWith (run_frames S i items) (said_on l log)
+  pub framed : AreFramed (link_payloads S i (setup_count S i) items true)
   pub whole : (said_on l log ≡ run_frames S i items)
       ⊎ ((last_write l log ≡ Some (NotSaid l)) ⊎ risen)
 
 -- the clause of a run on what is said to simulator i on its link, for every end of the call: a
--- beginning of the frames of the first requests of its handshake, of items, and of a stop; items
+-- beginning of the frames of the first requests of its handshake, of items, and of a stop, no payload
+-- being longer than a frame's may be; items
 -- only behind the whole handshake and where the plan is there, and these begin what sequential
 -- execution sends it
 pub record SaysRight (started : ℕ) (S : Scenario) (reply : Replies) (plan : Option Plan)
@@ -64,6 +66,7 @@ pub record SaysRight (started : ℕ) (S : Scenario) (reply : Replies) (plan : Op
   pub handshake : asked ≤ setup_count S i
   pub behind : (items ≡ []) ⊎ ((asked ≡ setup_count S i) × IsSome plan)
   pub said : BeginsWith (frames_of (link_payloads S i asked items stopped)) (said_on l log)
+  pub framed : AreFramed (link_payloads S i asked items stopped)
   pub as_executed : (P : Plan) → plan ≡ Some P → (R : Messages) → IsPossible started S reply P log R
       → i < sim_count P → BeginsWith (run_items P R i) (map bare items)
 

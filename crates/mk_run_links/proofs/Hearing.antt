@@ -23,11 +23,11 @@ use Rattle.mk_run_links.specs.declared.answers.Looked.TheVariants as looked
 use Rattle.mk_run_links.specs.Crews.{ArePending, HearsAs, TriesAs}
 use Rattle.mk_run_links.specs.Halts.{HeardOf, ShowsHalt}
 use Rattle.mk_run_links.specs.inner.OneLine.{unparked}
-use Rattle.mk_run_links.specs.Entries.{AreOfLinks, IsClockless}
-use Rattle.mk_run_links.specs.Places.{Lines, IsLinked, AreOpen, AreParked, at, crew}
+use Rattle.mk_run_links.specs.Entries.{AreOfLinks, AreOn}
+use Rattle.mk_run_links.specs.Places.{Lines, IsLineLink, IsLinked, AreOpen, AreParked, at, crew}
 use Rattle.mk_run_links.specs.inner.Looks.{AreWoken, LooksAs, ListensAs, RestsAs, listened_of}
 use Rattle.mk_run_links.proofs.Looking.{all_woken, left_alone, nothing_by}
-use Rattle.mk_run_links.proofs.OnEntries.{clockless_on, no_clock, no_rests, of_links_on}
+use Rattle.mk_run_links.proofs.OnEntries.{no_rests, of_links_on, of_others, on_more, on_these}
 
 -- ---- one look
 
@@ -57,6 +57,20 @@ pub open_still : (entries : List LogEntry) (L M : Lines) (open_links : List Link
 open_still entries L M open_links u all i v e =
     let b = moved_back entries [] (at L i) (at M i) v e (u.moved i) in
     subst (λ (k : LinkNo). IsIn k open_links) (sym b.2) (all i b.0 b.1)
+
+line_back : (entries : List LogEntry) (L M : Lines) → AreMoved entries (λ i. []) (crew L) (crew M) → (l : LinkNo) → IsLineLink M l → IsLineLink L l
+line_back entries L M moved l (i, v, there, same) = let b = moved_back entries [] (at L i) (at M i) v there (moved i) in (i, b.0, b.1, sym b.2 ∙ same)
+
+-- entries on the links of moved lines are on those of before
+these_back : (entries more : List LogEntry) (L M : Lines) → AreMoved entries (λ i. []) (crew L) (crew M) → AreOfLinks (IsLineLink M) more → AreOfLinks (IsLineLink L) more
+these_back entries more L M moved = of_others (IsLineLink M) (IsLineLink L) more (line_back entries L M moved)
+
+on_back : (entries more : List LogEntry) (L M : Lines) → AreMoved entries (λ i. []) (crew L) (crew M) → AreOfLinks (IsLineLink M) more → AreOn (IsLineLink L) more
+on_back entries more L M moved of = on_these (IsLineLink L) more (these_back entries more L M moved of)
+
+-- reads and writes are no rests
+pub restless_of : (L : Lines) (entries : List LogEntry) → AreOfLinks (IsLineLink L) entries → IsRestless entries
+restless_of L = no_rests (IsLineLink L)
 
 pub some_still : (entries : List LogEntry) (L M : Lines) → IsUnheard entries (crew L) (crew M) → ((i : ℕ) × IsLinked i L) → (i : ℕ) × IsLinked i M
 some_still entries L M u some = let w = some.1 in let m = moved_there entries [] (at L some.0) (at M some.0) w.0 w.1 (u.moved some.0) in (some.0, (m.0, m.1))
@@ -100,31 +114,34 @@ pub record Hush (L M : Lines) (old new : Option (List LogEntry)) : Type 0 where
   pub entries : List LogEntry
   pub adds : Adds entries old new
   pub unheard : IsUnheard entries (crew L) (crew M)
-  pub on_links : AreOfLinks entries
+  pub on_links : AreOfLinks (IsLineLink L) entries
 
 pub hush_begins : (L : Lines) (log : Option (List LogEntry)) → Adds [] log log → Hush L L log log
 hush_begins L log adds = record { entries = []; adds = adds; unheard = unheard_is [] L L (left_alone (crew L)).0 (no_rest (crew L)); on_links = (left_alone (crew L)).1 }
+
+these_after : (a b : List LogEntry) (L M : Lines) → IsUnheard a (crew L) (crew M) → AreOfLinks (IsLineLink L) a → AreOfLinks (IsLineLink M) b → AreOfLinks (IsLineLink L) (a ++ b)
+these_after a b L M u one two = of_links_on (IsLineLink L) a b one (these_back a b L M u.moved two)
 
 pub hush_goes_on : (L M N : Lines) (old mid new : Option (List LogEntry)) (more : List LogEntry) → Hush L M old mid → Adds more mid new → LooksAs looked.Parked more M N → Hush L N old new
 hush_goes_on L M N old mid new more h adds l = record {
   entries = h.entries ++ more;
   adds = adds_more h.entries more old mid new h.adds adds;
-  unheard = unheard_on h.entries more L M N h.unheard (unheard_is more M N l.0 (unrested more (crew M) (no_rests more l.1)));
-  on_links = of_links_on h.entries more h.on_links l.1;
+  unheard = unheard_on h.entries more L M N h.unheard (unheard_is more M N l.0 (unrested more (crew M) (restless_of M more l.1)));
+  on_links = these_after h.entries more L M h.unheard h.on_links l.1;
 }
 
 module _ (L M N : Lines) (old mid new : Option (List LogEntry)) (more : List LogEntry) (hush : Hush L M old mid) (adds : Adds more mid new) where
   all_adds : Adds (hush.entries ++ more) old new
   all_adds = adds_more hush.entries more old mid new hush.adds adds
 
-  nothing_came : (i : SimNo) → AreMoved more (λ j. []) (crew M) (crew N) → AreOfLinks more → IsUnheard (hush.entries ++ more) (crew L) (crew N) × AreOfLinks (hush.entries ++ more)
-  nothing_came i moved on_links = (unheard_on hush.entries more L M N hush.unheard (unheard_is more M N moved (unrested more (crew M) (no_rests more on_links))), of_links_on hush.entries more hush.on_links on_links)
+  nothing_came : (i : SimNo) → AreMoved more (λ j. []) (crew M) (crew N) → AreOfLinks (IsLineLink M) more → IsUnheard (hush.entries ++ more) (crew L) (crew N) × AreOfLinks (IsLineLink L) (hush.entries ++ more)
+  nothing_came i moved on_links = (unheard_on hush.entries more L M N hush.unheard (unheard_is more M N moved (unrested more (crew M) (restless_of M more on_links))), these_after hush.entries more L M hush.unheard hush.on_links on_links)
 
   pub hush_heard : (i : SimNo) (h : Heard) → LooksAs (looked.Heard i h) more M N → (entries : List LogEntry) × Adds entries old new × ListensAs (listened_of i h) entries L N
   hush_heard i (heard.Message m) l = (
     hush.entries ++ more,
     all_adds,
-    (heard_on_link hush.entries more i.0 m L M N hush.unheard (on_link refl refl l.2.0 l.2.1 l.0 (unrested more (crew M) (no_rests more l.1))), of_links_on hush.entries more hush.on_links l.1),
+    (heard_on_link hush.entries more i.0 m L M N hush.unheard (on_link refl refl l.2.0 l.2.1 l.0 (unrested more (crew M) (restless_of M more l.1))), these_after hush.entries more L M hush.unheard hush.on_links l.1),
   )
   hush_heard i (heard.Garbled t) l = let n = nothing_came i (nothing_by more i.0 (crew M) (crew N) l.0) l.1 in (hush.entries ++ more, all_adds, (n.0, n.1, shows_later (halt.Garbled i t) hush.entries more N l.3))
   hush_heard i (heard.TooLong k) l = let n = nothing_came i (nothing_by more i.0 (crew M) (crew N) l.0) l.1 in (hush.entries ++ more, all_adds, (n.0, n.1, shows_later (halt.LongFrame i k) hush.entries more N l.3))
@@ -149,33 +166,33 @@ pub record Silence (L M : Lines) (old new : Option (List LogEntry)) : Type 0 whe
   pub entries : List LogEntry
   pub adds : Adds entries old new
   pub unheard : IsUnheard entries (crew L) (crew M)
-  pub clockless : IsClockless entries
+  pub on_links : AreOn (IsLineLink L) entries
 
 pub no_sound : (L : Lines) (log : Option (List LogEntry)) → Adds [] log log → Silence L L log log
-no_sound L log adds = record { entries = []; adds = adds; unheard = unheard_is [] L L (left_alone (crew L)).0 (no_rest (crew L)); clockless = tt }
+no_sound L log adds = record { entries = []; adds = adds; unheard = unheard_is [] L L (left_alone (crew L)).0 (no_rest (crew L)); on_links = tt }
 
 pub silence_heard : (L M N : Lines) (old mid new : Option (List LogEntry)) (more : List LogEntry) (i : SimNo) (m : Message) → Silence L M old mid → Adds more mid new → ListensAs (listened.Message i m) more M N
-    → (entries : List LogEntry) × Adds entries old new × HearsAs (Ok (i, m)) entries L N × IsClockless entries
-silence_heard L M N old mid new more i m s adds l = (s.entries ++ more, adds_more s.entries more old mid new s.adds adds, heard_on_link s.entries more i.0 m L M N s.unheard l.0, clockless_on s.entries more s.clockless (no_clock more l.1))
+    → (entries : List LogEntry) × Adds entries old new × HearsAs (Ok (i, m)) entries L N × AreOn (IsLineLink L) entries
+silence_heard L M N old mid new more i m s adds l = (s.entries ++ more, adds_more s.entries more old mid new s.adds adds, heard_on_link s.entries more i.0 m L M N s.unheard l.0, on_more (IsLineLink L) s.entries more s.on_links (on_back s.entries more L M s.unheard.moved l.1))
 
 pub silence_halted : (L M N : Lines) (old mid new : Option (List LogEntry)) (more : List LogEntry) (h : LinkHalt) → Silence L M old mid → Adds more mid new → ListensAs (listened.Halted h) more M N
-    → (entries : List LogEntry) × Adds entries old new × HearsAs (Err h) entries L N × IsClockless entries
-silence_halted L M N old mid new more h s adds l = (s.entries ++ more, adds_more s.entries more old mid new s.adds adds, (unheard_on s.entries more L M N s.unheard l.0, shows_later h s.entries more N l.2), clockless_on s.entries more s.clockless (no_clock more l.1))
+    → (entries : List LogEntry) × Adds entries old new × HearsAs (Err h) entries L N × AreOn (IsLineLink L) entries
+silence_halted L M N old mid new more h s adds l = (s.entries ++ more, adds_more s.entries more old mid new s.adds adds, (unheard_on s.entries more L M N s.unheard l.0, shows_later h s.entries more N l.2), on_more (IsLineLink L) s.entries more s.on_links (on_back s.entries more L M s.unheard.moved l.1))
 
 -- a rest comes where all lines are parked
 rested : (M N O : Lines) (a : List LogEntry) → ListensAs listened.Quiet a M N → AreMoved (Rest ∷ []) (λ i. []) (crew N) (crew O) → IsUnheard (a ++ Rest ∷ []) (crew M) (crew O)
-rested M N O a l moved = unheard_is (a ++ Rest ∷ []) M O (moved_on a (Rest ∷ []) (λ i. []) (λ i. []) (crew M) (crew N) (crew O) l.0.moved moved) (parked_rested a (crew M) (crew N) (unrested a (crew M) (no_rests a l.1)) l.0.moved l.2)
+rested M N O a l moved = unheard_is (a ++ Rest ∷ []) M O (moved_on a (Rest ∷ []) (λ i. []) (λ i. []) (crew M) (crew N) (crew O) l.0.moved moved) (parked_rested a (crew M) (crew N) (unrested a (crew M) (restless_of M a l.1)) l.0.moved l.2)
 
 pub silence_goes_on : (L M N O : Lines) (old mid late new : Option (List LogEntry)) (a b : List LogEntry) → Silence L M old mid → Adds a mid late → ListensAs listened.Quiet a M N → Adds b late new → RestsAs (Ok tt) b N O → Silence L O old new
 silence_goes_on L M N O old mid late new a b s adds l more r = record {
   entries = s.entries ++ (a ++ b);
   adds = adds_more s.entries (a ++ b) old mid new s.adds (adds_more a b mid late new adds more);
   unheard = unheard_on s.entries (a ++ b) L M O s.unheard (subst (λ (x : List LogEntry). IsUnheard (a ++ x) (crew M) (crew O)) (sym r.0) (rested M N O a l r.1));
-  clockless = clockless_on s.entries (a ++ b) s.clockless (clockless_on a b (no_clock a l.1) (subst IsClockless (sym r.0) (tt, tt)));
+  on_links = on_more (IsLineLink L) s.entries (a ++ b) s.on_links (on_more (IsLineLink L) a b (on_back s.entries a L M s.unheard.moved l.1) (subst (AreOn (IsLineLink L)) (sym r.0) (tt, tt)));
 }
 
 pub silence_unrested : (L M N O : Lines) (old mid late new : Option (List LogEntry)) (a b : List LogEntry) (h : LinkHalt) → Silence L M old mid → Adds a mid late → ListensAs listened.Quiet a M N → Adds b late new → RestsAs (Err h) b N O
-    → (entries : List LogEntry) × Adds entries old new × HearsAs (Err h) entries L O × IsClockless entries
+    → (entries : List LogEntry) × Adds entries old new × HearsAs (Err h) entries L O × AreOn (IsLineLink L) entries
 silence_unrested L M N O old mid late new a b h s adds l more r = (
   s.entries ++ (a ++ b),
   adds_more s.entries (a ++ b) old mid new s.adds (adds_more a b mid late new adds more),
@@ -183,14 +200,14 @@ silence_unrested L M N O old mid late new a b h s adds l more r = (
     unheard_on s.entries (a ++ b) L M O s.unheard (subst (λ (x : List LogEntry). IsUnheard x (crew M) (crew O)) (sym none) (subst (λ (X : Lines). IsUnheard a (crew M) (crew X)) (sym r.1) l.0)),
     shows_later h s.entries (a ++ b) O (shows_later h a b O (subst (λ (x : List LogEntry). ShowsHalt h x O) (sym r.0) r.2)),
   ),
-  clockless_on s.entries (a ++ b) s.clockless (clockless_on a b (no_clock a l.1) (subst IsClockless (sym r.0) tt)),
+  on_more (IsLineLink L) s.entries (a ++ b) s.on_links (on_more (IsLineLink L) a b (on_back s.entries a L M s.unheard.moved l.1) (subst (AreOn (IsLineLink L)) (sym r.0) tt)),
 )
   where
     none : a ++ b ≡ a
     none = ap (λ (x : List LogEntry). a ++ x) r.0 ∙ append_nil a
 
 pub open_parked : (a : List LogEntry) (M N : Lines) (open_links : List LinkNo) → LooksAs looked.Parked a M N → AreOpen M open_links → AreOpen N open_links
-open_parked a M N open_links l all = open_still a M N open_links (unheard_is a M N l.0 (unrested a (crew M) (no_rests a l.1))) all
+open_parked a M N open_links l all = open_still a M N open_links (unheard_is a M N l.0 (unrested a (crew M) (restless_of M a l.1))) all
 
 pub open_quiet : (a : List LogEntry) (M N : Lines) (open_links : List LinkNo) → ListensAs listened.Quiet a M N → AreOpen M open_links → AreOpen N open_links
 open_quiet a M N open_links l all = open_still a M N open_links l.0 all
@@ -205,10 +222,10 @@ module _ (L M N : Lines) (woken : AreWoken L M) (entries : List LogEntry) where
   begun = unheard_is [] L M (all_woken L M woken) (no_rest (crew L))
 
   pub tried_heard : (i : SimNo) (m : Message) → ListensAs (listened.Message i m) entries M N → TriesAs (Ok (Some (i, m))) entries L N
-  tried_heard i m l = (heard_on_link [] entries i.0 m L M N begun l.0, l.1)
+  tried_heard i m l = (heard_on_link [] entries i.0 m L M N begun l.0, these_back [] entries L M begun.moved l.1)
 
   pub tried_halted : (h : LinkHalt) → ListensAs (listened.Halted h) entries M N → TriesAs (Err h) entries L N
-  tried_halted h l = (unheard_on [] entries L M N begun l.0, l.1, l.2)
+  tried_halted h l = (unheard_on [] entries L M N begun l.0, these_back [] entries L M begun.moved l.1, l.2)
 
   moved_from : (o p : Option Line) (w : Line) → p ≡ Some w → IsMovedAt entries [] o p → (v : Line) × (o ≡ Some v) × IsMoved entries [] v w
   moved_from o None w e moved = absurd (none_some e)
@@ -220,7 +237,7 @@ module _ (L M N : Lines) (woken : AreWoken L M) (entries : List LogEntry) where
   awake (Some u) v e = ap (λ (w : Line). w.parked) (sym (some_same e))
 
   pub tried_none : ListensAs listened.Quiet entries M N → TriesAs (Ok None) entries L N
-  tried_none l = (unheard_on [] entries L M N begun l.0, l.1, looked_at)
+  tried_none l = (unheard_on [] entries L M N begun l.0, these_back [] entries L M begun.moved l.1, looked_at)
     where
       looked_at : ArePending entries N
       looked_at i w there =

@@ -4,6 +4,6 @@ mod Linking
 mod Looking
 pub mod OnEntries
 mod OnLines
-mod OnStops
+pub mod OnStops
 mod Sending
 mod Standing

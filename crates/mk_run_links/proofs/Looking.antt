@@ -17,17 +17,17 @@ use Rattle.mk_outside.specs.declared.fleet.LogEntry.TheVariants.{Rest}
 use Rattle.mk_run_laws.proofs.Greeting.{moved_one}
 use Rattle.mk_run_links.specs.inner.OneLine.{given_in, link_of, PollsAt, unparked}
 use Rattle.mk_run_links.specs.Entries.{AreOfLinks}
-use Rattle.mk_run_links.specs.Places.{Lines, IsSet, at, crew}
+use Rattle.mk_run_links.specs.Places.{IsLineLink, Lines, IsSet, at, crew}
 use Rattle.mk_run_links.specs.inner.Looks.{AreWoken, IsWokenAt, only_by, LooksAs}
 use Rattle.mk_run_links.specs.inner.Standing.{AreApart}
 use Rattle.mk_run_links.proofs.OnEntries.{of_link}
 
 -- one line is moved, and all others stand
-pub polled_moved : (answer : Polled) (s : ℕ) (L M : Lines) (entries : List LogEntry) → AreApart L → PollsAt answer s L entries M → AreMoved entries (only_by s (given_in answer)) (crew L) (crew M) × AreOfLinks entries
+pub polled_moved : (answer : Polled) (s : ℕ) (L M : Lines) (entries : List LogEntry) → AreApart L → PollsAt answer s L entries M → AreMoved entries (only_by s (given_in answer)) (crew L) (crew M) × AreOfLinks (IsLineLink L) entries
 polled_moved answer s L M entries apart p = (
   moved_one entries (given_in answer) (crew L) (crew M) s p.line p.after p.set.there p.set.here p.set.others p.polled.moved
       (λ i u away e. foreign (p.line).link u.link (λ q. away (apart i s u p.line e p.set.there (sym q))) entries p.polled.on_link),
-  of_link (p.line).link entries p.polled.on_link,
+  of_link (IsLineLink L) (p.line).link entries (s, p.line, p.set.there, refl) p.polled.on_link,
 )
 
 -- where simulator s gave nothing, nobody did
@@ -39,7 +39,7 @@ left_at None = tt
 left_at (Some w) = line_left [] w (record { unheard = refl; unsaid = refl; unread = refl; unwritten = refl })
 
 -- without entries all lines stand
-pub left_alone : (C : CrewState) → AreMoved [] (λ i. []) C C × AreOfLinks []
+pub left_alone : (C : CrewState) → AreMoved [] (λ i. []) C C × AreOfLinks (λ l. ⊥) []
 left_alone C = ((λ i. left_at (line_at C i)), tt)
 
 -- what came of a look, from what came of the poll

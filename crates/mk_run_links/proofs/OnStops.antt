@@ -12,6 +12,7 @@ use Rattle.mk_outside.specs.declared.fleet.LogEntry.TheVariants.{Rest, NotSaid}
 use Rattle.mk_outside.specs.Counts.{HasRisen}
 use Rattle.mk_outside.specs.Logs.{Adds, heard_on, said_on, is_read, is_write}
 use Rattle.mk_outside.proofs.OnLogs.{adds_more}
+use Rattle.mk_run_laws.specs.Payloads.{IsFramed}
 use Rattle.mk_run_laws.specs.Lines.{Line, IsStopped}
 use Rattle.mk_run_laws.specs.Crews.{IsRestless}
 use Rattle.mk_run_laws.proofs.Moving.{heard_more, said_more, last_later, last_kept}
@@ -19,11 +20,11 @@ use Rattle.mk_run_laws.proofs.Polling.{IsForeign, foreign, restless}
 use Rattle.mk_run_laws.proofs.Stepping.{first_or_second, not_empty, same_or_not}
 use Rattle.mk_run_links.specs.Crews.{StopsAll}
 use Rattle.mk_run_links.specs.inner.OneLine.{FlushesLine, StopsLine, StopsAt}
-use Rattle.mk_run_links.specs.Entries.{IsClockless}
-use Rattle.mk_run_links.specs.Places.{Lines, at}
+use Rattle.mk_run_links.specs.Entries.{AreOn}
+use Rattle.mk_run_links.specs.Places.{IsLineLink, Lines, at}
 use Rattle.mk_run_links.specs.inner.Standing.{AreApart}
 use Rattle.mk_run_links.proofs.Linking.{place_is}
-use Rattle.mk_run_links.proofs.OnEntries.{clockless_on, no_clock, of_link}
+use Rattle.mk_run_links.proofs.OnEntries.{of_link, on_more, on_these}
 
 -- ---- the frame
 
@@ -43,12 +44,16 @@ frame_is id digits header one two three four t h a b c d =
     ∙ ap (λ (x : List ℕ). header ++ x) (sym (stop_text id))
     ∙ ap (λ (x : List ℕ). x ++ call_text id Stop) (h ∙ ap (λ (x : List ℕ). big_bytes 4 (19 + length x)) t ∙ ap (big_bytes 4) (sym (stop_length id)))
 
+-- its payload is one that a frame may have
+pub framed_is : (id : ℕ) (digits : List ℕ) → digits ≡ decimal id → length digits ≤ 40 → IsFramed (call_text id Stop)
+framed_is id digits t few = let e = stop_length id in let d = ap length t in omega (arith, e, d, few)
+
 -- ---- one line
 
-pub stops_line : (w : Line) (last : List ℕ) (risen : Type 0) (entries : List LogEntry) → FlushesLine w last risen entries → last ≡ frame_of (call_text w.next Stop) → StopsLine w risen entries
-stops_line w last risen entries f is =
+pub stops_line : (w : Line) (last : List ℕ) (risen : Type 0) (entries : List LogEntry) → FlushesLine w last risen entries → last ≡ frame_of (call_text w.next Stop) → IsFramed (call_text w.next Stop) → StopsLine w risen entries
+stops_line w last risen entries f is one =
     let g = subst (λ (b : List ℕ). FlushesLine w b risen entries) is f in
-    record { on_link = g.on_link; stopped = record { unheard = g.unheard; said = g.said; whole = g.whole } }
+    record { on_link = g.on_link; stopped = record { unheard = g.unheard; said = g.said; framed = one; whole = g.whole } }
 
 -- ---- lines one after another
 
@@ -59,7 +64,7 @@ pub record Stopping (k : ℕ) (L : Lines) (risen : Type 0) (old new : Option (Li
   pub done : (i : ℕ) (w : Line) → i < k → at L i ≡ Some w → IsStopped entries risen w
   pub left : (i : ℕ) (w : Line) → k ≤ i → at L i ≡ Some w → IsForeign w.link entries
   pub restless : IsRestless entries
-  pub clockless : IsClockless entries
+  pub on_links : AreOn (IsLineLink L) entries
 
 pub risen_on : (a b c : ℕ) → a ≤ b → b ≤ c → HasRisen b c → HasRisen a c
 risen_on a b c ab bc (inl less) = inl (omega (arith, ab, less))
@@ -84,6 +89,7 @@ stopped_before a b p q w on st f =
     record {
       unheard = heard_more w.link a b ∙ ap (λ (x : List ℕ). x ++ heard_on w.link b) st.unheard ∙ f.unheard;
       said = (st.said.0, st.said.1 ∙ ap (λ (x : List ℕ). x ++ st.said.0) (sym same));
+      framed = st.framed;
       whole = elim st.whole [
         | inl all ↦ inl (same ∙ all)
         | inr (inl not) ↦ inr (inl (last_kept (is_write w.link) a b f.unwritten ∙ not))
@@ -98,6 +104,7 @@ stopped_behind a b p q w on f st =
     record {
       unheard = heard_more w.link a b ∙ ap (λ (x : List ℕ). x ++ heard_on w.link b) f.unheard ∙ st.unheard;
       said = (st.said.0, st.said.1 ∙ ap (λ (x : List ℕ). x ++ st.said.0) (sym same));
+      framed = st.framed;
       whole = elim st.whole [
         | inl all ↦ inl (same ∙ all)
         | inr (inl not) ↦ inr (inl (last_later (is_write w.link) a b (NotSaid w.link) not))
@@ -115,17 +122,17 @@ nobody : (k : LinkNo) → IsForeign k []
 nobody k = record { unheard = refl; unsaid = refl; unread = refl; unwritten = refl }
 
 -- what a stop at one place says of the other lines
-apart_from : (k : ℕ) (L : Lines) (risen : Type 0) (more : List LogEntry) → AreApart L → StopsAt k L risen more → (o : Option Line) → at L k ≡ o → ((i : ℕ) (u : Line) → (i ≡ k → ⊥) → at L i ≡ Some u → IsForeign u.link more) × IsRestless more × IsClockless more
+apart_from : (k : ℕ) (L : Lines) (risen : Type 0) (more : List LogEntry) → AreApart L → StopsAt k L risen more → (o : Option Line) → at L k ≡ o → ((i : ℕ) (u : Line) → (i ≡ k → ⊥) → at L i ≡ Some u → IsForeign u.link more) × IsRestless more × AreOn (IsLineLink L) more
 apart_from k L risen more apart st None e = (
   (λ i u away there. subst (IsForeign u.link) (sym (st.none e)) (nobody u.link)),
   subst IsRestless (sym (st.none e)) (λ before after is. not_empty before after Rest is),
-  subst IsClockless (sym (st.none e)) tt,
+  subst (AreOn (IsLineLink L)) (sym (st.none e)) tt,
 )
 apart_from k L risen more apart st (Some w) e =
     let s = st.some w e in (
       (λ i u away there. foreign w.link u.link (λ q. away (apart i k u w there e (sym q))) more s.on_link),
       restless w.link more s.on_link,
-      no_clock more (of_link w.link more s.on_link),
+      on_these (IsLineLink L) more (of_link (IsLineLink L) w.link more (k, w, e, refl) s.on_link),
     )
 
 pub stops_one_more : (k : ℕ) (L : Lines) (p q r : Type 0) (old mid new : Option (List LogEntry)) (more : List LogEntry) → AreApart L → (p → r) → (q → r) → Stopping k L p old mid → Adds more mid new → StopsAt k L q more → Stopping (k + 1) L r old new
@@ -140,7 +147,7 @@ stops_one_more k L p q r old mid new more apart pr qr s adds st =
       ];
       left = λ i w le e. both s.entries more w.link (s.left i w (omega (arith, le)) e) (a.0 i w (λ same. above i le same) e);
       restless = restless_more s.entries more s.restless a.1;
-      clockless = clockless_on s.entries more s.clockless a.2;
+      on_links = on_more (IsLineLink L) s.entries more s.on_links a.2;
     }
   where
     below : (i : ℕ) → (i ≡ k → ⊥) → i < k + 1 → i < k
@@ -156,7 +163,7 @@ none_stopped L p log adds = record {
   done = λ i w less e. absurd (none_below i less);
   left = λ i w le e. nobody w.link;
   restless = λ before after is. not_empty before after Rest is;
-  clockless = tt;
+  on_links = tt;
 }
   where
     none_below : (i : ℕ) → i < 0 → ⊥
@@ -170,7 +177,7 @@ below_length : (L : Lines) (i : ℕ) (w : Line) → at L i ≡ Some w → i < le
 below_length L i w e = (get_is L i (Some w) (place_is (slice_get L i) w e)).0
 
 pub all_stopped : (k n : ℕ) (L : Lines) (risen : Type 0) (old new : Option (List LogEntry)) → Stopping k L risen old new → n ≡ length L → n ≤ k → (entries : List LogEntry) × Adds entries old new × StopsAll entries risen L
-all_stopped k n L risen old new s is over = (s.entries, s.adds, ((λ i w e. let below = below_length L i w e in s.done i w (omega (arith, below, is, over)) e), s.restless, s.clockless))
+all_stopped k n L risen old new s is over = (s.entries, s.adds, ((λ i w e. let below = below_length L i w e in s.done i w (omega (arith, below, is, over)) e), s.restless, s.on_links))
 
 pub none_at : (L : Lines) (i : ℕ) (x : Option Line) → i < length L → x ≡ get_or L i x → x ≡ None → at L i ≡ None
 none_at L i x less is none = ap (λ (q : Option (Option Line)). option_and_then (λ (r : Option Line). r) q) (slice_get_read L (length L) i x refl less is ∙ ap Some none)

@@ -1,17 +1,17 @@
 -- An item that is queued, with its id.
-use Rattle.std.proofs.Common.{◌≡◌, ℕ, List, [], ◌∷◌, length, Some, refl, sym, ap, ◌∙◌}
+use Rattle.std.proofs.Common.{◌≡◌, ℕ, List, [], ◌∷◌, length, Some, refl, sym, ap, ◌∙◌, subst}
 use Rattle.mk_base.proofs.Lists.{some_same}
 use Rattle.mk_plan.specs.declared.Item.{Item}
 use Rattle.mk_message.specs.Written.{item_text}
 use Rattle.mk_run_laws.specs.Lines.{Line, queued}
 use Rattle.mk_run_laws.specs.Crews.{IsSentOnLink}
-use Rattle.mk_run_laws.specs.Payloads.{id_after}
+use Rattle.mk_run_laws.specs.Payloads.{IsFramed, id_after}
 use Rattle.mk_run_links.specs.Crews.{IsLengthOf}
 use Rattle.mk_run_links.specs.Places.{Lines, IsSet, at, crew}
 
-pub sent_on_link : (s : ℕ) (item : Item) (id next : ℕ) (payload : List ℕ) (L M : Lines) → ((w : Line) × (at L s ≡ Some w) × (w.next ≡ id)) → next ≡ id_after id (item ∷ []) → payload ≡ item_text id item → ((w : Line) × IsSet s w (queued payload next w) L M)
+pub sent_on_link : (s : ℕ) (item : Item) (id next : ℕ) (payload : List ℕ) (L M : Lines) → ((w : Line) × (at L s ≡ Some w) × (w.next ≡ id)) → next ≡ id_after id (item ∷ []) → payload ≡ item_text id item → ((w : Line) × IsSet s w (queued payload next w) L M) → IsFramed payload
     → (w : Line) × (at L s ≡ Some w) × IsSentOnLink s item w.next (crew L) (crew M)
-sent_on_link s item id next payload L M here behind text set =
+sent_on_link s item id next payload L M here behind text set one =
     let w = set.0 in
     let same : id ≡ w.next = sym here.2 ∙ ap (λ (x : Line). x.next) (some_same (sym here.1 ∙ set.1.there)) in (
       w,
@@ -21,6 +21,7 @@ sent_on_link s item id next payload L M here behind text set =
         there = set.1.there;
         here = set.1.here ∙ ap (λ (p : List ℕ). Some (queued p next w)) (text ∙ ap (λ (n : ℕ). item_text n item) same)
             ∙ ap (λ (n : ℕ). Some (queued (item_text w.next item) n w)) (behind ∙ ap (λ (n : ℕ). id_after n (item ∷ [])) same);
+        framed = subst IsFramed (text ∙ ap (λ (n : ℕ). item_text n item) same) one;
         others = set.1.others;
         kept = refl;
       },

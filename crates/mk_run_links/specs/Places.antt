@@ -21,6 +21,10 @@ at lines i = option_and_then (λ (o : Option Line). o) (slice_get lines i)
 abbrev pub IsLinked : ℕ → Lines → Type 0
 IsLinked i lines = (w : Line) × (at lines i ≡ Some w)
 
+-- the link is that of a line
+abbrev pub IsLineLink : Lines → LinkNo → Type 0
+IsLineLink lines link = (i : ℕ) × (w : Line) × (at lines i ≡ Some w) × (w.link ≡ link)
+
 -- the line of simulator s was w and is v, and all others stand
 pub record IsSet (s : ℕ) (w v : Line) (old new : Lines) : Type 0 where
   pub there : at old s ≡ Some w

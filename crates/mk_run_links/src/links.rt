@@ -11,8 +11,8 @@ ghost use Rattle.mk_run_laws.specs.Crews.{AreMoved, IsSentOnLink};
 ghost use Rattle.mk_run_laws.specs.Payloads.{id_after};
 ghost use Rattle.mk_run_links.specs.Crews.{HearsAs, IsLengthOf, StopsAll, TriesAs};
 ghost use Rattle.mk_run_links.specs.Halts.{lasting, lasting_halt};
-ghost use Rattle.mk_run_links.specs.Entries.{IsClockless};
-ghost use Rattle.mk_run_links.specs.Places.{AreDistinct, AreOpen, IsLinked, IsSet, at, crew, new_line, new_lines};
+ghost use Rattle.mk_run_links.specs.Entries.{AreOn};
+ghost use Rattle.mk_run_links.specs.Places.{AreDistinct, AreOpen, IsLineLink, IsLinked, IsSet, at, crew, new_line, new_lines};
 ghost use Rattle.mk_run_links.specs.inner.Looks.{AreWoken, IsWokenAt, ListensAs, LooksAs, RestsAs, listened_of};
 ghost use Rattle.mk_run_links.specs.inner.Standing.{Stands};
 
@@ -350,7 +350,8 @@ impl Links {
         ensures same_links { F.open_links fleet.new ≡ F.open_links fleet.old }
         ensures same_halt { self.new.halt ≡ self.old.halt }
         ensures heard { (entries : List LogEntry) × Adds entries (F.log fleet.old) (F.log fleet.new)
-            × HearsAs result entries self.old.lines self.new.lines × IsClockless entries }
+            × HearsAs result entries self.old.lines self.new.lines
+            × AreOn (IsLineLink self.old.lines) entries }
     {
         for _ in rt.forever() {
             match self.listen(fleet) {
@@ -406,7 +407,8 @@ impl Links {
         ensures lasts { self.old.halt ≡ None → self.new.halt ≡ lasting result }
         ensures heard { self.old.halt ≡ None → (entries : List LogEntry)
             × Adds entries (F.log fleet.old) (F.log fleet.new)
-            × HearsAs result entries self.old.lines self.new.lines × IsClockless entries }
+            × HearsAs result entries self.old.lines self.new.lines
+            × AreOn (IsLineLink self.old.lines) entries }
     {
         if let Some(halt) = self.halt {
             return Err(halt);

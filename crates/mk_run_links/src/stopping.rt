@@ -3,6 +3,7 @@ ghost use Rattle.std.specs.Prelude.{◌≡◌, ◌+◌, ◌≤◌, ◌++◌, len
 ghost use Rattle.mk_frame.specs.Frames.{frame_of};
 ghost use Rattle.mk_message.specs.Written.{call_text};
 ghost use Rattle.mk_plan.specs.declared.Call.TheVariants.{Stop};
+ghost use Rattle.mk_run_laws.specs.Payloads.{IsFramed};
 
 use arrayvec::ArrayVec;
 use byteorder::{BigEndian, ByteOrder};
@@ -20,7 +21,8 @@ fn put(frame: &mut ArrayVec<u8, 64>, bytes: &[u8])
 
 // The frame of a stop with this id.
 pub fn stop_frame(id: u64) -> ArrayVec<u8, 64>
-    ensures { result.items ≡ frame_of (call_text id Stop) }
+    ensures frame { result.items ≡ frame_of (call_text id Stop) }
+    ensures framed { IsFramed (call_text id Stop) }
 {
     let mut buffer = Buffer::new();
     let digits = buffer.format(id).as_bytes();

@@ -18,6 +18,7 @@ use Rattle.mk_local.specs.Calls.{IsCallReplied}
 use Rattle.mk_run_laws.specs.Lines.{Line, IsLineAt, queued}
 use Rattle.mk_run_laws.specs.Crews.{IsHeard, IsUnheard}
 use Rattle.mk_run_laws.specs.Handshake.{Request, setup_requests, call_to, call_payloads, sim_link}
+use Rattle.mk_run_laws.specs.Payloads.{IsFramed}
 use Rattle.mk_run_laws.specs.Rests.{AllSetUp, IsWellInSetup}
 use Rattle.mk_run_laws.specs.Running.{SetupReplies}
 use Rattle.mk_run_laws.specs.inner.Running.{IsBetween}
@@ -28,9 +29,9 @@ use Rattle.mk_setup.specs.Handshakes.{IsReached}
 use Rattle.mk_setup.specs.Replies.{after_reply, arrival}
 use Rattle.mk_setup.specs.Seen.{SetupState}
 use Rattle.mk_run_links.specs.declared.answers.LinkHalt.{LinkHalt}
-use Rattle.mk_run_links.specs.Entries.{IsClockless}
+use Rattle.mk_run_links.specs.Entries.{AreOn, IsRunLink}
 use Rattle.mk_run_links.specs.Halts.{ShowsHalt}
-use Rattle.mk_run_links.specs.Places.{IsSet, Lines, at, crew, new_lines}
+use Rattle.mk_run_links.specs.Places.{IsLineLink, IsSet, Lines, at, crew, new_lines}
 use Rattle.mk_run_local.specs.Calls.{IsCalled}
 use Rattle.mk_run_local.specs.Seen.{AreOf, new_within, sim_at}
 use Rattle.mk_run_crew.specs.declared.halt.Halt.{Halt}
@@ -51,18 +52,20 @@ pub record AsksWithin (i : ℕ) (call : Call) (id from : ℕ) (m : Message) (ent
   pub lines : new.lines ≡ old.lines
   pub halt : new.halt ≡ old.halt
 
--- the request was queued on the line of simulator i, and this message was heard of a link
+-- the request, whose payload a frame may have, was queued on the line of simulator i, and this
+-- message was heard of a link
 pub record AsksOnLink (i : ℕ) (call : Call) (id from : ℕ) (m : Message) (entries : List LogEntry)
     (old new : CrewSeen) : Type 0 where
   pub away : is_here old i ≡ false
   pub mid : Lines
   pub line : Line
   pub set : IsSet i line (queued (call_text id call) (id + 1) line) old.lines mid
+  pub framed : IsFramed (call_text id call)
   pub heard : IsHeard entries from m (crew mid) (crew new.lines)
   pub sims : new.sims ≡ old.sims
   pub kept : new.kept ≡ old.kept
   pub halt : new.halt ≡ None
-  pub clockless : IsClockless entries
+  pub on_links : AreOn (IsLineLink mid) entries
 
 -- the answer to a request, or another message in its place
 abbrev pub Asks : ℕ → Call → ℕ → ℕ → Message → List LogEntry → CrewSeen → CrewSeen → Type 0
@@ -99,18 +102,19 @@ pub record AsksNot (h : Halt) (i : ℕ) (call : Call) (id : ℕ) (entries : List
   pub same : new ≡ old
   pub cause : (h ≡ halt.Mem) ⊎ IsTooLongToAsk h i call id old
 
--- the request was queued, and nothing was heard
+-- the request, whose payload a frame may have, was queued, and nothing was heard
 pub record AsksInVain (h : Halt) (i : ℕ) (call : Call) (id : ℕ) (entries : List LogEntry)
     (old new : CrewSeen) : Type 0 where
   pub away : is_here old i ≡ false
   pub mid : Lines
   pub line : Line
   pub set : IsSet i line (queued (call_text id call) (id + 1) line) old.lines mid
+  pub framed : IsFramed (call_text id call)
   pub why : LinkHalt
   pub is : h ≡ halt_of why
   pub unheard : IsUnheard entries (crew mid) (crew new.lines)
   pub shown : ShowsHalt why entries new.lines
-  pub clockless : IsClockless entries
+  pub on_links : AreOn (IsLineLink mid) entries
 
 abbrev pub AsksFail : Halt → ℕ → Call → ℕ → List LogEntry → CrewSeen → CrewSeen → Type 0
 AsksFail h i call id entries old new = AsksNot h i call id entries old new
@@ -229,7 +233,7 @@ pub record IsAnswered (started : ℕ) (S : Scenario) (rows : List Turn) (log : L
   pub kept : C.kept ≡ []
   pub halt : C.halt ≡ None
   pub places : C.places ≡ places started S.sims
-  pub clockless : IsClockless log
+  pub on_links : AreOn (IsRunLink started S) log
 
 -- the handshake so far: these entries were added, and the setup and the crew have come about
 -- together by the answers
@@ -251,7 +255,9 @@ pub record IsHalting (started : ℕ) (S : Scenario) (ranks : List ℕ) (rows : L
   pub lines : (i : ℕ) (l : LinkNo) → sim_link started S i ≡ Some l
       → (ms : List Message) × (w : Line) × (at C.lines i ≡ Some w) × (w.link ≡ l)
       × IsLineAt log ms (call_payloads 0 (filter_map (call_to i) queued)) (count_to i queued) w
+  pub back : (i : ℕ) (w : Line) → at C.lines i ≡ Some w → (l : LinkNo)
+      × (sim_link started S i ≡ Some l)
   pub rests : (before after : List LogEntry) → log ≡ before ++ Rest ∷ after
       → IsWellInSetup started S before × (AllSetUp started S before → ⊥)
   pub cause : ShowsCause started S ranks rows log risen queued later h
-  pub clockless : IsClockless log
+  pub on_links : AreOn (IsRunLink started S) log

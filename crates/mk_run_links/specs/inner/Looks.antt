@@ -16,7 +16,7 @@ use Rattle.mk_run_links.specs.declared.answers.Looked.TheVariants as looked
 use Rattle.mk_run_links.specs.Halts.{HeardOf, ShowsHalt}
 use Rattle.mk_run_links.specs.inner.OneLine.{message_in, unparked}
 use Rattle.mk_run_links.specs.Entries.{AreOfLinks}
-use Rattle.mk_run_links.specs.Places.{AreParked, Lines, IsLinked, at, crew}
+use Rattle.mk_run_links.specs.Places.{AreParked, IsLineLink, Lines, IsLinked, at, crew}
 
 -- simulator s gave these messages, and all others none
 abbrev pub only_by : ℕ → List Message → ℕ → List Message
@@ -25,9 +25,9 @@ only_by s given i = if s == i then given else []
 -- one link was polled, and its line moved; or all lines are parked, and nothing was done
 abbrev pub LooksAs : Looked → List LogEntry → Lines → Lines → Type 0
 LooksAs (looked.Heard sim h) entries old new = AreMoved entries (only_by sim.0 (message_in h))
-    (crew old) (crew new) × AreOfLinks entries × IsLinked sim.0 old × HeardOf sim.0 h entries new
+    (crew old) (crew new) × AreOfLinks (IsLineLink old) entries × IsLinked sim.0 old × HeardOf sim.0 h entries new
 LooksAs looked.Parked entries old new = AreMoved entries (λ i. []) (crew old) (crew new)
-    × AreOfLinks entries
+    × AreOfLinks (IsLineLink old) entries
 LooksAs looked.Quiet entries old new = (new ≡ old) × (entries ≡ []) × AreParked old
 
 -- what came of looks where this was heard of a simulator
@@ -42,11 +42,11 @@ listened_of sim heard.Mem = listened.Halted halt.Mem
 -- a message was heard; or nothing was, for this cause; or nothing was, and all lines are parked
 abbrev pub ListensAs : Listened → List LogEntry → Lines → Lines → Type 0
 ListensAs (listened.Message sim m) entries old new = IsHeard entries sim.0 m (crew old) (crew new)
-    × AreOfLinks entries
+    × AreOfLinks (IsLineLink old) entries
 ListensAs (listened.Halted h) entries old new = IsUnheard entries (crew old) (crew new)
-    × AreOfLinks entries × ShowsHalt h entries new
+    × AreOfLinks (IsLineLink old) entries × ShowsHalt h entries new
 ListensAs listened.Quiet entries old new = IsUnheard entries (crew old) (crew new)
-    × AreOfLinks entries × AreParked new
+    × AreOfLinks (IsLineLink old) entries × AreParked new
 
 -- the fleet rested and all lines stand, but that some are no longer parked; or nothing was done
 abbrev pub RestsAs : Result (Unit {0}) LinkHalt → List LogEntry → Lines → Lines → Type 0

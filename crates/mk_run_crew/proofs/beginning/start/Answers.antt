@@ -1,10 +1,11 @@
-use Rattle.std.proofs.Common.{List, subst, sym, ap, ◌∙◌, inl, inr}
+use Rattle.std.proofs.Common.{ℕ, ◌+◌, ◌≤◌, List, length, subst, sym, ap, ◌∙◌, inl, inr}
 use Rattle.mk_base.specs.declared.LinkNo.{LinkNo}
 use Rattle.mk_base.specs.Lists.{Each, IsIn}
 use Rattle.mk_outside.specs.Counts.{HasRisen}
 use Rattle.mk_launch.specs.Starts.{links_in}
 use Rattle.mk_run_links.specs.Places.{without_all, AreDistinct}
 use Rattle.mk_run_crew.proofs.Placing.{risen_later}
+use Rattle.mk_run_crew.proofs.Started.{few_started}
 use Rattle.mk_run_crew.proofs.Starting.{leaves, others_stay, started_not}
 use Rattle.mk_run_crew.proofs.beginning.start.Goals as goal
 
@@ -25,6 +26,11 @@ returns-in-Err-clause-cause g c =
     let f2 = g.F.Fleet.faults c.close_all.new.fleet in
     rw c.start_halt.ensures
     (started_not c.in-Err.fault (HasRisen f0 f2) (elim c.in-Err.ensures.cause [ inl e ↦ inl e | inr r ↦ inr (risen_later f0 f1 f2 c.close_all.ensures.count r) ]))
+
+pub returns-in-Err-clause-most : goal.returns-in-Err-clause-most
+returns-in-Err-clause-most g c =
+    let n = g.F.Fleet.started c.args.fleet.now in
+    subst (λ (k : ℕ). (n ≤ k) × (k ≤ n + length c.args.scenario.now.sims)) (sym c.close_all.ensures.same_count) (few_started c.in-Err.fault _ _ _ _ c.in-Err.ensures.started)
 
 pub returns-in-Err-clause-closed : goal.returns-in-Err-clause-closed
 returns-in-Err-clause-closed g c =

@@ -23,7 +23,7 @@ returns-clause-ok g c =
           rw w.result-is (
             h.0,
             h.1,
-            asked_on_link c.args.sim.0 c.args.call.now c.args.id (w.in-Ok.heard).0.0 (w.in-Ok.heard).1 h.0 _ c.args.self.now _ c.queue_call.new.links.lines c.self.view_is c.requires.away c.in_default.ensures.ok h.2 refl refl (w.in-Ok.ensures.lasts going) h.3,
+            asked_on_link c.args.sim.0 c.args.call.now c.args.id (w.in-Ok.heard).0.0 (w.in-Ok.heard).1 h.0 _ c.args.self.now _ c.queue_call.new.links.lines c.self.view_is c.requires.away c.in_default.ensures.ok c.in_default.ensures.framed h.2 refl refl (w.in-Ok.ensures.lasts going) h.3,
           )
       | in-Err-hear w ↦ rw w.result-is tt
     ]

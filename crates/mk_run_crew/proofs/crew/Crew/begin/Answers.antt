@@ -11,6 +11,7 @@ use Rattle.mk_run_crew.specs.Begun.{HasBegun}
 use Rattle.mk_run_crew.specs.Halted.{HasHalted}
 use Rattle.mk_run_crew.proofs.Ending.{halted_silently}
 use Rattle.mk_run_crew.proofs.Placing.{adds_no_more}
+use Rattle.mk_run_crew.proofs.Started.{all_started, fewer_started}
 use Rattle.mk_run_crew.proofs.Starting.{others_stay, put_open}
 use Rattle.mk_run_crew.proofs.crew.Crew.begin.Goals as goal
 
@@ -20,6 +21,7 @@ returns-in-Err-clause-halted g c = (
   c.in-Err.ensures.logged,
   halted_silently (g.F.Fleet.started c.args.fleet.now) c.args.scenario c.args.ranks (rows_in c.args.kinds.now) (HasRisen (g.F.Fleet.faults c.args.fleet.now) (g.F.Fleet.faults c.start.new.fleet)) c.in-Err.halt c.in-Err.ensures.cause,
   tt,
+  fewer_started c.args.scenario c.in-Err.halt _ _ _ c.in-Err.ensures.cause c.in-Err.ensures.most,
 )
 
 pub new_crew-requires-clause-placed : goal.new_crew-requires-clause-placed
@@ -40,6 +42,7 @@ returns-in-Err-new_crew-clause-halted g c = (
   adds_no_more [] _ _ _ c.in-Ok.ensures.logged c.close_all.ensures.logged,
   halted_silently (g.F.Fleet.started c.args.fleet.now) c.args.scenario c.args.ranks (rows_in c.args.kinds.now) (HasRisen (g.F.Fleet.faults c.args.fleet.now) (g.F.Fleet.faults c.close_all.new.fleet)) _ (inl refl),
   tt,
+  all_started c.args.scenario _ _ c.in-Ok.places _ c.in-Ok.ensures.started.places (c.close_all.ensures.same_count ∙ c.in-Ok.ensures.started.started),
 )
 
 pub returns-in-Err-new_crew-clause-closed : goal.returns-in-Err-new_crew-clause-closed
@@ -60,7 +63,6 @@ returns-in-Ok-shake-clause-begun g c =
       b.0,
       adds_more [] b.0 _ _ _ c.in-Ok.ensures.logged b.1,
       subst (λ (U : SetupState). HasBegun n U.scenario U.ranks (rows_in c.args.kinds.now) b.0 (c.in-Ok-shake.begun).0 (c.in-Ok-shake.begun).1) c.in-Ok-new_crew.ensures.begun b.2,
-      b.3,
     )
 
 pub returns-in-Ok-shake-clause-started : goal.returns-in-Ok-shake-clause-started
@@ -88,6 +90,7 @@ returns-in-Err-shake-clause-halted g c =
       adds_more [] b.0 _ _ _ c.in-Ok.ensures.logged b.1,
       subst (λ (U : SetupState). HasHalted n U.scenario U.ranks (rows_in c.args.kinds.now) b.0 (HasRisen f0 f2) c.in-Err-shake.halt) c.in-Ok-new_crew.ensures.begun b.2,
       b.3,
+      all_started c.args.scenario _ _ c.in-Ok.places _ c.in-Ok.ensures.started.places (c.in-Err-shake.ensures.same_count ∙ c.in-Ok.ensures.started.started),
     )
 
 pub returns-in-Err-shake-clause-closed : goal.returns-in-Err-shake-clause-closed

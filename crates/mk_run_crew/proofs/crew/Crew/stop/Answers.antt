@@ -4,7 +4,8 @@ use Rattle.mk_base.specs.Lists.{Each, IsIn}
 use Rattle.mk_launch.specs.Starts.{links_in}
 use Rattle.mk_run_laws.specs.Crews.{AreStopped}
 use Rattle.mk_outside.specs.Counts.{HasRisen}
-use Rattle.mk_run_links.specs.Places.{AreOpen, crew}
+use Rattle.mk_run_links.specs.Entries.{AreOn}
+use Rattle.mk_run_links.specs.Places.{AreOpen, IsLineLink, crew}
 use Rattle.mk_run_crew.specs.Seen.{CrewSeen, crew_of}
 use Rattle.mk_run_crew.proofs.Placing.{adds_no_more, places_open, stopped_later}
 use Rattle.mk_run_crew.proofs.crew.Crew.stop.Goals as goal
@@ -27,5 +28,5 @@ returns-clause-stopped g c =
       adds_no_more s.0 _ _ _ s.1 c.close_all.ensures.logged,
       subst (λ (x : CrewSeen). AreStopped s.0 (HasRisen f0 f2) (crew_of x)) c.self.view_is (stopped_later s.0 f0 (g.F.Fleet.faults c.stop.new.fleet) f2 (crew c.self.inside.links.lines) c.close_all.ensures.count s.2.0),
       s.2.1,
-      s.2.2,
+      subst (λ (x : CrewSeen). AreOn (IsLineLink x.lines) s.0) c.self.view_is s.2.2,
     )
