@@ -6,7 +6,9 @@ use Rattle.mk_base.specs.Lists.{IsIn}
 use Rattle.mk_plan.specs.declared.Plan.{Plan}
 use Rattle.mk_plan.specs.declared.Journal.{Journal}
 use Rattle.mk_outside.specs.Counts.{HasRisen}
-use Rattle.mk_run_links.specs.Places.{AreOpen}
+use Rattle.mk_run_links.specs.Entries.{AreOn, IsRunLink}
+use Rattle.mk_run_links.specs.Places.{AreOpen, IsLineLink}
+use Rattle.mk_run_links.proofs.OnEntries.{on_more, on_or_clock, on_run}
 use Rattle.mk_setup.specs.Handshakes.{IsMade}
 use Rattle.mk_run_laws.specs.Running.{SetupReplies}
 use Rattle.mk_plan.specs.declared.Entry.TheVariants.{Got}
@@ -30,12 +32,14 @@ use Rattle.mk_run_crew.specs.declared.halt.Halt.TheVariants as halt
 use Rattle.mk_run_crew.specs.Begun.{HasBegun}
 use Rattle.mk_run_crew.specs.Halted.{HasHalted}
 use Rattle.mk_run_crew.specs.Seen.{CrewSeen, crew_of}
+use Rattle.mk_run_crew.proofs.Stopped.{all_said}
 use Rattle.mk_run.proofs.Inside.{here_within, within_there}
 use Rattle.mk_run.specs.inner.Underway.{Setting, reply_in, IsUnderway}
 use Rattle.mk_run.specs.declared.outcome.Outcome.{Outcome}
 use Rattle.mk_run.specs.Ran.{RunsAs}
 use Rattle.mk_run.specs.inner.Turns.{AreLinksOpen, PlanRunsAs}
 use Rattle.mk_run.proofs.Pushed.{not_empty}
+use Rattle.mk_run.proofs.Turning.{risen_on}
 
 -- before any entry
 pub stands_first : (P : Plan) → IsValidPlan P → Stands P []
@@ -66,23 +70,25 @@ module _ (started : ℕ) (S : Scenario) (ranks : List ℕ) (rows : List Turn) (l
     no_other = b.back;
     come = λ i within. let t = within_there rows S prepared i within in let q = made_of rows S i t.0 t.1 in (q.0, b.within i ∙ q.1, record { first = q.0; begun = q.1; sent = refl });
     only_within = λ i outside. b.within i ∙ made_not rows S i outside;
-    setup_rests = λ before after is not_up. b.rests before after is;
+    log_right = record { setup_rests = λ before after is not_up. b.rests before after is; on_links = b.on_links };
   }
 
   -- or there is no memory for it: the whole handshake was said, and then a stop
-  pub run_halts : (entries : List LogEntry) (some risen : Type 0) → AreStopped entries some (crew_of C) → IsRestless entries → HasHalted started S ranks rows (log ++ entries) risen halt.Mem
-  run_halts entries some risen stopped restless = record {
+  pub run_halts : (entries : List LogEntry) (some risen : Type 0) → (some → risen) → AreStopped entries some (crew_of C) → IsRestless entries → AreOn (IsLineLink C.lines) entries → HasHalted started S ranks rows (log ++ entries) risen halt.Mem
+  run_halts entries some risen on stopped restless of_lines = record {
     queued = setup_requests S;
     later = [];
     parts = sym (append_nil (setup_requests S));
     says = λ reply i l linked. let t = b.begun.lines i l linked in
         handshake_says started S reply log entries some i l (setup_requests S) [] (sym (append_nil (setup_requests S))) (b.replies i) t.0 t.2 t.3 (stopped i t.0 t.1);
-    whole = λ apart. absurd (apart refl);
+    whole = λ apart i l linked. let t = b.begun.lines i l linked in
+        all_said S log entries some risen i l (setup_requests S) [] (sym (append_nil (setup_requests S))) (b.replies i) t.0 t.2 t.3 (stopped i t.0 t.1) on;
     rests = λ before after is. elim (first_or_second log entries before after Rest is) [
       | inl t ↦ (b.rests before t.0 t.1, b.begun.setting_up before t.0 t.1)
       | inr t ↦ absurd (restless t.0 after t.2)
     ];
     cause = tt;
+    on_links = on_or_clock (IsRunLink started S) (log ++ entries) (on_more (IsRunLink started S) log entries b.on_links (on_run started S C.lines entries (λ i l linked. let t = b.begun.lines i l linked in (t.0, t.1, t.2)) b.back of_lines));
   }
 
   pub links_open : (open_links : List LinkNo) → AreOpen C.lines open_links → AreLinksOpen setting_of open_links
@@ -98,4 +104,4 @@ module _ (started : ℕ) (S : Scenario) (ranks : List ℕ) (rows : List Turn) (l
       record { answers = b.answers; made = subst (IsMade S ranks b.answers) (sym t.0) b.made; kinds = b.kinds; first = λ i lower. run_first Q t.0 i lower; run = t.1; told = λ i l linked. ap (λ (f : SetupReplies). f i) t.2 ∙ b.told i l linked }
   runs_so prepared more f0 f1 f2 low (Some Q) None end r = absurd r
   runs_so prepared more f0 f1 f2 low None (Some J) end r = absurd r
-  runs_so prepared more f0 f1 f2 low None None end r = record { halt = halt.Mem; is = r.0; halted = run_halts more (HasRisen f1 f2) (HasRisen f0 f2) r.1 r.2 }
+  runs_so prepared more f0 f1 f2 low None None end r = record { halt = halt.Mem; is = r.0; halted = run_halts more (HasRisen f1 f2) (HasRisen f0 f2) (risen_on f0 f1 f2 low) r.1 r.2 r.3 }

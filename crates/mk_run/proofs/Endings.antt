@@ -2,7 +2,7 @@
 use Rattle.std.proofs.Common.{◌≡◌, ◌⊎◌, inl, inr, ℕ, ◌<◌, Bool, true, false, List, [], ◌∷◌, ◌++◌, length, Option, Some, None, if◌then◌else◌, refl, sym, ap, ◌∙◌, subst}
 use Rattle.mk_base.specs.declared.LinkNo.{LinkNo}
 use Rattle.mk_base.specs.declared.SimNo.{SimNo}
-use Rattle.mk_base.specs.Lists.{IsIn, BeginsWith}
+use Rattle.mk_base.specs.Lists.{IsIn}
 use Rattle.mk_base.proofs.Lists.{some_same, none_some, append_nil, in_back}
 use Rattle.mk_plan.specs.declared.Plan.{Plan}
 use Rattle.mk_plan.specs.declared.Item.{Item}
@@ -36,21 +36,25 @@ use Rattle.mk_run_laws.proofs.Taking.{unfinished_none, long_none, none_first, ga
 use Rattle.mk_run_links.specs.declared.answers.LinkHalt.{LinkHalt}
 use Rattle.mk_run_links.specs.declared.answers.LinkHalt.TheVariants as link_halt
 use Rattle.mk_run_links.specs.Crews.{IsLengthOf}
+use Rattle.mk_run_links.specs.Entries.{AreOn}
 use Rattle.mk_run_links.specs.Halts.{ShowsHalt}
+use Rattle.mk_run_links.specs.Places.{IsLineLink}
+use Rattle.mk_run_links.proofs.OnEntries.{on_run}
 use Rattle.mk_run_crew.specs.declared.halt.Halt.{Halt}
 use Rattle.mk_run_crew.specs.declared.halt.Halt.TheVariants as halt
 use Rattle.mk_run_crew.specs.Seen.{CrewSeen, crew_of}
 use Rattle.mk_run_crew.specs.Calls.{ShowsUnsent, halt_of}
 use Rattle.mk_run.specs.declared.outcome.Outcome.{Outcome}
 use Rattle.mk_run.specs.declared.outcome.Outcome.TheVariants as outcome
-use Rattle.mk_run.specs.Ends.{AreInRange, QueuedAll, IsAwaiting, IsBrokenOff, IsLongItem, SetupRestsWell, fault_named}
-use Rattle.mk_run.specs.inner.Underway.{Setting, reply_in, Suits, HasNoOther, IsPatient, IsUnderway, HasHeard, IsLastLine, HasGiven, EndsBy, HasEnded}
+use Rattle.mk_run.specs.Ends.{AreInRange, QueuedAll, IsAwaiting, IsBrokenOff, IsLongItem, fault_named}
+use Rattle.mk_run.specs.inner.Underway.{Setting, reply_in, Suits, HasNoOther, IsLogRight, IsPatient, IsUnderway, HasHeard, IsLastLine, HasGiven, EndsBy, HasEnded}
 use Rattle.mk_run.specs.Outcomes.{outcome_of}
 use Rattle.mk_run.specs.inner.Sendings.{IsUnsent}
-use Rattle.mk_run.proofs.Going.{setup_rests_on}
-use Rattle.mk_run.proofs.Hearing.{heard_fits, heard_left, heard_running, heard_no_other, heard_setup_rests}
+use Rattle.mk_run.proofs.Going.{log_right_on}
+use Rattle.mk_run.proofs.Hearing.{heard_fits, heard_left, heard_running, heard_no_other, heard_log_right}
 use Rattle.mk_run.proofs.Linked.{no_other_moved}
 use Rattle.mk_run.proofs.Pushed.{fault_after_sent, kinds_sent, patient_sent, patient_got, range_sent, range_got, sent_front, got_front, got_sent, sent_got, rests_longer}
+use Rattle.mk_run.proofs.LinesStopped.{begins_itself}
 
 queued_itself : (end : Outcome) (items : List Item) → QueuedAll end items items
 queued_itself outcome.Done items = refl
@@ -76,9 +80,6 @@ none_named halt.Mem = refl
 -- nor does the limit of entries
 limit_unnamed : (f : CoreFault) (n : ℕ) → f ≡ TooLong n → None ≡ fault_named (outcome.Core f)
 limit_unnamed f n is = sym (ap fault_in is)
-
-begins_itself : {X : Type 0} (xs : List X) → BeginsWith xs xs
-begins_itself xs = ([], sym (append_nil xs))
 
 -- the last entry that passes is one of them
 last_is_in : (test : LogEntry → Bool) (entries : List LogEntry) (e : LogEntry) → last_that test entries ≡ Some e → IsIn e entries
@@ -114,7 +115,7 @@ module _ (T : Setting) where
     lines = lines_in_step end J log C u.running.lines;
     no_other = u.no_other;
     rests = over_ends T.started T.scenario T.replies (reply_in T) P J log u.running.rests;
-    setup_rests = u.setup_rests;
+    log_right = u.log_right;
     ends = ends;
     fault = u.no_fault ∙ unnamed;
     unfinished = unfinished;
@@ -144,8 +145,8 @@ module _ (T : Setting) where
   text_same (Refuse asked reason) id other h = refl
 
   module _ (risen : Type 0) (awaits : ℕ → List Message) (P : Plan) (K : List Entry) (log : List LogEntry) (C : CrewSeen) (s : SimNo) (item : Item) (suits : Suits T P) (low : s.0 < sim_count P) (stands : Stands P (K ++ Sent s item ∷ [])) (patient : IsPatient P K) (fits : AreInRange K) (fine : (view P K).fault ≡ None)
-      (run : IsRunningWith awaits T.started T.scenario T.replies (reply_in T) P K log (crew_of C)) (no_other : HasNoOther T (crew_of C)) (setup_rests : SetupRestsWell T.started T.scenario log) where
-    long_item : (n : ℕ) → IsLengthOf n item s.0 C.lines → limit < n → IsLongItem P (K ++ Sent s item ∷ []) s.0 n
+      (run : IsRunningWith awaits T.started T.scenario T.replies (reply_in T) P K log (crew_of C)) (no_other : HasNoOther T (crew_of C)) (right : IsLogRight T log) where
+    long_item : (n : ℕ) → IsLengthOf n item s.0 C.lines → limit < n → IsLongItem T.started T.scenario P (K ++ Sent s item ∷ []) s.0 n
     long_item n size beyond =
         let t = no_other s.0 size.0 size.1 in
         let g = run.lines s.0 t.0 t.1 in
@@ -157,6 +158,8 @@ module _ (T : Setting) where
           item = item;
           is = refl;
           to = refl;
+          link = t.0;
+          linked = t.1;
           bytes = ap (λ (k : ℕ). length (item_text k item)) (sym next) ∙ sym size.2;
           beyond = beyond;
         }
@@ -168,7 +171,7 @@ module _ (T : Setting) where
     by_halt (halt.Gone sim) shown = absurd shown
     by_halt (halt.Garbled sim test) shown = absurd shown
     by_halt (halt.LongFrame sim n) shown = absurd shown
-    by_halt (halt.LongItem sim n) shown = ((λ i. tt), (λ broken. absurd broken), subst (λ (i : ℕ). IsLongItem P (K ++ Sent s item ∷ []) i n) (sym shown.0) (long_item n shown.2 shown.3))
+    by_halt (halt.LongItem sim n) shown = ((λ i. tt), (λ broken. absurd broken), subst (λ (i : ℕ). IsLongItem T.started T.scenario P (K ++ Sent s item ∷ []) i n) (sym shown.0) (long_item n shown.2 shown.3))
     by_halt halt.Mem shown = ((λ i. tt), (λ broken. absurd broken), tt)
 
     pub unsent_ends : (end : Outcome) → IsUnsent end s.0 item C → HasEnded risen T P (K ++ Sent s item ∷ []) log (crew_of C) end
@@ -188,7 +191,7 @@ module _ (T : Setting) where
       };
       no_other = no_other;
       rests = rests_longer T.started T.scenario T.replies P K (Sent s item) log run.rests;
-      setup_rests = setup_rests;
+      log_right = right;
       ends = (by_halt why.0 why.2).2;
       fault = fault_after_sent P K s item fine ∙ sym (none_named why.0);
       unfinished = (by_halt why.0 why.2).1;
@@ -206,7 +209,7 @@ module _ (T : Setting) where
         go : IsHeard h.entries s.0 m h.crew D → RestsEnd T.started T.scenario T.replies core.plan core.entries (h.before ++ h.entries)
         go (IsHeard.kept is lines none) = subst (RestsEnd T.started T.scenario T.replies core.plan core.entries) (sym (append_nil h.before) ∙ ap (λ (e : List LogEntry). h.before ++ e) (sym none))
             (over_ends T.started T.scenario T.replies (reply_in T) core.plan core.entries h.before u.running.rests)
-        go (IsHeard.on_link none after w there moved parked) = rests_at_end T.started T.scenario T.replies (reply_in T) core.plan core.entries h.before h.entries h.crew u.running (λ i x ready. h.nobody (i, x, ready)) parked
+        go (IsHeard.on_link none after w there moved parked) = rests_at_end T.started T.scenario T.replies (reply_in T) core.plan core.entries h.before h.entries h.crew u.running (λ i x ready. h.nobody (i, x, ready)) none parked
 
     -- the core hasn't taken it
     pub untaken_ends : (end : Outcome) → None ≡ fault_named end → (IsBrokenOff end → IsAwaiting core.plan core.entries) → EndsBy risen T core.plan core.entries log D end → HasEnded risen T core.plan core.entries log D end
@@ -226,7 +229,7 @@ module _ (T : Setting) where
       };
       no_other = heard_no_other T core.plan core.entries log s m D sims h;
       rests = rests_before;
-      setup_rests = heard_setup_rests T core.plan core.entries log s m D sims h;
+      log_right = heard_log_right T core.plan core.entries log s m D sims h;
       ends = ends;
       fault = u.no_fault ∙ unnamed;
       unfinished = unfinished;
@@ -243,7 +246,7 @@ module _ (T : Setting) where
       lines = lines_in_step end (core.entries ++ Got s m ∷ []) log D (heard_running T core.plan core.entries log s m D sims h).lines;
       no_other = heard_no_other T core.plan core.entries log s m D sims h;
       rests = over_ends T.started T.scenario T.replies (reply_in T) core.plan (core.entries ++ Got s m ∷ []) log (heard_running T core.plan core.entries log s m D sims h).rests;
-      setup_rests = heard_setup_rests T core.plan core.entries log s m D sims h;
+      log_right = heard_log_right T core.plan core.entries log s m D sims h;
       ends = ends;
       fault = fault;
       unfinished = unfinished;
@@ -310,8 +313,8 @@ module _ (T : Setting) where
         (t.0, t.1, subst (λ (v : Line). IsTooLong n v.held) (sym t.2) shown.2)
     by_link link_halt.Mem cause shown = tt
 
-    pub unheard_ends : (why : LinkHalt) → (why ≡ link_halt.Fleet → risen) → ShowsHalt why entries D.lines → HasEnded risen T P J (log ++ entries) (crew_of D) (outcome_of (halt_of why))
-    unheard_ends why cause shown = record {
+    pub unheard_ends : (why : LinkHalt) → (why ≡ link_halt.Fleet → risen) → ShowsHalt why entries D.lines → AreOn (IsLineLink C.lines) entries → HasEnded risen T P J (log ++ entries) (crew_of D) (outcome_of (halt_of why))
+    unheard_ends why cause shown on_links = record {
       suits = u.suits;
       stands = u.stands;
       patient = u.patient;
@@ -319,8 +322,8 @@ module _ (T : Setting) where
       kinds = u.running.kinds;
       lines = lines_in_step (outcome_of (halt_of why)) J (log ++ entries) (crew_of D) line_now;
       no_other = no_other_now;
-      rests = rests_at_end T.started T.scenario T.replies (reply_in T) P J log entries (crew_of C) u.running (λ i x ready. nobody (i, x, ready)) un.parked;
-      setup_rests = setup_rests_on T P J log entries (crew_of C) u.suits u.running u.setup_rests;
+      rests = rests_at_end T.started T.scenario T.replies (reply_in T) P J log entries (crew_of C) u.running (λ i x ready. nobody (i, x, ready)) un.none_kept un.parked;
+      log_right = log_right_on T P J log entries (crew_of C) u.suits u.running u.log_right (on_run T.started T.scenario C.lines entries (λ i l linked. let h = u.running.lines i l linked in (h.line, h.there, h.link)) u.no_other on_links);
       ends = by_link why cause shown;
       fault = u.no_fault ∙ sym (none_named (halt_of why));
       unfinished = λ broken. (opened, nobody);

@@ -37,10 +37,10 @@ use Rattle.mk_run_local.specs.Calls.{IsFitSuccess}
 use Rattle.mk_run_local.specs.Laws.{HasCome, RepliesAreKinds}
 use Rattle.mk_run_crew.specs.Seen.{CrewSeen, crew_of, is_here}
 use Rattle.mk_run_crew.specs.Calls.{HasNext, SendsAs}
-use Rattle.mk_run.specs.Ends.{AreInRange, IsOpenWithin, SetupRestsWell}
-use Rattle.mk_run.specs.inner.Underway.{Setting, reply_in, Suits, HasNoOther, HaveCome, IsPatient, IsUnderway, HasHeard, IsAhead}
+use Rattle.mk_run.specs.Ends.{AreInRange, IsOpenWithin}
+use Rattle.mk_run.specs.inner.Underway.{Setting, reply_in, Suits, HasNoOther, HaveCome, IsLogRight, IsPatient, IsUnderway, HasHeard, IsAhead}
 use Rattle.mk_run.proofs.LoopSteps.{none_owed, owed_after, answered_opens, answered_id, taken_quietly, taken_on_link, taken_inside}
-use Rattle.mk_run.proofs.Going.{bool_or_not, here_is_within, not_here_is_outside, kept_so, come_sent, only_sent, no_other_after, setup_rests_on}
+use Rattle.mk_run.proofs.Going.{bool_or_not, here_is_within, not_here_is_outside, kept_so, come_sent, only_sent, log_right_on, no_other_after}
 use Rattle.mk_run.proofs.InRange.{same_test, read_in_range, success_in_range}
 use Rattle.mk_run.proofs.Linked.{linked_outside, within_below, no_other_heard}
 use Rattle.mk_run.proofs.Pushed.{sent_got, patient_sent, patient_got, range_sent, range_got, fault_after_sent}
@@ -135,8 +135,8 @@ module _ (T : Setting) (P : Plan) (J : List Entry) (log : List LogEntry) (s : Si
   pub heard_come : HaveCome T (J ++ Got s m ∷ []) sims
   heard_come i within = let t = u.come i within in (t.0, t.1, subst (λ (items : List Item). HasCome T.rows T.scenario i items t.0) (sym (sent_got J s m i)) t.2)
 
-  pub heard_setup_rests : SetupRestsWell T.started T.scenario log
-  heard_setup_rests = subst (SetupRestsWell T.started T.scenario) (sym h.parts) (setup_rests_on T P J h.before h.entries h.crew u.suits u.running u.setup_rests)
+  pub heard_log_right : IsLogRight T log
+  heard_log_right = subst (IsLogRight T) (sym h.parts) (log_right_on T P J h.before h.entries h.crew u.suits u.running u.log_right h.on_links)
 
 -- the core took the message, and nothing is owed
 pub quiet_goes : (T : Setting) (core new : CoreState) (log : List LogEntry) (s : SimNo) (m : Message) (D : CrewState) (sims : List (Option Simulator)) → HasHeard T core.plan core.entries log s.0 m D sims → IsQuiet core s m new → Stands new.plan new.entries
@@ -152,7 +152,7 @@ quiet_goes T core new log s m D sims h q stands = record {
   no_other = heard_no_other T P J log s m D sims h;
   come = subst (λ (c : CoreState). HaveCome T c.entries sims) (sym q.moved) (heard_come T P J log s m D sims h);
   only_within = u.only_within;
-  setup_rests = heard_setup_rests T P J log s m D sims h;
+  log_right = heard_log_right T P J log s m D sims h;
 }
   where
     P : Plan
@@ -227,5 +227,5 @@ module _ (T : Setting) (core new : CoreState) (log : List LogEntry) (s : SimNo) 
       no_other = no_other_after T law (core.entries ++ Got s m ∷ []) s a.item id C D come v.only_within right so (heard_no_other T core.plan core.entries log s m (crew_of C) C.sims h);
       come = subst (λ (c : CoreState). HaveCome T c.entries D.sims) (sym a.moved) (come_sent T law (core.entries ++ Got s m ∷ []) s a.item id C D come v.only_within right so);
       only_within = only_sent T law (core.entries ++ Got s m ∷ []) s a.item id C D come v.only_within right so;
-      setup_rests = heard_setup_rests T core.plan core.entries log s m (crew_of C) C.sims h;
+      log_right = heard_log_right T core.plan core.entries log s m (crew_of C) C.sims h;
     }

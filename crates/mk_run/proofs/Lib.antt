@@ -7,12 +7,15 @@ pub mod Growing
 pub mod Hearing
 pub mod InRange
 pub mod Inside
+pub mod ItemSent
 pub mod LimitFaults
+pub mod LinesStopped
 pub mod Linked
 pub mod Linkless
 pub mod LoopSteps
 pub mod NextRight
 pub mod Pushed
+pub mod Putting
 pub mod RunRight
 pub mod Times
 pub mod Turning

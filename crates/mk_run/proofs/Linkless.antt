@@ -63,7 +63,7 @@ pub run_within : (P : Plan) (old core : CoreState) (C D : CrewSeen) (faults : �
     → (T : Setting) (log : List LogEntry) (before : ℕ) → before ≤ faults → IsUnderway T P [] log (crew_of C) C.sims
     → (core.plan ≡ P) × (r : IsRun T.started T.scenario (reply_in T) core.plan core.entries (log ++ []) before faults end) × (r.replies ≡ T.replies)
 run_within P old core C D faults end is ends none = run_whole P old core C D [] [] faults faults faults end is (omega arith) (omega arith)
-    (λ T log u. stopping_by ⊥ (HasRisen faults faults) T core (log ++ []) D end (λ e. absurd e) (ends T log u)) (silently (HasRisen faults faults) D none) restless
+    (λ T log u. stopping_by ⊥ (HasRisen faults faults) T core (log ++ []) D end (λ e. absurd e) (ends T log u)) (silently (HasRisen faults faults) D none) restless tt
 
 -- ---- turns one after another, which add nothing to a log
 

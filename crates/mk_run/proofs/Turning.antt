@@ -20,7 +20,9 @@ use Rattle.mk_sched.specs.Answers.{SomeOpen, IsAsked, IsWaiting, IsAnswered}
 use Rattle.mk_run_laws.specs.Payloads.{id_after}
 use Rattle.mk_run_laws.specs.Lines.{Line}
 use Rattle.mk_run_laws.specs.Crews.{IsHeard}
-use Rattle.mk_run_links.specs.Places.{AreOpen}
+use Rattle.mk_run_links.specs.Entries.{AreOn}
+use Rattle.mk_run_links.specs.Places.{AreOpen, IsLineLink}
+use Rattle.mk_run_links.proofs.OnEntries.{on_run}
 use Rattle.mk_run_local.specs.Calls.{IsFitSuccess}
 use Rattle.mk_run_local.specs.Laws.{RepliesAreKinds}
 use Rattle.mk_run_crew.specs.declared.halt.Halt.{Halt}
@@ -36,7 +38,7 @@ use Rattle.mk_run.specs.inner.Turns.{AreLinksOpen, GoesOn, IsPast, IsStopping, T
 use Rattle.mk_run.proofs.LoopSteps.{can_hear}
 use Rattle.mk_run.proofs.Endings.{unsent_ends, unheard_ends}
 use Rattle.mk_run.proofs.Going.{asked_low, asked_opened, asked_replied, asked_linked, asked_goes}
-use Rattle.mk_run.proofs.Hearing.{heard_low, heard_fits, heard_running, heard_no_other, heard_setup_rests, answered_opened, answered_replied, answered_linked, answered_goes}
+use Rattle.mk_run.proofs.Hearing.{heard_low, heard_fits, heard_running, heard_no_other, heard_log_right, answered_opened, answered_replied, answered_linked, answered_goes}
 use Rattle.mk_run.proofs.Pushed.{same_last, patient_got, range_got}
 
 -- ---- sending what the journal ends with
@@ -71,7 +73,7 @@ module _ (T : Setting) (old new : CoreState) (log : List LogEntry) (C : CrewSeen
 
   pub asked_not : (end : Outcome) → ((item : Item) (id : ℕ) → EndsWithItem new s item id → IsUnsent end s.0 item C) → IsStopping ⊥ T new log C end
   asked_not end why = subst (λ (c : CoreState). HasEnded ⊥ T c.plan c.entries log (crew_of C) end) (sym a.moved)
-      (unsent_ends T ⊥ _ old.plan old.entries log C s (Step a.at a.inputs a.advance) u.suits (asked_low T old new log C s u stands a) (subst (λ (c : CoreState). Stands c.plan c.entries) a.moved stands) u.patient u.in_range u.no_fault u.running u.no_other u.setup_rests
+      (unsent_ends T ⊥ _ old.plan old.entries log C s (Step a.at a.inputs a.advance) u.suits (asked_low T old new log C s u stands a) (subst (λ (c : CoreState). Stands c.plan c.entries) a.moved stands) u.patient u.in_range u.no_fault u.running u.no_other u.log_right
       end (why _ _ ends_with_step))
 
 -- ---- a message is waited for
@@ -104,9 +106,9 @@ may_hear T core log C u opened none = elim (can_hear T.started T.scenario T.repl
 
 -- ---- a message was heard
 
-pub past_it : (T : Setting) (core : CoreState) (log entries : List LogEntry) (C D : CrewSeen) (s : SimNo) (m : Message) → GoesOn T core log C → Waits core → IsHeard entries s.0 m (crew_of C) (crew_of D) → D.sims ≡ C.sims
+pub past_it : (T : Setting) (core : CoreState) (log entries : List LogEntry) (C D : CrewSeen) (s : SimNo) (m : Message) → GoesOn T core log C → Waits core → IsHeard entries s.0 m (crew_of C) (crew_of D) → AreOn (IsLineLink C.lines) entries → D.sims ≡ C.sims
     → ((k : Arrival) (more : List Arrival) → C.kept ≡ k ∷ more → IsFitSuccess m) → IsPast T core (log ++ entries) s m D
-past_it T core log entries C D s m u waits h sims fit = record {
+past_it T core log entries C D s m u waits h on_links sims fit = record {
   before = log;
   entries = entries;
   parts = refl;
@@ -116,13 +118,14 @@ past_it T core log entries C D s m u waits h sims fit = record {
   nobody = waits.0;
   heard = h;
   fit = fit;
+  on_links = on_run T.started T.scenario C.lines entries (λ i l linked. let g = u.running.lines i l linked in (g.line, g.there, g.link)) u.no_other on_links;
 }
 
 -- nothing was
-pub stopped_unheard : (T : Setting) (core : CoreState) (log entries : List LogEntry) (C D : CrewSeen) (h : Halt) (risen : Type 0) → GoesOn T core log C → Waits core → HearsNothing h entries C D → (h ≡ halt.Fleet → risen)
+pub stopped_unheard : (T : Setting) (core : CoreState) (log entries : List LogEntry) (C D : CrewSeen) (h : Halt) (risen : Type 0) → GoesOn T core log C → Waits core → HearsNothing h entries C D → AreOn (IsLineLink C.lines) entries → (h ≡ halt.Fleet → risen)
     → IsStopping risen T core (log ++ entries) D (outcome_of h)
-stopped_unheard T core log entries C D h risen u waits un cause = subst (λ (g : Halt). IsStopping risen T core (log ++ entries) D (outcome_of g)) (sym un.is)
-    (unheard_ends T risen core.plan core.entries log entries C D u waits.0 waits.1 un.unheard un.why (λ e. cause (un.is ∙ ap halt_of e)) un.shown)
+stopped_unheard T core log entries C D h risen u waits un on_links cause = subst (λ (g : Halt). IsStopping risen T core (log ++ entries) D (outcome_of g)) (sym un.is)
+    (unheard_ends T risen core.plan core.entries log entries C D u waits.0 waits.1 un.unheard un.why (λ e. cause (un.is ∙ ap halt_of e)) un.shown on_links)
 
 -- ---- an outcome stays, whatever rises besides
 
@@ -147,7 +150,7 @@ stopping_by some all T core log C end more e = record {
   lines = e.lines;
   no_other = e.no_other;
   rests = e.rests;
-  setup_rests = e.setup_rests;
+  log_right = e.log_right;
   ends = ends_by some all T core log C more end e.ends;
   fault = e.fault;
   unfinished = e.unfinished;
@@ -182,7 +185,7 @@ module _ (T : Setting) (core new : CoreState) (log : List LogEntry) (s : SimNo) 
       (unsent_ends T ⊥ _ core.plan (core.entries ++ Got s m ∷ []) log C s a.item h.underway.suits (heard_low T core.plan core.entries log s m (crew_of C) C.sims h)
       (subst (λ (c : CoreState). Stands c.plan c.entries) a.moved stands) (patient_got core.plan core.entries s m h.underway.patient h.nobody)
       (range_got core.entries s m h.underway.in_range (heard_fits T core.plan core.entries log s m (crew_of C) C.sims h)) a.no_fault (heard_running T core.plan core.entries log s m (crew_of C) C.sims h)
-      (heard_no_other T core.plan core.entries log s m (crew_of C) C.sims h) (heard_setup_rests T core.plan core.entries log s m (crew_of C) C.sims h) end (why a.item _ ends_with_answer))
+      (heard_no_other T core.plan core.entries log s m (crew_of C) C.sims h) (heard_log_right T core.plan core.entries log s m (crew_of C) C.sims h) end (why a.item _ ends_with_answer))
 
 -- whether it was sent or not
 pub answered_so : (core new : CoreState) (s : SimNo) (m : Message) (C D : CrewSeen) (r : Result (Unit {0}) Outcome) → IsAnswered core s m new → Stands new.plan new.entries → RepliesAreKinds
@@ -193,10 +196,10 @@ answered_so core new s m C D (Err end) a stands law sent unsent same = λ T log 
 -- ---- a turn
 
 -- the core was given the message that was heard
-pub heard_turn : (risen : Type 0) (core new : CoreState) (entries : List LogEntry) (C D E : CrewSeen) (s : SimNo) (m : Message) (r : Result (Unit {0}) Outcome) → Waits core → IsHeard entries s.0 m (crew_of C) (crew_of D) → D.sims ≡ C.sims
+pub heard_turn : (risen : Type 0) (core new : CoreState) (entries : List LogEntry) (C D E : CrewSeen) (s : SimNo) (m : Message) (r : Result (Unit {0}) Outcome) → Waits core → IsHeard entries s.0 m (crew_of C) (crew_of D) → AreOn (IsLineLink C.lines) entries → D.sims ≡ C.sims
     → ((k : Arrival) (more : List Arrival) → C.kept ≡ k ∷ more → IsFitSuccess m) → TakesAs r s m core D new E → TurnsAs r entries risen core C new E
-heard_turn risen core new entries C D E s m (Ok done) waits h sims fit t = (t.0, λ T log u. t.1 T (log ++ entries) (past_it T core log entries C D s m u waits h sims fit))
-heard_turn risen core new entries C D E s m (Err end) waits h sims fit t = λ T log u. stopping_by ⊥ risen T new (log ++ entries) E end (λ e. absurd e) (t T (log ++ entries) (past_it T core log entries C D s m u waits h sims fit))
+heard_turn risen core new entries C D E s m (Ok done) waits h on_links sims fit t = (t.0, λ T log u. t.1 T (log ++ entries) (past_it T core log entries C D s m u waits h on_links sims fit))
+heard_turn risen core new entries C D E s m (Err end) waits h on_links sims fit t = λ T log u. stopping_by ⊥ risen T new (log ++ entries) E end (λ e. absurd e) (t T (log ++ entries) (past_it T core log entries C D s m u waits h on_links sims fit))
 
 -- whoever was ready was asked before
 pub settled_turn : (risen : Type 0) (old mid new : CoreState) (entries : List LogEntry) (C D E : CrewSeen) (r : Result (Unit {0}) Outcome) → ((T : Setting) (log : List LogEntry) → GoesOn T old log C → GoesOn T mid log D) → TurnsAs r entries risen mid D new E → TurnsAs r entries risen old C new E

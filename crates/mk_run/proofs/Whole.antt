@@ -1,8 +1,8 @@
 -- From the end of a run, and the stop of its crew, to what the whole run means.
-use Rattle.std.proofs.Common.{◌≡◌, ◌⊎◌, inl, inr, ℕ, List, [], ◌∷◌, ◌++◌, Some, refl, sym, ap, ◌∙◌, subst, append_assoc}
+use Rattle.std.proofs.Common.{◌≡◌, inl, inr, ℕ, List, [], ◌∷◌, ◌++◌, Some, refl, sym, subst}
 use Rattle.mk_base.specs.declared.LinkNo.{LinkNo}
 use Rattle.mk_base.specs.Lists.{BeginsWith}
-use Rattle.mk_base.proofs.Lists.{append_nil, in_front}
+use Rattle.mk_base.proofs.Lists.{in_front}
 use Rattle.mk_plan.specs.declared.Plan.{Plan}
 use Rattle.mk_plan.specs.declared.Message.{Message}
 use Rattle.mk_plan.specs.declared.Entry.{Entry}
@@ -15,26 +15,25 @@ use Rattle.mk_scenario.specs.declared.parts.Scenario.{Scenario}
 use Rattle.mk_outside.specs.Counts.{HasRisen}
 use Rattle.mk_outside.specs.declared.fleet.LogEntry.{LogEntry}
 use Rattle.mk_outside.specs.declared.fleet.LogEntry.TheVariants.{Rest, Ended}
+use Rattle.mk_outside.specs.Logs.{heard_on}
+use Rattle.mk_run_laws.specs.Hearing.{rest_heard}
 use Rattle.mk_run_laws.specs.Handshake.{sim_link}
 use Rattle.mk_run_laws.specs.Crews.{CrewState, AreStopped, IsRestless}
 use Rattle.mk_run_laws.specs.Rests.{run_messages}
+use Rattle.mk_run_links.specs.Entries.{AreOn, IsRunLink}
+use Rattle.mk_run_links.specs.Places.{IsLineLink}
+use Rattle.mk_run_links.proofs.OnEntries.{on_more, on_run}
 use Rattle.mk_run_laws.specs.Runs.{IsLinkOfRun}
+use Rattle.mk_run_laws.specs.inner.Running.{HasLine}
 use Rattle.mk_run_laws.proofs.Stepping.{first_or_second}
-use Rattle.mk_run_laws.proofs.Ending.{link_ended, all_given, rest_held, rests_stopped}
+use Rattle.mk_run_laws.proofs.Ending.{link_ended, rests_stopped}
 use Rattle.mk_run_laws.proofs.Resting.{rests_well}
 use Rattle.mk_run.specs.declared.outcome.Outcome.{Outcome}
 use Rattle.mk_run.specs.declared.outcome.Outcome.TheVariants as outcome
-use Rattle.mk_run.specs.Ends.{ShownBy, SetupRestsWell, IsMessageLeft, IsOpenWithin, IsRun, IsUngot, NeedsMore}
+use Rattle.mk_run.specs.Ends.{ShownBy, SetupRestsWell, IsRun, IsUngot}
 use Rattle.mk_run.specs.inner.Underway.{Setting, reply_in, EndsBy, HasGiven, HasEnded, IsAhead, IsLastLine}
-use Rattle.mk_run.proofs.Pushed.{got_last}
-
-begins_itself : {X : Type 0} (xs : List X) → BeginsWith xs xs
-begins_itself xs = ([], sym (append_nil xs))
-
-stopped_by : (entries : List LogEntry) (some all : Type 0) (C : CrewState) → (some → all) → AreStopped entries some C → AreStopped entries all C
-stopped_by entries some all C more stopped i w there =
-    let s = stopped i w there in
-    record { unheard = s.unheard; said = s.said; whole = elim s.whole [ inl said ↦ inl said | inr why ↦ inr (elim why [ inl held ↦ inl held | inr risen ↦ inr (more risen) ]) ] }
+use Rattle.mk_run.proofs.LinesStopped.{all_heard, begins_itself, behind_ungot, full_still, heard_behind, held_heard, stopped_by}
+use Rattle.mk_run.proofs.Pushed.{got_last, sent_got}
 
 -- at the rests of the handshake, a stop adds none
 pub setup_rests_more : (started : ℕ) (S : Scenario) (log entries : List LogEntry) → ((before after : List LogEntry) → entries ≡ before ++ Rest ∷ after → ⊥) → SetupRestsWell started S log → SetupRestsWell started S (log ++ entries)
@@ -44,7 +43,7 @@ setup_rests_more started S log entries restless rests before after is not_up = e
 ]
 
 module _ (T : Setting) (P : Plan) (J : List Entry) (log entries : List LogEntry) (C : CrewState) (end : Outcome) (faults new_faults : ℕ) (by_run by_stop : Type 0)
-    (risen : by_run → HasRisen faults new_faults) (rises : by_stop → HasRisen faults new_faults) (ended : HasEnded by_run T P J log C end) (stop : AreStopped entries by_stop C) (restless : IsRestless entries) where
+    (risen : by_run → HasRisen faults new_faults) (rises : by_stop → HasRisen faults new_faults) (ended : HasEnded by_run T P J log C end) (stop : AreStopped entries by_stop C) (restless : IsRestless entries) (of_lines : AreOn (IsLineLink C.lines) entries) where
   stopped : AreStopped entries (HasRisen faults new_faults) C
   stopped = stopped_by entries by_stop (HasRisen faults new_faults) C rises stop
 
@@ -53,47 +52,27 @@ module _ (T : Setting) (P : Plan) (J : List Entry) (log entries : List LogEntry)
 
   -- all messages of a line that holds no further one were got, and behind them is what is held
   all_got : (i : ℕ) (l : LinkNo) (g : HasGiven T J log C i l) → got J i ≡ run_messages T.scenario (log ++ entries) i l
-  all_got i l g = sym (all_given T.started T.scenario T.replies ended.suits.counts J log entries (HasRisen faults new_faults) C stopped i l g.linked (got J i) (sent J i) g.line g.none_held)
+  all_got i l g = all_heard T.started T.scenario T.replies ended.suits.counts log entries (HasRisen faults new_faults) C stopped i l g.linked (got J i) (sent J i) g.line g.none_held
+
+  held_so : (i : ℕ) (l : LinkNo) (g : HasGiven T J log C i l) → g.line.line.held ≡ rest_heard (heard_on l (log ++ entries))
+  held_so i l g = held_heard T.started T.scenario T.replies ended.suits.counts log entries (HasRisen faults new_faults) C stopped i l g.linked (got J i) (sent J i) g.line g.none_held
 
   -- a message that a line gave behind those that the journal got was heard, and isn't got
   ungot : IsAhead T J log C → IsUngot T.started T.scenario J (log ++ entries)
-  ungot a =
-      let more = (link_ended T.started T.scenario T.replies ended.suits.counts (J ++ Got a.sim a.message ∷ []) log entries (HasRisen faults new_faults) C stopped a.sim.0 a.link a.linked (got (J ++ Got a.sim a.message ∷ []) a.sim.0)
-      (sent (J ++ Got a.sim a.message ∷ []) a.sim.0) a.line (begins_itself _) (begins_itself _)).got in
-      record {
-        sim = a.sim.0;
-        link = a.link;
-        linked = a.linked;
-        message = a.message;
-        later = more.0;
-        heard = more.1 ∙ ap (λ (ms : List Message). ms ++ more.0) (got_last J a.sim a.message) ∙ append_assoc (got J a.sim.0) (a.message ∷ []) more.0;
-      }
-
-  still_more : NeedsMore P J (IsAhead T J log C ⊎ IsOpenWithin T.scenario P J) → NeedsMore P J (IsMessageLeft T.started T.scenario P J (log ++ entries))
-  still_more (inl owed) = inl owed
-  still_more (inr (inl ready)) = inr (inl ready)
-  still_more (inr (inr (inl ahead, awaits))) = inr (inr (inl (ungot ahead), awaits))
-  still_more (inr (inr (inr opened, awaits))) = inr (inr (inr opened, awaits))
+  ungot a = behind_ungot T.started T.scenario J (log ++ entries) a.sim a.message a.link a.linked
+      (heard_behind T.started T.scenario T.replies ended.suits.counts log entries (HasRisen faults new_faults) C stopped J a.sim a.message a.link a.linked (sent (J ++ Got a.sim a.message ∷ []) a.sim.0)
+      (subst (λ (ms : List Message). HasLine T.scenario T.replies log a.sim.0 a.link ms (sent (J ++ Got a.sim a.message ∷ []) a.sim.0) C) (got_last J a.sim a.message) a.line)
+      (subst (BeginsWith (sent J a.sim.0)) (sym (sent_got J a.sim a.message a.sim.0)) (begins_itself (sent J a.sim.0))))
 
   shown : (e : Outcome) → EndsBy by_run T P J log C e → ShownBy T.started T.scenario P J (log ++ entries) faults new_faults e
   shown outcome.Done is = is
   shown (outcome.Setup f) is = is
   shown (outcome.Core f) (inl last) = inl last
-  shown (outcome.Core f) (inr full) = inr (record { named = full.named; full = full.full; no_fault = full.no_fault; more = still_more full.more })
+  shown (outcome.Core f) (inr full) = inr (full_still T.started T.scenario P J (log ++ entries) f (IsAhead T J log C) ungot full)
   shown outcome.Fleet is = risen is
   shown (outcome.Gone i) is = (is.0, record { linked = is.1.linked; all = all_got i.0 is.0 is.1 }, in_front (Ended is.0) log entries is.2)
-  shown (outcome.Garbled i n) is = (
-    is.0,
-    record { linked = is.1.linked; all = all_got i.0 is.0 is.1 },
-    subst (λ (b : List ℕ). BeginsGarbled b n)
-        (sym (rest_held T.started T.scenario T.replies ended.suits.counts J log entries (HasRisen faults new_faults) C stopped i.0 is.0 is.1.linked (got J i.0) (sent J i.0) is.1.line is.1.none_held)) is.2,
-  )
-  shown (outcome.LongFrame i n) is = (
-    is.0,
-    record { linked = is.1.linked; all = all_got i.0 is.0 is.1 },
-    subst (IsTooLong n)
-        (sym (rest_held T.started T.scenario T.replies ended.suits.counts J log entries (HasRisen faults new_faults) C stopped i.0 is.0 is.1.linked (got J i.0) (sent J i.0) is.1.line is.1.none_held)) is.2,
-  )
+  shown (outcome.Garbled i n) is = (is.0, record { linked = is.1.linked; all = all_got i.0 is.0 is.1 }, subst (λ (b : List ℕ). BeginsGarbled b n) (held_so i.0 is.0 is.1) is.2)
+  shown (outcome.LongFrame i n) is = (is.0, record { linked = is.1.linked; all = all_got i.0 is.0 is.1 }, subst (IsTooLong n) (held_so i.0 is.0 is.1) is.2)
   shown (outcome.LongItem i n) is = is
   shown outcome.Mem is = is
 
@@ -110,10 +89,12 @@ module _ (T : Setting) (P : Plan) (J : List Entry) (log entries : List LogEntry)
     in_range = ended.in_range;
     links = λ i l linked. let t = ended.lines i l linked in (t.items, linked_so i l linked t, t.queued_all);
     rests = rests_well T.started T.scenario T.replies ended.suits.counts P J (log ++ entries) (rests_stopped T.started T.scenario T.replies P J log entries restless ended.rests);
-    setup_rests = setup_rests_more T.started T.scenario log entries restless ended.setup_rests;
+    setup_rests = setup_rests_more T.started T.scenario log entries restless ended.log_right.setup_rests;
     shown = shown end ended.ends;
     fault = ended.fault;
     unfinished = ended.unfinished;
+    on_links = on_more (IsRunLink T.started T.scenario) log entries ended.log_right.on_links
+        (on_run T.started T.scenario C.lines entries (λ i l linked. let h = (ended.lines i l linked).line in (h.line, h.there, h.link)) ended.no_other of_lines);
   }
 
   pub whole_replies : whole.replies ≡ T.replies

@@ -6,7 +6,8 @@ use Rattle.mk_plan.specs.declared.Entry.{Entry}
 use Rattle.mk_outside.specs.Counts.{HasRisen}
 use Rattle.mk_outside.specs.declared.fleet.LogEntry.{LogEntry}
 use Rattle.mk_sched.specs.Cores.{CoreState}
-use Rattle.mk_run_links.specs.Places.{AreOpen}
+use Rattle.mk_run_links.specs.Entries.{AreOn}
+use Rattle.mk_run_links.specs.Places.{AreOpen, IsLineLink}
 use Rattle.mk_run_laws.specs.Crews.{AreStopped, IsRestless}
 use Rattle.mk_run_crew.specs.Seen.{CrewSeen, crew_of}
 use Rattle.mk_run.specs.declared.outcome.Outcome.{Outcome}
@@ -25,17 +26,17 @@ open_first T P log C open_links u links = are_open T (new_core P) log C open_lin
 
 -- a run from its first turn to its stop
 pub run_whole : (P : Plan) (old core : CoreState) (C D : CrewSeen) (entries stops : List LogEntry) (f0 f1 f2 : ℕ) (end : Outcome) → old ≡ new_core P → f0 ≤ f1 → f1 ≤ f2 → TurnsAs (Err end) entries (HasRisen f0 f1) old C core D
-    → AreStopped stops (HasRisen f1 f2) (crew_of D) → IsRestless stops
+    → AreStopped stops (HasRisen f1 f2) (crew_of D) → IsRestless stops → AreOn (IsLineLink D.lines) stops
     → (T : Setting) (log : List LogEntry) (before : ℕ) → before ≤ f0 → IsUnderway T P [] log (crew_of C) C.sims
     → (core.plan ≡ P) × (r : IsRun T.started T.scenario (reply_in T) core.plan core.entries (log ++ (entries ++ stops)) before f2 end) × (r.replies ≡ T.replies)
-run_whole P old core C D entries stops f0 f1 f2 end is up later ends stopped restless T log before low u =
+run_whole P old core C D entries stops f0 f1 f2 end is up later ends stopped restless of_lines T log before low u =
     let stopping : IsStopping (HasRisen f0 f1) T core (log ++ entries) D end = ends T log (subst (λ (k : CoreState). GoesOn T k log C) (sym is) u) in
     let made = whole T core.plan core.entries (log ++ entries) stops (crew_of D) end before f2 (HasRisen f0 f1) (HasRisen f1 f2) (λ r. risen_on before f0 f2 low (risen_later f0 f1 f2 later r)) (λ r. risen_on before f1 f2 (omega (arith, low, up)) r)
-    stopping stopped restless in
+    stopping stopped restless of_lines in
     let moved = subst (λ (l : List LogEntry). (r : IsRun T.started T.scenario (reply_in T) core.plan core.entries l before f2 end) × (r.replies ≡ T.replies)) (append_assoc log entries stops) (
       made,
       whole_replies T core.plan core.entries (log ++ entries) stops
-          (crew_of D) end before f2 (HasRisen f0 f1) (HasRisen f1 f2) (λ r. risen_on before f0 f2 low (risen_later f0 f1 f2 later r)) (λ r. risen_on before f1 f2 (omega (arith, low, up)) r) stopping stopped restless,
+          (crew_of D) end before f2 (HasRisen f0 f1) (HasRisen f1 f2) (λ r. risen_on before f0 f2 low (risen_later f0 f1 f2 later r)) (λ r. risen_on before f1 f2 (omega (arith, low, up)) r) stopping stopped restless of_lines,
     ) in
     (stopping.suits.same ∙ sym u.suits.same, moved.0, moved.1)
 

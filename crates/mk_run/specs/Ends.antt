@@ -31,6 +31,7 @@ use Rattle.mk_run_laws.specs.Rests.{run_messages, AllSetUp, IsWellInSetup, Rests
 use Rattle.mk_run_laws.specs.Running.{SetupReplies}
 use Rattle.mk_run_laws.specs.Runs.{IsLinkOfRun}
 use Rattle.mk_run_laws.specs.Laws.{IsJournalOf}
+use Rattle.mk_run_links.specs.Entries.{AreOn, IsRunLink}
 use Rattle.mk_run.specs.declared.outcome.Outcome.{Outcome}
 use Rattle.mk_run.specs.declared.outcome.Outcome.TheVariants as outcome
 
@@ -98,13 +99,17 @@ pub record HasGotAll (started : ℕ) (S : Scenario) (log : List LogEntry) (J : L
   pub linked : sim_link started S i ≡ Some l
   pub all : got J i ≡ run_messages S log i l
 
--- the journal's last item is one to i whose payload has n bytes, more than a frame may have
-pub record IsLongItem (P : Plan) (J : List Entry) (i n : ℕ) : Type 0 where
+-- the journal's last item is one to i, which has a link, and its payload has n bytes, more than a
+-- frame may have
+pub record IsLongItem (started : ℕ) (S : Scenario) (P : Plan) (J : List Entry)
+    (i n : ℕ) : Type 0 where
   pub before : List Entry
   pub sim : SimNo
   pub item : Item
   pub is : J ≡ before ++ Sent sim item ∷ []
   pub to : sim.0 ≡ i
+  pub link : LinkNo
+  pub linked : sim_link started S i ≡ Some link
   pub bytes : length (item_text (id_after (first_id P i) (sent before i)) item) ≡ n
   pub beyond : limit < n
 
@@ -121,7 +126,7 @@ ShownBy started S P J log faults new_faults (outcome.Garbled i n) = (l : LinkNo)
     × HasGotAll started S log J i.0 l × BeginsGarbled (rest_heard (heard_on l log)) n
 ShownBy started S P J log faults new_faults (outcome.LongFrame i n) = (l : LinkNo)
     × HasGotAll started S log J i.0 l × IsTooLong n (rest_heard (heard_on l log))
-ShownBy started S P J log faults new_faults (outcome.LongItem i n) = IsLongItem P J i.0 n
+ShownBy started S P J log faults new_faults (outcome.LongItem i n) = IsLongItem started S P J i.0 n
 ShownBy started S P J log faults new_faults outcome.Mem = ⊤
 
 -- the run was broken off: the fleet failed, or a link ended or brought no message
@@ -160,7 +165,8 @@ AreInRange J = (H : List Entry) (s : SimNo) (m : Message) (more : List Entry)
 
 -- a run with a plan and a journal, over the entries that it added to the log: the journal has at
 -- most as many entries as the plan allows, and no fault but one that the outcome names; where the
--- run was broken off some request was open, and nobody was ready
+-- run was broken off some request was open, and nobody was ready; and no link but the run's was
+-- read or written
 pub record IsRun (started : ℕ) (S : Scenario) (reply : Replies) (P : Plan) (J : List Entry)
     (log : List LogEntry) (faults new_faults : ℕ) (end : Outcome) : Type 0 where
   pub replies : SetupReplies
@@ -177,6 +183,7 @@ pub record IsRun (started : ℕ) (S : Scenario) (reply : Replies) (P : Plan) (J 
   pub shown : ShownBy started S P J log faults new_faults end
   pub fault : (view P J).fault ≡ fault_named end
   pub unfinished : IsBrokenOff end → IsAwaiting P J
+  pub on_links : AreOn (IsRunLink started S) log
 
 -- nothing went wrong that a run can show
 pub record IsFaultless (started : ℕ) (S : Scenario) (P : Plan) (J : List Entry)
@@ -188,7 +195,7 @@ pub record IsFaultless (started : ℕ) (S : Scenario) (P : Plan) (J : List Entry
   pub right_frames : (i : ℕ) (l : LinkNo) (n : ℕ) → sim_link started S i ≡ Some l
       → BeginsGarbled (rest_heard (heard_on l log)) n ⊎ IsTooLong n (rest_heard (heard_on l log))
       → ⊥
-  pub short_items : (i n : ℕ) → IsLongItem P J i n → ⊥
+  pub short_items : (i n : ℕ) → IsLongItem started S P J i n → ⊥
 
 -- then it ended because nothing was left to do, or for want of memory
 abbrev pub Completes : Type 0

@@ -1,5 +1,5 @@
 -- What a call of `run` comes to.
-use Rattle.std.specs.Prelude.{◌≡◌, ℕ, ◌<◌, List, Option, Some, None}
+use Rattle.std.specs.Prelude.{◌≡◌, ◌⊎◌, ℕ, ◌<◌, List, [], Option, Some, None}
 use Rattle.mk_base.specs.declared.LinkNo.{LinkNo}
 use Rattle.mk_plan.specs.declared.Plan.{Plan}
 use Rattle.mk_plan.specs.declared.Journal.{Journal}
@@ -17,6 +17,7 @@ use Rattle.mk_run_crew.specs.declared.halt.Halt.{Halt}
 use Rattle.mk_run_crew.specs.Answers.{AreKindAnswers, answers_to}
 use Rattle.mk_run_crew.specs.Halted.{HasHalted}
 use Rattle.mk_run.specs.declared.outcome.Outcome.{Outcome}
+use Rattle.mk_run.specs.declared.outcome.Outcome.TheVariants as outcome
 use Rattle.mk_run.specs.Ends.{IsRun}
 use Rattle.mk_run.specs.Outcomes.{outcome_of}
 
@@ -39,6 +40,12 @@ pub record HasNotRun (started : ℕ) (S : Scenario) (ranks : List ℕ) (rows : L
   pub halt : Halt
   pub is : end ≡ outcome_of halt
   pub halted : HasHalted started S ranks rows log risen halt
+
+-- the run may have ended while its links were started: there is no plan, the fleet failed or memory
+-- was wanting, and nothing was read or written
+abbrev pub EndsAtStart : Option Plan → List LogEntry → Outcome → Type 0
+EndsAtStart plan log end = (plan ≡ None) × (log ≡ [])
+    × ((end ≡ outcome.Fleet) ⊎ (end ≡ outcome.Mem))
 
 -- a run with its plan and its journal, or with neither
 abbrev pub RunsAs : ℕ → Scenario → List ℕ → List Turn → Option Plan → Option Journal → List LogEntry

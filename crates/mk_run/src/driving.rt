@@ -1,8 +1,6 @@
 // The loop of a run: whoever is ready is asked, and one message is heard and taken, until the first outcome.
 ghost use Rattle.std.specs.Prelude.{◌≡◌, ◌≤◌, ◌<◌, ◌++◌, ℕ, List, None, Err, IfErr, OnOk, true};
 ghost use Rattle.mk_outside.specs.declared.fleet.LogEntry.{LogEntry};
-ghost use Rattle.mk_outside.specs.Counts.{HasRisen};
-ghost use Rattle.mk_outside.specs.Logs.{Adds};
 ghost use Rattle.mk_local.specs.Registries.{rows_in};
 ghost use Rattle.mk_plan.specs.Plans.{sim_count};
 ghost use Rattle.mk_sched.specs.Cores.{is_message_in_range};
@@ -10,7 +8,7 @@ ghost use Rattle.mk_run_links.specs.Places.{AreOpen};
 ghost use Rattle.mk_run_local.specs.Seen.{AreOf};
 ghost use Rattle.mk_run_crew.specs.Seen.{within_of};
 ghost use Rattle.mk_run.specs.inner.Underway.{Setting};
-ghost use Rattle.mk_run.specs.inner.Turns.{AreLinksOpen, GoesOn, IsLinkedIfLong, IsLonger, IsNoShorter, IsPast, IsStill, IsStopping, SettlesAs, TakesAs, TurnsAs, Waits};
+ghost use Rattle.mk_run.specs.inner.Turns.{AreLinksOpen, GoesOn, GrowsBy, IsLinkedIfLong, IsLonger, IsNoShorter, IsPast, IsStill, IsStopping, SettlesAs, TakesAs, TurnsAs, Waits};
 
 use crate::outcome::{Outcome, outcome_of};
 use crate::sending::send_last;
@@ -51,22 +49,22 @@ pub fn take(
     crew: &mut Crew,
     kinds: &Registry,
     sim: SimNo,
-    message: &Message,
+    message: Message,
 ) -> Result<(), Outcome>
     requires going { core.old.ended ≡ None }
     requires there { sim.0 < sim_count core.old.plan }
-    requires form { is_message_in_range message.now ≡ true }
+    requires form { is_message_in_range message ≡ true }
     requires known { AreOf (rows_in kinds.now) (within_of crew.old) }
     requires heard { (T : Setting) × (log : List LogEntry)
-        × IsPast T core.old log sim message.now crew.old }
-    ensures taken { TakesAs result sim message.now core.old crew.old core.new crew.new }
+        × IsPast T core.old log sim message crew.old }
+    ensures taken { TakesAs result sim message core.old crew.old core.new crew.new }
     ensures grown { OnOk result (IsLonger core.old core.new) }
     ensures long { IfErr result (IsLinkedIfLong crew.new) }
     ensures still { IsStill crew.old crew.new }
     ensures same_halt { crew.new.halt ≡ crew.old.halt }
 {
     replies_are_kinds();
-    match core.arrive(sim, message)? {
+    match core.take(sim, message)? {
         Taken::Quiet => Ok(()),
         Taken::Send => send_last(core, crew, kinds, sim),
         Taken::Fault(fault) => Err(Outcome::Core(fault)),
@@ -90,14 +88,13 @@ fn hear<F: Fleet, R: Wait>(
     ensures count { F.faults fleet.old ≤ F.faults fleet.new }
     ensures same_count { F.started fleet.new ≡ F.started fleet.old }
     ensures same_links { F.open_links fleet.new ≡ F.open_links fleet.old }
-    ensures turned { (entries : List LogEntry) × Adds entries (F.log fleet.old) (F.log fleet.new)
-        × TurnsAs result entries
-        (HasRisen (F.faults fleet.old) (F.faults fleet.new)) core.old crew.old core.new crew.new }
+    ensures turned { GrowsBy F.log F.faults fleet.old fleet.new
+        (λ entries risen. TurnsAs result entries risen core.old crew.old core.new crew.new) }
     ensures still { IsStill crew.old crew.new }
     ensures unhalted { OnOk result (crew.new.halt ≡ None) }
 {
     match crew.hear(rt, fleet) {
-        Ok((sim, message)) => take(core, crew, kinds, sim, &message),
+        Ok((sim, message)) => take(core, crew, kinds, sim, message),
         Err(halt) => Err(outcome_of(halt)),
     }
 }
@@ -118,9 +115,8 @@ fn turn<F: Fleet, R: Wait>(
     ensures count { F.faults fleet.old ≤ F.faults fleet.new }
     ensures same_count { F.started fleet.new ≡ F.started fleet.old }
     ensures same_links { F.open_links fleet.new ≡ F.open_links fleet.old }
-    ensures turned { (entries : List LogEntry) × Adds entries (F.log fleet.old) (F.log fleet.new)
-        × TurnsAs result entries
-        (HasRisen (F.faults fleet.old) (F.faults fleet.new)) core.old crew.old core.new crew.new }
+    ensures turned { GrowsBy F.log F.faults fleet.old fleet.new
+        (λ entries risen. TurnsAs result entries risen core.old crew.old core.new crew.new) }
     ensures still { IsStill crew.old crew.new }
     ensures unhalted { OnOk result (crew.new.halt ≡ None) }
 {
@@ -144,9 +140,8 @@ pub fn drive<F: Fleet, R: Wait>(
     ensures count { F.faults fleet.old ≤ F.faults fleet.new }
     ensures same_count { F.started fleet.new ≡ F.started fleet.old }
     ensures same_links { F.open_links fleet.new ≡ F.open_links fleet.old }
-    ensures ended { (entries : List LogEntry) × Adds entries (F.log fleet.old) (F.log fleet.new)
-        × TurnsAs (Err result) entries
-        (HasRisen (F.faults fleet.old) (F.faults fleet.new)) core.old crew.old core.new crew.new }
+    ensures ended { GrowsBy F.log F.faults fleet.old fleet.new
+        (λ entries risen. TurnsAs (Err result) entries risen core.old crew.old core.new crew.new) }
     ensures still { IsStill crew.old crew.new }
 {
     for _ in rt.forever() {

@@ -12,9 +12,10 @@ ghost use Rattle.mk_plan.specs.Plans.{IsValidPlan};
 ghost use Rattle.mk_setup.specs.Ranked.{AreRanksOf};
 ghost use Rattle.mk_run_local.specs.Seen.{AreOf};
 ghost use Rattle.mk_run_crew.specs.Seen.{crew_of, within_of};
+ghost use Rattle.mk_run_crew.specs.Started.{StartsLinks};
 ghost use Rattle.mk_run_crew.specs.Wholly.{is_wholly_within};
 ghost use Rattle.mk_run.specs.Outcomes.{IsWithinOutcome};
-ghost use Rattle.mk_run.specs.Ran.{RunsAs};
+ghost use Rattle.mk_run.specs.Ran.{EndsAtStart, RunsAs};
 ghost use Rattle.mk_run.specs.inner.Underway.{IsUnderway, Setting};
 ghost use Rattle.mk_run.specs.inner.Turns.{AreLinksOpen, PlanRunsAs};
 
@@ -52,7 +53,9 @@ pub fn run<F: Fleet, R: Wait>(
     ensures ran { (entries : List LogEntry) × Adds entries (F.log fleet.old) (F.log fleet.new)
         × RunsAs (F.started fleet.old) scenario ranks
         (rows_in kinds.now) result.plan result.journal entries (F.faults fleet.old)
-        (F.faults fleet.new) result.outcome }
+        (F.faults fleet.new) result.outcome
+        × StartsLinks scenario (F.started fleet.old) (F.started fleet.new)
+        (EndsAtStart result.plan entries result.outcome) }
     ensures closed { AreNumbered (F.started fleet.old) (F.open_links fleet.old)
         → F.open_links fleet.new ≡ F.open_links fleet.old }
     ensures within { is_wholly_within scenario ≡ true → (fleet.new ≡ fleet.old)
@@ -90,6 +93,7 @@ fn run_plan<F: Fleet, R: Wait>(
     ensures ran { (entries : List LogEntry) × Adds entries (F.log fleet.old) (F.log fleet.new)
         × PlanRunsAs plan crew entries (F.faults fleet.old)
         (F.faults fleet.new) result.plan result.journal result.outcome }
+    ensures same_count { F.started fleet.new ≡ F.started fleet.old }
     ensures closed { F.open_links fleet.new
         ≡ without_all (links_in crew.places) (F.open_links fleet.old) }
 {

@@ -37,7 +37,7 @@ fn take_next(core: &mut Core, crew: &mut Crew, kinds: &Registry) -> Result<(), O
     ensures still { IsStill crew.old crew.new }
 {
     match crew.take_kept() {
-        Some((sim, message)) => take(core, crew, kinds, sim, &message),
+        Some((sim, message)) => take(core, crew, kinds, sim, message),
         None => unreachable!(),
     }
 }

@@ -8,18 +8,27 @@ use Rattle.mk_plan.specs.declared.Journal.{Journal}
 use Rattle.mk_plan.specs.declared.Message.{Message}
 use Rattle.mk_outside.specs.Counts.{HasRisen}
 use Rattle.mk_outside.specs.declared.fleet.LogEntry.{LogEntry}
+use Rattle.mk_outside.specs.Logs.{Adds}
 use Rattle.mk_local.specs.declared.turn.Turn.{Turn}
 use Rattle.mk_sched.specs.Cores.{CoreState}
 use Rattle.mk_sched.specs.Answers.{SomeReady, SomeOpen}
 use Rattle.mk_run_laws.specs.Handshake.{sim_link}
 use Rattle.mk_run_laws.specs.Crews.{AreStopped, IsRestless}
-use Rattle.mk_run_links.specs.Places.{IsLinked}
+use Rattle.mk_run_links.specs.Entries.{AreOn}
+use Rattle.mk_run_links.specs.Places.{IsLineLink, IsLinked}
 use Rattle.mk_run_local.specs.Seen.{AreOf}
 use Rattle.mk_run_crew.specs.Seen.{CrewSeen, crew_of, within_of}
 use Rattle.mk_run.specs.declared.outcome.Outcome.{Outcome}
 use Rattle.mk_run.specs.declared.outcome.Outcome.TheVariants as outcome
 use Rattle.mk_run.specs.Ends.{IsRun}
 use Rattle.mk_run.specs.inner.Underway.{Setting, reply_in, IsUnderway, HasHeard, HasEnded}
+
+-- the log of a fleet grew by some entries of which this holds, its count of faults having risen or
+-- not
+abbrev pub GrowsBy : {F : Type 0} → (F → Option (List LogEntry)) → (F → ℕ) → F → F
+    → (List LogEntry → Type 0 → Type 0) → Type 0
+GrowsBy log faults old new Holds = (entries : List LogEntry) × Adds entries (log old) (log new)
+    × Holds entries (HasRisen (faults old) (faults new))
 
 -- core and crew have come about together over the log
 abbrev pub GoesOn : Setting → CoreState → List LogEntry → CrewSeen → Type 0
@@ -99,3 +108,4 @@ PlanRunsAs plan C entries faults new_faults (Some P) None end = ⊥
 PlanRunsAs plan C entries faults new_faults None (Some J) end = ⊥
 PlanRunsAs plan C entries faults new_faults None None end = (end ≡ outcome.Mem)
     × AreStopped entries (HasRisen faults new_faults) (crew_of C) × IsRestless entries
+    × AreOn (IsLineLink C.lines) entries

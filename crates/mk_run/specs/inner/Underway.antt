@@ -1,5 +1,5 @@
 -- What stands of a run from the end of its handshake on, and when it has ended. For proofs alone.
-use Rattle.std.specs.Prelude.{◌≡◌, ℕ, ◌<◌, ◌⊎◌, ⊤, true, false, List, [], ◌∷◌, ◌++◌, length, Option, Some, None, option_and_then, slice_get}
+use Rattle.std.specs.Prelude.{◌≡◌, ◌==◌, ℕ, ◌<◌, ◌⊎◌, if◌then◌else◌, ⊤, true, false, List, [], ◌∷◌, ◌++◌, length, Option, Some, None, option_and_then, slice_get}
 use Rattle.mk_base.specs.declared.LinkNo.{LinkNo}
 use Rattle.mk_base.specs.declared.SimNo.{SimNo}
 use Rattle.mk_base.specs.declared.tier.Tier.{Tier}
@@ -28,6 +28,7 @@ use Rattle.mk_run_laws.specs.Kinds.{Replies, KeepsToKinds}
 use Rattle.mk_run_laws.specs.Crews.{CrewState, line_at, IsHeard}
 use Rattle.mk_run_laws.specs.Running.{SetupReplies, RestsEnd}
 use Rattle.mk_run_laws.specs.inner.Running.{HasLine, IsRunning}
+use Rattle.mk_run_links.specs.Entries.{AreOn, IsRunLink}
 use Rattle.mk_run_local.specs.Calls.{IsFitSuccess}
 use Rattle.mk_run_local.specs.Laws.{HasCome}
 use Rattle.mk_run_local.specs.Made.{kind_reply_of}
@@ -66,15 +67,32 @@ HasNoOther T C = (i : ℕ) (w : Line) → line_at C i ≡ Some w → (l : LinkNo
 abbrev pub local_at : List (Option Simulator) → ℕ → Option Simulator
 local_at sims i = option_and_then (λ (o : Option Simulator). o) (slice_get sims i)
 
+-- each simulator within the program has come on by these items
+abbrev pub HaveComeBy : Setting → (ℕ → List Item) → List (Option Simulator) → Type 0
+HaveComeBy T items sims = (i : ℕ) → is_within T.scenario i ≡ true → (L : Simulator)
+    × (local_at sims i ≡ Some L) × HasCome T.rows T.scenario i (items i) L
+
+-- no simulator with a link is within the program
+abbrev pub IsOnlyWithin : Setting → List (Option Simulator) → Type 0
+IsOnlyWithin T sims = (i : ℕ) → is_within T.scenario i ≡ false → local_at sims i ≡ None
+
+-- one simulator has this, the others have what they had
+abbrev pub put : {X : Type 0} → (ℕ → X) → ℕ → X → ℕ → X
+put f s x i = if i == s then x else f i
+
 -- each simulator within the program has come on by the items that the journal sent it
 abbrev pub HaveCome : Setting → List Entry → List (Option Simulator) → Type 0
-HaveCome T J sims = (i : ℕ) → is_within T.scenario i ≡ true → (L : Simulator)
-    × (local_at sims i ≡ Some L) × HasCome T.rows T.scenario i (sent J i) L
+HaveCome T J = HaveComeBy T (sent J)
 
 -- no message came while a simulator was ready
 abbrev pub IsPatient : Plan → List Entry → Type 0
 IsPatient P J = (H : List Entry) (s : SimNo) (m : Message) (more : List Entry)
     → J ≡ H ++ Got s m ∷ more → (i : ℕ) (x : Tier) → IsReady P (view P H) i x → ⊥
+
+-- over this log each rest of the handshake is right, and no link but the run's was read or written
+pub record IsLogRight (T : Setting) (log : List LogEntry) : Type 0 where
+  pub setup_rests : SetupRestsWell T.started T.scenario log
+  pub on_links : AreOn (IsRunLink T.started T.scenario) log
 
 -- the journal, the log and the crew have come about together, and there is no fault
 pub record IsUnderway (T : Setting) (P : Plan) (J : List Entry) (log : List LogEntry)
@@ -88,7 +106,7 @@ pub record IsUnderway (T : Setting) (P : Plan) (J : List Entry) (log : List LogE
   pub no_other : HasNoOther T C
   pub come : HaveCome T J sims
   pub only_within : (i : ℕ) → is_within T.scenario i ≡ false → local_at sims i ≡ None
-  pub setup_rests : SetupRestsWell T.started T.scenario log
+  pub log_right : IsLogRight T log
 
 -- some request was open, nobody was ready, and a message was heard that the core hasn't taken: the
 -- oldest reply that was kept, which is a success, or a message of a link
@@ -103,6 +121,7 @@ pub record HasHeard (T : Setting) (P : Plan) (J : List Entry) (log : List LogEnt
   pub nobody : SomeReady P J → ⊥
   pub heard : IsHeard entries s m crew D
   pub fit : (k : Arrival) (more : List Arrival) → crew.kept ≡ k ∷ more → IsFitSuccess m
+  pub on_links : AreOn (IsRunLink T.started T.scenario) entries
 
 -- a line at the end: the messages that it gave go on from those of the journal, and the items
 -- queued on it are the first of the journal's
@@ -147,7 +166,7 @@ EndsBy risen T P J log C (outcome.Garbled i n) = (l : LinkNo) × (g : HasGiven T
     × BeginsGarbled g.line.line.held n
 EndsBy risen T P J log C (outcome.LongFrame i n) = (l : LinkNo) × (g : HasGiven T J log C i.0 l)
     × IsTooLong n g.line.line.held
-EndsBy risen T P J log C (outcome.LongItem i n) = IsLongItem P J i.0 n
+EndsBy risen T P J log C (outcome.LongItem i n) = IsLongItem T.started T.scenario P J i.0 n
 EndsBy risen T P J log C outcome.Mem = ⊤
 
 -- the run has come to its outcome, and its crew is still to be stopped
@@ -162,7 +181,7 @@ pub record HasEnded (risen : Type 0) (T : Setting) (P : Plan) (J : List Entry) (
       → IsLastLine T J log C end i l
   pub no_other : HasNoOther T C
   pub rests : RestsEnd T.started T.scenario T.replies P J log
-  pub setup_rests : SetupRestsWell T.started T.scenario log
+  pub log_right : IsLogRight T log
   pub ends : EndsBy risen T P J log C end
   pub fault : (view P J).fault ≡ fault_named end
   pub unfinished : IsBrokenOff end → IsAwaiting P J

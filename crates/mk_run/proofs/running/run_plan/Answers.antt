@@ -25,5 +25,5 @@ returns-in-Ok-clause-ran g c =
       (λ T log before low u. run_in_parts T c.drive-outcome.new.core.plan c.into_parts-plan.result.0 c.drive-outcome.new.core.entries c.into_parts-plan.result.1.entries (log ++ (e.0 ++ s.0)) before (g.F.Fleet.faults c.stop.new.fleet) c.drive-outcome.result
           c.into_parts-plan.ensures.plan c.into_parts-plan.ensures.journal c.args.plan
           (run_whole c.args.plan c.in-Ok.core c.drive-outcome.new.core c.args.crew c.drive-outcome.new.crew e.0 s.0 (g.F.Fleet.faults c.args.fleet.now) (g.F.Fleet.faults c.drive-outcome.new.fleet) (g.F.Fleet.faults c.stop.new.fleet) c.drive-outcome.result
-          c.in-Ok.ensures c.drive-outcome.ensures.count c.stop.ensures.count e.2 s.2 s.3 T log before low u)),
+          c.in-Ok.ensures c.drive-outcome.ensures.count c.stop.ensures.count e.2 s.2 s.3 s.4 T log before low u)),
     )

@@ -24,4 +24,4 @@ returns-in-Ok-clause-within g c =
 pub returns-clause-ran : goal.returns-clause-ran
 returns-clause-ran g c faults =
     let t = c.requires.underway in
-    (refl, silently _ c.args.crew (linkless t.0 t.2 (new_core c.args.plan) [] c.args.crew t.1), restless)
+    (refl, silently _ c.args.crew (linkless t.0 t.2 (new_core c.args.plan) [] c.args.crew t.1), restless, tt)
