@@ -1,6 +1,5 @@
 -- A run and a resumed run that took the same messages.
 use Rattle.std.proofs.Common.{◌≤◌, List, [], length, refl, sym, ◌∙◌}
-use Rattle.mk_base.specs.Lists.{BeginsWith}
 use Rattle.mk_base.proofs.Lists.{append_nil}
 use Rattle.mk_plan.specs.declared.Entry.{Entry}
 use Rattle.mk_plan.specs.declared.Plan.{Plan}
@@ -10,10 +9,8 @@ use Rattle.mk_plan.specs.Orderly.{IsEager}
 use Rattle.mk_plan.specs.Ready.{IsDone}
 use Rattle.mk_order.proofs.Settled.{done_is_end, replay_is_one}
 use Rattle.mk_run_laws.proofs.Following.{all_done}
+use Rattle.mk_run.proofs.LinesStopped.{begins_itself}
 use Rattle.mk_resume.specs.Laws.{AreAlike, RunsAndResumedRunsAreAlike}
-
-begins_itself : {X : Type 0} (xs : List X) → BeginsWith xs xs
-begins_itself xs = ([], sym (append_nil xs))
 
 alike : (P : Plan) → IsValidPlan P → (J K : List Entry) → IsEager P J → IsEager P K → length J ≤ P.entries → length K ≤ P.entries → IsDone P (view P J) → IsDone P (view P K) → AreAlike P J K
 alike P valid J K eager_j eager_k within_j within_k done_j done_k = record {

@@ -62,7 +62,7 @@ module _ (S : Scenario) (all : is_wholly_within S ≡ true) (started faults : �
   shown reply P first J heard log (ends.Outcome (outcome.Gone i)) is = absurd (never 0 i.0 is.0 is.1.linked)
   shown reply P first J heard log (ends.Outcome (outcome.Garbled i n)) is = absurd (never 0 i.0 is.0 is.1.linked)
   shown reply P first J heard log (ends.Outcome (outcome.LongFrame i n)) is = absurd (never 0 i.0 is.0 is.1.linked)
-  shown reply P first J heard log (ends.Outcome (outcome.LongItem i n)) is = is
+  shown reply P first J heard log (ends.Outcome (outcome.LongItem i n)) is = absurd (never 0 i.0 is.link is.linked)
   shown reply P first J heard log (ends.Outcome outcome.Mem) is = is
   shown reply P first J heard log (ends.OtherPlan n) is = is
   shown reply P first J heard log (ends.OtherEntry n) is = is
@@ -88,6 +88,7 @@ module _ (S : Scenario) (all : is_wholly_within S ≡ true) (started faults : �
     links = λ i l linked. absurd (never started i l linked);
     rests = λ before after is up. absurd (restless before after is);
     setup_rests = λ before after is not_up. absurd (restless before after is);
+    on_links = tt;
     shown = shown reply P r.first J r.heard log end r.shown;
     unfinished = r.unfinished;
   }
@@ -117,6 +118,7 @@ module _ (S : Scenario) (all : is_wholly_within S ≡ true) (started faults : �
       says = λ reply i l linked. absurd (never started i l linked);
       whole = λ i l linked. absurd (never started i l linked);
       rests = λ before after is. absurd (restless before after is);
+      on_links = tt;
     }
 
     cause : (log : List LogEntry) (queued later : List Request) (h : Halt) → ShowsCause 0 S ranks rows log (HasRisen 0 0) queued later h → ShowsCause started S ranks rows [] (HasRisen faults faults) queued later h
@@ -142,6 +144,7 @@ module _ (S : Scenario) (all : is_wholly_within S ≡ true) (started faults : �
       whole = λ apart i l linked. absurd (never started i l linked);
       rests = λ before after is. absurd (restless before after is);
       cause = cause log t.queued t.later h t.cause;
+      on_links = tt;
     }
 
     not_begun : (log : List LogEntry) (end : ResumeEnd) → HasNotBegun 0 S ranks rows log (HasRisen 0 0) end → HasNotBegun started S ranks rows [] (HasRisen faults faults) end

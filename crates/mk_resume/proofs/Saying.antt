@@ -32,6 +32,7 @@ says_right started S reply P saved J log faults new_faults end r i l linked =
       items = t.0;
       free = t.1.items_sent;
       said = t.1.said;
+      framed = t.1.framed;
       whole = t.1.whole;
       all = t.2;
       as_executed = λ R goes low. begins_twice (run_items P R i) (map bare (sent J i)) (map bare t.0) (r.agrees R goes i low)

@@ -1,21 +1,20 @@
 -- From the end of a resumed run, and the stop of its crew, to what the whole run means.
-use Rattle.std.proofs.Common.{◌≡◌, inl, inr, ℕ, List, [], ◌∷◌, ◌++◌, map, take, None, Some, refl, sym, ap, ◌∙◌, subst, arith, append_assoc, true≢false}
+use Rattle.std.proofs.Common.{◌≡◌, inl, inr, ℕ, List, [], ◌∷◌, ◌++◌, map, take, None, Some, refl, sym, ap, ◌∙◌, subst, arith, true≢false}
 use Rattle.std.proofs.Math.Seq.{take-length}
 use Rattle.mk_base.specs.declared.LinkNo.{LinkNo}
 use Rattle.mk_base.specs.declared.SimNo.{SimNo}
 use Rattle.mk_base.specs.Lists.{BeginsWith}
-use Rattle.mk_base.proofs.Lists.{append_nil, filter_map_append, in_front, some_same}
+use Rattle.mk_base.proofs.Lists.{in_front, some_same}
 use Rattle.mk_plan.specs.declared.Plan.{Plan}
-use Rattle.mk_plan.specs.declared.Item.{Item}
 use Rattle.mk_plan.specs.declared.Message.{Message}
 use Rattle.mk_plan.specs.declared.Entry.{Entry}
-use Rattle.mk_plan.specs.declared.Entry.TheVariants.{Got}
-use Rattle.mk_plan.specs.Journals.{sent, sent_to, got}
+use Rattle.mk_plan.specs.Journals.{got}
 use Rattle.mk_frame.specs.Frames.{IsTooLong}
 use Rattle.mk_session.specs.Fronts.{BeginsGarbled}
 use Rattle.mk_outside.specs.Counts.{HasRisen}
 use Rattle.mk_outside.specs.declared.fleet.LogEntry.{LogEntry}
 use Rattle.mk_outside.specs.declared.fleet.LogEntry.TheVariants.{Ended}
+use Rattle.mk_outside.specs.Logs.{heard_on}
 use Rattle.mk_record_read.specs.declared.saved.Saved.{Saved}
 use Rattle.mk_record_read.specs.Seen.{came}
 use Rattle.mk_record_compare.specs.Differences.{IsOther}
@@ -23,11 +22,16 @@ use Rattle.mk_record_restored.specs.Restored.{IsRestored}
 use Rattle.mk_run_laws.specs.Handshake.{sim_link}
 use Rattle.mk_run_laws.specs.Crews.{CrewState, AreStopped, IsRestless}
 use Rattle.mk_run_laws.specs.Rests.{run_messages}
-use Rattle.mk_run_laws.proofs.Ending.{link_ended, all_given, rest_held}
+use Rattle.mk_run_laws.specs.Hearing.{rest_heard}
+use Rattle.mk_run_laws.specs.inner.Running.{HasLine}
 use Rattle.mk_run.specs.declared.outcome.Outcome.TheVariants as outcome
 use Rattle.mk_run.specs.inner.Underway.{Setting, reply_in}
+use Rattle.mk_run.proofs.LinesStopped.{all_heard, begins_itself, behind_ungot, heard_behind, held_heard, stopped_by}
 use Rattle.mk_run.proofs.Linked.{linked_outside}
 use Rattle.mk_run.proofs.Pushed.{got_last}
+use Rattle.mk_run_links.specs.Entries.{AreOn, IsRunLink}
+use Rattle.mk_run_links.specs.Places.{IsLineLink}
+use Rattle.mk_run_links.proofs.OnEntries.{on_more, on_run}
 use Rattle.mk_run.proofs.Whole.{setup_rests_more}
 use Rattle.mk_resume_walk.specs.Talks.{free_items, up_to}
 use Rattle.mk_resume_walk.proofs.UpTo.{up_to_got}
@@ -42,20 +46,8 @@ use Rattle.mk_resume_loop.specs.inner.Ending.{DiffersNow, EndsBy, HasEnded, HasG
 use Rattle.mk_resume_loop.specs.inner.Underway.{saved_of}
 use Rattle.mk_resume.specs.Resumed.{IsDiffering, IsLeft, IsResumed, ShownBy}
 
-begins_itself : {X : Type 0} (xs : List X) → BeginsWith xs xs
-begins_itself xs = ([], sym (append_nil xs))
-
-pub stopped_by : (entries : List LogEntry) (some all : Type 0) (C : CrewState) → (some → all) → AreStopped entries some C → AreStopped entries all C
-stopped_by entries some all C more stopped i w there =
-    let s = stopped i w there in
-    record { unheard = s.unheard; said = s.said; whole = elim s.whole [ inl said ↦ inl said | inr why ↦ inr (elim why [ inl held ↦ inl held | inr risen ↦ inr (more risen) ]) ] }
-
--- a message sends nothing
-sent_got : (K : List Entry) (s : SimNo) (m : Message) (i : ℕ) → sent (K ++ Got s m ∷ []) i ≡ sent K i
-sent_got K s m i = filter_map_append (sent_to i) K (Got s m ∷ []) ∙ append_nil (sent K i)
-
 module _ (T : Setting) (P : Plan) (first J : List Entry) (heard : Counts) (log entries : List LogEntry) (C : CrewState) (end : ResumeEnd) (faults new_faults : ℕ) (by_run by_stop : Type 0)
-    (risen : by_run → HasRisen faults new_faults) (rises : by_stop → HasRisen faults new_faults) (ended : HasEnded by_run T P first J heard log C end) (stop : AreStopped entries by_stop C) (restless : IsRestless entries) where
+    (risen : by_run → HasRisen faults new_faults) (rises : by_stop → HasRisen faults new_faults) (ended : HasEnded by_run T P first J heard log C end) (stop : AreStopped entries by_stop C) (restless : IsRestless entries) (of_lines : AreOn (IsLineLink C.lines) entries) where
   stopped : AreStopped entries (HasRisen faults new_faults) C
   stopped = stopped_by entries by_stop (HasRisen faults new_faults) C rises stop
 
@@ -64,33 +56,25 @@ module _ (T : Setting) (P : Plan) (first J : List Entry) (heard : Counts) (log e
 
   -- all messages of a line that holds no further one were taken, and behind them is what is held
   all_taken : (i : ℕ) (l : LinkNo) (g : HasGiven T J heard log C i l) → repeated J i (heard i) ≡ run_messages T.scenario (log ++ entries) i l
-  all_taken i l g = sym (all_given T.started T.scenario T.replies ended.suits.counts J log entries (HasRisen faults new_faults) C stopped i l g.linked (repeated J i (heard i)) (free_items J i (heard i)) g.line g.none_held)
+  all_taken i l g = all_heard T.started T.scenario T.replies ended.suits.counts log entries (HasRisen faults new_faults) C stopped i l g.linked (repeated J i (heard i)) (free_items J i (heard i)) g.line g.none_held
+
+  held_so : (i : ℕ) (l : LinkNo) (g : HasGiven T J heard log C i l) → g.line.line.held ≡ rest_heard (heard_on l (log ++ entries))
+  held_so i l g = held_heard T.started T.scenario T.replies ended.suits.counts log entries (HasRisen faults new_faults) C stopped i l g.linked (repeated J i (heard i)) (free_items J i (heard i)) g.line g.none_held
 
   -- a message that a line gave behind those that were sent again was heard behind them
   ahead_heard : (s : SimNo) (m : Message) (a : IsAhead T J heard log C s.0 m) → BeginsWith (run_messages T.scenario (log ++ entries) s.0 a.link) (repeated J s.0 (heard s.0) ++ m ∷ [])
-  ahead_heard s m a = subst (BeginsWith (run_messages T.scenario (log ++ entries) s.0 a.link)) got_is
-      (link_ended T.started T.scenario T.replies ended.suits.counts K log entries (HasRisen faults new_faults) C stopped s.0 a.link a.linked (repeated J s.0 (heard s.0) ++ m ∷ []) (free_items J s.0 (heard s.0)) a.line
-      (subst (BeginsWith (repeated J s.0 (heard s.0) ++ m ∷ [])) (sym got_is) (begins_itself (repeated J s.0 (heard s.0) ++ m ∷ [])))
-      (subst (λ (items : List Item). BeginsWith items (free_items J s.0 (heard s.0))) (sym (sent_got (up_to s.0 (heard s.0) J) s m s.0)) (begins_itself (free_items J s.0 (heard s.0))))).got
+  ahead_heard s m a = subst (λ (ms : List Message). BeginsWith (run_messages T.scenario (log ++ entries) s.0 a.link) (ms ++ m ∷ [])) so_far
+      (heard_behind T.started T.scenario T.replies ended.suits.counts log entries (HasRisen faults new_faults) C stopped (up_to s.0 (heard s.0) J) s m a.link a.linked (free_items J s.0 (heard s.0))
+      (subst (λ (ms : List Message). HasLine T.scenario T.replies log s.0 a.link (ms ++ m ∷ []) (free_items J s.0 (heard s.0)) C) (sym so_far) a.line) (begins_itself (free_items J s.0 (heard s.0))))
     where
-      K : List Entry
-      K = up_to s.0 (heard s.0) J ++ Got s m ∷ []
-
-      got_is : got K s.0 ≡ repeated J s.0 (heard s.0) ++ m ∷ []
-      got_is = got_last (up_to s.0 (heard s.0) J) s m ∙ ap (λ (ms : List Message). ms ++ m ∷ []) (up_to_got s.0 (heard s.0) J)
+      so_far : got (up_to s.0 (heard s.0) J) s.0 ≡ repeated J s.0 (heard s.0)
+      so_far = up_to_got s.0 (heard s.0) J
 
   left : IsLeftNow T J heard log C → IsLeft T.started T.scenario J heard (log ++ entries)
   left (s, caught, inl (m, a)) =
-      let t = ahead_heard (record { 0 = s }) m a in
       let all : repeated J s (heard s) ≡ got J s = ap (λ (n : ℕ). take n (got J s)) caught ∙ take-length (got J s) in
-      inl (record {
-        sim = s;
-        link = a.link;
-        linked = a.linked;
-        message = m;
-        later = t.0;
-        heard = t.1 ∙ append_assoc (repeated J s (heard s)) (m ∷ []) t.0 ∙ ap (λ (ms : List Message). ms ++ m ∷ t.0) all;
-      })
+      inl (behind_ungot T.started T.scenario J (log ++ entries) (record { 0 = s }) m a.link a.linked
+      (subst (λ (ms : List Message). BeginsWith (run_messages T.scenario (log ++ entries) s a.link) (ms ++ m ∷ [])) all (ahead_heard (record { 0 = s }) m a)))
   left (s, caught, inr awaits) = inr (record { sim = s; within = awaits.within; caught = caught; more = awaits.more })
 
   differs : (s : SimNo) (place : ℕ) (kept other : Message) → DiffersNow T first J heard log C s place kept other → IsDiffering T.started T.scenario (reply_in T) first J heard (log ++ entries) s place kept other
@@ -117,18 +101,8 @@ module _ (T : Setting) (P : Plan) (first J : List Entry) (heard : Counts) (log e
   shown (ends.Outcome (outcome.Core f)) (inr full) = inr (record { named = full.named; full = full.full; no_fault = full.no_fault; more = elim full.more [ inl owed ↦ inl owed | inr more ↦ inr (elim more [ inl ready ↦ inl ready | inr t ↦ inr (left t) ]) ] })
   shown (ends.Outcome outcome.Fleet) is = risen is
   shown (ends.Outcome (outcome.Gone i)) is = (is.0, record { linked = is.1.linked; all = all_taken i.0 is.0 is.1 }, in_front (Ended is.0) log entries is.2)
-  shown (ends.Outcome (outcome.Garbled i n)) is = (
-    is.0,
-    record { linked = is.1.linked; all = all_taken i.0 is.0 is.1 },
-    subst (λ (b : List ℕ). BeginsGarbled b n)
-        (sym (rest_held T.started T.scenario T.replies ended.suits.counts J log entries (HasRisen faults new_faults) C stopped i.0 is.0 is.1.linked (repeated J i.0 (heard i.0)) (free_items J i.0 (heard i.0)) is.1.line is.1.none_held)) is.2,
-  )
-  shown (ends.Outcome (outcome.LongFrame i n)) is = (
-    is.0,
-    record { linked = is.1.linked; all = all_taken i.0 is.0 is.1 },
-    subst (IsTooLong n)
-        (sym (rest_held T.started T.scenario T.replies ended.suits.counts J log entries (HasRisen faults new_faults) C stopped i.0 is.0 is.1.linked (repeated J i.0 (heard i.0)) (free_items J i.0 (heard i.0)) is.1.line is.1.none_held)) is.2,
-  )
+  shown (ends.Outcome (outcome.Garbled i n)) is = (is.0, record { linked = is.1.linked; all = all_taken i.0 is.0 is.1 }, subst (λ (b : List ℕ). BeginsGarbled b n) (held_so i.0 is.0 is.1) is.2)
+  shown (ends.Outcome (outcome.LongFrame i n)) is = (is.0, record { linked = is.1.linked; all = all_taken i.0 is.0 is.1 }, subst (IsTooLong n) (held_so i.0 is.0 is.1) is.2)
   shown (ends.Outcome (outcome.LongItem i n)) is = is
   shown (ends.Outcome outcome.Mem) is = is
   shown (ends.OtherPlan n) is = is
@@ -154,7 +128,9 @@ module _ (T : Setting) (P : Plan) (first J : List Entry) (heard : Counts) (log e
     kinds = ended.kinds;
     links = λ i l linked. let t = ended.lines i l linked in (t.items, linked_so i l linked t, t.queued_all);
     rests = rests_well (saved_of first) T.started T.scenario T.replies ended.suits.counts P J (log ++ entries) (end_stopped (saved_of first) T.started T.scenario T.replies P J log entries restless ended.rests);
-    setup_rests = setup_rests_more T.started T.scenario log entries restless ended.setup_rests;
+    setup_rests = setup_rests_more T.started T.scenario log entries restless ended.log_right.setup_rests;
+    on_links = on_more (IsRunLink T.started T.scenario) log entries ended.log_right.on_links
+        (on_run T.started T.scenario C.lines entries (λ i l linked. let h = (ended.lines i l linked).line in (h.line, h.there, h.link)) ended.no_other of_lines);
     shown = shown end ended.ends;
     unfinished = ended.unfinished;
   }

@@ -1,5 +1,5 @@
 -- The laws of a resumed run.
-use Rattle.std.specs.Prelude.{◌≡◌, ◌⊎◌, ℕ, ◌<◌, Bool, List, length, take, map, Option, None, Some, IsSome}
+use Rattle.std.specs.Prelude.{◌≡◌, ◌⊎◌, ℕ, ◌<◌, Bool, true, List, length, take, map, Option, None, Some, IsSome}
 use Rattle.mk_base.specs.declared.LinkNo.{LinkNo}
 use Rattle.mk_base.specs.declared.SimNo.{SimNo}
 use Rattle.mk_base.specs.Lists.{BeginsWith, IsIn}
@@ -29,6 +29,7 @@ use Rattle.mk_local.specs.declared.turn.Turn.{Turn}
 use Rattle.mk_setup.specs.Handshakes.{IsMade}
 use Rattle.mk_run_laws.specs.Hearing.{messages_heard, rest_heard}
 use Rattle.mk_run_laws.specs.Handshake.{setup_count, setup_requests, sim_link}
+use Rattle.mk_run_laws.specs.Payloads.{AreFramed, link_payloads}
 use Rattle.mk_run_laws.specs.Kinds.{Replies}
 use Rattle.mk_run_laws.specs.Runs.{SaidWhole, run_frames}
 use Rattle.mk_run_laws.specs.Laws.{IsJournalOf}
@@ -44,13 +45,15 @@ use Rattle.mk_resume_loop.specs.Resumed.{IsLongFree, QueuedAllAt}
 use Rattle.mk_resume.specs.Resumed.{HasNotBegun, IsDiffering, IsLeft, IsResumed, ResumesAs}
 
 -- what is said on a simulator's link: its handshake, the first of the items that were free to it,
--- and a stop; all of it, but where a write took nothing or the count of faults rose; and these
--- items begin what sequential execution sends it over all messages that go on from the journal's
+-- and a stop, no payload being longer than a frame's may be; all of it, but where a write took
+-- nothing or the count of faults rose; and these items begin what sequential execution sends it over
+-- all messages that go on from the journal's
 pub record LinkSaysFree (S : Scenario) (P : Plan) (J : List Entry) (heard : Counts)
     (log : List LogEntry) (risen : Type 0) (end : ResumeEnd) (i : ℕ) (l : LinkNo) : Type 0 where
   pub items : List Item
   pub free : BeginsWith (free_items J i (heard i)) items
   pub said : BeginsWith (run_frames S i items) (said_on l log)
+  pub framed : AreFramed (link_payloads S i (setup_count S i) items true)
   pub whole : SaidWhole S log risen i l (setup_count S i) items
   pub all : QueuedAllAt end (free_items J i (heard i)) items
   pub as_executed : (R : Messages) → Continues P J R → i < sim_count P
@@ -113,7 +116,7 @@ pub record IsFaultless (started : ℕ) (S : Scenario) (reply : Replies) (P : Pla
   pub right_frames : (i : ℕ) (l : LinkNo) (n : ℕ) → sim_link started S i ≡ Some l
       → BeginsGarbled (rest_heard (heard_on l log)) n ⊎ IsTooLong n (rest_heard (heard_on l log))
       → ⊥
-  pub short_items : (i n : ℕ) → IsLongFree P J heard i n → ⊥
+  pub short_items : (i n : ℕ) → IsLongFree started S P J heard i n → ⊥
 
 -- then it ended because nothing was left to do, or for want of memory
 abbrev pub ResumedRunsComplete : Type 0

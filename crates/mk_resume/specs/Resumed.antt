@@ -35,12 +35,14 @@ use Rattle.mk_run_laws.specs.Kinds.{Replies}
 use Rattle.mk_run_laws.specs.Rests.{run_messages, AllSetUp, IsWellInSetup}
 use Rattle.mk_run_laws.specs.Running.{SetupReplies}
 use Rattle.mk_run_laws.specs.Runs.{SaidWhole, SaysRight}
+use Rattle.mk_run_links.specs.Entries.{AreOn, IsRunLink}
 use Rattle.mk_run_local.specs.Made.{kind_reply_of}
 use Rattle.mk_run_crew.specs.Answers.{AreKindAnswers, answers_to}
 use Rattle.mk_run.specs.declared.outcome.Outcome.{Outcome}
 use Rattle.mk_run.specs.declared.outcome.Outcome.TheVariants as outcome
 use Rattle.mk_run.specs.Ends.{IsLastFaulty, IsUngot, AreInRange, SetupRestsWell}
 use Rattle.mk_run.specs.Ran.{HasNotRun}
+use Rattle.mk_run.specs.Ran as ran
 use Rattle.mk_resume_walk.specs.Talks.{free_items}
 use Rattle.mk_resume_links.specs.Rests.{Counts, repeated, RestsWell}
 use Rattle.mk_resume_links.specs.Runs.{IsLinkOfResumed}
@@ -102,7 +104,7 @@ ShownBy started S reply P first J heard log faults new_faults
     (ends.Outcome (outcome.LongFrame i n)) = (l : LinkNo) × HasTakenAll started S log J heard i.0 l
     × IsTooLong n (rest_heard (heard_on l log))
 ShownBy started S reply P first J heard log faults new_faults
-    (ends.Outcome (outcome.LongItem i n)) = IsLongFree P J heard i.0 n
+    (ends.Outcome (outcome.LongItem i n)) = IsLongFree started S P J heard i.0 n
 ShownBy started S reply P first J heard log faults new_faults (ends.Outcome outcome.Mem) = ⊤
 ShownBy started S reply P first J heard log faults new_faults (ends.OtherPlan n) = ⊥
 ShownBy started S reply P first J heard log faults new_faults (ends.OtherEntry n) = ⊥
@@ -121,7 +123,7 @@ IsWaiting P J heard = (SomeReady P J → ⊥)
 -- run's begins with. Each simulator has sent so many of the journal's messages again in this call
 -- (`heard`): where it has sent all that the record has of it, these are all; those of a simulator
 -- within the program are its kind's replies; and each was sent what is free then, which is what
--- stands in the journal before its next message
+-- stands in the journal before its next message. No link but the run's was read or written
 pub record IsResumed (started : ℕ) (S : Scenario) (reply : Replies) (P : Plan) (saved : Saved)
     (J : List Entry) (log : List LogEntry) (faults new_faults : ℕ)
     (end : ResumeEnd) : Type 0 where
@@ -146,6 +148,7 @@ pub record IsResumed (started : ℕ) (S : Scenario) (reply : Replies) (P : Plan)
       × QueuedAllAt end (free_items J i (heard i)) items
   pub rests : RestsWell (λ i. length (got first i)) started S P J log
   pub setup_rests : SetupRestsWell started S log
+  pub on_links : AreOn (IsRunLink started S) log
   pub shown : ShownBy started S reply P first J heard log faults new_faults end
   pub unfinished : IsCutOff end → IsWaiting P J heard
 
@@ -166,8 +169,8 @@ pub record HasResumed (started : ℕ) (S : Scenario) (ranks : List ℕ) (rows : 
 -- the handshake was made, with this plan, and the run went no further: the plan is made of the
 -- answers to all requests, and on each link the first messages that were heard are the answers to
 -- the simulator's requests; there the whole handshake was said and a stop, but where a write took
--- nothing or the count of faults rose, and nothing else; and where the fleet rested, not all had set
--- up
+-- nothing or the count of faults rose, and nothing else; where the fleet rested, not all had set up;
+-- and no link but the run's was read or written
 pub record HasRefused (started : ℕ) (S : Scenario) (ranks : List ℕ) (rows : List Turn) (P : Plan)
     (log : List LogEntry) (risen : Type 0) : Type 0 where
   pub answers : List Message
@@ -186,6 +189,7 @@ pub record HasRefused (started : ℕ) (S : Scenario) (ranks : List ℕ) (rows : 
       → SaidWhole S log risen i l (setup_count S i) []
   pub rests : (before after : List LogEntry) → log ≡ before ++ Rest ∷ after
       → IsWellInSetup started S before × (AllSetUp started S before → ⊥)
+  pub on_links : AreOn (IsRunLink started S) log
 
 -- why the record wasn't taken: its plan is another than this one; an entry of it isn't the
 -- journal's that its messages make; or memory was wanting
@@ -210,6 +214,11 @@ abbrev pub HasNotBegun : ℕ → Scenario → List ℕ → List Turn → List Lo
     → Type 0
 HasNotBegun started S ranks rows log risen end = (o : Outcome) × (end ≡ ends.Outcome o)
     × HasNotRun started S ranks rows log risen o
+
+-- the run may have ended while its links were started: the fleet failed or memory was wanting, and
+-- nothing was read or written
+abbrev pub EndsAtStart : Option Plan → List LogEntry → ResumeEnd → Type 0
+EndsAtStart plan log end = (o : Outcome) × (end ≡ ends.Outcome o) × ran.EndsAtStart plan log o
 
 -- what a call of `resume` comes to. Where the record was taken, its plan and its journal are there;
 -- where its messages met a fault of the core, so are they; and else they aren't, since its plan or

@@ -14,11 +14,12 @@ ghost use Rattle.mk_run_links.specs.Places.{AreOpen, without_all};
 ghost use Rattle.mk_setup.specs.Ranked.{AreRanksOf};
 ghost use Rattle.mk_run_local.specs.Seen.{AreOf};
 ghost use Rattle.mk_run_crew.specs.Seen.{within_of};
+ghost use Rattle.mk_run_crew.specs.Started.{StartsLinks};
 ghost use Rattle.mk_run_crew.specs.Wholly.{is_wholly_within};
 ghost use Rattle.mk_run.specs.inner.Underway.{Setting};
 ghost use Rattle.mk_run.specs.inner.Turns.{AreLinksOpen, IsStill};
 ghost use Rattle.mk_resume_loop.specs.inner.Turns.{IsSized};
-ghost use Rattle.mk_resume.specs.Resumed.{ResumesAs};
+ghost use Rattle.mk_resume.specs.Resumed.{EndsAtStart, ResumesAs};
 ghost use Rattle.mk_resume.specs.inner.Going.{CatchesUpAs, GoesOnAs, IsFresh, IsStarted, PlanResumesAs, Start};
 
 use crate::accepting::{Accepted, accept, nothing_left};
@@ -76,7 +77,9 @@ pub fn resume<F: Fleet, R: Wait>(
     ensures ran { (entries : List LogEntry) × Adds entries (F.log fleet.old) (F.log fleet.new)
         × ResumesAs (F.started fleet.old) scenario ranks
         (rows_in kinds.now) saved result.taken result.plan result.journal entries
-        (F.faults fleet.old) (F.faults fleet.new) result.end }
+        (F.faults fleet.old) (F.faults fleet.new) result.end
+        × StartsLinks scenario (F.started fleet.old) (F.started fleet.new)
+        (EndsAtStart result.plan entries result.end) }
     ensures closed { AreNumbered (F.started fleet.old) (F.open_links fleet.old)
         → F.open_links fleet.new ≡ F.open_links fleet.old }
     ensures within { is_wholly_within scenario ≡ true → fleet.new ≡ fleet.old }
@@ -105,7 +108,9 @@ pub fn resume_over<F: Fleet, R: Wait>(
     ensures ran { (entries : List LogEntry) × Adds entries (F.log fleet.old) (F.log fleet.new)
         × ResumesAs (F.started fleet.old) scenario ranks
         (rows_in kinds.now) saved result.taken result.plan result.journal entries
-        (F.faults fleet.old) (F.faults fleet.new) result.end }
+        (F.faults fleet.old) (F.faults fleet.new) result.end
+        × StartsLinks scenario (F.started fleet.old) (F.started fleet.new)
+        (EndsAtStart result.plan entries result.end) }
     ensures closed { AreNumbered (F.started fleet.old) (F.open_links fleet.old)
         → F.open_links fleet.new ≡ F.open_links fleet.old }
 {
@@ -132,6 +137,7 @@ fn resume_plan<F: Fleet, R: Wait>(
     ensures ran { (entries : List LogEntry) × Adds entries (F.log fleet.old) (F.log fleet.new)
         × PlanResumesAs plan saved crew entries (F.faults fleet.old)
         (F.faults fleet.new) result.taken result.plan result.journal result.end }
+    ensures same_count { F.started fleet.new ≡ F.started fleet.old }
     ensures closed { F.open_links fleet.new
         ≡ without_all (links_in crew.places) (F.open_links fleet.old) }
 {
@@ -165,6 +171,7 @@ fn go_on<F: Fleet, R: Wait>(
     ensures ran { (entries : List LogEntry) × Adds entries (F.log fleet.old) (F.log fleet.new)
         × GoesOnAs core crew entries (F.faults fleet.old)
         (F.faults fleet.new) result.plan result.journal result.end }
+    ensures same_count { F.started fleet.new ≡ F.started fleet.old }
     ensures closed { F.open_links fleet.new
         ≡ without_all (links_in crew.places) (F.open_links fleet.old) }
 {

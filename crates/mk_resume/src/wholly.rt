@@ -37,6 +37,8 @@ impl Fleet for NoFleet {
 
     ghost log = { λ _. None };
 
+    ghost asked = { λ _. None };
+
     fn listen(&mut self) -> Listened {
         Listened::Mem
     }

@@ -20,12 +20,11 @@ use Rattle.mk_run_laws.specs.Lines.{Line}
 use Rattle.mk_run_laws.specs.Kinds.{Replies}
 use Rattle.mk_run_laws.specs.Crews.{CrewState, line_at, kept_of, given_by, AreMoved, AreParkedAtRests, IsSentOnLink, IsSentWithin, IsUnheard}
 use Rattle.mk_run_laws.specs.Running.{SetupReplies, IsBegun}
-use Rattle.mk_run_laws.specs.inner.Running.{IsUnready}
 use Rattle.mk_run_laws.proofs.Stepping.{apart_is, same_is, same_or_not}
 use Rattle.mk_resume_walk.specs.Talks.{free_items}
 use Rattle.mk_resume_links.specs.Rests.{Counts, repeated}
 use Rattle.mk_resume_links.specs.inner.Catching.{IsCatching, IsCatchingWith, WasAwaited, awaited}
-use Rattle.mk_resume_links.specs.inner.Touching.{IsInTouch, RepeatsByKind, RestsOver, RestsSoFar}
+use Rattle.mk_resume_links.specs.inner.Touching.{IsInTouch, IsResting, RepeatsByKind, RestsOver, RestsSoFar}
 use Rattle.mk_resume_links.proofs.Growing.{count_sent, free_before, given_away, given_here, got_away, got_here, last_there, repeated_away, repeated_got_away, repeated_got_here, repeated_here, repeated_sent}
 use Rattle.mk_resume_links.proofs.Repeating.{kinds_longer, kinds_more, kinds_none}
 use Rattle.mk_resume_links.proofs.Touching.{begun, kept_within, linked_out, queued_on_link, seen_as, taken_kept, taken_off}
@@ -145,23 +144,23 @@ module _ (saved : Counts) (started : ℕ) (S : Scenario) (replies : SetupReplies
   ]
 
   -- a message of a link is one that its simulator has to send again
-  pub again_on_link : (A : ℕ → List Message) (J : List Entry) (heard : Counts) (log entries : List LogEntry) (C D : CrewState) (s : ℕ) (m : Message) (l : LinkNo) → With (λ i. free_items J i (heard i)) A J heard log C → IsUnready P J
+  pub again_on_link : (A : ℕ → List Message) (J : List Entry) (heard : Counts) (log entries : List LogEntry) (C D : CrewState) (s : ℕ) (m : Message) (l : LinkNo) → With (λ i. free_items J i (heard i)) A J heard log C → IsResting S P J
       → sim_link started S s ≡ Some l → C.kept ≡ [] → D.kept ≡ [] → AreMoved entries (given_by s m) C D → AreParkedAtRests entries C → slice_get (got J s) (heard s) ≡ Some m
       → With (λ i. free_items J i (heard i)) A J (one_more heard s) (log ++ entries) D
-  again_on_link A J heard log entries C D s m l c nobody linked none none_after moved parked is = record {
+  again_on_link A J heard log entries C D s m l c resting linked none none_after moved parked is = record {
     counts = counts_again J heard s m c.counts is;
     touch = seen_as started S replies (λ i. repeated J i (heard i) ++ given_by s m i) (λ i. repeated J i (one_more heard s i)) (λ i. free_items J i (heard i)) (λ i. free_items J i (heard i)) A A (log ++ entries) D
         (taken_off started S replies (λ i. repeated J i (heard i)) (λ i. free_items J i (heard i)) A log entries C D (given_by s m) c.touch moved (none_after ∙ sym none)) (λ i l linked. messages_again J heard s m is i) (λ i l linked. refl) (λ i. refl);
     kinds = kinds_more reply (is_within S) J heard (one_more heard s) s c.kinds (more_here heard s) (more_away heard s) (λ n inside there. absurd (true≢false (sym inside ∙ linked_out started S replies s l linked)));
-    rests = rests_waited saved started S replies P J heard A log entries C c.touch (λ i k link. c.counts i) nobody parked none D.kept none_after c.rests;
+    rests = rests_waited saved started S replies P J heard A log entries C c.touch (λ i k link. c.counts i) resting parked none D.kept none_after c.rests;
   }
 
   -- a message of a link whose simulator had caught up is the journal's next entry
-  pub new_on_link : (A : ℕ → List Message) (J : List Entry) (heard : Counts) (log entries : List LogEntry) (C D : CrewState) (s : SimNo) (m : Message) (l : LinkNo) → With (λ i. free_items J i (heard i)) A J heard log C → IsUnready P J
+  pub new_on_link : (A : ℕ → List Message) (J : List Entry) (heard : Counts) (log entries : List LogEntry) (C D : CrewState) (s : SimNo) (m : Message) (l : LinkNo) → With (λ i. free_items J i (heard i)) A J heard log C → IsResting S P J
       → sim_link started S s.0 ≡ Some l → C.kept ≡ [] → D.kept ≡ [] → AreMoved entries (given_by s.0 m) C D → AreParkedAtRests entries C → heard s.0 ≡ length (got J s.0)
       → With (λ i. free_items J i (heard i)) A (J ++ Got s m ∷ []) (one_more heard s.0) (log ++ entries) D × RestsOver saved started S replies P (J ++ Got s m ∷ []) (log ++ entries)
-  new_on_link A J heard log entries C D s m l c nobody linked none none_after moved parked caught =
-      let waited = rests_waited saved started S replies P J heard A log entries C c.touch (λ i k link. c.counts i) nobody parked none D.kept none_after c.rests in
+  new_on_link A J heard log entries C D s m l c resting linked none none_after moved parked caught =
+      let waited = rests_waited saved started S replies P J heard A log entries C c.touch (λ i k link. c.counts i) resting parked none D.kept none_after c.rests in
       let over = link_over saved started S replies P J (log ++ entries) D.kept s m l linked waited in (
         record {
           counts = counts_new J heard s m c.counts caught;
@@ -178,22 +177,22 @@ module _ (saved : Counts) (started : ℕ) (S : Scenario) (replies : SetupReplies
       kinds_new s m own = kinds_more reply (is_within S) (J ++ Got s m ∷ []) heard (one_more heard s.0) s.0 (kinds_longer reply (is_within S) J heard (Got s m ∷ []) (few J heard c.counts) c.kinds) (more_here heard s.0) (more_away heard s.0) own
 
   -- nothing was heard
-  pub catching_unheard : (A : ℕ → List Message) (J : List Entry) (heard : Counts) (log entries : List LogEntry) (C D : CrewState) → With (λ i. free_items J i (heard i)) A J heard log C → IsUnready P J → IsUnheard entries C D → With (λ i. free_items J i (heard i)) A J heard (log ++ entries) D
-  catching_unheard A J heard log entries C D c nobody u = record {
+  pub catching_unheard : (A : ℕ → List Message) (J : List Entry) (heard : Counts) (log entries : List LogEntry) (C D : CrewState) → With (λ i. free_items J i (heard i)) A J heard log C → IsResting S P J → IsUnheard entries C D → With (λ i. free_items J i (heard i)) A J heard (log ++ entries) D
+  catching_unheard A J heard log entries C D c resting u = record {
     counts = c.counts;
     touch = seen_as started S replies (λ i. repeated J i (heard i) ++ []) (λ i. repeated J i (heard i)) (λ i. free_items J i (heard i)) (λ i. free_items J i (heard i)) A A (log ++ entries) D
         (taken_off started S replies (λ i. repeated J i (heard i)) (λ i. free_items J i (heard i)) A log entries C D (λ i. []) c.touch u.moved u.kept) (λ i l linked. append_nil (repeated J i (heard i))) (λ i l linked. refl) (λ i. refl);
     kinds = c.kinds;
-    rests = rests_waited saved started S replies P J heard A log entries C c.touch (λ i l linked. c.counts i) nobody u.parked u.none_kept D.kept (u.kept ∙ u.none_kept) c.rests;
+    rests = rests_waited saved started S replies P J heard A log entries C c.touch (λ i l linked. c.counts i) resting u.parked u.none_kept D.kept (u.kept ∙ u.none_kept) c.rests;
   }
 
   -- a message of a link was heard, and the run ends by it
-  pub apart_on_link : (A : ℕ → List Message) (J : List Entry) (heard : Counts) (log entries : List LogEntry) (C D : CrewState) (s : ℕ) (m : Message) → With (λ i. free_items J i (heard i)) A J heard log C → IsUnready P J
+  pub apart_on_link : (A : ℕ → List Message) (J : List Entry) (heard : Counts) (log entries : List LogEntry) (C D : CrewState) (s : ℕ) (m : Message) → With (λ i. free_items J i (heard i)) A J heard log C → IsResting S P J
       → C.kept ≡ [] → D.kept ≡ [] → AreMoved entries (given_by s m) C D → AreParkedAtRests entries C
       → IsInTouch (λ i. repeated J i (heard i) ++ given_by s m i) (λ i. free_items J i (heard i)) A started S replies (log ++ entries) D × RestsSoFar saved started S replies P J (log ++ entries) D.kept
-  apart_on_link A J heard log entries C D s m c nobody none none_after moved parked = (
+  apart_on_link A J heard log entries C D s m c resting none none_after moved parked = (
     taken_off started S replies (λ i. repeated J i (heard i)) (λ i. free_items J i (heard i)) A log entries C D (given_by s m) c.touch moved (none_after ∙ sym none),
-    rests_waited saved started S replies P J heard A log entries C c.touch (λ i l linked. c.counts i) nobody parked none D.kept none_after c.rests,
+    rests_waited saved started S replies P J heard A log entries C c.touch (λ i l linked. c.counts i) resting parked none D.kept none_after c.rests,
   )
 
   -- ---- a kept reply is taken

@@ -61,6 +61,7 @@ module _ (saved : Counts) (started : ℕ) (S : Scenario) (replies : SetupReplies
     well_at_rest = record {
       has_all = λ i l linked. subst (λ (A : List Entry). BeginsWith (got A i) (run_messages S before i l)) (sym rest_is) (subst (BeginsWith (got r.at i)) (sym (heard_of_link i l linked)) (begins_take (r.heard i) (got r.at i)));
       nobody = λ i x ready. r.nobody i x (subst (λ (A : List Entry). IsReady P (view P A) i x) rest_is ready);
+      replied = λ i inside. subst (λ (A : List Entry). (view P A).open_at i ≡ None) (sym rest_is) (r.replied i inside);
       said = λ i l linked. let t = r.line i l linked in
           subst (λ (A : List Entry). SaysAll l before (all_frames S i (free_items A i (length (run_messages S before i l))))) (sym rest_is)
           (subst (λ (n : ℕ). SaysAll l before (all_frames S i (free_items r.at i n))) (sym (heard_count i l linked))

@@ -126,7 +126,7 @@ module _ (started : ℕ) (S : Scenario) (replies : SetupReplies) where
           let text : item_text id item ≡ item_text (id_after n (X s)) item = text_same item id (id_after n (X s)) (λ takes. right w h.there takes ∙ next_is) in
           let after_is : id_after w.next (item ∷ []) ≡ id_after n (X s ++ item ∷ []) = ap (λ (m : ℕ). id_after m (item ∷ [])) next_is ∙ ids_push n (X s) item in
           let at : IsLineAt log (replies s ++ M s) ((setup_payloads S s ++ item_payloads n (X s)) ++ item_text id item ∷ []) (id_after w.next (item ∷ [])) (queued (item_text id item) (id_after w.next (item ∷ [])) w) =
-          line_queued log (replies s ++ M s) (setup_payloads S s ++ item_payloads n (X s)) (id_after n (X s)) (id_after w.next (item ∷ [])) (item_text id item) w h.in_step in
+          line_queued log (replies s ++ M s) (setup_payloads S s ++ item_payloads n (X s)) (id_after n (X s)) (id_after w.next (item ∷ [])) (item_text id item) w h.in_step sent_so.framed in
           let payloads_are : (setup_payloads S s ++ item_payloads n (X s)) ++ item_text id item ∷ [] ≡ setup_payloads S s ++ item_payloads n (X s ++ item ∷ []) =
           append_assoc (setup_payloads S s) (item_payloads n (X s)) (item_text id item ∷ []) ∙ ap (λ (t : List ℕ). setup_payloads S s ++ (item_payloads n (X s) ++ t ∷ [])) text
           ∙ ap (λ (ps : List (List ℕ)). setup_payloads S s ++ ps) (sym (items_push n (X s) item)) in

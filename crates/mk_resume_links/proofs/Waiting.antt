@@ -18,13 +18,12 @@ use Rattle.mk_run_laws.specs.Payloads.{item_payloads, id_after}
 use Rattle.mk_run_laws.specs.Lines.{IsLineAt}
 use Rattle.mk_run_laws.specs.Crews.{CrewState, AreParkedAtRests, IsRestless}
 use Rattle.mk_run_laws.specs.Running.{SetupReplies, BeginsOnLink, IsBegun}
-use Rattle.mk_run_laws.specs.inner.Running.{IsUnready}
 use Rattle.mk_run_laws.proofs.Moving.{line_moved}
 use Rattle.mk_run_laws.proofs.Stepping.{first_or_second}
 use Rattle.mk_resume_walk.specs.Talks.{free_items}
 use Rattle.mk_resume_links.specs.Rests.{Counts, repeated}
 use Rattle.mk_resume_links.specs.Running.{IsRestOf, RestsEnd}
-use Rattle.mk_resume_links.specs.inner.Touching.{IsInTouch, RestsOver, RestsSoFar}
+use Rattle.mk_resume_links.specs.inner.Touching.{IsInTouch, IsResting, RestsOver, RestsSoFar}
 
 module _ (saved : Counts) (started : ℕ) (S : Scenario) (replies : SetupReplies) (P : Plan) where
   -- ---- the journal goes on
@@ -35,6 +34,7 @@ module _ (saved : Counts) (started : ℕ) (S : Scenario) (replies : SetupReplies
     more = r.more ++ e ∷ [];
     parts = ap (λ (l : List Entry). l ++ e ∷ []) r.parts ∙ append_assoc r.at r.more (e ∷ []);
     nobody = r.nobody;
+    replied = r.replied;
     heard = r.heard;
     counts = r.counts;
     line = r.line;
@@ -77,13 +77,14 @@ module _ (saved : Counts) (started : ℕ) (S : Scenario) (replies : SetupReplies
 
   -- lines that were moved to a rest are in step with the journal
   abbrev parked_rest : (J : List Entry) (heard : Counts) (A : ℕ → List Message) (log entries : List LogEntry) (C : CrewState) → IsInTouch (λ i. repeated J i (heard i)) (λ i. free_items J i (heard i)) A started S replies log C
-      → ((i : ℕ) (l : LinkNo) → sim_link started S i ≡ Some l → length (got J i) ≡ max (saved i) (heard i)) → IsUnready P J → AreParkedAtRests entries C
+      → ((i : ℕ) (l : LinkNo) → sim_link started S i ≡ Some l → length (got J i) ≡ max (saved i) (heard i)) → IsResting S P J → AreParkedAtRests entries C
       → (before after : List LogEntry) → entries ≡ before ++ Rest ∷ after → IsRestOf saved started S replies P J (log ++ before)
-  parked_rest J heard A log entries C touch counts nobody parked before after is = record {
+  parked_rest J heard A log entries C touch counts resting parked before after is = record {
     at = J;
     more = [];
     parts = sym (append_nil J);
-    nobody = nobody;
+    nobody = resting.0;
+    replied = resting.1;
     heard = heard;
     counts = counts;
     line = λ i l linked. let h = touch.lines i l linked in let t = parked before after is i h.line h.there in (
@@ -97,12 +98,12 @@ module _ (saved : Counts) (started : ℕ) (S : Scenario) (replies : SetupReplies
 
   -- a message was waited for, with no reply kept and nobody ready
   pub rests_waited : (J : List Entry) (heard : Counts) (A : ℕ → List Message) (log entries : List LogEntry) (C : CrewState) → IsInTouch (λ i. repeated J i (heard i)) (λ i. free_items J i (heard i)) A started S replies log C
-      → ((i : ℕ) (l : LinkNo) → sim_link started S i ≡ Some l → length (got J i) ≡ max (saved i) (heard i)) → IsUnready P J → AreParkedAtRests entries C
+      → ((i : ℕ) (l : LinkNo) → sim_link started S i ≡ Some l → length (got J i) ≡ max (saved i) (heard i)) → IsResting S P J → AreParkedAtRests entries C
       → C.kept ≡ [] → (kept : List Arrival) → kept ≡ [] → RestsSoFar saved started S replies P J log C.kept → RestsSoFar saved started S replies P J (log ++ entries) kept
-  rests_waited J heard A log entries C touch counts nobody parked none kept none_after rests before after is up = elim (first_or_second log entries before after Rest is) [
+  rests_waited J heard A log entries C touch counts resting parked none kept none_after rests before after is up = elim (first_or_second log entries before after Rest is) [
     | inl t ↦ let q = rests before t.0 t.1 up in (q.0, elim q.1 [ inl still ↦ inl (still.0, none_after) | inr on_link ↦ inr on_link ])
     | inr t ↦ subst (λ (b : List LogEntry). (r : IsRestOf saved started S replies P J b) × (((r.more ≡ []) × (kept ≡ [])) ⊎ BeginsOnLink started S r.more)) (sym t.1)
-        (parked_rest J heard A log entries C touch counts nobody parked t.0 after t.2, inl (refl, none_after))
+        (parked_rest J heard A log entries C touch counts resting parked t.0 after t.2, inl (refl, none_after))
   ]
 
   -- entries without a rest

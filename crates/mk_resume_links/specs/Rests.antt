@@ -1,5 +1,5 @@
 -- What holds where a resumed run waits.
-use Rattle.std.specs.Prelude.{◌≡◌, ℕ, max, List, ◌∷◌, ◌++◌, length, take, Option, Some, option_map}
+use Rattle.std.specs.Prelude.{◌≡◌, ℕ, max, true, List, ◌∷◌, ◌++◌, length, take, Option, None, Some, option_map}
 use Rattle.mk_base.specs.declared.LinkNo.{LinkNo}
 use Rattle.mk_base.specs.declared.tier.Tier.{Tier}
 use Rattle.mk_base.specs.Lists.{BeginsWith}
@@ -12,7 +12,7 @@ use Rattle.mk_scenario.specs.declared.parts.Scenario.{Scenario}
 use Rattle.mk_outside.specs.declared.fleet.LogEntry.{LogEntry}
 use Rattle.mk_outside.specs.declared.fleet.LogEntry.TheVariants.{NotHeard, Rest}
 use Rattle.mk_outside.specs.Logs.{last_read}
-use Rattle.mk_run_laws.specs.Handshake.{sim_link}
+use Rattle.mk_run_laws.specs.Handshake.{is_within, sim_link}
 use Rattle.mk_run_laws.specs.Rests.{within, run_messages, AllSetUp, all_frames, SaysAll}
 use Rattle.mk_resume_walk.specs.Talks.{free_items}
 
@@ -35,7 +35,8 @@ abbrev pub at_rest : Counts → ℕ → Scenario → List LogEntry → List Entr
 at_rest saved started S before J = within (rest_counts saved started S before) J
 
 -- where a resumed run rests, J being its journal: what was there by then begins, for each link, with
--- all messages heard by then; nobody is ready in it; the items were said that were free by then, and
+-- all messages heard by then; nobody is ready in it, and no request is open within the program; the
+-- items were said that were free by then, and
 -- no others; and nothing more had come
 pub record IsWellAtRest (saved : Counts) (started : ℕ) (S : Scenario) (P : Plan) (J : List Entry)
     (before : List LogEntry) : Type 0 where
@@ -43,6 +44,8 @@ pub record IsWellAtRest (saved : Counts) (started : ℕ) (S : Scenario) (P : Pla
       → BeginsWith (got (at_rest saved started S before J) i) (run_messages S before i l)
   pub nobody : (i : ℕ) (x : Tier)
       → IsReady P (view P (at_rest saved started S before J)) i x → ⊥
+  pub replied : (i : ℕ) → is_within S i ≡ true
+      → (view P (at_rest saved started S before J)).open_at i ≡ None
   pub said : (i : ℕ) (l : LinkNo) → sim_link started S i ≡ Some l
       → SaysAll l before (all_frames S i
       (free_items (at_rest saved started S before J) i (length (run_messages S before i l))))

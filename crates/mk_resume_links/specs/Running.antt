@@ -1,5 +1,5 @@
 -- What stood at each rest of a resumed run.
-use Rattle.std.specs.Prelude.{◌≡◌, ℕ, max, ◌⊎◌, true, List, [], ◌∷◌, ◌++◌, length, Some}
+use Rattle.std.specs.Prelude.{◌≡◌, ℕ, max, ◌⊎◌, true, List, [], ◌∷◌, ◌++◌, length, None, Some}
 use Rattle.mk_base.specs.declared.LinkNo.{LinkNo}
 use Rattle.mk_base.specs.declared.tier.Tier.{Tier}
 use Rattle.mk_plan.specs.declared.Plan.{Plan}
@@ -9,7 +9,7 @@ use Rattle.mk_plan.specs.Ready.{IsReady}
 use Rattle.mk_scenario.specs.declared.parts.Scenario.{Scenario}
 use Rattle.mk_outside.specs.declared.fleet.LogEntry.{LogEntry}
 use Rattle.mk_outside.specs.declared.fleet.LogEntry.TheVariants.{Rest}
-use Rattle.mk_run_laws.specs.Handshake.{sim_link}
+use Rattle.mk_run_laws.specs.Handshake.{is_within, sim_link}
 use Rattle.mk_run_laws.specs.Lines.{Line}
 use Rattle.mk_run_laws.specs.Rests.{AllSetUp}
 use Rattle.mk_run_laws.specs.Running.{SetupReplies, IsInStep, BeginsOnLink}
@@ -17,6 +17,7 @@ use Rattle.mk_resume_walk.specs.Talks.{free_items}
 use Rattle.mk_resume_links.specs.Rests.{Counts, repeated}
 
 -- when the fleet rested behind these entries, the journal was a beginning of J, nobody was ready,
+-- no request was open within the program,
 -- each simulator had sent so many messages in this call, and each line was parked, in step with what
 -- was free then
 pub record IsRestOf (saved : Counts) (started : ℕ) (S : Scenario) (replies : SetupReplies)
@@ -25,6 +26,7 @@ pub record IsRestOf (saved : Counts) (started : ℕ) (S : Scenario) (replies : S
   pub more : List Entry
   pub parts : J ≡ at ++ more
   pub nobody : (i : ℕ) (x : Tier) → IsReady P (view P at) i x → ⊥
+  pub replied : (i : ℕ) → is_within S i ≡ true → (view P at).open_at i ≡ None
   pub heard : Counts
   pub counts : (i : ℕ) (l : LinkNo) → sim_link started S i ≡ Some l
       → length (got at i) ≡ max (saved i) (heard i)

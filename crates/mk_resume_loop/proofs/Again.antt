@@ -18,7 +18,8 @@ use Rattle.mk_resume_links.proofs.Catching.{again_on_link, again_within, one_mor
 use Rattle.mk_resume_links.proofs.Closing.{seen}
 use Rattle.mk_resume_links.proofs.Touching.{linked_out}
 use Rattle.mk_resume_loop.specs.inner.Underway.{IsMet, IsResuming, IsResumingWith, saved_of}
-use Rattle.mk_resume_loop.proofs.Hearing.{met_back, met_no_other, met_setup_rests}
+use Rattle.mk_resume_loop.proofs.Resting.{resting}
+use Rattle.mk_resume_loop.proofs.Hearing.{met_back, met_no_other, met_log_right}
 
 -- what a message that was sent again leaves: nothing of simulator s is kept, of the others what was, and where it runs within the program a message has come since each rest
 pub record IsRepeated (T : Setting) (P : Plan) (first J : List Entry) (heard : Counts) (log : List LogEntry) (s : ℕ) (D : CrewState) (sims : List (Option Simulator)) : Type 0 where
@@ -45,7 +46,7 @@ module _ (T : Setting) (P : Plan) (first J : List Entry) (heard : Counts) (log :
     no_other = met_no_other T P first J heard log s m D sims h;
     come = u.come;
     only_within = u.only_within;
-    setup_rests = met_setup_rests T P first J heard log s m D sims h;
+    log_right = met_log_right T P first J heard log s m D sims h;
   }
 
   -- the message is the saved one
@@ -62,7 +63,7 @@ module _ (T : Setting) (P : Plan) (first J : List Entry) (heard : Counts) (log :
           }
       go (IsHeard.on_link none after w there moved parked) =
           let k = met_back T P first J heard log s m D sims h w there in
-          let c = again_on_link (saved_of first) T.started T.scenario T.replies (reply_in T) P (awaited T.scenario (reply_in T) J heard) J heard h.before h.entries h.crew D s.0 m k.0 u.catching (λ i x ready. h.nobody (i, x, ready)) k.1 none after moved parked is in
+          let c = again_on_link (saved_of first) T.started T.scenario T.replies (reply_in T) P (awaited T.scenario (reply_in T) J heard) J heard h.before h.entries h.crew D s.0 m k.0 u.catching (resting T P first J heard h.before h.crew sims u h.nobody none) k.1 none after moved parked is in
           record {
             resuming = with_catching (subst (λ (l : List LogEntry). IsCatchingWith (λ i. free_items J i (heard i)) (λ i. kept_of i D.kept) (saved_of first) T.started T.scenario T.replies (reply_in T) P J (one_more heard s.0) l D) (sym h.parts)
                 (seen (saved_of first) T.started T.scenario T.replies (reply_in T) P (λ i. free_items J i (heard i)) (λ i. free_items J i (heard i)) (awaited T.scenario (reply_in T) J heard) (λ i. kept_of i D.kept) J (one_more heard s.0) (h.before ++ h.entries) D c

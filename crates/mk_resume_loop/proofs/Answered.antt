@@ -34,7 +34,8 @@ use Rattle.mk_resume_loop.specs.inner.Ending.{HasEnded}
 use Rattle.mk_resume_loop.specs.inner.Turns.{TakesAs}
 use Rattle.mk_resume_loop.specs.inner.Underway.{BehindSeen, IsMet, IsResuming, IsResumingWith, saved_of}
 use Rattle.mk_resume_loop.proofs.Asked.{longer_begins, paid_by_sent}
-use Rattle.mk_resume_loop.proofs.Hearing.{met_back, met_fits, met_low, met_no_other, met_setup_rests}
+use Rattle.mk_resume_loop.proofs.Resting.{resting}
+use Rattle.mk_resume_loop.proofs.Hearing.{met_back, met_fits, met_low, met_no_other, met_log_right}
 use Rattle.mk_resume_loop.proofs.New.{few_then, free_here, free_others}
 use Rattle.mk_resume_loop.proofs.Turning.{answered_on, owed_last}
 use Rattle.mk_resume_loop.proofs.Unsent.{unsent_ends}
@@ -85,7 +86,7 @@ module _ (T : Setting) (core new : CoreState) (first : List Entry) (heard : Coun
           (catching_sent (saved_of first) T.started T.scenario T.replies (reply_in T) core.plan free kept before next (h.before ++ h.entries) (crew_of C) s a.item t.0 t.1).0
       go (IsHeard.on_link none late w there moved parked) =
           let k = met_back T core.plan first core.entries heard log s m (crew_of C) C.sims h w there in
-          let t = new_on_link (saved_of first) T.started T.scenario T.replies (reply_in T) core.plan (awaited T.scenario (reply_in T) core.entries heard) core.entries heard h.before h.entries h.crew (crew_of C) s m k.0 v.catching (λ i x ready. h.nobody (i, x, ready)) k.1 none late moved parked caught in
+          let t = new_on_link (saved_of first) T.started T.scenario T.replies (reply_in T) core.plan (awaited T.scenario (reply_in T) core.entries heard) core.entries heard h.before h.entries h.crew (crew_of C) s m k.0 v.catching (resting T core.plan first core.entries heard h.before h.crew C.sims v h.nobody none) k.1 none late moved parked caught in
           let l = (catching_sent (saved_of first) T.started T.scenario T.replies (reply_in T) core.plan free (awaited T.scenario (reply_in T) core.entries heard) before next (h.before ++ h.entries) (crew_of C) s a.item t.0 t.1).0 in
           seen (saved_of first) T.started T.scenario T.replies (reply_in T) core.plan free free (awaited T.scenario (reply_in T) core.entries heard) kept after next (h.before ++ h.entries) (crew_of C) l (λ i k linked. refl) (λ i. sym (l.touch.kept i))
 
@@ -102,7 +103,7 @@ module _ (T : Setting) (core new : CoreState) (first : List Entry) (heard : Coun
     no_other = met_no_other T core.plan first core.entries heard log s m (crew_of C) C.sims h;
     come = v.come;
     only_within = v.only_within;
-    setup_rests = met_setup_rests T core.plan first core.entries heard log s m (crew_of C) C.sims h;
+    log_right = met_log_right T core.plan first core.entries heard log s m (crew_of C) C.sims h;
   }
 
   -- and it isn't sent

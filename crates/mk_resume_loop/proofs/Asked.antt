@@ -40,7 +40,7 @@ use Rattle.mk_resume_links.specs.inner.Catching.{IsCatching}
 use Rattle.mk_resume_links.proofs.Growing.{count_sent, free_sent_away, free_sent_behind, free_sent_here}
 use Rattle.mk_resume_links.proofs.Closing.{asked_behind, asked_on_link, asked_within}
 use Rattle.mk_resume_loop.specs.inner.Underway.{IsResuming, saved_of}
-use Rattle.mk_resume_loop.proofs.ItemSent.{come_as, come_sent, kept_so, no_other_after, not_here_is_outside, only_sent}
+use Rattle.mk_run.proofs.ItemSent.{come_as, come_sent, kept_so, no_other_after, not_here_is_outside, only_sent}
 
 -- ---- beginnings
 
@@ -102,7 +102,7 @@ module _ (T : Setting) (old new : CoreState) (first : List Entry) (heard : Count
     no_other = u.no_other;
     come = come_as T (λ i. free_items J i (heard i)) (λ i. free_items K i (heard i)) C.sims free u.come;
     only_within = u.only_within;
-    setup_rests = u.setup_rests;
+    log_right = u.log_right;
   })
     where
       free : (i : ℕ) → free_items J i (heard i) ≡ free_items K i (heard i)
@@ -174,5 +174,5 @@ module _ (T : Setting) (old new : CoreState) (first : List Entry) (heard : Count
         no_other = no_other_after T law (λ i. free_items J i (heard i)) (λ i. free_items K i (heard i)) s.0 item id C D more stay u.come u.only_within (λ h. right) so u.no_other;
         come = come_sent T law (λ i. free_items J i (heard i)) (λ i. free_items K i (heard i)) s.0 item id C D more stay u.come u.only_within (λ h. right) so;
         only_within = only_sent T law (λ i. free_items J i (heard i)) (λ i. free_items K i (heard i)) s.0 item id C D more stay u.come u.only_within (λ h. right) so;
-        setup_rests = u.setup_rests;
+        log_right = u.log_right;
       })

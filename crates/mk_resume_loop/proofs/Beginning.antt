@@ -17,11 +17,11 @@ use Rattle.mk_run_crew.specs.Begun.{HasBegun}
 use Rattle.mk_run_crew.specs.Seen.{CrewSeen, crew_of}
 use Rattle.mk_run_laws.proofs.Stepping.{same_or_not}
 use Rattle.mk_run.specs.Ends.{AreInRange}
-use Rattle.mk_run.specs.inner.Underway.{IsUnderway, reply_in}
+use Rattle.mk_run.specs.inner.Underway.{IsUnderway, put, reply_in}
 use Rattle.mk_run.proofs.Beginning.{run_begins, setting_of}
 use Rattle.mk_resume_links.proofs.Catching.{catching_begun}
-use Rattle.mk_resume_loop.specs.inner.Underway.{IsResumingWith, put, saved_of}
-use Rattle.mk_resume_loop.proofs.Passing.{put_away, put_here}
+use Rattle.mk_run.proofs.Putting.{put_away, put_here}
+use Rattle.mk_resume_loop.specs.inner.Underway.{IsResumingWith, saved_of}
 
 -- ---- what all members of a list are
 
@@ -60,7 +60,7 @@ module _ (started : ℕ) (S : Scenario) (ranks : List ℕ) (rows : List Turn) (l
     no_other = none_yet.no_other;
     come = none_yet.come;
     only_within = none_yet.only_within;
-    setup_rests = none_yet.setup_rests;
+    log_right = none_yet.log_right;
   }
 
 -- ---- one simulator after another

@@ -28,7 +28,10 @@ use Rattle.mk_run_laws.specs.inner.Running.{HasLine}
 use Rattle.mk_run_laws.proofs.Taking.{unfinished_none, long_none, none_first, garbled_none}
 use Rattle.mk_run_links.specs.declared.answers.LinkHalt.{LinkHalt}
 use Rattle.mk_run_links.specs.declared.answers.LinkHalt.TheVariants as link_halt
+use Rattle.mk_run_links.specs.Entries.{AreOn}
 use Rattle.mk_run_links.specs.Halts.{ShowsHalt}
+use Rattle.mk_run_links.specs.Places.{IsLineLink}
+use Rattle.mk_run_links.proofs.OnEntries.{on_run}
 use Rattle.mk_run_crew.specs.Seen.{CrewSeen, crew_of}
 use Rattle.mk_run_crew.specs.Calls.{halt_of}
 use Rattle.mk_run.specs.declared.outcome.Outcome.{Outcome}
@@ -52,7 +55,8 @@ use Rattle.mk_resume_loop.specs.Resumed.{IsCutOff, QueuedAllAt}
 use Rattle.mk_resume_loop.specs.inner.Ending.{EndsBy, HasEnded, HasGiven, IsAhead, IsLastLine, IsLeftNow, IsUnfinished, IsWaiting}
 use Rattle.mk_resume_loop.specs.inner.Underway.{IsMet, IsResuming, saved_of}
 use Rattle.mk_resume_loop.proofs.Asked.{longer_begins}
-use Rattle.mk_resume_loop.proofs.Hearing.{met_back, met_fits, met_no_other, met_setup_rests, setup_rests_on}
+use Rattle.mk_resume_loop.proofs.Resting.{resting}
+use Rattle.mk_resume_loop.proofs.Hearing.{met_back, met_fits, met_no_other, met_log_right, log_right_on}
 use Rattle.mk_resume_loop.proofs.New.{quiet_catching}
 
 queued_by : (o : Outcome) (items : List Item) → QueuedAllAt (ends.Outcome o) items items
@@ -107,7 +111,7 @@ module _ (T : Setting) (first : List Entry) where
     lines = lines_in_step (ends.Outcome o) (queued_by o) J heard log C u.catching.touch.lines;
     no_other = u.no_other;
     rests = so_far_end (saved_of first) T.started T.scenario T.replies P J log C.kept u.catching.rests;
-    setup_rests = u.setup_rests;
+    log_right = u.log_right;
     ends = shown;
     unfinished = unfinished;
   }
@@ -160,7 +164,7 @@ module _ (T : Setting) (first : List Entry) where
               came = inr (t.2.inside, t.2.is, t.2.more);
             }
         go (IsHeard.on_link none after w there moved parked) =
-            let t = apart_on_link (saved_of first) T.started T.scenario T.replies (reply_in T) P (awaited T.scenario (reply_in T) J heard) J heard h.before h.entries h.crew D s.0 m u.catching (λ i x ready. h.nobody (i, x, ready)) none after moved parked in record {
+            let t = apart_on_link (saved_of first) T.started T.scenario T.replies (reply_in T) P (awaited T.scenario (reply_in T) J heard) J heard h.before h.entries h.crew D s.0 m u.catching (resting T P first J heard h.before h.crew sims u h.nobody none) none after moved parked in record {
               touch = subst (λ (k : List LogEntry). IsInTouch (λ i. repeated J i (heard i) ++ given_by s.0 m i) (λ i. free_items J i (heard i)) (λ i. kept_of i D.kept) T.started T.scenario T.replies k D) (sym h.parts)
                   (seen_as T.started T.scenario T.replies (λ i. repeated J i (heard i) ++ given_by s.0 m i) (λ i. repeated J i (heard i) ++ given_by s.0 m i) (λ i. free_items J i (heard i)) (λ i. free_items J i (heard i)) (awaited T.scenario (reply_in T) J heard) (λ i. kept_of i D.kept) (h.before ++ h.entries) D t.0
                   (λ i l linked. refl) (λ i l linked. refl) (λ i. sym (t.0.kept i)));
@@ -199,7 +203,7 @@ module _ (T : Setting) (first : List Entry) where
       };
       no_other = met_no_other T P first J heard log s m D sims h;
       rests = left.rests;
-      setup_rests = met_setup_rests T P first J heard log s m D sims h;
+      log_right = met_log_right T P first J heard log s m D sims h;
       ends = shown;
       unfinished = unfinished;
     }
@@ -237,7 +241,7 @@ module _ (T : Setting) (first : List Entry) where
         lines = lines_in_step (ends.Outcome o) (queued_by o) K next log D taken.touch.lines;
         no_other = met_no_other T P first J heard log s m D sims h;
         rests = so_far_end (saved_of first) T.started T.scenario T.replies P K log D.kept taken.rests;
-        setup_rests = met_setup_rests T P first J heard log s m D sims h;
+        log_right = met_log_right T P first J heard log s m D sims h;
         ends = shown;
         unfinished = unfinished;
       }
@@ -269,7 +273,7 @@ module _ (T : Setting) (first : List Entry) where
 
   module _ (risen : Type 0) (P : Plan) (J : List Entry) (heard : Counts) (log entries : List LogEntry) (C D : CrewSeen) (u : IsResuming T P first J heard log (crew_of C) C.sims) (nobody : SomeReady P J → ⊥) (unfinished : IsUnfinished P J heard) (un : IsUnheard entries (crew_of C) (crew_of D)) where
     waited : IsCatchingWith (λ i. free_items J i (heard i)) (awaited T.scenario (reply_in T) J heard) (saved_of first) T.started T.scenario T.replies (reply_in T) P J heard (log ++ entries) (crew_of D)
-    waited = catching_unheard (saved_of first) T.started T.scenario T.replies (reply_in T) P (awaited T.scenario (reply_in T) J heard) J heard log entries (crew_of C) (crew_of D) u.catching (λ i x ready. nobody (i, x, ready)) un
+    waited = catching_unheard (saved_of first) T.started T.scenario T.replies (reply_in T) P (awaited T.scenario (reply_in T) J heard) J heard log entries (crew_of C) (crew_of D) u.catching (resting T P first J heard log (crew_of C) C.sims u nobody un.none_kept) un
 
     no_other_now : HasNoOther T (crew_of D)
     no_other_now = no_other_moved T entries (λ i. []) (crew_of C) (crew_of D) un.moved u.no_other
@@ -299,8 +303,8 @@ module _ (T : Setting) (first : List Entry) where
         (t.0, t.1, subst (λ (v : Line). IsTooLong n v.held) (sym t.2) shown.2)
     by_link link_halt.Mem cause shown = tt
 
-    pub unheard_ends : (why : LinkHalt) → (why ≡ link_halt.Fleet → risen) → ShowsHalt why entries D.lines → HasEnded risen T P first J heard (log ++ entries) (crew_of D) (ends.Outcome (outcome_of (halt_of why)))
-    unheard_ends why cause shown = record {
+    pub unheard_ends : (why : LinkHalt) → (why ≡ link_halt.Fleet → risen) → ShowsHalt why entries D.lines → AreOn (IsLineLink C.lines) entries → HasEnded risen T P first J heard (log ++ entries) (crew_of D) (ends.Outcome (outcome_of (halt_of why)))
+    unheard_ends why cause shown on_links = record {
       suits = u.suits;
       stands = u.stands;
       begins = u.begins;
@@ -311,7 +315,8 @@ module _ (T : Setting) (first : List Entry) where
       lines = lines_in_step (ends.Outcome (outcome_of (halt_of why))) (queued_by (outcome_of (halt_of why))) J heard (log ++ entries) (crew_of D) waited.touch.lines;
       no_other = no_other_now;
       rests = so_far_end (saved_of first) T.started T.scenario T.replies P J (log ++ entries) D.kept waited.rests;
-      setup_rests = setup_rests_on T (λ i. repeated J i (heard i)) (λ i. free_items J i (heard i)) (awaited T.scenario (reply_in T) J heard) P log entries (crew_of C) u.suits u.catching.touch u.setup_rests;
+      log_right = log_right_on T (λ i. repeated J i (heard i)) (λ i. free_items J i (heard i)) (awaited T.scenario (reply_in T) J heard) P log entries (crew_of C) u.suits u.catching.touch u.log_right
+          (on_run T.started T.scenario C.lines entries (λ i l linked. let g = u.catching.touch.lines i l linked in (g.line, g.there, g.link)) u.no_other on_links);
       ends = by_link why cause shown;
       unfinished = λ broken. (nobody, unfinished);
     }

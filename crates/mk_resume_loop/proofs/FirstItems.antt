@@ -16,7 +16,7 @@ use Rattle.mk_run_laws.specs.Handshake.{is_within}
 use Rattle.mk_run_laws.specs.Payloads.{id_after}
 use Rattle.mk_run_laws.proofs.Stepping.{same_or_not}
 use Rattle.mk_run_crew.specs.Seen.{CrewSeen, crew_of}
-use Rattle.mk_run.specs.inner.Underway.{Setting, reply_in}
+use Rattle.mk_run.specs.inner.Underway.{Setting, put, reply_in}
 use Rattle.mk_run.proofs.Going.{bool_or_not}
 use Rattle.mk_run.proofs.Linked.{within_below}
 use Rattle.mk_run.proofs.Pushed.{not_empty}
@@ -27,7 +27,7 @@ use Rattle.mk_resume_links.specs.inner.Touching.{RestsOver}
 use Rattle.mk_resume_loop.specs.declared.behind.Standing.{Standing}
 use Rattle.mk_resume_loop.specs.declared.ending.ResumeEnd.{ResumeEnd}
 use Rattle.mk_resume_loop.specs.inner.Turns.{BeginsAs, Course, IsDue, IsSized, PassesAs}
-use Rattle.mk_resume_loop.specs.inner.Underway.{BehindSeen, IsPassed, IsResuming, IsResumingWith, StandsAt, put, saved_of}
+use Rattle.mk_resume_loop.specs.inner.Underway.{BehindSeen, IsPassed, IsResuming, IsResumingWith, StandsAt, saved_of}
 use Rattle.mk_resume_loop.proofs.Beginning.{first_above, first_below, first_here, first_more, first_of}
 use Rattle.mk_resume_loop.proofs.Passing.{awaited_outside, resuming_as}
 

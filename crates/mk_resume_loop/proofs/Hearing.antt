@@ -22,9 +22,11 @@ use Rattle.mk_run_laws.specs.Rests.{AllSetUp}
 use Rattle.mk_run_laws.proofs.Moving.{heard_more}
 use Rattle.mk_run_laws.proofs.Stepping.{first_or_second, same_is}
 use Rattle.mk_run_laws.proofs.Taking.{takes_on, taken_heard}
+use Rattle.mk_run_links.specs.Entries.{AreOn, IsRunLink}
+use Rattle.mk_run_links.proofs.OnEntries.{on_more}
 use Rattle.mk_run_local.specs.Calls.{IsFitSuccess}
 use Rattle.mk_run.specs.Ends.{SetupRestsWell}
-use Rattle.mk_run.specs.inner.Underway.{Setting, reply_in, Suits, HasNoOther}
+use Rattle.mk_run.specs.inner.Underway.{Setting, reply_in, Suits, HasNoOther, IsLogRight}
 use Rattle.mk_run.proofs.InRange.{same_test, read_in_range, success_in_range}
 use Rattle.mk_run.proofs.Linked.{linked_outside, within_below, no_other_heard}
 use Rattle.mk_resume_walk.specs.Talks.{free_items}
@@ -61,11 +63,17 @@ module _ (T : Setting) (messages : ℕ → List Message) (items : ℕ → List I
       let c : length (T.replies i) ≡ setup_count T.scenario i = suits.counts i l linked in
       omega (arith, a, b, c)
 
-  pub setup_rests_on : (P : Plan) (log entries : List LogEntry) (C : CrewState) → Suits T P → IsInTouch messages items awaits T.started T.scenario T.replies log C → SetupRestsWell T.started T.scenario log → SetupRestsWell T.started T.scenario (log ++ entries)
+  setup_rests_on : (P : Plan) (log entries : List LogEntry) (C : CrewState) → Suits T P → IsInTouch messages items awaits T.started T.scenario T.replies log C → SetupRestsWell T.started T.scenario log → SetupRestsWell T.started T.scenario (log ++ entries)
   setup_rests_on P log entries C suits touch rests before after is not_up = elim (first_or_second log entries before after Rest is) [
     | inl t ↦ rests before t.0 t.1 not_up
     | inr t ↦ absurd (not_up (subst (AllSetUp T.started T.scenario) (sym t.1) (all_set_up P log C suits touch t.0)))
   ]
+
+  pub log_right_on : (P : Plan) (log entries : List LogEntry) (C : CrewState) → Suits T P → IsInTouch messages items awaits T.started T.scenario T.replies log C → IsLogRight T log → AreOn (IsRunLink T.started T.scenario) entries → IsLogRight T (log ++ entries)
+  log_right_on P log entries C suits touch right more = record {
+    setup_rests = setup_rests_on P log entries C suits touch right.setup_rests;
+    on_links = on_more (IsRunLink T.started T.scenario) log entries right.on_links more;
+  }
 
 module _ (T : Setting) (P : Plan) (first J : List Entry) (heard : Counts) (log : List LogEntry) (s : SimNo) (m : Message) (D : CrewState) (sims : List (Option Simulator)) (h : IsMet T P first J heard log s.0 m D sims) where
   abbrev u : IsResuming T P first J heard h.before h.crew sims
@@ -116,6 +124,6 @@ module _ (T : Setting) (P : Plan) (first J : List Entry) (heard : Counts) (log :
   pub met_no_other : HasNoOther T D
   met_no_other = no_other_heard T h.entries s.0 m h.crew D h.met u.no_other
 
-  pub met_setup_rests : SetupRestsWell T.started T.scenario log
-  met_setup_rests = subst (SetupRestsWell T.started T.scenario) (sym h.parts)
-      (setup_rests_on T (λ i. repeated J i (heard i)) (λ i. free_items J i (heard i)) (awaited T.scenario (reply_in T) J heard) P h.before h.entries h.crew u.suits u.catching.touch u.setup_rests)
+  pub met_log_right : IsLogRight T log
+  met_log_right = subst (IsLogRight T) (sym h.parts)
+      (log_right_on T (λ i. repeated J i (heard i)) (λ i. free_items J i (heard i)) (awaited T.scenario (reply_in T) J heard) P h.before h.entries h.crew u.suits u.catching.touch u.log_right h.on_links)

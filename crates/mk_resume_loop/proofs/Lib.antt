@@ -6,7 +6,6 @@ pub mod Bounds
 pub mod Endings
 pub mod FirstItems
 pub mod Hearing
-pub mod ItemSent
 pub mod New
 pub mod Numbered
 pub mod Opened
@@ -16,6 +15,7 @@ pub mod Repeated
 pub mod Repeating
 pub mod Replied
 pub mod Resent
+pub mod Resting
 pub mod Settling
 pub mod Standing
 pub mod Turned

@@ -30,7 +30,7 @@ use Rattle.mk_run_laws.proofs.Stepping.{same_or_not}
 use Rattle.mk_run_local.specs.Laws.{RepliesAreKinds}
 use Rattle.mk_run_crew.specs.Seen.{CrewSeen, crew_of, is_here}
 use Rattle.mk_run_crew.specs.Calls.{HasNext, SendsAs}
-use Rattle.mk_run.specs.inner.Underway.{Setting, reply_in}
+use Rattle.mk_run.specs.inner.Underway.{HaveComeBy, Setting, reply_in}
 use Rattle.mk_run.proofs.Going.{bool_or_not, here_is_within}
 use Rattle.mk_run.proofs.LoopSteps.{answered_id, answered_opens, none_owed, owed_after}
 use Rattle.mk_run.proofs.Pushed.{fault_after_sent, patient_got, patient_sent, range_got, range_sent, sent_got}
@@ -43,10 +43,11 @@ use Rattle.mk_resume_links.proofs.Catching.{catching_sent, more_away, more_here,
 use Rattle.mk_resume_links.proofs.Closing.{kept_answered, kept_quiet, new_answered, new_quiet}
 use Rattle.mk_resume_links.proofs.Growing.{free_got_away, free_got_here, free_sent_away, free_sent_here, got_here}
 use Rattle.mk_resume_links.proofs.Touching.{linked_out}
-use Rattle.mk_resume_loop.specs.inner.Underway.{HaveComeBy, IsMet, IsResuming, saved_of}
+use Rattle.mk_resume_loop.specs.inner.Underway.{IsMet, IsResuming, saved_of}
 use Rattle.mk_resume_loop.proofs.Asked.{longer_begins, paid_by_sent}
-use Rattle.mk_resume_loop.proofs.Hearing.{met_back, met_fits, met_low, met_no_other, met_setup_rests, met_success}
-use Rattle.mk_resume_loop.proofs.ItemSent.{come_as, come_sent, kept_so, no_other_after, not_here_is_outside, only_sent}
+use Rattle.mk_resume_loop.proofs.Resting.{resting}
+use Rattle.mk_resume_loop.proofs.Hearing.{met_back, met_fits, met_low, met_no_other, met_log_right, met_success}
+use Rattle.mk_run.proofs.ItemSent.{come_as, come_sent, kept_so, no_other_after, not_here_is_outside, only_sent}
 
 one_behind : (k n : ℕ) → (k ≡ n) ⊎ (k ≡ n + 1) → n < k → k ≡ n + 1
 one_behind k n (inl p) more = absurd (omega (arith, p, more))
@@ -97,7 +98,7 @@ module _ (T : Setting) (P : Plan) (first J : List Entry) (heard : Counts) (log :
           kept_quiet (saved_of first) T.started T.scenario T.replies (reply_in T) P J K heard (h.before ++ h.entries) D s.0 m t.0 t.2 free_others free_here (was_last t.2)
       go (IsHeard.on_link none after w there moved parked) =
           let k = met_back T P first J heard log s m D sims h w there in
-          let t = new_on_link (saved_of first) T.started T.scenario T.replies (reply_in T) P (awaited T.scenario (reply_in T) J heard) J heard h.before h.entries h.crew D s m k.0 u.catching (λ i x ready. h.nobody (i, x, ready)) k.1 none after moved parked caught in
+          let t = new_on_link (saved_of first) T.started T.scenario T.replies (reply_in T) P (awaited T.scenario (reply_in T) J heard) J heard h.before h.entries h.crew D s m k.0 u.catching (resting T P first J heard h.before h.crew sims u h.nobody none) k.1 none after moved parked caught in
           new_quiet (saved_of first) T.started T.scenario T.replies (reply_in T) P J heard (h.before ++ h.entries) D s m k.0 t.0 k.1 caught
 
   pub new_come : HaveComeBy T (λ i. free_items K i (next i)) sims
@@ -118,7 +119,7 @@ quiet_goes T core new first heard log s m D sims h caught q stands = subst (λ (
   no_other = met_no_other T P first J heard log s m D sims h;
   come = new_come T P first J heard log s m D sims h caught;
   only_within = u.only_within;
-  setup_rests = met_setup_rests T P first J heard log s m D sims h;
+  log_right = met_log_right T P first J heard log s m D sims h;
 })
   where
     P : Plan
@@ -183,7 +184,7 @@ module _ (T : Setting) (core new : CoreState) (first : List Entry) (heard : Coun
           let t = new_within (saved_of first) T.started T.scenario T.replies (reply_in T) core.plan core.entries heard h.before h.entries h.crew (crew_of C) s m v.catching at lines none caught in
           absurd (true≢false (sym t.2.inside ∙ linked_out T.started T.scenario T.replies s.0 l linked))
       go (IsHeard.on_link none late w there moved parked) =
-          let t = new_on_link (saved_of first) T.started T.scenario T.replies (reply_in T) core.plan (awaited T.scenario (reply_in T) core.entries heard) core.entries heard h.before h.entries h.crew (crew_of C) s m l v.catching (λ i x ready. h.nobody (i, x, ready)) linked none late moved parked caught in
+          let t = new_on_link (saved_of first) T.started T.scenario T.replies (reply_in T) core.plan (awaited T.scenario (reply_in T) core.entries heard) core.entries heard h.before h.entries h.crew (crew_of C) s m l v.catching (resting T core.plan first core.entries heard h.before h.crew C.sims v h.nobody none) linked none late moved parked caught in
           let g = t.0.touch.lines s.0 l linked in
           (g.line, g.there, g.in_step.next_id)
 
@@ -231,7 +232,7 @@ module _ (T : Setting) (core new : CoreState) (first : List Entry) (heard : Coun
             (was_last T core.plan first core.entries heard log s m (crew_of C) C.sims h caught t.2) (inside_kept t.2.inside)
         go (IsHeard.on_link none late w there moved parked) =
             let k = met_back T core.plan first core.entries heard log s m (crew_of C) C.sims h w there in
-            let t = new_on_link (saved_of first) T.started T.scenario T.replies (reply_in T) core.plan (awaited T.scenario (reply_in T) core.entries heard) core.entries heard h.before h.entries h.crew (crew_of C) s m k.0 v.catching (λ i x ready. h.nobody (i, x, ready)) k.1 none late moved parked caught in
+            let t = new_on_link (saved_of first) T.started T.scenario T.replies (reply_in T) core.plan (awaited T.scenario (reply_in T) core.entries heard) core.entries heard h.before h.entries h.crew (crew_of C) s m k.0 v.catching (resting T core.plan first core.entries heard h.before h.crew C.sims v h.nobody none) k.1 none late moved parked caught in
             new_answered (saved_of first) T.started T.scenario T.replies (reply_in T) core.plan core.entries heard (h.before ++ h.entries) (crew_of C) (crew_of D) s m a.item id k.0 t.0 t.1 k.1 caught
             (so.on_link (outside k.0 k.1)).0 (next_id k.0 k.1)
           where
@@ -254,5 +255,5 @@ module _ (T : Setting) (core new : CoreState) (first : List Entry) (heard : Coun
       no_other = no_other_after T law free free_then s.0 a.item id C D more stay v.come v.only_within right so (met_no_other T core.plan first core.entries heard log s m (crew_of C) C.sims h);
       come = come_sent T law free free_then s.0 a.item id C D more stay v.come v.only_within right so;
       only_within = only_sent T law free free_then s.0 a.item id C D more stay v.come v.only_within right so;
-      setup_rests = met_setup_rests T core.plan first core.entries heard log s m (crew_of C) C.sims h;
+      log_right = met_log_right T core.plan first core.entries heard log s m (crew_of C) C.sims h;
     })

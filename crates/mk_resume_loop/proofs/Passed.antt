@@ -98,7 +98,7 @@ module _ (core : CoreState) (C : CrewSeen) (s : SimNo) (gone id : ℕ) (low : s.
     };
     no_other = d.resuming.no_other;
     rests = so_far_end (saved_of R.first) R.setting.started R.setting.scenario R.setting.replies core.plan core.entries R.log C.kept d.resuming.catching.rests;
-    setup_rests = d.resuming.setup_rests;
+    log_right = d.resuming.log_right;
     ends = tt;
     unfinished = λ broken. absurd broken;
   }

@@ -18,11 +18,11 @@ use Rattle.mk_run_laws.specs.Lines.{Line}
 use Rattle.mk_run_laws.specs.Kinds.{Replies}
 use Rattle.mk_run_laws.specs.Crews.{CrewState, line_at, given_by}
 use Rattle.mk_run_laws.proofs.Saying.{link_there}
-use Rattle.mk_run_laws.proofs.Stepping.{apart_is, same_is, same_or_not}
+use Rattle.mk_run_laws.proofs.Stepping.{same_or_not}
 use Rattle.mk_run_local.specs.Laws.{HasCome, RepliesAreKinds}
 use Rattle.mk_run_crew.specs.Seen.{CrewSeen, crew_of, is_here}
 use Rattle.mk_run_crew.specs.Calls.{HasNext, SendsAs}
-use Rattle.mk_run.specs.inner.Underway.{Setting, reply_in}
+use Rattle.mk_run.specs.inner.Underway.{Setting, put, reply_in}
 use Rattle.mk_run.proofs.Going.{bool_or_not}
 use Rattle.mk_run.proofs.Linked.{linked_outside, within_below}
 use Rattle.mk_resume_walk.specs.Talks.{free_items}
@@ -32,22 +32,9 @@ use Rattle.mk_resume_links.proofs.Catching.{catching_kept, catching_queued}
 use Rattle.mk_resume_links.proofs.Closing.{seen}
 use Rattle.mk_resume_links.proofs.Growing.{given_away, given_here}
 use Rattle.mk_resume_links.proofs.Touching.{linked_out}
-use Rattle.mk_resume_loop.specs.inner.Underway.{IsPassed, IsPassing, IsResumingWith, put, saved_of}
-use Rattle.mk_resume_loop.proofs.ItemSent.{come_sent, kept_so, no_other_after, not_here_is_outside, only_sent}
-
--- ---- one simulator has this, the others have what they had
-
-pub put_here : {X : Type 0} (f : ℕ → X) (s : ℕ) (x : X) → put f s x s ≡ x
-put_here f s x = ap (λ (b : Bool). if b then x else f s) (same_is s)
-
-pub put_away : {X : Type 0} (f : ℕ → X) (s : ℕ) (x : X) (i : ℕ) → (i ≡ s → ⊥) → put f s x i ≡ f i
-put_away f s x i apart = ap (λ (b : Bool). if b then x else f i) (apart_is i s apart)
-
-pub put_same : {X : Type 0} (f : ℕ → X) (s : ℕ) (x : X) → f s ≡ x → (i : ℕ) → f i ≡ put f s x i
-put_same f s x is i = elim (same_or_not i s) [
-  | inl q ↦ subst (λ (j : ℕ). f j ≡ put f s x j) (sym q) (is ∙ sym (put_here f s x))
-  | inr apart ↦ sym (put_away f s x i apart)
-]
+use Rattle.mk_run.proofs.ItemSent.{come_sent, kept_so, no_other_after, not_here_is_outside, only_sent}
+use Rattle.mk_run.proofs.Putting.{put_away, put_here, put_same}
+use Rattle.mk_resume_loop.specs.inner.Underway.{IsPassed, IsPassing, IsResumingWith, saved_of}
 
 -- ---- what is awaited of a simulator
 
@@ -90,7 +77,7 @@ resuming_as X Y A B T P first J heard log C sims items awaits u = record {
   no_other = u.no_other;
   come = λ i inside. let t = u.come i inside in (t.0, t.1, subst (λ (xs : List Item). HasCome T.rows T.scenario i xs t.0) (items i (in_plan i (within_below T.scenario i inside))) t.2);
   only_within = u.only_within;
-  setup_rests = u.setup_rests;
+  log_right = u.log_right;
 }
   where
     in_plan : (i : ℕ) → i < length T.scenario.sims → i < sim_count P
@@ -181,5 +168,5 @@ module _ (T : Setting) (P : Plan) (first J : List Entry) (heard : Counts) (X : �
       no_other = no_other_after T law X Y s item id C D more stay u.come u.only_within numbered so u.no_other;
       come = come_sent T law X Y s item id C D more stay u.come u.only_within numbered so;
       only_within = only_sent T law X Y s item id C D more stay u.come u.only_within numbered so;
-      setup_rests = u.setup_rests;
+      log_right = u.log_right;
     }

@@ -16,7 +16,7 @@ use Rattle.mk_run_laws.specs.Crews.{kept_of}
 use Rattle.mk_run_laws.proofs.Stepping.{same_or_not}
 use Rattle.mk_run_local.specs.Calls.{IsFitSuccess}
 use Rattle.mk_run_crew.specs.Seen.{CrewSeen, crew_of}
-use Rattle.mk_run.specs.inner.Underway.{Setting, reply_in}
+use Rattle.mk_run.specs.inner.Underway.{Setting, put, reply_in}
 use Rattle.mk_run.proofs.Pushed.{same_last}
 use Rattle.mk_resume_walk.specs.Talks.{free_items, up_to}
 use Rattle.mk_resume_walk.specs.Walks.{IsGoneTo, IsNextAt}
@@ -26,11 +26,12 @@ use Rattle.mk_resume_links.specs.Rests.{Counts}
 use Rattle.mk_resume_links.specs.inner.Catching.{awaited}
 use Rattle.mk_resume_links.proofs.Catching.{more_away, more_here, one_more}
 use Rattle.mk_resume_loop.specs.declared.behind.Standing.{Standing}
-use Rattle.mk_resume_loop.specs.inner.Underway.{BehindSeen, IsMet, IsPassed, IsResuming, StandsAt, put}
+use Rattle.mk_resume_loop.specs.inner.Underway.{BehindSeen, IsMet, IsPassed, IsResuming, StandsAt}
 use Rattle.mk_resume_loop.specs.inner.Turns.{Course, IsDue}
 use Rattle.mk_resume_loop.proofs.Again.{IsRepeated, repeated_goes}
 use Rattle.mk_resume_loop.proofs.Hearing.{met_success}
-use Rattle.mk_resume_loop.proofs.Passing.{put_away, put_here, resuming_as}
+use Rattle.mk_run.proofs.Putting.{put_away, put_here}
+use Rattle.mk_resume_loop.proofs.Passing.{resuming_as}
 use Rattle.mk_resume_loop.proofs.Standing.{next_behind}
 
 -- ---- the message that has to be sent again

@@ -71,7 +71,7 @@ module _ (T : Setting) (old new : CoreState) (first : List Entry) (heard : Count
     no_other = u.no_other;
     come = u.come;
     only_within = u.only_within;
-    setup_rests = u.setup_rests;
+    log_right = u.log_right;
   }
 
   -- it wasn't sent

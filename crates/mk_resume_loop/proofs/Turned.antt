@@ -15,7 +15,8 @@ use Rattle.mk_outside.proofs.OnLogs.{adds_none, adds_more}
 use Rattle.mk_sched.specs.Cores.{CoreState}
 use Rattle.mk_run_laws.specs.Lines.{Line}
 use Rattle.mk_run_laws.specs.Crews.{IsHeard}
-use Rattle.mk_run_links.specs.Places.{AreOpen}
+use Rattle.mk_run_links.specs.Entries.{AreOn}
+use Rattle.mk_run_links.specs.Places.{AreOpen, IsLineLink}
 use Rattle.mk_run_local.specs.Calls.{IsFitSuccess}
 use Rattle.mk_run_crew.specs.declared.halt.Halt.{Halt}
 use Rattle.mk_run_crew.specs.declared.halt.Halt.TheVariants as halt
@@ -77,7 +78,7 @@ stopping_by some all T first core log C end more (heard, e) = (
     lines = e.lines;
     no_other = e.no_other;
     rests = e.rests;
-    setup_rests = e.setup_rests;
+    log_right = e.log_right;
     ends = ends_by some all T first core heard log C more end e.ends;
     unfinished = e.unfinished;
   },
@@ -101,16 +102,16 @@ are_open T first heard core log C B open_links u links i w there =
     subst (λ (l : LinkNo). IsIn l open_links) (sym (ap (λ (v : Line). v.link) (some_same (sym there ∙ g.there)) ∙ g.link)) (links i t.0 t.1)
 
 -- nothing was heard
-pub stopped_unheard : (T : Setting) (first : List Entry) (heard : Counts) (core : CoreState) (log entries : List LogEntry) (C D : CrewSeen) (B : BehindSeen) (h : Halt) (risen : Type 0) → GoesOn T first heard core log C B → Waits core B → HearsNothing h entries C D → (h ≡ halt.Fleet → risen)
+pub stopped_unheard : (T : Setting) (first : List Entry) (heard : Counts) (core : CoreState) (log entries : List LogEntry) (C D : CrewSeen) (B : BehindSeen) (h : Halt) (risen : Type 0) → GoesOn T first heard core log C B → Waits core B → HearsNothing h entries C D → AreOn (IsLineLink C.lines) entries → (h ≡ halt.Fleet → risen)
     → IsStopping risen T first core (log ++ entries) D (ends.Outcome (outcome_of h))
-stopped_unheard T first heard core log entries C D B h risen u waits un cause = subst (λ (g : Halt). IsStopping risen T first core (log ++ entries) D (ends.Outcome (outcome_of g))) (sym un.is)
-    (heard, unheard_ends T first risen core.plan core.entries heard log entries C D u.0 waits.0 (unfinished_by T first heard core log C B u waits) un.unheard un.why (λ e. cause (un.is ∙ ap halt_of e)) un.shown)
+stopped_unheard T first heard core log entries C D B h risen u waits un on_links cause = subst (λ (g : Halt). IsStopping risen T first core (log ++ entries) D (ends.Outcome (outcome_of g))) (sym un.is)
+    (heard, unheard_ends T first risen core.plan core.entries heard log entries C D u.0 waits.0 (unfinished_by T first heard core log C B u waits) un.unheard un.why (λ e. cause (un.is ∙ ap halt_of e)) un.shown on_links)
 
 -- a message was, and was taken
-pub heard_turn : (risen : Type 0) (core new : CoreState) (entries : List LogEntry) (C D E : CrewSeen) (B F : BehindSeen) (s : SimNo) (m : Message) (r : Result (Unit {0}) ResumeEnd) → Waits core B → IsHeard entries s.0 m (crew_of C) (crew_of D) → D.sims ≡ C.sims
+pub heard_turn : (risen : Type 0) (core new : CoreState) (entries : List LogEntry) (C D E : CrewSeen) (B F : BehindSeen) (s : SimNo) (m : Message) (r : Result (Unit {0}) ResumeEnd) → Waits core B → IsHeard entries s.0 m (crew_of C) (crew_of D) → AreOn (IsLineLink C.lines) entries → D.sims ≡ C.sims
     → ((k : Arrival) (more : List Arrival) → C.kept ≡ k ∷ more → IsFitSuccess m) → TakesAs r s m core D B new E F → TurnsAs r entries risen core C B new E F
-heard_turn risen core new entries C D E B F s m (Ok done) waits h sims fit t = (t.0, λ T first heard log u. (one_more heard s.0, t.1 T first heard (log ++ entries) (past_it T core first heard log entries C D B s m u waits.0 h sims fit)))
-heard_turn risen core new entries C D E B F s m (Err end) waits h sims fit t = λ T first heard log u. stopping_by ⊥ risen T first new (log ++ entries) E end (λ e. absurd e) (t T first heard (log ++ entries) (past_it T core first heard log entries C D B s m u waits.0 h sims fit))
+heard_turn risen core new entries C D E B F s m (Ok done) waits h on_links sims fit t = (t.0, λ T first heard log u. (one_more heard s.0, t.1 T first heard (log ++ entries) (past_it T core first heard log entries C D B s m u waits.0 h on_links sims fit)))
+heard_turn risen core new entries C D E B F s m (Err end) waits h on_links sims fit t = λ T first heard log u. stopping_by ⊥ risen T first new (log ++ entries) E end (λ e. absurd e) (t T first heard (log ++ entries) (past_it T core first heard log entries C D B s m u waits.0 h on_links sims fit))
 
 -- whoever was ready was asked before
 pub settled_turn : (risen : Type 0) (old mid new : CoreState) (entries : List LogEntry) (C D E : CrewSeen) (B F : BehindSeen) (r : Result (Unit {0}) ResumeEnd)

@@ -32,13 +32,15 @@ use Rattle.mk_resume_loop.specs.inner.Underway.{IsResumingWith, saved_of}
 -- these items were queued, those that are free go on with this one
 module _ (risen : Type 0) (X : ℕ → List Item) (A : ℕ → List Message) (T : Setting) (P : Plan) (first J : List Entry) (heard : Counts) (log : List LogEntry) (C : CrewSeen) (sims : List (Option Simulator)) (s : SimNo) (item : Item) (later : List Item) (low : s.0 < sim_count P)
     (u : IsResumingWith X A T P first J heard log (crew_of C) sims) (firsts : (i : ℕ) → BeginsWith (free_items J i (heard i)) (X i)) (next : free_items J s.0 (heard s.0) ≡ X s.0 ++ item ∷ later) where
-  long_free : (n : ℕ) → IsLengthOf n item s.0 C.lines → limit < n → IsLongFree P J heard s.0 n
+  long_free : (n : ℕ) → IsLengthOf n item s.0 C.lines → limit < n → IsLongFree T.started T.scenario P J heard s.0 n
   long_free n size beyond =
       let t = u.no_other s.0 size.0 size.1 in
       let g = u.catching.touch.lines s.0 t.0 t.1 in
       let same : g.line ≡ size.0 = some_same (sym g.there ∙ size.1) in
       let id_is : size.0.next ≡ id_after (first_id P s.0) (X s.0) = ap (λ (w : Line). w.next) (sym same) ∙ g.in_step.next_id ∙ ap (λ (k : ℕ). id_after k (X s.0)) (sym (u.suits.first s.0 low)) in
       record {
+        link = t.0;
+        linked = t.1;
         queued = X s.0;
         item = item;
         more = later;
@@ -54,7 +56,7 @@ module _ (risen : Type 0) (X : ℕ → List Item) (A : ℕ → List Message) (T 
   by_halt (halt.Gone sim) shown = absurd shown
   by_halt (halt.Garbled sim test) shown = absurd shown
   by_halt (halt.LongFrame sim n) shown = absurd shown
-  by_halt (halt.LongItem sim n) shown = ((λ i. tt), (λ broken. absurd broken), subst (λ (i : ℕ). IsLongFree P J heard i n) (sym shown.0) (long_free n shown.2 shown.3))
+  by_halt (halt.LongItem sim n) shown = ((λ i. tt), (λ broken. absurd broken), subst (λ (i : ℕ). IsLongFree T.started T.scenario P J heard i n) (sym shown.0) (long_free n shown.2 shown.3))
   by_halt halt.Mem shown = ((λ i. tt), (λ broken. absurd broken), tt)
 
   pub unsent_ends : (h : Halt) → ShowsUnsent h s.0 item C → HasEnded risen T P first J heard log (crew_of C) (ends.Outcome (outcome_of h))
@@ -76,7 +78,7 @@ module _ (risen : Type 0) (X : ℕ → List Item) (A : ℕ → List Message) (T 
     };
     no_other = u.no_other;
     rests = so_far_end (saved_of first) T.started T.scenario T.replies P J log C.kept u.catching.rests;
-    setup_rests = u.setup_rests;
+    log_right = u.log_right;
     ends = (by_halt h shown).2;
     unfinished = (by_halt h shown).1;
   }

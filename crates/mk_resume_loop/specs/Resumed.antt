@@ -1,5 +1,6 @@
 -- What the ends of a resumed run say of its journal.
-use Rattle.std.specs.Prelude.{◌≡◌, ◌⊎◌, ℕ, ◌<◌, List, [], ◌∷◌, ◌++◌, length, None, IsSome}
+use Rattle.std.specs.Prelude.{◌≡◌, ◌⊎◌, ℕ, ◌<◌, List, [], ◌∷◌, ◌++◌, length, None, Some, IsSome}
+use Rattle.mk_base.specs.declared.LinkNo.{LinkNo}
 use Rattle.mk_plan.specs.declared.Plan.{Plan}
 use Rattle.mk_plan.specs.declared.Item.{Item}
 use Rattle.mk_plan.specs.declared.Entry.{Entry}
@@ -10,6 +11,8 @@ use Rattle.mk_message.specs.Written.{item_text}
 use Rattle.mk_sched.specs.declared.faults.CoreFault.{CoreFault}
 use Rattle.mk_sched.specs.declared.faults.CoreFault.TheVariants.{TooLong}
 use Rattle.mk_sched.specs.Answers.{SomeReady}
+use Rattle.mk_scenario.specs.declared.parts.Scenario.{Scenario}
+use Rattle.mk_run_laws.specs.Handshake.{sim_link}
 use Rattle.mk_run_laws.specs.Payloads.{id_after}
 use Rattle.mk_run.specs.Ends.{QueuedAll, IsBrokenOff}
 use Rattle.mk_resume_loop.specs.declared.ending.ResumeEnd.{ResumeEnd}
@@ -25,8 +28,12 @@ QueuedAllAt (ends.OtherPlan n) all queued = queued ≡ []
 QueuedAllAt (ends.OtherEntry n) all queued = queued ≡ []
 QueuedAllAt (ends.Differs sim place saved_ heard) all queued = queued ≡ all
 
--- the first free item to i that wasn't queued has a payload of n bytes, more than a frame may have
-pub record IsLongFree (P : Plan) (J : List Entry) (heard : Counts) (i n : ℕ) : Type 0 where
+-- the first free item to i that wasn't queued is one to a link, and has a payload of n bytes, more
+-- than a frame may have
+pub record IsLongFree (started : ℕ) (S : Scenario) (P : Plan) (J : List Entry) (heard : Counts)
+    (i n : ℕ) : Type 0 where
+  pub link : LinkNo
+  pub linked : sim_link started S i ≡ Some link
   pub queued : List Item
   pub item : Item
   pub more : List Item

@@ -2,8 +2,6 @@
 // its simulator has to send again, or the core takes it.
 ghost use Rattle.std.specs.Prelude.{◌≡◌, ◌≤◌, ◌<◌, ◌+◌, ◌⊎◌, ℕ, List, None, Some, Err, IfErr, OnErr, OnOk, true, false, length, slice_get};
 ghost use Rattle.mk_outside.specs.declared.fleet.LogEntry.{LogEntry};
-ghost use Rattle.mk_outside.specs.Counts.{HasRisen};
-ghost use Rattle.mk_outside.specs.Logs.{Adds};
 ghost use Rattle.mk_local.specs.Registries.{rows_in};
 ghost use Rattle.mk_plan.specs.declared.Entry.{Entry};
 ghost use Rattle.mk_plan.specs.declared.Entry.TheVariants.{Got};
@@ -14,7 +12,7 @@ ghost use Rattle.mk_run_links.specs.Places.{AreOpen};
 ghost use Rattle.mk_run_local.specs.Seen.{AreOf};
 ghost use Rattle.mk_run_crew.specs.Seen.{within_of};
 ghost use Rattle.mk_run.specs.inner.Underway.{Setting};
-ghost use Rattle.mk_run.specs.inner.Turns.{AreLinksOpen, IsStill};
+ghost use Rattle.mk_run.specs.inner.Turns.{AreLinksOpen, GrowsBy, IsStill};
 ghost use Rattle.mk_resume_links.specs.Rests.{Counts};
 ghost use Rattle.mk_resume_loop.specs.declared.behind.Standing.{Standing};
 ghost use Rattle.mk_resume_loop.specs.inner.Turns.{GoesOn, IsPast, SettlesAs, TakesAs, TurnsAs, Waits};
@@ -266,9 +264,9 @@ fn hear<F: Fleet, R: Wait>(
     ensures count { F.faults fleet.old ≤ F.faults fleet.new }
     ensures same_count { F.started fleet.new ≡ F.started fleet.old }
     ensures same_links { F.open_links fleet.new ≡ F.open_links fleet.old }
-    ensures turned { (entries : List LogEntry) × Adds entries (F.log fleet.old) (F.log fleet.new)
-        × TurnsAs result entries (HasRisen (F.faults fleet.old) (F.faults fleet.new)) core.old
-        crew.old behind.old core.new crew.new behind.new }
+    ensures turned { GrowsBy F.log F.faults fleet.old fleet.new
+        (λ entries risen. TurnsAs result entries risen core.old crew.old behind.old core.new
+        crew.new behind.new) }
     ensures still { IsStill crew.old crew.new }
     ensures unhalted { OnOk result (crew.new.halt ≡ None) }
 {
@@ -309,9 +307,9 @@ fn turn<F: Fleet, R: Wait>(
     ensures count { F.faults fleet.old ≤ F.faults fleet.new }
     ensures same_count { F.started fleet.new ≡ F.started fleet.old }
     ensures same_links { F.open_links fleet.new ≡ F.open_links fleet.old }
-    ensures turned { (entries : List LogEntry) × Adds entries (F.log fleet.old) (F.log fleet.new)
-        × TurnsAs result entries (HasRisen (F.faults fleet.old) (F.faults fleet.new)) core.old
-        crew.old behind.old core.new crew.new behind.new }
+    ensures turned { GrowsBy F.log F.faults fleet.old fleet.new
+        (λ entries risen. TurnsAs result entries risen core.old crew.old behind.old core.new
+        crew.new behind.new) }
     ensures still { IsStill crew.old crew.new }
     ensures unhalted { OnOk result (crew.new.halt ≡ None) }
 {
@@ -341,9 +339,9 @@ pub fn drive<F: Fleet, R: Wait>(
     ensures count { F.faults fleet.old ≤ F.faults fleet.new }
     ensures same_count { F.started fleet.new ≡ F.started fleet.old }
     ensures same_links { F.open_links fleet.new ≡ F.open_links fleet.old }
-    ensures ended { (entries : List LogEntry) × Adds entries (F.log fleet.old) (F.log fleet.new)
-        × TurnsAs (Err result) entries (HasRisen (F.faults fleet.old) (F.faults fleet.new)) core.old
-        crew.old behind.old core.new crew.new behind.new }
+    ensures ended { GrowsBy F.log F.faults fleet.old fleet.new
+        (λ entries risen. TurnsAs (Err result) entries risen core.old crew.old behind.old core.new
+        crew.new behind.new) }
     ensures still { IsStill crew.old crew.new }
 {
     for _ in rt.forever() {

@@ -217,3 +217,11 @@ alternate P J orderly fine i = by_cases (is_some ((view P J).open_at i)) (is_owe
     by_cases true true e = inl (let d : length (sent J i) ≡ length (got J i) + 0 = e in omega (arith, d))
     by_cases true false e = inr e
     by_cases false owed e = inl (let d : length (sent J i) ≡ length (got J i) + 0 = e in omega (arith, d))
+
+-- where nothing is owed, and none isn't answered, no request is open
+pub none_open : (V : View) (i : ℕ) → V.owed ≡ None → unanswered V i ≡ 0 → V.open_at i ≡ None
+none_open V i paid none = go (V.open_at i) (ap (λ (p : Option Owed). out_by (is_some (V.open_at i)) (is_owed p i)) (sym paid) ∙ none)
+  where
+    go : (o : Option OpenTurn) → out_by (is_some o) false ≡ 0 → o ≡ None
+    go None e = refl
+    go (Some t) e = let one : 1 ≡ 0 = e in absurd (omega (arith, one))

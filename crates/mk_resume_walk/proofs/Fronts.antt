@@ -15,7 +15,7 @@ use Rattle.mk_plan.specs.Advance.{IsAdvance}
 use Rattle.mk_plan.specs.Orderly.{IsOrderlyFrom, IsOrderlySoFar}
 use Rattle.mk_resume_walk.specs.Talks.{free_items, up_to}
 use Rattle.mk_resume_walk.specs.Laws.{FreeItemsAlternate}
-use Rattle.mk_resume_walk.proofs.Alternating.{alternate, same_or_not}
+use Rattle.mk_resume_walk.proofs.Alternating.{alternate, balanced, none_open, same_or_not}
 use Rattle.mk_resume_walk.proofs.GoingOn.{up_to_counted}
 use Rattle.mk_resume_walk.proofs.UpTo.{IsNextAfter, free_all, next_after}
 
@@ -80,6 +80,16 @@ module _ (P : Plan) (J : List Entry) (orderly : IsOrderlySoFar IsReady IsAdvance
     | inr all ↦ subst (λ (l : List Item). (length l ≡ n) ⊎ (length l ≡ n + 1)) (sym (free_all J i n (omega (arith, all))))
         (subst (λ (k : ℕ). (length (sent J i) ≡ k) ⊎ (length (sent J i) ≡ k + 1)) all (alternate P J orderly fine i))
   ]
+
+-- a simulator to which nothing is owed, and which has sent as many messages as it was sent free items, has no request open
+pub all_replied : (P : Plan) (J : List Entry) (i n : ℕ) → IsOrderlySoFar IsReady IsAdvance P J → (view P J).fault ≡ None → (view P J).owed ≡ None → n ≤ length (got J i) → length (free_items J i n) ≤ n → (view P J).open_at i ≡ None
+all_replied P J i n orderly fine paid few replied = elim (few_or_more n (length (got J i)) few) [
+  | inl more ↦ let one = one_more P J orderly fine i n more in absurd (omega (arith, one, replied))
+  | inr all ↦
+      let free = ap length (free_all J i n (omega (arith, all))) in
+      let out = balanced P J orderly fine i in
+      none_open (view P J) i paid (omega (arith, free, out, replied, all))
+]
 
 pub free_alternate : FreeItemsAlternate
 free_alternate = record { at_most = at_most; one_more = one_more }

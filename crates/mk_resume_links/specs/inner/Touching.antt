@@ -5,7 +5,7 @@ use Rattle.mk_plan.specs.declared.Plan.{Plan}
 use Rattle.mk_plan.specs.declared.Item.{Item}
 use Rattle.mk_plan.specs.declared.Message.{Message}
 use Rattle.mk_plan.specs.declared.Entry.{Entry}
-use Rattle.mk_plan.specs.Journals.{Arrival, bare, got}
+use Rattle.mk_plan.specs.Journals.{Arrival, bare, got, view}
 use Rattle.mk_scenario.specs.declared.parts.Scenario.{Scenario}
 use Rattle.mk_outside.specs.declared.fleet.LogEntry.{LogEntry}
 use Rattle.mk_outside.specs.declared.fleet.LogEntry.TheVariants.{Rest}
@@ -14,7 +14,7 @@ use Rattle.mk_run_laws.specs.Kinds.{Replies}
 use Rattle.mk_run_laws.specs.Rests.{AllSetUp}
 use Rattle.mk_run_laws.specs.Crews.{CrewState, line_at, kept_of}
 use Rattle.mk_run_laws.specs.Running.{SetupReplies, BeginsOnLink}
-use Rattle.mk_run_laws.specs.inner.Running.{HasLine}
+use Rattle.mk_run_laws.specs.inner.Running.{HasLine, IsUnready}
 use Rattle.mk_resume_walk.specs.Talks.{free_items}
 use Rattle.mk_resume_links.specs.Rests.{Counts}
 use Rattle.mk_resume_links.specs.Running.{IsRestOf}
@@ -34,6 +34,11 @@ pub record IsInTouch (messages : ℕ → List Message) (items : ℕ → List Ite
 abbrev pub RepeatsByKind : Replies → (ℕ → Bool) → List Entry → Counts → Type 0
 RepeatsByKind reply within J heard = (i n : ℕ) (m : Message) → within i ≡ true → n < heard i
     → slice_get (got J i) n ≡ Some m → m ≡ reply i (map bare (free_items J i n))
+
+-- nobody is ready, and no request is open within the program
+abbrev pub IsResting : Scenario → Plan → List Entry → Type 0
+IsResting S P J = IsUnready P J
+    × ((i : ℕ) → is_within S i ≡ true → (view P J).open_at i ≡ None)
 
 -- after each rest so far the journal got a message of a link next
 abbrev pub RestsOver : Counts → ℕ → Scenario → SetupReplies → Plan → List Entry → List LogEntry

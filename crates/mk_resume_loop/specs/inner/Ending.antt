@@ -21,8 +21,8 @@ use Rattle.mk_run_laws.specs.Handshake.{is_within, sim_link}
 use Rattle.mk_run_laws.specs.Crews.{CrewState}
 use Rattle.mk_run_laws.specs.inner.Running.{HasLine}
 use Rattle.mk_run.specs.declared.outcome.Outcome.TheVariants as outcome
-use Rattle.mk_run.specs.Ends.{AreInRange, IsLastFaulty, SetupRestsWell}
-use Rattle.mk_run.specs.inner.Underway.{Setting, reply_in, Suits, HasNoOther, IsPatient}
+use Rattle.mk_run.specs.Ends.{AreInRange, IsLastFaulty}
+use Rattle.mk_run.specs.inner.Underway.{Setting, reply_in, Suits, HasNoOther, IsLogRight, IsPatient}
 use Rattle.mk_resume_walk.specs.Talks.{free_items}
 use Rattle.mk_resume_links.specs.Rests.{Counts, repeated}
 use Rattle.mk_resume_links.specs.Running.{RestsEnd}
@@ -94,8 +94,8 @@ EndsBy risen T P first J heard log C (ends.Outcome (outcome.Garbled i n)) = (l :
     × (g : HasGiven T J heard log C i.0 l) × BeginsGarbled g.line.line.held n
 EndsBy risen T P first J heard log C (ends.Outcome (outcome.LongFrame i n)) = (l : LinkNo)
     × (g : HasGiven T J heard log C i.0 l) × IsTooLong n g.line.line.held
-EndsBy risen T P first J heard log C (ends.Outcome (outcome.LongItem i n)) = IsLongFree P J heard
-    i.0 n
+EndsBy risen T P first J heard log C
+    (ends.Outcome (outcome.LongItem i n)) = IsLongFree T.started T.scenario P J heard i.0 n
 EndsBy risen T P first J heard log C (ends.Outcome outcome.Mem) = ⊤
 EndsBy risen T P first J heard log C (ends.OtherPlan n) = ⊥
 EndsBy risen T P first J heard log C (ends.OtherEntry n) = ⊥
@@ -125,6 +125,6 @@ pub record HasEnded (risen : Type 0) (T : Setting) (P : Plan) (first J : List En
       → IsLastLine T J heard log C end i l
   pub no_other : HasNoOther T C
   pub rests : RestsEnd (saved_of first) T.started T.scenario T.replies P J log
-  pub setup_rests : SetupRestsWell T.started T.scenario log
+  pub log_right : IsLogRight T log
   pub ends : EndsBy risen T P first J heard log C end
   pub unfinished : IsCutOff end → IsWaiting P J heard

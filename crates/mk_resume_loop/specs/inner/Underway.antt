@@ -1,5 +1,5 @@
 -- For proofs alone. What stands of a resumed run while its simulators catch up and afterwards.
-use Rattle.std.specs.Prelude.{◌≡◌, ℕ, ◌+◌, ◌==◌, false, true, List, [], ◌∷◌, ◌++◌, length, take, Option, Some, None, slice_get, if◌then◌else◌}
+use Rattle.std.specs.Prelude.{◌≡◌, ℕ, ◌+◌, true, List, [], ◌∷◌, ◌++◌, length, take, Option, Some, None, slice_get}
 use Rattle.mk_base.specs.Lists.{BeginsWith}
 use Rattle.mk_plan.specs.declared.Plan.{Plan}
 use Rattle.mk_plan.specs.declared.Item.{Item}
@@ -17,28 +17,21 @@ use Rattle.mk_run_laws.specs.Crews.{CrewState, IsHeard}
 use Rattle.mk_run_local.specs.Calls.{IsFitSuccess}
 use Rattle.mk_run_local.specs.Laws.{HasCome}
 use Rattle.mk_run_crew.specs.Seen.{CrewSeen, crew_of}
-use Rattle.mk_run.specs.Ends.{AreInRange, SetupRestsWell}
-use Rattle.mk_run.specs.inner.Underway.{Setting, reply_in, Suits, HasNoOther, IsPatient, local_at}
+use Rattle.mk_run_links.specs.Entries.{AreOn, IsRunLink}
+use Rattle.mk_run.specs.Ends.{AreInRange}
+use Rattle.mk_run.specs.inner.Underway.{Setting, reply_in, Suits, HasNoOther, IsLogRight, IsPatient, local_at}
 use Rattle.mk_resume_walk.specs.Talks.{free_items}
 use Rattle.mk_resume_walk.specs.Walks.{IsGoneTo, IsNextAt}
 use Rattle.mk_resume_walk.specs.Index.{Indexed, IsIndexOf, own_count}
 use Rattle.mk_resume_links.specs.Rests.{Counts}
 use Rattle.mk_resume_links.specs.inner.Catching.{IsCatchingWith, awaited}
 use Rattle.mk_resume_links.specs.inner.Touching.{RestsOver}
+use Rattle.mk_run.specs.inner.Underway.{HaveComeBy, IsOnlyWithin, put}
 use Rattle.mk_resume_loop.specs.declared.behind.Standing.{Standing}
 
 -- how many messages of each simulator the record has
 abbrev pub saved_of : List Entry → Counts
 saved_of first i = length (got first i)
-
--- each simulator within the program has come on by these items
-abbrev pub HaveComeBy : Setting → (ℕ → List Item) → List (Option Simulator) → Type 0
-HaveComeBy T items sims = (i : ℕ) → is_within T.scenario i ≡ true → (L : Simulator)
-    × (local_at sims i ≡ Some L) × HasCome T.rows T.scenario i (items i) L
-
--- no simulator with a link is within the program
-abbrev pub IsOnlyWithin : Setting → List (Option Simulator) → Type 0
-IsOnlyWithin T sims = (i : ℕ) → is_within T.scenario i ≡ false → local_at sims i ≡ None
 
 -- a journal that goes on from one after a record's messages, a log and a crew have come about
 -- together, each simulator having sent so many messages in this call, there is no fault, and
@@ -58,7 +51,7 @@ pub record IsResumingWith (queued : ℕ → List Item) (awaits : ℕ → List Me
   pub no_other : HasNoOther T C
   pub come : HaveComeBy T queued sims
   pub only_within : IsOnlyWithin T sims
-  pub setup_rests : SetupRestsWell T.started T.scenario log
+  pub log_right : IsLogRight T log
 
 -- what is free was sent, and what is awaited is kept
 abbrev pub IsResuming : Setting → Plan → List Entry → List Entry → Counts → List LogEntry
@@ -79,10 +72,7 @@ pub record IsMet (T : Setting) (P : Plan) (first J : List Entry) (heard : Counts
   pub nobody : SomeReady P J → ⊥
   pub met : IsHeard entries s m crew D
   pub fit : (k : Arrival) (more : List Arrival) → crew.kept ≡ k ∷ more → IsFitSuccess m
-
--- one simulator has this, the others have what they had
-abbrev pub put : {X : Type 0} → (ℕ → X) → ℕ → X → ℕ → X
-put f s x i = if i == s then x else f i
+  pub on_links : AreOn (IsRunLink T.started T.scenario) entries
 
 -- simulator s was sent what is free to it, and what is awaited of it then is kept; the others stand
 -- as before

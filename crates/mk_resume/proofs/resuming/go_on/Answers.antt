@@ -20,5 +20,5 @@ returns-clause-ran g c =
       (λ saved restored same T log before low u. resumed_in_parts T c.catch_up-end.new.core.plan c.into_parts-plan.result.0 saved c.catch_up-end.new.core.entries c.into_parts-plan.result.1.entries (log ++ (e.0 ++ s.0)) before (g.F.Fleet.faults c.stop.new.fleet) c.catch_up-end.result
           c.into_parts-plan.ensures.plan c.into_parts-plan.ensures.journal c.args.core.plan
           (resumed_whole c.args.core c.catch_up-end.new.core c.args.crew c.catch_up-end.new.crew e.0 s.0 (g.F.Fleet.faults c.args.fleet.now) (g.F.Fleet.faults c.catch_up-end.new.fleet) (g.F.Fleet.faults c.stop.new.fleet) c.catch_up-end.result
-          c.catch_up-end.ensures.count c.stop.ensures.count e.2 s.2 s.3 saved restored same T log before low u)),
+          c.catch_up-end.ensures.count c.stop.ensures.count e.2 s.2 s.3 s.4 saved restored same T log before low u)),
     )

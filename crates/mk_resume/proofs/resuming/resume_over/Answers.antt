@@ -1,6 +1,9 @@
-use Rattle.std.proofs.Common.{◌++◌, refl}
+use Rattle.std.proofs.Common.{◌++◌, refl, ap, ◌∙◌, inl, inr}
 use Rattle.mk_outside.proofs.OnLogs.{adds_more}
 use Rattle.mk_local.specs.Registries.{rows_in}
+use Rattle.mk_run_crew.specs.Started.{IsOfStart}
+use Rattle.mk_run_crew.proofs.Started.{all_started, started_unless}
+use Rattle.mk_run.specs.Outcomes.{outcome_of}
 use Rattle.mk_resume.proofs.resuming.resume_over.Goals as goal
 
 pub resume_plan-requires-clause-started : goal.resume_plan-requires-clause-started
@@ -18,4 +21,16 @@ returns-in-Ok-clause-ran g c =
       b.0 ++ r.0,
       adds_more b.0 r.0 _ _ _ b.1 r.1,
       r.2 (record { started = g.F.Fleet.started c.args.fleet.now; scenario = c.args.scenario; ranks = c.args.ranks; rows = rows_in c.args.kinds.now; log = b.0 }) (g.F.Fleet.faults c.args.fleet.now) c.in-Ok.ensures.count (record { prepared = c.requires.prepared; begun = b.2 }),
+      all_started c.args.scenario _ _ c.in-Ok.crew.places _ c.in-Ok.ensures.started.places (c.resume_plan.ensures.same_count ∙ c.in-Ok.ensures.started.started),
+    )
+
+pub returns-in-Err-clause-ran : goal.returns-in-Err-clause-ran
+returns-in-Err-clause-ran g c =
+    let h = c.in-Err.ensures.halted in
+    rw c.nothing_left.ensures (
+      h.0,
+      h.1,
+      inr (c.outcome_of.result, refl, record { halt = c.in-Err.halt; is = c.outcome_of.ensures; halted = h.2 }),
+      started_unless c.args.scenario _ _ (IsOfStart c.in-Err.halt h.0) _
+          (λ t. (c.outcome_of.result, refl, (refl, t.0, elim t.1 [ inl e ↦ inl (c.outcome_of.ensures ∙ ap outcome_of e) | inr e ↦ inr (c.outcome_of.ensures ∙ ap outcome_of e) ]))) h.4,
     )

@@ -39,5 +39,5 @@ returns-in-Refused-clause-ran g c =
       s.0,
       s.1,
       subst (λ (b : Bool). PlanResumesAs c.args.plan c.args.saved c.args.crew s.0 (g.F.Fleet.faults c.args.fleet.now) (g.F.Fleet.faults c.stop.new.fleet) b c.in-Refused.ran.plan c.in-Refused.ran.journal c.in-Refused.ran.end) (sym a.0)
-          (plan_refuses c.args.plan c.args.saved c.args.crew s.0 (g.F.Fleet.faults c.args.fleet.now) (g.F.Fleet.faults c.stop.new.fleet) c.in-Refused.ran.plan c.in-Refused.ran.journal c.in-Refused.ran.end a.1 s.2 s.3),
+          (plan_refuses c.args.plan c.args.saved c.args.crew s.0 (g.F.Fleet.faults c.args.fleet.now) (g.F.Fleet.faults c.stop.new.fleet) c.in-Refused.ran.plan c.in-Refused.ran.journal c.in-Refused.ran.end a.1 s.2 s.3 s.4),
     )
