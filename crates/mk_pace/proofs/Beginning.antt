@@ -21,7 +21,8 @@ use Rattle.mk_run_laws.specs.Rests.{AllSetUp, IsWellInSetup}
 use Rattle.mk_run_laws.specs.inner.Running.{HasLine}
 use Rattle.mk_run_laws.proofs.Stepping.{first_or_second, not_empty}
 use Rattle.mk_run_laws.proofs.Taking.{taken_heard}
-use Rattle.mk_run_links.specs.Entries.{IsClockless}
+use Rattle.mk_run_links.specs.Entries.{IsClockless, IsRunLink}
+use Rattle.mk_run_links.proofs.OnEntries.{on_or_clock, or_clock_more}
 use Rattle.mk_run_links.specs.Places.{AreOpen}
 use Rattle.mk_run_crew.specs.Seen.{CrewSeen, crew_of}
 use Rattle.mk_run.specs.inner.Underway.{IsUnderway, Setting}
@@ -34,9 +35,10 @@ use Rattle.mk_pace_laws.specs.Paced.{IsAwake}
 use Rattle.mk_pace_loop.specs.inner.Pacing.{BeginsWithStep, IsPacing, held_at, replies_kept}
 use Rattle.mk_pace_loop.specs.inner.Turns.{IsStopping}
 use Rattle.mk_pace_loop.specs.inner.Waiting.{WaitingSeen}
+use Rattle.mk_pace_loop.proofs.Passing.{no_naps}
 use Rattle.mk_pace_loop.proofs.Queueing.{has_line_moved, told_moved}
 use Rattle.mk_pace.specs.inner.Going.{IsStarted, Start}
-use Rattle.mk_pace.proofs.Whole.{no_naps, untold_entry}
+use Rattle.mk_pace.proofs.Whole.{untold_entry}
 
 -- nothing waits of any simulator
 nothing_held : (n i : ℕ) → i < n → slice_get (replicate {A = List Held} n []) i ≡ Some []
@@ -130,6 +132,7 @@ module _ (A : Start) (C : CrewSeen) (P : Plan) (s : IsStarted A C P) where
       come = underway.come;
       only_within = underway.only_within;
       setup_rests = rests_told;
+      on_links = or_clock_more (IsRunLink A.started A.scenario) A.log (Told origin ∷ []) (on_or_clock (IsRunLink A.started A.scenario) A.log s.begun.on_links) (tt, tt);
       origin = record { before = A.log; later = []; parts = refl; set_up = set_up; untold = none_told A.log s.clockless; awake = awake };
       told = λ i first later x inputs advance parts. absurd (not_empty first later _ parts);
       timely = λ i l linked before after is first later x inputs advance parts early. absurd (not_empty first later _ parts);

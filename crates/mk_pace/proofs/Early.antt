@@ -13,11 +13,14 @@ use Rattle.mk_run_laws.specs.Crews.{AreStopped, CrewState, IsRestless}
 use Rattle.mk_run_laws.specs.Handshake.{setup_requests}
 use Rattle.mk_run_laws.proofs.Clauses.{handshake_says}
 use Rattle.mk_run_laws.proofs.Stepping.{first_or_second}
-use Rattle.mk_run_links.specs.Entries.{IsClockless}
+use Rattle.mk_run_links.specs.Entries.{AreOn, AreOnOrOfClock, IsClockless, IsRunLink}
+use Rattle.mk_run_links.specs.Places.{IsLineLink}
+use Rattle.mk_run_links.proofs.OnEntries.{on_no_clock, on_or_clock, on_run_or_clock, or_clock_more}
 use Rattle.mk_run_crew.specs.declared.halt.Halt.{Halt}
 use Rattle.mk_run_crew.specs.declared.halt.Halt.TheVariants as halt
 use Rattle.mk_run_crew.specs.Halted.{HasHalted, ShowsCause}
 use Rattle.mk_run_crew.specs.Seen.{CrewSeen, crew_of}
+use Rattle.mk_run_crew.proofs.Stopped.{all_said}
 use Rattle.mk_run.specs.declared.outcome.Outcome.{Outcome}
 use Rattle.mk_run.specs.declared.outcome.Outcome.TheVariants as outcome
 use Rattle.mk_run.specs.Outcomes.{outcome_of}
@@ -25,8 +28,8 @@ use Rattle.mk_run.proofs.Turning.{risen_on}
 use Rattle.mk_pace_laws.specs.declared.end.PaceEnd.TheVariants as pace
 use Rattle.mk_pace_laws.specs.declared.end.PaceRan.{PaceRan}
 use Rattle.mk_pace_laws.specs.Paced.{HasNotPaced, IsAwake, PacesAs}
+use Rattle.mk_pace_loop.proofs.Passing.{no_naps}
 use Rattle.mk_pace.specs.inner.Going.{IsStarted, PlanPacesAs, Start}
-use Rattle.mk_pace.proofs.Whole.{no_naps}
 
 -- what is left then
 abbrev pub nothing_left : Outcome → PaceRan
@@ -41,7 +44,7 @@ later_none (Some e) = refl
 told_stopped : (n : ℕ) (entries : List LogEntry) (risen : Type 0) (C : CrewState) → AreStopped entries risen C → AreStopped (Told n ∷ entries) risen C
 told_stopped n entries risen C stopped i w there =
     let s = stopped i w there in
-    record { unheard = s.unheard; said = s.said; whole = elim s.whole [ inl said ↦ inl said | inr why ↦ inr (elim why [ inl held ↦ inl (later_none (last_write w.link entries) ∙ held) | inr risen ↦ inr risen ]) ] }
+    record { unheard = s.unheard; said = s.said; framed = s.framed; whole = elim s.whole [ inl said ↦ inl said | inr why ↦ inr (elim why [ inl held ↦ inl (later_none (last_write w.link entries) ∙ held) | inr risen ↦ inr risen ]) ] }
 
 heads : {X : Type 0} {x y : X} {xs ys : List X} → x ∷ xs ≡ y ∷ ys → (x ≡ y) × (xs ≡ ys)
 heads e = (cc, cc)
@@ -68,47 +71,54 @@ awake_on log entries one two before after is = elim (first_or_second log entries
 
 -- ---- the crew of a whole handshake is stopped
 
-halted : (A : Start) (C : CrewSeen) (P : Plan) (s : IsStarted A C P) (entries : List LogEntry) (some risen : Type 0) (h : Halt) → ((h ≡ halt.Mem → ⊥) → risen) → ShowsCause A.started A.scenario A.ranks A.rows (A.log ++ entries) risen (setup_requests A.scenario) [] h
-    → AreStopped entries some (crew_of C) → IsRestless entries → HasHalted A.started A.scenario A.ranks A.rows (A.log ++ entries) risen h
-halted A C P s entries some risen h why cause stopped restless = record {
+halted : (A : Start) (C : CrewSeen) (P : Plan) (s : IsStarted A C P) (entries : List LogEntry) (some risen : Type 0) (h : Halt) → (some → risen) → ShowsCause A.started A.scenario A.ranks A.rows (A.log ++ entries) risen (setup_requests A.scenario) [] h
+    → AreStopped entries some (crew_of C) → IsRestless entries → AreOnOrOfClock (IsLineLink C.lines) entries → HasHalted A.started A.scenario A.ranks A.rows (A.log ++ entries) risen h
+halted A C P s entries some risen h on cause stopped restless of_lines = record {
   queued = setup_requests A.scenario;
   later = [];
   parts = sym (append_nil (setup_requests A.scenario));
   says = λ reply i l linked. let t = s.begun.begun.lines i l linked in
       handshake_says A.started A.scenario reply A.log entries some i l (setup_requests A.scenario) [] (sym (append_nil (setup_requests A.scenario))) (s.begun.replies i) t.0 t.2 t.3 (stopped i t.0 t.1);
-  whole = λ apart i l linked. inr (inr (why apart));
+  whole = λ apart i l linked. let t = s.begun.begun.lines i l linked in
+      all_said A.scenario A.log entries some risen i l (setup_requests A.scenario) [] (sym (append_nil (setup_requests A.scenario))) (s.begun.replies i) t.0 t.2 t.3 (stopped i t.0 t.1) on;
   rests = λ before after is. elim (first_or_second A.log entries before after Rest is) [
     | inl t ↦ (s.begun.rests before t.0 t.1, s.begun.begun.setting_up before t.0 t.1)
     | inr t ↦ absurd (restless t.0 after t.2)
   ];
   cause = cause;
+  on_links = or_clock_more (IsRunLink A.started A.scenario) A.log entries (on_or_clock (IsRunLink A.started A.scenario) A.log s.begun.on_links)
+      (on_run_or_clock A.started A.scenario C.lines entries (λ i l linked. let t = s.begun.begun.lines i l linked in (t.0, t.1, t.2)) s.begun.back of_lines);
 }
 
-not_paced : (A : Start) (C : CrewSeen) (P : Plan) (s : IsStarted A C P) (entries : List LogEntry) (some risen : Type 0) (h : Halt) → ((h ≡ halt.Mem → ⊥) → risen) → ShowsCause A.started A.scenario A.ranks A.rows (A.log ++ entries) risen (setup_requests A.scenario) [] h
-    → AreStopped entries some (crew_of C) → IsRestless entries → IsAwake entries → HasNotPaced A.started A.scenario A.ranks A.rows (A.log ++ entries) risen (pace.Outcome (outcome_of h))
-not_paced A C P s entries some risen h why cause stopped restless awake = record {
+not_paced : (A : Start) (C : CrewSeen) (P : Plan) (s : IsStarted A C P) (entries : List LogEntry) (some risen : Type 0) (h : Halt) → (some → risen) → ShowsCause A.started A.scenario A.ranks A.rows (A.log ++ entries) risen (setup_requests A.scenario) [] h
+    → AreStopped entries some (crew_of C) → IsRestless entries → AreOnOrOfClock (IsLineLink C.lines) entries → IsAwake entries → HasNotPaced A.started A.scenario A.ranks A.rows (A.log ++ entries) risen (pace.Outcome (outcome_of h))
+not_paced A C P s entries some risen h on cause stopped restless of_lines awake = record {
   outcome = outcome_of h;
   is = refl;
-  run = record { halt = h; is = refl; halted = halted A C P s entries some risen h why cause stopped restless };
+  run = record { halt = h; is = refl; halted = halted A C P s entries some risen h on cause stopped restless of_lines };
   awake = awake_on A.log entries (λ before after is. no_naps A.log before after s.clockless is) awake;
 }
 
+-- the stop takes no nap
+awake_of : (C : CrewSeen) (entries : List LogEntry) → AreOn (IsLineLink C.lines) entries → IsAwake entries
+awake_of C entries of_lines before after parts = no_naps entries before after (on_no_clock (IsLineLink C.lines) entries of_lines) parts
+
 -- the clock failed: the count had risen before the stop
-pub clock_failed : (P : Plan) (C : CrewSeen) (factor : ℕ) (strict : Option ℕ) (entries : List LogEntry) (faults new_faults : ℕ) (some : Type 0) (ran : PaceRan) → HasRisen faults new_faults → AreStopped entries some (crew_of C) → IsRestless entries → IsClockless entries → ran ≡ nothing_left outcome.Fleet
+pub clock_failed : (P : Plan) (C : CrewSeen) (factor : ℕ) (strict : Option ℕ) (entries : List LogEntry) (faults new_faults : ℕ) (some : Type 0) (ran : PaceRan) → HasRisen faults new_faults → AreStopped entries some (crew_of C) → IsRestless entries → AreOn (IsLineLink C.lines) entries → ran ≡ nothing_left outcome.Fleet
     → PlanPacesAs P C factor strict entries faults new_faults ran.plan ran.journal ran.moments ran.end
-clock_failed P C factor strict entries faults new_faults some ran risen stopped restless clockless is =
+clock_failed P C factor strict entries faults new_faults some ran risen stopped restless of_lines is =
     subst (λ (r : PaceRan). PlanPacesAs P C factor strict entries faults new_faults r.plan r.journal r.moments r.end) (sym is)
     (λ A before low s.
     let all : HasRisen before new_faults = risen_on before faults new_faults low risen in
-    (not_paced A C P s entries some (HasRisen before new_faults) halt.Fleet (λ apart. all) all stopped restless (λ b after parts. no_naps entries b after clockless parts), refl))
+    (not_paced A C P s entries some (HasRisen before new_faults) halt.Fleet (λ more. all) all stopped restless (on_or_clock (IsLineLink C.lines) entries of_lines) (awake_of C entries of_lines), refl))
 
 -- there was no memory for the run, when the clock had told its origin
-pub no_memory : (P : Plan) (C : CrewSeen) (origin factor : ℕ) (strict : Option ℕ) (entries : List LogEntry) (faults new_faults : ℕ) (some : Type 0) (ran : PaceRan) → AreStopped entries some (crew_of C) → IsRestless entries → IsClockless entries → ran ≡ nothing_left outcome.Mem
+pub no_memory : (P : Plan) (C : CrewSeen) (origin factor : ℕ) (strict : Option ℕ) (entries : List LogEntry) (faults new_faults : ℕ) (ran : PaceRan) → AreStopped entries (HasRisen faults new_faults) (crew_of C) → IsRestless entries → AreOn (IsLineLink C.lines) entries → ran ≡ nothing_left outcome.Mem
     → PlanPacesAs P C factor strict (Told origin ∷ entries) faults new_faults ran.plan ran.journal ran.moments ran.end
-no_memory P C origin factor strict entries faults new_faults some ran stopped restless clockless is =
+no_memory P C origin factor strict entries faults new_faults ran stopped restless of_lines is =
     subst (λ (r : PaceRan). PlanPacesAs P C factor strict (Told origin ∷ entries) faults new_faults r.plan r.journal r.moments r.end) (sym is) (λ A before low s. (
-      not_paced A C P s (Told origin ∷ entries) some (HasRisen before new_faults) halt.Mem (λ apart. absurd (apart refl)) tt (told_stopped origin entries some (crew_of C) stopped) (told_restless origin entries restless)
-          (told_awake origin entries (λ b after parts. no_naps entries b after clockless parts)),
+      not_paced A C P s (Told origin ∷ entries) (HasRisen faults new_faults) (HasRisen before new_faults) halt.Mem (risen_on before faults new_faults low) tt (told_stopped origin entries (HasRisen faults new_faults) (crew_of C) stopped) (told_restless origin entries restless)
+          (tt, on_or_clock (IsLineLink C.lines) entries of_lines) (told_awake origin entries (awake_of C entries of_lines)),
       refl,
     ))
 

@@ -1,71 +1,49 @@
 -- From the end of a paced run, and the stop of its crew, to what the whole run means.
-use Rattle.std.proofs.Common.{◌≡◌, ◌⊎◌, inl, inr, ℕ, Bool, false, List, [], ◌∷◌, ◌++◌, Option, Some, None, option_map, unwrap_or, refl, sym, ap, ◌∙◌, subst, append_assoc, if◌then◌else◌}
+use Rattle.std.proofs.Common.{◌≡◌, inl, inr, ℕ, Bool, false, List, [], ◌∷◌, ◌++◌, Option, Some, None, option_map, unwrap_or, refl, ap, ◌∙◌, subst, if◌then◌else◌}
 use Rattle.mk_base.specs.declared.LinkNo.{LinkNo}
 use Rattle.mk_base.specs.declared.SimNo.{SimNo}
-use Rattle.mk_base.specs.Lists.{BeginsWith, Each, IsIn}
-use Rattle.mk_base.proofs.Lists.{append_nil, filter_map_append, in_front}
+use Rattle.mk_base.proofs.Lists.{in_front}
 use Rattle.mk_plan.specs.declared.Plan.{Plan}
-use Rattle.mk_plan.specs.declared.Item.{Item}
-use Rattle.mk_plan.specs.declared.Message.{Message}
 use Rattle.mk_plan.specs.declared.Entry.{Entry}
-use Rattle.mk_plan.specs.declared.Entry.TheVariants.{Got}
-use Rattle.mk_plan.specs.Journals.{got, sent, sent_to}
+use Rattle.mk_plan.specs.Journals.{got}
 use Rattle.mk_frame.specs.Frames.{IsTooLong}
 use Rattle.mk_session.specs.Fronts.{BeginsGarbled}
 use Rattle.mk_outside.specs.Counts.{HasRisen}
 use Rattle.mk_outside.specs.declared.fleet.LogEntry.{LogEntry}
 use Rattle.mk_outside.specs.declared.fleet.LogEntry.TheVariants.{Heard, NotHeard, Said, NotSaid, Ended, Rest, Told, Nap}
-use Rattle.mk_outside.specs.Logs.{last_that, later_of, told_by}
+use Rattle.mk_outside.specs.Logs.{heard_on, last_that, later_of, told_by}
 use Rattle.mk_outside.proofs.OnLogs.{last-append}
+use Rattle.mk_run_laws.specs.Hearing.{rest_heard}
 use Rattle.mk_run_laws.specs.Handshake.{sim_link}
 use Rattle.mk_run_laws.specs.Crews.{CrewState, AreStopped, IsRestless}
 use Rattle.mk_run_laws.specs.Rests.{AllSetUp, IsWellInSetup, run_messages}
 use Rattle.mk_run_laws.specs.Runs.{IsLinkOfRun}
 use Rattle.mk_run_laws.proofs.Ending.{link_ended, all_given, rest_held}
 use Rattle.mk_run_laws.proofs.Stepping.{first_or_second, not_empty}
-use Rattle.mk_run_links.specs.Entries.{IsClockless, IsNotOfClock}
+use Rattle.mk_run_links.specs.Entries.{AreOn, IsClockless, IsNotOfClock, IsRunLink}
+use Rattle.mk_run_links.specs.Places.{IsLineLink}
+use Rattle.mk_run_links.proofs.OnEntries.{on_no_clock, on_or_clock, on_run, or_clock_more}
 use Rattle.mk_run.specs.declared.outcome.Outcome.{Outcome}
 use Rattle.mk_run.specs.declared.outcome.Outcome.TheVariants as outcome
-use Rattle.mk_run.specs.Ends.{IsMessageLeft, IsOpenWithin, IsUngot, NeedsMore}
+use Rattle.mk_run.specs.Ends.{IsUngot}
 use Rattle.mk_run.specs.inner.Underway.{Setting, reply_in}
-use Rattle.mk_run.proofs.Pushed.{got_last}
+use Rattle.mk_run.proofs.LinesStopped.{all_heard, behind_ungot, full_still, heard_behind, held_heard, stopped_by}
 use Rattle.mk_pace_laws.specs.declared.end.Moment.{Moment}
 use Rattle.mk_pace_laws.specs.declared.end.PaceEnd.{PaceEnd}
 use Rattle.mk_pace_laws.specs.declared.end.PaceEnd.TheVariants as pace
 use Rattle.mk_pace_laws.specs.Clocks.{is_told, last_told}
 use Rattle.mk_pace_laws.specs.Ends.{IsLate, Shows, ShowsOutcome}
-use Rattle.mk_pace_laws.specs.Moments.{AreMoments, Tempo}
+use Rattle.mk_pace_laws.specs.Moments.{Tempo}
 use Rattle.mk_pace_laws.specs.Naps.{AreAllLinked, AreNaps, NapsLook}
-use Rattle.mk_pace_laws.specs.Paced.{IsOrigin, IsPaced, IsPacedLink}
+use Rattle.mk_pace_laws.specs.Paced.{IsPaced, IsPacedLink}
 use Rattle.mk_pace_laws.proofs.Napping.{naps_well}
-use Rattle.mk_pace_laws.proofs.Ordering.{in_order_later}
 use Rattle.mk_pace_laws.proofs.Timely.{timely_more}
 use Rattle.mk_pace_loop.specs.inner.PacedOut.{EndsOutcome, EndsPace, HasGivenPaced, HasPacedOut, IsAheadPaced, IsLastPacedLine}
-
-begins_itself : {X : Type 0} (xs : List X) → BeginsWith xs xs
-begins_itself xs = ([], sym (append_nil xs))
-
-stopped_by : (entries : List LogEntry) (some all : Type 0) (C : CrewState) → (some → all) → AreStopped entries some C → AreStopped entries all C
-stopped_by entries some all C more stopped i w there =
-    let s = stopped i w there in
-    record { unheard = s.unheard; said = s.said; whole = elim s.whole [ inl said ↦ inl said | inr why ↦ inr (elim why [ inl held ↦ inl held | inr risen ↦ inr (more risen) ]) ] }
-
--- a message sends nothing
-sent_got : (J : List Entry) (s : SimNo) (m : Message) (i : ℕ) → sent (J ++ Got s m ∷ []) i ≡ sent J i
-sent_got J s m i = filter_map_append (sent_to i) J (Got s m ∷ []) ∙ append_nil (sent J i)
+use Rattle.mk_pace_loop.proofs.Passing.{moments_later, no_naps, origin_later}
 
 -- ---- entries of no clock
 
-heads : {X : Type 0} {x y : X} {xs ys : List X} → x ∷ xs ≡ y ∷ ys → (x ≡ y) × (xs ≡ ys)
-heads e = (cc, cc)
-
--- no nap is among them
-pub no_naps : (entries less after : List LogEntry) → IsClockless entries → entries ≡ less ++ Nap ∷ after → ⊥
-no_naps [] less after all is = not_empty less after Nap is
-no_naps (e ∷ entries) [] after all is = subst IsNotOfClock (heads is).0 all.0
-no_naps (e ∷ entries) (x ∷ less) after all is = no_naps entries less after all.1 (heads is).1
-
--- nor a look at the clock
+-- none of them is a look at the clock
 pub untold_entry : (e : LogEntry) → IsNotOfClock e → is_told e ≡ false
 untold_entry (Heard on bytes) all = refl
 untold_entry (NotHeard on) all = refl
@@ -85,12 +63,11 @@ pub told_still : (log entries : List LogEntry) → IsClockless entries → last_
 told_still log entries all =
     ap (λ (o : Option LogEntry). unwrap_or (option_map told_by o) 0) (last-append is_told log entries ∙ ap (later_of (last_that is_told log)) (none_looked entries all))
 
-pub moments_told : (log entries : List LogEntry) (moments : List Moment) → Each (λ (m : Moment). IsIn (Told m.told) log) moments → Each (λ (m : Moment). IsIn (Told m.told) (log ++ entries)) moments
-moments_told log entries [] all = tt
-moments_told log entries (m ∷ moments) all = (in_front (Told m.told) log entries all.0, moments_told log entries moments all.1)
-
 module _ (S : Setting) (T : Tempo) (strict : Option ℕ) (P : Plan) (J : List Entry) (moments : List Moment) (log entries : List LogEntry) (C : CrewState) (end : PaceEnd) (faults new_faults : ℕ) (by_run by_stop : Type 0)
-    (risen : by_run → HasRisen faults new_faults) (rises : by_stop → HasRisen faults new_faults) (out : HasPacedOut by_run S T strict P J moments log C end) (stop : AreStopped entries by_stop C) (restless : IsRestless entries) (clockless : IsClockless entries) where
+    (risen : by_run → HasRisen faults new_faults) (rises : by_stop → HasRisen faults new_faults) (out : HasPacedOut by_run S T strict P J moments log C end) (stop : AreStopped entries by_stop C) (restless : IsRestless entries) (of_lines : AreOn (IsLineLink C.lines) entries) where
+  clockless : IsClockless entries
+  clockless = on_no_clock (IsLineLink C.lines) entries of_lines
+
   stopped : AreStopped entries (HasRisen faults new_faults) C
   stopped = stopped_by entries by_stop (HasRisen faults new_faults) C rises stop
 
@@ -99,48 +76,25 @@ module _ (S : Setting) (T : Tempo) (strict : Option ℕ) (P : Plan) (J : List En
 
   -- all messages of a line that holds no further one were got, and behind them is what is held
   all_got : (i : ℕ) (l : LinkNo) (g : HasGivenPaced S J log C i l) → got J i ≡ run_messages S.scenario (log ++ entries) i l
-  all_got i l g = sym (all_given S.started S.scenario S.replies out.suits.counts J log entries (HasRisen faults new_faults) C stopped i l g.linked (got J i) g.items g.line g.none_held)
+  all_got i l g = all_heard S.started S.scenario S.replies out.suits.counts log entries (HasRisen faults new_faults) C stopped i l g.linked (got J i) g.items g.line g.none_held
+
+  held_so : (i : ℕ) (l : LinkNo) (g : HasGivenPaced S J log C i l) → g.line.line.held ≡ rest_heard (heard_on l (log ++ entries))
+  held_so i l g = held_heard S.started S.scenario S.replies out.suits.counts log entries (HasRisen faults new_faults) C stopped i l g.linked (got J i) g.items g.line g.none_held
 
   -- a message that a line gave behind those that the journal got was heard, and isn't got
   ungot : IsAheadPaced S J log C → IsUngot S.started S.scenario J (log ++ entries)
-  ungot a =
-      let more = (link_ended S.started S.scenario S.replies out.suits.counts (J ++ Got a.sim a.message ∷ []) log entries (HasRisen faults new_faults) C stopped a.sim.0 a.link a.linked (got J a.sim.0 ++ a.message ∷ []) a.items a.line
-      (subst (BeginsWith (got J a.sim.0 ++ a.message ∷ [])) (sym (got_last J a.sim a.message)) (begins_itself (got J a.sim.0 ++ a.message ∷ [])))
-      (subst (λ (items : List Item). BeginsWith items a.items) (sym (sent_got J a.sim a.message a.sim.0)) a.queued)).got in
-      record {
-        sim = a.sim.0;
-        link = a.link;
-        linked = a.linked;
-        message = a.message;
-        later = more.0;
-        heard = more.1 ∙ ap (λ (ms : List Message). ms ++ more.0) (got_last J a.sim a.message) ∙ append_assoc (got J a.sim.0) (a.message ∷ []) more.0;
-      }
-
-  still_more : NeedsMore P J (IsAheadPaced S J log C ⊎ IsOpenWithin S.scenario P J) → NeedsMore P J (IsMessageLeft S.started S.scenario P J (log ++ entries))
-  still_more (inl owed) = inl owed
-  still_more (inr (inl ready)) = inr (inl ready)
-  still_more (inr (inr (inl ahead, awaits))) = inr (inr (inl (ungot ahead), awaits))
-  still_more (inr (inr (inr opened, awaits))) = inr (inr (inr opened, awaits))
+  ungot a = behind_ungot S.started S.scenario J (log ++ entries) a.sim a.message a.link a.linked
+      (heard_behind S.started S.scenario S.replies out.suits.counts log entries (HasRisen faults new_faults) C stopped J a.sim a.message a.link a.linked a.items a.line a.queued)
 
   outcome_shown : (e : Outcome) → EndsOutcome by_run S P J log C e → ShowsOutcome S.started S.scenario P J (log ++ entries) faults new_faults e
   outcome_shown outcome.Done is = is
   outcome_shown (outcome.Setup f) is = is
   outcome_shown (outcome.Core f) (inl last) = inl last
-  outcome_shown (outcome.Core f) (inr full) = inr (record { named = full.named; full = full.full; no_fault = full.no_fault; more = still_more full.more })
+  outcome_shown (outcome.Core f) (inr full) = inr (full_still S.started S.scenario P J (log ++ entries) f (IsAheadPaced S J log C) ungot full)
   outcome_shown outcome.Fleet is = risen is
   outcome_shown (outcome.Gone i) is = (is.0, record { linked = is.1.linked; all = all_got i.0 is.0 is.1 }, in_front (Ended is.0) log entries is.2)
-  outcome_shown (outcome.Garbled i n) is = (
-    is.0,
-    record { linked = is.1.linked; all = all_got i.0 is.0 is.1 },
-    subst (λ (b : List ℕ). BeginsGarbled b n)
-        (sym (rest_held S.started S.scenario S.replies out.suits.counts J log entries (HasRisen faults new_faults) C stopped i.0 is.0 is.1.linked (got J i.0) is.1.items is.1.line is.1.none_held)) is.2,
-  )
-  outcome_shown (outcome.LongFrame i n) is = (
-    is.0,
-    record { linked = is.1.linked; all = all_got i.0 is.0 is.1 },
-    subst (IsTooLong n)
-        (sym (rest_held S.started S.scenario S.replies out.suits.counts J log entries (HasRisen faults new_faults) C stopped i.0 is.0 is.1.linked (got J i.0) is.1.items is.1.line is.1.none_held)) is.2,
-  )
+  outcome_shown (outcome.Garbled i n) is = (is.0, record { linked = is.1.linked; all = all_got i.0 is.0 is.1 }, subst (λ (b : List ℕ). BeginsGarbled b n) (held_so i.0 is.0 is.1) is.2)
+  outcome_shown (outcome.LongFrame i n) is = (is.0, record { linked = is.1.linked; all = all_got i.0 is.0 is.1 }, subst (IsTooLong n) (held_so i.0 is.0 is.1) is.2)
   outcome_shown (outcome.LongItem i n) is = is
   outcome_shown outcome.Mem is = is
 
@@ -169,30 +123,6 @@ module _ (S : Setting) (T : Tempo) (strict : Option ℕ) (P : Plan) (J : List En
         timely = timely_more T S.scenario i l t.items log entries t.told t.timely;
       }
 
-  origin_still : IsOrigin S.started S.scenario (log ++ entries) T.origin
-  origin_still =
-      let o = out.origin in
-      record {
-        before = o.before;
-        later = o.later ++ entries;
-        parts = ap (λ (x : List LogEntry). x ++ entries) o.parts ∙ append_assoc o.before (Told T.origin ∷ o.later) entries;
-        set_up = o.set_up;
-        untold = o.untold;
-        awake = o.awake;
-      }
-
-  moments_still : AreMoments T strict J (log ++ entries) moments
-  moments_still =
-      let m = out.moments_are in
-      record {
-        steps = m.steps;
-        moment = m.moment;
-        due = m.due;
-        told = moments_told log entries moments m.told;
-        in_time = m.in_time;
-        in_order = in_order_later log entries moments m.in_order;
-      }
-
   rests_still : (before after : List LogEntry) → log ++ entries ≡ before ++ Rest ∷ after → IsWellInSetup S.started S.scenario before × (AllSetUp S.started S.scenario before → ⊥)
   rests_still before after is = elim (first_or_second log entries before after Rest is) [
     | inl t ↦ out.setup_rests before t.0 t.1
@@ -219,9 +149,9 @@ module _ (S : Setting) (T : Tempo) (strict : Option ℕ) (P : Plan) (J : List En
     eager = (out.stands.orderly, out.patient);
     within = out.stands.within;
     in_range = out.in_range;
-    origin = origin_still;
+    origin = origin_later S.started S.scenario log entries T.origin out.origin;
     links = link_is;
-    moments_are = moments_still;
+    moments_are = moments_later T strict J log entries moments out.moments_are;
     replied = out.within;
     setup_rests = rests_still;
     naps = λ rising linked. naps_well S.started S.scenario S.replies out.suits.counts P T J (log ++ entries) rising (naps_still linked);
@@ -229,6 +159,8 @@ module _ (S : Setting) (T : Tempo) (strict : Option ℕ) (P : Plan) (J : List En
     shown = shown end out.ends;
     fault = out.fault;
     unfinished = out.unfinished;
+    on_links = or_clock_more (IsRunLink S.started S.scenario) log entries out.on_links
+        (on_or_clock (IsRunLink S.started S.scenario) entries (on_run S.started S.scenario C.lines entries (λ i l linked. let h = (out.lines i l linked).line in (h.line, h.there, h.link)) out.no_other of_lines));
   }
 
   pub whole_replies : whole.replies ≡ S.replies

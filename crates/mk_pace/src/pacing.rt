@@ -11,16 +11,17 @@ ghost use Rattle.mk_local.specs.Kinds.{name_of};
 ghost use Rattle.mk_local.specs.Registries.{rows_in};
 ghost use Rattle.mk_plan.specs.Plans.{IsValidPlan, sim_count};
 ghost use Rattle.mk_run_laws.specs.Crews.{AreStopped, IsRestless};
-ghost use Rattle.mk_run_links.specs.Entries.{IsClockless};
-ghost use Rattle.mk_run_links.specs.Places.{AreOpen, without_all};
+ghost use Rattle.mk_run_links.specs.Entries.{AreOn};
+ghost use Rattle.mk_run_links.specs.Places.{AreOpen, IsLineLink, without_all};
 ghost use Rattle.mk_setup.specs.Ranked.{AreRanksOf};
 ghost use Rattle.mk_run_local.specs.Seen.{AreOf};
 ghost use Rattle.mk_run_crew.specs.Seen.{crew_of, within_of};
+ghost use Rattle.mk_run_crew.specs.Started.{StartsLinks};
 ghost use Rattle.mk_run.specs.inner.Underway.{Setting};
 ghost use Rattle.mk_run.specs.inner.Turns.{AreLinksOpen};
 ghost use Rattle.mk_pace_laws.specs.declared.end.PaceEnd.TheVariants as pace;
 ghost use Rattle.mk_pace_laws.specs.Clocks.{IsRising};
-ghost use Rattle.mk_pace_laws.specs.Paced.{PacesAs};
+ghost use Rattle.mk_pace_laws.specs.Paced.{EndsAtStart, PacesAs};
 ghost use Rattle.mk_pace_loop.specs.inner.Turns.{GoesOn};
 ghost use Rattle.mk_pace.specs.inner.Going.{AddsRising, GoesOnAs, IsStarted, PlanPacesAs, Start};
 
@@ -68,7 +69,9 @@ pub fn paced<F: Paced, R: Wait>(
         × (IsSome (F.Fleet.log fleet.new) → IsRising entries)
         × PacesAs (F.Fleet.started fleet.old) scenario ranks
         (rows_in kinds.now) factor strict result.plan result.journal result.moments entries
-        (F.Fleet.faults fleet.old) (F.Fleet.faults fleet.new) result.end }
+        (F.Fleet.faults fleet.old) (F.Fleet.faults fleet.new) result.end
+        × StartsLinks scenario (F.Fleet.started fleet.old) (F.Fleet.started fleet.new)
+        (EndsAtStart result.plan entries result.end) }
     ensures closed { AreNumbered (F.Fleet.started fleet.old) (F.Fleet.open_links fleet.old)
         → F.Fleet.open_links fleet.new ≡ F.Fleet.open_links fleet.old }
 {
@@ -99,7 +102,8 @@ fn stop_early<F: Paced>(alloc: Global, crew: Crew, fleet: &mut F, outcome: Outco
         × Adds entries (F.Fleet.log fleet.old) (F.Fleet.log fleet.new)
         × AreStopped entries
         (HasRisen (F.Fleet.faults fleet.old) (F.Fleet.faults fleet.new)) (crew_of crew)
-        × IsRestless entries × IsClockless entries }
+        × IsRestless entries × AreOn (IsLineLink crew.lines) entries }
+    ensures same_count { F.Fleet.started fleet.new ≡ F.Fleet.started fleet.old }
     ensures closed { F.Fleet.open_links fleet.new
         ≡ without_all (links_in crew.places) (F.Fleet.open_links fleet.old) }
     ensures ran { result
@@ -128,6 +132,7 @@ fn pace_plan<F: Paced, R: Wait>(
         × AddsRising entries (F.Fleet.log fleet.old) (F.Fleet.log fleet.new)
         × PlanPacesAs plan crew factor strict entries (F.Fleet.faults fleet.old)
         (F.Fleet.faults fleet.new) result.plan result.journal result.moments result.end }
+    ensures same_count { F.Fleet.started fleet.new ≡ F.Fleet.started fleet.old }
     ensures closed { F.Fleet.open_links fleet.new
         ≡ without_all (links_in crew.places) (F.Fleet.open_links fleet.old) }
 {
@@ -158,6 +163,7 @@ fn pace_from<F: Paced, R: Wait>(
         × AddsRising entries (F.Fleet.log fleet.old) (F.Fleet.log fleet.new)
         × PlanPacesAs plan crew factor strict (Told origin ∷ entries) (F.Fleet.faults fleet.old)
         (F.Fleet.faults fleet.new) result.plan result.journal result.moments result.end }
+    ensures same_count { F.Fleet.started fleet.new ≡ F.Fleet.started fleet.old }
     ensures closed { F.Fleet.open_links fleet.new
         ≡ without_all (links_in crew.places) (F.Fleet.open_links fleet.old) }
 {
@@ -211,6 +217,7 @@ fn go_on<F: Paced, R: Wait>(
         × AddsRising entries (F.Fleet.log fleet.old) (F.Fleet.log fleet.new)
         × GoesOnAs core crew waiting entries (F.Fleet.faults fleet.old)
         (F.Fleet.faults fleet.new) result.plan result.journal result.moments result.end }
+    ensures same_count { F.Fleet.started fleet.new ≡ F.Fleet.started fleet.old }
     ensures closed { F.Fleet.open_links fleet.new
         ≡ without_all (links_in crew.places) (F.Fleet.open_links fleet.old) }
 {

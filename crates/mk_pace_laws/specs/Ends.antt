@@ -1,5 +1,6 @@
 -- How a paced run ends that has a plan, and what each end shows.
 use Rattle.std.specs.Prelude.{◌≡◌, ◌≢◌, ℕ, ◌+◌, ◌<◌, ◌⊎◌, ℤ, List, ◌∷◌, ◌++◌, length, Option, Some, None}
+use Rattle.mk_base.specs.declared.LinkNo.{LinkNo}
 use Rattle.mk_base.specs.declared.SimNo.{SimNo}
 use Rattle.mk_base.specs.declared.tier.Tier.{Tier}
 use Rattle.mk_plan.specs.declared.Plan.{Plan}
@@ -14,6 +15,7 @@ use Rattle.mk_frame.specs.Frames.{limit}
 use Rattle.mk_message.specs.Written.{item_text}
 use Rattle.mk_scenario.specs.declared.parts.Scenario.{Scenario}
 use Rattle.mk_outside.specs.declared.fleet.LogEntry.{LogEntry}
+use Rattle.mk_run_laws.specs.Handshake.{sim_link}
 use Rattle.mk_run_laws.specs.Payloads.{id_after}
 use Rattle.mk_run.specs.declared.outcome.Outcome.{Outcome}
 use Rattle.mk_run.specs.declared.outcome.Outcome.TheVariants as outcome
@@ -24,14 +26,18 @@ use Rattle.mk_pace_laws.specs.declared.end.PaceEnd.TheVariants as pace
 use Rattle.mk_pace_laws.specs.Clocks.{last_told}
 use Rattle.mk_pace_laws.specs.Moments.{Tempo, moment_at, sent_out}
 
--- some item of the journal is one to i whose payload has n bytes, more than a frame may have
-pub record IsLongAmong (P : Plan) (J : List Entry) (i n : ℕ) : Type 0 where
+-- some item of the journal is one to i, which has a link, and its payload has n bytes, more than a
+-- frame may have
+pub record IsLongAmong (started : ℕ) (S : Scenario) (P : Plan) (J : List Entry)
+    (i n : ℕ) : Type 0 where
   pub before : List Entry
   pub sim : SimNo
   pub item : Item
   pub later : List Entry
   pub is : J ≡ before ++ Sent sim item ∷ later
   pub to : sim.0 ≡ i
+  pub link : LinkNo
+  pub linked : sim_link started S i ≡ Some link
   pub bytes : length (item_text (id_after (first_id P i) (sent before i)) item) ≡ n
   pub beyond : limit < n
 
@@ -75,7 +81,8 @@ ShowsOutcome started S P J log faults new_faults
     (outcome.Garbled i n) = ShownBy started S P J log faults new_faults (outcome.Garbled i n)
 ShowsOutcome started S P J log faults new_faults
     (outcome.LongFrame i n) = ShownBy started S P J log faults new_faults (outcome.LongFrame i n)
-ShowsOutcome started S P J log faults new_faults (outcome.LongItem i n) = IsLongAmong P J i.0 n
+ShowsOutcome started S P J log faults new_faults
+    (outcome.LongItem i n) = IsLongAmong started S P J i.0 n
 ShowsOutcome started S P J log faults new_faults outcome.Mem = ShownBy started S P J log faults
     new_faults outcome.Mem
 

@@ -79,7 +79,7 @@ pub record IsFaultlessPace (started : ℕ) (S : Scenario) (P : Plan) (J : List E
   pub right_frames : (i : ℕ) (l : LinkNo) (n : ℕ) → sim_link started S i ≡ Some l
       → BeginsGarbled (rest_heard (heard_on l log)) n ⊎ IsTooLong n (rest_heard (heard_on l log))
       → ⊥
-  pub short_items : (i n : ℕ) → IsLongAmong P J i n → ⊥
+  pub short_items : (i n : ℕ) → IsLongAmong started S P J i n → ⊥
   pub in_time : (sim : SimNo) (time : ℤ) (late allowed : ℕ)
       → IsLate T strict J moments log sim time late allowed → ⊥
 

@@ -23,11 +23,13 @@ use Rattle.mk_run_laws.specs.Rests.{AllSetUp, IsWellInSetup}
 use Rattle.mk_run_laws.specs.Running.{SetupReplies}
 use Rattle.mk_run_laws.specs.Runs.{IsLinkOfRun}
 use Rattle.mk_setup.specs.Handshakes.{IsMade}
+use Rattle.mk_run_links.specs.Entries.{AreOnOrOfClock, IsRunLink}
 use Rattle.mk_run_local.specs.Made.{kind_reply_of}
 use Rattle.mk_run_crew.specs.Answers.{AreKindAnswers, answers_to}
 use Rattle.mk_run.specs.declared.outcome.Outcome.{Outcome}
 use Rattle.mk_run.specs.Ends.{AreInRange, IsAwaiting}
 use Rattle.mk_run.specs.Ran.{HasNotRun}
+use Rattle.mk_run.specs.Ran as ran
 use Rattle.mk_pace_laws.specs.declared.end.Moment.{Moment}
 use Rattle.mk_pace_laws.specs.declared.end.PaceEnd.{PaceEnd}
 use Rattle.mk_pace_laws.specs.declared.end.PaceEnd.TheVariants as pace
@@ -63,7 +65,7 @@ pub record IsPacedLink (started : ℕ) (S : Scenario) (replies : SetupReplies) (
 -- run holds of it, but for items that were never sent; a simulator within the program replied to
 -- what was sent alone; the fleet rests only in the handshake; where it sleeps, nothing is due, and
 -- each link has been looked at; where the run was broken off some request was open, and nobody was
--- ready
+-- ready; and no link but the run's was read or written
 pub record IsPaced (started : ℕ) (S : Scenario) (reply : Replies) (P : Plan) (J : List Entry)
     (T : Tempo) (strict : Option ℕ) (moments : List Moment) (log : List LogEntry)
     (faults new_faults : ℕ) (end : PaceEnd) : Type 0 where
@@ -81,6 +83,7 @@ pub record IsPaced (started : ℕ) (S : Scenario) (reply : Replies) (P : Plan) (
       → length (got J i) ≤ length (filter takes_id (sent_out J moments i))
   pub setup_rests : (before after : List LogEntry) → log ≡ before ++ Rest ∷ after
       → IsWellInSetup started S before × (AllSetUp started S before → ⊥)
+  pub on_links : AreOnOrOfClock (IsRunLink started S) log
   pub naps : IsRising log → AreAllLinked S → NapsWell started S P T J log
   pub looks : NapsLook started S log
   pub shown : Shows started S P T strict J moments log faults new_faults end
@@ -109,6 +112,11 @@ pub record HasNotPaced (started : ℕ) (S : Scenario) (ranks : List ℕ) (rows :
   pub is : end ≡ pace.Outcome outcome
   pub run : HasNotRun started S ranks rows log risen outcome
   pub awake : IsAwake log
+
+-- the run may have ended while its links were started: the fleet failed or memory was wanting, and
+-- nothing was read or written
+abbrev pub EndsAtStart : Option Plan → List LogEntry → PaceEnd → Type 0
+EndsAtStart plan log end = (o : Outcome) × (end ≡ pace.Outcome o) × ran.EndsAtStart plan log o
 
 -- a paced run with its plan and its journal, or with neither
 abbrev pub PacesAs : ℕ → Scenario → List ℕ → List Turn → ℕ → Option ℕ → Option Plan → Option Journal

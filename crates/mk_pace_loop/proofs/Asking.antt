@@ -127,6 +127,7 @@ module _ (S : Setting) (T : Tempo) (strict : Option ℕ) (P : Plan) (J : List En
     come = p.come;
     only_within = p.only_within;
     setup_rests = p.setup_rests;
+    on_links = p.on_links;
     origin = p.origin;
     told = p.told;
     timely = p.timely;

@@ -112,6 +112,7 @@ module _ (S : Setting) (T : Tempo) (strict : Option ℕ) (P : Plan) (J : List En
     moments_are = p.moments_are;
     within = few_got;
     setup_rests = p.setup_rests;
+    on_links = p.on_links;
     naps = p.naps;
     looks = p.looks;
     ends = ends;

@@ -27,10 +27,9 @@ use Rattle.mk_run_crew.specs.Calls.{SendsAs, ShowsUnsent}
 use Rattle.mk_run.specs.declared.outcome.Outcome.{Outcome}
 use Rattle.mk_run.specs.Outcomes.{outcome_of}
 use Rattle.mk_run.specs.inner.Sendings.{CanTake, IsUnsent}
-use Rattle.mk_run.specs.inner.Underway.{Setting}
+use Rattle.mk_run.specs.inner.Underway.{Setting, put}
 use Rattle.mk_run.proofs.Linked.{linked_outside, within_below}
-use Rattle.mk_resume_loop.specs.inner.Underway.{put}
-use Rattle.mk_resume_loop.proofs.Passing.{put_away, put_here}
+use Rattle.mk_run.proofs.Putting.{put_away, put_here}
 use Rattle.mk_pace_held.specs.declared.held.Due.{Due}
 use Rattle.mk_pace_held.specs.declared.held.Held.{Held}
 use Rattle.mk_pace_held.specs.Firsts.{IsChanged}
@@ -131,6 +130,7 @@ module _ (begins : ℕ → Type 0) (S : Setting) (T : Tempo) (strict : Option �
     moments_are = p.moments_are;
     within = few_got;
     setup_rests = p.setup_rests;
+    on_links = p.on_links;
     naps = p.naps;
     looks = p.looks;
     ends = ends;
@@ -141,7 +141,7 @@ module _ (begins : ℕ → Type 0) (S : Setting) (T : Tempo) (strict : Option �
   -- ---- an item that wasn't sent
 
   module _ (s : ℕ) (low : s < sim_count P) (item : Item) (rest : List Item) (next : sent J s ≡ p.queued s ++ item ∷ rest) where
-    long_among : (n : ℕ) → IsLengthOf n item s C.lines → limit < n → IsLongAmong P J s n
+    long_among : (n : ℕ) → IsLengthOf n item s C.lines → limit < n → IsLongAmong S.started S.scenario P J s n
     long_among n size beyond =
         let t = p.no_other s size.0 size.1 in
         let g = p.lines s t.0 t.1 in
@@ -149,7 +149,7 @@ module _ (begins : ℕ → Type 0) (S : Setting) (T : Tempo) (strict : Option �
         let a = sent_at J s (p.queued s) item rest next in
         let id_is : size.0.next ≡ id_after (first_id P s) (sent a.before s) =
         ap (λ (w : Line). w.next) (sym same) ∙ g.in_step.next_id ∙ ap (λ (k : ℕ). id_after k (p.queued s)) (sym (p.suits.first s low)) ∙ ap (id_after (first_id P s)) (sym a.sent_before) in
-        record { before = a.before; sim = a.sim; item = item; later = a.later; is = a.parts; to = a.whose; bytes = ap (λ (k : ℕ). length (item_text k item)) (sym id_is) ∙ sym size.2; beyond = beyond }
+        record { before = a.before; sim = a.sim; item = item; later = a.later; is = a.parts; to = a.whose; link = t.0; linked = t.1; bytes = ap (λ (k : ℕ). length (item_text k item)) (sym id_is) ∙ sym size.2; beyond = beyond }
 
     unsent_by : (h : Halt) → ShowsUnsent h s item C → HasPacedOut ⊥ S T strict P J moments log (crew_of C) (pace.Outcome (outcome_of h))
     unsent_by (halt.Setup fault) shown = absurd shown
@@ -157,7 +157,7 @@ module _ (begins : ℕ → Type 0) (S : Setting) (T : Tempo) (strict : Option �
     unsent_by (halt.Gone sim) shown = absurd shown
     unsent_by (halt.Garbled sim test) shown = absurd shown
     unsent_by (halt.LongFrame sim n) shown = absurd shown
-    unsent_by (halt.LongItem sim n) shown = ends_here (pace.Outcome (outcome_of (halt.LongItem sim n))) (λ i below. tt) (subst (λ (i : ℕ). IsLongAmong P J i n) (sym shown.0) (long_among n shown.2 shown.3)) refl (λ broken. broken)
+    unsent_by (halt.LongItem sim n) shown = ends_here (pace.Outcome (outcome_of (halt.LongItem sim n))) (λ i below. tt) (subst (λ (i : ℕ). IsLongAmong S.started S.scenario P J i n) (sym shown.0) (long_among n shown.2 shown.3)) refl (λ broken. broken)
     unsent_by halt.Mem shown = ends_here (pace.Outcome (outcome_of halt.Mem)) (λ i below. tt) tt refl (λ broken. broken)
 
     pub unsent_ends : (end : Outcome) → IsUnsent end s item C → HasPacedOut ⊥ S T strict P J moments log (crew_of C) (pace.Outcome end)

@@ -114,6 +114,7 @@ as_it_is some all S T strict P J log C sims holds moments p steps = record {
   come = p.come;
   only_within = p.only_within;
   setup_rests = p.setup_rests;
+  on_links = p.on_links;
   origin = p.origin;
   told = p.told;
   timely = p.timely;

@@ -26,7 +26,7 @@ use Rattle.mk_run_laws.specs.Crews.{CrewState, IsHeard, IsMovedAt, given_by, kep
 use Rattle.mk_run_laws.specs.Running.{BeginsOnLink}
 use Rattle.mk_run_laws.specs.inner.Running.{HasLine}
 use Rattle.mk_run_laws.proofs.Stepping.{apart_is, same_is, same_or_not}
-use Rattle.mk_run_links.specs.Entries.{AreOfLinks}
+use Rattle.mk_run_links.specs.Entries.{AreOfLinks, IsRunLink}
 use Rattle.mk_run_links.proofs.OnEntries.{no_clock}
 use Rattle.mk_run_local.specs.Calls.{IsFitSuccess}
 use Rattle.mk_run.specs.inner.Underway.{HasNoOther, Setting, reply_in}
@@ -107,7 +107,7 @@ taken_reply S P J s m [] left e = by_cases (is_within S.scenario s) ((view P J).
     }
 
 module _ (S : Setting) (T : Tempo) (strict : Option ℕ) (P : Plan) (J : List Entry) (before entries : List LogEntry) (C D : CrewState) (sims : List (Option Simulator)) (holds : List (List Held)) (moments : List Moment) (p : IsPacing S T strict P J before C sims holds moments)
-    (s : SimNo) (m : Message) (nobody : SomeReady P J → ⊥) (of_links : AreOfLinks entries) (fit : (k : Arrival) (more : List Arrival) → C.kept ≡ k ∷ more → IsFitSuccess m) (heard : IsHeard entries s.0 m C D) where
+    (s : SimNo) (m : Message) (nobody : SomeReady P J → ⊥) (of_links : AreOfLinks (IsRunLink S.started S.scenario) entries) (fit : (k : Arrival) (more : List Arrival) → C.kept ≡ k ∷ more → IsFitSuccess m) (heard : IsHeard entries s.0 m C D) where
   -- where it was kept
   pub taken_kept : C.kept ≡ record { sim = s.0; message = m } ∷ D.kept → IsTakenReply S P J s.0 m (held_at holds s.0) (kept_of s.0 D.kept)
   taken_kept is = taken_reply S P J s.0 m (held_at holds s.0) (kept_of s.0 D.kept) (ap (λ (b : Bool). cons_option (if b then Some m else None) (kept_of s.0 D.kept)) (sym (same_is s.0)) ∙ ap (kept_of s.0) (sym is) ∙ p.kept s.0)
@@ -223,7 +223,7 @@ module _ (S : Setting) (T : Tempo) (strict : Option ℕ) (P : Plan) (J : List En
 
   -- nothing is told or slept
   awake : (less after : List LogEntry) → entries ≡ less ++ Nap ∷ after → ⊥
-  awake less after is = no_naps entries less after (no_clock entries of_links) is
+  awake less after is = no_naps entries less after (no_clock (IsRunLink S.started S.scenario) entries of_links) is
 
   pub met_told : (i : ℕ) → AreTold T (before ++ entries) (p.queued i)
   met_told i = told_later T before entries (p.queued i) (p.told i)

@@ -29,12 +29,11 @@ use Rattle.mk_run_local.specs.Laws.{RepliesAreKinds}
 use Rattle.mk_run_crew.specs.Seen.{CrewSeen, crew_of, is_here}
 use Rattle.mk_run_crew.specs.Calls.{SendsAs}
 use Rattle.mk_run.specs.inner.Sendings.{CanTake}
-use Rattle.mk_run.specs.inner.Underway.{Setting, local_at, reply_in}
+use Rattle.mk_run.specs.inner.Underway.{Setting, local_at, put, reply_in}
 use Rattle.mk_run.proofs.Going.{bool_or_not, here_is_within}
 use Rattle.mk_run.proofs.Linked.{linked_outside}
-use Rattle.mk_resume_loop.specs.inner.Underway.{put}
-use Rattle.mk_resume_loop.proofs.ItemSent.{come_sent, kept_so, no_other_after, not_here_is_outside, only_sent}
-use Rattle.mk_resume_loop.proofs.Passing.{put_away, put_here}
+use Rattle.mk_run.proofs.ItemSent.{come_sent, kept_so, no_other_after, not_here_is_outside, only_sent}
+use Rattle.mk_run.proofs.Putting.{put_away, put_here}
 use Rattle.mk_pace_held.specs.declared.held.Held.{Held}
 use Rattle.mk_pace_held.specs.Firsts.{IsChanged}
 use Rattle.mk_pace_laws.specs.declared.end.Moment.{Moment}
@@ -289,6 +288,7 @@ module _ (S : Setting) (T : Tempo) (strict : Option ℕ) (P : Plan) (J : List En
       come = come_sent S law p.queued Y s item h.id C D more stay p.come p.only_within right so;
       only_within = only_sent S law p.queued Y s item h.id C D more stay p.come p.only_within right so;
       setup_rests = p.setup_rests;
+      on_links = p.on_links;
       origin = p.origin;
       told = told it;
       timely = timely;

@@ -23,8 +23,9 @@ use Rattle.mk_run_laws.specs.Rests.{AllSetUp, IsWellInSetup}
 use Rattle.mk_run_laws.specs.Running.{SetupReplies}
 use Rattle.mk_run_laws.specs.inner.Running.{HasLine}
 use Rattle.mk_run_laws.proofs.Stepping.{first_or_second, not_empty}
-use Rattle.mk_run_links.specs.Entries.{AreOfLinks, IsClockless, IsNotOfClock}
-use Rattle.mk_run_links.proofs.OnEntries.{no_clock, no_rests}
+use Rattle.mk_run_links.specs.Entries.{AreOfLinks, AreOnOrOfClock, IsClockless, IsNotOfClock, IsRunLink}
+use Rattle.mk_run_links.specs.Places.{IsLineLink}
+use Rattle.mk_run_links.proofs.OnEntries.{no_clock, no_rests, of_run, on_or_clock, on_these, or_clock_more}
 use Rattle.mk_run.specs.inner.Underway.{Setting}
 use Rattle.mk_pace_held.specs.declared.held.Held.{Held}
 use Rattle.mk_pace_laws.specs.declared.end.Moment.{Moment}
@@ -77,6 +78,9 @@ origin_later started S log entries n o = record {
 abbrev RestsInSetup : ℕ → Scenario → List LogEntry → Type 0
 RestsInSetup started S log = (before after : List LogEntry) → log ≡ before ++ Rest ∷ after → IsWellInSetup started S before × (AllSetUp started S before → ⊥)
 
+pub on_later : (started : ℕ) (S : Scenario) (log entries : List LogEntry) → AreOnOrOfClock (IsRunLink started S) log → AreOfLinks (IsRunLink started S) entries → AreOnOrOfClock (IsRunLink started S) (log ++ entries)
+on_later started S log entries on of = or_clock_more (IsRunLink started S) log entries on (on_or_clock (IsRunLink started S) entries (on_these (IsRunLink started S) entries of))
+
 pub setup_later : (started : ℕ) (S : Scenario) (log entries : List LogEntry) → IsRestless entries → RestsInSetup started S log → RestsInSetup started S (log ++ entries)
 setup_later started S log entries restless rests before after is = elim (first_or_second log entries before after Rest is) [
   | inl t ↦ rests before t.0 t.1
@@ -118,9 +122,9 @@ linked_low started S i l e = go (slice_get S.sims i) refl e
 
 module _ (S : Setting) (T : Tempo) (strict : Option ℕ) (P : Plan) (J : List Entry) (log : List LogEntry) (C : CrewState) (sims : List (Option Simulator)) (holds : List (List Held)) (moments : List Moment) (p : IsPacing S T strict P J log C sims holds moments) where
   -- entries by which no line gives a message
-  pub passes : (entries : List LogEntry) (D : CrewState) → AreMoved entries (λ i. []) C D → D.kept ≡ C.kept → ((less after : List LogEntry) → entries ≡ less ++ Rest ∷ after → ⊥) → (AreAllLinked S.scenario → AreNaps S.started S.scenario S.replies P T J (log ++ entries)) → NapsLook S.started S.scenario (log ++ entries)
+  pub passes : (entries : List LogEntry) (D : CrewState) → AreMoved entries (λ i. []) C D → D.kept ≡ C.kept → ((less after : List LogEntry) → entries ≡ less ++ Rest ∷ after → ⊥) → AreOnOrOfClock (IsRunLink S.started S.scenario) entries → (AreAllLinked S.scenario → AreNaps S.started S.scenario S.replies P T J (log ++ entries)) → NapsLook S.started S.scenario (log ++ entries)
       → IsPacing S T strict P J (log ++ entries) D sims holds moments
-  passes entries D moved kept restless naps looks = record {
+  passes entries D moved kept restless on naps looks = record {
     suits = p.suits;
     stands = p.stands;
     patient = p.patient;
@@ -140,6 +144,7 @@ module _ (S : Setting) (T : Tempo) (strict : Option ℕ) (P : Plan) (J : List En
     come = p.come;
     only_within = p.only_within;
     setup_rests = setup_later S.started S.scenario log entries restless p.setup_rests;
+    on_links = or_clock_more (IsRunLink S.started S.scenario) log entries p.on_links on;
     origin = origin_later S.started S.scenario log entries T.origin p.origin;
     told = λ s. told_later T log entries (p.queued s) (p.told s);
     timely = λ i l linked. timely_more T S.scenario i l (p.queued i) log entries (p.told i) (p.timely i l linked);
@@ -151,17 +156,19 @@ module _ (S : Setting) (T : Tempo) (strict : Option ℕ) (P : Plan) (J : List En
   }
 
   -- and no nap is taken
-  pub passes_awake : (entries : List LogEntry) (D : CrewState) → AreMoved entries (λ i. []) C D → D.kept ≡ C.kept → ((less after : List LogEntry) → entries ≡ less ++ Rest ∷ after → ⊥) → ((less after : List LogEntry) → entries ≡ less ++ Nap ∷ after → ⊥)
+  pub passes_awake : (entries : List LogEntry) (D : CrewState) → AreMoved entries (λ i. []) C D → D.kept ≡ C.kept → ((less after : List LogEntry) → entries ≡ less ++ Rest ∷ after → ⊥) → AreOnOrOfClock (IsRunLink S.started S.scenario) entries → ((less after : List LogEntry) → entries ≡ less ++ Nap ∷ after → ⊥)
       → IsPacing S T strict P J (log ++ entries) D sims holds moments
-  passes_awake entries D moved kept restless awake = passes entries D moved kept restless (λ linked. naps_later S.started S.scenario S.replies P T J log entries awake (p.naps linked)) (looks_later S.started S.scenario log entries awake p.looks)
+  passes_awake entries D moved kept restless on awake = passes entries D moved kept restless on (λ linked. naps_later S.started S.scenario S.replies P T J log entries awake (p.naps linked)) (looks_later S.started S.scenario log entries awake p.looks)
 
   -- the clock is read
   pub reads : (n : ℕ) → IsPacing S T strict P J (log ++ Told n ∷ []) C sims holds moments
-  reads n = passes_awake (Told n ∷ []) C (told_moved n C) refl (λ less after is. alone (Told n) Rest less after (λ e. cc) is) (λ less after is. alone (Told n) Nap less after (λ e. cc) is)
+  reads n = passes_awake (Told n ∷ []) C (told_moved n C) refl (λ less after is. alone (Told n) Rest less after (λ e. cc) is) (tt, tt) (λ less after is. alone (Told n) Nap less after (λ e. cc) is)
 
   -- the links are looked at, and nothing is heard
-  pub looks_around : (entries : List LogEntry) (D : CrewState) → IsUnheard entries C D → AreOfLinks entries → IsPacing S T strict P J (log ++ entries) D sims holds moments
-  looks_around entries D u of_links = passes_awake entries D u.moved u.kept (λ less after is. no_rests entries of_links less after is) (λ less after is. no_naps entries less after (no_clock entries of_links) is)
+  pub looks_around : (entries : List LogEntry) (D : CrewState) → IsUnheard entries C D → AreOfLinks (IsLineLink C.lines) entries → IsPacing S T strict P J (log ++ entries) D sims holds moments
+  looks_around entries D u of_links = passes_awake entries D u.moved u.kept (λ less after is. no_rests (IsLineLink C.lines) entries of_links less after is)
+      (on_or_clock (IsRunLink S.started S.scenario) entries (on_these (IsRunLink S.started S.scenario) entries (of_run S.started S.scenario C.lines entries (λ i l linked. let g = p.lines i l linked in (g.line, g.there, g.link)) p.no_other of_links)))
+      (λ less after is. no_naps entries less after (no_clock (IsLineLink C.lines) entries of_links) is)
 
   -- where all lines are parked, nobody is ready, and what waits is early, a nap may be taken
   pub nap_here : ((i : ℕ) (w : Line) → line_at C i ≡ Some w → w.parked ≡ true) → ((i : ℕ) (x : Tier) → IsReady P (view P J) i x → ⊥) → ((i : ℕ) (low : i < sim_count P) → IsEarly T (last_told log) (p.holding i low).waiting)
@@ -190,7 +197,7 @@ module _ (S : Setting) (T : Tempo) (strict : Option ℕ) (P : Plan) (J : List En
 
   -- it is taken
   pub sleeps : IsNapOf S.started S.scenario S.replies P T J log → ((i : ℕ) (l : LinkNo) → sim_link S.started S.scenario i ≡ Some l → last_read l log ≡ Some (NotHeard l)) → IsPacing S T strict P J (log ++ Nap ∷ []) C sims holds moments
-  sleeps here found = passes (Nap ∷ []) C (nap_moved C) refl (λ less after is. alone Nap Rest less after (λ e. cc) is) naps looks
+  sleeps here found = passes (Nap ∷ []) C (nap_moved C) refl (λ less after is. alone Nap Rest less after (λ e. cc) is) (tt, tt) naps looks
     where
       ends : (less after before : List LogEntry) → Nap ∷ [] ≡ less ++ Nap ∷ after → before ≡ log ++ less → before ≡ log
       ends [] after before is q = q ∙ append_nil log

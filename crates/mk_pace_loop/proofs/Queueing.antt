@@ -98,7 +98,7 @@ line_sent S replies log C D s l messages items item id h sent_so right =
     let after_is : id_after w.next (item ∷ []) ≡ id_after n (items ++ item ∷ []) = ap (λ (m : ℕ). id_after m (item ∷ [])) next_is ∙ ids_push n items item in
     let new : Line = queued (item_text id item) (id_after w.next (item ∷ [])) w in
     let at : IsLineAt log (replies s ++ messages) ((setup_payloads S s ++ item_payloads n items) ++ item_text id item ∷ []) (id_after w.next (item ∷ [])) new =
-    line_queued log (replies s ++ messages) (setup_payloads S s ++ item_payloads n items) (id_after n items) (id_after w.next (item ∷ [])) (item_text id item) w h.in_step in
+    line_queued log (replies s ++ messages) (setup_payloads S s ++ item_payloads n items) (id_after n items) (id_after w.next (item ∷ [])) (item_text id item) w h.in_step sent_so.framed in
     let payloads_are : (setup_payloads S s ++ item_payloads n items) ++ item_text id item ∷ [] ≡ setup_payloads S s ++ item_payloads n (items ++ item ∷ []) =
     append_assoc (setup_payloads S s) (item_payloads n items) (item_text id item ∷ []) ∙ ap (λ (t : List ℕ). setup_payloads S s ++ (item_payloads n items ++ t ∷ [])) text
     ∙ ap (λ (ps : List (List ℕ)). setup_payloads S s ++ ps) (sym (items_push n items item)) in

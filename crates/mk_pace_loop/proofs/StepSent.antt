@@ -22,9 +22,8 @@ use Rattle.mk_run_laws.proofs.Stepping.{same_or_not}
 use Rattle.mk_run_local.specs.Laws.{RepliesAreKinds}
 use Rattle.mk_run_crew.specs.Seen.{CrewSeen, crew_of}
 use Rattle.mk_run_crew.specs.Calls.{SendsAs}
-use Rattle.mk_run.specs.inner.Underway.{Setting}
-use Rattle.mk_resume_loop.specs.inner.Underway.{put}
-use Rattle.mk_resume_loop.proofs.Passing.{put_away, put_here}
+use Rattle.mk_run.specs.inner.Underway.{Setting, put}
+use Rattle.mk_run.proofs.Putting.{put_away, put_here}
 use Rattle.mk_pace_held.specs.declared.held.Due.{Due}
 use Rattle.mk_pace_held.specs.declared.held.First.{First}
 use Rattle.mk_pace_held.specs.declared.held.Held.{Held}

@@ -19,7 +19,7 @@ use Rattle.mk_run_laws.specs.Payloads.{id_after, takes_id}
 use Rattle.mk_run_laws.specs.Crews.{CrewState, IsHeard, kept_of}
 use Rattle.mk_run_laws.specs.inner.Running.{HasLine}
 use Rattle.mk_run_laws.proofs.Stepping.{after_message, item_leaves_open, same_or_not}
-use Rattle.mk_run_links.specs.Entries.{AreOfLinks}
+use Rattle.mk_run_links.specs.Entries.{AreOfLinks, IsRunLink}
 use Rattle.mk_run_links.proofs.OnEntries.{no_rests}
 use Rattle.mk_run_local.specs.Calls.{IsFitSuccess}
 use Rattle.mk_run.specs.inner.Underway.{Setting, reply_in}
@@ -34,10 +34,10 @@ use Rattle.mk_pace_laws.specs.Naps.{AreNaps}
 use Rattle.mk_pace_loop.specs.inner.Pacing.{AreHeldItems, BeginsWithStep, DueAs, IsHolding, IsOneAtMost, IsPacing, IsPacingFor, held_at, replies_kept}
 use Rattle.mk_pace_loop.proofs.Grown.{begins_push, get_last, held_longer, held_push, kept_got, kept_sent, moments_longer, none_pushed, none_shut, none_waits, one_moved, open_got, open_sent}
 use Rattle.mk_pace_loop.proofs.Meeting.{met_fits, met_kept_away, met_kept_here, met_kinds, met_lines, met_looks, met_moments, met_naps, met_no_line, met_no_other, met_replied, met_timely, met_told, met_within}
-use Rattle.mk_pace_loop.proofs.Passing.{origin_later, setup_later}
+use Rattle.mk_pace_loop.proofs.Passing.{on_later, origin_later, setup_later}
 
 module _ (S : Setting) (T : Tempo) (strict : Option ℕ) (P : Plan) (J : List Entry) (before entries : List LogEntry) (C D : CrewState) (sims : List (Option Simulator)) (holds : List (List Held)) (moments : List Moment) (p : IsPacing S T strict P J before C sims holds moments)
-    (s : SimNo) (m : Message) (nobody : SomeReady P J → ⊥) (of_links : AreOfLinks entries) (fit : (k : Arrival) (more : List Arrival) → C.kept ≡ k ∷ more → IsFitSuccess m) (heard : IsHeard entries s.0 m C D)
+    (s : SimNo) (m : Message) (nobody : SomeReady P J → ⊥) (of_links : AreOfLinks (IsRunLink S.started S.scenario) entries) (fit : (k : Arrival) (more : List Arrival) → C.kept ≡ k ∷ more → IsFitSuccess m) (heard : IsHeard entries s.0 m C D)
     (owes : (view P J).owed ≡ None) (fine : (view P (J ++ Got s m ∷ [])).fault ≡ None) where
   abbrev K : List Entry
   K = J ++ Got s m ∷ []
@@ -90,7 +90,8 @@ module _ (S : Setting) (T : Tempo) (strict : Option ℕ) (P : Plan) (J : List En
     kinds = met_kinds S T strict P J before entries C D sims holds moments p s m nobody of_links fit heard;
     come = p.come;
     only_within = p.only_within;
-    setup_rests = setup_later S.started S.scenario before entries (no_rests entries of_links) p.setup_rests;
+    setup_rests = setup_later S.started S.scenario before entries (no_rests (IsRunLink S.started S.scenario) entries of_links) p.setup_rests;
+    on_links = on_later S.started S.scenario before entries p.on_links of_links;
     origin = origin_later S.started S.scenario before entries T.origin p.origin;
     told = met_told S T strict P J before entries C D sims holds moments p s m nobody of_links fit heard;
     timely = met_timely S T strict P J before entries C D sims holds moments p s m nobody of_links fit heard;
@@ -196,7 +197,8 @@ module _ (S : Setting) (T : Tempo) (strict : Option ℕ) (P : Plan) (J : List En
       kinds = kinds_sent (reply_in S) (is_within S.scenario) P K s item (met_kinds S T strict P J before entries C D sims holds moments p s m nobody of_links fit heard);
       come = p.come;
       only_within = p.only_within;
-      setup_rests = setup_later S.started S.scenario before entries (no_rests entries of_links) p.setup_rests;
+      setup_rests = setup_later S.started S.scenario before entries (no_rests (IsRunLink S.started S.scenario) entries of_links) p.setup_rests;
+      on_links = on_later S.started S.scenario before entries p.on_links of_links;
       origin = origin_later S.started S.scenario before entries T.origin p.origin;
       told = met_told S T strict P J before entries C D sims holds moments p s m nobody of_links fit heard;
       timely = met_timely S T strict P J before entries C D sims holds moments p s m nobody of_links fit heard;

@@ -21,8 +21,8 @@ use Rattle.mk_run_laws.specs.Crews.{IsHeard}
 use Rattle.mk_run_laws.specs.Handshake.{sim_link}
 use Rattle.mk_run_laws.specs.Lines.{Line}
 use Rattle.mk_run_links.specs.Entries.{AreOfLinks, IsClockless, IsNotOfClock}
-use Rattle.mk_run_links.specs.Places.{AreOpen}
-use Rattle.mk_run_links.proofs.OnEntries.{no_clock}
+use Rattle.mk_run_links.specs.Places.{AreOpen, IsLineLink}
+use Rattle.mk_run_links.proofs.OnEntries.{no_clock, of_run}
 use Rattle.mk_run_local.specs.Calls.{IsFitSuccess}
 use Rattle.mk_run_crew.specs.declared.halt.Halt.{Halt}
 use Rattle.mk_run_crew.specs.declared.halt.Halt.TheVariants as halt
@@ -97,6 +97,7 @@ stopping_by some all S core log C W end more e = record {
   moments_are = e.moments_are;
   within = e.within;
   setup_rests = e.setup_rests;
+  on_links = e.on_links;
   naps = e.naps;
   looks = e.looks;
   ends = ends_pace some all S core log C W more end e.ends;
@@ -114,7 +115,7 @@ are_open S core log C W open_links u links i w there =
 
 -- ---- a message was heard
 
-pub met_it : (S : Setting) (core : CoreState) (log entries : List LogEntry) (C D : CrewSeen) (W : WaitingSeen) (s : SimNo) (m : Message) → GoesOn S core log C W → Waits core → IsHeard entries s.0 m (crew_of C) (crew_of D) → AreOfLinks entries → D.sims ≡ C.sims
+pub met_it : (S : Setting) (core : CoreState) (log entries : List LogEntry) (C D : CrewSeen) (W : WaitingSeen) (s : SimNo) (m : Message) → GoesOn S core log C W → Waits core → IsHeard entries s.0 m (crew_of C) (crew_of D) → AreOfLinks (IsLineLink C.lines) entries → D.sims ≡ C.sims
     → ((k : Arrival) (more : List Arrival) → C.kept ≡ k ∷ more → IsFitSuccess m) → IsPast S core (log ++ entries) s m D W
 met_it S core log entries C D W s m u waits h of_links sims fit = record {
   before = log;
@@ -125,7 +126,7 @@ met_it S core log entries C D W s m u waits h of_links sims fit = record {
   opened = waits.1;
   nobody = waits.0;
   heard = h;
-  of_links = of_links;
+  of_links = of_run S.started S.scenario C.lines entries (λ i l linked. let g = u.lines i l linked in (g.line, g.there, g.link)) u.no_other of_links;
   fit = fit;
 }
 
@@ -136,13 +137,13 @@ pub met_form : (S : Setting) (core : CoreState) (log : List LogEntry) (s : SimNo
 met_form S core log s m D W h = met_in_range S W.tempo W.strict core.plan core.entries h.before h.entries h.crew (crew_of D) D.sims W.holds W.moments h.pacing s m h.nobody h.of_links h.fit h.heard
 
 -- the core was given it
-pub heard_attends : (risen : Type 0) (told : ℕ) (core new : CoreState) (entries : List LogEntry) (C D E : CrewSeen) (W V : WaitingSeen) (s : SimNo) (m : Message) (r : Result (Unit {0}) Outcome) → Waits core → IsHeard entries s.0 m (crew_of C) (crew_of D) → AreOfLinks entries → D.sims ≡ C.sims
+pub heard_attends : (risen : Type 0) (told : ℕ) (core new : CoreState) (entries : List LogEntry) (C D E : CrewSeen) (W V : WaitingSeen) (s : SimNo) (m : Message) (r : Result (Unit {0}) Outcome) → Waits core → IsHeard entries s.0 m (crew_of C) (crew_of D) → AreOfLinks (IsLineLink C.lines) entries → D.sims ≡ C.sims
     → ((k : Arrival) (more : List Arrival) → C.kept ≡ k ∷ more → IsFitSuccess m) → TakesAs r s m core D W new E V → AttendsAs r told entries risen core C W new E V
 heard_attends risen told core new entries C D E W V s m (Ok done) waits h of_links sims fit t = (t.0, λ S log u just. t.1 S (log ++ entries) (met_it S core log entries C D W s m u waits h of_links sims fit))
 heard_attends risen told core new entries C D E W V s m (Err end) waits h of_links sims fit t = λ S log u just. stopping_by ⊥ risen S new (log ++ entries) E V (pace.Outcome end) (λ e. absurd e) (t S (log ++ entries) (met_it S core log entries C D W s m u waits h of_links sims fit))
 
 -- nothing was
-pub unheard_attends : (risen : Type 0) (told : ℕ) (core : CoreState) (entries : List LogEntry) (C D : CrewSeen) (W : WaitingSeen) (h : Halt) → Waits core → HearsNothing h entries C D → AreOfLinks entries → D.sims ≡ C.sims → (h ≡ halt.Fleet → risen)
+pub unheard_attends : (risen : Type 0) (told : ℕ) (core : CoreState) (entries : List LogEntry) (C D : CrewSeen) (W : WaitingSeen) (h : Halt) → Waits core → HearsNothing h entries C D → AreOfLinks (IsLineLink C.lines) entries → D.sims ≡ C.sims → (h ≡ halt.Fleet → risen)
     → AttendsAs (Err (outcome_of h)) told entries risen core C W core D W
 unheard_attends risen told core entries C D W h waits un of_links sims cause = λ S log u just. unheard_ends S core log entries C D W risen u waits sims (unheard_on S core log entries C D W risen u waits sims un.unheard of_links) h un cause
 
@@ -164,9 +165,9 @@ none_told (e ∷ entries) all = ap (λ (o : Option LogEntry). later_of (if is_to
     untold Nap of = absurd of
 
 -- so the last look is that of this turn
-told_last : (told : ℕ) (log entries : List LogEntry) → HasJustTold told log → AreOfLinks entries → last_told (log ++ entries) ≡ told
-told_last told log entries just of_links = ap (λ (o : Option LogEntry). unwrap_or (option_map told_by o) 0)
-    (last-append is_told log entries ∙ ap (later_of (last_that is_told log)) (none_told entries (no_clock entries of_links)) ∙ ap (last_that is_told) just.1 ∙ last-append is_told just.0 (Told told ∷ []))
+told_last : (told : ℕ) (log entries : List LogEntry) → HasJustTold told log → IsClockless entries → last_told (log ++ entries) ≡ told
+told_last told log entries just clockless = ap (λ (o : Option LogEntry). unwrap_or (option_map told_by o) 0)
+    (last-append is_told log entries ∙ ap (later_of (last_that is_told log)) (none_told entries clockless) ∙ ap (last_that is_told) just.1 ∙ last-append is_told just.0 (Told told ∷ []))
 
 -- what waits is early
 early_items : (P : Plan) (T : Tempo) (J : List Entry) (s told : ℕ) (before : List Item) (held : List Held) (items : List Item) → AreHeldItems P T J s before held items → BeginsWithStep held → ((f : First) → first_at (record { 0 = s }) held ≡ Some f → told < f.due.moment) → IsEarly T told items
@@ -194,7 +195,7 @@ module _ (risen : Type 0) (told : ℕ) (core : CoreState) (entries : List LogEnt
       early_at : (i : ℕ) (low : i < sim_count core.plan) → IsEarly W.tempo (last_told (log ++ entries)) (q.holding i low).waiting
       early_at i low =
           let t = q.holding i low in
-          subst (λ (n : ℕ). IsEarly W.tempo n t.waiting) (sym (told_last told log entries just tried.1))
+          subst (λ (n : ℕ). IsEarly W.tempo n t.waiting) (sym (told_last told log entries just (no_clock (IsLineLink C.lines) entries tried.1)))
           (early_items core.plan W.tempo core.entries i told (q.queued i) t.held t.waiting t.are (q.steps i t.held tt t.there) (λ f is. early i t.held f t.there is))
 
       found : (i : ℕ) (l : LinkNo) → sim_link S.started S.scenario i ≡ Some l → last_read l (log ++ entries) ≡ Some (NotHeard l)

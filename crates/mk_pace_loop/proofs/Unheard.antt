@@ -17,6 +17,7 @@ use Rattle.mk_run_laws.proofs.Taking.{garbled_none, long_none, none_first, unfin
 use Rattle.mk_run_links.specs.declared.answers.LinkHalt.{LinkHalt}
 use Rattle.mk_run_links.specs.declared.answers.LinkHalt.TheVariants as link_halt
 use Rattle.mk_run_links.specs.Entries.{AreOfLinks}
+use Rattle.mk_run_links.specs.Places.{IsLineLink}
 use Rattle.mk_run_links.specs.Halts.{ShowsHalt}
 use Rattle.mk_run_crew.specs.declared.halt.Halt.{Halt}
 use Rattle.mk_run_crew.specs.declared.halt.Halt.TheVariants as halt
@@ -56,7 +57,7 @@ none_named halt.Mem = refl
 
 module _ (S : Setting) (core : CoreState) (log entries : List LogEntry) (C D : CrewSeen) (W : WaitingSeen) (risen : Type 0) (p : GoesOn S core log C W) (waits : Waits core) (sims : D.sims ≡ C.sims) where
   -- nothing came by these entries
-  pub unheard_on : IsUnheard entries (crew_of C) (crew_of D) → AreOfLinks entries → GoesOn S core (log ++ entries) D W
+  pub unheard_on : IsUnheard entries (crew_of C) (crew_of D) → AreOfLinks (IsLineLink C.lines) entries → GoesOn S core (log ++ entries) D W
   unheard_on un of_links = looks_around S W.tempo W.strict core.plan core.entries log (crew_of C) D.sims W.holds W.moments (subst (λ (l : List (Option Simulator)). IsPacing S W.tempo W.strict core.plan core.entries log (crew_of C) l W.holds W.moments) (sym sims) p)
       entries (crew_of D) un of_links
 

@@ -20,6 +20,7 @@ use Rattle.mk_run_laws.specs.Handshake.{is_within, sim_link}
 use Rattle.mk_run_laws.specs.Kinds.{KeepsToKinds}
 use Rattle.mk_run_laws.specs.Payloads.{takes_id}
 use Rattle.mk_run_laws.specs.inner.Running.{HasLine}
+use Rattle.mk_run_links.specs.Entries.{IsRunLink}
 use Rattle.mk_run_links.proofs.OnEntries.{no_rests}
 use Rattle.mk_run_crew.specs.Seen.{CrewSeen, crew_of}
 use Rattle.mk_run.specs.declared.outcome.Outcome.{Outcome}
@@ -37,7 +38,7 @@ use Rattle.mk_pace_loop.specs.inner.Turns.{IsPast, IsStopping}
 use Rattle.mk_pace_loop.specs.inner.Waiting.{WaitingSeen}
 use Rattle.mk_pace_loop.proofs.Ending.{limit_unnamed, linked_low, queued_itself, sent_is, within_low}
 use Rattle.mk_pace_loop.proofs.Meeting.{got_given, given_here, met_fits, met_kinds, met_lines, met_looks, met_moments, met_naps, met_naps_before, met_no_other, met_replied, met_timely, met_told, taken_kept}
-use Rattle.mk_pace_loop.proofs.Passing.{moments_later, origin_later, setup_later}
+use Rattle.mk_pace_loop.proofs.Passing.{moments_later, on_later, origin_later, setup_later}
 
 module _ (S : Setting) (core : CoreState) (log : List LogEntry) (s : SimNo) (m : Message) (D : CrewSeen) (W : WaitingSeen) (h : IsPast S core log s m D W) where
   abbrev P : Plan
@@ -123,7 +124,8 @@ module _ (S : Setting) (core : CoreState) (log : List LogEntry) (s : SimNo) (m :
       origin = origin_later S.started S.scenario h.before h.entries W.tempo.origin p.origin;
       moments_are = moments;
       within = few_got;
-      setup_rests = setup_later S.started S.scenario h.before h.entries (no_rests h.entries h.of_links) p.setup_rests;
+      setup_rests = setup_later S.started S.scenario h.before h.entries (no_rests (IsRunLink S.started S.scenario) h.entries h.of_links) p.setup_rests;
+      on_links = on_later S.started S.scenario h.before h.entries p.on_links h.of_links;
       naps = naps;
       looks = met_looks S W.tempo W.strict P J h.before h.entries h.crew (crew_of D) D.sims W.holds W.moments p s m h.nobody h.of_links h.fit h.heard;
       ends = ends;

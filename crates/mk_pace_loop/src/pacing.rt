@@ -2,8 +2,6 @@
 // or the fleet sleeps.
 ghost use Rattle.std.specs.Prelude.{◌≡◌, ◌≤◌, ◌<◌, ℕ, List, [], None, Some, Err, OnErr, OnOk, true, length, slice_get};
 ghost use Rattle.mk_outside.specs.declared.fleet.LogEntry.{LogEntry};
-ghost use Rattle.mk_outside.specs.Counts.{HasRisen};
-ghost use Rattle.mk_outside.specs.Logs.{Adds};
 ghost use Rattle.mk_local.specs.Registries.{rows_in};
 ghost use Rattle.mk_plan.specs.declared.Item.{Item};
 ghost use Rattle.mk_plan.specs.Plans.{sim_count};
@@ -12,7 +10,7 @@ ghost use Rattle.mk_run_links.specs.Places.{AreOpen};
 ghost use Rattle.mk_run_local.specs.Seen.{AreOf};
 ghost use Rattle.mk_run_crew.specs.Seen.{CrewSeen, within_of};
 ghost use Rattle.mk_run.specs.inner.Sendings.{CanSend, EndsWithItem};
-ghost use Rattle.mk_run.specs.inner.Turns.{AreLinksOpen, IsStill, Waits};
+ghost use Rattle.mk_run.specs.inner.Turns.{AreLinksOpen, GrowsBy, IsStill, Waits};
 ghost use Rattle.mk_run.specs.inner.Underway.{Setting};
 ghost use Rattle.mk_pace_loop.specs.inner.Turns.{AnswersAs, AsksAs, AttendsAs, GoesOn, HasJustTold, IsPast, NapsAs, PassesAs, RisesOn, TakesAs, TurnsAs};
 ghost use Rattle.mk_pace_loop.specs.inner.Waiting.{AreEarly, HasTime, IsHeldLast, IsInTime, IsOnTempo};
@@ -154,9 +152,8 @@ fn nap<F: Paced>(waiting: &Waiting, fleet: &mut F, told: u64) -> Result<(), Outc
     ensures count { F.Fleet.faults fleet.old ≤ F.Fleet.faults fleet.new }
     ensures same_count { F.Fleet.started fleet.new ≡ F.Fleet.started fleet.old }
     ensures same_links { F.Fleet.open_links fleet.new ≡ F.Fleet.open_links fleet.old }
-    ensures slept { (entries : List LogEntry)
-        × Adds entries (F.Fleet.log fleet.old) (F.Fleet.log fleet.new)
-        × NapsAs result entries (HasRisen (F.Fleet.faults fleet.old) (F.Fleet.faults fleet.new)) }
+    ensures slept { GrowsBy F.Fleet.log F.Fleet.faults fleet.old fleet.new
+        (λ entries risen. NapsAs result entries risen) }
 {
     match fleet.sleep(nap_length(waiting, told)) {
         Slept::Woke => Ok(()),
@@ -184,11 +181,9 @@ fn attend<F: Paced>(
     ensures count { F.Fleet.faults fleet.old ≤ F.Fleet.faults fleet.new }
     ensures same_count { F.Fleet.started fleet.new ≡ F.Fleet.started fleet.old }
     ensures same_links { F.Fleet.open_links fleet.new ≡ F.Fleet.open_links fleet.old }
-    ensures attended { (entries : List LogEntry)
-        × Adds entries (F.Fleet.log fleet.old) (F.Fleet.log fleet.new)
-        × AttendsAs result told entries
-        (HasRisen (F.Fleet.faults fleet.old) (F.Fleet.faults fleet.new)) core.old crew.old
-        waiting.old core.new crew.new waiting.new }
+    ensures attended { GrowsBy F.Fleet.log F.Fleet.faults fleet.old fleet.new
+        (λ entries risen. AttendsAs result told entries risen core.old crew.old waiting.old core.new
+        crew.new waiting.new) }
     ensures rising { RisesOn (F.Fleet.log fleet.old) (F.Fleet.log fleet.new) }
     ensures still { IsStill crew.old crew.new }
     ensures unhalted { OnOk result (crew.new.halt ≡ None) }
@@ -220,11 +215,9 @@ fn pass<F: Paced>(
     ensures count { F.Fleet.faults fleet.old ≤ F.Fleet.faults fleet.new }
     ensures same_count { F.Fleet.started fleet.new ≡ F.Fleet.started fleet.old }
     ensures same_links { F.Fleet.open_links fleet.new ≡ F.Fleet.open_links fleet.old }
-    ensures passed { (entries : List LogEntry)
-        × Adds entries (F.Fleet.log fleet.old) (F.Fleet.log fleet.new)
-        × PassesAs result told entries
-        (HasRisen (F.Fleet.faults fleet.old) (F.Fleet.faults fleet.new)) core.old crew.old
-        waiting.old core.new crew.new waiting.new }
+    ensures passed { GrowsBy F.Fleet.log F.Fleet.faults fleet.old fleet.new
+        (λ entries risen. PassesAs result told entries risen core.old crew.old waiting.old core.new
+        crew.new waiting.new) }
     ensures rising { RisesOn (F.Fleet.log fleet.old) (F.Fleet.log fleet.new) }
     ensures still { IsStill crew.old crew.new }
     ensures unhalted { OnOk result (crew.new.halt ≡ None) }
@@ -254,11 +247,9 @@ fn turn<F: Paced>(
     ensures count { F.Fleet.faults fleet.old ≤ F.Fleet.faults fleet.new }
     ensures same_count { F.Fleet.started fleet.new ≡ F.Fleet.started fleet.old }
     ensures same_links { F.Fleet.open_links fleet.new ≡ F.Fleet.open_links fleet.old }
-    ensures turned { (entries : List LogEntry)
-        × Adds entries (F.Fleet.log fleet.old) (F.Fleet.log fleet.new)
-        × TurnsAs result entries
-        (HasRisen (F.Fleet.faults fleet.old) (F.Fleet.faults fleet.new)) core.old crew.old
-        waiting.old core.new crew.new waiting.new }
+    ensures turned { GrowsBy F.Fleet.log F.Fleet.faults fleet.old fleet.new
+        (λ entries risen. TurnsAs result entries risen core.old crew.old waiting.old core.new
+        crew.new waiting.new) }
     ensures rising { RisesOn (F.Fleet.log fleet.old) (F.Fleet.log fleet.new) }
     ensures still { IsStill crew.old crew.new }
     ensures unhalted { OnOk result (crew.new.halt ≡ None) }
@@ -293,11 +284,9 @@ pub fn drive<F: Paced, R: Wait>(
     ensures count { F.Fleet.faults fleet.old ≤ F.Fleet.faults fleet.new }
     ensures same_count { F.Fleet.started fleet.new ≡ F.Fleet.started fleet.old }
     ensures same_links { F.Fleet.open_links fleet.new ≡ F.Fleet.open_links fleet.old }
-    ensures ended { (entries : List LogEntry)
-        × Adds entries (F.Fleet.log fleet.old) (F.Fleet.log fleet.new)
-        × TurnsAs (Err result) entries
-        (HasRisen (F.Fleet.faults fleet.old) (F.Fleet.faults fleet.new)) core.old crew.old
-        waiting.old core.new crew.new waiting.new }
+    ensures ended { GrowsBy F.Fleet.log F.Fleet.faults fleet.old fleet.new
+        (λ entries risen. TurnsAs (Err result) entries risen core.old crew.old waiting.old core.new
+        crew.new waiting.new) }
     ensures rising { RisesOn (F.Fleet.log fleet.old) (F.Fleet.log fleet.new) }
     ensures still { IsStill crew.old crew.new }
     ensures on_tempo { IsOnTempo waiting.old waiting.new }

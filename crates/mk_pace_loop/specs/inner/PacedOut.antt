@@ -20,6 +20,7 @@ use Rattle.mk_run_laws.specs.Hearing.{first_message}
 use Rattle.mk_run_laws.specs.Kinds.{KeepsToKinds}
 use Rattle.mk_run_laws.specs.Payloads.{takes_id}
 use Rattle.mk_run_laws.specs.Rests.{AllSetUp, IsWellInSetup}
+use Rattle.mk_run_links.specs.Entries.{AreOnOrOfClock, IsRunLink}
 use Rattle.mk_run_laws.specs.inner.Running.{HasLine}
 use Rattle.mk_run.specs.declared.outcome.Outcome.{Outcome}
 use Rattle.mk_run.specs.declared.outcome.Outcome.TheVariants as outcome
@@ -80,7 +81,7 @@ EndsOutcome risen S P J log C (outcome.Garbled i n) = (l : LinkNo)
     × (g : HasGivenPaced S J log C i.0 l) × BeginsGarbled g.line.line.held n
 EndsOutcome risen S P J log C (outcome.LongFrame i n) = (l : LinkNo)
     × (g : HasGivenPaced S J log C i.0 l) × IsTooLong n g.line.line.held
-EndsOutcome risen S P J log C (outcome.LongItem i n) = IsLongAmong P J i.0 n
+EndsOutcome risen S P J log C (outcome.LongItem i n) = IsLongAmong S.started S.scenario P J i.0 n
 EndsOutcome risen S P J log C outcome.Mem = ⊤
 
 abbrev pub EndsPace : Type 0 → Setting → Plan → Tempo → Option ℕ → List Entry → List Moment
@@ -107,6 +108,7 @@ pub record HasPacedOut (risen : Type 0) (S : Setting) (T : Tempo) (strict : Opti
       → length (got J i) ≤ length (filter takes_id (sent_out J moments i))
   pub setup_rests : (before after : List LogEntry) → log ≡ before ++ Rest ∷ after
       → IsWellInSetup S.started S.scenario before × (AllSetUp S.started S.scenario before → ⊥)
+  pub on_links : AreOnOrOfClock (IsRunLink S.started S.scenario) log
   pub naps : AreAllLinked S.scenario → AreNaps S.started S.scenario S.replies P T J log
   pub looks : NapsLook S.started S.scenario log
   pub ends : EndsPace risen S P T strict J moments log C end

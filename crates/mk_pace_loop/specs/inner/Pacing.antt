@@ -20,6 +20,7 @@ use Rattle.mk_run_laws.specs.Handshake.{is_within, sim_link}
 use Rattle.mk_run_laws.specs.Kinds.{KeepsToKinds}
 use Rattle.mk_run_laws.specs.Payloads.{id_after, takes_id}
 use Rattle.mk_run_laws.specs.Rests.{AllSetUp, IsWellInSetup}
+use Rattle.mk_run_links.specs.Entries.{AreOnOrOfClock, IsRunLink}
 use Rattle.mk_run_laws.specs.inner.Running.{HasLine, awaited}
 use Rattle.mk_local.specs.Replies.{IsItemReplied}
 use Rattle.mk_local.specs.Simulators.{Simulator}
@@ -115,6 +116,7 @@ pub record IsPacingFor (begins : ℕ → Type 0) (S : Setting) (T : Tempo) (stri
   pub only_within : (i : ℕ) → is_within S.scenario i ≡ false → local_at sims i ≡ None
   pub setup_rests : (before after : List LogEntry) → log ≡ before ++ Rest ∷ after
       → IsWellInSetup S.started S.scenario before × (AllSetUp S.started S.scenario before → ⊥)
+  pub on_links : AreOnOrOfClock (IsRunLink S.started S.scenario) log
   pub origin : IsOrigin S.started S.scenario log T.origin
   pub told : (s : ℕ) → AreTold T log (queued s)
   pub timely : (i : ℕ) (l : LinkNo) → sim_link S.started S.scenario i ≡ Some l

@@ -13,7 +13,7 @@ use Rattle.mk_local.specs.Simulators.{Simulator}
 use Rattle.mk_sched.specs.Cores.{CoreState}
 use Rattle.mk_sched.specs.Answers.{SomeOpen, SomeReady}
 use Rattle.mk_run_laws.specs.Crews.{CrewState, IsHeard}
-use Rattle.mk_run_links.specs.Entries.{AreOfLinks}
+use Rattle.mk_run_links.specs.Entries.{AreOfLinks, IsRunLink}
 use Rattle.mk_run_local.specs.Calls.{IsFitSuccess}
 use Rattle.mk_run_crew.specs.Calls.{SendsAs}
 use Rattle.mk_run_crew.specs.Seen.{CrewSeen, crew_of}
@@ -59,7 +59,7 @@ pub record HasMet (S : Setting) (T : Tempo) (strict : Option ℕ) (P : Plan) (J 
   pub opened : SomeOpen P J
   pub nobody : SomeReady P J → ⊥
   pub heard : IsHeard entries s m crew D
-  pub of_links : AreOfLinks entries
+  pub of_links : AreOfLinks (IsRunLink S.started S.scenario) entries
   pub fit : (k : Arrival) (more : List Arrival) → crew.kept ≡ k ∷ more → IsFitSuccess m
 
 -- a message was heard besides, which the core hasn't taken
