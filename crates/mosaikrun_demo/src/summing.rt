@@ -1,10 +1,8 @@
 // From a size to the summary of a run of the demo scenario.
-ghost use Rattle.std.specs.Prelude.{◌≡◌, ◌≤◌, ◌<◌, List, IfOk, IfErr, Ok, Err};
-ghost use Rattle.mk_outside.specs.declared.fleet.LogEntry.{LogEntry};
-ghost use Rattle.mk_outside.specs.Logs.{Adds};
+ghost use Rattle.std.specs.Prelude.{◌≡◌, ◌≤◌, ◌<◌, IfOk, IfErr, Ok, Err};
 ghost use Rattle.mk_launch.specs.Starts.{AreNumbered};
 ghost use Rattle.mk_local.specs.Registries.{rows_in};
-ghost use Rattle.mosaikrun_run.specs.Outcomes.{outside};
+ghost use Rattle.mosaikrun_run.specs.Outcomes.{HoldsOver};
 ghost use Rattle.mosaikrun_demo.specs.Outcomes.{IsDemoOutcome};
 
 use mk_local::Registry;
@@ -31,14 +29,10 @@ pub fn summed<F: Fleet, R: Wait>(
     ensures closed { AreNumbered (F.started fleet.old) (F.open_links fleet.old)
         → F.open_links fleet.new ≡ F.open_links fleet.old }
     ensures unused { fleet.new ≡ fleet.old }
-    ensures text { IfOk result (λ text. (entries : List LogEntry)
-        × Adds entries (F.log fleet.old) (F.log fleet.new)
-        × IsDemoOutcome (outside F.started F.faults (rows_in kinds.now) fleet.old fleet.new entries)
-        size (Ok text.items)) }
-    ensures none { IfErr result (λ e. (entries : List LogEntry)
-        × Adds entries (F.log fleet.old) (F.log fleet.new)
-        × IsDemoOutcome (outside F.started F.faults (rows_in kinds.now) fleet.old fleet.new entries)
-        size (Err e)) }
+    ensures text { IfOk result (λ text. HoldsOver F.log F.started F.faults (rows_in kinds.now)
+        fleet.old fleet.new (λ O. IsDemoOutcome O size (Ok text.items))) }
+    ensures none { IfErr result (λ e. HoldsOver F.log F.started F.faults (rows_in kinds.now)
+        fleet.old fleet.new (λ O. IsDemoOutcome O size (Err e))) }
 {
     let scenario = demo_scenario(alloc, size)?;
     played(rt, alloc, kinds, scenario, fleet, Form::Summary, false).text

@@ -1,5 +1,5 @@
 // From the bytes of a scenario's file to the text and the record of its paced run.
-ghost use Rattle.std.specs.Prelude.{◌≡◌, ◌≤◌, ◌⊎◌, ℕ, List, IfOk, IfErr, IfSome, IsSome, Ok, Err, None, map, option_map, true};
+ghost use Rattle.std.specs.Prelude.{◌≡◌, ◌≤◌, ◌⊎◌, List, IfOk, IfErr, IfSome, IsSome, Ok, Err, None, map, option_map, true};
 ghost use Rattle.std.specs.List.{list_all};
 ghost use Rattle.mk_outside.specs.declared.fleet.LogEntry.{LogEntry};
 ghost use Rattle.mk_outside.specs.Logs.{Adds};
@@ -11,7 +11,7 @@ ghost use Rattle.mk_record.specs.Writable.{is_writable};
 ghost use Rattle.mk_scenario.specs.Wellformed.{IsWellformed};
 ghost use Rattle.mosaikrun_check.specs.Runnable.{IsRunnable};
 ghost use Rattle.mosaikrun_endings.specs.declared.ending.Ending.TheVariants as endings;
-ghost use Rattle.mosaikrun_run.specs.Outcomes.{IsReadAgain, IsSaid, outside};
+ghost use Rattle.mosaikrun_run.specs.Outcomes.{HoldsOver, IsReadAgain, IsSaid};
 ghost use Rattle.mosaikrun_run.specs.Sayings.{record_of};
 ghost use Rattle.mosaikrun_sayings.specs.Sayings.{ids_of};
 ghost use Rattle.mosaikrun_paced.specs.Outcomes.{IsPacedOutcome, IsPacedScenario};
@@ -51,15 +51,12 @@ pub fn paced_ran<F: Paced, R: Wait>(
         → F.open_links fleet.new ≡ F.open_links fleet.old }
     ensures rising { (entries : List LogEntry) × Adds entries (F.log fleet.old) (F.log fleet.new)
         × (IsSome (F.log fleet.new) → IsRising entries) }
-    ensures text { IfOk result.text (λ text. (entries : List LogEntry)
-        × Adds entries (F.log fleet.old) (F.log fleet.new)
-        × IsPacedOutcome (outside F.started F.faults (rows_in kinds.now) fleet.old fleet.new entries)
-        factor strict is_recorded bytes.now (Ok text.items)
-        (option_map (λ r. r.items) result.record)) }
-    ensures none { IfErr result.text (λ e. (entries : List LogEntry)
-        × Adds entries (F.log fleet.old) (F.log fleet.new)
-        × IsPacedOutcome (outside F.started F.faults (rows_in kinds.now) fleet.old fleet.new entries)
-        factor strict is_recorded bytes.now (Err e) (option_map (λ r. r.items) result.record)) }
+    ensures text { IfOk result.text (λ text. HoldsOver F.log F.started F.faults (rows_in kinds.now)
+        fleet.old fleet.new (λ O. IsPacedOutcome O factor strict is_recorded bytes.now
+        (Ok text.items) (option_map (λ r. r.items) result.record))) }
+    ensures none { IfErr result.text (λ e. HoldsOver F.log F.started F.faults (rows_in kinds.now)
+        fleet.old fleet.new (λ O. IsPacedOutcome O factor strict is_recorded bytes.now (Err e)
+        (option_map (λ r. r.items) result.record))) }
 {
     match scenario_of(alloc, bytes) {
         Ok(scenario) => {
@@ -74,7 +71,7 @@ pub fn paced_ran<F: Paced, R: Wait>(
                 is_recorded,
             )
         }
-        Err(ending) => unrecorded(ending),
+        Err(ending) => Told::unrecorded(ending),
     }
 }
 
@@ -98,16 +95,12 @@ fn play<F: Paced, R: Wait>(
         → F.open_links fleet.new ≡ F.open_links fleet.old }
     ensures rising { (entries : List LogEntry) × Adds entries (F.log fleet.old) (F.log fleet.new)
         × (IsSome (F.log fleet.new) → IsRising entries) }
-    ensures text { IfOk result.text (λ text. (entries : List LogEntry)
-        × Adds entries (F.log fleet.old) (F.log fleet.new)
-        × IsPacedScenario (outside F.started F.faults
-        (rows_in kinds.now) fleet.old fleet.new entries) factor strict is_recorded scenario
-        (Ok text.items) (option_map (λ r. r.items) result.record)) }
-    ensures none { IfErr result.text (λ e. (entries : List LogEntry)
-        × Adds entries (F.log fleet.old) (F.log fleet.new)
-        × IsPacedScenario (outside F.started F.faults
-        (rows_in kinds.now) fleet.old fleet.new entries) factor strict is_recorded scenario (Err e)
-        (option_map (λ r. r.items) result.record)) }
+    ensures text { IfOk result.text (λ text. HoldsOver F.log F.started F.faults (rows_in kinds.now)
+        fleet.old fleet.new (λ O. IsPacedScenario O factor strict is_recorded scenario
+        (Ok text.items) (option_map (λ r. r.items) result.record))) }
+    ensures none { IfErr result.text (λ e. HoldsOver F.log F.started F.faults (rows_in kinds.now)
+        fleet.old fleet.new (λ O. IsPacedScenario O factor strict is_recorded scenario (Err e)
+        (option_map (λ r. r.items) result.record))) }
 {
     match accept(alloc, kinds, &scenario) {
         Ok(accepted) => pace(
@@ -121,7 +114,7 @@ fn play<F: Paced, R: Wait>(
             strict,
             is_recorded,
         ),
-        Err(ending) => unrecorded(ending),
+        Err(ending) => Told::unrecorded(ending),
     }
 }
 
@@ -148,16 +141,12 @@ fn pace<F: Paced, R: Wait>(
         → F.open_links fleet.new ≡ F.open_links fleet.old }
     ensures rising { (entries : List LogEntry) × Adds entries (F.log fleet.old) (F.log fleet.new)
         × (IsSome (F.log fleet.new) → IsRising entries) }
-    ensures text { IfOk result.text (λ text. (entries : List LogEntry)
-        × Adds entries (F.log fleet.old) (F.log fleet.new)
-        × IsPacedScenario (outside F.started F.faults
-        (rows_in kinds.now) fleet.old fleet.new entries) factor strict is_recorded scenario
-        (Ok text.items) (option_map (λ r. r.items) result.record)) }
-    ensures none { IfErr result.text (λ e. (entries : List LogEntry)
-        × Adds entries (F.log fleet.old) (F.log fleet.new)
-        × IsPacedScenario (outside F.started F.faults
-        (rows_in kinds.now) fleet.old fleet.new entries) factor strict is_recorded scenario (Err e)
-        (option_map (λ r. r.items) result.record)) }
+    ensures text { IfOk result.text (λ text. HoldsOver F.log F.started F.faults (rows_in kinds.now)
+        fleet.old fleet.new (λ O. IsPacedScenario O factor strict is_recorded scenario
+        (Ok text.items) (option_map (λ r. r.items) result.record))) }
+    ensures none { IfErr result.text (λ e. HoldsOver F.log F.started F.faults (rows_in kinds.now)
+        fleet.old fleet.new (λ O. IsPacedScenario O factor strict is_recorded scenario (Err e)
+        (option_map (λ r. r.items) result.record))) }
 {
     let Accepted { ranks, ids } = accepted;
     let PaceRan {
@@ -168,7 +157,7 @@ fn pace<F: Paced, R: Wait>(
     } = paced(rt, alloc, scenario, ranks, fleet, kinds, factor, strict);
     match (plan, journal) {
         (Some(plan), Some(journal)) => tell(alloc, &ids, end, &plan, &journal, is_recorded),
-        (None, None) => unrecorded(unpaced(alloc, &ids, end)),
+        (None, None) => Told::unrecorded(unpaced(alloc, &ids, end)),
         (Some(_), None) | (None, Some(_)) => unreachable!(),
     }
 }
@@ -198,17 +187,6 @@ fn tell(
             text: saying_at(alloc, ids, end, plan, journal),
             record,
         },
-        Err(_) => unrecorded(Ending::Mem),
-    }
-}
-
-// Nothing is to be recorded.
-fn unrecorded(ending: Ending) -> Told
-    ensures text { result.text ≡ Err ending }
-    ensures record { result.record ≡ None }
-{
-    Told {
-        text: Err(ending),
-        record: None,
+        Err(_) => Told::unrecorded(Ending::Mem),
     }
 }

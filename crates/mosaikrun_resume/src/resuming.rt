@@ -1,8 +1,6 @@
 // From the bytes of a scenario's file and of a record to the text and the record of the run that goes on.
-ghost use Rattle.std.specs.Prelude.{◌≡◌, ◌≤◌, ◌⊎◌, ℕ, All, List, IfOk, IfErr, IfSome, Ok, Err, None, map, option_map, true, false};
+ghost use Rattle.std.specs.Prelude.{◌≡◌, ◌≤◌, ◌⊎◌, All, IfOk, IfErr, IfSome, Ok, Err, None, map, option_map, true, false};
 ghost use Rattle.std.specs.List.{list_all};
-ghost use Rattle.mk_outside.specs.declared.fleet.LogEntry.{LogEntry};
-ghost use Rattle.mk_outside.specs.Logs.{Adds};
 ghost use Rattle.mk_launch.specs.Starts.{AreNumbered};
 ghost use Rattle.mk_local.specs.Kinds.{name_of};
 ghost use Rattle.mk_local.specs.Registries.{rows_in};
@@ -17,7 +15,7 @@ ghost use Rattle.mosaikrun_check.specs.Checks.{IsUnchecked};
 ghost use Rattle.mosaikrun_check.specs.Runnable.{IsRunnable};
 ghost use Rattle.mosaikrun_endings.specs.declared.ending.Ending.TheVariants as ends;
 ghost use Rattle.mosaikrun_records.specs.Saved.{IsUnread};
-ghost use Rattle.mosaikrun_run.specs.Outcomes.{IsReadAgain, IsSaid, Outside, outside};
+ghost use Rattle.mosaikrun_run.specs.Outcomes.{HoldsOver, IsReadAgain, IsSaid};
 ghost use Rattle.mosaikrun_run.specs.Sayings.{record_of};
 ghost use Rattle.mosaikrun_sayings.specs.Sayings.{ids_of};
 ghost use Rattle.mosaikrun_resume.specs.Outcomes.{IsResumeOutcome, IsStudyOutcome, IsSavedOutcome};
@@ -97,20 +95,16 @@ pub fn resumed<F: Fleet, R: Wait>(
     ensures closed { AreNumbered (F.started fleet.old) (F.open_links fleet.old)
         → F.open_links fleet.new ≡ F.open_links fleet.old }
     ensures within { is_wholly_within study.scenario ≡ true → fleet.new ≡ fleet.old }
-    ensures text { IfOk result.text (λ text. (entries : List LogEntry)
-        × Adds entries (F.log fleet.old) (F.log fleet.new)
-        × IsStudyOutcome (outside F.started F.faults (rows_in kinds.now) fleet.old fleet.new entries)
-        is_recorded study.scenario study.ranks bytes.now (Ok text.items)
-        (option_map (λ r. r.items) result.record)) }
-    ensures none { IfErr result.text (λ e. (entries : List LogEntry)
-        × Adds entries (F.log fleet.old) (F.log fleet.new)
-        × IsStudyOutcome (outside F.started F.faults (rows_in kinds.now) fleet.old fleet.new entries)
-        is_recorded study.scenario study.ranks bytes.now (Err e)
-        (option_map (λ r. r.items) result.record)) }
+    ensures text { IfOk result.text (λ text. HoldsOver F.log F.started F.faults (rows_in kinds.now)
+        fleet.old fleet.new (λ O. IsStudyOutcome O is_recorded study.scenario study.ranks bytes.now
+        (Ok text.items) (option_map (λ r. r.items) result.record))) }
+    ensures none { IfErr result.text (λ e. HoldsOver F.log F.started F.faults (rows_in kinds.now)
+        fleet.old fleet.new (λ O. IsStudyOutcome O is_recorded study.scenario study.ranks bytes.now
+        (Err e) (option_map (λ r. r.items) result.record))) }
 {
     match saved_of(alloc, bytes) {
         Ok(saved) => go_on(rt, alloc, kinds, study, saved, fleet, is_recorded),
-        Err(ending) => unrecorded(ending),
+        Err(ending) => Told::unrecorded(ending),
     }
 }
 
@@ -132,16 +126,12 @@ fn go_on<F: Fleet, R: Wait>(
     ensures closed { AreNumbered (F.started fleet.old) (F.open_links fleet.old)
         → F.open_links fleet.new ≡ F.open_links fleet.old }
     ensures within { is_wholly_within study.scenario ≡ true → fleet.new ≡ fleet.old }
-    ensures text { IfOk result.text (λ text. (entries : List LogEntry)
-        × Adds entries (F.log fleet.old) (F.log fleet.new)
-        × IsSavedOutcome (outside F.started F.faults (rows_in kinds.now) fleet.old fleet.new entries)
-        is_recorded study.scenario study.ranks saved (Ok text.items)
-        (option_map (λ r. r.items) result.record)) }
-    ensures none { IfErr result.text (λ e. (entries : List LogEntry)
-        × Adds entries (F.log fleet.old) (F.log fleet.new)
-        × IsSavedOutcome (outside F.started F.faults (rows_in kinds.now) fleet.old fleet.new entries)
-        is_recorded study.scenario study.ranks saved (Err e)
-        (option_map (λ r. r.items) result.record)) }
+    ensures text { IfOk result.text (λ text. HoldsOver F.log F.started F.faults (rows_in kinds.now)
+        fleet.old fleet.new (λ O. IsSavedOutcome O is_recorded study.scenario study.ranks saved
+        (Ok text.items) (option_map (λ r. r.items) result.record))) }
+    ensures none { IfErr result.text (λ e. HoldsOver F.log F.started F.faults (rows_in kinds.now)
+        fleet.old fleet.new (λ O. IsSavedOutcome O is_recorded study.scenario study.ranks saved
+        (Err e) (option_map (λ r. r.items) result.record))) }
 {
     let Study {
         scenario,
@@ -158,7 +148,7 @@ fn go_on<F: Fleet, R: Wait>(
         (Some(plan), Some(journal)) => {
             tell(alloc, &ids, end, &plan, &journal, taken, is_recorded)
         }
-        (None, None) => unrecorded(refusal(alloc, &ids, end)),
+        (None, None) => Told::unrecorded(refusal(alloc, &ids, end)),
         (Some(_), None) | (None, Some(_)) => unreachable!(),
     }
 }
@@ -217,7 +207,7 @@ fn tell_recorded(
             text: saying_at(alloc, ids, end, plan, journal),
             record,
         },
-        Err(_) => unrecorded(Ending::Mem),
+        Err(_) => Told::unrecorded(Ending::Mem),
     }
 }
 
@@ -237,17 +227,6 @@ fn tell_refused(
 {
     Told {
         text: saying_at(alloc, ids, end, plan, journal),
-        record: None,
-    }
-}
-
-// Nothing is to be recorded.
-fn unrecorded(ending: Ending) -> Told
-    ensures text { result.text ≡ Err ending }
-    ensures record { result.record ≡ None }
-{
-    Told {
-        text: Err(ending),
         record: None,
     }
 }

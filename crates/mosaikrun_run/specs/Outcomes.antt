@@ -8,6 +8,7 @@ use Rattle.mk_record.specs.Readable.{IsReadable}
 use Rattle.mk_record.specs.Reading.{Said, reading}
 use Rattle.mk_outside.specs.Counts.{HasRisen}
 use Rattle.mk_outside.specs.declared.fleet.LogEntry.{LogEntry}
+use Rattle.mk_outside.specs.Logs.{Adds}
 use Rattle.mk_scenario.specs.declared.parts.Scenario.{Scenario}
 use Rattle.mk_scenario.specs.Scenarios.{scenario_of}
 use Rattle.mk_scenario.specs.Wellformed.{IsWellformed}
@@ -45,6 +46,13 @@ outside started faults kinds old new entries = record {
   faults = faults old;
   new_faults = faults new;
 }
+
+-- over some entries by which the log of a fleet grew in a call with these kinds this holds of what
+-- lies around it; the fleet tells its log, how many links it started, and its count of faults
+abbrev pub HoldsOver : {F : Type 0} → (F → Option (List LogEntry)) → (F → ℕ) → (F → ℕ) → List Turn
+    → F → F → (Outside → Type 0) → Type 0
+HoldsOver log started faults kinds old new Holds = (entries : List LogEntry)
+    × Adds entries (log old) (log new) × Holds (outside started faults kinds old new entries)
 
 -- nothing was done with the fleet, and there is no record
 pub record IsIdle (O : Outside) (record_ : Option (List ℕ)) : Type 0 where

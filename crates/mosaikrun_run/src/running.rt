@@ -1,10 +1,8 @@
 // From a scenario, or a file's bytes, to the text and the record of its run.
-ghost use Rattle.std.specs.Prelude.{◌≡◌, ◌≤◌, ◌<◌, ◌⊎◌, ℕ, List, IfOk, IfErr, IfSome, Some, None, Ok, Err, map, option_map, true};
+ghost use Rattle.std.specs.Prelude.{◌≡◌, ◌≤◌, ◌<◌, ◌⊎◌, IfOk, IfErr, IfSome, Some, None, Ok, Err, map, option_map, true};
 ghost use Rattle.std.specs.List.{list_all};
 ghost use Rattle.mk_plan.specs.declared.Plan.{Plan};
 ghost use Rattle.mk_plan.specs.declared.Journal.{Journal};
-ghost use Rattle.mk_outside.specs.declared.fleet.LogEntry.{LogEntry};
-ghost use Rattle.mk_outside.specs.Logs.{Adds};
 ghost use Rattle.mk_scenario.specs.declared.parts.Scenario.{Scenario};
 ghost use Rattle.mk_scenario.specs.Scenarios.{scenario_of};
 ghost use Rattle.mk_scenario.specs.Wellformed.{IsWellformed};
@@ -19,7 +17,7 @@ ghost use Rattle.mk_run_crew.specs.declared.halt.Halt.{Halt};
 ghost use Rattle.mk_run.specs.Outcomes.{outcome_of};
 ghost use Rattle.mosaikrun_sayings.specs.Sayings.{ids_of};
 ghost use Rattle.mosaikrun_run.specs.Sayings.{IsHalt, halt_ending, record_of, saying_of};
-ghost use Rattle.mosaikrun_run.specs.Outcomes.{IsReadAgain, IsScenarioOutcome, IsRunOutcome, IsSaid, outside};
+ghost use Rattle.mosaikrun_run.specs.Outcomes.{HoldsOver, IsReadAgain, IsScenarioOutcome, IsRunOutcome, IsSaid};
 ghost use Rattle.mosaikrun_endings.specs.declared.ending.Ending.TheVariants as ends;
 
 use crate::sayings::{Form, halt_ending, saying};
@@ -44,8 +42,8 @@ pub struct Told {
 }
 
 impl Told {
-    // Nothing is to be recorded.
-    fn unrecorded(ending: Ending) -> Told
+    /// A run that has no text, since it ended so, and nothing to record.
+    pub fn unrecorded(ending: Ending) -> Told
         ensures text { result.text ≡ Err ending }
         ensures record { result.record ≡ None }
     {
@@ -72,14 +70,12 @@ pub fn ran<F: Fleet, R: Wait>(
         → F.open_links fleet.new ≡ F.open_links fleet.old }
     ensures within { (S : Scenario) → scenario_of bytes.now ≡ Ok S → is_wholly_within S ≡ true
         → fleet.new ≡ fleet.old }
-    ensures text { IfOk result.text (λ text. (entries : List LogEntry)
-        × Adds entries (F.log fleet.old) (F.log fleet.new)
-        × IsRunOutcome (outside F.started F.faults (rows_in kinds.now) fleet.old fleet.new entries)
-        is_recorded bytes.now (Ok text.items) (option_map (λ r. r.items) result.record)) }
-    ensures none { IfErr result.text (λ e. (entries : List LogEntry)
-        × Adds entries (F.log fleet.old) (F.log fleet.new)
-        × IsRunOutcome (outside F.started F.faults (rows_in kinds.now) fleet.old fleet.new entries)
-        is_recorded bytes.now (Err e) (option_map (λ r. r.items) result.record)) }
+    ensures text { IfOk result.text (λ text. HoldsOver F.log F.started F.faults (rows_in kinds.now)
+        fleet.old fleet.new (λ O. IsRunOutcome O is_recorded bytes.now (Ok text.items)
+        (option_map (λ r. r.items) result.record))) }
+    ensures none { IfErr result.text (λ e. HoldsOver F.log F.started F.faults (rows_in kinds.now)
+        fleet.old fleet.new (λ O. IsRunOutcome O is_recorded bytes.now (Err e)
+        (option_map (λ r. r.items) result.record))) }
 {
     match scenario_of(alloc, bytes) {
         Ok(scenario) => played(rt, alloc, kinds, scenario, fleet, Form::Report, is_recorded),
@@ -104,16 +100,12 @@ pub fn played<F: Fleet, R: Wait>(
     ensures closed { AreNumbered (F.started fleet.old) (F.open_links fleet.old)
         → F.open_links fleet.new ≡ F.open_links fleet.old }
     ensures within { is_wholly_within scenario ≡ true → fleet.new ≡ fleet.old }
-    ensures text { IfOk result.text (λ text. (entries : List LogEntry)
-        × Adds entries (F.log fleet.old) (F.log fleet.new)
-        × IsScenarioOutcome (outside F.started F.faults
-        (rows_in kinds.now) fleet.old fleet.new entries) form is_recorded scenario (Ok text.items)
-        (option_map (λ r. r.items) result.record)) }
-    ensures none { IfErr result.text (λ e. (entries : List LogEntry)
-        × Adds entries (F.log fleet.old) (F.log fleet.new)
-        × IsScenarioOutcome (outside F.started F.faults
-        (rows_in kinds.now) fleet.old fleet.new entries) form is_recorded scenario (Err e)
-        (option_map (λ r. r.items) result.record)) }
+    ensures text { IfOk result.text (λ text. HoldsOver F.log F.started F.faults (rows_in kinds.now)
+        fleet.old fleet.new (λ O. IsScenarioOutcome O form is_recorded scenario (Ok text.items)
+        (option_map (λ r. r.items) result.record))) }
+    ensures none { IfErr result.text (λ e. HoldsOver F.log F.started F.faults (rows_in kinds.now)
+        fleet.old fleet.new (λ O. IsScenarioOutcome O form is_recorded scenario (Err e)
+        (option_map (λ r. r.items) result.record))) }
 {
     match accept(alloc, kinds, &scenario) {
         Ok(accepted) => play(
@@ -170,16 +162,12 @@ fn play<F: Fleet, R: Wait>(
     ensures closed { AreNumbered (F.started fleet.old) (F.open_links fleet.old)
         → F.open_links fleet.new ≡ F.open_links fleet.old }
     ensures within { is_wholly_within scenario ≡ true → fleet.new ≡ fleet.old }
-    ensures text { IfOk result.text (λ text. (entries : List LogEntry)
-        × Adds entries (F.log fleet.old) (F.log fleet.new)
-        × IsScenarioOutcome (outside F.started F.faults
-        (rows_in kinds.now) fleet.old fleet.new entries) form is_recorded scenario (Ok text.items)
-        (option_map (λ r. r.items) result.record)) }
-    ensures none { IfErr result.text (λ e. (entries : List LogEntry)
-        × Adds entries (F.log fleet.old) (F.log fleet.new)
-        × IsScenarioOutcome (outside F.started F.faults
-        (rows_in kinds.now) fleet.old fleet.new entries) form is_recorded scenario (Err e)
-        (option_map (λ r. r.items) result.record)) }
+    ensures text { IfOk result.text (λ text. HoldsOver F.log F.started F.faults (rows_in kinds.now)
+        fleet.old fleet.new (λ O. IsScenarioOutcome O form is_recorded scenario (Ok text.items)
+        (option_map (λ r. r.items) result.record))) }
+    ensures none { IfErr result.text (λ e. HoldsOver F.log F.started F.faults (rows_in kinds.now)
+        fleet.old fleet.new (λ O. IsScenarioOutcome O form is_recorded scenario (Err e)
+        (option_map (λ r. r.items) result.record))) }
 {
     let Accepted { ranks, ids } = accepted;
     let Ran {
