@@ -15,6 +15,8 @@ use Rattle.mk_scenario.specs.declared.parts.Scenario.{Scenario}
 use Rattle.mk_scenario_demo.specs.Demo.{demo_scenario}
 use Rattle.mk_run_laws.specs.Handshake.{setup_count, sim_link}
 use Rattle.mk_run_laws.specs.Rests.{run_messages}
+use Rattle.mk_run_links.specs.Entries.{IsRunLink}
+use Rattle.mk_run_links.proofs.OnEntries.{on_or_clock}
 use Rattle.mk_run_local.specs.Made.{kind_reply_of}
 use Rattle.mk_run_crew.specs.declared.halt.Halt.TheVariants as halt
 use Rattle.mk_run_crew.specs.Halted.{count_to}
@@ -138,6 +140,7 @@ module _ (C : Around) (form : Form) (wanted : Bool) (S : Scenario) (saved : Opti
                   (λ R may. ap (map bare) queued ∙ ((right.done (over zero)).all R may i).0) R may;
               whole = λ other. t.whole;
             };
+        on_links = on_or_clock (IsRunLink O.started S) O.log p.run.run.on_links;
         run = record {
           ranks = p.ranks;
           answers = p.run.answers;
@@ -181,8 +184,9 @@ module _ (C : Around) (form : Form) (wanted : Bool) (S : Scenario) (saved : Opti
       items = [];
       right = u.halted.says (kind_reply_of C.outside.kinds S) i l linked;
       all = λ zero P is R may. absurd (not zero);
-      whole = λ other. u.halted.whole (λ mem. other (wanting (mem_said mem))) i l linked;
+      whole = λ other. u.halted.whole (λ mem. other (wanting (mem_said mem.0), mem.1)) i l linked;
     };
+    on_links = u.halted.on_links;
     run = tt;
   }
     where

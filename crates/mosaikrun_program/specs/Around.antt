@@ -67,6 +67,16 @@ pub record Around : Type 0 where
   pub folder : FolderSeen
   pub output : OutputSeen
 
+-- that of a call with these words and rules, by what happened at each
+abbrev pub around : Outside → List (List ℕ) → RulesSeen → FolderSeen → OutputSeen → Around
+around O words rules folder output = record {
+  words = words;
+  outside = O;
+  rules = rules;
+  folder = folder;
+  output = output;
+}
+
 -- a fleet's links around a call: how many it had started before, and which were open, before and
 -- after; and its count of faults, before and after
 pub record LinksSeen : Type 0 where

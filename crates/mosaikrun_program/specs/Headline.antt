@@ -20,6 +20,7 @@ use Rattle.mk_run_laws.specs.Hearing.{messages_heard}
 use Rattle.mk_run_laws.specs.Rests.{RestsWell}
 use Rattle.mk_run_laws.specs.Runs.{IsPossible, SaidWhole, SaysRight}
 use Rattle.mk_outside.specs.Logs.{heard_on}
+use Rattle.mk_run_links.specs.Entries.{AreOnOrOfClock, IsRunLink}
 use Rattle.mk_run_local.specs.Made.{kind_reply_of}
 use Rattle.mk_run_crew.specs.Answers.{AreKindAnswers, answers_to}
 use Rattle.mk_run.specs.Ends.{SetupRestsWell}
@@ -44,10 +45,11 @@ abbrev pub MayCome : Outside → Scenario → Plan → Messages → Type 0
 MayCome O S P R = IsPossible O.started S (kind_reply_of O.kinds S) P O.log R
 
 -- what was said to simulator i on its link, by a call that ended with status n: the frames of the
--- first requests of its handshake, of items, and of a stop, or a beginning of these bytes. The
--- items, without max_advance, begin what sequential execution of the plan sends it, over all
--- messages that may come; at status 0 they are all of it. Unless memory was wanting, all of these
--- bytes were said, but where the link's last write took nothing or the fleet's count of faults rose
+-- first requests of its handshake, of items, and of a stop, or a beginning of these bytes, and none
+-- has a payload longer than a frame's may be. The items, without max_advance, begin what sequential
+-- execution of the plan sends it, over all messages that may come; at status 0 they are all of it.
+-- Unless memory was wanting and nothing was said or heard on any link, all of these bytes were said,
+-- but where the link's last write took nothing or the fleet's count of faults rose
 pub record IsRightLink (O : Outside) (S : Scenario) (plan : Option Plan) (n i : ℕ)
     (l : LinkNo) : Type 0 where
   pub asked : ℕ
@@ -55,15 +57,16 @@ pub record IsRightLink (O : Outside) (S : Scenario) (plan : Option Plan) (n i : 
   pub right : SaysRight O.started S (kind_reply_of O.kinds S) plan O.log i l asked items true
   pub all : n ≡ 0 → (P : Plan) → plan ≡ Some P → (R : Messages) → MayCome O S P R
       → map bare items ≡ run_items P R i
-  pub whole : (n ≡ 8 → ⊥) → SaidWhole S O.log (HasRisen O.faults O.new_faults) i l asked items
+  pub whole : ((n ≡ 8) × (O.log ≡ []) → ⊥)
+      → SaidWhole S O.log (HasRisen O.faults O.new_faults) i l asked items
 
 -- what the simulators were sent by this plan, which is that of the replies to their handshake. Each
 -- Step's max_advance is a promise. Wherever the fleet was waited for: until all had set up, each
 -- request was said up to the first whose reply hadn't come; from then on all messages heard were in
--- the journal, nobody was ready, and all that was owed was said, in both cases but where a link's
--- last write took nothing. At status 0 messages may come, and over all that may, the output has
--- grown by exactly the text of what sequential execution sends; and the record of the plan and the
--- journal was saved under the name that was given for it
+-- the journal, and all replies of simulators within the program, nobody was ready, and all that was
+-- owed was said, in both cases but where a link's last write took nothing. At status 0 messages may
+-- come, and over all that may, the output has grown by exactly the text of what sequential execution
+-- sends; and the record of the plan and the journal was saved under the name that was given for it
 pub record IsRightRunBy (C : Around) (form : Form) (S : Scenario) (saved : Option (List ℕ)) (n : ℕ)
     (P : Plan) : Type 0 where
   pub ranks : List ℕ
@@ -84,13 +87,15 @@ pub record IsRightRunBy (C : Around) (form : Form) (S : Scenario) (saved : Optio
   pub recorded : n ≡ 0 → (name : List ℕ) → saved ≡ Some name → C.folder.files_after
       ≡ option_map (with_file name (record_text P journal)) C.folder.files
 
--- a scenario was run, with a plan where its handshake came to one
+-- a scenario was run, with a plan where its handshake came to one, and no link but those of its
+-- simulators was read or written
 pub record IsRightStudy (C : Around) (form : Form) (S : Scenario) (saved : Option (List ℕ))
     (n : ℕ) : Type 0 where
   pub plan : Option Plan
   pub there : n ≡ 0 → IsSome plan
   pub links : (i : ℕ) (l : LinkNo) → sim_link C.outside.started S i ≡ Some l
       → IsRightLink C.outside S plan n i l
+  pub on_links : AreOnOrOfClock (IsRunLink C.outside.started S) C.outside.log
   pub run : IfSome plan (IsRightRunBy C form S saved n)
 
 -- nothing was run: nothing was said or heard on any link, nothing was put out, and the status isn't

@@ -14,10 +14,10 @@ ghost use Rattle.mk_local.specs.Registries.{rows_in};
 ghost use Rattle.mosaikrun_endings.specs.declared.ending.Ending.{Ending};
 ghost use Rattle.mosaikrun_endings.specs.declared.ending.Ending.TheVariants as ends;
 ghost use Rattle.mosaikrun_endings.specs.Endings.{line_of, outcome_status, status_of};
-ghost use Rattle.mosaikrun_run.specs.Outcomes.{outside};
+ghost use Rattle.mosaikrun_run.specs.Outcomes.{HoldsOver};
 ghost use Rattle.mosaikrun_words.specs.Requests.{most_milliseconds};
 ghost use Rattle.mk_pace_laws.specs.Clocks.{IsRising};
-ghost use Rattle.mosaikrun_program.specs.Around.{FolderSeen, KeepsCountsAndLinks, RulesSeen, folder_seen, links_seen, output_seen, rules_seen};
+ghost use Rattle.mosaikrun_program.specs.Around.{FolderSeen, KeepsCountsAndLinks, RulesSeen, around, folder_seen, links_seen, output_seen, rules_seen};
 ghost use Rattle.mosaikrun_program.specs.inner.Around.{unused};
 ghost use Rattle.mosaikrun_program.specs.Commands.{AreHeld, IsAccepted, IsAsked, IsNext, IsNoFile, IsOutcomeOf, IsReadOn, IsUnasked, files_of, read_by};
 ghost use Rattle.mosaikrun_program.specs.Pacing.{AsksForPace};
@@ -66,58 +66,29 @@ pub fn program<D: Folder, F: Paced, K: Sink, E: Sink, R: Wait>(
     out: &mut K,
     err: &mut E,
 ) -> u8
-    ensures headline { (entries : List LogEntry) × Adds entries (F.log fleet.old) (F.log fleet.new)
-        × IsRightCall
-        (record {
-          words = map string_bytes words.now;
-          outside = outside F.started F.faults (rows_in kinds.now) fleet.old fleet.new entries;
-          rules = rules_seen rules.now;
-          folder = folder_seen D.files D.faults folder.old folder.new;
-          output = output_seen K.written K.faults K.shortages out.old out.new;
-        })
-        result }
-    ensures ended { (entries : List LogEntry) × Adds entries (F.log fleet.old) (F.log fleet.new)
-        × EndsWith
-        (record {
-          words = map string_bytes words.now;
-          outside = outside F.started F.faults (rows_in kinds.now) fleet.old fleet.new entries;
-          rules = rules_seen rules.now;
-          folder = folder_seen D.files D.faults folder.old folder.new;
-          output = output_seen K.written K.faults K.shortages out.old out.new;
-        })
+    ensures headline { HoldsOver F.log F.started F.faults (rows_in kinds.now) fleet.old fleet.new
+        (λ O. IsRightCall (around O (map string_bytes words.now) (rules_seen rules.now)
+        (folder_seen D.files D.faults folder.old folder.new)
+        (output_seen K.written K.faults K.shortages out.old out.new)) result) }
+    ensures ended { HoldsOver F.log F.started F.faults (rows_in kinds.now) fleet.old fleet.new
+        (λ O. EndsWith (around O (map string_bytes words.now) (rules_seen rules.now)
+        (folder_seen D.files D.faults folder.old folder.new)
+        (output_seen K.written K.faults K.shortages out.old out.new))
         (HasRisen (E.faults err.old) (E.faults err.new)
         ⊎ HasRisen (E.shortages err.old) (E.shortages err.new))
-        (E.written err.old) (E.written err.new) result }
-    ensures completes { (entries : List LogEntry) × Adds entries (F.log fleet.old) (F.log fleet.new)
-        × EndsRun
-        (record {
-          words = map string_bytes words.now;
-          outside = outside F.started F.faults (rows_in kinds.now) fleet.old fleet.new entries;
-          rules = rules_seen rules.now;
-          folder = folder_seen D.files D.faults folder.old folder.new;
-          output = output_seen K.written K.faults K.shortages out.old out.new;
-        })
-        result }
-    ensures resumes { (entries : List LogEntry) × Adds entries (F.log fleet.old) (F.log fleet.new)
-        × EndsResume
-        (record {
-          words = map string_bytes words.now;
-          outside = outside F.started F.faults (rows_in kinds.now) fleet.old fleet.new entries;
-          rules = rules_seen rules.now;
-          folder = folder_seen D.files D.faults folder.old folder.new;
-          output = output_seen K.written K.faults K.shortages out.old out.new;
-        })
-        result }
-    ensures paces { (entries : List LogEntry) × Adds entries (F.log fleet.old) (F.log fleet.new)
-        × EndsPaced
-        (record {
-          words = map string_bytes words.now;
-          outside = outside F.started F.faults (rows_in kinds.now) fleet.old fleet.new entries;
-          rules = rules_seen rules.now;
-          folder = folder_seen D.files D.faults folder.old folder.new;
-          output = output_seen K.written K.faults K.shortages out.old out.new;
-        })
-        result }
+        (E.written err.old) (E.written err.new) result) }
+    ensures completes { HoldsOver F.log F.started F.faults (rows_in kinds.now) fleet.old fleet.new
+        (λ O. EndsRun (around O (map string_bytes words.now) (rules_seen rules.now)
+        (folder_seen D.files D.faults folder.old folder.new)
+        (output_seen K.written K.faults K.shortages out.old out.new)) result) }
+    ensures resumes { HoldsOver F.log F.started F.faults (rows_in kinds.now) fleet.old fleet.new
+        (λ O. EndsResume (around O (map string_bytes words.now) (rules_seen rules.now)
+        (folder_seen D.files D.faults folder.old folder.new)
+        (output_seen K.written K.faults K.shortages out.old out.new)) result) }
+    ensures paces { HoldsOver F.log F.started F.faults (rows_in kinds.now) fleet.old fleet.new
+        (λ O. EndsPaced (around O (map string_bytes words.now) (rules_seen rules.now)
+        (folder_seen D.files D.faults folder.old folder.new)
+        (output_seen K.written K.faults K.shortages out.old out.new)) result) }
     ensures rising { AsksForPace (map string_bytes words.now) → (entries : List LogEntry)
         × Adds entries (F.log fleet.old) (F.log fleet.new)
         × (IsSome (F.log fleet.new) → IsRising entries) }
@@ -164,14 +135,10 @@ fn answer<D: Folder, F: Paced, K: Sink, R: Wait>(
     rules: &Rules,
     out: &mut K,
 ) -> Result<(), Ending>
-    ensures ended { (entries : List LogEntry) × Adds entries (F.log fleet.old) (F.log fleet.new)
-        × Ended (record {
-          words = map string_bytes words.now;
-          outside = outside F.started F.faults (rows_in kinds.now) fleet.old fleet.new entries;
-          rules = rules_seen rules.now;
-          folder = folder_seen D.files D.faults folder.old folder.new;
-          output = output_seen K.written K.faults K.shortages out.old out.new;
-        }) result }
+    ensures ended { HoldsOver F.log F.started F.faults (rows_in kinds.now) fleet.old fleet.new
+        (λ O. Ended (around O (map string_bytes words.now) (rules_seen rules.now)
+        (folder_seen D.files D.faults folder.old folder.new)
+        (output_seen K.written K.faults K.shortages out.old out.new)) result) }
     ensures links_closed { AreNumbered (F.started fleet.old) (F.open_links fleet.old)
         → F.open_links fleet.new ≡ F.open_links fleet.old }
     ensures fleet_unused { NeedsNoFleet (map string_bytes words.now) (D.files folder.old)
@@ -247,13 +214,10 @@ fn make<D: Folder, K: Sink>(
     out: &mut K,
 ) -> Result<(), Ending>
     ensures made { (words : List (List ℕ)) → (started : ℕ) → (faults : ℕ)
-        → IsAsked words (requests.Files command.now) → Ended (record {
-          words = words;
-          outside = unused (rows_in kinds.now) started faults;
-          rules = rules_seen rules.now;
-          folder = folder_seen D.files D.faults folder.old folder.new;
-          output = output_seen K.written K.faults K.shortages out.old out.new;
-        }) result }
+        → IsAsked words (requests.Files command.now)
+        → Ended (around (unused (rows_in kinds.now) started faults) words (rules_seen rules.now)
+        (folder_seen D.files D.faults folder.old folder.new)
+        (output_seen K.written K.faults K.shortages out.old out.new)) result }
     ensures folder_count { D.faults folder.old ≤ D.faults folder.new }
     ensures out_count { K.faults out.old ≤ K.faults out.new }
 {
@@ -305,14 +269,9 @@ fn play<D: Folder, F: Fleet, K: Sink, R: Wait>(
 ) -> Result<(), Ending>
     ensures played { (words : List (List ℕ)) → (rules : RulesSeen)
         → IsAsked words (requests.Run scenario.now name.now)
-        → (entries : List LogEntry) × Adds entries (F.log fleet.old) (F.log fleet.new)
-        × Ended (record {
-          words = words;
-          outside = outside F.started F.faults (rows_in kinds.now) fleet.old fleet.new entries;
-          rules = rules;
-          folder = folder_seen D.files D.faults folder.old folder.new;
-          output = output_seen K.written K.faults K.shortages out.old out.new;
-        }) result }
+        → HoldsOver F.log F.started F.faults (rows_in kinds.now) fleet.old fleet.new
+        (λ O. Ended (around O words rules (folder_seen D.files D.faults folder.old folder.new)
+        (output_seen K.written K.faults K.shortages out.old out.new)) result) }
     ensures links_closed { AreNumbered (F.started fleet.old) (F.open_links fleet.old)
         → F.open_links fleet.new ≡ F.open_links fleet.old }
     ensures within { IsHeldWithin (D.files folder.old) scenario.now → fleet.new ≡ fleet.old }
@@ -340,14 +299,9 @@ fn carry_on<D: Folder, F: Fleet, K: Sink, R: Wait>(
 ) -> Result<(), Ending>
     ensures carried { (words : List (List ℕ)) → (rules : RulesSeen)
         → IsAsked words (requests.Resume scenario.now recorded.now name.now)
-        → (entries : List LogEntry) × Adds entries (F.log fleet.old) (F.log fleet.new)
-        × Ended (record {
-          words = words;
-          outside = outside F.started F.faults (rows_in kinds.now) fleet.old fleet.new entries;
-          rules = rules;
-          folder = folder_seen D.files D.faults folder.old folder.new;
-          output = output_seen K.written K.faults K.shortages out.old out.new;
-        }) result }
+        → HoldsOver F.log F.started F.faults (rows_in kinds.now) fleet.old fleet.new
+        (λ O. Ended (around O words rules (folder_seen D.files D.faults folder.old folder.new)
+        (output_seen K.written K.faults K.shortages out.old out.new)) result) }
     ensures links_closed { AreNumbered (F.started fleet.old) (F.open_links fleet.old)
         → F.open_links fleet.new ≡ F.open_links fleet.old }
     ensures within { IsHeldWithin (D.files folder.old) scenario.now → fleet.new ≡ fleet.old }
@@ -389,14 +343,9 @@ fn pace<D: Folder, F: Paced, K: Sink, R: Wait>(
     requires allowed { IfSome strict (λ ms. ms ≤ most_milliseconds) }
     ensures paced { (words : List (List ℕ)) → (rules : RulesSeen)
         → IsAsked words (requests.Paced scenario.now factor strict name.now)
-        → (entries : List LogEntry) × Adds entries (F.log fleet.old) (F.log fleet.new)
-        × Ended (record {
-          words = words;
-          outside = outside F.started F.faults (rows_in kinds.now) fleet.old fleet.new entries;
-          rules = rules;
-          folder = folder_seen D.files D.faults folder.old folder.new;
-          output = output_seen K.written K.faults K.shortages out.old out.new;
-        }) result }
+        → HoldsOver F.log F.started F.faults (rows_in kinds.now) fleet.old fleet.new
+        (λ O. Ended (around O words rules (folder_seen D.files D.faults folder.old folder.new)
+        (output_seen K.written K.faults K.shortages out.old out.new)) result) }
     ensures links_closed { AreNumbered (F.started fleet.old) (F.open_links fleet.old)
         → F.open_links fleet.new ≡ F.open_links fleet.old }
     ensures rising { (entries : List LogEntry) × Adds entries (F.log fleet.old) (F.log fleet.new)
@@ -441,14 +390,9 @@ fn sum_up<F: Fleet, K: Sink, R: Wait>(
     requires high { size ≤ 100 }
     ensures summed { (words : List (List ℕ)) → (rules : RulesSeen) → (folder : FolderSeen)
         → folder.files_after ≡ folder.files
-        → (entries : List LogEntry) × Adds entries (F.log fleet.old) (F.log fleet.new)
-        × IsDoneOver (record {
-          words = words;
-          outside = outside F.started F.faults (rows_in kinds.now) fleet.old fleet.new entries;
-          rules = rules;
-          folder = folder;
-          output = output_seen K.written K.faults K.shortages out.old out.new;
-        }) (requests.Demo size) result }
+        → HoldsOver F.log F.started F.faults (rows_in kinds.now) fleet.old fleet.new
+        (λ O. IsDoneOver (around O words rules folder
+        (output_seen K.written K.faults K.shortages out.old out.new)) (requests.Demo size) result) }
     ensures links_closed { AreNumbered (F.started fleet.old) (F.open_links fleet.old)
         → F.open_links fleet.new ≡ F.open_links fleet.old }
     ensures alone { fleet.new ≡ fleet.old }
