@@ -3,7 +3,7 @@
 use crate::pacing::{Clock, paced_counter, ticking};
 use mk_base::Mem;
 use mk_fakes::MemFleet;
-use mosaikrun_samples::{Outcome, RECORD, TALK, TEXT, is_both, replies_of};
+use mosaikrun_samples::{Outcome, RECORD, TALK, TEXT, count_right, is_both, replies_of};
 use std::alloc::Global;
 use std::sync::Wait;
 
@@ -92,17 +92,11 @@ fn is_right<R: Wait>(rt: &R, alloc: Global, row: &Row) -> Result<bool, Mem> {
     Ok(is_both(&outcome, row.text, row.kept))
 }
 
-// How many rows are right, up to the first that isn't.
-fn count_right<R: Wait>(rt: &R, alloc: Global) -> Result<usize, Mem> {
-    for (place, row) in ROWS.iter().enumerate() {
-        if !is_right(rt, alloc, row)? {
-            return Ok(place);
-        }
-    }
-    Ok(ROWS.len())
+fn rows_right<R: Wait>(rt: &R, alloc: Global) -> Result<usize, Mem> {
+    count_right(&ROWS, |row| is_right(rt, alloc, row))
 }
 
 #[test]
 fn steps_wait_for_the_clock(rt: HostRuntime) {
-    assert_eq!(rt; count_right(&rt, rt.alloc()), Ok(4));
+    assert_eq!(rt; rows_right(&rt, rt.alloc()), Ok(4));
 }

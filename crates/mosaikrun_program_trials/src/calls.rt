@@ -1,9 +1,9 @@
-// A call of the program, over a fleet to which no simulator connects.
+// A call of the program, over a fleet to which no simulator connects or another one.
 
 use mk_base::{List, Mem};
 use mk_fakes::PlainFleet;
 use mk_local::Registry;
-use mk_outside::{Folder, Sink};
+use mk_outside::{Folder, Paced, Sink};
 use mk_watch_read::Rules;
 use mosaikrun_program::program;
 use std::alloc::Global;
@@ -41,15 +41,29 @@ pub fn status_by_clock<R: Wait, D: Folder, K: Sink, E: Sink>(
     out: &mut K,
     err: &mut E,
 ) -> Result<u8, Mem> {
-    let words = owned(alloc, words)?;
     let mut fleet = PlainFleet::new(alloc, List::new(alloc), 1, 0, 0)?;
     fleet.set_clock(0, tick, 1000);
+    status_over(rt, alloc, words, folder, &mut fleet, kinds, out, err)
+}
+
+/// The same over this fleet.
+pub fn status_over<R: Wait, D: Folder, F: Paced, K: Sink, E: Sink>(
+    rt: &R,
+    alloc: Global,
+    words: &[&str],
+    folder: &mut D,
+    fleet: &mut F,
+    kinds: &Registry,
+    out: &mut K,
+    err: &mut E,
+) -> Result<u8, Mem> {
+    let words = owned(alloc, words)?;
     Ok(program(
         rt,
         alloc,
         words.as_slice(),
         folder,
-        &mut fleet,
+        fleet,
         kinds,
         &Rules::new(alloc),
         out,

@@ -1,10 +1,12 @@
 // Calls of the program in which one call of the folder or of an output fails.
 
-use crate::calls::status_of;
-use crate::files::{COUNTER, RECORD, SAVED, THREE_STEPS};
+use crate::calls::status_over;
+use crate::files::{RECORD, SAVED, SUM_RECORD, SUM_STEPS, THREE_STEPS, WITHIN};
+use crate::fleets::answering;
 use mk_base::{List, Mem};
 use mk_fakes::{MemFolder, MemSink};
 use mk_local::Registry;
+use mosaikrun_samples::COUNTER;
 use std::alloc::Global;
 use std::sync::Wait;
 
@@ -29,9 +31,9 @@ struct Row {
 
 const RUN: &[&str] = &["run", "s", "--record", "k"];
 
-const REPLAY: &[&str] = &["replay", "r"];
+const REPLAY: &[&str] = &["replay", "b"];
 
-const RESUME: &[&str] = &["resume", "s", "r", "--record", "k"];
+const RESUME: &[&str] = &["resume", "w", "r", "--record", "k"];
 
 const FOLDER: &str = "mosaikrun: outside: folder\n";
 
@@ -108,7 +110,7 @@ const ROWS: &[Row] = &[
         call: 1,
         status: 0,
         err: "",
-        out: THREE_STEPS,
+        out: SUM_STEPS,
         saved: "",
     },
     Row {
@@ -126,7 +128,16 @@ const ROWS: &[Row] = &[
         call: 1,
         status: 0,
         err: "",
-        out: THREE_STEPS,
+        out: SUM_STEPS,
+        saved: "",
+    },
+    Row {
+        words: REPLAY,
+        fails: Fails::Err,
+        call: 0,
+        status: 0,
+        err: "",
+        out: SUM_STEPS,
         saved: "",
     },
     Row {
@@ -203,11 +214,13 @@ fn calls(alloc: Global, row: &Row, fails: Fails) -> Result<List<u64>, Mem> {
     Ok(calls)
 }
 
-// A folder with a scenario and a record.
+// A folder with a counter over a link, one within the program, and two records.
 fn folder_of(alloc: Global, row: &Row) -> Result<MemFolder, Mem> {
     let mut folder = MemFolder::new(alloc, calls(alloc, row, Fails::Folder)?);
     folder.add("s", COUNTER.as_bytes())?;
+    folder.add("w", WITHIN.as_bytes())?;
     folder.add("r", RECORD.as_bytes())?;
+    folder.add("b", SUM_RECORD.as_bytes())?;
     Ok(folder)
 }
 
@@ -223,11 +236,25 @@ fn is_told(row: &Row, status: u8, folder: &MemFolder, out: &MemSink, err: &MemSi
         && folder.file("k").unwrap_or(b"".as_slice()) == row.saved.as_bytes()
 }
 
+// The status of the call, over a fleet on which the counter replies.
+fn status_of<R: Wait>(
+    rt: &R,
+    alloc: Global,
+    row: &Row,
+    folder: &mut MemFolder,
+    kinds: &Registry,
+    out: &mut MemSink,
+    err: &mut MemSink,
+) -> Result<u8, Mem> {
+    let mut fleet = answering(alloc, List::new(alloc))?;
+    status_over(rt, alloc, row.words, folder, &mut fleet, kinds, out, err)
+}
+
 fn is_right<R: Wait>(rt: &R, alloc: Global, kinds: &Registry, row: &Row) -> Result<bool, Mem> {
     let mut folder = folder_of(alloc, row)?;
     let mut out = sink_of(alloc, row, Fails::Out)?;
     let mut err = sink_of(alloc, row, Fails::Err)?;
-    let status = status_of(rt, alloc, row.words, &mut folder, kinds, &mut out, &mut err)?;
+    let status = status_of(rt, alloc, row, &mut folder, kinds, &mut out, &mut err)?;
     Ok(is_told(row, status, &folder, &out, &err))
 }
 

@@ -9,6 +9,8 @@ mod failing;
 #[cfg(test)]
 mod files;
 #[cfg(test)]
+mod fleets;
+#[cfg(test)]
 mod kinds;
 #[cfg(test)]
 mod pacing;

@@ -1,7 +1,7 @@
 // Calls of the program that run a scenario by a clock in memory.
 
 use crate::calls::status_by_clock;
-use crate::files::{COUNTER, LATE, SAVED, THREE_STEPS};
+use crate::files::{LATE, SAVED, THREE_STEPS, WITHIN};
 use mk_base::{List, Mem};
 use mk_fakes::{MemFolder, MemSink};
 use mk_local::Registry;
@@ -55,7 +55,7 @@ const ROWS: &[Row] = &[
 
 fn folder_of(alloc: Global) -> Result<MemFolder, Mem> {
     let mut folder = MemFolder::new(alloc, List::new(alloc));
-    folder.add("s", COUNTER.as_bytes())?;
+    folder.add("s", WITHIN.as_bytes())?;
     Ok(folder)
 }
 

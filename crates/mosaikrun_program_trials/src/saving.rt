@@ -1,7 +1,7 @@
 // A run that saves its record, and the replay of what it saved.
 
 use crate::calls::status_of;
-use crate::files::{COUNTER, THREE_STEPS};
+use crate::files::{THREE_STEPS, WITHIN};
 use mk_base::Mem;
 use mk_fakes::{PlainFolder, PlainSink};
 use mk_local::Registry;
@@ -29,7 +29,7 @@ pub fn is_saved_and_replayed<R: Wait>(
     kinds: &Registry,
 ) -> Result<bool, Mem> {
     let mut folder = PlainFolder::new(alloc);
-    folder.add("s", COUNTER.as_bytes())?;
+    folder.add("s", WITHIN.as_bytes())?;
     let run = prints_three_steps(
         rt,
         alloc,

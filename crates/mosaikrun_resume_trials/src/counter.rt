@@ -4,7 +4,7 @@ use crate::going::told;
 use mk_base::{LinkNo, List, Mem};
 use mk_fakes::{Chunk, MemFleet};
 use mosaikrun_samples::{
-    COUNTER, Outcome, RECORD, TALK, TEXT, counter_requests, is_both, once, push_reply,
+    COUNTER, Outcome, RECORD, TALK, TEXT, count_right, counter_requests, is_both, once, push_reply,
     requests_length, said_on, willing,
 };
 use std::alloc::Global;
@@ -153,19 +153,13 @@ fn is_right<R: Wait>(rt: &R, alloc: Global, row: &Row) -> Result<bool, Mem> {
     Ok(is_both(&outcome, row.text, row.new))
 }
 
-// How many rows are right, up to the first that isn't.
-fn count_right<R: Wait>(rt: &R, alloc: Global) -> Result<usize, Mem> {
-    for (place, row) in ROWS.iter().enumerate() {
-        if !is_right(rt, alloc, row)? {
-            return Ok(place);
-        }
-    }
-    Ok(ROWS.len())
+fn rows_right<R: Wait>(rt: &R, alloc: Global) -> Result<usize, Mem> {
+    count_right(&ROWS, |row| is_right(rt, alloc, row))
 }
 
 #[test]
 fn a_run_goes_on_from_its_record(rt: HostRuntime) {
-    assert_eq!(rt; count_right(&rt, rt.alloc()), Ok(4));
+    assert_eq!(rt; rows_right(&rt, rt.alloc()), Ok(4));
 }
 
 // Whether all requests are said on the link, byte for byte, as in a run that wasn't cut.

@@ -4,13 +4,14 @@ use crate::runs::told_alone;
 use mk_base::{LinkNo, List, Mem};
 use mk_fakes::MemFleet;
 use mosaikrun_samples::{
-    COUNTER, Outcome, RECORD, TALK, TEXT, counter_requests, is_both, replies_of, said_on,
+    COUNTER, Outcome, RECORD, TALK, TEXT, count_right, counter_requests, is_both, replies_of,
+    said_on,
 };
 use std::alloc::Global;
 use std::sync::Wait;
 
-/// Whether that is what its run came to.
-pub fn is_whole(outcome: &Outcome) -> bool {
+// Whether that is what its run came to.
+fn is_whole(outcome: &Outcome) -> bool {
     is_both(outcome, TEXT, RECORD)
 }
 
@@ -64,12 +65,7 @@ fn is_done_in_way<R: Wait>(rt: &R, alloc: Global, way: Way) -> Result<bool, Mem>
 
 // In how many ways it is done, up to the first in which it isn't.
 fn count_done<R: Wait>(rt: &R, alloc: Global) -> Result<usize, Mem> {
-    for (place, way) in WAYS.iter().enumerate() {
-        if !is_done_in_way(rt, alloc, *way)? {
-            return Ok(place);
-        }
-    }
-    Ok(WAYS.len())
+    count_right(&WAYS, |way| is_done_in_way(rt, alloc, *way))
 }
 
 #[test]

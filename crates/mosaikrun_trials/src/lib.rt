@@ -8,8 +8,6 @@ mod chain;
 #[cfg(test)]
 mod counter;
 #[cfg(test)]
-mod failing;
-#[cfg(test)]
 mod kinds;
 #[cfg(test)]
 mod orders;

@@ -1,0 +1,15 @@
+// How many rows of a table of tests are right.
+
+use mk_base::Mem;
+
+/// How many rows are right, up to the first that isn't.
+pub fn count_right<T, F: Fn(&T) -> Result<bool, Mem>>(rows: &[T], is_right: F) -> Result<usize, Mem>
+    requires { F.IsAlwaysCallable is_right }
+{
+    for (place, row) in rows.iter().enumerate() {
+        if !is_right(row)? {
+            return Ok(place);
+        }
+    }
+    Ok(rows.len())
+}
