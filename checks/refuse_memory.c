@@ -1,5 +1,6 @@
 // A library to be loaded before a program (LD_PRELOAD): it refuses the call number FAIL_AT, from 0, of those that ask for
-// memory, and with FAIL_TELL tells at the end, on the error output, how many there were.
+// memory, and with FAIL_TELL tells at the end, on the error output, how many there were. Programs that this one starts are
+// without it.
 #define _GNU_SOURCE
 #include <errno.h>
 #include <stdio.h>
@@ -12,6 +13,7 @@ extern void *__libc_realloc(void *, size_t);
 extern void *__libc_memalign(size_t, size_t);
 
 static long calls, refused = -2;
+static int tells;
 
 static int refuses(void) {
     if (refused == -2) {
@@ -34,8 +36,13 @@ int posix_memalign(void **place, size_t at, size_t size) {
     return *place ? 0 : ENOMEM;
 }
 
+__attribute__((constructor)) static void begin(void) {
+    tells = getenv("FAIL_TELL") != 0;
+    unsetenv("LD_PRELOAD");
+}
+
 __attribute__((destructor)) static void tell(void) {
-    if (getenv("FAIL_TELL")) {
+    if (tells) {
         char line[40];
         int length = snprintf(line, sizeof line, "calls %ld\n", calls);
         if (write(2, line, length) < 0) return;

@@ -2,13 +2,13 @@
 """Runs a built program on the cases beside this file.
 
 `run_cases.py PROGRAM` runs each line of `cases.jsonl`: the words of a command, and the exit status, standard output and
-standard error that it must have. A line with `files`, texts by their names, `pieces`, texts each with how often it stands
-there, by names, or `lengths`, how many bytes of 0 stand under a name, is run in a folder that holds just these, and
-`scripted.py` beside a text whose name ends with `.script`; one with
-`saved`, the name of a file and the text that it must have (null: it must not be there), in a folder that holds copies of the
-files that its words name; one with `at` in that folder of the repository; any other one in the folder `cases`. With `child`
-the program `mk_child`, which the gate makes beside the other, lies in that folder too. A case fails too where a program that
-it started still runs when it has ended. It prints what differs, and ends with 'N passed, M failed'.
+standard error that it must have; a long output is pieces, texts each with how often it stands there. A line with `files`,
+texts by their names, `pieces`, such lists by names, or `lengths`, how many bytes of 0 stand under a name, is run in a folder
+that holds just these, and `scripted.py` beside a text whose name ends with `.script`; one with `saved`, the name of a file
+and the text that it must have (null: it must not be there), in a folder that holds copies of the files that its words name;
+one with `at` in that folder of the repository; any other one in the folder `cases`. With `child` the program `mk_child`,
+which the gate makes beside the other, lies in that folder too. A case fails too where a program that it started still runs
+when it has ended. It prints what differs, and ends with 'N passed, M failed'.
 """
 
 import json
@@ -18,6 +18,11 @@ import shutil
 import subprocess
 import sys
 import tempfile
+
+
+def whole(pieces: list) -> str:
+    """Returns texts, each as often as it says, one behind the other."""
+    return "".join(text * count for text, count in pieces)
 
 
 def left_behind(session: int) -> list[str]:
@@ -50,7 +55,7 @@ def main() -> int:
                 if name.endswith(".script"):
                     shutil.copy(folder / "scripted.py", room)
             for name, pieces in case.get("pieces", {}).items():
-                (pathlib.Path(room) / name).write_text("".join(text * count for text, count in pieces), encoding="utf-8")
+                (pathlib.Path(room) / name).write_text(whole(pieces), encoding="utf-8")
             for name, length in case.get("lengths", {}).items():
                 (pathlib.Path(room) / name).touch()
                 os.truncate(pathlib.Path(room) / name, length)
@@ -65,7 +70,8 @@ def main() -> int:
             with subprocess.Popen([program, *case["words"]], cwd=at, start_new_session=True, **pipes) as ran:
                 out, err = ran.communicate(timeout=60)
             got = [ran.returncode, out.decode("utf-8", "replace"), err.decode("utf-8", "replace"), left_behind(ran.pid)]
-            want = [case["status"], case["out"], case["err"], []]
+            printed = case["out"] if isinstance(case["out"], str) else whole(case["out"])
+            want = [case["status"], printed, case["err"], []]
             if "saved" in case:
                 saved = pathlib.Path(room) / case["saved"]["name"]
                 got.append(saved.read_text(encoding="utf-8") if saved.exists() else None)

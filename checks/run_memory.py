@@ -4,8 +4,9 @@
     run_memory.py PROGRAM [MOST]      at most so many runs of each command, spread over its requests (400 if it isn't given)
 
 A run whose request was refused ends as the one that had all its memory, or with status 8 and `out of memory`; its output is a
-beginning of the right one, and each file is as before, as it should be, or a whole record. It needs `cc`, and isn't part of
-`.ci/run`: it takes some minutes. It ends with 'N passed, M failed'.
+beginning of the right one, and each file is as before, as it should be, or a whole record. A child that it starts has all
+memory; it is the built `mk_child` beside PROGRAM. It needs `cc`, and isn't part of `.ci/run`: it takes some minutes. It ends
+with 'N passed, M failed'.
 """
 
 from __future__ import annotations
@@ -27,13 +28,18 @@ SCENARIO = (
     'entities = [{id = "a", sim = "A-0", model = "Count"}, {id = "b", sim = "B-0", model = "Sum"}]\n'
     'connect = [{from = "a", to = "b", attrs = [["out", "in"]]}]\n'
 )
-FILES = {"old.record": RECORD, "study.toml": SCENARIO}
+CHILD = (
+    'until = 3\nsim = [{name = "A", command = "./mk_child counter %(addr)s"}]\n'
+    'entities = [{id = "a", sim = "A-0", model = "Count"}]\n'
+)
+FILES = {"old.record": RECORD, "study.toml": SCENARIO, "child.toml": CHILD}
 COMMANDS = (
     ["replay", "old.record"],
     ["replay", "row-counter-to-sum-sequential.record"],
     ["migrate", "old.record", "new.record"],
     ["check", "study.toml"],
     ["run", "study.toml", "--record", "study.record"],
+    ["run", "child.toml", "--record", "child.record"],
     ["resume", "study.toml", "cut.record", "--record", "study.record"],
     ["demo", "1"],
 )
@@ -62,6 +68,8 @@ def seen(program: str, library: str, words: list[str], refused: int | None) -> S
         for word in words[1:]:
             if (CHECKS / "cases" / word).is_file():
                 shutil.copy(CHECKS / "cases" / word, room)
+        if "child.toml" in words:
+            shutil.copy(pathlib.Path(program).parents[2] / "mk_child" / "out" / "mk_child", room)
         scope = {"PATH": os.environ["PATH"], "LD_PRELOAD": library, "FAIL_TELL": "1"}
         if refused is not None:
             scope["FAIL_AT"] = str(refused)

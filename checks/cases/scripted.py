@@ -1,12 +1,20 @@
-"""A simulator that says what a script says: scripted.py HOST:PORT SCRIPT.
+"""A simulator that says what a script says: scripted.py HOST:PORT SCRIPT [HEARD].
 
 Each line of the script is a JSON list of a number of frames and bytes in hexadecimal digits: once so many frames were
 heard, the bytes are said, or, where they are null, the link is closed. After the last line it hears until the link ends.
+With the name HEARD, each frame that it hears is a line of that file: its header in hexadecimal digits, and its payload.
 """
 
 import json
 import socket
 import sys
+
+
+def keep(frame):
+    """Writes a frame down where that is wanted."""
+    if len(sys.argv) > 3:
+        with open(sys.argv[3], "a", encoding="utf-8") as file:
+            file.write(f"{frame[:4].hex()} {frame[4:].decode('utf-8')}\n")
 
 
 def heard(link):
@@ -15,6 +23,7 @@ def heard(link):
     count = 0
     while True:
         while len(held) >= 4 and len(held) >= 4 + int.from_bytes(held[:4], "big"):
+            keep(held[: 4 + int.from_bytes(held[:4], "big")])
             held = held[4 + int.from_bytes(held[:4], "big"):]
             count += 1
             yield count
