@@ -5,7 +5,7 @@
 
 A line for each measure: how it ended, seconds of processor (user and system) and by the clock, peak memory in millions of bytes, and
 what that is of the input's size where there is one. Start-up is the mean of 200 calls. With `--full` the greatest sizes are tried
-too: a record of 512 MB (some 5 GB of memory and a minute) and 200 children that each take a second to begin. It is no gate: what a
+too: a record of 512 MB (some 4.3 GB of memory) and 200 children that each take a second to begin. It is no gate: what a
 machine should take isn't known to it. Where a call ends with another status than it should, it says so and ends with status 1.
 """
 import json

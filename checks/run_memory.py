@@ -95,6 +95,9 @@ def is_right(good: Seen, got: Seen, before: dict[str, bytes]) -> bool:
 def tried(program: str, library: str, words: list[str], most: int) -> tuple[int, int]:
     """Returns how many runs of these words were right, and how many weren't."""
     good = seen(program, library, words, None)
+    if good[0] != 0 or good[4] == 0:
+        print(f"{' '.join(words)}: with all its memory status {good[0]}, {good[4]} requests, {good[2][:120]!r}")
+        return 0, 1
     before = {name: text.encode() for name, text in FILES.items()}
     step = max(1, good[4] // most)
     right = wrong = 0

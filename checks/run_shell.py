@@ -5,7 +5,7 @@
 to stand in the manual page, and each command and option in both completions. The page is set by groff without a
 warning. The completions are tried in a folder with some files: bash's function is called with words, and both shells,
 each at a terminal of its own, are given words and the tabulator key. Where groff or zsh isn't there, that part is left
-out, which is said. It prints what fails, and ends with 'N passed, M failed'.
+out, which is said. It isn't part of `.ci/run`, since it needs a terminal and programs that may not be there. It prints what fails, and ends with 'N passed, M failed'.
 """
 import os
 import pathlib
@@ -88,9 +88,8 @@ def page(forms: list[str]) -> dict[str, bool]:
     """What is asked of the manual page, and whether it holds."""
     source = ROOT / "docs" / "mosaikrun.1"
     if shutil.which("groff") is None:
-        print("groff isn't there: the manual page wasn't set")
-        raw = source.read_text(encoding="utf-8")
-        return {f"manual page: {form}": f".B {form.split()[0]}\n" in raw for form in forms}
+        print("groff isn't there: the manual page wasn't looked at")
+        return {}
     words = ["groff", "-man", "-ww", "-Tascii", "-P-cbou", str(source)]
     ran = subprocess.run(words, capture_output=True, text=True, check=False)
     text = re.sub(r"\s+", " ", ran.stdout)
