@@ -5,7 +5,8 @@
 to stand in the manual page, and each command and option in both completions. The page is set by groff without a
 warning. The completions are tried in a folder with some files: bash's function is called with words, and both shells,
 each at a terminal of its own, are given words and the tabulator key. Where groff or zsh isn't there, that part is left
-out, which is said. It isn't part of `.ci/run`, since it needs a terminal and programs that may not be there. It prints what fails, and ends with 'N passed, M failed'.
+out, which is said. It isn't part of `.ci/run`, since it needs a terminal and programs that may not be there. It prints
+what fails, and ends with 'N passed, M failed'.
 """
 import os
 import pathlib
