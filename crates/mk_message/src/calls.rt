@@ -7,8 +7,8 @@ ghost use Rattle.mk_base.specs.Trees.{is_in_range};
 ghost use Rattle.mk_message.specs.Written.{call_text, init_params, is_call_in_range, texts_of, with_resolution};
 ghost use Rattle.mk_message.specs.inner.Written.{member_text};
 
-use crate::items::{put_unsigned, request};
-use mk_base::{Json, Mem, Text};
+use crate::items::request;
+use mk_base::{Json, Mem, Text, put_unsigned};
 use mk_json::{put_json, put_text};
 use mk_plan::Call;
 use std::alloc::Global;

@@ -6,7 +6,7 @@ ghost use Rattle.mk_plan.specs.Report.{inputs_text};
 ghost use Rattle.mk_message.specs.Written.{success_text, failure_text, refusal_text, wanted_text, item_text, request_text};
 
 use crate::groups::{inputs_bytes, wanted_bytes};
-use mk_base::{List, Mem, Text, Tier};
+use mk_base::{List, Mem, Text, Tier, put_signed, put_unsigned};
 use mk_json::put_text;
 use mk_plan::{Input, Item, Want};
 use std::alloc::Global;
@@ -48,11 +48,11 @@ fn step_arguments(
         ++ inputs_text inputs.now ++ codes "," ++ signed_decimal max_advance.now) }
 {
     let mut out = Vec::new(alloc);
-    put_signed(&mut out, &at.time)?;
+    put_signed(&mut out, at.time)?;
     out.extend_from_slice(b",")?;
     out.extend_from_slice(inputs_bytes(alloc, inputs)?.as_slice())?;
     out.extend_from_slice(b",")?;
-    put_signed(&mut out, max_advance)?;
+    put_signed(&mut out, *max_advance)?;
     Ok(out)
 }
 
@@ -109,20 +109,4 @@ fn reply(alloc: Global, kind: &[u8], id: u64, content: &[u8]) -> Result<Vec<u8>,
     out.extend_from_slice(content)?;
     out.extend_from_slice(b"]")?;
     Ok(out)
-}
-
-pub fn put_unsigned(out: &mut Vec<u8>, n: u64) -> Result<(), Mem>
-    ensures { OnOk result (out.new.items ≡ out.old.items ++ decimal n) }
-{
-    let mut buffer = itoa::Buffer::new();
-    out.extend_from_slice(buffer.format(n).as_bytes())?;
-    Ok(())
-}
-
-fn put_signed(out: &mut Vec<u8>, n: &i64) -> Result<(), Mem>
-    ensures { OnOk result (out.new.items ≡ out.old.items ++ signed_decimal n.now) }
-{
-    let mut buffer = itoa::Buffer::new();
-    out.extend_from_slice(buffer.format(*n).as_bytes())?;
-    Ok(())
 }

@@ -1,6 +1,6 @@
 //! Each call once with ample memory, on values from the definitions of tiered time and of JSON.
 
-use mk_base::{Json, List, Mem, Members, Text, Tier, Via};
+use mk_base::{Json, List, Mem, Members, Text, Tier, Via, put, put_signed, put_unsigned};
 use std::alloc::Global;
 
 fn are_tiers_right() -> bool {
@@ -57,7 +57,12 @@ fn lists_are_changed_in_place(rt: HostRuntime) {
     assert!(rt; is_list_right(rt.alloc()));
 }
 
-fn put(alloc: Global, members: &mut Members<u32>, name: &str, value: u32) -> Result<(), Mem> {
+fn put_member(
+    alloc: Global,
+    members: &mut Members<u32>,
+    name: &str,
+    value: u32,
+) -> Result<(), Mem> {
     let name = Text::of(alloc, name)?;
     members.put(name, value)
 }
@@ -66,8 +71,9 @@ fn put(alloc: Global, members: &mut Members<u32>, name: &str, value: u32) -> Res
 fn members(alloc: Global) -> Result<Members<u32>, Mem> {
     let mut members = Members::new(alloc);
     for (name, value) in [("b", 1), ("a", 2), ("c", 3), ("b", 4)] {
-        put(alloc, &mut members, name, value)?;
+        put_member(alloc, &mut members, name, value)?;
     }
+    members.trim();
     Ok(members)
 }
 
@@ -189,4 +195,24 @@ fn trees_are_looked_into_and_copied(rt: HostRuntime) {
 #[test]
 fn texts_are_copied(rt: HostRuntime) {
     assert!(rt; is_text_right(rt.alloc()));
+}
+
+// A text and two numbers, one behind the other.
+fn put_three(out: &mut Vec<u8>) -> Result<(), Mem> {
+    put(out, "ä ")?;
+    put_unsigned(out, 18446744073709551615)?;
+    put_signed(out, -9223372036854775808)
+}
+
+fn are_three_put(alloc: Global) -> bool {
+    let mut out = Vec::new(alloc);
+    match put_three(&mut out) {
+        Ok(()) => out.as_slice() == "ä 18446744073709551615-9223372036854775808".as_bytes(),
+        Err(_) => false,
+    }
+}
+
+#[test]
+fn texts_and_numbers_are_appended(rt: HostRuntime) {
+    assert!(rt; are_three_put(rt.alloc()));
 }
