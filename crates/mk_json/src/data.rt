@@ -1,10 +1,12 @@
 // The data among the trees.
 ghost use Rattle.std.specs.Prelude.{◌≡◌, ◌≤◌, ◌<◌, ◌↔◌, true, false, Err, IfOk, OnOk};
+ghost use Rattle.std.specs.Fmt.{signed_decimal};
 ghost use Rattle.mk_base.specs.Texts.{text_of};
 ghost use Rattle.mk_base.specs.Proper.{is_proper};
-ghost use Rattle.mk_base.specs.Trees.{nesting, is_whole, is_in_range, is_datum};
+ghost use Rattle.mk_base.specs.Trees.{nesting, in_range, is_whole, is_in_range, is_datum};
 
 use crate::put_json;
+use itoa::Buffer;
 use mk_base::{Datum, Json, Mem};
 use std::alloc::Global;
 use thiserror::Error;
@@ -35,10 +37,25 @@ pub fn datum(alloc: Global, tree: &Json) -> Result<Datum, DatumFault>
     if !tree.nests_within(100) {
         return Err(DatumFault::TooDeep);
     }
+    if let Json::Whole(n) = tree {
+        return match whole_datum(alloc, n) {
+            Ok(datum) => Ok(datum),
+            Err(_) => Err(DatumFault::Mem),
+        };
+    }
     match written(alloc, tree) {
         Ok(text) => Ok(Datum::of(text)),
         Err(_) => Err(DatumFault::Mem),
     }
+}
+
+// The datum of a whole number: its digits, which are written in place.
+fn whole_datum(alloc: Global, n: &i128) -> Result<Datum, Mem>
+    requires { in_range n.now ≡ true }
+    ensures { IfOk result (λ d. d ≡ signed_decimal n.now) }
+{
+    let mut buffer = Buffer::new();
+    Datum::copied(alloc, buffer.format(*n).as_bytes())
 }
 
 fn written(alloc: Global, tree: &Json) -> Result<Vec<u8>, Mem>

@@ -8,7 +8,8 @@ ghost use Rattle.mk_json.specs.Parsed.{tree_of, items_of, members_of, parsed};
 
 use crate::members::gathered;
 use crate::number::number;
-use json::{Invalid, Reader, Scratch, Token};
+use crate::scratch::{Names, Scratch};
+use json::{Invalid, Reader, Token};
 use mk_base::{Json, List, Mem, Members, Text};
 use std::alloc::Global;
 use std::str;
@@ -80,10 +81,10 @@ fn read_text(alloc: Global, scratch: &mut Scratch, text: &str) -> Result<Json, J
         (λ t. (d : values.Data) × (meant.read text.now ≡ Some d) × (t ≡ tree_of d)) }
     ensures refused { result ≡ Err JsonFault.NotJson → meant.read text.now ≡ None }
 {
-    let Ok(mut reader) = Reader::new(text, scratch) else {
+    let Ok(mut reader) = Reader::new(text, &mut scratch.parser) else {
         return Err(JsonFault::Mem);
     };
-    let tree = read(alloc, &mut reader, MAX_DEPTH)?;
+    let tree = read(alloc, &mut scratch.names, &mut reader, MAX_DEPTH)?;
     if reader.next().is_some() {
         return Err(JsonFault::NotJson);
     }
@@ -92,7 +93,12 @@ fn read_text(alloc: Global, scratch: &mut Scratch, text: &str) -> Result<Json, J
 
 #[cycle(read)]
 #[inline(always)]
-fn read(alloc: Global, reader: &mut Reader<'_>, depth: usize) -> Result<Json, JsonFault>
+fn read(
+    alloc: Global,
+    names: &mut Names,
+    reader: &mut Reader<'_>,
+    depth: usize,
+) -> Result<Json, JsonFault>
     ensures ok { IfOk result (λ t. (d : values.Data)
         × (meant.converted meant.of_json (value depth reader.old) ≡ Some (d, reader.new))
         × (t ≡ tree_of d)) }
@@ -116,20 +122,25 @@ fn read(alloc: Global, reader: &mut Reader<'_>, depth: usize) -> Result<Json, Js
             if depth == 0 {
                 return Err(JsonFault::NotJson);
             }
-            Ok(Json::List(read_items(alloc, reader, depth - 1)?))
+            Ok(Json::List(read_items(alloc, names, reader, depth - 1)?))
         }
         Token::BeginObject => {
             if depth == 0 {
                 return Err(JsonFault::NotJson);
             }
-            Ok(Json::Object(read_members(alloc, reader, depth - 1)?))
+            Ok(Json::Object(read_members(alloc, names, reader, depth - 1)?))
         }
     }
 }
 
 #[cycle(read)]
 #[inline(never)]
-fn read_items(alloc: Global, reader: &mut Reader<'_>, depth: usize) -> Result<List<Json>, JsonFault>
+fn read_items(
+    alloc: Global,
+    names: &mut Names,
+    reader: &mut Reader<'_>,
+    depth: usize,
+) -> Result<List<Json>, JsonFault>
     ensures ok { IfOk result (λ ts. (ds : values.Items)
         × (meant.converted meant.of_items (items (value depth) (length reader.old) reader.old)
         ≡ Some (ds, reader.new)) × (ts ≡ items_of ds)) }
@@ -140,7 +151,7 @@ fn read_items(alloc: Global, reader: &mut Reader<'_>, depth: usize) -> Result<Li
 {
     let mut found = List::new(alloc);
     'items: while !reader.take_end_array() {
-        let item = read(alloc, reader, depth)?;
+        let item = read(alloc, names, reader, depth)?;
         found.push(item)?;
     }
     found.trim();
@@ -151,6 +162,7 @@ fn read_items(alloc: Global, reader: &mut Reader<'_>, depth: usize) -> Result<Li
 #[inline(never)]
 fn read_members(
     alloc: Global,
+    names: &mut Names,
     reader: &mut Reader<'_>,
     depth: usize,
 ) -> Result<Members<Json>, JsonFault>
@@ -163,10 +175,10 @@ fn read_members(
         → meant.converted (λ ns. meant.of_members ns values.no_members)
         (members (value depth) (length reader.old) reader.old) ≡ None }
 {
-    let mut found = List::new(alloc);
+    let mut found = List::with_room(alloc, 1)?;
     'members: while let Some(name) = reader.next_key()? {
-        let key = Text::of(alloc, name)?;
-        let member = read(alloc, reader, depth)?;
+        let key = names.text(alloc, name)?;
+        let member = read(alloc, names, reader, depth)?;
         found.push((key, member))?;
     }
     Ok(gathered(alloc, found)?)

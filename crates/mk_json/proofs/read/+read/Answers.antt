@@ -133,7 +133,7 @@ read_items-returns-clause-ok t c =
     (ds, l.invariant.3 ∙ ap (parse_map (before ds)) (items_over p l.invariant.0 l.reader r l.invariant.2 (grind arith)) ∙ ap (λ es. Some (es, r)) (before-no_items ds), c.trim.ensures ∙ l.invariant.5)
 
 pub read_members-members-init : goal.read_members-members-init
-read_members-members-init t c = (length c.args.reader.now, no_members, omega arith, refl, omega arith, ap (put_all []) c.new-found.ensures)
+read_members-members-init t c = (length c.args.reader.now, no_members, omega arith, refl, omega arith, ap (put_all []) c.in_ok-found.ensures)
 
 pub read_members-returns-in_err-name-clause-refused : goal.read_members-returns-in_err-name-clause-refused
 read_members-returns-in_err-name-clause-refused t c refused =
