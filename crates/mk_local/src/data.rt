@@ -25,6 +25,7 @@ pub fn data_content(
     if let Some(time) = output_time(entities) {
         put(alloc, &mut members, "time", Json::Whole(time as i128))?;
     }
+    members.trim();
     Ok(Json::Object(members))
 }
 
@@ -55,8 +56,8 @@ fn put_part(
     ensures { OnOk result (members.new ≡ placed members.old (part turn entities.now want.now)) }
 {
     if let Some(n) = output(turn, entities, want) {
-        let value = object(alloc, want.attr.as_str(), Json::Whole(n as i128))?;
-        put(alloc, members, want.eid.as_str(), value)?;
+        let value = object(alloc, want.attr.copy()?, Json::Whole(n as i128))?;
+        members.put(want.eid.copy()?, value)?;
     }
     Ok(())
 }

@@ -40,7 +40,7 @@ pub fn gathered(
 fn nothing_taken(alloc: Global, count: usize) -> Result<List<Taken>, Mem>
     ensures { IfOk result (λ all. all ≡ replicate count (record { seen = false; sum = pos 0 })) }
 {
-    let mut all = List::new(alloc);
+    let mut all = List::with_room(alloc, count)?;
     for _made in 0..count {
         all.push(Taken {
             seen: false,

@@ -52,7 +52,7 @@ pub fn take_turns(
         }) pace.now.time inputs.now))) }
 {
     let mut found = Turned {
-        entities: List::new(alloc),
+        entities: List::with_room(alloc, entities.len())?,
         least: None,
     };
     let taken = gathered(alloc, kind.turn, entities.len(), inputs)?;
