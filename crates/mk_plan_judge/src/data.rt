@@ -1,25 +1,34 @@
 // What the data of a reply gives, and whether it has the right form.
-ghost use Rattle.std.specs.Prelude.{◌≡◌, not, nat_le, option_map};
+ghost use Rattle.std.specs.Prelude.{◌≡◌, not, nat_le, map, option_map, IfOk};
 ghost use Rattle.std.specs.List.{list_any};
 ghost use Rattle.mk_base.specs.Trees.{is_object, is_whole, nesting, value_depth};
 ghost use Rattle.mk_plan.specs.Turns.{holds_of, is_number, part_for, time_in, value_for};
 ghost use Rattle.mk_plan_judge.specs.inner.Numbers.{is_moment};
 
+use crate::lookups::Lookups;
 use crate::numbers::is_output_time;
-use mk_base::{Json, List};
+use mk_base::{Json, List, Mem};
 use mk_plan::Want;
+use std::alloc::Global;
 
 // How deep a value may nest.
 const VALUE_DEPTH: u32 = 100;
 
-/// What the data gives for a wanted attribute: the member of that name in the member of the entity's name.
-pub fn value_for<'a>(content: &'a Json, want: &Want) -> Option<&'a Json>
-    ensures { option_map (λ v. v.now) result ≡ value_for content.now want.now }
+/// What the data give each want: the member of the attribute's name in the member of the entity's name.
+pub fn values_for<'a>(
+    alloc: Global,
+    wants: &List<Want>,
+    content: &'a Json,
+) -> Result<Vec<Option<&'a Json>>, Mem>
+    ensures { IfOk result (λ values. map (option_map (λ v. v.now)) values.items
+        ≡ map (value_for content.now) wants.now) }
 {
-    match part_for(content, want) {
-        Some(part) => part.member(want.attr.as_str()),
-        None => None,
+    let mut values = Vec::with_capacity(alloc, wants.len())?;
+    let mut lookups = Lookups::new(content);
+    for want in wants.as_slice() {
+        values.push(lookups.value_for(want))?;
     }
+    Ok(values)
 }
 
 // Whether the data gives no object for the entity of a wanted attribute, but something else.
@@ -27,10 +36,13 @@ pub fn some_bad_part(wants: &List<Want>, content: &Json) -> bool
     ensures { result ≡ list_any
         (λ w. holds_of (λ t. not (is_object t)) (part_for content.now w)) wants.now }
 {
-    wants
-        .as_slice()
-        .iter()
-        .any(|want| has_bad_part(content, want))
+    let mut lookups = Lookups::new(content);
+    for want in wants.as_slice() {
+        if is_bad_part(lookups.part_for(want)) {
+            return true;
+        }
+    }
+    false
 }
 
 // Whether a number in a wanted value isn't whole.
@@ -38,10 +50,13 @@ pub fn some_odd_value(wants: &List<Want>, content: &Json) -> bool
     ensures { result ≡ list_any
         (λ w. holds_of (λ t. not (is_whole t)) (value_for content.now w)) wants.now }
 {
-    wants
-        .as_slice()
-        .iter()
-        .any(|want| has_odd_value(content, want))
+    let mut lookups = Lookups::new(content);
+    for want in wants.as_slice() {
+        if is_odd(lookups.value_for(want)) {
+            return true;
+        }
+    }
+    false
 }
 
 // Whether a wanted value nests too deep.
@@ -50,38 +65,41 @@ pub fn some_deep_value(wants: &List<Want>, content: &Json) -> bool
         (λ w. holds_of (λ t. not (nat_le (nesting t) value_depth)) (value_for content.now w))
         wants.now }
 {
-    wants
-        .as_slice()
-        .iter()
-        .any(|want| has_deep_value(content, want))
+    let mut lookups = Lookups::new(content);
+    for want in wants.as_slice() {
+        if is_deep(lookups.value_for(want)) {
+            return true;
+        }
+    }
+    false
 }
 
-// Whether what the data gives for the entity of this wanted attribute is no object.
-fn has_bad_part(content: &Json, want: &Want) -> bool
-    ensures { result ≡ holds_of (λ t. not (is_object t)) (part_for content.now want.now) }
+// Whether what the data gives for an entity is no object.
+fn is_bad_part(part: Option<&Json>) -> bool
+    ensures { result ≡ holds_of (λ t. not (is_object t)) (option_map (λ v. v.now) part.entry) }
 {
-    match part_for(content, want) {
+    match part {
         Some(part) => !part.is_object(),
         None => false,
     }
 }
 
-// Whether a number in the value of this wanted attribute isn't whole.
-fn has_odd_value(content: &Json, want: &Want) -> bool
-    ensures { result ≡ holds_of (λ t. not (is_whole t)) (value_for content.now want.now) }
+// Whether a number in the value isn't whole.
+fn is_odd(value: Option<&Json>) -> bool
+    ensures { result ≡ holds_of (λ t. not (is_whole t)) (option_map (λ v. v.now) value.entry) }
 {
-    match value_for(content, want) {
+    match value {
         Some(value) => !value.is_whole(),
         None => false,
     }
 }
 
-// Whether the value of this wanted attribute nests too deep.
-fn has_deep_value(content: &Json, want: &Want) -> bool
+// Whether the value nests too deep.
+fn is_deep(value: Option<&Json>) -> bool
     ensures { result ≡ holds_of (λ t. not (nat_le (nesting t) value_depth))
-        (value_for content.now want.now) }
+        (option_map (λ v. v.now) value.entry) }
 {
-    match value_for(content, want) {
+    match value {
         Some(value) => !value.nests_within(VALUE_DEPTH),
         None => false,
     }
@@ -95,11 +113,4 @@ pub fn has_bad_time(content: &Json) -> bool
         Some(time) => !is_output_time(time),
         None => false,
     }
-}
-
-// The member of the entity of a wanted attribute.
-fn part_for<'a>(content: &'a Json, want: &Want) -> Option<&'a Json>
-    ensures { option_map (λ v. v.now) result ≡ part_for content.now want.now }
-{
-    content.member(want.eid.as_str())
 }

@@ -4,13 +4,14 @@
 
 mod causes;
 mod data;
+mod lookups;
 mod numbers;
 mod places;
 mod sorted;
 mod wants;
 
 pub use causes::wrong;
-pub use data::value_for;
+pub use data::values_for;
 pub use numbers::{next_time, output_time};
 pub use places::next_place;
 pub use wants::{has_outputs, owner, wanted};

@@ -7,10 +7,9 @@ ghost use Rattle.mk_sched_supply.specs.Outputs.{values_in};
 ghost use Rattle.mk_sched_supply.specs.inner.Making.{are_given, is_given};
 
 use crate::feeds::Feed;
-use mk_base::{Datum, Json, List, Mem};
+use mk_base::{Datum, Json, Mem};
 use mk_json::datum;
-use mk_plan::Want;
-use mk_plan_judge::value_for;
+use mk_plan_judge::values_for;
 use std::alloc::Global;
 
 /// What the data of a reply give: for each want of the simulator the value, where there is one, and for each of its
@@ -38,25 +37,9 @@ pub fn outputs_of<'a>(alloc: Global, feed: &Feed, content: &'a Json) -> Result<O
     ensures given { IfOk result (λ outs. outs.given.items
         ≡ are_given (values_in outs) feed.now.triggers.items) }
 {
-    let values = values_of(alloc, &feed.wants, content)?;
+    let values = values_for(alloc, &feed.wants, content)?;
     let given = given_of(alloc, values.as_slice(), feed.triggers.as_slice())?;
     Ok(Outputs { values, given })
-}
-
-// What the data give each want.
-fn values_of<'a>(
-    alloc: Global,
-    wants: &List<Want>,
-    content: &'a Json,
-) -> Result<Vec<Option<&'a Json>>, Mem>
-    ensures { IfOk result (λ values. map (option_map (λ v. v.now)) values.items
-        ≡ map (value_for content.now) wants.now) }
-{
-    let mut values = Vec::with_capacity(alloc, wants.len())?;
-    for want in wants.as_slice() {
-        values.push(value_for(content, want))?;
-    }
-    Ok(values)
 }
 
 // Whether there is a value at each of these places.

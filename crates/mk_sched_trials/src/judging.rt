@@ -3,7 +3,7 @@
 use mk_base::{Mem, SimKind, SimNo, Tier};
 use mk_json::read_json;
 use mk_plan::{Cause, Message, Place, Plan};
-use mk_plan_judge::{next_place, value_for, wanted, wrong};
+use mk_plan_judge::{next_place, values_for, wanted, wrong};
 use mk_plan_samples::{OUT_TO_IN, Tie, connections, plan_of, two_simulators};
 use std::alloc::Global;
 use std::test::Fail;
@@ -61,10 +61,9 @@ fn is_given(alloc: Global) -> Result<bool, Fail> {
     let plan = plan(alloc)?;
     let wants = wanted(alloc, &plan, SimNo(0))?;
     let content = read_json(alloc, b"{\"0\":{\"out\":null}}")?;
-    match wants.as_slice() {
-        [level, out] => {
-            Ok(value_for(&content, level).is_none() && value_for(&content, out).is_some())
-        }
+    let values = values_for(alloc, &wants, &content)?;
+    match values.as_slice() {
+        [level, out] => Ok(level.is_none() && out.is_some()),
         _ => Ok(false),
     }
 }

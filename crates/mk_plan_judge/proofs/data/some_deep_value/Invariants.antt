@@ -1,0 +1,10 @@
+use Rattle.std.proofs.Common.{◌≡◌, drop, not, nat_le}
+use Rattle.std.specs.List.{list_any}
+use Rattle.mk_base.specs.Trees.{nesting, value_depth}
+use Rattle.mk_plan.specs.Turns.{holds_of, value_for}
+use Rattle.mk_plan_judge.specs.inner.Parts.{HasPart}
+use Rattle.mk_plan_judge.proofs.data.some_deep_value.Given as goal
+
+abbrev pub invariant-loop-want : goal.invariant-loop-want
+invariant-loop-want l = (l.want-items ≡ l.wants) × (list_any (λ w. holds_of (λ t. not (nat_le (nesting t) value_depth)) (value_for l.content w)) (drop l.want-index l.wants) ≡ list_any (λ w. holds_of (λ t. not (nat_le (nesting t) value_depth)) (value_for l.content w)) l.wants)
+    × HasPart l.lookups × (l.lookups.content.now ≡ l.content)
