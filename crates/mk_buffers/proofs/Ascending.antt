@@ -165,6 +165,18 @@ all_pass test down ts last r n here all up some is h = (
   (λ k d low high. absurd (omega arith)),
 )
 
+-- where the first passes a downward test and the second doesn't, the first alone does
+pub first_passes : (test : Tier → Bool) → IsDownward test → (ts : List Timed) → IsAscending ts → 1 ≤ length ts → ((d : Timed) → test (get_or ts 0 d).at ≡ true) → ((d : Timed) → test (get_or ts 1 d).at ≡ false)
+    → IsPartitionPoint (λ t. test t.at ≡ true) (λ t. test t.at ≡ false) ts 1
+first_passes test down ts up some first second = (
+  (λ k d low high. down (get_or ts k d).at (get_or ts 0 d).at (ascending_at ts k 0 d up (omega arith) (omega arith)) (first d)),
+  (λ k d low high. behind (test (get_or ts k d).at) (λ h. true≢false (sym (down (get_or ts 1 d).at (get_or ts k d).at (ascending_at ts 1 k d up low high) h) ∙ second d))),
+)
+  where
+    behind : (b : Bool) → (b ≡ true → ⊥) → b ≡ false
+    behind true h = absurd (h refl)
+    behind false h = refl
+
 -- one more output, weighed
 pub weighed_more : (v : Via) (until : Option ℤ) (x : Tier) (ts : List Timed) (t : Timed) → latest (by x (arrivals v until (ts ++ t ∷ []))) ≡ weighed v until x (latest (by x (arrivals v until ts))) t
 weighed_more v until x ts t = ap latest (come v until x (ts ++ t ∷ []) ∙ ap (map (arrival v)) (filter_append (λ t. does_come v until x t.at) ts (t ∷ [])) ∙ map_append (arrival v) (filter (λ t. does_come v until x t.at) ts) (filter (λ t. does_come v until x t.at) (t ∷ [])))

@@ -162,8 +162,47 @@ fn latest_rising(
     }
 }
 
-// How many of rising entries are delivered up to `at`.
+// How many of rising entries are delivered up to `at`: where what is overtaken was given up, most often the first alone.
 fn passing(entries: &VecDeque<Made>, via: Delay, until: Option<i64>, at: Tier) -> usize
+    requires { IsAscending entries.now.items }
+    ensures within { result ≤ length entries.now.items }
+    ensures cut { IsPartitionPoint (λ t. does_come via until at t.at
+        ≡ true) (λ t. does_come via until at t.at ≡ false) entries.now.items result }
+{
+    if is_first_alone(entries, via, until, at) {
+        1
+    } else {
+        passing_from_end(entries, via, until, at)
+    }
+}
+
+// Of rising entries the first is delivered up to `at`, and the second is there and isn't.
+fn is_first_alone(entries: &VecDeque<Made>, via: Delay, until: Option<i64>, at: Tier) -> bool
+    requires { IsAscending entries.now.items }
+    ensures some { result ≡ true → 1 ≤ length entries.now.items }
+    ensures cut { result ≡ true → IsPartitionPoint (λ t. does_come via until at t.at
+        ≡ true) (λ t. does_come via until at t.at ≡ false) entries.now.items 1 }
+{
+    if !is_second_to_come(entries, via, until, at) {
+        return false;
+    }
+    comes_at(entries, 0, via, until, at)
+}
+
+// There is a second entry, and it isn't delivered up to `at`.
+fn is_second_to_come(entries: &VecDeque<Made>, via: Delay, until: Option<i64>, at: Tier) -> bool
+    ensures some { result ≡ true → 1 ≤ length entries.now.items }
+    ensures late { result ≡ true → (d : Timed)
+        → does_come via until at (get_or entries.now.items 1 d).at ≡ false }
+{
+    if entries.len() < 2 {
+        return false;
+    }
+    !comes_at(entries, 1, via, until, at)
+}
+
+// How many of rising entries are delivered up to `at`, looked for from the end.
+fn passing_from_end(entries: &VecDeque<Made>, via: Delay, until: Option<i64>, at: Tier) -> usize
     requires { IsAscending entries.now.items }
     ensures within { result ≤ length entries.now.items }
     ensures cut { IsPartitionPoint (λ t. does_come via until at t.at

@@ -48,7 +48,7 @@ impl Buffers {
             × HasGathered self.now l.items previous at ins) }
     {
         let inlets = &self.inlets[sim.0 as usize];
-        let mut inputs = List::new(self.alloc);
+        let mut inputs = List::with_room(self.alloc, inlets.len())?;
         for inlet in inlets {
             self.gather(inlet, previous, at, &mut inputs)?;
         }

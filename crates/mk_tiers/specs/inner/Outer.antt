@@ -20,6 +20,10 @@ pub record IsWithoutSim (net : Net) (owns : List ℕ) (sim : ℕ) (labels : List
   pub skipped : slice_index labels sim ≡ never
   pub fits : (i : ℕ) → slice_index labels i ≤ never
 
+-- no simulator but this one has a start
+abbrev pub IsAlone : List ℕ → ℕ → Type 0
+IsAlone owns sim = (v : ℕ) → v < length owns → (v ≡ sim → ⊥) → slice_index owns v ≡ never
+
 -- where nothing comes back, the labels themselves; else those of walks that don't touch the
 -- simulator
 abbrev pub IsUsed : Net → List ℕ → List ℕ → Bool → ℕ → List ℕ → Type 0
