@@ -1,6 +1,6 @@
 // Whether two entries say the same.
 ghost use Rattle.std.specs.Prelude.{◌≡◌};
-ghost use Rattle.mk_record_compare.specs.Decisions.{Decides};
+ghost use Rattle.mk_plan_same.specs.Decisions.{Decides};
 ghost use Rattle.mk_plan.specs.Journals.{bare};
 ghost use Rattle.mk_blame.specs.Talks.{said};
 

@@ -6,7 +6,7 @@ ghost use Rattle.mk_message.specs.Written.{message_text, is_in_range};
 ghost use Rattle.mk_blame.specs.Written.{is_writable, lines_of, may_be_written, verdict_text};
 
 use crate::verdict::{Blamed, Verdict};
-use mk_base::{Mem, SimNo};
+use mk_base::{Mem, SimNo, put, put_signed, put_unsigned};
 use mk_message::write;
 use mk_plan::{Message, Plan};
 use std::alloc::Global;
@@ -26,7 +26,7 @@ pub fn write_verdict(alloc: Global, plan: &Plan, verdict: &Verdict) -> Result<Ve
                 put_blamed(alloc, &mut out, plan, one)?;
             }
             put(&mut out, "blamed ")?;
-            put_number(&mut out, blamed.len() as u64)?;
+            put_unsigned(&mut out, blamed.len() as u64)?;
             put(&mut out, "\n")?;
         }
     }
@@ -40,11 +40,11 @@ fn put_blamed(alloc: Global, out: &mut Vec<u8>, plan: &Plan, blamed: &Blamed) ->
 {
     put_id(out, plan, blamed.sim)?;
     put(out, " message ")?;
-    put_number(out, blamed.place)?;
+    put_unsigned(out, blamed.place)?;
     put(out, " step ")?;
     put_time(out, &blamed.at.time)?;
     put(out, ":")?;
-    put_number(out, blamed.at.tier as u64)?;
+    put_unsigned(out, blamed.at.tier as u64)?;
     put(out, "\nfirst ")?;
     put_message(alloc, out, &blamed.first)?;
     put(out, "\nsecond ")?;
@@ -69,25 +69,9 @@ fn put_message(alloc: Global, out: &mut Vec<u8>, message: &Message) -> Result<()
     Ok(())
 }
 
-fn put(out: &mut Vec<u8>, text: &str) -> Result<(), Mem>
-    ensures { OnOk result (out.new.items ≡ out.old.items ++ text.now) }
+// Appends a time.
+fn put_time(out: &mut Vec<u8>, time: &i64) -> Result<(), Mem>
+    ensures { OnOk result (out.new.items ≡ out.old.items ++ signed_decimal time.now) }
 {
-    out.extend_from_slice(text.as_bytes())?;
-    Ok(())
-}
-
-fn put_number(out: &mut Vec<u8>, n: u64) -> Result<(), Mem>
-    ensures { OnOk result (out.new.items ≡ out.old.items ++ decimal n) }
-{
-    let mut buffer = itoa::Buffer::new();
-    out.extend_from_slice(buffer.format(n).as_bytes())?;
-    Ok(())
-}
-
-fn put_time(out: &mut Vec<u8>, n: &i64) -> Result<(), Mem>
-    ensures { OnOk result (out.new.items ≡ out.old.items ++ signed_decimal n.now) }
-{
-    let mut buffer = itoa::Buffer::new();
-    out.extend_from_slice(buffer.format(*n).as_bytes())?;
-    Ok(())
+    put_signed(out, *time)
 }

@@ -6,7 +6,7 @@ use Rattle.mk_base.specs.declared.json.Json.TheVariants as v
 use Rattle.mk_base.specs.Trees.{is_null, bool_in, whole_in, text_in, items_in, members_in}
 use Rattle.mk_base.proofs.Lists.{none_some}
 use Rattle.mk_json.proofs.Layers.{Steps, by_layers}
-use Rattle.mk_record_compare.specs.Decisions.{Decides}
+use Rattle.mk_plan_same.specs.Decisions.{Decides}
 
 rolled_steps : Steps (λ t. roll-Json (out-Json t) ≡ t)
 rolled_steps = record {

@@ -1,4 +1,3 @@
-pub mod Deciding
 pub mod Left
 pub mod Levels
 pub mod Matching

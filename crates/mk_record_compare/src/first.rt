@@ -9,7 +9,7 @@ ghost use Rattle.mk_plan.specs.Journals.{arrivals};
 ghost use Rattle.mk_record_read.specs.declared.saved.Arrival.{Arrival};
 ghost use Rattle.mk_record_read.specs.Entries.{entries_after, entries_of, step_of, StepOf, MessageOf};
 ghost use Rattle.mk_record_read.specs.Seen.{came};
-ghost use Rattle.mk_record_compare.specs.Decisions.{Decides};
+ghost use Rattle.mk_plan_same.specs.Decisions.{Decides};
 ghost use Rattle.mk_record_compare.specs.Differences.{IsFirstOther, IsOther};
 ghost use Rattle.mk_record_compare.specs.inner.Matches.{AreMessages, IsMatch, IsMessageNext, IsNamed, IsNextNamed, left};
 

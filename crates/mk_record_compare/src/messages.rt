@@ -1,6 +1,6 @@
 // Whether two messages are the same.
 ghost use Rattle.std.specs.Prelude.{◌≡◌};
-ghost use Rattle.mk_record_compare.specs.Decisions.{Decides};
+ghost use Rattle.mk_plan_same.specs.Decisions.{Decides};
 
 use crate::trees::{same_items, same_text, same_tree};
 use mk_plan::Message;

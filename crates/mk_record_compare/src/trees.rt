@@ -1,6 +1,6 @@
 // Whether two trees are the same.
 ghost use Rattle.std.specs.Prelude.{◌≡◌};
-ghost use Rattle.mk_record_compare.specs.Decisions.{Decides};
+ghost use Rattle.mk_plan_same.specs.Decisions.{Decides};
 
 use mk_base::{Json, List, Members, Text};
 

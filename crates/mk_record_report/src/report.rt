@@ -3,9 +3,9 @@ ghost use Rattle.std.specs.Prelude.{◌≡◌, ◌++◌, codes, IfOk, OnOk};
 ghost use Rattle.mk_plan.specs.Journals.{sent};
 ghost use Rattle.mk_plan.specs.Report.{report};
 
-use crate::lines::{put, put_bytes, put_total};
+use crate::lines::{put_bytes, put_total};
 use crate::parts::{Part, parts_of};
-use mk_base::Mem;
+use mk_base::{Mem, put};
 use mk_plan::{Journal, Plan, PlanSim};
 use std::alloc::Global;
 

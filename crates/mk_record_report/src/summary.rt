@@ -5,10 +5,10 @@ ghost use Rattle.mk_plan.specs.Report.{steps_in, summary};
 ghost use Rattle.mk_record_report.specs.Summary.{counts, last_line};
 ghost use Rattle.mk_record_report.specs.inner.Summary.{last_of, later, step_to, steps_at};
 
-use crate::lines::{put, put_bytes, put_count, put_line};
+use crate::lines::{put_bytes, put_count, put_line};
 use crate::parts::steps_in;
 use crate::tallies::tallies_of;
-use mk_base::Mem;
+use mk_base::{Mem, put};
 use mk_plan::{Entry, Item, Journal, Plan};
 use std::alloc::Global;
 

@@ -9,8 +9,7 @@ ghost use Rattle.mk_plan.specs.Report.{is_step};
 ghost use Rattle.mk_record_write.specs.Writable.{is_writable};
 ghost use Rattle.mk_record_write.specs.inner.Writable.{is_line, item_line, line_in};
 
-use crate::fields::{put, put_signed, put_unsigned};
-use mk_base::{Mem, SimNo, Tier};
+use mk_base::{Mem, SimNo, Tier, put, put_signed, put_unsigned};
 use mk_message::write;
 use mk_plan::{Entry, Item, Message};
 use std::alloc::Global;
@@ -63,7 +62,7 @@ fn put_ask(out: &mut Vec<u8>, sim: &SimNo, at: &Tier, max_advance: &i64) -> Resu
     put(out, ",")?;
     put_tier(out, at)?;
     put(out, ",")?;
-    put_signed(out, max_advance)?;
+    put_signed(out, *max_advance)?;
     put(out, "]\n")
 }
 
@@ -72,7 +71,7 @@ fn put_tier(out: &mut Vec<u8>, at: &Tier) -> Result<(), Mem>
     ensures { OnOk result (out.new.items ≡ out.old.items
         ++ join_with_byte 44 (signed_decimal at.now.time ∷ decimal at.now.tier ∷ [])) }
 {
-    put_signed(out, &at.time)?;
+    put_signed(out, at.time)?;
     put(out, ",")?;
     put_unsigned(out, at.tier as u64)
 }

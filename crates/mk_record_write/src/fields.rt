@@ -8,31 +8,9 @@ ghost use Rattle.mk_base.specs.Texts.{list_text, quoted};
 ghost use Rattle.mk_record_read.specs.Texts.{bool_text, initial_text, kind_name, via_text};
 ghost use Rattle.mk_record_write.specs.inner.Commas.{comma_before};
 
-use itoa::Buffer;
-use mk_base::{Datum, Mem, SimKind, Text, Via};
+use mk_base::{Datum, Mem, SimKind, Text, Via, put, put_signed, put_unsigned};
 use mk_json::put_text;
 use std::alloc::Global;
-
-pub fn put(out: &mut Vec<u8>, text: &str) -> Result<(), Mem>
-    ensures { OnOk result (out.new.items ≡ out.old.items ++ text.now) }
-{
-    out.extend_from_slice(text.as_bytes())?;
-    Ok(())
-}
-
-pub fn put_unsigned(out: &mut Vec<u8>, n: u64) -> Result<(), Mem>
-    ensures { OnOk result (out.new.items ≡ out.old.items ++ decimal n) }
-{
-    let mut buffer = Buffer::new();
-    put(out, buffer.format(n))
-}
-
-pub fn put_signed(out: &mut Vec<u8>, n: &i64) -> Result<(), Mem>
-    ensures { OnOk result (out.new.items ≡ out.old.items ++ signed_decimal n.now) }
-{
-    let mut buffer = Buffer::new();
-    put(out, buffer.format(*n))
-}
 
 pub fn put_bool(out: &mut Vec<u8>, b: bool) -> Result<(), Mem>
     ensures { OnOk result (out.new.items ≡ out.old.items ++ bool_text b) }
@@ -100,7 +78,7 @@ pub fn put_times(out: &mut Vec<u8>, times: &[i64]) -> Result<(), Mem>
     put(out, "[")?;
     for (place, time) in times.iter().enumerate() {
         put_comma(out, place)?;
-        put_signed(out, time)?;
+        put_signed(out, *time)?;
     }
     put(out, "]")
 }

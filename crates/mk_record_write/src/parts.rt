@@ -11,10 +11,9 @@ ghost use Rattle.mk_record_laws.specs.Again.{conn_is_text, model_is_text};
 ghost use Rattle.mk_record_laws.specs.inner.Readable.{HasNames};
 
 use crate::fields::{
-    put, put_bool, put_initial, put_kind, put_numbers, put_quoted, put_signed, put_texts,
-    put_times, put_unsigned, put_via,
+    put_bool, put_initial, put_kind, put_numbers, put_quoted, put_texts, put_times, put_via,
 };
-use mk_base::Mem;
+use mk_base::{Mem, put, put_signed, put_unsigned};
 use mk_plan::{AsyncPair, Conn, Plan, PlanEntity, PlanModel, PlanSim};
 use std::alloc::Global;
 
@@ -58,7 +57,7 @@ fn put_run(out: &mut Vec<u8>, plan: &Plan) -> Result<(), Mem>
     ensures { OnOk result (out.new.items ≡ out.old.items ++ run_line plan.now) }
 {
     put(out, "run [")?;
-    put_signed(out, &plan.until)?;
+    put_signed(out, plan.until)?;
     put(out, ",")?;
     put_unsigned(out, plan.loops as u64)?;
     put(out, ",")?;

@@ -13,9 +13,8 @@ ghost use Rattle.mk_record_laws.specs.inner.Readable.{HasNames};
 ghost use Rattle.mk_record_write.specs.Writable.{is_writable};
 
 use crate::entries::{line_count, put_entries};
-use crate::fields::{put, put_unsigned};
 use crate::parts::put_plan;
-use mk_base::Mem;
+use mk_base::{Mem, put, put_unsigned};
 use mk_plan::{Journal, Plan};
 use std::alloc::Global;
 

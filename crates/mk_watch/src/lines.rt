@@ -5,7 +5,7 @@ ghost use Rattle.mk_plan.specs.Plans.{sim_id};
 ghost use Rattle.mk_watch.specs.Tables.{head_text, row_text, total_text};
 
 use crate::rows::Row;
-use mk_base::{Mem, SimNo, Text};
+use mk_base::{Mem, SimNo, Text, put, put_signed, put_unsigned};
 use mk_plan::Plan;
 
 // Appends the head of a table: the entity by its full id, the attribute, the rule's name.
@@ -35,11 +35,11 @@ pub fn put_head(
 pub fn put_row(out: &mut Vec<u8>, row: &Row) -> Result<(), Mem>
     ensures { OnOk result (out.new.items ≡ out.old.items ++ row_text row.now) }
 {
-    put_signed(out, &row.at.time)?;
+    put_number(out, &row.at.time)?;
     put(out, ":")?;
-    put_number(out, row.at.tier as u64)?;
+    put_unsigned(out, row.at.tier as u64)?;
     put(out, " ")?;
-    put_signed(out, &row.value)?;
+    put_number(out, &row.value)?;
     put(out, "\n")
 }
 
@@ -51,9 +51,9 @@ pub fn put_total(out: &mut Vec<u8>, count: u64, total: Option<i64>) -> Result<()
         None => put(out, "rows 0\n"),
         Some(value) => {
             put(out, "rows ")?;
-            put_number(out, count)?;
+            put_unsigned(out, count)?;
             put(out, " total ")?;
-            put_signed(out, &value)?;
+            put_number(out, &value)?;
             put(out, "\n")
         }
     }
@@ -69,25 +69,9 @@ fn put_id(out: &mut Vec<u8>, plan: &Plan, sim: SimNo) -> Result<(), Mem>
     }
 }
 
-fn put(out: &mut Vec<u8>, text: &str) -> Result<(), Mem>
-    ensures { OnOk result (out.new.items ≡ out.old.items ++ text.now) }
+// Appends a time or a value.
+fn put_number(out: &mut Vec<u8>, number: &i64) -> Result<(), Mem>
+    ensures { OnOk result (out.new.items ≡ out.old.items ++ signed_decimal number.now) }
 {
-    out.extend_from_slice(text.as_bytes())?;
-    Ok(())
-}
-
-fn put_number(out: &mut Vec<u8>, n: u64) -> Result<(), Mem>
-    ensures { OnOk result (out.new.items ≡ out.old.items ++ decimal n) }
-{
-    let mut buffer = itoa::Buffer::new();
-    out.extend_from_slice(buffer.format(n).as_bytes())?;
-    Ok(())
-}
-
-fn put_signed(out: &mut Vec<u8>, n: &i64) -> Result<(), Mem>
-    ensures { OnOk result (out.new.items ≡ out.old.items ++ signed_decimal n.now) }
-{
-    let mut buffer = itoa::Buffer::new();
-    out.extend_from_slice(buffer.format(*n).as_bytes())?;
-    Ok(())
+    put_signed(out, *number)
 }

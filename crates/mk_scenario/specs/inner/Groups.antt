@@ -2,7 +2,6 @@
 use Rattle.std.specs.Prelude.{ℕ, List, codes, Option, option_and_then}
 use Rattle.mk_base.specs.declared.json.Json.{Json}
 use Rattle.mk_base.specs.Trees.{text_in, member}
-use Rattle.mk_scenario_keys.specs.Keys.{text}
 
 -- the text that a table has as its id
 abbrev pub id_in : Json → Option (List ℕ)

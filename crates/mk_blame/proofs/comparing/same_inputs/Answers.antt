@@ -1,5 +1,5 @@
 use Rattle.std.proofs.Common.{◌≡◌, ◌+◌, length, slice_get, get_or, ap, sym, ◌∙◌, arith}
-use Rattle.mk_record_compare.proofs.Pairs.{next_same}
+use Rattle.mk_plan_same.proofs.Pairs.{next_same}
 use Rattle.mk_blame.proofs.comparing.same_inputs.Goals as goal
 
 pub loop-input-preserved : goal.loop-input-preserved

@@ -1,5 +1,5 @@
 use Rattle.std.proofs.Common.{◌<◌, ◌≤◌, subst, sym, arith}
-use Rattle.mk_record_compare.proofs.Pairs.{next_same}
+use Rattle.mk_plan_same.proofs.Pairs.{next_same}
 use Rattle.mk_blame.specs.Talks.{said}
 use Rattle.mk_blame.proofs.Grouping.{map_get}
 use Rattle.mk_blame.proofs.Parts.{all_the_same, counted, ends_at, goes_on_at, length_map, map_item, one_at_most, parts_at, stepped}

@@ -1,6 +1,7 @@
 use Rattle.std.proofs.Common.{◌≡◌, ℕ, ◌+◌, ◌<◌, length, slice_get, get_or, Some, ap, sym, ◌∙◌, arith}
 use Rattle.std.specs.Map.{keys_of, values_of}
-use Rattle.mk_record_compare.proofs.Pairs.{next_same, member_is}
+use Rattle.mk_plan_same.proofs.Pairs.{next_same}
+use Rattle.mk_record_compare.proofs.Pairs.{member_is}
 use Rattle.mk_record_compare.proofs.trees.+same.Goals as goal
 
 pub same_items-loop-item-preserved : goal.same_items-loop-item-preserved
