@@ -12,9 +12,9 @@ use Rattle.mk_plan.specs.declared.Plan.{Plan}
 use Rattle.mk_plan.specs.declared.SetValue.{SetValue}
 use Rattle.mk_plan.specs.Asks.{Named, Set, members_by, datum_in, entity_of, sets_in}
 use Rattle.mk_async.specs.Asked.{named_by}
-use Rattle.mk_async.specs.Forms.{each_passes, is_destinations, is_object_of, is_such, is_values}
+use Rattle.mk_async.specs.Forms.{each_passes, is_destinations, is_object_of, is_such, is_value, is_values}
 use Rattle.mk_async.specs.inner.Forms.{set_of}
-use Rattle.mk_async.specs.inner.Given.{is_source, is_value, members_of, set_value, values_from, values_in, values_to}
+use Rattle.mk_async.specs.inner.Given.{is_source, members_of, set_value, values_from, values_in, values_to}
 use Rattle.mk_async.specs.inner.Known.{Members}
 use Rattle.mk_async.proofs.Reading.{set_there}
 use Rattle.mk_async.proofs.Testing.{made, parts, read}

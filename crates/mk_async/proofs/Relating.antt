@@ -17,9 +17,8 @@ use Rattle.mk_json.proofs.Layers.{folded-Object, folded-Text, folded-Null}
 use Rattle.mk_plan.specs.declared.Plan.{Plan}
 use Rattle.mk_plan.specs.Plans.{full_id}
 use Rattle.mk_plan.specs.Asks.{Lookup, RelatedOfEach, content_text, model_name, ordered, related_text, related_to, type_text}
-use Rattle.mk_async.specs.Forms.{each_passes}
+use Rattle.mk_async.specs.Forms.{each_passes, is_value}
 use Rattle.mk_async.specs.inner.Forms.{texts_of}
-use Rattle.mk_async.specs.inner.Given.{is_value}
 use Rattle.mk_async.specs.inner.Known.{Members}
 use Rattle.mk_async.specs.inner.Related.{described, each_read, each_text, fits, gathered_by, put_read, put_text, related_tree, texts, type_tree}
 use Rattle.mk_async.proofs.Giving.{and_of, first_of, rest_of}

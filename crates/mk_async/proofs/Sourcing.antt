@@ -13,8 +13,8 @@ use Rattle.mk_plan.specs.declared.Plan.{Plan}
 use Rattle.mk_plan.specs.declared.SetValue.{SetValue}
 use Rattle.mk_plan.specs.Plans.{owner}
 use Rattle.mk_async.specs.Asked.{IsGivenBy}
-use Rattle.mk_async.specs.Forms.{each_passes, is_object_of, is_such}
-use Rattle.mk_async.specs.inner.Given.{is_source, is_value, members_of, set_value, values_from, values_in, values_to}
+use Rattle.mk_async.specs.Forms.{each_passes, is_object_of, is_such, is_value}
+use Rattle.mk_async.specs.inner.Given.{is_source, members_of, set_value, values_from, values_in, values_to}
 use Rattle.mk_async.specs.inner.Known.{Members, knows_source, knows_sources}
 use Rattle.mk_async.proofs.Depths.{true_le}
 use Rattle.mk_async.proofs.Entities.{entity_named}

@@ -1,8 +1,8 @@
--- The tests of a request's form, as they go through the argument. For proofs alone.
-use Rattle.std.specs.Prelude.{ℕ, Bool, false, List, Option, is_some, option_map, unwrap_or}
+-- The tests of a request's form, as they go through the argument.
+use Rattle.std.specs.Prelude.{ℕ, Bool, false, ◌&&◌, List, Option, is_some, option_map, unwrap_or}
 use Rattle.std.specs.List.{list_all}
 use Rattle.mk_base.specs.declared.json.Json.{Json}
-use Rattle.mk_base.specs.Trees.{text_in, items_in, members_in, is_datum}
+use Rattle.mk_base.specs.Trees.{text_in, items_in, members_in, is_datum, is_in_range}
 
 -- something is there and passes
 abbrev pub is_such : {X : Type 0} → (X → Bool) → Option X → Bool
@@ -21,6 +21,10 @@ each_passes test ms = list_all (λ (m : List ℕ × Json). test m.1) ms
 -- an object of such values
 abbrev pub is_object_of : (Json → Bool) → Json → Bool
 is_object_of test tree = is_such (each_passes test) (members_in tree)
+
+-- a value whose whole numbers are in range
+abbrev pub is_value : Json → Bool
+is_value tree = is_datum tree && is_in_range tree
 
 abbrev pub is_values : Json → Bool
 is_values = is_object_of is_datum

@@ -1,9 +1,9 @@
 //! The content of answers to `get_data`: values of outputs.
-ghost use Rattle.std.specs.Prelude.{◌≡◌, ℕ, ◌<◌, ◌++◌, true, codes, flat_map, length, IfOk, IfSome, OnOk, Some, option_map};
+ghost use Rattle.std.specs.Prelude.{◌≡◌, ℕ, ◌<◌, ◌++◌, true, codes, flat_map, length, IfOk, OnOk, Some, option_map};
 ghost use Rattle.mk_base.specs.Texts.{object_text};
 ghost use Rattle.mk_base.specs.Tiers.{IsUpTo};
 ghost use Rattle.mk_base.specs.Trees.{items_in, text_in};
-ghost use Rattle.mk_plan.specs.Asks.{Get, content_text, gives_attr, knows};
+ghost use Rattle.mk_plan.specs.Asks.{content_text, gives_attr, knows};
 ghost use Rattle.mk_plan.specs.Deliveries.{Supply};
 ghost use Rattle.mk_plan.specs.Inputs.{value_at};
 ghost use Rattle.mk_plan_names.specs.Names.{AreNamesOf};
@@ -129,7 +129,8 @@ fn put_want(
     Ok(())
 }
 
-// The values of the attributes that are wanted of the entity of that full id.
+// The values of the attributes that are wanted of the entity of that full id. There is one, since the
+// request was judged.
 fn values_of(
     alloc: Global,
     plan: &Plan,
@@ -151,7 +152,7 @@ fn values_of(
     }
 }
 
-// The values of an entity's attributes, which are listed.
+// The values of an entity's attributes, which are listed: `gives_each` has passed the list.
 fn listed(
     alloc: Global,
     plan: &Plan,
@@ -191,7 +192,7 @@ fn values_by(
     Ok(values)
 }
 
-// Puts in the value of an attribute.
+// Puts in the value of an attribute, which is a text, since `gives` has passed it.
 fn put_attr(
     plan: &Plan,
     buffers: &Buffers,

@@ -1,12 +1,11 @@
 //! The values that a request sets.
 ghost use Rattle.std.specs.Prelude.{◌≡◌, ℕ, All, ◌++◌, ◌∷◌, [], true, Some, IsSome, IfOk, OnOk, option_map, unwrap_or};
 ghost use Rattle.mk_base.specs.Texts.{text_of};
-ghost use Rattle.mk_base.specs.Trees.{is_datum, is_in_range};
 ghost use Rattle.mk_plan.specs.Asks.{entity_of, knows, sets_in};
 ghost use Rattle.mk_plan_names.specs.Names.{AreNamesOf};
 ghost use Rattle.mk_async.specs.Asked.{IsGivenBy, asked_in, is_asked_in_range};
-ghost use Rattle.mk_async.specs.Forms.{each_passes, is_object_of};
-ghost use Rattle.mk_async.specs.inner.Given.{is_source, is_value, members_of, set_value, values_from, values_in, values_to};
+ghost use Rattle.mk_async.specs.Forms.{each_passes, is_object_of, is_value};
+ghost use Rattle.mk_async.specs.inner.Given.{is_source, members_of, values_from, values_in, values_to};
 
 use crate::known::entity_of;
 use crate::request::Asked;
@@ -62,7 +61,7 @@ fn put_sources(
     Ok(())
 }
 
-// Appends the values from one source.
+// Appends the values from one source: an object, since `are_sources` has passed it.
 fn put_source(
     alloc: Global,
     plan: &Plan,
@@ -100,7 +99,8 @@ fn put_destinations(
     Ok(())
 }
 
-// Appends the values from one source for one destination.
+// Appends the values from one source for one destination: an object, since `are_sources` has passed
+// it.
 fn put_destination(
     alloc: Global,
     plan: &Plan,
@@ -142,7 +142,8 @@ fn put_values(
     Ok(())
 }
 
-// The entity of that full id.
+// The entity of that full id. There is one where the request was judged; else entity 0, which nothing
+// asks for.
 fn place_of(plan: &Plan, names: &Names, id: &Text) -> u32
     requires { AreNamesOf plan.now names.now }
     ensures { result ≡ unwrap_or (entity_of plan.now id.now) 0 }
@@ -180,7 +181,8 @@ fn put_value(
     sets.push(given)
 }
 
-// The text of a value that a simulator may give.
+/// The text of a value that a simulator may give or get: it is a datum whose whole numbers are in
+/// range, so nothing but memory can be wanting.
 pub fn datum_of(alloc: Global, value: &Json) -> Result<Datum, Mem>
     requires { is_value value.now ≡ true }
     ensures { IfOk result (λ text. text ≡ text_of value.now) }

@@ -12,7 +12,7 @@ mod request;
 
 pub use data::data_content;
 pub use forms::{are_sources, are_wants};
-pub use given::given_values;
+pub use given::{datum_of, given_values};
 pub use judged::judge;
 pub use related::plain_content;
 pub use request::Asked;

@@ -1,8 +1,7 @@
 //! The content of answers that need no output: `null`, and related entities.
-ghost use Rattle.std.specs.Prelude.{◌≡◌, ℕ, ◌<◌, true, codes, length, All, IfOk, IfSome, IsSome, OnOk, Some, is_some, not, option_map};
+ghost use Rattle.std.specs.Prelude.{◌≡◌, ℕ, ◌<◌, codes, length, All, IfOk, IfSome, IsSome, OnOk, Some, is_some, not, option_map};
 ghost use Rattle.std.specs.BTreeMap.{insert_entry};
 ghost use Rattle.mk_base.specs.Lists.{text_order};
-ghost use Rattle.mk_base.specs.Trees.{text_in};
 ghost use Rattle.mk_plan.specs.Plans.{RefersInside, full_id};
 ghost use Rattle.mk_plan.specs.Asks.{Lookup, content_text, model_name, related_text, related_to};
 ghost use Rattle.mk_plan_names.specs.Names.{AreNamesOf};

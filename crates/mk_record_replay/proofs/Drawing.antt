@@ -19,7 +19,8 @@ use Rattle.mk_sched.specs.Answers.{open_id}
 use Rattle.mk_record_replay.specs.Replays.{messages_from}
 use Rattle.mk_record_replay.specs.Orders.{Drawing, draw_step, number_after, candidates, all_left, has_left, after_draw, chosen, drawn, next_number, next_sim, IsInOrder, SameMessages}
 use Rattle.mk_record_replay.specs.inner.Rounds.{IsBetween, AreWaiting, next_among, may_be_next, is_some_left}
-use Rattle.mk_record_replay.proofs.Pushing.{last_or_before, not_empty, got_is}
+use Rattle.mk_sched.proofs.Pushed.{last_or_before, not_empty}
+use Rattle.mk_record_replay.proofs.Pushing.{got_is}
 use Rattle.mk_record_replay.proofs.Counting.{id_of_turn, range_more}
 
 fold_push : {A B : Type 0} (f : B → A → B) (b : B) (xs : List A) (x : A) → fold f b (xs ++ x ∷ []) ≡ f (fold f b xs) x

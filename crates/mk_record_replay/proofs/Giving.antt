@@ -26,13 +26,15 @@ use Rattle.mk_sched.specs.declared.faults.CoreFault.TheVariants.{TooLong}
 use Rattle.mk_sched.specs.declared.faults.Next.TheVariants as next
 use Rattle.mk_sched.specs.declared.faults.Taken.TheVariants as taken
 use Rattle.mk_sched.specs.Cores.{CoreState, Stands}
-use Rattle.mk_sched.specs.Answers.{NextOf, ArriveOf, IsAsked, IsWaiting, IsOver, IsQuiet, IsAnswered, WasFaulty, SomeReady, SomeOpen, with_message}
+use Rattle.mk_sched.specs.Answers.{NextOf, ArriveOf, IsAsked, IsWaiting, IsOver, IsQuiet, IsAnswered, IsLastFaulty, WasFaulty, SomeReady, SomeOpen, with_message}
 use Rattle.mk_record_replay.specs.declared.replaying.ReplayEnd.{ReplayEnd}
 use Rattle.mk_record_replay.specs.declared.replaying.ReplayEnd.TheVariants.{Done, Core, Short}
-use Rattle.mk_record_replay.specs.Replays.{messages_from, IsReplay, IsLastFaulty, IsTooLong}
+use Rattle.mk_record_replay.specs.Replays.{messages_from, IsReplay, IsTooLong}
 use Rattle.mk_record_replay.specs.Runs.{CanArrive, IsRun}
-use Rattle.mk_record_replay.specs.inner.Loops.{IsPatient, IsOnWay, GoesOn, IsUnready, IsSettled, IsStopped, GivenBy}
-use Rattle.mk_record_replay.proofs.Pushing.{given_of, given_got, on_way_sent, on_way_got, patient_got, arrivals_after_got, arrivals_after_sent, got_is}
+use Rattle.mk_sched.specs.inner.Patient.{IsPatient}
+use Rattle.mk_record_replay.specs.inner.Loops.{IsOnWay, GoesOn, IsUnready, IsSettled, IsStopped, GivenBy}
+use Rattle.mk_sched.proofs.Pushed.{patient_got}
+use Rattle.mk_record_replay.proofs.Pushing.{given_of, given_got, on_way_sent, on_way_got, arrivals_after_got, arrivals_after_sent, got_is}
 use Rattle.mk_record_replay.proofs.Counting.{some_are_open}
 
 -- ---- whoever is ready is asked

@@ -14,13 +14,13 @@ use Rattle.mk_plan.specs.Advance.{IsAdvance}
 use Rattle.mk_order.proofs.Settled.{IsAtEnd, faulty, full, waits_is_end, done_is_end, replay_is_one}
 use Rattle.mk_sched.specs.declared.faults.CoreFault.{CoreFault}
 use Rattle.mk_sched.specs.declared.faults.CoreFault.TheVariants.{Wrong, Failed, LoopLimit, TooLong}
-use Rattle.mk_sched.specs.Answers.{fault_in, SomeReady}
+use Rattle.mk_sched.specs.Answers.{fault_in, IsLastFaulty, SomeReady}
 use Rattle.mk_record_read.specs.declared.saved.Asked.{Asked}
 use Rattle.mk_record_compare.specs.Differences.{IsOther}
 use Rattle.mk_record_compare.proofs.Places.{one_other}
 use Rattle.mk_record_replay.specs.declared.replaying.ReplayEnd.{ReplayEnd}
 use Rattle.mk_record_replay.specs.declared.replaying.ReplayEnd.TheVariants.{Done, Core, Short, Other}
-use Rattle.mk_record_replay.specs.Replays.{IsReplay, IsWhole, IsShort, IsLastFaulty, IsTooLong, IsLeft, EndsBy, IsEndOf, end_with}
+use Rattle.mk_record_replay.specs.Replays.{IsReplay, IsWhole, IsShort, IsTooLong, IsLeft, EndsBy, IsEndOf, end_with}
 use Rattle.mk_record_replay.proofs.Giving.{nobody_at_end}
 
 some_of : {X : Type 0} (o : Option X) → IsSome o → (x : X) × (o ≡ Some x)

@@ -1,11 +1,8 @@
 -- What a replay of the messages that came in a run comes to, and how it ends.
-use Rattle.std.specs.Prelude.{◌≡◌, ℕ, ◌<◌, ◌≤◌, ◌⊎◌, List, [], ◌∷◌, ◌++◌, length, map, filter, Option, Some, None, IsSome, ◌==◌}
-use Rattle.mk_base.specs.declared.SimNo.{SimNo}
+use Rattle.std.specs.Prelude.{◌≡◌, ℕ, ◌<◌, ◌≤◌, ◌⊎◌, List, ◌∷◌, ◌++◌, length, map, filter, Option, Some, None, IsSome, ◌==◌}
 use Rattle.mk_base.specs.Lists.{BeginsWith}
 use Rattle.mk_plan.specs.declared.Plan.{Plan}
-use Rattle.mk_plan.specs.declared.Message.{Message}
 use Rattle.mk_plan.specs.declared.Entry.{Entry}
-use Rattle.mk_plan.specs.declared.Entry.TheVariants.{Got}
 use Rattle.mk_plan.specs.Plans.{sim_count}
 use Rattle.mk_plan.specs.Sequential.{Messages, run_items}
 use Rattle.mk_plan.specs.Journals.{Arrival, arrivals, view, sent, bare, open_count}
@@ -14,7 +11,7 @@ use Rattle.mk_plan.specs.Orderly.{IsEager}
 use Rattle.mk_plan.specs.Agreement.{Agrees, IsFinished}
 use Rattle.mk_sched.specs.declared.faults.CoreFault.{CoreFault}
 use Rattle.mk_sched.specs.declared.faults.CoreFault.TheVariants.{TooLong}
-use Rattle.mk_sched.specs.Answers.{fault_in, SomeReady}
+use Rattle.mk_sched.specs.Answers.{IsLastFaulty, SomeReady}
 use Rattle.mk_record_read.specs.declared.saved.Asked.{Asked}
 use Rattle.mk_record_compare.specs.Differences.{IsOther}
 use Rattle.mk_record_replay.specs.declared.replaying.ReplayEnd.{ReplayEnd}
@@ -49,16 +46,6 @@ pub record IsShort (P : Plan) (A : List Arrival) (J : List Entry) (n : ℕ) : Ty
   pub nobody : SomeReady P J → ⊥
   pub count : n ≡ open_count P (view P J)
   pub some : 1 ≤ n
-
--- the last entry is a message that makes this fault, and there was none before
-pub record IsLastFaulty (P : Plan) (J : List Entry) (f : CoreFault) : Type 0 where
-  pub before : List Entry
-  pub sim : SimNo
-  pub message : Message
-  pub is : J ≡ before ++ Got sim message ∷ []
-  pub right_before : (view P before).fault ≡ None
-  pub named : IsSome (fault_in f)
-  pub fault : (view P J).fault ≡ fault_in f
 
 -- not all messages were given
 abbrev pub IsLeft : List Arrival → List Entry → Type 0

@@ -1,5 +1,5 @@
 // The replay of a record: whoever is ready is asked, and a message is given, until nothing is left to do.
-ghost use Rattle.std.specs.Prelude.{◌≡◌, ◌<◌, ◌^◌, ℕ, List, [], Option, None, true, map, reverse, All, IfOk, is_some, if◌then◌else◌};
+ghost use Rattle.std.specs.Prelude.{◌≡◌, ◌<◌, ◌^◌, ℕ, List, [], Option, None, map, reverse, All, IfOk, is_some, if◌then◌else◌};
 ghost use Rattle.mk_plan.specs.Plans.{IsValidPlan, sim_count};
 ghost use Rattle.mk_plan.specs.Journals as journals;
 ghost use Rattle.mk_plan.specs.Journals.{view, open_count};

@@ -11,9 +11,10 @@ use Rattle.mk_record_read.specs.declared.saved.Asked.{Asked}
 use Rattle.mk_record_compare.specs.Differences.{IsOther}
 use Rattle.mk_record_compare.proofs.Places.{one_other}
 use Rattle.mk_sched.specs.declared.faults.CoreFault.{CoreFault}
+use Rattle.mk_sched.specs.Answers.{IsLastFaulty}
 use Rattle.mk_sched.specs.Cores.{CoreState}
 use Rattle.mk_record_replay.specs.declared.replaying.ReplayEnd.TheVariants as replay_end
-use Rattle.mk_record_replay.specs.Replays.{IsLastFaulty, IsReplay, IsTooLong}
+use Rattle.mk_record_replay.specs.Replays.{IsReplay, IsTooLong}
 use Rattle.mk_record_replay.proofs.OneEnd.{at_end, faultless, nothing_more, one_fault}
 use Rattle.mk_record_restored.specs.declared.restoring.Restored.{Restored}
 use Rattle.mk_record_restored.specs.declared.restoring.Restored.TheVariants as restored

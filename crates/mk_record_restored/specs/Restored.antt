@@ -6,9 +6,9 @@ use Rattle.mk_plan.specs.Journals.{Arrival, arrivals, view}
 use Rattle.mk_record_read.specs.declared.saved.Asked.{Asked}
 use Rattle.mk_record_compare.specs.Differences.{IsOther}
 use Rattle.mk_sched.specs.declared.faults.CoreFault.{CoreFault}
-use Rattle.mk_sched.specs.Answers.{SomeReady}
+use Rattle.mk_sched.specs.Answers.{IsLastFaulty, SomeReady}
 use Rattle.mk_sched.specs.Cores.{CoreState}
-use Rattle.mk_record_replay.specs.Replays.{IsReplay, IsLastFaulty, IsTooLong}
+use Rattle.mk_record_replay.specs.Replays.{IsReplay, IsTooLong}
 use Rattle.mk_record_restored.specs.declared.restoring.Restored.{Restored}
 use Rattle.mk_record_restored.specs.declared.restoring.Restored.TheVariants as restored
 

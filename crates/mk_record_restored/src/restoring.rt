@@ -60,8 +60,8 @@ pub fn restored_is_one()
 
 // What is left of a core that met this fault.
 fn faulted(core: Core, fault: CoreFault) -> Restored
-    ensures { (P : Plan) → (A : List journals.Arrival) → (asks : Option (List Asked)) → core.plan ≡ P
-        → IsFaulted P A core.entries fault → RestoresAs P A asks result }
+    ensures { (P : Plan) → (A : List journals.Arrival) → (asks : Option (List Asked))
+        → core.plan ≡ P → IsFaulted P A core.entries fault → RestoresAs P A asks result }
 {
     let (plan, journal) = core.into_parts();
     Restored::Faulted(fault, plan, journal)

@@ -1,27 +1,25 @@
 -- The core asks the first simulator that is ready, waits, is over, or has no room.
-use Rattle.std.proofs.Common.{◌≡◌, ◌≢◌, ℕ, ◌+◌, ◌<◌, ◌≤◌, ℤ, pos, ◌≤ℤ◌, true, List, [], ◌∷◌, ◌++◌, length, Option, Some, None, Result, Ok, Err, refl, sym, ap, ◌∙◌, subst, inl, inr, arith, IfOk, is_some, int_lt, nat_le, MatchOption, unwrap_or, true≢false}
+use Rattle.std.proofs.Common.{◌≡◌, ◌≢◌, ℕ, ◌+◌, ◌<◌, ◌≤◌, ℤ, pos, ◌≤ℤ◌, true, List, [], ◌∷◌, ◌++◌, length, Option, Some, None, Ok, Err, refl, sym, ap, ◌∙◌, subst, inl, inr, arith, is_some, int_lt, nat_le, true≢false}
 use Rattle.std.proofs.lemmas.Int.{ints}
 use Rattle.std.proofs.lemmas.Bool.{leb-true}
 use Rattle.mk_base.specs.declared.Mem.{Mem}
 use Rattle.mk_base.specs.declared.SimNo.{SimNo}
 use Rattle.mk_base.specs.declared.tier.Tier.{Tier}
-use Rattle.mk_base.proofs.Lists.{none_some}
 use Rattle.mk_plan.specs.declared.Plan.{Plan}
 use Rattle.mk_plan.specs.declared.Input.{Input}
 use Rattle.mk_plan.specs.declared.Entry.{Entry}
 use Rattle.mk_plan.specs.declared.Entry.TheVariants.{Sent}
 use Rattle.mk_plan.specs.declared.Item.TheVariants.{Step}
-use Rattle.mk_plan.specs.Plans.{sim_count, IsValidPlan}
+use Rattle.mk_plan.specs.Plans.{sim_count}
 use Rattle.mk_plan.specs.Deliveries.{supply}
 use Rattle.mk_plan.specs.Inputs.{inputs}
 use Rattle.mk_plan.specs.Sequential.{last_time}
-use Rattle.mk_plan.specs.Journals.{View, OpenTurn, Owed, note, note_sent, view}
+use Rattle.mk_plan.specs.Journals.{OpenTurn, Owed, note_sent, view}
 use Rattle.mk_plan.specs.Orderly.{IsAllowed, IsNext, IsFirstReady}
-use Rattle.mk_plan.specs.Ready.{pending, start, last_step, step_at, IsReady, IsDone}
-use Rattle.mk_plan.specs.Walks.{Reach, nobody, IsEarliest}
+use Rattle.mk_plan.specs.Ready.{pending, last_step, step_at, IsReady, IsDone}
+use Rattle.mk_plan.specs.Walks.{nobody}
 use Rattle.mk_plan.specs.Advance.{IsAdvance}
 use Rattle.mk_order.proofs.Headlines.{orderly_finished}
-use Rattle.mk_order.proofs.LaterQuestions.{IsMarkOf, earliest_is_mark, unreached_is_mark}
 use Rattle.mk_order.proofs.Orders.{somebody_is_ready}
 use Rattle.mk_order.proofs.Past.{pending_within}
 use Rattle.mk_order.proofs.Reasons.{and_both}
@@ -33,7 +31,7 @@ use Rattle.mk_sched.specs.declared.kept.Kept.{Kept}
 use Rattle.mk_sched.specs.declared.faults.Ended.TheVariants.{Faulty, OutOfMemory}
 use Rattle.mk_sched.specs.declared.faults.CoreFault.TheVariants.{TooLong}
 use Rattle.mk_sched.specs.declared.faults.Next.TheVariants as next
-use Rattle.mk_sched.specs.Answers.{IsAsked, SomeReady, SomeOpen}
+use Rattle.mk_sched.specs.Answers.{IsAsked}
 use Rattle.mk_sched.specs.inner.Holding.{IsSettled}
 use Rattle.mk_sched.specs.inner.Kept.{IsCurrent, IsKept, HasAdvanced, core_of}
 use Rattle.mk_sched.proofs.Standing.{kept_push, ended_kept, ended_settled}

@@ -4,3 +4,4 @@ pub mod Asked
 pub mod Judged
 pub mod Arrived
 pub mod TurnEnds
+pub mod Pushed

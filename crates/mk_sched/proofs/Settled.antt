@@ -1,5 +1,5 @@
 -- What a stock is told where nobody is ready, and how few outputs it then holds.
-use Rattle.std.proofs.Common.{◌≡◌, ◌≢◌, inl, inr, ℕ, ◌+◌, ◌<◌, ◌≤◌, ◌≤ℤ◌, ℤ, Bool, true, false, int_lt, min, if◌then◌else◌, List, length, Option, Some, None, Result, Ok, Err, IfOk, refl, sym, ap, ◌∙◌, subst, arith, MatchOption, pos, slice_get, unwrap_or, true≢false}
+use Rattle.std.proofs.Common.{◌≡◌, ◌≢◌, inl, inr, ℕ, ◌<◌, ◌≤◌, ◌≤ℤ◌, ℤ, Bool, true, false, min, if◌then◌else◌, List, length, Option, Some, None, Result, Ok, Err, IfOk, refl, sym, ap, ◌∙◌, subst, arith, MatchOption, pos, slice_get, unwrap_or}
 use Rattle.std.proofs.lemmas.Int.{ints}
 use Rattle.mk_base.specs.declared.Mem.{Mem}
 use Rattle.mk_base.specs.declared.tier.Tier.{Tier}
@@ -17,7 +17,7 @@ use Rattle.mk_order.proofs.LaterQuestions.{IsMarkOf, earliest_is_mark, unreached
 use Rattle.mk_order.proofs.Opened.{outputs_opened}
 use Rattle.mk_tiers.specs.declared.bits.Bits.{Bits}
 use Rattle.mk_tiers.specs.Seen.{Seen, IsOf, IsEarliestIn}
-use Rattle.mk_tiers.specs.Sets.{has, IsEmpty, IsTaken}
+use Rattle.mk_tiers.specs.Sets.{IsEmpty, IsTaken}
 use Rattle.mk_tiers.proofs.Counting.{without_other}
 use Rattle.mk_sched_agenda.specs.Mirrors.{Mirrors, AgendaState}
 use Rattle.mk_sched_agenda.proofs.Mirroring.{earliest_is}
@@ -31,11 +31,10 @@ use Rattle.mk_sched_supply.specs.Stock.{IsStockOf}
 use Rattle.mk_sched_supply.proofs.Holding.{most_at}
 use Rattle.mk_sched.specs.declared.kept.Kept.{Kept}
 use Rattle.mk_sched.specs.declared.faults.Ended.{Ended}
-use Rattle.mk_sched.specs.declared.faults.Ended.TheVariants.{OutOfMemory}
 use Rattle.mk_sched.specs.declared.faults.Taken.{Taken}
 use Rattle.mk_sched.specs.Answers.{SomeReady}
 use Rattle.mk_sched.specs.Holding.{IsFloor, IsHeld, IsMarked}
-use Rattle.mk_sched.specs.inner.Holding.{AllAreTold, AreMarked, AreTold, HasTold, IsSettled, IsToldTo, Notes}
+use Rattle.mk_sched.specs.inner.Holding.{AllAreTold, AreTold, HasTold, IsSettled, IsToldTo, Notes}
 use Rattle.mk_sched.specs.inner.Kept.{IsKept, end_after_arrive}
 
 -- a simulator's mark is the least tiered time at which it may still step, or any where nothing can make it step

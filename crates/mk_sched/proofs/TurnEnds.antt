@@ -1,5 +1,5 @@
 -- The core takes the last message of a turn.
-use Rattle.std.proofs.Common.{◌≡◌, ◌≢◌, ℕ, suc, ◌+◌, ◌<◌, ℤ, pos, ◌≤ℤ◌, ◌<ℤ◌, Bool, true, false, List, [], ◌∷◌, ◌++◌, length, map, Option, Some, None, Ok, option_map, option_and_then, unwrap_or, slice_get, int_lt, if◌then◌else◌, refl, sym, ap, ◌∙◌, subst, inl, inr, arith, IsSome}
+use Rattle.std.proofs.Common.{◌≡◌, suc, ◌+◌, ℤ, pos, ◌≤ℤ◌, ◌<ℤ◌, Bool, false, List, [], ◌∷◌, ◌++◌, length, map, Option, Some, None, Ok, option_map, option_and_then, unwrap_or, slice_get, int_lt, if◌then◌else◌, refl, sym, ap, ◌∙◌, subst, inl, inr, arith}
 use Rattle.std.specs.Option.{ForSome}
 use Rattle.std.proofs.lemmas.Int.{ints}
 use Rattle.mk_base.specs.declared.SimNo.{SimNo}
@@ -8,17 +8,16 @@ use Rattle.mk_base.specs.declared.json.Json.{Json}
 use Rattle.mk_base.specs.Lists.{IsIn}
 use Rattle.mk_base.specs.Tiers.{moment}
 use Rattle.mk_base.specs.Trees.{whole_in}
-use Rattle.mk_base.proofs.Lists.{in_each, in_back, some_same}
+use Rattle.mk_base.proofs.Lists.{in_each, in_back}
 use Rattle.mk_plan.specs.declared.Plan.{Plan}
 use Rattle.mk_plan.specs.declared.Conn.{Conn}
 use Rattle.mk_plan.specs.declared.Message.{Message}
 use Rattle.mk_plan.specs.declared.Entry.{Entry}
 use Rattle.mk_plan.specs.declared.Entry.TheVariants.{Got}
-use Rattle.mk_plan.specs.Plans.{has_outputs, sim_count}
+use Rattle.mk_plan.specs.Plans.{has_outputs}
 use Rattle.mk_plan.specs.declared.Place.{Place}
 use Rattle.mk_plan.specs.Turns.{time_in, wrong, next_place}
-use Rattle.mk_plan.specs.Acts.{Act, content_of, contents, outputs_in, next_time, made, output}
-use Rattle.mk_plan.specs.Sequential.{grown}
+use Rattle.mk_plan.specs.Acts.{Act, content_of, contents, outputs_in, next_time, made}
 use Rattle.mk_plan.specs.Journals.{View, OpenTurn, Fault, ended_turn, loop_fault, note_right, note, view}
 use Rattle.mk_plan.specs.Ready.{IsReady}
 use Rattle.mk_plan.specs.Advance.{IsAdvance}
@@ -30,15 +29,14 @@ use Rattle.mk_sched_agenda.specs.declared.outlets.Outlet.{Outlet}
 use Rattle.mk_sched_agenda.specs.declared.outlets.Beyond.{Beyond}
 use Rattle.mk_sched_agenda.specs.Outlets.{AreOutletsOf, triggering_from, outlets_in}
 use Rattle.mk_sched_agenda.specs.Mirrors.{Mirrors}
-use Rattle.mk_sched_agenda.specs.Endings.{IsLast, EndOf, given_by, fault_of}
+use Rattle.mk_sched_agenda.specs.Endings.{IsLast, given_by, fault_of}
 use Rattle.mk_sched_open.specs.Sims.{AreSimsOf}
 use Rattle.mk_sched_open.specs.Turns.{IsRight, next_in}
 use Rattle.mk_sched_supply.specs.Stock.{IsStockOf}
 use Rattle.mk_sched.specs.declared.kept.Kept.{Kept}
 use Rattle.mk_sched.specs.declared.faults.Ended.TheVariants.{Faulty}
 use Rattle.mk_sched.specs.declared.faults.Taken.TheVariants as taken
-use Rattle.mk_sched.specs.Answers.{HasRoom}
-use Rattle.mk_sched.specs.inner.Kept.{IsCurrent, IsKept, HasTaken, IsTaking, EndsStep, core_of, limit_by, made_at}
+use Rattle.mk_sched.specs.inner.Kept.{IsKept, HasTaken, IsTaking, EndsStep, core_of, limit_by, made_at}
 use Rattle.mk_sched.proofs.Standing.{kept_push}
 use Rattle.mk_sched.proofs.Judged.{IsEnd, step_end, noted_right, none_leaves}
 use Rattle.mk_sched.proofs.Arrived.{its, got_allowed, the_room, no_end}

@@ -35,6 +35,16 @@ fault_in (Failed sim place) = Some (journals.FailedSim sim.0 place)
 fault_in (LoopLimit sim time) = Some (journals.LoopLimit sim.0 time)
 fault_in (TooLong entries) = None
 
+-- the last entry is a message that makes this fault, and there was none before
+pub record IsLastFaulty (P : Plan) (J : List Entry) (f : CoreFault) : Type 0 where
+  pub before : List Entry
+  pub sim : SimNo
+  pub message : Message
+  pub is : J ≡ before ++ Got sim message ∷ []
+  pub right_before : (view P before).fault ≡ None
+  pub named : IsSome (fault_in f)
+  pub fault : (view P J).fault ≡ fault_in f
+
 -- the core has not ended
 abbrev pub IsGoing : CoreState → Type 0
 IsGoing core = core.ended ≡ None

@@ -138,7 +138,8 @@ impl Core {
         answer
     }
 
-    /// The id of the request that is open at the simulator, while the core has not ended; `None` exactly where nothing is open.
+    /// The id of the request that is open at the simulator: while the core has not ended, `None` exactly
+    /// where nothing is open; after that, always `None`.
     pub fn id_of(&self, sim: SimNo) -> Option<u64>
         requires there { sim.0 < sim_count self.now.plan }
         ensures { self.now.ended ≡ None → result ≡ open_id self.now sim.0 }
@@ -168,6 +169,7 @@ impl Core {
         self.kept.stock.kept()
     }
 
+    /// The plan of the run.
     pub fn plan(&self) -> &Plan
         ensures { result.now ≡ self.now.plan }
     {
@@ -182,6 +184,7 @@ impl Core {
         &self.journal
     }
 
+    /// The plan and the journal, which is as `journal` says; nothing else is kept.
     pub fn into_parts(self) -> (Plan, Journal)
         ensures plan { result.0 ≡ self.plan }
         ensures journal { result.1.entries ≡ self.entries }

@@ -1,5 +1,5 @@
 // How a turn ends by its last message.
-ghost use Rattle.std.specs.Prelude.{◌≡◌, None, IfOk, pos, FitsSigned, option_and_then};
+ghost use Rattle.std.specs.Prelude.{◌≡◌, None, IfOk, FitsSigned, option_and_then};
 ghost use Rattle.std.specs.Option.{ForSome};
 ghost use Rattle.std.specs.Int.{w64};
 ghost use Rattle.mk_base.specs.Trees.{whole_in};

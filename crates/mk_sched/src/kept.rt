@@ -1,5 +1,5 @@
 // What the core keeps beside the journal.
-ghost use Rattle.std.specs.Prelude.{◌≡◌, [], None, IfOk};
+ghost use Rattle.std.specs.Prelude.{[], None, IfOk};
 ghost use Rattle.mk_plan.specs.Plans.{IsValidPlan};
 ghost use Rattle.mk_sched.specs.inner.Holding.{HasTold};
 ghost use Rattle.mk_sched.specs.inner.Kept.{IsKept};
@@ -12,8 +12,8 @@ use mk_sched_supply::Stock;
 use mk_tiers::Bits;
 use std::alloc::Global;
 
-// What is open at each simulator, when each is due, what was given so far, and of whom the stock has not been told when he may
-// step since that changed.
+// What is open at each simulator, when each is due, what was given so far, and of which simulators
+// the stock has not been told from when on they may step since that changed.
 #[derive(Drop)]
 pub struct Kept {
     pub sims: Sims,

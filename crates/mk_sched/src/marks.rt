@@ -18,8 +18,9 @@ use mk_sched_agenda::Agenda;
 use mk_sched_supply::Stock;
 use mk_tiers::Bits;
 
-// Where the core has not ended, and nobody is ready, tells the stock from when on each simulator may step of whom it has not been
-// told since that changed: what no question reaches any more is given up.
+// Where the core has not ended, and nobody is ready, tells the stock from when on each simulator may
+// step of which it has not been told since that changed: what no question reaches any more is given
+// up.
 pub fn settle(plan: &Plan, kept: &mut Kept, ended: Option<Ended>)
     requires valid { IsValidPlan plan.now }
     requires whole { ended ≡ None → sim_count plan.now ≤ length kept.old.agenda.queues }

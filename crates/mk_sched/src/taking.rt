@@ -1,5 +1,5 @@
 // How a message is taken: what it is judged to be, and what follows.
-ghost use Rattle.std.specs.Prelude.{◌≡◌, ◌<◌, true, length, IfOk, Some, None, FitsSigned};
+ghost use Rattle.std.specs.Prelude.{◌≡◌, ◌<◌, true, IfOk, Some, None, FitsSigned};
 ghost use Rattle.std.specs.Option.{ForSome};
 ghost use Rattle.std.specs.Int.{w64};
 ghost use Rattle.mk_base.specs.declared.tier.Tier.{Tier};
@@ -132,7 +132,7 @@ fn go_on(
     Ok(Upshot::Send(item))
 }
 
-// The time of what is open.
+// The time of what is open. Where nothing is, no message goes on, and 0:0 stands for no time.
 fn time_at(place: &Place) -> Tier
     ensures { (other : Tier) → (place.now ≡ Place.Idle → ⊥) → result ≡ time_at place.now other }
 {

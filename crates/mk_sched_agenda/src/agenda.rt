@@ -15,8 +15,8 @@ ghost use Rattle.mk_plan.specs.Advance.{IsAdvance};
 ghost use Rattle.mk_plan.specs.Orderly.{IsOrderlySoFar, IsFirstReady};
 ghost use Rattle.mk_tiers.specs.Noted.{HasNoted};
 ghost use Rattle.mk_tiers.specs.Seen.{IsOf, IsEarliestIn};
-ghost use Rattle.mk_sched_agenda.specs.Outlets.{AreOutletsOf, triggering_from, outlets_in};
-ghost use Rattle.mk_sched_agenda.specs.Mirrors.{AgendaState, IsOfPlan, Mirrors};
+ghost use Rattle.mk_sched_agenda.specs.Outlets.{outlets_in};
+ghost use Rattle.mk_sched_agenda.specs.Mirrors.{AgendaState, Mirrors};
 ghost use Rattle.mk_sched_agenda.specs.Endings.{CanBeMade, IsLast, EndOf};
 
 use crate::advance::{advance_by, sooner};

@@ -1,11 +1,11 @@
 //! What is kept of the simulators, and how it changes: a turn opens, a turn closes, something triggers a step.
-ghost use Rattle.std.specs.Prelude.{◌≡◌, ℕ, ◌<◌, ◌≤◌, ◌≤ℤ◌, pos, true, false, not, ◌&&◌, if◌then◌else◌, length, OnOk, OnErr, Some, slice_set};
+ghost use Rattle.std.specs.Prelude.{◌≡◌, ◌<◌, ◌≤◌, ◌≤ℤ◌, pos, true, false, not, ◌&&◌, if◌then◌else◌, length, OnOk, OnErr, Some, slice_set};
 ghost use Rattle.std.specs.Option.{ForSome};
 ghost use Rattle.std.specs.List.{list_any};
 ghost use Rattle.mk_plan.specs.declared.Plan.{Plan};
 ghost use Rattle.mk_nextstep.specs.Queues.{added, later, least};
 ghost use Rattle.mk_tiers.specs.Noted.{HasNoted};
-ghost use Rattle.mk_tiers.specs.Seen.{IsOf, start_in};
+ghost use Rattle.mk_tiers.specs.Seen.{IsOf};
 ghost use Rattle.mk_tiers.specs.Standing.{IsOwn};
 ghost use Rattle.mk_sched_agenda.specs.Dues.{queue_in, last_in};
 ghost use Rattle.mk_sched_agenda.specs.inner.Dues.{IsTidy, is_open, with_own, with_next, with_start, is_first, with_trigger};

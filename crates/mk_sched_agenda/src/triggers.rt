@@ -1,5 +1,5 @@
 //! What a turn's outputs trigger as it ends.
-ghost use Rattle.std.specs.Prelude.{◌≡◌, ℕ, ◌<◌, ◌≤◌, ◌≤ℤ◌, ◌∷◌, ◌++◌, ◌&&◌, [], List, Bool, pos, length, All, OnOk, is_some};
+ghost use Rattle.std.specs.Prelude.{◌≡◌, ℕ, ◌<◌, ◌≤◌, ◌≤ℤ◌, ◌∷◌, ◌++◌, ◌&&◌, [], List, pos, length, All, OnOk, is_some};
 ghost use Rattle.mk_base.specs.Lists.{IsIn};
 ghost use Rattle.mk_base.specs.Tiers.{HasWidth};
 ghost use Rattle.mk_plan.specs.declared.Plan.{Plan};

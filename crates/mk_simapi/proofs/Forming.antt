@@ -1,10 +1,10 @@
 -- What is gathered from an argument is what its form says.
-use Rattle.std.proofs.Common.{◌≡◌, ℕ, Bool, true, false, cond, List, [], ◌∷◌, ◌++◌, map, flat_map, Option, Some, None, is_some, option_map, option_and_then, unwrap_or, refl, ap, ◌∙◌, sym}
+use Rattle.std.proofs.Common.{◌≡◌, ℕ, Bool, true, false, List, [], map, flat_map, Option, Some, None, is_some, option_map, option_and_then, unwrap_or, refl, ap, ◌∙◌, sym}
 use Rattle.mk_base.specs.declared.json.Json.{Json}
 use Rattle.mk_base.specs.Lists.{all_there}
 use Rattle.mk_base.specs.Texts.{text_of}
-use Rattle.mk_base.specs.Trees.{members_in, items_in, text_in, is_datum, is_in_range}
-use Rattle.mk_base.proofs.Lists.{some_same, none_some}
+use Rattle.mk_base.specs.Trees.{items_in, text_in, is_in_range}
+use Rattle.mk_base.proofs.Lists.{none_some}
 use Rattle.mk_plan.specs.declared.Input.{Input}
 use Rattle.mk_plan.specs.declared.Want.{Want}
 use Rattle.mk_plan.specs.Asks.{Named, Set, Get, members_by, datum_in, texts_in}
@@ -14,7 +14,6 @@ use Rattle.mk_async.specs.inner.Given.{is_source, members_of}
 use Rattle.mk_async.specs.inner.Known.{Members}
 use Rattle.mk_async.proofs.Giving.{sources_pass, map_same, named_map, named_flat, object_list, datum_is}
 use Rattle.mk_async.proofs.Reading.{get_there, set_there, some_there, none_there}
-use Rattle.mk_async.proofs.Testing.{made, parts, read}
 use Rattle.mk_simapi.specs.Requests.{inputs_of, wants_of}
 use Rattle.mk_simapi.specs.inner.Inputs.{input_at, inputs_at, inputs_to, inputs_among, inputs_by, items_of, text_or_empty, want_at, wants_at, wants_among, wants_by}
 

@@ -2,14 +2,13 @@
 ghost use Rattle.std.specs.Prelude.{◌≡◌, ◌++◌, ◌∷◌, [], true, IfOk, OnOk};
 ghost use Rattle.mk_base.specs.Texts.{text_of};
 ghost use Rattle.mk_base.specs.Trees.{is_in_range};
-ghost use Rattle.mk_async.specs.Forms.{each_passes, is_object_of};
-ghost use Rattle.mk_async.specs.inner.Given.{is_source, is_value, members_of};
+ghost use Rattle.mk_async.specs.Forms.{each_passes, is_object_of, is_value};
+ghost use Rattle.mk_async.specs.inner.Given.{is_source, members_of};
 ghost use Rattle.mk_simapi.specs.Requests.{inputs_in, wants_in};
 ghost use Rattle.mk_simapi.specs.inner.Inputs.{inputs_among, inputs_at, inputs_by, inputs_to, items_of, text_or_empty, wants_among, wants_at, wants_by};
 
-use mk_async::{are_sources, are_wants};
-use mk_base::{Datum, Json, List, Mem, Members, Text};
-use mk_json::datum;
+use mk_async::{are_sources, are_wants, datum_of};
+use mk_base::{Json, List, Mem, Members, Text};
 use mk_plan::{Input, Want};
 use std::alloc::Global;
 
@@ -52,7 +51,7 @@ fn put_entities(
     Ok(())
 }
 
-// Appends the inputs of one entity.
+// Appends the inputs of one entity: an object, since `are_sources` has passed it.
 fn put_entity(alloc: Global, inputs: &mut List<Input>, eid: &Text, tree: &Json) -> Result<(), Mem>
     requires { is_source tree.now ≡ true }
     ensures { OnOk result (inputs.new ≡ inputs.old ++ inputs_to eid.now (members_of tree.now)) }
@@ -78,7 +77,7 @@ fn put_attributes(
     Ok(())
 }
 
-// Appends the inputs of one attribute.
+// Appends the inputs of one attribute: an object, since `are_sources` has passed it.
 fn put_attribute(
     alloc: Global,
     inputs: &mut List<Input>,
@@ -135,17 +134,6 @@ fn put_source(
     inputs.push(input)
 }
 
-// The text of a value that a simulator may get.
-fn datum_of(alloc: Global, value: &Json) -> Result<Datum, Mem>
-    requires { is_value value.now ≡ true }
-    ensures { IfOk result (λ text. text ≡ text_of value.now) }
-{
-    match datum(alloc, value) {
-        Ok(text) => Ok(text),
-        Err(_) => Err(Mem),
-    }
-}
-
 // What the argument wants; `None` exactly where it hasn't that form.
 pub fn wants_in(alloc: Global, tree: &Json) -> Result<Option<List<Want>>, Mem>
     ensures { IfOk result (λ wants. wants ≡ wants_in tree.now) }
@@ -178,7 +166,7 @@ fn put_wanted(alloc: Global, wants: &mut List<Want>, entities: &Members<Json>) -
     Ok(())
 }
 
-// Appends what is wanted of one entity.
+// Appends what is wanted of one entity: a list, since `are_wants` has passed it.
 fn put_wants_of(alloc: Global, wants: &mut List<Want>, eid: &Text, tree: &Json) -> Result<(), Mem>
     ensures { OnOk result (wants.new ≡ wants.old ++ wants_at eid.now (items_of tree.now)) }
 {

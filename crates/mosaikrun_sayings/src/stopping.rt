@@ -36,6 +36,8 @@ pub fn stopped(
     }
 }
 
+// The id of a simulator of the plan; no text where there is none of this number, which no fault
+// names.
 fn sim_id(alloc: Global, plan: &Plan, sim: SimNo) -> Result<Text, Mem>
     ensures { IfOk result (λ id. id ≡ sim_id plan.now sim.0) }
 {
@@ -55,6 +57,7 @@ fn last_failure(alloc: Global, journal: &Journal) -> Result<Text, Mem>
     }
 }
 
+// The text of a failure reply; no text for another entry, with which no failed journal ends.
 fn failure_in(alloc: Global, entry: &Entry) -> Result<Text, Mem>
     ensures { IfOk result (λ text. text ≡ failure_in entry.now) }
 {

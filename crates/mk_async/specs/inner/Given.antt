@@ -1,17 +1,13 @@
 -- The values that a request sets, as they are gathered. For proofs alone.
-use Rattle.std.specs.Prelude.{ℕ, Bool, ◌&&◌, List, [], map, flat_map, unwrap_or}
+use Rattle.std.specs.Prelude.{ℕ, Bool, List, [], map, flat_map, unwrap_or}
 use Rattle.mk_base.specs.declared.json.Json.{Json}
 use Rattle.mk_base.specs.Texts.{text_of}
-use Rattle.mk_base.specs.Trees.{members_in, is_datum, is_in_range}
+use Rattle.mk_base.specs.Trees.{members_in}
 use Rattle.mk_plan.specs.declared.Plan.{Plan}
 use Rattle.mk_plan.specs.declared.SetValue.{SetValue}
 use Rattle.mk_plan.specs.Asks.{entity_of}
-use Rattle.mk_async.specs.Forms.{is_object_of}
+use Rattle.mk_async.specs.Forms.{is_object_of, is_value}
 use Rattle.mk_async.specs.inner.Known.{Members}
-
--- a value whose whole numbers are in range
-abbrev pub is_value : Json → Bool
-is_value tree = is_datum tree && is_in_range tree
 
 -- an object of objects of values
 abbrev pub is_source : Json → Bool

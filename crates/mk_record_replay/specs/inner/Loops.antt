@@ -1,28 +1,20 @@
 -- For proofs alone. What stands while messages are given to a core.
 use Rattle.std.specs.Prelude.{◌≡◌, ℕ, ◌⊎◌, List, [], ◌∷◌, ◌++◌, length, filter, Option, Some, None, is_some}
 use Rattle.std.specs.List.{range_with_len}
-use Rattle.mk_base.specs.declared.SimNo.{SimNo}
-use Rattle.mk_base.specs.declared.tier.Tier.{Tier}
 use Rattle.mk_plan.specs.declared.Plan.{Plan}
-use Rattle.mk_plan.specs.declared.Message.{Message}
 use Rattle.mk_plan.specs.declared.Entry.{Entry}
-use Rattle.mk_plan.specs.declared.Entry.TheVariants.{Got}
 use Rattle.mk_plan.specs.Journals as journals
 use Rattle.mk_plan.specs.Journals.{view, arrivals}
-use Rattle.mk_plan.specs.Ready.{IsReady, IsDone}
+use Rattle.mk_plan.specs.Ready.{IsDone}
 use Rattle.mk_plan.specs.Agreement.{IsFinished}
 use Rattle.mk_sched.specs.declared.faults.CoreFault.{CoreFault}
 use Rattle.mk_sched.specs.declared.faults.CoreFault.TheVariants.{TooLong}
 use Rattle.mk_sched.specs.declared.faults.Next.{Next}
 use Rattle.mk_sched.specs.declared.faults.Next.TheVariants.{Ask, Wait, Done, Fault}
 use Rattle.mk_sched.specs.Cores.{CoreState, Stands}
-use Rattle.mk_sched.specs.Answers.{SomeReady, SomeOpen, open_id}
-use Rattle.mk_record_replay.specs.Replays.{IsReplay, IsLastFaulty, IsTooLong}
-
--- no message came while a simulator was ready
-abbrev pub IsPatient : Plan → List Entry → Type 0
-IsPatient P J = (H : List Entry) (s : SimNo) (m : Message) (more : List Entry)
-    → J ≡ H ++ Got s m ∷ more → (i : ℕ) (x : Tier) → IsReady P (view P H) i x → ⊥
+use Rattle.mk_sched.specs.Answers.{IsLastFaulty, SomeReady, SomeOpen, open_id}
+use Rattle.mk_sched.specs.inner.Patient.{IsPatient}
+use Rattle.mk_record_replay.specs.Replays.{IsReplay, IsTooLong}
 
 -- the messages A were given, and there is no fault
 pub record IsGiven (P : Plan) (A : List journals.Arrival) (J : List Entry) : Type 0 where

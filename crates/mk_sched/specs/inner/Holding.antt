@@ -15,13 +15,10 @@ use Rattle.mk_sched.specs.declared.kept.Kept.{Kept}
 use Rattle.mk_sched.specs.declared.faults.Ended.{Ended}
 use Rattle.mk_sched.specs.Answers.{SomeReady}
 
--- the marks of the first n simulators are at this time or after it
-abbrev pub AreMarked : Stock → ℕ → Tier → Type 0
-AreMarked k n m = (s : ℕ) → s < n → IsUpTo m (mark_of k.buffers s)
-
 -- the mark is at or after the time from which on s may step, or the run's end where it never may
 abbrev pub IsToldTo : Plan → Seen → ℕ → Tier → Type 0
-IsToldTo P B s m = (e : Option Tier) × IsEarliestIn P B s e × IsUpTo (unwrap_or e (moment P.until)) m
+IsToldTo P B s m = (e : Option Tier) × IsEarliestIn P B s e
+    × IsUpTo (unwrap_or e (moment P.until)) m
 
 -- the stock was told this of all
 abbrev pub AllAreTold : Plan → Seen → Stock → Type 0

@@ -1,7 +1,7 @@
 use Rattle.std.proofs.Common.{◌≡◌, ℕ, List, subst, ap, ◌∙◌}
 use Rattle.std.specs.Prelude.{IfOk}
 use Rattle.mk_base.specs.Texts.{text_of}
-use Rattle.mk_async.specs.inner.Given.{is_value}
+use Rattle.mk_async.specs.Forms.{is_value}
 use Rattle.mk_async.proofs.Relating.{related_same, related_value}
 use Rattle.mk_async.proofs.related.related.Goals as goal
 

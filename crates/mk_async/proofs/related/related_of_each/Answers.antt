@@ -1,6 +1,6 @@
 use Rattle.std.proofs.Common.{ap, ◌∙◌}
 use Rattle.mk_base.specs.declared.json.Json as tree
-use Rattle.mk_async.specs.inner.Given.{is_value}
+use Rattle.mk_async.specs.Forms.{is_value}
 use Rattle.mk_async.specs.inner.Known.{Members}
 use Rattle.mk_async.proofs.Relating.{each_value}
 use Rattle.mk_async.proofs.related.related_of_each.Goals as goal

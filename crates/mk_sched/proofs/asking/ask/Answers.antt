@@ -1,8 +1,7 @@
-use Rattle.std.proofs.Common.{◌≡◌, ℤ, IfOk, List, [], ◌∷◌, ◌++◌, sym, ap, ◌∙◌, subst, arith, w64, to_z, of_z}
+use Rattle.std.proofs.Common.{◌≡◌, ℤ, [], ◌∷◌, ◌++◌, sym, ap, ◌∙◌, subst, arith, w64, to_z, of_z}
 use Rattle.std.proofs.lemmas.Int.{ints}
 use Rattle.mk_plan.specs.declared.Entry.TheVariants.{Sent}
 use Rattle.mk_plan.specs.declared.Item.TheVariants.{Step}
-use Rattle.mk_plan.specs.declared.Input.{Input}
 use Rattle.mk_plan.specs.Journals.{view}
 use Rattle.mk_plan.specs.Deliveries.{supply}
 use Rattle.mk_plan.specs.Inputs.{inputs}

@@ -1,5 +1,4 @@
-use Rattle.std.proofs.Common.{◌∙◌, Option, ap, unwrap_or}
-use Rattle.mk_base.specs.declared.tier.Tier.{Tier}
+use Rattle.std.proofs.Common.{◌∙◌, ap, unwrap_or}
 use Rattle.mk_buffers.specs.Standing.{mark_of}
 use Rattle.mk_sched.proofs.Settled.{mark_of_earliest, told_here}
 use Rattle.mk_sched.proofs.marks.forget_of.Goals as goal
