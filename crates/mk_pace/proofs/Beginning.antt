@@ -25,6 +25,7 @@ use Rattle.mk_run_links.specs.Entries.{IsClockless, IsRunLink}
 use Rattle.mk_run_links.proofs.OnEntries.{on_or_clock, or_clock_more}
 use Rattle.mk_run_links.specs.Places.{AreOpen}
 use Rattle.mk_run_crew.specs.Seen.{CrewSeen, crew_of}
+use Rattle.mk_run.specs.inner.Handshakes.{Start}
 use Rattle.mk_run.specs.inner.Underway.{IsUnderway, Setting}
 use Rattle.mk_run.specs.inner.Turns.{AreLinksOpen}
 use Rattle.mk_run.proofs.Beginning.{links_open, run_begins, setting_of}
@@ -37,7 +38,7 @@ use Rattle.mk_pace_loop.specs.inner.Turns.{IsStopping}
 use Rattle.mk_pace_loop.specs.inner.Waiting.{WaitingSeen}
 use Rattle.mk_pace_loop.proofs.Passing.{no_naps}
 use Rattle.mk_pace_loop.proofs.Queueing.{has_line_moved, told_moved}
-use Rattle.mk_pace.specs.inner.Going.{IsStarted, Start}
+use Rattle.mk_pace.specs.inner.Going.{IsStarted}
 use Rattle.mk_pace.proofs.Whole.{untold_entry}
 
 -- nothing waits of any simulator

@@ -8,6 +8,7 @@ use Rattle.mk_outside.specs.declared.fleet.LogEntry.{LogEntry}
 use Rattle.mk_outside.specs.declared.fleet.LogEntry.TheVariants.{Rest, Told, Nap}
 use Rattle.mk_outside.specs.Logs.{later_of, last_write}
 use Rattle.mk_scenario.specs.declared.parts.Scenario.{Scenario}
+use Rattle.mk_sched.proofs.Pushed.{heads}
 use Rattle.mk_local.specs.declared.turn.Turn.{Turn}
 use Rattle.mk_run_laws.specs.Crews.{AreStopped, CrewState, IsRestless}
 use Rattle.mk_run_laws.specs.Handshake.{setup_requests}
@@ -21,6 +22,7 @@ use Rattle.mk_run_crew.specs.declared.halt.Halt.TheVariants as halt
 use Rattle.mk_run_crew.specs.Halted.{HasHalted, ShowsCause}
 use Rattle.mk_run_crew.specs.Seen.{CrewSeen, crew_of}
 use Rattle.mk_run_crew.proofs.Stopped.{all_said}
+use Rattle.mk_run.specs.inner.Handshakes.{Start}
 use Rattle.mk_run.specs.declared.outcome.Outcome.{Outcome}
 use Rattle.mk_run.specs.declared.outcome.Outcome.TheVariants as outcome
 use Rattle.mk_run.specs.Outcomes.{outcome_of}
@@ -29,7 +31,7 @@ use Rattle.mk_pace_laws.specs.declared.end.PaceEnd.TheVariants as pace
 use Rattle.mk_pace_laws.specs.declared.end.PaceRan.{PaceRan}
 use Rattle.mk_pace_laws.specs.Paced.{HasNotPaced, IsAwake, PacesAs}
 use Rattle.mk_pace_loop.proofs.Passing.{no_naps}
-use Rattle.mk_pace.specs.inner.Going.{IsStarted, PlanPacesAs, Start}
+use Rattle.mk_pace.specs.inner.Going.{IsStarted, PlanPacesAs}
 
 -- what is left then
 abbrev pub nothing_left : Outcome → PaceRan
@@ -45,9 +47,6 @@ told_stopped : (n : ℕ) (entries : List LogEntry) (risen : Type 0) (C : CrewSta
 told_stopped n entries risen C stopped i w there =
     let s = stopped i w there in
     record { unheard = s.unheard; said = s.said; framed = s.framed; whole = elim s.whole [ inl said ↦ inl said | inr why ↦ inr (elim why [ inl held ↦ inl (later_none (last_write w.link entries) ∙ held) | inr risen ↦ inr risen ]) ] }
-
-heads : {X : Type 0} {x y : X} {xs ys : List X} → x ∷ xs ≡ y ∷ ys → (x ≡ y) × (xs ≡ ys)
-heads e = (cc, cc)
 
 told_restless : (n : ℕ) (entries : List LogEntry) → IsRestless entries → IsRestless (Told n ∷ entries)
 told_restless n entries restless [] after is = apart (heads is).0

@@ -18,8 +18,8 @@ use Rattle.mk_run_laws.specs.Handshake.{sim_link}
 use Rattle.mk_run_laws.specs.Crews.{CrewState, AreStopped, IsRestless}
 use Rattle.mk_run_laws.specs.Rests.{AllSetUp, IsWellInSetup, run_messages}
 use Rattle.mk_run_laws.specs.Runs.{IsLinkOfRun}
-use Rattle.mk_run_laws.proofs.Ending.{link_ended, all_given, rest_held}
-use Rattle.mk_run_laws.proofs.Stepping.{first_or_second, not_empty}
+use Rattle.mk_run_laws.proofs.Ending.{link_ended}
+use Rattle.mk_run_laws.proofs.Stepping.{first_or_second}
 use Rattle.mk_run_links.specs.Entries.{AreOn, IsClockless, IsNotOfClock, IsRunLink}
 use Rattle.mk_run_links.specs.Places.{IsLineLink}
 use Rattle.mk_run_links.proofs.OnEntries.{on_no_clock, on_or_clock, on_run, or_clock_more}

@@ -15,9 +15,11 @@ use Rattle.mk_run_laws.specs.Running.{SetupReplies}
 use Rattle.mk_run_links.specs.Entries.{AreOn}
 use Rattle.mk_run_links.specs.Places.{AreOpen, IsLineLink}
 use Rattle.mk_run_crew.specs.Seen.{CrewSeen, crew_of}
+use Rattle.mk_run.specs.inner.Handshakes.{Start}
 use Rattle.mk_run.specs.inner.Underway.{Setting, reply_in}
 use Rattle.mk_run.specs.inner.Turns.{AreLinksOpen}
 use Rattle.mk_run.proofs.Turning.{risen_on, risen_later}
+use Rattle.mk_run.proofs.WholeRuns.{new_core}
 use Rattle.mk_pace_laws.specs.declared.end.Moment.{Moment}
 use Rattle.mk_pace_laws.specs.declared.end.PaceEnd.{PaceEnd}
 use Rattle.mk_pace_laws.specs.Moments.{Tempo}
@@ -25,7 +27,7 @@ use Rattle.mk_pace_laws.specs.Paced.{IsPaced}
 use Rattle.mk_pace_loop.specs.inner.PacedOut.{HasPacedOut}
 use Rattle.mk_pace_loop.specs.inner.Turns.{GoesOn, TurnsAs}
 use Rattle.mk_pace_loop.specs.inner.Waiting.{IsOnTempo, WaitingSeen}
-use Rattle.mk_pace.specs.inner.Going.{GoesOnAs, IsStarted, PlanPacesAs, Start}
+use Rattle.mk_pace.specs.inner.Going.{GoesOnAs, IsStarted, PlanPacesAs}
 use Rattle.mk_pace.proofs.Beginning.{begins, links_at, setting_at}
 use Rattle.mk_pace.proofs.Whole.{whole, whole_replies}
 
@@ -57,10 +59,7 @@ paced_in_parts S T strict P Q J K moments others log before new_faults end q k o
     (subst (λ (Y : List Entry). (P ≡ old) × (r : IsPaced S.started S.scenario (reply_in S) P Y T strict others log before new_faults end) × (r.replies ≡ S.replies)) (sym k)
     (subst (λ (Z : List Moment). (P ≡ old) × (r : IsPaced S.started S.scenario (reply_in S) P J T strict Z log before new_faults end) × (r.replies ≡ S.replies)) (sym o) t))
 
--- a core that is new, and nothing that waits
-abbrev pub new_core : Plan → CoreState
-new_core P = record { plan = P; entries = []; ended = None }
-
+-- nothing waits yet
 abbrev pub new_waiting : Plan → ℕ → ℕ → Option ℕ → WaitingSeen
 new_waiting P origin factor strict = record { holds = replicate (sim_count P) []; moments = []; tempo = record { origin = origin; factor = factor }; strict = strict }
 

@@ -17,13 +17,14 @@ ghost use Rattle.mk_setup.specs.Ranked.{AreRanksOf};
 ghost use Rattle.mk_run_local.specs.Seen.{AreOf};
 ghost use Rattle.mk_run_crew.specs.Seen.{crew_of, within_of};
 ghost use Rattle.mk_run_crew.specs.Started.{StartsLinks};
+ghost use Rattle.mk_run.specs.inner.Handshakes.{Start};
 ghost use Rattle.mk_run.specs.inner.Underway.{Setting};
 ghost use Rattle.mk_run.specs.inner.Turns.{AreLinksOpen};
 ghost use Rattle.mk_pace_laws.specs.declared.end.PaceEnd.TheVariants as pace;
 ghost use Rattle.mk_pace_laws.specs.Clocks.{IsRising};
 ghost use Rattle.mk_pace_laws.specs.Paced.{EndsAtStart, PacesAs};
 ghost use Rattle.mk_pace_loop.specs.inner.Turns.{GoesOn};
-ghost use Rattle.mk_pace.specs.inner.Going.{AddsRising, GoesOnAs, IsStarted, PlanPacesAs, Start};
+ghost use Rattle.mk_pace.specs.inner.Going.{AddsRising, GoesOnAs, IsStarted, PlanPacesAs};
 
 use mk_base::{List, Mem};
 use mk_local::Registry;

@@ -1,5 +1,5 @@
 -- Every paced run is right.
-use Rattle.std.proofs.Common.{◌≡◌, ap, subst}
+use Rattle.std.proofs.Common.{◌≡◌, subst}
 use Rattle.mk_plan.specs.Ready.{IsDone}
 use Rattle.mk_plan.specs.Journals.{view}
 use Rattle.mk_order.proofs.Headlines.{orderly_agrees, orderly_finished}

@@ -1,25 +1,20 @@
 -- That no Step is said before its moment, entry by entry and item by item.
-use Rattle.std.proofs.Common.{◌≡◌, ◌⊎◌, inl, inr, ℕ, ℤ, List, [], ◌∷◌, ◌++◌, refl, sym, ap, ◌∙◌, subst, append_assoc}
+use Rattle.std.proofs.Common.{◌≡◌, ◌⊎◌, inl, inr, ℕ, List, [], ◌∷◌, ◌++◌, refl, sym, ap, ◌∙◌, subst, append_assoc}
 use Rattle.mk_base.specs.Lists.{BeginsWith}
 use Rattle.mk_base.specs.declared.LinkNo.{LinkNo}
-use Rattle.mk_base.specs.declared.tier.Tier.{Tier}
 use Rattle.mk_base.proofs.Lists.{in_front}
-use Rattle.mk_plan.specs.declared.Input.{Input}
 use Rattle.mk_plan.specs.declared.Item.{Item}
 use Rattle.mk_plan.specs.declared.Item.TheVariants.{Step}
 use Rattle.mk_scenario.specs.declared.parts.Scenario.{Scenario}
 use Rattle.mk_outside.specs.declared.fleet.LogEntry.{LogEntry}
 use Rattle.mk_outside.specs.declared.fleet.LogEntry.TheVariants.{Told}
 use Rattle.mk_outside.specs.Logs.{said_on}
+use Rattle.mk_sched.proofs.Pushed.{heads, last_or_before}
 use Rattle.mk_run_laws.specs.Rests.{all_frames}
 use Rattle.mk_run_laws.proofs.Moving.{said_more}
-use Rattle.mk_run_laws.proofs.Stepping.{not_empty}
 use Rattle.mk_pace_laws.specs.Clocks.{HasTold}
 use Rattle.mk_pace_laws.specs.Moments.{Tempo, moment_at}
 use Rattle.mk_pace_laws.specs.Naps.{AreTold, IsTimely}
-
-heads : {X : Type 0} {x y : X} {xs ys : List X} → x ∷ xs ≡ y ∷ ys → (x ≡ y) × (xs ≡ ys)
-heads e = (cc, cc)
 
 -- a beginning of two logs is one of the first, or the first and a beginning of the second
 front_of : (a b before after : List LogEntry) → a ++ b ≡ before ++ after → ((less : List LogEntry) × (a ≡ before ++ less)) ⊎ ((less : List LogEntry) × (before ≡ a ++ less))
@@ -33,16 +28,6 @@ front_of (e ∷ a) b (f ∷ before) after is = elim (front_of a b before after (
 -- what was told before counts
 pub told_on : (moment : ℕ) (a b : List LogEntry) → HasTold moment a → HasTold moment (a ++ b)
 told_on moment a b t = (t.0, in_front (Told t.0) a b t.1, t.2)
-
--- an item of a longer list is its last, or one of the shorter
-last_or_before : (items : List Item) (item : Item) (first : List Item) (d : Item) (later : List Item) → items ++ item ∷ [] ≡ first ++ d ∷ later → ((items ≡ first) × (item ≡ d)) ⊎ ((less : List Item) × (items ≡ first ++ d ∷ less))
-last_or_before [] item [] d later q = inl (refl, (heads q).0)
-last_or_before [] item (f ∷ first) d later q = absurd (not_empty first later d (heads q).1)
-last_or_before (j ∷ items) item [] d later q = inr (items, ap (λ (x : Item). x ∷ items) (heads q).0)
-last_or_before (j ∷ items) item (f ∷ first) d later q = elim (last_or_before items item first d later (heads q).1) [
-  | inl t ↦ inl ((λ i. (heads q).0 i ∷ t.0 i), t.1)
-  | inr t ↦ inr (t.0, (λ i. (heads q).0 i ∷ t.1 i))
-]
 
 -- more is told or said, while the moment of each Step that was queued has been told
 pub timely_more : (T : Tempo) (S : Scenario) (i : ℕ) (l : LinkNo) (items : List Item) (log entries : List LogEntry) → AreTold T log items → IsTimely T S i l items log → IsTimely T S i l items (log ++ entries)

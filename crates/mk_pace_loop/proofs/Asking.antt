@@ -27,7 +27,8 @@ use Rattle.mk_run.specs.inner.Sendings.{EndsWithItem}
 use Rattle.mk_run.specs.inner.Underway.{Setting, reply_in}
 use Rattle.mk_run.proofs.Linked.{sent_away, sent_here}
 use Rattle.mk_run.proofs.LoopSteps.{asked_opens, asked_ready}
-use Rattle.mk_run.proofs.Pushed.{fault_after_sent, got_sent, kinds_sent, patient_sent, range_sent, sent_front}
+use Rattle.mk_sched.proofs.Pushed.{fault_after_sent, patient_sent}
+use Rattle.mk_run.proofs.Pushed.{got_sent, kinds_sent, range_sent, sent_front}
 use Rattle.mk_run.proofs.Times.{ready_time}
 use Rattle.mk_pace_held.specs.declared.held.Held.{Held}
 use Rattle.mk_pace_held.specs.Firsts.{IsChanged}

@@ -11,20 +11,20 @@ use Rattle.mk_plan.specs.Plans.{sim_count}
 use Rattle.mk_outside.specs.declared.fleet.LogEntry.{LogEntry}
 use Rattle.mk_local.specs.Simulators.{Simulator}
 use Rattle.mk_sched.specs.declared.faults.CoreFault.{CoreFault}
-use Rattle.mk_sched.specs.declared.faults.CoreFault.TheVariants.{TooLong}
 use Rattle.mk_sched.specs.Cores.{CoreState}
 use Rattle.mk_sched.specs.Answers as sched
-use Rattle.mk_sched.specs.Answers.{IsOutOfMemory, IsOver, WasFaulty, fault_in}
+use Rattle.mk_sched.specs.Answers.{IsOutOfMemory, IsOver, WasFaulty}
 use Rattle.mk_run_laws.specs.Crews.{CrewState}
 use Rattle.mk_run_laws.specs.Handshake.{is_within, sim_link}
 use Rattle.mk_run_laws.specs.Payloads.{takes_id}
 use Rattle.mk_run_crew.specs.Seen.{CrewSeen, crew_of}
 use Rattle.mk_run.specs.declared.outcome.Outcome.{Outcome}
 use Rattle.mk_run.specs.declared.outcome.Outcome.TheVariants as outcome
-use Rattle.mk_run.specs.Ends.{IsAwaiting, QueuedAll, fault_named}
+use Rattle.mk_run.specs.Ends.{IsAwaiting, fault_named}
 use Rattle.mk_run.specs.inner.Turns.{Waits}
 use Rattle.mk_run.specs.inner.Underway.{Setting}
 use Rattle.mk_run.proofs.Linked.{linked_outside, within_below}
+use Rattle.mk_run.proofs.Endings.{limit_unnamed, queued_itself as all_queued}
 use Rattle.mk_pace_held.specs.declared.held.Held.{Held}
 use Rattle.mk_pace_laws.specs.declared.end.Moment.{Moment}
 use Rattle.mk_pace_laws.specs.declared.end.PaceEnd.{PaceEnd}
@@ -38,24 +38,9 @@ use Rattle.mk_pace_loop.specs.inner.Turns.{GoesOn, IsStopping}
 use Rattle.mk_pace_loop.specs.inner.Waiting.{WaitingSeen}
 
 -- all is queued of what was queued
-all_queued : (end : Outcome) (items : List Item) → QueuedAll end items items
-all_queued outcome.Done items = refl
-all_queued (outcome.Setup f) items = refl
-all_queued (outcome.Core f) items = refl
-all_queued outcome.Fleet items = refl
-all_queued (outcome.Gone i) items = refl
-all_queued (outcome.Garbled i n) items = refl
-all_queued (outcome.LongFrame i n) items = refl
-all_queued (outcome.LongItem i n) items = tt
-all_queued outcome.Mem items = tt
-
 pub queued_itself : (end : PaceEnd) (items : List Item) → QueuedOut end items items
 queued_itself (pace.Outcome end) items = all_queued end items
 queued_itself (pace.Late sim time late allowed) items = refl
-
--- the limit of entries names no fault of a journal
-pub limit_unnamed : (f : CoreFault) (n : ℕ) → f ≡ TooLong n → None ≡ fault_named (outcome.Core f)
-limit_unnamed f n is = sym (ap fault_in is)
 
 -- what is held begins with a Step, and so does what waits
 pub waits_by_step : (P : Plan) (T : Tempo) (J : List Entry) (s : ℕ) (before : List Item) (held : List Held) (items : List Item) → AreHeldItems P T J s before held items → BeginsWithStep held → WaitsByStep items

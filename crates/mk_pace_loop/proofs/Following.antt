@@ -14,6 +14,7 @@ use Rattle.mk_plan.specs.Report.{is_step}
 use Rattle.mk_message.specs.Written.{item_text}
 use Rattle.mk_frame.specs.Frames.{limit}
 use Rattle.mk_outside.specs.declared.fleet.LogEntry.{LogEntry}
+use Rattle.mk_sched.proofs.Pushed.{heads, not_empty}
 use Rattle.mk_run_laws.specs.Handshake.{is_within}
 use Rattle.mk_run_laws.specs.Lines.{Line}
 use Rattle.mk_run_laws.specs.Payloads.{id_after, takes_id}
@@ -55,18 +56,8 @@ no_step T (Answer id content) due is none = refl
 no_step T (Refuse id reason) due is none = refl
 
 none_told : (T : Tempo) (log : List LogEntry) (item : Item) → is_step item ≡ false → AreTold T log (item ∷ [])
-none_told T log item late [] later x inputs advance parts = absurd (true≢false (ap is_step (sym (first parts)) ∙ late))
-  where
-    first : {a b : Item} {c d : List Item} → a ∷ c ≡ b ∷ d → a ≡ b
-    first e = cc
-none_told T log item late (d ∷ first) later x inputs advance parts = absurd (no_more first (tail parts))
-  where
-    tail : {a b : Item} {c d : List Item} → a ∷ c ≡ b ∷ d → c ≡ d
-    tail e = cc
-
-    no_more : (l : List Item) → [] ≡ l ++ Step x inputs advance ∷ later → ⊥
-    no_more [] e = cc
-    no_more (d ∷ l) e = cc
+none_told T log item late [] later x inputs advance parts = absurd (true≢false (ap is_step (sym (heads parts).0) ∙ late))
+none_told T log item late (d ∷ first) later x inputs advance parts = absurd (not_empty first later (Step x inputs advance) (heads parts).1)
 
 pub steps_pushed : (queued : List Item) (item : Item) → is_step item ≡ false → length (filter is_step (queued ++ item ∷ [])) ≡ length (filter is_step queued)
 steps_pushed queued item late = ap (λ (l : List Item). length l) (filter_append is_step queued (item ∷ []) ∙ ap (λ (b : Bool). filter is_step queued ++ (if b then item ∷ [] else [])) late ∙ append_nil (filter is_step queued))

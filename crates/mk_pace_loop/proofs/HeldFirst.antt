@@ -11,6 +11,7 @@ use Rattle.mk_plan.specs.declared.Plan.{Plan}
 use Rattle.mk_plan.specs.Journals.{sent}
 use Rattle.mk_outside.specs.declared.fleet.LogEntry.{LogEntry}
 use Rattle.mk_local.specs.Simulators.{Simulator}
+use Rattle.mk_sched.proofs.Pushed.{heads}
 use Rattle.mk_run_laws.specs.Crews.{CrewState}
 use Rattle.mk_run_laws.proofs.Stepping.{same_or_not}
 use Rattle.mk_run.specs.inner.Underway.{Setting}
@@ -75,10 +76,7 @@ pub first_taken : (f : First) (holds : List (List Held)) (h : Held) (q : List He
 first_taken f holds h q first there =
     let t = first_parts f.sim first.items f first.here in
     let same : h ∷ q ≡ t.held ∷ t.rest = some_same (sym there ∙ first.there) ∙ t.is in
-    ap (λ (g : Held). g.due) (heads same) ∙ t.due
-  where
-    heads : {x y : Held} {xs ys : List Held} → x ∷ xs ≡ y ∷ ys → x ≡ y
-    heads e = cc
+    ap (λ (g : Held). g.due) (heads same).0 ∙ t.due
 
 pub first_some : (f : First) (holds : List (List Held)) → IsFirst f holds → slice_get holds f.sim.0 ≡ Some [] → ⊥
 first_some f holds first there =

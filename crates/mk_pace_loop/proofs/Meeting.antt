@@ -17,7 +17,6 @@ use Rattle.mk_message.specs.Written.{is_in_range}
 use Rattle.mk_local.specs.Simulators.{Simulator}
 use Rattle.mk_sched.specs.Cores.{is_message_in_range}
 use Rattle.mk_sched.specs.Answers.{SomeReady}
-use Rattle.mk_run_laws.specs.Hearing.{Takes}
 use Rattle.mk_run_laws.specs.Handshake.{is_within, sim_link}
 use Rattle.mk_run_laws.specs.Kinds.{IsKindReply, KeepsToKinds, Replies}
 use Rattle.mk_run_laws.specs.Lines.{Line}
@@ -30,9 +29,11 @@ use Rattle.mk_run_links.specs.Entries.{AreOfLinks, IsRunLink}
 use Rattle.mk_run_links.proofs.OnEntries.{no_clock}
 use Rattle.mk_run_local.specs.Calls.{IsFitSuccess}
 use Rattle.mk_run.specs.inner.Underway.{HasNoOther, Setting, reply_in}
-use Rattle.mk_run.proofs.InRange.{read_in_range, same_test, success_in_range}
+use Rattle.mk_run.proofs.InRange.{same_test, success_in_range}
 use Rattle.mk_run.proofs.Linked.{linked_outside, no_other_heard, within_below}
-use Rattle.mk_run.proofs.Pushed.{last_or_before, sent_got}
+use Rattle.mk_sched.proofs.Pushed.{heads, last_or_before}
+use Rattle.mk_run.proofs.Pushed.{sent_got}
+use Rattle.mk_run.proofs.Hearing.{taken_read}
 use Rattle.mk_pace_held.specs.declared.held.Held.{Held}
 use Rattle.mk_pace_laws.specs.declared.end.Moment.{Moment}
 use Rattle.mk_pace_laws.specs.Moments.{AreMoments, Tempo}
@@ -59,19 +60,8 @@ given_away s m i apart = ap (λ (b : Bool). if b then m ∷ [] else []) (apart_i
 not_nil : {X : Type 0} {x : X} {xs : List X} → x ∷ xs ≡ [] → ⊥
 not_nil e = cc
 
-heads : {X : Type 0} {x y : X} {xs ys : List X} → x ∷ xs ≡ y ∷ ys → (x ≡ y) × (xs ≡ ys)
-heads e = (cc, cc)
-
 same_lines : (i : ℕ) (C D : CrewState) → D.lines ≡ C.lines → line_at D i ≡ line_at C i
 same_lines i C D e = ap (λ (l : List (Option Line)). line_at (record { lines = l; kept = [] }) i) e
-
--- the one message that was taken off a line was read from a payload
-taken_read : (held : List ℕ) (ms : List Message) (left : List ℕ) (m : Message) → Takes held ms left → ms ≡ m ∷ [] → is_in_range m ≡ true
-taken_read held ms left m (Takes.none _) e = absurd (apart e)
-  where
-    apart : [] ≡ m ∷ [] → ⊥
-    apart e = cc
-taken_read held ms left m (Takes.more _ payload rest _ n ns begins read takes) e = subst (λ (x : Message). is_in_range x ≡ true) (heads e).0 (read_in_range payload n read)
 
 -- one more message, which is its kind's
 kinds_got : (reply : Replies) (within : ℕ → Bool) (P : Plan) (J : List Entry) (s : SimNo) (m : Message) → (within s.0 ≡ true → IsKindReply reply P J s.0 m) → KeepsToKinds reply within P J → KeepsToKinds reply within P (J ++ Got s m ∷ [])

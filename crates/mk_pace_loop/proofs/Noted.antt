@@ -11,6 +11,7 @@ use Rattle.mk_plan.specs.Journals.{sent}
 use Rattle.mk_plan.specs.Report.{is_step}
 use Rattle.mk_outside.specs.declared.fleet.LogEntry.{LogEntry}
 use Rattle.mk_outside.specs.declared.fleet.LogEntry.TheVariants.{Told}
+use Rattle.mk_sched.proofs.Pushed.{heads}
 use Rattle.mk_run_laws.proofs.Stepping.{apart_is, same_is, same_or_not}
 use Rattle.mk_pace_laws.specs.declared.end.Moment.{Moment}
 use Rattle.mk_pace_laws.specs.Clocks.{last_told}
@@ -32,9 +33,6 @@ same_front (x ∷ a) b (z ∷ c) d e long =
     let t = same_front a b c d (heads e).1 (omega (arith, long)) in
     let first : x ≡ z = (heads e).0 in
     ((λ i. first i ∷ t.0 i), t.1)
-  where
-    heads : {Y : Type 0} {y z : Y} {ys zs : List Y} → y ∷ ys ≡ z ∷ zs → (y ≡ z) × (ys ≡ zs)
-    heads e = (cc, cc)
 
 -- each Step has one time
 step_times : (items : List Item) → length (filter_map step_time items) ≡ length (filter is_step items)

@@ -32,7 +32,7 @@ use Rattle.mk_run.specs.inner.Sendings.{CanTake}
 use Rattle.mk_run.specs.inner.Underway.{Setting, local_at, put, reply_in}
 use Rattle.mk_run.proofs.Going.{bool_or_not, here_is_within}
 use Rattle.mk_run.proofs.Linked.{linked_outside}
-use Rattle.mk_run.proofs.ItemSent.{come_sent, kept_so, no_other_after, not_here_is_outside, only_sent}
+use Rattle.mk_run.proofs.ItemSent.{come_sent, kept_so, no_other_after, not_here_is_outside, only_sent, some_here}
 use Rattle.mk_run.proofs.Putting.{put_away, put_here}
 use Rattle.mk_pace_held.specs.declared.held.Held.{Held}
 use Rattle.mk_pace_held.specs.Firsts.{IsChanged}
@@ -62,9 +62,6 @@ one_alone : (P : Plan) (J : List Entry) (s : ℕ) (item : Item) (rest : List Ite
 one_alone P J s item [] one = (refl, one.0, one.1)
 one_alone P J s item (other ∷ more) one = absurd one
 
-some_there : {X : Type 0} (o : Option X) (x : X) → o ≡ Some x → is_some o ≡ true
-some_there o x e = ap (λ (p : Option _). is_some p) e
-
 module _ (S : Setting) (T : Tempo) (strict : Option ℕ) (P : Plan) (J : List Entry) (log : List LogEntry) (C : CrewSeen) (holds : List (List Held)) (moments : List Moment) (s : ℕ) (low : s < sim_count P) (h : Held) (q : List Held) (item : Item) (rest : List Item)
     (p : IsPacingBut s S T strict P J log (crew_of C) C.sims holds moments) (f : IsFront P T J s (p.queued s) (p.holding s low).waiting h q item rest) where
   numbered : takes_id item ≡ true → h.id ≡ id_after (setup_count S.scenario s) (p.queued s)
@@ -78,7 +75,7 @@ module _ (S : Setting) (T : Tempo) (strict : Option ℕ) (P : Plan) (J : List En
   inside_here here = here_is_within S C.sims s p.only_within here
 
   here_inside : is_within S.scenario s ≡ true → is_here C s ≡ true
-  here_inside inside = let t = p.come s inside in some_there (local_at C.sims s) t.0 t.1
+  here_inside inside = let t = p.come s inside in some_here (local_at C.sims s) t.0 t.1
 
   away_outside : is_within S.scenario s ≡ false → is_here C s ≡ false
   away_outside outside = ap (λ (o : Option Simulator). is_some o) (p.only_within s outside)

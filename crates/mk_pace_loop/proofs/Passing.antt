@@ -15,6 +15,7 @@ use Rattle.mk_scenario.specs.declared.parts.Scenario.{Scenario}
 use Rattle.mk_outside.specs.declared.fleet.LogEntry.{LogEntry}
 use Rattle.mk_outside.specs.declared.fleet.LogEntry.TheVariants.{NotHeard, Rest, Told, Nap}
 use Rattle.mk_outside.specs.Logs.{last_read}
+use Rattle.mk_sched.proofs.Pushed.{heads}
 use Rattle.mk_local.specs.Simulators.{Simulator}
 use Rattle.mk_run_laws.specs.Crews.{CrewState, AreMoved, IsMovedAt, IsRestless, IsUnheard, kept_of, line_at}
 use Rattle.mk_run_laws.specs.Handshake.{has_link, sim_link}
@@ -39,9 +40,6 @@ use Rattle.mk_pace_laws.proofs.Ordering.{in_order_later}
 use Rattle.mk_pace_laws.proofs.Timely.{timely_more, told_later}
 
 -- ---- entries
-
-heads : {X : Type 0} {x y : X} {xs ys : List X} → x ∷ xs ≡ y ∷ ys → (x ≡ y) × (xs ≡ ys)
-heads e = (cc, cc)
 
 -- one entry has no other among it
 alone : (e r : LogEntry) (less after : List LogEntry) → (e ≡ r → ⊥) → e ∷ [] ≡ less ++ r ∷ after → ⊥

@@ -7,13 +7,11 @@ use Rattle.mk_outside.specs.declared.fleet.LogEntry.TheVariants.{Nap, Told}
 use Rattle.mk_outside.specs.declared.paced.Now.TheVariants as now
 use Rattle.mk_outside.specs.Fleets.{IsTold}
 use Rattle.mk_outside.specs.Logs.{Adds, greatest_told, told_by}
+use Rattle.mk_sched.proofs.Pushed.{heads}
 use Rattle.mk_run_laws.proofs.Stepping.{first_or_second, not_empty}
 use Rattle.mk_run_links.specs.Entries.{IsClockless, IsNotOfClock}
 use Rattle.mk_pace_laws.specs.Clocks.{IsRising}
 use Rattle.mk_pace_loop.specs.inner.Turns.{RisesOn}
-
-heads : {X : Type 0} {x y : X} {xs ys : List X} → x ∷ xs ≡ y ∷ ys → (x ≡ y) × (xs ≡ ys)
-heads e = (cc, cc)
 
 -- one log, and then another
 pub rises_none : (log : Option (List LogEntry)) → RisesOn log log

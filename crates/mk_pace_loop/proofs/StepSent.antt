@@ -17,6 +17,7 @@ use Rattle.mk_plan.specs.Report.{is_step}
 use Rattle.mk_outside.specs.declared.fleet.LogEntry.{LogEntry}
 use Rattle.mk_outside.specs.declared.fleet.LogEntry.TheVariants.{Told}
 use Rattle.mk_outside.specs.Logs.{told_by}
+use Rattle.mk_sched.proofs.Pushed.{heads, not_empty}
 use Rattle.mk_run_laws.proofs.Moving.{last_later}
 use Rattle.mk_run_laws.proofs.Stepping.{same_or_not}
 use Rattle.mk_run_local.specs.Laws.{RepliesAreKinds}
@@ -212,18 +213,8 @@ module _ (S : Setting) (T : Tempo) (strict : Option ℕ) (P : Plan) (J : List En
           step_of a b i j m n e = cc
 
           time_same : (l : List Item) → taken.0 ∷ [] ≡ l ++ Step x inputs advance ∷ later → f.due.at.time ≡ x.time
-          time_same [] e = ap (λ (a : Tier). a.time) (step_of f.due.at x taken_step.inputs inputs taken_step.advance advance (sym taken_step.item_is ∙ heads e))
-            where
-              heads : {a b : Item} {c d : List Item} → a ∷ c ≡ b ∷ d → a ≡ b
-              heads e = cc
-          time_same (d ∷ l) e = absurd (no_more l (tails e))
-            where
-              tails : {a b : Item} {c d : List Item} → a ∷ c ≡ b ∷ d → c ≡ d
-              tails e = cc
-
-              no_more : (l : List Item) → [] ≡ l ++ Step x inputs advance ∷ later → ⊥
-              no_more [] e = cc
-              no_more (d ∷ l) e = cc
+          time_same [] e = ap (λ (a : Tier). a.time) (step_of f.due.at x taken_step.inputs inputs taken_step.advance advance (sym taken_step.item_is ∙ (heads e).0))
+          time_same (d ∷ l) e = absurd (not_empty l later (Step x inputs advance) (heads e).1)
 
       taken_at : IsItemAt J h.place taken.0
       taken_at = (taken.2.is.sim, taken.2.is.there)

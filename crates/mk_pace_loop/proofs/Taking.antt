@@ -25,7 +25,8 @@ use Rattle.mk_run_local.specs.Calls.{IsFitSuccess}
 use Rattle.mk_run.specs.inner.Underway.{Setting, reply_in}
 use Rattle.mk_run.proofs.Linked.{sent_away, sent_here}
 use Rattle.mk_run.proofs.LoopSteps.{owed_after}
-use Rattle.mk_run.proofs.Pushed.{fault_after_sent, got_sent, kinds_sent, patient_got, patient_sent, range_got, range_sent, sent_front, sent_got}
+use Rattle.mk_sched.proofs.Pushed.{fault_after_sent, patient_got, patient_sent}
+use Rattle.mk_run.proofs.Pushed.{got_sent, kinds_sent, range_got, range_sent, sent_front, sent_got}
 use Rattle.mk_pace_held.specs.declared.held.Held.{Held}
 use Rattle.mk_pace_held.specs.Firsts.{IsChanged}
 use Rattle.mk_pace_laws.specs.declared.end.Moment.{Moment}

@@ -33,6 +33,7 @@ use Rattle.mk_run.specs.declared.outcome.Outcome.TheVariants as outcome
 use Rattle.mk_run.specs.Outcomes.{outcome_of}
 use Rattle.mk_run.specs.inner.Turns.{AreLinksOpen, IsStill, Waits}
 use Rattle.mk_run.specs.inner.Underway.{Setting}
+use Rattle.mk_run.proofs.Shown.{ends_as}
 use Rattle.mk_pace_held.specs.declared.held.Due.{Due}
 use Rattle.mk_pace_held.specs.declared.held.First.{First}
 use Rattle.mk_pace_held.specs.declared.held.Held.{Held}
@@ -69,15 +70,7 @@ still_same C = record { places = refl; kinds = λ rows known. known }
 -- ---- an end stays, whatever rises besides
 
 ends_outcome : (some all : Type 0) (S : Setting) (P : Plan) (J : List Entry) (log : List LogEntry) (C : CrewSeen) → (some → all) → (e : Outcome) → EndsOutcome some S P J log (crew_of C) e → EndsOutcome all S P J log (crew_of C) e
-ends_outcome some all S P J log C more outcome.Done is = is
-ends_outcome some all S P J log C more (outcome.Setup f) is = is
-ends_outcome some all S P J log C more (outcome.Core f) is = is
-ends_outcome some all S P J log C more outcome.Fleet is = more is
-ends_outcome some all S P J log C more (outcome.Gone i) is = is
-ends_outcome some all S P J log C more (outcome.Garbled i n) is = is
-ends_outcome some all S P J log C more (outcome.LongFrame i n) is = is
-ends_outcome some all S P J log C more (outcome.LongItem i n) is = is
-ends_outcome some all S P J log C more outcome.Mem is = is
+ends_outcome some all S P J log C more = ends_as some all _ _ _ _ _ _ _ _ more
 
 ends_pace : (some all : Type 0) (S : Setting) (core : CoreState) (log : List LogEntry) (C : CrewSeen) (W : WaitingSeen) → (some → all) → (e : PaceEnd) → EndsPace some S core.plan W.tempo W.strict core.entries W.moments log (crew_of C) e
     → EndsPace all S core.plan W.tempo W.strict core.entries W.moments log (crew_of C) e

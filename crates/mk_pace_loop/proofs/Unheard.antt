@@ -1,12 +1,12 @@
 -- Nothing was heard, and the run ends.
-use Rattle.std.proofs.Common.{◌≡◌, inl, inr, ℕ, Bool, true, false, List, [], ◌∷◌, ◌++◌, Option, Some, None, refl, sym, ap, ◌∙◌, subst, if◌then◌else◌}
+use Rattle.std.proofs.Common.{◌≡◌, ℕ, List, ◌++◌, Option, Some, None, refl, sym, ap, ◌∙◌, subst}
 use Rattle.mk_base.specs.declared.LinkNo.{LinkNo}
 use Rattle.mk_base.specs.Lists.{IsIn}
-use Rattle.mk_base.proofs.Lists.{in_back, none_some, some_same}
+use Rattle.mk_base.proofs.Lists.{in_back, some_same}
 use Rattle.mk_frame.specs.Frames.{IsTooLong}
 use Rattle.mk_outside.specs.declared.fleet.LogEntry.{LogEntry}
 use Rattle.mk_outside.specs.declared.fleet.LogEntry.TheVariants.{Ended}
-use Rattle.mk_outside.specs.Logs.{is_read, last_that, later_of}
+use Rattle.mk_outside.specs.Logs.{is_read}
 use Rattle.mk_session.specs.Fronts.{BeginsGarbled}
 use Rattle.mk_local.specs.Simulators.{Simulator}
 use Rattle.mk_sched.specs.Cores.{CoreState}
@@ -23,10 +23,10 @@ use Rattle.mk_run_crew.specs.declared.halt.Halt.{Halt}
 use Rattle.mk_run_crew.specs.declared.halt.Halt.TheVariants as halt
 use Rattle.mk_run_crew.specs.Calls.{HearsNothing, halt_of}
 use Rattle.mk_run_crew.specs.Seen.{CrewSeen, crew_of}
-use Rattle.mk_run.specs.Ends.{fault_named}
 use Rattle.mk_run.specs.Outcomes.{outcome_of}
 use Rattle.mk_run.specs.inner.Turns.{Waits}
 use Rattle.mk_run.specs.inner.Underway.{Setting}
+use Rattle.mk_run.proofs.Endings.{last_is_in, none_named}
 use Rattle.mk_pace_laws.specs.declared.end.PaceEnd.TheVariants as pace
 use Rattle.mk_pace_loop.specs.inner.PacedOut.{EndsOutcome, HasGivenPaced}
 use Rattle.mk_pace_loop.specs.inner.Pacing.{IsPacing}
@@ -34,26 +34,6 @@ use Rattle.mk_pace_loop.specs.inner.Turns.{GoesOn, IsStopping}
 use Rattle.mk_pace_loop.specs.inner.Waiting.{WaitingSeen}
 use Rattle.mk_pace_loop.proofs.Ending.{ends_here}
 use Rattle.mk_pace_loop.proofs.Passing.{looks_around}
-
--- the last entry that passes is one of them
-last_is_in : (test : LogEntry → Bool) (entries : List LogEntry) (e : LogEntry) → last_that test entries ≡ Some e → IsIn e entries
-last_is_in test [] e is = absurd (none_some is)
-last_is_in test (x ∷ entries) e is = go (λ q. last_is_in test entries e q) (last_that test entries) refl (test x) is
-  where
-    go : (last_that test entries ≡ Some e → IsIn e entries) → (o : Option LogEntry) → last_that test entries ≡ o → (b : Bool) → later_of (if b then Some x else None) o ≡ Some e → IsIn e (x ∷ entries)
-    go further (Some y) there b q = inr (further (there ∙ q))
-    go further None there true q = inl (sym (some_same q))
-    go further None there false q = absurd (none_some q)
-
--- a halt of the crew names no fault of a journal
-none_named : (h : Halt) → None ≡ fault_named (outcome_of h)
-none_named (halt.Setup f) = refl
-none_named halt.Fleet = refl
-none_named (halt.Gone i) = refl
-none_named (halt.Garbled i n) = refl
-none_named (halt.LongFrame i n) = refl
-none_named (halt.LongItem i n) = refl
-none_named halt.Mem = refl
 
 module _ (S : Setting) (core : CoreState) (log entries : List LogEntry) (C D : CrewSeen) (W : WaitingSeen) (risen : Type 0) (p : GoesOn S core log C W) (waits : Waits core) (sims : D.sims ≡ C.sims) where
   -- nothing came by these entries
@@ -89,5 +69,5 @@ module _ (S : Setting) (core : CoreState) (log entries : List LogEntry) (C D : C
 
     pub unheard_ends : (h : Halt) → HearsNothing h entries C D → (h ≡ halt.Fleet → risen) → IsStopping risen S core (log ++ entries) D W (pace.Outcome (outcome_of h))
     unheard_ends h un cause = subst (λ (k : Halt). IsStopping risen S core (log ++ entries) D W (pace.Outcome (outcome_of k))) (sym un.is)
-        (ends_here S W.tempo W.strict core.plan core.entries (log ++ entries) (crew_of D) D.sims W.holds W.moments q risen (pace.Outcome (outcome_of (halt_of un.why))) (none_named (halt_of un.why))
+        (ends_here S W.tempo W.strict core.plan core.entries (log ++ entries) (crew_of D) D.sims W.holds W.moments q risen (pace.Outcome (outcome_of (halt_of un.why))) (sym (none_named (halt_of un.why)))
         (by_link un.why (λ e. cause (un.is ∙ ap halt_of e)) un.shown) (λ broken. (waits.1, waits.0)))

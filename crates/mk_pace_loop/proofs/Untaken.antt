@@ -26,8 +26,10 @@ use Rattle.mk_run_crew.specs.Seen.{CrewSeen, crew_of}
 use Rattle.mk_run.specs.declared.outcome.Outcome.{Outcome}
 use Rattle.mk_run.specs.declared.outcome.Outcome.TheVariants as outcome
 use Rattle.mk_run.specs.Ends.{AreInRange, IsAwaiting, IsBrokenOff, IsOpenWithin, fault_named}
-use Rattle.mk_run.specs.inner.Underway.{IsPatient, Setting, reply_in}
-use Rattle.mk_run.proofs.Pushed.{got_front, patient_got, range_got, sent_got}
+use Rattle.mk_sched.specs.inner.Patient.{IsPatient}
+use Rattle.mk_run.specs.inner.Underway.{Setting, reply_in}
+use Rattle.mk_sched.proofs.Pushed.{patient_got}
+use Rattle.mk_run.proofs.Pushed.{got_front, range_got, sent_got}
 use Rattle.mk_pace_laws.specs.declared.end.PaceEnd.TheVariants as pace
 use Rattle.mk_pace_laws.specs.Ends.{QueuedOut}
 use Rattle.mk_pace_laws.specs.Moments.{AreMoments, before_step, moments_of, sent_out}
@@ -36,7 +38,8 @@ use Rattle.mk_pace_loop.specs.inner.PacedOut.{EndsOutcome, HasPacedOut, IsAheadP
 use Rattle.mk_pace_loop.specs.inner.Pacing.{IsPacing}
 use Rattle.mk_pace_loop.specs.inner.Turns.{IsPast, IsStopping}
 use Rattle.mk_pace_loop.specs.inner.Waiting.{WaitingSeen}
-use Rattle.mk_pace_loop.proofs.Ending.{limit_unnamed, linked_low, queued_itself, sent_is, within_low}
+use Rattle.mk_run.proofs.Endings.{limit_unnamed}
+use Rattle.mk_pace_loop.proofs.Ending.{linked_low, queued_itself, sent_is, within_low}
 use Rattle.mk_pace_loop.proofs.Meeting.{got_given, given_here, met_fits, met_kinds, met_lines, met_looks, met_moments, met_naps, met_naps_before, met_no_other, met_replied, met_timely, met_told, taken_kept}
 use Rattle.mk_pace_loop.proofs.Passing.{moments_later, on_later, origin_later, setup_later}
 

@@ -265,8 +265,7 @@ fn turn<F: Paced>(
 }
 
 /// Goes on until the first end: what is due is sent, and no Step before its moment; where nothing
-/// comes, the fleet sleeps, 5
-/// milliseconds at most. The clock doesn't go back.
+/// comes, the fleet sleeps, 5 milliseconds at most. The clock doesn't go back.
 pub fn drive<F: Paced, R: Wait>(
     rt: &R,
     core: &mut Core,

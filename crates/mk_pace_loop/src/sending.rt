@@ -205,9 +205,9 @@ fn send_first(
     }
 }
 
-/// Sends the Steps whose moments aren't later than this reading of the clock, in the order of their
-/// moments and then of asking, each with what stands right behind it; or finds the first of them
-/// later than is allowed.
+// Sends the Steps whose moments aren't later than this reading of the clock, in the order of their
+// moments and then of asking, each with what stands right behind it; or finds the first of them
+// later than is allowed.
 pub fn send_due(
     core: &Core,
     crew: &mut Crew,

@@ -17,8 +17,8 @@ use std::alloc::Global;
 use std::marker::Model;
 
 /// For each simulator what waits of its items, the moments of the Steps that were sent, and the
-/// tempo: what the clock told at the
-/// begin, how many milliseconds a unit of time has, and how many milliseconds late a Step may be.
+/// tempo: what the clock told at the begin, how many milliseconds a unit of time has, and how many
+/// milliseconds late a Step may be.
 #[derive(Drop)]
 pub struct Waiting {
     holds: Holds,

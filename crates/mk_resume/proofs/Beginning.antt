@@ -14,6 +14,7 @@ use Rattle.mk_sched.specs.Cores.{CoreState}
 use Rattle.mk_run_laws.specs.Lines.{Line}
 use Rattle.mk_run_links.specs.Places.{AreOpen}
 use Rattle.mk_run_crew.specs.Seen.{CrewSeen, crew_of}
+use Rattle.mk_run.specs.inner.Handshakes.{Start}
 use Rattle.mk_run.specs.inner.Underway.{Setting}
 use Rattle.mk_run.specs.inner.Turns.{AreLinksOpen}
 use Rattle.mk_run.proofs.Beginning.{links_open, setting_of}
@@ -22,7 +23,7 @@ use Rattle.mk_resume_loop.specs.declared.ending.ResumeEnd.{ResumeEnd}
 use Rattle.mk_resume_loop.specs.inner.Turns.{IsStopping}
 use Rattle.mk_resume_loop.specs.inner.Underway.{IsResumingWith, saved_of}
 use Rattle.mk_resume_loop.proofs.Beginning.{resuming_begins}
-use Rattle.mk_resume.specs.inner.Going.{IsFresh, IsStarted, Start}
+use Rattle.mk_resume.specs.inner.Going.{IsFresh, IsStarted}
 
 abbrev pub setting_at : (A : Start) (C : CrewSeen) (P : Plan) → IsStarted A C P → Setting
 setting_at A C P s = setting_of A.started A.scenario A.ranks A.rows A.log C P s.begun

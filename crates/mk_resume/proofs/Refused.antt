@@ -31,7 +31,8 @@ use Rattle.mk_run.proofs.LinesStopped.{stopped_by}
 use Rattle.mk_run.proofs.Turning.{risen_on}
 use Rattle.mk_resume_loop.specs.declared.ending.ResumeEnd.{ResumeEnd}
 use Rattle.mk_resume.specs.Resumed.{HasFaultySaved, HasRefused, ResumesAs}
-use Rattle.mk_resume.specs.inner.Going.{GoesOnAs, IsStarted, PlanResumesAs, RefusesAs, Start}
+use Rattle.mk_run.specs.inner.Handshakes.{Start}
+use Rattle.mk_resume.specs.inner.Going.{GoesOnAs, IsStarted, PlanResumesAs, RefusesAs}
 use Rattle.mk_resume.proofs.Beginning.{begins_fresh, setting_at}
 
 module _ (A : Start) (C : CrewSeen) (P : Plan) (s : IsStarted A C P) (stops : List LogEntry) (some risen : Type 0) (rises : some → risen) (stop : AreStopped stops some (crew_of C)) (restless : IsRestless stops) (of_lines : AreOn (IsLineLink C.lines) stops) where

@@ -28,7 +28,6 @@ use Rattle.mk_run.specs.declared.outcome.Outcome.TheVariants as outcome
 use Rattle.mk_run.specs.inner.Underway.{Setting, reply_in}
 use Rattle.mk_run.proofs.LinesStopped.{all_heard, begins_itself, behind_ungot, heard_behind, held_heard, stopped_by}
 use Rattle.mk_run.proofs.Linked.{linked_outside}
-use Rattle.mk_run.proofs.Pushed.{got_last}
 use Rattle.mk_run_links.specs.Entries.{AreOn, IsRunLink}
 use Rattle.mk_run_links.specs.Places.{IsLineLink}
 use Rattle.mk_run_links.proofs.OnEntries.{on_more, on_run}

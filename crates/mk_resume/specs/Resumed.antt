@@ -26,7 +26,7 @@ use Rattle.mk_record_compare.specs.Differences.{IsOther}
 use Rattle.mk_plan_same.specs.Parts.{IsFirstOther}
 use Rattle.mk_record_restored.specs.Restored.{IsRestored, IsFaulted, IsOtherIn}
 use Rattle.mk_sched.specs.declared.faults.CoreFault.{CoreFault}
-use Rattle.mk_sched.specs.Answers.{SomeOpen, SomeReady}
+use Rattle.mk_sched.specs.Answers.{IsLastFaulty, SomeOpen, SomeReady}
 use Rattle.mk_local.specs.declared.turn.Turn.{Turn}
 use Rattle.mk_setup.specs.Handshakes.{IsMade}
 use Rattle.mk_run_laws.specs.Hearing.{messages_heard, rest_heard}
@@ -40,7 +40,7 @@ use Rattle.mk_run_local.specs.Made.{kind_reply_of}
 use Rattle.mk_run_crew.specs.Answers.{AreKindAnswers, answers_to}
 use Rattle.mk_run.specs.declared.outcome.Outcome.{Outcome}
 use Rattle.mk_run.specs.declared.outcome.Outcome.TheVariants as outcome
-use Rattle.mk_run.specs.Ends.{IsLastFaulty, IsUngot, AreInRange, SetupRestsWell}
+use Rattle.mk_run.specs.Ends.{IsUngot, AreInRange, SetupRestsWell}
 use Rattle.mk_run.specs.Ran.{HasNotRun}
 use Rattle.mk_run.specs.Ran as ran
 use Rattle.mk_resume_walk.specs.Talks.{free_items}
@@ -169,8 +169,8 @@ pub record HasResumed (started : ℕ) (S : Scenario) (ranks : List ℕ) (rows : 
 -- the handshake was made, with this plan, and the run went no further: the plan is made of the
 -- answers to all requests, and on each link the first messages that were heard are the answers to
 -- the simulator's requests; there the whole handshake was said and a stop, but where a write took
--- nothing or the count of faults rose, and nothing else; where the fleet rested, not all had set up;
--- and no link but the run's was read or written
+-- nothing or the count of faults rose, and nothing else; where the fleet rested, not all had set
+-- up; and no link but the run's was read or written
 pub record HasRefused (started : ℕ) (S : Scenario) (ranks : List ℕ) (rows : List Turn) (P : Plan)
     (log : List LogEntry) (risen : Type 0) : Type 0 where
   pub answers : List Message

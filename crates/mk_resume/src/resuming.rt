@@ -16,11 +16,12 @@ ghost use Rattle.mk_run_local.specs.Seen.{AreOf};
 ghost use Rattle.mk_run_crew.specs.Seen.{within_of};
 ghost use Rattle.mk_run_crew.specs.Started.{StartsLinks};
 ghost use Rattle.mk_run_crew.specs.Wholly.{is_wholly_within};
+ghost use Rattle.mk_run.specs.inner.Handshakes.{Start};
 ghost use Rattle.mk_run.specs.inner.Underway.{Setting};
 ghost use Rattle.mk_run.specs.inner.Turns.{AreLinksOpen, IsStill};
 ghost use Rattle.mk_resume_loop.specs.inner.Turns.{IsSized};
 ghost use Rattle.mk_resume.specs.Resumed.{EndsAtStart, ResumesAs};
-ghost use Rattle.mk_resume.specs.inner.Going.{CatchesUpAs, GoesOnAs, IsFresh, IsStarted, PlanResumesAs, Start};
+ghost use Rattle.mk_resume.specs.inner.Going.{CatchesUpAs, GoesOnAs, IsFresh, IsStarted, PlanResumesAs};
 
 use crate::accepting::{Accepted, accept, nothing_left};
 use crate::wholly::resume_within;

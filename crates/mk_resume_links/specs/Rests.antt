@@ -35,9 +35,8 @@ abbrev pub at_rest : Counts → ℕ → Scenario → List LogEntry → List Entr
 at_rest saved started S before J = within (rest_counts saved started S before) J
 
 -- where a resumed run rests, J being its journal: what was there by then begins, for each link, with
--- all messages heard by then; nobody is ready in it, and no request is open within the program; the
--- items were said that were free by then, and
--- no others; and nothing more had come
+-- all messages heard by then; nobody is ready in it, and no request is open within the program;
+-- the items were said that were free by then, and no others; and nothing more had come
 pub record IsWellAtRest (saved : Counts) (started : ℕ) (S : Scenario) (P : Plan) (J : List Entry)
     (before : List LogEntry) : Type 0 where
   pub has_all : (i : ℕ) (l : LinkNo) → sim_link started S i ≡ Some l

@@ -17,9 +17,8 @@ use Rattle.mk_resume_walk.specs.Talks.{free_items}
 use Rattle.mk_resume_links.specs.Rests.{Counts, repeated}
 
 -- when the fleet rested behind these entries, the journal was a beginning of J, nobody was ready,
--- no request was open within the program,
--- each simulator had sent so many messages in this call, and each line was parked, in step with what
--- was free then
+-- no request was open within the program, each simulator had sent so many messages in this call,
+-- and each line was parked, in step with what was free then
 pub record IsRestOf (saved : Counts) (started : ℕ) (S : Scenario) (replies : SetupReplies)
     (P : Plan) (J : List Entry) (before : List LogEntry) : Type 0 where
   pub at : List Entry

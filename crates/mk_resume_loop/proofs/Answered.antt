@@ -21,7 +21,8 @@ use Rattle.mk_run.specs.declared.outcome.Outcome.{Outcome}
 use Rattle.mk_run.specs.Outcomes.{outcome_of}
 use Rattle.mk_run.specs.inner.Sendings.{EndsWithItem, IsUnsent}
 use Rattle.mk_run.specs.inner.Underway.{Setting, reply_in}
-use Rattle.mk_run.proofs.Pushed.{fault_after_sent, patient_got, patient_sent, range_got, range_sent}
+use Rattle.mk_sched.proofs.Pushed.{fault_after_sent, patient_got, patient_sent}
+use Rattle.mk_run.proofs.Pushed.{range_got, range_sent}
 use Rattle.mk_resume_walk.specs.Talks.{free_items}
 use Rattle.mk_resume_links.specs.Rests.{Counts}
 use Rattle.mk_resume_links.specs.inner.Catching.{IsCatchingWith, awaited}

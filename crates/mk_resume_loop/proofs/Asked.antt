@@ -30,7 +30,8 @@ use Rattle.mk_run.specs.inner.Underway.{Setting, reply_in}
 use Rattle.mk_run.proofs.Going.{bool_or_not}
 use Rattle.mk_run.proofs.Linked.{sent_here}
 use Rattle.mk_run.proofs.LoopSteps.{asked_opens, asked_id, asked_ready}
-use Rattle.mk_run.proofs.Pushed.{fault_after_sent, patient_sent, range_sent}
+use Rattle.mk_sched.proofs.Pushed.{fault_after_sent, patient_sent}
+use Rattle.mk_run.proofs.Pushed.{range_sent}
 use Rattle.mk_run.proofs.Times.{ready_time}
 use Rattle.mk_resume_walk.specs.Talks.{free_items}
 use Rattle.mk_resume_walk.proofs.Alternating.{alternate}

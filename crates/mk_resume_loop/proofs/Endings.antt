@@ -1,5 +1,5 @@
 -- What a resumed run comes to, by each of its ends.
-use Rattle.std.proofs.Common.{◌≡◌, ◌⊎◌, inl, inr, ℕ, ◌<◌, max, Bool, true, false, List, [], ◌∷◌, ◌++◌, length, map, slice_get, Option, Some, None, if◌then◌else◌, refl, sym, ap, ◌∙◌, subst, arith, true≢false}
+use Rattle.std.proofs.Common.{◌≡◌, ◌⊎◌, inl, inr, ℕ, ◌<◌, max, true, false, List, [], ◌∷◌, ◌++◌, length, map, slice_get, Option, Some, None, refl, sym, ap, ◌∙◌, subst, arith, true≢false}
 use Rattle.mk_base.specs.declared.LinkNo.{LinkNo}
 use Rattle.mk_base.specs.declared.SimNo.{SimNo}
 use Rattle.mk_base.specs.Lists.{IsIn}
@@ -13,12 +13,12 @@ use Rattle.mk_plan.specs.Journals.{bare, got}
 use Rattle.mk_frame.specs.Frames.{IsTooLong}
 use Rattle.mk_outside.specs.declared.fleet.LogEntry.{LogEntry}
 use Rattle.mk_outside.specs.declared.fleet.LogEntry.TheVariants.{Ended}
-use Rattle.mk_outside.specs.Logs.{later_of, last_that, is_read}
+use Rattle.mk_outside.specs.Logs.{is_read}
 use Rattle.mk_session.specs.Fronts.{BeginsGarbled}
 use Rattle.mk_sched.specs.declared.faults.CoreFault.{CoreFault}
 use Rattle.mk_sched.specs.Cores.{CoreState, Stands}
 use Rattle.mk_sched.specs.Answers as sched
-use Rattle.mk_sched.specs.Answers.{SomeReady, IsOver, IsOutOfMemory, IsFaulty, IsUntaken, IsUnanswered, WasFaulty, with_message}
+use Rattle.mk_sched.specs.Answers.{SomeReady, IsOutOfMemory, IsFaulty, IsUntaken, IsUnanswered, WasFaulty}
 use Rattle.mk_local.specs.Simulators.{Simulator}
 use Rattle.mk_run_laws.specs.Hearing.{first_message}
 use Rattle.mk_run_laws.specs.Handshake.{sim_link, is_within}
@@ -39,7 +39,9 @@ use Rattle.mk_run.specs.declared.outcome.Outcome.TheVariants as outcome
 use Rattle.mk_run.specs.Outcomes.{outcome_of}
 use Rattle.mk_run.specs.inner.Underway.{Setting, reply_in, HasNoOther}
 use Rattle.mk_run.proofs.Linked.{no_other_moved}
-use Rattle.mk_run.proofs.Pushed.{patient_got, range_got}
+use Rattle.mk_sched.proofs.Pushed.{patient_got}
+use Rattle.mk_run.proofs.Pushed.{range_got}
+use Rattle.mk_run.proofs.Endings.{last_is_in, queued_itself}
 use Rattle.mk_resume_walk.specs.Talks.{free_items}
 use Rattle.mk_resume_links.specs.Rests.{Counts, repeated}
 use Rattle.mk_resume_links.specs.Running.{RestsEnd}
@@ -58,27 +60,6 @@ use Rattle.mk_resume_loop.proofs.Asked.{longer_begins}
 use Rattle.mk_resume_loop.proofs.Resting.{resting}
 use Rattle.mk_resume_loop.proofs.Hearing.{met_back, met_fits, met_no_other, met_log_right, log_right_on}
 use Rattle.mk_resume_loop.proofs.New.{quiet_catching}
-
-queued_by : (o : Outcome) (items : List Item) → QueuedAllAt (ends.Outcome o) items items
-queued_by outcome.Done items = refl
-queued_by (outcome.Setup f) items = refl
-queued_by (outcome.Core f) items = refl
-queued_by outcome.Fleet items = refl
-queued_by (outcome.Gone i) items = refl
-queued_by (outcome.Garbled i n) items = refl
-queued_by (outcome.LongFrame i n) items = refl
-queued_by (outcome.LongItem i n) items = tt
-queued_by outcome.Mem items = tt
-
--- the last entry that passes is one of them
-last_is_in : (test : LogEntry → Bool) (entries : List LogEntry) (e : LogEntry) → last_that test entries ≡ Some e → IsIn e entries
-last_is_in test [] e is = absurd (none_some is)
-last_is_in test (x ∷ entries) e is = go (λ q. last_is_in test entries e q) (last_that test entries) refl (test x) is
-  where
-    go : (last_that test entries ≡ Some e → IsIn e entries) → (o : Option LogEntry) → last_that test entries ≡ o → (b : Bool) → later_of (if b then Some x else None) o ≡ Some e → IsIn e (x ∷ entries)
-    go further (Some y) there b q = inr (further (there ∙ q))
-    go further None there true q = inl (sym (some_same q))
-    go further None there false q = absurd (none_some q)
 
 early_of : (g s n : ℕ) → g ≡ max s n → n < g → n < s
 early_of g s n is low = omega (arith, is, low)
@@ -108,7 +89,7 @@ module _ (T : Setting) (first : List Entry) where
     in_range = u.in_range;
     counts = u.catching.counts;
     kinds = u.catching.kinds;
-    lines = lines_in_step (ends.Outcome o) (queued_by o) J heard log C u.catching.touch.lines;
+    lines = lines_in_step (ends.Outcome o) (queued_itself o) J heard log C u.catching.touch.lines;
     no_other = u.no_other;
     rests = so_far_end (saved_of first) T.started T.scenario T.replies P J log C.kept u.catching.rests;
     log_right = u.log_right;
@@ -238,7 +219,7 @@ module _ (T : Setting) (first : List Entry) where
         in_range = range_got J s m u.in_range (met_fits T P first J heard log s m D sims h);
         counts = taken.counts;
         kinds = taken.kinds;
-        lines = lines_in_step (ends.Outcome o) (queued_by o) K next log D taken.touch.lines;
+        lines = lines_in_step (ends.Outcome o) (queued_itself o) K next log D taken.touch.lines;
         no_other = met_no_other T P first J heard log s m D sims h;
         rests = so_far_end (saved_of first) T.started T.scenario T.replies P K log D.kept taken.rests;
         log_right = met_log_right T P first J heard log s m D sims h;
@@ -251,7 +232,7 @@ module _ (T : Setting) (first : List Entry) where
       fault_ends f going stands (inl was) = absurd (none_some (sym going ∙ was.0))
       fault_ends f going stands (inr (inl un)) = (
         heard,
-        subst (λ (c : CoreState). HasEnded risen T c.plan first c.entries heard log D (ends.Outcome (outcome.Core f))) (sym un.ended) (untaken_ends (ends.Outcome (outcome.Core f)) (queued_by (outcome.Core f)) (λ broken. absurd broken)
+        subst (λ (c : CoreState). HasEnded risen T c.plan first c.entries heard log D (ends.Outcome (outcome.Core f))) (sym un.ended) (untaken_ends (ends.Outcome (outcome.Core f)) (queued_itself (outcome.Core f)) (λ broken. absurd broken)
             (inr (record { named = un.named; full = un.full; no_fault = u.no_fault; more = inr (inr (left_now caught)) }))),
       )
       fault_ends f going stands (inr (inr (inl bad))) = (
@@ -267,7 +248,7 @@ module _ (T : Setting) (first : List Entry) where
       )
 
     pub untaken_for_memory : IsOutOfMemory core new → HasEnded risen T new.plan first new.entries heard log D (ends.Outcome outcome.Mem)
-    untaken_for_memory o = subst (λ (c : CoreState). HasEnded risen T c.plan first c.entries heard log D (ends.Outcome outcome.Mem)) (sym o.ended) (untaken_ends (ends.Outcome outcome.Mem) (queued_by outcome.Mem) (λ broken. absurd broken) tt)
+    untaken_for_memory o = subst (λ (c : CoreState). HasEnded risen T c.plan first c.entries heard log D (ends.Outcome outcome.Mem)) (sym o.ended) (untaken_ends (ends.Outcome outcome.Mem) (queued_itself outcome.Mem) (λ broken. absurd broken) tt)
 
   -- ---- nothing was heard
 
@@ -312,7 +293,7 @@ module _ (T : Setting) (first : List Entry) where
       in_range = u.in_range;
       counts = u.catching.counts;
       kinds = u.catching.kinds;
-      lines = lines_in_step (ends.Outcome (outcome_of (halt_of why))) (queued_by (outcome_of (halt_of why))) J heard (log ++ entries) (crew_of D) waited.touch.lines;
+      lines = lines_in_step (ends.Outcome (outcome_of (halt_of why))) (queued_itself (outcome_of (halt_of why))) J heard (log ++ entries) (crew_of D) waited.touch.lines;
       no_other = no_other_now;
       rests = so_far_end (saved_of first) T.started T.scenario T.replies P J (log ++ entries) D.kept waited.rests;
       log_right = log_right_on T (λ i. repeated J i (heard i)) (λ i. free_items J i (heard i)) (awaited T.scenario (reply_in T) J heard) P log entries (crew_of C) u.suits u.catching.touch u.log_right

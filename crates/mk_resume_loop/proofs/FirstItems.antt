@@ -19,7 +19,7 @@ use Rattle.mk_run_crew.specs.Seen.{CrewSeen, crew_of}
 use Rattle.mk_run.specs.inner.Underway.{Setting, put, reply_in}
 use Rattle.mk_run.proofs.Going.{bool_or_not}
 use Rattle.mk_run.proofs.Linked.{within_below}
-use Rattle.mk_run.proofs.Pushed.{not_empty}
+use Rattle.mk_sched.proofs.Pushed.{not_empty}
 use Rattle.mk_resume_walk.specs.Talks.{free_items}
 use Rattle.mk_resume_walk.proofs.GoingOn.{walk_laws}
 use Rattle.mk_resume_links.specs.inner.Catching.{awaited}

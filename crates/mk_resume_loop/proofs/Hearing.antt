@@ -14,7 +14,7 @@ use Rattle.mk_outside.specs.declared.fleet.LogEntry.TheVariants.{Rest}
 use Rattle.mk_outside.specs.Logs.{heard_on}
 use Rattle.mk_sched.specs.Cores.{is_message_in_range}
 use Rattle.mk_local.specs.Simulators.{Simulator}
-use Rattle.mk_run_laws.specs.Hearing.{Takes, messages_heard}
+use Rattle.mk_run_laws.specs.Hearing.{messages_heard}
 use Rattle.mk_run_laws.specs.Handshake.{setup_count, sim_link, is_within}
 use Rattle.mk_run_laws.specs.Lines.{Line}
 use Rattle.mk_run_laws.specs.Crews.{CrewState, line_at, given_by, IsMovedAt, IsHeard}
@@ -27,7 +27,8 @@ use Rattle.mk_run_links.proofs.OnEntries.{on_more}
 use Rattle.mk_run_local.specs.Calls.{IsFitSuccess}
 use Rattle.mk_run.specs.Ends.{SetupRestsWell}
 use Rattle.mk_run.specs.inner.Underway.{Setting, reply_in, Suits, HasNoOther, IsLogRight}
-use Rattle.mk_run.proofs.InRange.{same_test, read_in_range, success_in_range}
+use Rattle.mk_run.proofs.Hearing.{taken_read}
+use Rattle.mk_run.proofs.InRange.{same_test, success_in_range}
 use Rattle.mk_run.proofs.Linked.{linked_outside, within_below, no_other_heard}
 use Rattle.mk_resume_walk.specs.Talks.{free_items}
 use Rattle.mk_resume_links.specs.Rests.{Counts, repeated}
@@ -35,17 +36,6 @@ use Rattle.mk_resume_links.specs.inner.Touching.{IsInTouch}
 use Rattle.mk_resume_links.specs.inner.Catching.{WasAwaited, awaited}
 use Rattle.mk_resume_links.proofs.Catching.{apart_within}
 use Rattle.mk_resume_loop.specs.inner.Underway.{IsMet, IsResuming, saved_of}
-
--- the one message that was taken off a line was read from a payload
-taken_read : (held : List ℕ) (ms : List Message) (left : List ℕ) (m : Message) → Takes held ms left → ms ≡ m ∷ [] → is_in_range m ≡ true
-taken_read held ms left m (Takes.none _) e = absurd (apart e)
-  where
-    apart : [] ≡ m ∷ [] → ⊥
-    apart e = cc
-taken_read held ms left m (Takes.more _ payload rest _ n ns begins read takes) e = subst (λ (x : Message). is_in_range x ≡ true) (same e) (read_in_range payload n read)
-  where
-    same : n ∷ ns ≡ m ∷ [] → n ≡ m
-    same e = cc
 
 -- ---- the handshake's rests: once the run goes on, all have set up
 

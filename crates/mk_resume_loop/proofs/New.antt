@@ -33,7 +33,8 @@ use Rattle.mk_run_crew.specs.Calls.{HasNext, SendsAs}
 use Rattle.mk_run.specs.inner.Underway.{HaveComeBy, Setting, reply_in}
 use Rattle.mk_run.proofs.Going.{bool_or_not, here_is_within}
 use Rattle.mk_run.proofs.LoopSteps.{answered_id, answered_opens, none_owed, owed_after}
-use Rattle.mk_run.proofs.Pushed.{fault_after_sent, patient_got, patient_sent, range_got, range_sent, sent_got}
+use Rattle.mk_sched.proofs.Pushed.{fault_after_sent, patient_got, patient_sent}
+use Rattle.mk_run.proofs.Pushed.{range_got, range_sent, sent_got}
 use Rattle.mk_resume_walk.specs.Talks.{free_items}
 use Rattle.mk_resume_walk.proofs.Fronts.{free_alternate}
 use Rattle.mk_resume_walk.proofs.UpTo.{free_all}

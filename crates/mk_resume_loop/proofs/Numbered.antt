@@ -19,7 +19,7 @@ use Rattle.mk_resume_walk.proofs.Fronts.{free_alternate}
 use Rattle.mk_resume_walk.proofs.GoingOn.{up_to_counted}
 use Rattle.mk_resume_loop.specs.declared.behind.Standing.{Standing}
 use Rattle.mk_resume_loop.specs.inner.Underway.{StandsAt}
-use Rattle.mk_resume_loop.proofs.Standing.{next_behind}
+use Rattle.mk_resume_loop.proofs.Standing.{get_at, next_behind, take_front}
 
 -- each entry of a simulator is an item or a message
 count_both : (J : List Entry) (i : ℕ) → own_count i J ≡ length (sent J i) + length (got J i)
@@ -36,14 +36,6 @@ count_both (Got s m ∷ J) i = go (s.0 == i) (count_both J i)
         → length (if b then Got s m ∷ filter (is_of i) J else filter (is_of i) J) ≡ length (sent J i) + length (cons_option (if b then Some m else None) (got J i))
     go true h = omega (arith, h)
     go false h = h
-
-get_at : {X : Type 0} (A B : List X) (x : X) → slice_get (A ++ x ∷ B) (length A) ≡ Some x
-get_at [] B x = refl
-get_at (a ∷ A) B x = get_at A B x
-
-take_front : (U X : List Entry) → take (length U) (U ++ X) ≡ U
-take_front [] X = refl
-take_front (x ∷ U) X = ap (λ (l : List Entry). x ∷ l) (take_front U X)
 
 -- the entry at its place is a message
 pub entry_there : (J : List Entry) (i n p : ℕ) → IsNextAt J i n (Some p) → (x : SimNo) × (m : Message) × (slice_get J p ≡ Some (Got x m))

@@ -1,5 +1,5 @@
 -- Where something is to come there is something to hear: a reply that is kept, or a link.
-use Rattle.std.proofs.Common.{◌≡◌, ◌⊎◌, inl, inr, ℕ, zero, suc, ◌<◌, ◌≤◌, max, Bool, true, false, List, [], ◌∷◌, length, Option, Some, None, refl, sym, ap, ◌∙◌, subst, arith}
+use Rattle.std.proofs.Common.{◌≡◌, inl, inr, ℕ, ◌<◌, ◌≤◌, max, Bool, true, false, List, [], ◌∷◌, length, Option, Some, None, refl, sym, ap, ◌∙◌, subst, arith}
 use Rattle.mk_plan.specs.declared.Plan.{Plan}
 use Rattle.mk_plan.specs.declared.Entry.{Entry}
 use Rattle.mk_plan.specs.Plans.{sim_count}
@@ -20,6 +20,7 @@ use Rattle.mk_resume_links.specs.Rests.{Counts}
 use Rattle.mk_resume_loop.specs.inner.Ending.{IsUnfinished}
 use Rattle.mk_resume_loop.specs.inner.Underway.{IsResuming}
 use Rattle.mk_resume_loop.proofs.Passing.{awaited_one}
+use Rattle.mk_resume_loop.proofs.Standing.{few_or_more}
 
 -- a view with this open turn everywhere, and this owed
 abbrev with_turn : View → Option OpenTurn → Option Owed → View
@@ -36,11 +37,6 @@ one_out V i owes opened = ap (λ (w : Option Owed). unanswered (with_turn V (V.o
 few_of : (g s n : ℕ) → g ≡ max s n → n ≤ g
 few_of g s n is = omega (arith, is)
 
-few_or_all : (n k : ℕ) → (n < k) ⊎ (k ≤ n)
-few_or_all n zero = inr (omega arith)
-few_or_all zero (suc k) = inl (omega arith)
-few_or_all (suc n) (suc k) = elim (few_or_all n k) [ inl low ↦ inl (omega (arith, low)) | inr high ↦ inr (omega (arith, high)) ]
-
 module _ (T : Setting) (P : Plan) (first J : List Entry) (heard : Counts) (log : List LogEntry) (C : CrewSeen) (u : IsResuming T P first J heard log (crew_of C) C.sims) where
   -- a simulator that is behind wasn't answered at its last item
   behind_waits : (i : ℕ) → heard i < length (got J i) → heard i < length (free_items J i (heard i))
@@ -48,7 +44,7 @@ module _ (T : Setting) (P : Plan) (first J : List Entry) (heard : Counts) (log :
 
   -- nor one at which a request is open
   open_waits : (i : ℕ) → ((view P J).open_at i ≡ None → ⊥) → heard i < length (free_items J i (heard i))
-  open_waits i opened = elim (few_or_all (heard i) (length (got J i))) [
+  open_waits i opened = elim (few_or_more (heard i) (length (got J i))) [
     | inl more ↦ behind_waits i more
     | inr all ↦ let b = balanced P J u.stands.orderly.0 u.no_fault i in let o = one_out (view P J) i u.paid opened in let f = ap length (free_all J i (heard i) all) in
         let g = few in omega (arith, b, o, f, all, g)

@@ -1,5 +1,5 @@
 -- A message was sent again: its simulator is due what stands behind it, and when it was sent that the run goes on.
-use Rattle.std.proofs.Common.{◌≡◌, inl, inr, ℕ, ◌+◌, ◌<◌, nat_lt, ◌&&◌, List, [], ◌∷◌, ◌++◌, length, map, take, slice_get, Option, Some, None, if◌then◌else◌, refl, sym, ap, ◌∙◌, subst, append_assoc, length-append}
+use Rattle.std.proofs.Common.{◌≡◌, inl, inr, ℕ, ◌+◌, ◌<◌, nat_lt, ◌&&◌, List, [], ◌∷◌, ◌++◌, length, map, take, slice_get, Option, Some, None, if◌then◌else◌, sym, ap, ◌∙◌, subst, append_assoc, length-append}
 use Rattle.std.specs.List.{cons_option}
 use Rattle.std.proofs.lemmas.Bool.{eq-eqb}
 use Rattle.mk_base.specs.declared.SimNo.{SimNo}
@@ -17,7 +17,7 @@ use Rattle.mk_run_laws.proofs.Stepping.{same_or_not}
 use Rattle.mk_run_local.specs.Calls.{IsFitSuccess}
 use Rattle.mk_run_crew.specs.Seen.{CrewSeen, crew_of}
 use Rattle.mk_run.specs.inner.Underway.{Setting, put, reply_in}
-use Rattle.mk_run.proofs.Pushed.{same_last}
+use Rattle.mk_run.proofs.Pushed.{same_last, same_message}
 use Rattle.mk_resume_walk.specs.Talks.{free_items, up_to}
 use Rattle.mk_resume_walk.specs.Walks.{IsGoneTo, IsNextAt}
 use Rattle.mk_resume_walk.proofs.Fronts.{free_alternate}
@@ -32,20 +32,9 @@ use Rattle.mk_resume_loop.proofs.Again.{IsRepeated, repeated_goes}
 use Rattle.mk_resume_loop.proofs.Hearing.{met_success}
 use Rattle.mk_run.proofs.Putting.{put_away, put_here}
 use Rattle.mk_resume_loop.proofs.Passing.{resuming_as}
-use Rattle.mk_resume_loop.proofs.Standing.{next_behind}
+use Rattle.mk_resume_loop.proofs.Standing.{get_at, next_behind, take_front}
 
 -- ---- the message that has to be sent again
-
-get_at : {X : Type 0} (A B : List X) (x : X) → slice_get (A ++ x ∷ B) (length A) ≡ Some x
-get_at [] B x = refl
-get_at (a ∷ A) B x = get_at A B x
-
-take_front : (U X : List Entry) → take (length U) (U ++ X) ≡ U
-take_front [] X = refl
-take_front (x ∷ U) X = ap (λ (l : List Entry). x ∷ l) (take_front U X)
-
-got_same : (s t : SimNo) (m n : Message) → Got s m ≡ Got t n → m ≡ n
-got_same s t m n e = cc
 
 module _ (J : List Entry) (i n p : ℕ) (t : IsNextAt J i n (Some p)) where
   -- the entry at its place is it
@@ -53,7 +42,7 @@ module _ (J : List Entry) (i n p : ℕ) (t : IsNextAt J i n (Some p)) where
   next_there x kept there = go t
     where
       go : (u : IsNextAt J i n (Some p)) → u.1 ≡ kept
-      go (s, m, later, own, parts, at) = got_same s x m kept (some_same (sym (get_at (up_to i n J) later (Got s m)) ∙ ap (λ (l : List Entry). slice_get l (length (up_to i n J))) (sym parts) ∙ ap (slice_get J) at ∙ there))
+      go (s, m, later, own, parts, at) = same_message s x m kept (some_same (sym (get_at (up_to i n J) later (Got s m)) ∙ ap (λ (l : List Entry). slice_get l (length (up_to i n J))) (sym parts) ∙ ap (slice_get J) at ∙ there))
 
   -- it is the next of the simulator's messages
   pub next_message : (x : SimNo) (kept : Message) → slice_get J p ≡ Some (Got x kept) → slice_get (got J i) n ≡ Some kept
@@ -75,7 +64,7 @@ module _ (J : List Entry) (i n p : ℕ) (t : IsNextAt J i n (Some p)) where
           let U : List Entry = up_to i n J ++ Got s k ∷ [] in
           let long : length U ≡ p + 1 = length-append (up_to i n J) (Got s k ∷ []) ∙ ap (λ (j : ℕ). j + 1) at in
           let taken : take (p + 1) J ≡ U = ap (λ (j : ℕ). take j J) (sym long) ∙ ap (take (length U)) (parts ∙ sym (append_assoc (up_to i n J) (Got s k ∷ []) later)) ∙ take_front U later in
-          got_same y s m k (same_last H (up_to i n J) (Got y m) (Got s k) (sym is ∙ taken)).1 ∙ same
+          same_message y s m k (same_last H (up_to i n J) (Got y m) (Got s k) (sym is ∙ taken)).1 ∙ same
 
 -- ---- it is due what stands behind it
 

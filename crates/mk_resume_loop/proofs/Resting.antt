@@ -1,11 +1,11 @@
 -- Where nobody is ready and no reply is kept, no request is open within the program.
-use Rattle.std.proofs.Common.{◌≡◌, ◌≤◌, ◌&&◌, ℕ, max, Bool, true, false, List, [], ◌∷◌, length, map, Option, None, sym, ap, ◌∙◌, arith, true≢false, if◌then◌else◌, refl}
+use Rattle.std.proofs.Common.{◌≡◌, ◌&&◌, ℕ, Bool, true, false, List, [], ◌∷◌, length, map, Option, None, sym, ap, ◌∙◌, arith, true≢false, if◌then◌else◌, refl}
 use Rattle.std.specs.Prelude.{nat_lt}
 use Rattle.std.proofs.lemmas.Bool.{ltb-false}
 use Rattle.mk_plan.specs.declared.Plan.{Plan}
 use Rattle.mk_plan.specs.declared.Message.{Message}
 use Rattle.mk_plan.specs.declared.Entry.{Entry}
-use Rattle.mk_plan.specs.Journals.{Arrival, bare, got, view}
+use Rattle.mk_plan.specs.Journals.{bare, view}
 use Rattle.mk_outside.specs.declared.fleet.LogEntry.{LogEntry}
 use Rattle.mk_sched.specs.Answers.{SomeReady}
 use Rattle.mk_local.specs.Simulators.{Simulator}

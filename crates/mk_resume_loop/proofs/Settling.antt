@@ -22,7 +22,8 @@ use Rattle.mk_run_crew.specs.Seen.{CrewSeen, crew_of}
 use Rattle.mk_run.specs.Outcomes.{outcome_of}
 use Rattle.mk_run.specs.inner.Underway.{Setting, reply_in}
 use Rattle.mk_run.proofs.LoopSteps.{asked_ready}
-use Rattle.mk_run.proofs.Pushed.{fault_after_sent, patient_sent, range_sent}
+use Rattle.mk_sched.proofs.Pushed.{fault_after_sent, patient_sent}
+use Rattle.mk_run.proofs.Pushed.{range_sent}
 use Rattle.mk_resume_walk.specs.Talks.{free_items}
 use Rattle.mk_resume_links.specs.Rests.{Counts}
 use Rattle.mk_resume_links.specs.inner.Catching.{awaited}

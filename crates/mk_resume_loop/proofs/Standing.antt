@@ -30,25 +30,25 @@ use Rattle.mk_resume_loop.specs.inner.Underway.{StandsAt}
 
 -- ---- lists
 
-take_front : (U X : List Entry) → take (length U) (U ++ X) ≡ U
+pub take_front : (U X : List Entry) → take (length U) (U ++ X) ≡ U
 take_front [] X = refl
 take_front (x ∷ U) X = ap (λ (l : List Entry). x ∷ l) (take_front U X)
 
 more_than : (U X : List Entry) (e : Entry) → U ≡ U ++ e ∷ X → ⊥
 more_than U X e is = let a : length U ≡ length U + suc (length X) = ap length is ∙ length-append U (e ∷ X) in omega (arith, a)
 
-get_behind : (between later : List Entry) (e : Entry) → slice_get (between ++ e ∷ later) (length between) ≡ Some e
-get_behind [] later e = refl
-get_behind (x ∷ between) later e = get_behind between later e
+pub get_at : {X : Type 0} (A B : List X) (x : X) → slice_get (A ++ x ∷ B) (length A) ≡ Some x
+get_at [] B x = refl
+get_at (a ∷ A) B x = get_at A B x
 
 -- the entry behind those that were dropped
 pub get_dropped : (from : ℕ) (J between later : List Entry) (e : Entry) → drop from J ≡ between ++ e ∷ later → slice_get J (from + length between) ≡ Some e
-get_dropped zero J between later e is = ap (λ (k : ℕ). slice_get J k) (let n : 0 + length between ≡ length between = omega arith in n) ∙ ap (λ (l : List Entry). slice_get l (length between)) is ∙ get_behind between later e
+get_dropped zero J between later e is = ap (λ (k : ℕ). slice_get J k) (let n : 0 + length between ≡ length between = omega arith in n) ∙ ap (λ (l : List Entry). slice_get l (length between)) is ∙ get_at between later e
 get_dropped (suc from) [] [] later e is = absurd (cc)
 get_dropped (suc from) [] (x ∷ between) later e is = absurd (cc)
 get_dropped (suc from) (y ∷ J) between later e is = ap (λ (k : ℕ). slice_get (y ∷ J) k) (let n : suc from + length between ≡ suc (from + length between) = omega arith in n) ∙ get_dropped from J between later e is
 
-few_or_more : (n k : ℕ) → (n < k) ⊎ (k ≤ n)
+pub few_or_more : (n k : ℕ) → (n < k) ⊎ (k ≤ n)
 few_or_more n zero = inr (omega arith)
 few_or_more zero (suc k) = inl (omega arith)
 few_or_more (suc n) (suc k) = elim (few_or_more n k) [ inl low ↦ inl (omega (arith, low)) | inr high ↦ inr (omega (arith, high)) ]

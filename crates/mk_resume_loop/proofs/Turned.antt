@@ -26,6 +26,7 @@ use Rattle.mk_run.specs.declared.outcome.Outcome.TheVariants as outcome
 use Rattle.mk_run.specs.Outcomes.{outcome_of}
 use Rattle.mk_run.specs.inner.Underway.{Setting}
 use Rattle.mk_run.specs.inner.Turns.{AreLinksOpen}
+use Rattle.mk_run.proofs.Shown.{ends_as}
 use Rattle.mk_resume_links.specs.Rests.{Counts}
 use Rattle.mk_resume_links.proofs.Catching.{one_more}
 use Rattle.mk_resume_loop.specs.declared.behind.Standing.{Standing}
@@ -51,15 +52,7 @@ slice_get_at (x ∷ xs) (suc i) low = slice_get_at xs i (omega (arith, low))
 -- ---- an end stays, whatever rises besides
 
 ends_by : (some all : Type 0) (T : Setting) (first : List Entry) (core : CoreState) (heard : Counts) (log : List LogEntry) (C : CrewSeen) → (some → all) → (e : ResumeEnd) → EndsBy some T core.plan first core.entries heard log (crew_of C) e → EndsBy all T core.plan first core.entries heard log (crew_of C) e
-ends_by some all T first core heard log C more (ends.Outcome outcome.Done) is = is
-ends_by some all T first core heard log C more (ends.Outcome (outcome.Setup f)) is = is
-ends_by some all T first core heard log C more (ends.Outcome (outcome.Core f)) is = is
-ends_by some all T first core heard log C more (ends.Outcome outcome.Fleet) is = more is
-ends_by some all T first core heard log C more (ends.Outcome (outcome.Gone i)) is = is
-ends_by some all T first core heard log C more (ends.Outcome (outcome.Garbled i n)) is = is
-ends_by some all T first core heard log C more (ends.Outcome (outcome.LongFrame i n)) is = is
-ends_by some all T first core heard log C more (ends.Outcome (outcome.LongItem i n)) is = is
-ends_by some all T first core heard log C more (ends.Outcome outcome.Mem) is = is
+ends_by some all T first core heard log C more (ends.Outcome end) is = ends_as some all _ _ _ _ _ _ _ _ more end is
 ends_by some all T first core heard log C more (ends.OtherPlan n) is = is
 ends_by some all T first core heard log C more (ends.OtherEntry n) is = is
 ends_by some all T first core heard log C more (ends.Differs s place saved other) is = is

@@ -28,7 +28,7 @@ use Rattle.mk_resume_loop.specs.inner.Underway.{IsPassed, StandsAt}
 use Rattle.mk_resume_loop.specs.inner.Turns.{Course, IsDue}
 use Rattle.mk_resume_loop.proofs.Passing.{passed_quietly, passed_sent, passing_linked}
 use Rattle.mk_resume_loop.proofs.Replied.{replied_anew}
-use Rattle.mk_resume_loop.proofs.Standing.{at_most_one, get_dropped, gone_all, gone_got, gone_sent}
+use Rattle.mk_resume_loop.proofs.Standing.{at_most_one, get_dropped, gone_all, gone_got, gone_sent, take_front}
 
 next_id : (n id : ℕ) (items : List Item) (item : Item) → id ≡ id_after n items → id_behind item id ≡ id_after n (items ++ item ∷ [])
 next_id n id items item is = go item
@@ -45,10 +45,6 @@ replied_takes (Step x ins advance) r = refl
 replied_takes (GetData wants) r = refl
 replied_takes (Answer asked content) r = absurd r
 replied_takes (Refuse asked reason) r = absurd r
-
-take_front : (U X : List Entry) → take (length U) (U ++ X) ≡ U
-take_front [] X = refl
-take_front (x ∷ U) X = ap (λ (l : List Entry). x ∷ l) (take_front U X)
 
 drop_front : (U X : List Entry) → drop (length U) (U ++ X) ≡ X
 drop_front [] X = refl

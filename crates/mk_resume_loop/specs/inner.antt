@@ -1,3 +1,4 @@
+-- What proofs alone need.
 pub mod Asking
 pub mod Comparisons
 pub mod Ending

@@ -110,7 +110,7 @@ pub fn go_on(
     }
 }
 
-// Sends each simulator its first item.
+/// Sends each simulator its first item.
 pub fn begin(
     core: &Core,
     crew: &mut Crew,

@@ -38,7 +38,7 @@ use Rattle.mk_run.specs.inner.Underway.{Setting, reply_in, IsUnderway}
 use Rattle.mk_run.specs.declared.outcome.Outcome.{Outcome}
 use Rattle.mk_run.specs.Ran.{RunsAs}
 use Rattle.mk_run.specs.inner.Turns.{AreLinksOpen, PlanRunsAs}
-use Rattle.mk_run.proofs.Pushed.{not_empty}
+use Rattle.mk_sched.proofs.Pushed.{not_empty}
 use Rattle.mk_run.proofs.Turning.{risen_on}
 
 -- before any entry

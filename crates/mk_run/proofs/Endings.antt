@@ -22,7 +22,7 @@ use Rattle.mk_sched.specs.declared.faults.CoreFault.{CoreFault}
 use Rattle.mk_sched.specs.declared.faults.CoreFault.TheVariants.{TooLong}
 use Rattle.mk_sched.specs.Cores.{CoreState, Stands}
 use Rattle.mk_sched.specs.Answers as sched
-use Rattle.mk_sched.specs.Answers.{SomeReady, SomeOpen, IsAsked, IsOver, IsOutOfMemory, IsAnswered, IsFaulty, IsUntaken, IsUnanswered, WasFaulty, open_id, with_message, fault_in}
+use Rattle.mk_sched.specs.Answers.{SomeReady, SomeOpen, IsOver, IsOutOfMemory, IsFaulty, IsUntaken, IsUnanswered, WasFaulty, fault_in}
 use Rattle.mk_run_laws.specs.Hearing.{first_message}
 use Rattle.mk_run_laws.specs.Handshake.{setup_count, setup_payloads, sim_link, is_within}
 use Rattle.mk_run_laws.specs.Payloads.{takes_id, id_after, item_payloads}
@@ -47,16 +47,18 @@ use Rattle.mk_run_crew.specs.Calls.{ShowsUnsent, halt_of}
 use Rattle.mk_run.specs.declared.outcome.Outcome.{Outcome}
 use Rattle.mk_run.specs.declared.outcome.Outcome.TheVariants as outcome
 use Rattle.mk_run.specs.Ends.{AreInRange, QueuedAll, IsAwaiting, IsBrokenOff, IsLongItem, fault_named}
-use Rattle.mk_run.specs.inner.Underway.{Setting, reply_in, Suits, HasNoOther, IsLogRight, IsPatient, IsUnderway, HasHeard, IsLastLine, HasGiven, EndsBy, HasEnded}
+use Rattle.mk_sched.specs.inner.Patient.{IsPatient}
+use Rattle.mk_run.specs.inner.Underway.{Setting, reply_in, Suits, HasNoOther, IsLogRight, IsUnderway, HasHeard, IsLastLine, HasGiven, EndsBy, HasEnded}
 use Rattle.mk_run.specs.Outcomes.{outcome_of}
 use Rattle.mk_run.specs.inner.Sendings.{IsUnsent}
 use Rattle.mk_run.proofs.Going.{log_right_on}
 use Rattle.mk_run.proofs.Hearing.{heard_fits, heard_left, heard_running, heard_no_other, heard_log_right}
 use Rattle.mk_run.proofs.Linked.{no_other_moved}
-use Rattle.mk_run.proofs.Pushed.{fault_after_sent, kinds_sent, patient_sent, patient_got, range_sent, range_got, sent_front, got_front, got_sent, sent_got, rests_longer}
+use Rattle.mk_sched.proofs.Pushed.{fault_after_sent, patient_sent, patient_got}
+use Rattle.mk_run.proofs.Pushed.{kinds_sent, range_sent, range_got, sent_front, got_front, got_sent, sent_got, rests_longer}
 use Rattle.mk_run.proofs.LinesStopped.{begins_itself}
 
-queued_itself : (end : Outcome) (items : List Item) → QueuedAll end items items
+pub queued_itself : (end : Outcome) (items : List Item) → QueuedAll end items items
 queued_itself outcome.Done items = refl
 queued_itself (outcome.Setup f) items = refl
 queued_itself (outcome.Core f) items = refl
@@ -68,7 +70,7 @@ queued_itself (outcome.LongItem i n) items = tt
 queued_itself outcome.Mem items = tt
 
 -- a halt of the crew names no fault of a journal
-none_named : (h : Halt) → fault_named (outcome_of h) ≡ None
+pub none_named : (h : Halt) → fault_named (outcome_of h) ≡ None
 none_named (halt.Setup f) = refl
 none_named halt.Fleet = refl
 none_named (halt.Gone i) = refl
@@ -78,11 +80,11 @@ none_named (halt.LongItem i n) = refl
 none_named halt.Mem = refl
 
 -- nor does the limit of entries
-limit_unnamed : (f : CoreFault) (n : ℕ) → f ≡ TooLong n → None ≡ fault_named (outcome.Core f)
+pub limit_unnamed : (f : CoreFault) (n : ℕ) → f ≡ TooLong n → None ≡ fault_named (outcome.Core f)
 limit_unnamed f n is = sym (ap fault_in is)
 
 -- the last entry that passes is one of them
-last_is_in : (test : LogEntry → Bool) (entries : List LogEntry) (e : LogEntry) → last_that test entries ≡ Some e → IsIn e entries
+pub last_is_in : (test : LogEntry → Bool) (entries : List LogEntry) (e : LogEntry) → last_that test entries ≡ Some e → IsIn e entries
 last_is_in test [] e is = absurd (none_some is)
 last_is_in test (x ∷ entries) e is = go (λ q. last_is_in test entries e q) (last_that test entries) refl (test x) is
   where

@@ -1,8 +1,7 @@
 -- What the steps of a run's loop keep.
-use Rattle.std.proofs.Common.{◌≡◌, ◌⊎◌, inl, inr, ℕ, ◌+◌, ◌<◌, Bool, true, false, List, [], ◌∷◌, ◌++◌, length, map, Option, Some, None, is_some, refl, sym, ap, ◌∙◌, subst, arith, length-append, true≢false}
+use Rattle.std.proofs.Common.{◌≡◌, inl, inr, ℕ, ◌+◌, ◌<◌, true, false, List, [], ◌∷◌, ◌++◌, length, map, Option, Some, None, is_some, sym, ap, ◌∙◌, subst, arith, length-append}
 use Rattle.mk_base.specs.declared.LinkNo.{LinkNo}
 use Rattle.mk_base.specs.declared.SimNo.{SimNo}
-use Rattle.mk_base.proofs.Lists.{some_same}
 use Rattle.mk_plan.specs.declared.Plan.{Plan}
 use Rattle.mk_plan.specs.declared.Item.{Item}
 use Rattle.mk_plan.specs.declared.Item.TheVariants.{Step}
@@ -16,7 +15,7 @@ use Rattle.mk_outside.specs.declared.fleet.LogEntry.TheVariants.{Rest}
 use Rattle.mk_outside.specs.Logs.{heard_on}
 use Rattle.mk_sched.specs.Cores.{CoreState, Stands}
 use Rattle.mk_sched.specs.Answers.{IsAsked, open_id}
-use Rattle.mk_local.specs.Replies.{IsItemReplied, item_reply, after_item}
+use Rattle.mk_local.specs.Replies.{IsItemReplied}
 use Rattle.mk_local.specs.Simulators.{Simulator}
 use Rattle.mk_run_laws.specs.Hearing.{messages_heard}
 use Rattle.mk_run_laws.specs.Handshake.{setup_count, is_within}
@@ -26,19 +25,20 @@ use Rattle.mk_run_laws.specs.Rests.{AllSetUp}
 use Rattle.mk_run_laws.specs.inner.Running.{IsRunning}
 use Rattle.mk_run_laws.proofs.Moving.{heard_more}
 use Rattle.mk_run_laws.proofs.Saying.{link_there}
-use Rattle.mk_run_laws.proofs.Stepping.{same_or_not, first_or_second}
+use Rattle.mk_run_laws.proofs.Stepping.{first_or_second}
 use Rattle.mk_run_laws.proofs.Taking.{takes_on, taken_heard}
 use Rattle.mk_run_links.specs.Entries.{AreOn, IsRunLink}
 use Rattle.mk_run_links.proofs.OnEntries.{on_more}
-use Rattle.mk_run_local.specs.Laws.{HasCome, RepliesAreKinds}
-use Rattle.mk_run_local.specs.Made.{kind_reply_of}
+use Rattle.mk_run_local.specs.Laws.{RepliesAreKinds}
 use Rattle.mk_run_crew.specs.Seen.{CrewSeen, crew_of, is_here}
 use Rattle.mk_run_crew.specs.Calls.{HasNext, SendsAs}
 use Rattle.mk_run.specs.Ends.{AreInRange, SetupRestsWell}
-use Rattle.mk_run.specs.inner.Underway.{Setting, reply_in, Suits, HasNoOther, HaveCome, IsLogRight, IsPatient, IsUnderway, local_at}
+use Rattle.mk_sched.specs.inner.Patient.{IsPatient}
+use Rattle.mk_run.specs.inner.Underway.{Setting, reply_in, Suits, HasNoOther, HaveCome, IsLogRight, IsUnderway, local_at}
 use Rattle.mk_run.proofs.LoopSteps.{asked_link, asked_inside, asked_opens, asked_id, asked_ready}
-use Rattle.mk_run.proofs.Linked.{sent_here, sent_away, local_set_here, local_set_away, no_other_same, no_other_sent}
-use Rattle.mk_run.proofs.Pushed.{fault_after_sent, patient_sent, range_sent}
+use Rattle.mk_run.proofs.Linked.{sent_here, sent_away}
+use Rattle.mk_sched.proofs.Pushed.{fault_after_sent, patient_sent}
+use Rattle.mk_run.proofs.Pushed.{range_sent}
 use Rattle.mk_run.proofs.Times.{ready_time}
 use Rattle.mk_run.specs.inner.Underway.{IsOnlyWithin}
 use Rattle.mk_run.proofs.ItemSent as item_sent

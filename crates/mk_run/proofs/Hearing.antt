@@ -38,12 +38,14 @@ use Rattle.mk_run_local.specs.Laws.{HasCome, RepliesAreKinds}
 use Rattle.mk_run_crew.specs.Seen.{CrewSeen, crew_of, is_here}
 use Rattle.mk_run_crew.specs.Calls.{HasNext, SendsAs}
 use Rattle.mk_run.specs.Ends.{AreInRange, IsOpenWithin}
-use Rattle.mk_run.specs.inner.Underway.{Setting, reply_in, Suits, HasNoOther, HaveCome, IsLogRight, IsPatient, IsUnderway, HasHeard, IsAhead}
+use Rattle.mk_sched.specs.inner.Patient.{IsPatient}
+use Rattle.mk_run.specs.inner.Underway.{Setting, reply_in, Suits, HasNoOther, HaveCome, IsLogRight, IsUnderway, HasHeard, IsAhead}
 use Rattle.mk_run.proofs.LoopSteps.{none_owed, owed_after, answered_opens, answered_id, taken_quietly, taken_on_link, taken_inside}
 use Rattle.mk_run.proofs.Going.{bool_or_not, here_is_within, not_here_is_outside, kept_so, come_sent, only_sent, log_right_on, no_other_after}
 use Rattle.mk_run.proofs.InRange.{same_test, read_in_range, success_in_range}
 use Rattle.mk_run.proofs.Linked.{linked_outside, within_below, no_other_heard}
-use Rattle.mk_run.proofs.Pushed.{sent_got, patient_sent, patient_got, range_sent, range_got, fault_after_sent}
+use Rattle.mk_sched.proofs.Pushed.{patient_sent, patient_got, fault_after_sent}
+use Rattle.mk_run.proofs.Pushed.{sent_got, range_sent, range_got}
 
 -- a reply that is kept is awaited of a simulator within the program, at which a request is open
 kept_awaited : (S : Scenario) (reply : Replies) (P : Plan) (J : List Entry) (s : ℕ) (m : Message) (kept more : List Arrival) → kept_of s kept ≡ awaited S reply P J s → kept ≡ record { sim = s; message = m } ∷ more
@@ -60,7 +62,7 @@ kept_awaited S reply P J s m kept more is front = by_cases (is_within S s) (is_s
     by_cases false b e f h = absurd (apart h)
 
 -- the one message that was taken off a line was read from a payload
-taken_read : (held : List ℕ) (ms : List Message) (left : List ℕ) (m : Message) → Takes held ms left → ms ≡ m ∷ [] → is_in_range m ≡ true
+pub taken_read : (held : List ℕ) (ms : List Message) (left : List ℕ) (m : Message) → Takes held ms left → ms ≡ m ∷ [] → is_in_range m ≡ true
 taken_read held ms left m (Takes.none _) e = absurd (apart e)
   where
     apart : [] ≡ m ∷ [] → ⊥

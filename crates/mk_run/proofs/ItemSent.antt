@@ -21,7 +21,7 @@ pub bool_or_not : (b : Bool) → (b ≡ true) ⊎ (b ≡ false)
 bool_or_not true = inl refl
 bool_or_not false = inr refl
 
-some_here : {X : Type 0} (o : Option X) (x : X) → o ≡ Some x → is_some o ≡ true
+pub some_here : {X : Type 0} (o : Option X) (x : X) → o ≡ Some x → is_some o ≡ true
 some_here o x e = ap (λ (p : Option _). is_some p) e
 
 pub here_is_within : (T : Setting) (sims : List (Option Simulator)) (i : ℕ) → IsOnlyWithin T sims → is_some (local_at sims i) ≡ true → is_within T.scenario i ≡ true

@@ -17,6 +17,7 @@ pub mod NextRight
 pub mod Pushed
 pub mod Putting
 pub mod RunRight
+pub mod Shown
 pub mod Times
 pub mod Turning
 pub mod Whole

@@ -1,5 +1,5 @@
 -- What one more entry of the journal keeps.
-use Rattle.std.proofs.Common.{◌≡◌, ℕ, Bool, true, List, [], ◌∷◌, ◌++◌, Some, None, if◌then◌else◌, refl, sym, ap, ◌∙◌, subst, ◌⊎◌, inl, inr, append_assoc}
+use Rattle.std.proofs.Common.{◌≡◌, ℕ, Bool, true, List, [], ◌∷◌, ◌++◌, Some, None, if◌then◌else◌, refl, sym, ap, ◌∙◌, subst, inl, inr, append_assoc}
 use Rattle.std.specs.List.{cons_option}
 use Rattle.mk_base.specs.declared.SimNo.{SimNo}
 use Rattle.mk_base.specs.Lists.{BeginsWith}
@@ -9,36 +9,17 @@ use Rattle.mk_plan.specs.declared.Item.{Item}
 use Rattle.mk_plan.specs.declared.Message.{Message}
 use Rattle.mk_plan.specs.declared.Entry.{Entry}
 use Rattle.mk_plan.specs.declared.Entry.TheVariants.{Sent, Got}
-use Rattle.mk_plan.specs.Journals.{View, view, sent, got, sent_to, got_from}
-use Rattle.mk_plan.specs.Ready.{IsReady}
-use Rattle.mk_order.proofs.Pushing.{view_push, sent_push, got_push}
+use Rattle.mk_plan.specs.Journals.{sent, got, sent_to, got_from}
+use Rattle.mk_order.proofs.Pushing.{sent_push, got_push}
 use Rattle.mk_scenario.specs.declared.parts.Scenario.{Scenario}
 use Rattle.mk_outside.specs.declared.fleet.LogEntry.{LogEntry}
-use Rattle.mk_sched.specs.Answers.{SomeReady}
+use Rattle.mk_sched.proofs.Pushed.{heads, last_or_before, not_empty, sent_not_got}
 use Rattle.mk_run_laws.specs.Kinds.{Replies, KeepsToKinds}
 use Rattle.mk_run_laws.specs.Running.{SetupReplies, RestsEnd}
 use Rattle.mk_run_laws.specs.inner.Running.{RestsOver}
 use Rattle.mk_run_laws.proofs.Stepping.{same_is}
 use Rattle.mk_message.specs.Written.{is_in_range}
 use Rattle.mk_run.specs.Ends.{AreInRange}
-use Rattle.mk_run.specs.inner.Underway.{IsPatient}
-
-heads : {X : Type 0} {x y : X} {xs ys : List X} → x ∷ xs ≡ y ∷ ys → (x ≡ y) × (xs ≡ ys)
-heads e = (cc, cc)
-
-pub not_empty : {X : Type 0} (H more : List X) (d : X) → [] ≡ H ++ d ∷ more → ⊥
-not_empty [] more d e = cc
-not_empty (h ∷ H) more d e = cc
-
--- an entry of a longer journal is its last, or one of the shorter
-pub last_or_before : (J : List Entry) (e : Entry) (H : List Entry) (d : Entry) (more : List Entry) → J ++ e ∷ [] ≡ H ++ d ∷ more → ((J ≡ H) × (e ≡ d)) ⊎ ((less : List Entry) × (J ≡ H ++ d ∷ less))
-last_or_before [] e [] d more q = inl (refl, (heads q).0)
-last_or_before [] e (h ∷ H) d more q = absurd (not_empty H more d (heads q).1)
-last_or_before (j ∷ J) e [] d more q = inr (J, ap (λ (x : Entry). x ∷ J) (heads q).0)
-last_or_before (j ∷ J) e (h ∷ H) d more q = elim (last_or_before J e H d more (heads q).1) [
-  | inl t ↦ inl ((λ i. (heads q).0 i ∷ t.0 i), t.1)
-  | inr t ↦ inr (t.0, (λ i. (heads q).0 i ∷ t.1 i))
-]
 
 -- two journals that end with these entries are one
 pub same_last : (J H : List Entry) (e d : Entry) → J ++ e ∷ [] ≡ H ++ d ∷ [] → (J ≡ H) × (e ≡ d)
@@ -47,32 +28,13 @@ same_last [] (h ∷ H) e d q = absurd (not_empty H [] d (heads q).1)
 same_last (j ∷ J) [] e d q = absurd (not_empty J [] e (sym (heads q).1))
 same_last (j ∷ J) (h ∷ H) e d q = let t = same_last J H e d (heads q).1 in ((λ i. (heads q).0 i ∷ t.0 i), t.1)
 
-sent_not_got : (s t : SimNo) (item : Item) (m : Message) → Sent s item ≡ Got t m → ⊥
-sent_not_got s t item m e = cc
-
--- an item makes no fault
-pub fault_after_sent : (P : Plan) (J : List Entry) (s : SimNo) (item : Item) → (view P J).fault ≡ None → (view P (J ++ Sent s item ∷ [])).fault ≡ None
-fault_after_sent P J s item h = ap (λ (V : View). V.fault) (view_push P J (Sent s item)) ∙ h
-
-pub patient_sent : (P : Plan) (J : List Entry) (s : SimNo) (item : Item) → IsPatient P J → IsPatient P (J ++ Sent s item ∷ [])
-patient_sent P J s item patient H t m more q i x ready = elim (last_or_before J (Sent s item) H (Got t m) more q) [
-  | inl z ↦ absurd (sent_not_got s t item m z.1)
-  | inr z ↦ patient H t m z.0 z.1 i x ready
-]
-
-pub patient_got : (P : Plan) (J : List Entry) (s : SimNo) (m : Message) → IsPatient P J → (SomeReady P J → ⊥) → IsPatient P (J ++ Got s m ∷ [])
-patient_got P J s m patient nobody H t n more q i x ready = elim (last_or_before J (Got s m) H (Got t n) more q) [
-  | inl z ↦ nobody (i, x, subst (λ (K : List Entry). IsReady P (view P K) i x) (sym z.0) ready)
-  | inr z ↦ patient H t n z.0 z.1 i x ready
-]
-
 pub range_sent : (J : List Entry) (s : SimNo) (item : Item) → AreInRange J → AreInRange (J ++ Sent s item ∷ [])
 range_sent J s item fits H t m more q = elim (last_or_before J (Sent s item) H (Got t m) more q) [
   | inl z ↦ absurd (sent_not_got s t item m z.1)
   | inr z ↦ fits H t m z.0 z.1
 ]
 
-same_message : (s t : SimNo) (m n : Message) → Got s m ≡ Got t n → m ≡ n
+pub same_message : (s t : SimNo) (m n : Message) → Got s m ≡ Got t n → m ≡ n
 same_message s t m n e = cc
 
 pub range_got : (J : List Entry) (s : SimNo) (m : Message) → AreInRange J → is_in_range m ≡ true → AreInRange (J ++ Got s m ∷ [])

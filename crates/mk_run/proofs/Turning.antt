@@ -30,7 +30,6 @@ use Rattle.mk_run_crew.specs.declared.halt.Halt.TheVariants as halt
 use Rattle.mk_run_crew.specs.Calls.{SendsAs, HearsNothing, CanHear, halt_of}
 use Rattle.mk_run_crew.specs.Seen.{CrewSeen, crew_of}
 use Rattle.mk_run.specs.declared.outcome.Outcome.{Outcome}
-use Rattle.mk_run.specs.declared.outcome.Outcome.TheVariants as outcome
 use Rattle.mk_run.specs.inner.Underway.{Setting, reply_in, EndsBy, HasEnded, IsUnderway}
 use Rattle.mk_run.specs.Outcomes.{outcome_of}
 use Rattle.mk_run.specs.inner.Sendings.{CanSend, EndsWithItem, IsUnsent}
@@ -39,7 +38,9 @@ use Rattle.mk_run.proofs.LoopSteps.{can_hear}
 use Rattle.mk_run.proofs.Endings.{unsent_ends, unheard_ends}
 use Rattle.mk_run.proofs.Going.{asked_low, asked_opened, asked_replied, asked_linked, asked_goes}
 use Rattle.mk_run.proofs.Hearing.{heard_low, heard_fits, heard_running, heard_no_other, heard_log_right, answered_opened, answered_replied, answered_linked, answered_goes}
-use Rattle.mk_run.proofs.Pushed.{same_last, patient_got, range_got}
+use Rattle.mk_sched.proofs.Pushed.{patient_got}
+use Rattle.mk_run.proofs.Pushed.{same_last, range_got}
+use Rattle.mk_run.proofs.Shown.{ends_as}
 
 -- ---- sending what the journal ends with
 
@@ -130,15 +131,7 @@ stopped_unheard T core log entries C D h risen u waits un on_links cause = subst
 -- ---- an outcome stays, whatever rises besides
 
 ends_by : (some all : Type 0) (T : Setting) (core : CoreState) (log : List LogEntry) (C : CrewSeen) → (some → all) → (e : Outcome) → EndsBy some T core.plan core.entries log (crew_of C) e → EndsBy all T core.plan core.entries log (crew_of C) e
-ends_by some all T core log C more outcome.Done is = is
-ends_by some all T core log C more (outcome.Setup f) is = is
-ends_by some all T core log C more (outcome.Core f) is = is
-ends_by some all T core log C more outcome.Fleet is = more is
-ends_by some all T core log C more (outcome.Gone i) is = is
-ends_by some all T core log C more (outcome.Garbled i n) is = is
-ends_by some all T core log C more (outcome.LongFrame i n) is = is
-ends_by some all T core log C more (outcome.LongItem i n) is = is
-ends_by some all T core log C more outcome.Mem is = is
+ends_by some all T core log C more = ends_as some all _ _ _ _ _ _ _ _ more
 
 pub stopping_by : (some all : Type 0) (T : Setting) (core : CoreState) (log : List LogEntry) (C : CrewSeen) (end : Outcome) → (some → all) → IsStopping some T core log C end → IsStopping all T core log C end
 stopping_by some all T core log C end more e = record {

@@ -17,11 +17,10 @@ use Rattle.mk_plan.specs.Agreement.{Continues}
 use Rattle.mk_order.proofs.Pushing.{orderly_front}
 use Rattle.mk_sched.specs.declared.faults.CoreFault.{CoreFault}
 use Rattle.mk_sched.specs.declared.faults.CoreFault.TheVariants.{Failed, LoopLimit, TooLong, Wrong}
-use Rattle.mk_sched.specs.Answers.{fault_in}
+use Rattle.mk_sched.specs.Answers.{IsLastFaulty, fault_in}
 use Rattle.mk_run_laws.specs.Kinds.{AnswersByKind, IsKindReply, KeepsToKinds, RepliesAreRight, Replies}
 use Rattle.mk_run_laws.proofs.Existing.{there_are}
 use Rattle.mk_run_laws.proofs.Following.{followed}
-use Rattle.mk_run.specs.Ends.{IsLastFaulty}
 use Rattle.mk_run.specs.Laws.{IsLimit}
 use Rattle.mk_run.proofs.LimitFaults.{IsLoopLimit, fault_is_limit}
 use Rattle.mk_run.proofs.NextRight.{message_right}

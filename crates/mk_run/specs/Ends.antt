@@ -22,7 +22,7 @@ use Rattle.mk_outside.specs.Logs.{heard_on}
 use Rattle.mk_session.specs.Fronts.{BeginsGarbled}
 use Rattle.mk_sched.specs.declared.faults.CoreFault.{CoreFault}
 use Rattle.mk_sched.specs.declared.faults.CoreFault.TheVariants.{TooLong}
-use Rattle.mk_sched.specs.Answers.{fault_in, SomeReady, SomeOpen}
+use Rattle.mk_sched.specs.Answers.{IsLastFaulty, SomeOpen, SomeReady, fault_in}
 use Rattle.mk_run_laws.specs.Hearing.{rest_heard}
 use Rattle.mk_run_laws.specs.Handshake.{sim_link, is_within}
 use Rattle.mk_run_laws.specs.Payloads.{id_after}
@@ -47,16 +47,6 @@ QueuedAll (outcome.Garbled i n) all queued = queued ≡ all
 QueuedAll (outcome.LongFrame i n) all queued = queued ≡ all
 QueuedAll (outcome.LongItem i n) all queued = ⊤
 QueuedAll outcome.Mem all queued = ⊤
-
--- the last entry is a message that makes this fault, and there was none before
-pub record IsLastFaulty (P : Plan) (J : List Entry) (f : CoreFault) : Type 0 where
-  pub before : List Entry
-  pub sim : SimNo
-  pub message : Message
-  pub is : J ≡ before ++ Got sim message ∷ []
-  pub right_before : (view P before).fault ≡ None
-  pub named : IsSome (fault_in f)
-  pub fault : (view P J).fault ≡ fault_in f
 
 -- a message of the run was heard on a link that the journal hasn't got
 pub record IsUngot (started : ℕ) (S : Scenario) (J : List Entry)

@@ -1,4 +1,6 @@
 -- What proofs alone need.
+pub mod Handshakes
 pub mod Sendings
+pub mod Shown
 pub mod Turns
 pub mod Underway

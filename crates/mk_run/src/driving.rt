@@ -1,5 +1,5 @@
 // The loop of a run: whoever is ready is asked, and one message is heard and taken, until the first outcome.
-ghost use Rattle.std.specs.Prelude.{◌≡◌, ◌≤◌, ◌<◌, ◌++◌, ℕ, List, None, Err, IfErr, OnOk, true};
+ghost use Rattle.std.specs.Prelude.{◌≡◌, ◌≤◌, ◌<◌, List, None, Err, IfErr, OnOk, true};
 ghost use Rattle.mk_outside.specs.declared.fleet.LogEntry.{LogEntry};
 ghost use Rattle.mk_local.specs.Registries.{rows_in};
 ghost use Rattle.mk_plan.specs.Plans.{sim_count};
@@ -8,7 +8,7 @@ ghost use Rattle.mk_run_links.specs.Places.{AreOpen};
 ghost use Rattle.mk_run_local.specs.Seen.{AreOf};
 ghost use Rattle.mk_run_crew.specs.Seen.{within_of};
 ghost use Rattle.mk_run.specs.inner.Underway.{Setting};
-ghost use Rattle.mk_run.specs.inner.Turns.{AreLinksOpen, GoesOn, GrowsBy, IsLinkedIfLong, IsLonger, IsNoShorter, IsPast, IsStill, IsStopping, SettlesAs, TakesAs, TurnsAs, Waits};
+ghost use Rattle.mk_run.specs.inner.Turns.{AreLinksOpen, GoesOn, GrowsBy, IsLinkedIfLong, IsLonger, IsNoShorter, IsPast, IsStill, SettlesAs, TakesAs, TurnsAs, Waits};
 
 use crate::outcome::{Outcome, outcome_of};
 use crate::sending::send_last;

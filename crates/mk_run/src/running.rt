@@ -1,5 +1,5 @@
 // A run over a fleet.
-ghost use Rattle.std.specs.Prelude.{◌≡◌, ◌≤◌, ◌<◌, ◌++◌, ℕ, List, [], None, Some, map, true};
+ghost use Rattle.std.specs.Prelude.{◌≡◌, ◌≤◌, List, [], None, Some, map, true};
 ghost use Rattle.mk_outside.specs.declared.fleet.LogEntry.{LogEntry};
 ghost use Rattle.mk_outside.specs.Logs.{Adds};
 ghost use Rattle.mk_scenario.specs.Wellformed.{IsWellformed};
@@ -32,9 +32,9 @@ use mk_sched::Core;
 use std::alloc::Global;
 use std::sync::Wait;
 
-/// Runs a prepared scenario with its ranks over a fleet whose open links have the numbers of started ones. The simulators are started and the handshake is made with each;
-/// then whoever is ready is asked, and one message is heard, and so on until the first outcome. Simulators within the program
-/// are of these kinds. At the end each link that was started is stopped and closed, for which no memory is needed.
+/// Runs a prepared scenario with its ranks over a fleet whose open links have the numbers of started ones. The simulators
+/// are started and the handshake is made with each; then whoever is ready is asked, and one message is heard, and so on
+/// until the first outcome. Simulators within the program are of these kinds. At the end each link that was started is stopped and closed, for which no memory is needed.
 ///
 /// The plan and the journal are there wherever the handshake was made and there was memory for the run. Where all simulators are
 /// within the program the fleet isn't used: it is `run_local`.

@@ -12,7 +12,7 @@ ghost use Rattle.mk_run.specs.inner.Sendings.{CanSend, EndsWithItem, IsUnsent};
 use crate::outcome::{Outcome, outcome_of};
 use mk_base::SimNo;
 use mk_local::Registry;
-use mk_plan::{Entry, Journal};
+use mk_plan::Entry;
 use mk_run_crew::Crew;
 use mk_sched::Core;
 

@@ -82,16 +82,17 @@ abbrev pub HearsAs : Result (SimNo × Message) Halt → List LogEntry → CrewSe
 HearsAs (Ok p) entries old new = IsHeard entries p.0.0 p.1 (crew_of old) (crew_of new)
 HearsAs (Err h) entries old new = HearsNothing h entries old new
 
--- by reads and writes on the lines' links alone a message was heard; or nothing was, for this cause; or no reply was
--- kept, and each link was looked at, on which nothing had come and all is said or the last write
--- took nothing
+-- by reads and writes on the lines' links alone a message was heard; or nothing was, for this
+-- cause; or no reply was kept, and each link was looked at, on which nothing had come and all is
+-- said or the last write took nothing
 abbrev pub TriesAs : Result (Option (SimNo × Message)) Halt → List LogEntry → CrewSeen → CrewSeen
     → Type 0
 TriesAs (Ok (Some p)) entries old new = IsHeard entries p.0.0 p.1 (crew_of old) (crew_of new)
     × AreOfLinks (IsLineLink old.lines) entries
 TriesAs (Ok None) entries old new = IsUnheard entries (crew_of old) (crew_of new)
     × AreOfLinks (IsLineLink old.lines) entries × ArePending entries new.lines
-TriesAs (Err h) entries old new = HearsNothing h entries old new × AreOfLinks (IsLineLink old.lines) entries
+TriesAs (Err h) entries old new = HearsNothing h entries old new
+    × AreOfLinks (IsLineLink old.lines) entries
 
 -- the halt of the links that is answered again after this one: each but want of memory
 abbrev pub lasting_halt : Halt → Option LinkHalt

@@ -34,10 +34,10 @@ abbrev pub TriesAs : Result (Option (SimNo × Message)) LinkHalt → List LogEnt
     → Type 0
 TriesAs (Ok (Some p)) entries old new = IsHeard entries p.0.0 p.1 (crew old) (crew new)
     × AreOfLinks (IsLineLink old) entries
-TriesAs (Ok None) entries old new = IsUnheard entries (crew old) (crew new) × AreOfLinks (IsLineLink old) entries
-    × ArePending entries new
-TriesAs (Err h) entries old new = IsUnheard entries (crew old) (crew new) × AreOfLinks (IsLineLink old) entries
-    × ShowsHalt h entries new
+TriesAs (Ok None) entries old new = IsUnheard entries (crew old) (crew new)
+    × AreOfLinks (IsLineLink old) entries × ArePending entries new
+TriesAs (Err h) entries old new = IsUnheard entries (crew old) (crew new)
+    × AreOfLinks (IsLineLink old) entries × ShowsHalt h entries new
 
 -- every line was stopped by reads and writes on the lines' links alone, and the fleet didn't rest
 abbrev pub StopsAll : List LogEntry → Type 0 → Lines → Type 0

@@ -5,14 +5,13 @@ use Rattle.mk_plan.specs.declared.Journal.{Journal}
 use Rattle.mk_outside.specs.declared.fleet.LogEntry.{LogEntry}
 use Rattle.mk_outside.specs.declared.fleet.LogEntry.TheVariants.{Told}
 use Rattle.mk_outside.specs.Logs.{Adds, greatest_told}
-use Rattle.mk_scenario.specs.declared.parts.Scenario.{Scenario}
 use Rattle.mk_launch.specs.Ready.{IsPrepared}
-use Rattle.mk_local.specs.declared.turn.Turn.{Turn}
 use Rattle.mk_local.specs.Kinds.{name_of}
 use Rattle.mk_sched.specs.Cores.{CoreState}
 use Rattle.mk_run_links.specs.Entries.{IsClockless}
 use Rattle.mk_run_crew.specs.Begun.{HasBegun}
 use Rattle.mk_run_crew.specs.Seen.{CrewSeen}
+use Rattle.mk_run.specs.inner.Handshakes.{Start}
 use Rattle.mk_run.specs.inner.Underway.{Setting, reply_in}
 use Rattle.mk_pace_laws.specs.declared.end.Moment.{Moment}
 use Rattle.mk_pace_laws.specs.declared.end.PaceEnd.{PaceEnd}
@@ -28,16 +27,7 @@ pub record AddsRising (entries : List LogEntry) (old new : Option (List LogEntry
       → (before after : List LogEntry) (n : ℕ) → entries ≡ before ++ Told n ∷ after
       → greatest_told (base ++ before) ≤ n
 
--- what a handshake was made of: how many links were started before, the scenario, its ranks, the
--- kinds at hand, and the log
-pub record Start : Type 0 where
-  pub started : ℕ
-  pub scenario : Scenario
-  pub ranks : List ℕ
-  pub rows : List Turn
-  pub log : List LogEntry
-
--- it is over, the crew stands for what came of it, and no clock was looked at
+-- the handshake is over, the crew stands for what came of it, and no clock was looked at
 pub record IsStarted (A : Start) (C : CrewSeen) (P : Plan) : Type 0 where
   pub prepared : IsPrepared A.scenario (map name_of A.rows)
   pub begun : HasBegun A.started A.scenario A.ranks A.rows A.log C P

@@ -1,18 +1,16 @@
 -- When a paced run has ended, and its crew is still to be stopped. For proofs alone.
-use Rattle.std.specs.Prelude.{◌≡◌, ◌⊎◌, ℕ, ◌≤◌, ⊤, true, List, [], ◌∷◌, ◌++◌, length, filter, Option, Some, None}
+use Rattle.std.specs.Prelude.{◌≡◌, ◌⊎◌, ℕ, ◌≤◌, true, List, [], ◌∷◌, ◌++◌, length, filter, Option, Some, None}
 use Rattle.mk_base.specs.declared.LinkNo.{LinkNo}
 use Rattle.mk_base.specs.declared.SimNo.{SimNo}
-use Rattle.mk_base.specs.Lists.{BeginsWith, IsIn}
+use Rattle.mk_base.specs.Lists.{BeginsWith}
 use Rattle.mk_plan.specs.declared.Entry.{Entry}
 use Rattle.mk_plan.specs.declared.Item.{Item}
 use Rattle.mk_plan.specs.declared.Message.{Message}
 use Rattle.mk_plan.specs.declared.Plan.{Plan}
 use Rattle.mk_plan.specs.Journals.{view, sent, got}
 use Rattle.mk_plan.specs.Ready.{IsDone}
-use Rattle.mk_frame.specs.Frames.{IsTooLong}
 use Rattle.mk_outside.specs.declared.fleet.LogEntry.{LogEntry}
-use Rattle.mk_outside.specs.declared.fleet.LogEntry.TheVariants.{Ended, Rest}
-use Rattle.mk_session.specs.Fronts.{BeginsGarbled}
+use Rattle.mk_outside.specs.declared.fleet.LogEntry.TheVariants.{Rest}
 use Rattle.mk_sched.specs.Cores.{Stands}
 use Rattle.mk_run_laws.specs.Crews.{CrewState}
 use Rattle.mk_run_laws.specs.Handshake.{is_within, sim_link}
@@ -23,9 +21,10 @@ use Rattle.mk_run_laws.specs.Rests.{AllSetUp, IsWellInSetup}
 use Rattle.mk_run_links.specs.Entries.{AreOnOrOfClock, IsRunLink}
 use Rattle.mk_run_laws.specs.inner.Running.{HasLine}
 use Rattle.mk_run.specs.declared.outcome.Outcome.{Outcome}
-use Rattle.mk_run.specs.declared.outcome.Outcome.TheVariants as outcome
-use Rattle.mk_run.specs.Ends.{AreInRange, IsAwaiting, IsFull, IsLastFaulty, IsOpenWithin}
-use Rattle.mk_run.specs.inner.Underway.{HasNoOther, IsPatient, Setting, Suits, reply_in}
+use Rattle.mk_run.specs.Ends.{AreInRange, IsAwaiting, IsFull, IsOpenWithin}
+use Rattle.mk_sched.specs.inner.Patient.{IsPatient}
+use Rattle.mk_run.specs.inner.Shown.{EndsAs}
+use Rattle.mk_run.specs.inner.Underway.{HasNoOther, Setting, Suits, reply_in}
 use Rattle.mk_pace_laws.specs.declared.end.Moment.{Moment}
 use Rattle.mk_pace_laws.specs.declared.end.PaceEnd.{PaceEnd}
 use Rattle.mk_pace_laws.specs.declared.end.PaceEnd.TheVariants as pace
@@ -70,19 +69,10 @@ pub record IsAheadPaced (S : Setting) (J : List Entry) (log : List LogEntry)
 -- what an outcome shows before the crew is stopped
 abbrev pub EndsOutcome : Type 0 → Setting → Plan → List Entry → List LogEntry → CrewState → Outcome
     → Type 0
-EndsOutcome risen S P J log C outcome.Done = IsDone P (view P J)
-EndsOutcome risen S P J log C (outcome.Setup f) = ⊥
-EndsOutcome risen S P J log C (outcome.Core f) = IsLastFaulty P J f
-    ⊎ IsFull P J f (IsAheadPaced S J log C ⊎ IsOpenWithin S.scenario P J)
-EndsOutcome risen S P J log C outcome.Fleet = risen
-EndsOutcome risen S P J log C (outcome.Gone i) = (l : LinkNo) × HasGivenPaced S J log C i.0 l
-    × IsIn (Ended l) log
-EndsOutcome risen S P J log C (outcome.Garbled i n) = (l : LinkNo)
-    × (g : HasGivenPaced S J log C i.0 l) × BeginsGarbled g.line.line.held n
-EndsOutcome risen S P J log C (outcome.LongFrame i n) = (l : LinkNo)
-    × (g : HasGivenPaced S J log C i.0 l) × IsTooLong n g.line.line.held
-EndsOutcome risen S P J log C (outcome.LongItem i n) = IsLongAmong S.started S.scenario P J i.0 n
-EndsOutcome risen S P J log C outcome.Mem = ⊤
+EndsOutcome risen S P J log C = EndsAs risen (IsDone P (view P J))
+    (λ f. IsFull P J f (IsAheadPaced S J log C ⊎ IsOpenWithin S.scenario P J))
+    (HasGivenPaced S J log C) (λ i l g. g.line.line.held)
+    (IsLongAmong S.started S.scenario P J) P J log
 
 abbrev pub EndsPace : Type 0 → Setting → Plan → Tempo → Option ℕ → List Entry → List Moment
     → List LogEntry → CrewState → PaceEnd → Type 0

@@ -27,7 +27,8 @@ use Rattle.mk_local.specs.Simulators.{Simulator}
 use Rattle.mk_sched.specs.Cores.{Stands}
 use Rattle.mk_run_local.specs.Laws.{HasCome}
 use Rattle.mk_run.specs.Ends.{AreInRange}
-use Rattle.mk_run.specs.inner.Underway.{HasNoOther, IsPatient, Setting, Suits, local_at, reply_in}
+use Rattle.mk_sched.specs.inner.Patient.{IsPatient}
+use Rattle.mk_run.specs.inner.Underway.{HasNoOther, Setting, Suits, local_at, reply_in}
 use Rattle.mk_pace_laws.specs.declared.end.Moment.{Moment}
 use Rattle.mk_pace_laws.specs.Moments.{AreMoments, Tempo, moment_at, moments_of}
 use Rattle.mk_pace_laws.specs.Naps.{AreTold, AreNaps, AreAllLinked, IsTimely, NapsLook}

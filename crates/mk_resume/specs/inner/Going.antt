@@ -4,9 +4,7 @@ use Rattle.std.specs.Prelude.{◌≡◌, ℕ, ◌≤◌, Bool, false, List, [], 
 use Rattle.mk_plan.specs.declared.Plan.{Plan}
 use Rattle.mk_plan.specs.declared.Journal.{Journal}
 use Rattle.mk_outside.specs.declared.fleet.LogEntry.{LogEntry}
-use Rattle.mk_scenario.specs.declared.parts.Scenario.{Scenario}
 use Rattle.mk_launch.specs.Ready.{IsPrepared}
-use Rattle.mk_local.specs.declared.turn.Turn.{Turn}
 use Rattle.mk_local.specs.Kinds.{name_of}
 use Rattle.mk_record_read.specs.declared.saved.Saved.{Saved}
 use Rattle.mk_record_read.specs.Seen.{came}
@@ -16,6 +14,7 @@ use Rattle.mk_record_restored.specs.Restored.{IsOnward, IsRestored}
 use Rattle.mk_sched.specs.Cores.{CoreState}
 use Rattle.mk_run_crew.specs.Begun.{HasBegun}
 use Rattle.mk_run_crew.specs.Seen.{CrewSeen, crew_of}
+use Rattle.mk_run.specs.inner.Handshakes.{Start}
 use Rattle.mk_run.specs.inner.Underway.{Setting, reply_in}
 use Rattle.mk_resume_links.specs.inner.Touching.{RestsOver}
 use Rattle.mk_resume_loop.specs.declared.ending.ResumeEnd.{ResumeEnd}
@@ -25,16 +24,7 @@ use Rattle.mk_resume.specs.declared.accepting.Accepted.{Accepted}
 use Rattle.mk_resume.specs.declared.accepting.Accepted.TheVariants as accepted
 use Rattle.mk_resume.specs.Resumed.{HasFaultySaved, IsRefusedBy, IsResumed, ResumesAs}
 
--- what a handshake was made of: how many links were started before, the scenario, its ranks, the
--- kinds at hand, and the log
-pub record Start : Type 0 where
-  pub started : ℕ
-  pub scenario : Scenario
-  pub ranks : List ℕ
-  pub rows : List Turn
-  pub log : List LogEntry
-
--- it is over, and the crew stands for what came of it
+-- the handshake is over, and the crew stands for what came of it
 pub record IsStarted (A : Start) (C : CrewSeen) (P : Plan) : Type 0 where
   pub prepared : IsPrepared A.scenario (map name_of A.rows)
   pub begun : HasBegun A.started A.scenario A.ranks A.rows A.log C P

@@ -1,9 +1,8 @@
 -- For proofs alone. When a resumed run has come to its end, and its crew is still to be stopped.
-use Rattle.std.specs.Prelude.{◌≡◌, ℕ, ◌<◌, ◌⊎◌, max, ⊤, true, List, [], ◌∷◌, ◌++◌, length, map, Some, None, slice_get}
+use Rattle.std.specs.Prelude.{◌≡◌, ℕ, ◌<◌, ◌⊎◌, max, true, List, [], ◌∷◌, ◌++◌, length, map, Some, None, slice_get}
 use Rattle.mk_base.specs.declared.LinkNo.{LinkNo}
 use Rattle.mk_base.specs.declared.SimNo.{SimNo}
-use Rattle.mk_base.specs.Lists.{BeginsWith, IsIn}
-use Rattle.mk_frame.specs.Frames.{IsTooLong}
+use Rattle.mk_base.specs.Lists.{BeginsWith}
 use Rattle.mk_plan.specs.declared.Plan.{Plan}
 use Rattle.mk_plan.specs.declared.Item.{Item}
 use Rattle.mk_plan.specs.declared.Message.{Message}
@@ -12,17 +11,16 @@ use Rattle.mk_plan.specs.Plans.{sim_count}
 use Rattle.mk_plan.specs.Journals.{bare, got, view}
 use Rattle.mk_plan.specs.Ready.{IsDone}
 use Rattle.mk_outside.specs.declared.fleet.LogEntry.{LogEntry}
-use Rattle.mk_outside.specs.declared.fleet.LogEntry.TheVariants.{Ended}
-use Rattle.mk_session.specs.Fronts.{BeginsGarbled}
 use Rattle.mk_sched.specs.Cores.{Stands}
 use Rattle.mk_sched.specs.Answers.{SomeOpen, SomeReady}
 use Rattle.mk_run_laws.specs.Hearing.{first_message}
 use Rattle.mk_run_laws.specs.Handshake.{is_within, sim_link}
 use Rattle.mk_run_laws.specs.Crews.{CrewState}
 use Rattle.mk_run_laws.specs.inner.Running.{HasLine}
-use Rattle.mk_run.specs.declared.outcome.Outcome.TheVariants as outcome
-use Rattle.mk_run.specs.Ends.{AreInRange, IsLastFaulty}
-use Rattle.mk_run.specs.inner.Underway.{Setting, reply_in, Suits, HasNoOther, IsLogRight, IsPatient}
+use Rattle.mk_run.specs.Ends.{AreInRange}
+use Rattle.mk_sched.specs.inner.Patient.{IsPatient}
+use Rattle.mk_run.specs.inner.Shown.{EndsAs}
+use Rattle.mk_run.specs.inner.Underway.{Setting, reply_in, Suits, HasNoOther, IsLogRight}
 use Rattle.mk_resume_walk.specs.Talks.{free_items}
 use Rattle.mk_resume_links.specs.Rests.{Counts, repeated}
 use Rattle.mk_resume_links.specs.Running.{RestsEnd}
@@ -82,21 +80,10 @@ pub record DiffersNow (T : Setting) (first J : List Entry) (heard : Counts) (log
 -- what the end shows before the run is stopped
 abbrev pub EndsBy : Type 0 → Setting → Plan → List Entry → List Entry → Counts → List LogEntry
     → CrewState → ResumeEnd → Type 0
-EndsBy risen T P first J heard log C (ends.Outcome outcome.Done) = IsDone P (view P J)
-    × ((i : ℕ) → i < sim_count P → heard i ≡ length (got J i))
-EndsBy risen T P first J heard log C (ends.Outcome (outcome.Setup f)) = ⊥
-EndsBy risen T P first J heard log C (ends.Outcome (outcome.Core f)) = IsLastFaulty P J f
-    ⊎ IsFull P J f (IsLeftNow T J heard log C)
-EndsBy risen T P first J heard log C (ends.Outcome outcome.Fleet) = risen
-EndsBy risen T P first J heard log C (ends.Outcome (outcome.Gone i)) = (l : LinkNo)
-    × HasGiven T J heard log C i.0 l × IsIn (Ended l) log
-EndsBy risen T P first J heard log C (ends.Outcome (outcome.Garbled i n)) = (l : LinkNo)
-    × (g : HasGiven T J heard log C i.0 l) × BeginsGarbled g.line.line.held n
-EndsBy risen T P first J heard log C (ends.Outcome (outcome.LongFrame i n)) = (l : LinkNo)
-    × (g : HasGiven T J heard log C i.0 l) × IsTooLong n g.line.line.held
-EndsBy risen T P first J heard log C
-    (ends.Outcome (outcome.LongItem i n)) = IsLongFree T.started T.scenario P J heard i.0 n
-EndsBy risen T P first J heard log C (ends.Outcome outcome.Mem) = ⊤
+EndsBy risen T P first J heard log C (ends.Outcome end) = EndsAs risen
+    (IsDone P (view P J) × ((i : ℕ) → i < sim_count P → heard i ≡ length (got J i)))
+    (λ f. IsFull P J f (IsLeftNow T J heard log C)) (HasGiven T J heard log C)
+    (λ i l g. g.line.line.held) (IsLongFree T.started T.scenario P J heard) P J log end
 EndsBy risen T P first J heard log C (ends.OtherPlan n) = ⊥
 EndsBy risen T P first J heard log C (ends.OtherEntry n) = ⊥
 EndsBy risen T P first J heard log C (ends.Differs s place saved other) = DiffersNow T first J heard

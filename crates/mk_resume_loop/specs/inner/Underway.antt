@@ -15,11 +15,11 @@ use Rattle.mk_run_laws.specs.Handshake.{is_within}
 use Rattle.mk_run_laws.specs.Payloads.{id_after}
 use Rattle.mk_run_laws.specs.Crews.{CrewState, IsHeard}
 use Rattle.mk_run_local.specs.Calls.{IsFitSuccess}
-use Rattle.mk_run_local.specs.Laws.{HasCome}
 use Rattle.mk_run_crew.specs.Seen.{CrewSeen, crew_of}
 use Rattle.mk_run_links.specs.Entries.{AreOn, IsRunLink}
 use Rattle.mk_run.specs.Ends.{AreInRange}
-use Rattle.mk_run.specs.inner.Underway.{Setting, reply_in, Suits, HasNoOther, IsLogRight, IsPatient, local_at}
+use Rattle.mk_sched.specs.inner.Patient.{IsPatient}
+use Rattle.mk_run.specs.inner.Underway.{Setting, reply_in, Suits, HasNoOther, IsLogRight}
 use Rattle.mk_resume_walk.specs.Talks.{free_items}
 use Rattle.mk_resume_walk.specs.Walks.{IsGoneTo, IsNextAt}
 use Rattle.mk_resume_walk.specs.Index.{Indexed, IsIndexOf, own_count}
@@ -100,7 +100,8 @@ pub record IsPassing (queued : ℕ → List Item) (awaits : ℕ → List Message
 abbrev pub StandsAt : Plan → List Entry → ℕ → ℕ → Option Standing → Type 0
 StandsAt P J i n None = n ≡ length (got J i)
 StandsAt P J i n (Some c) = IsNextAt J i n (Some c.place)
-    × (own_count i (take (c.place + 1) J) ≡ c.gone) × (c.id ≡ id_after (first_id P i) (free_items J i n))
+    × (own_count i (take (c.place + 1) J) ≡ c.gone)
+    × (c.id ≡ id_after (first_id P i) (free_items J i n))
 
 -- what is kept of all simulators, and an index of a beginning of the journal
 pub record BehindSeen : Type 0 where

@@ -1,9 +1,8 @@
 -- What stands of a run from the end of its handshake on, and when it has ended. For proofs alone.
-use Rattle.std.specs.Prelude.{◌≡◌, ◌==◌, ℕ, ◌<◌, ◌⊎◌, if◌then◌else◌, ⊤, true, false, List, [], ◌∷◌, ◌++◌, length, Option, Some, None, option_and_then, slice_get}
+use Rattle.std.specs.Prelude.{◌≡◌, ◌==◌, ℕ, ◌<◌, ◌⊎◌, if◌then◌else◌, true, false, List, [], ◌∷◌, ◌++◌, length, Option, Some, None, option_and_then, slice_get}
 use Rattle.mk_base.specs.declared.LinkNo.{LinkNo}
 use Rattle.mk_base.specs.declared.SimNo.{SimNo}
-use Rattle.mk_base.specs.declared.tier.Tier.{Tier}
-use Rattle.mk_base.specs.Lists.{IsIn, BeginsWith}
+use Rattle.mk_base.specs.Lists.{BeginsWith}
 use Rattle.mk_plan.specs.declared.Plan.{Plan}
 use Rattle.mk_plan.specs.declared.Item.{Item}
 use Rattle.mk_plan.specs.declared.Message.{Message}
@@ -11,14 +10,12 @@ use Rattle.mk_plan.specs.declared.Entry.{Entry}
 use Rattle.mk_plan.specs.declared.Entry.TheVariants.{Got}
 use Rattle.mk_plan.specs.Plans.{sim_count, first_id}
 use Rattle.mk_plan.specs.Journals.{Arrival, view, sent, got}
-use Rattle.mk_plan.specs.Ready.{IsReady, IsDone}
-use Rattle.mk_frame.specs.Frames.{IsTooLong}
+use Rattle.mk_plan.specs.Ready.{IsDone}
 use Rattle.mk_scenario.specs.declared.parts.Scenario.{Scenario}
 use Rattle.mk_outside.specs.declared.fleet.LogEntry.{LogEntry}
-use Rattle.mk_outside.specs.declared.fleet.LogEntry.TheVariants.{Ended}
-use Rattle.mk_session.specs.Fronts.{BeginsGarbled}
 use Rattle.mk_sched.specs.Cores.{Stands}
 use Rattle.mk_sched.specs.Answers.{SomeOpen, SomeReady}
+use Rattle.mk_sched.specs.inner.Patient.{IsPatient}
 use Rattle.mk_local.specs.declared.turn.Turn.{Turn}
 use Rattle.mk_local.specs.Simulators.{Simulator}
 use Rattle.mk_run_laws.specs.Hearing.{first_message}
@@ -33,8 +30,8 @@ use Rattle.mk_run_local.specs.Calls.{IsFitSuccess}
 use Rattle.mk_run_local.specs.Laws.{HasCome}
 use Rattle.mk_run_local.specs.Made.{kind_reply_of}
 use Rattle.mk_run.specs.declared.outcome.Outcome.{Outcome}
-use Rattle.mk_run.specs.declared.outcome.Outcome.TheVariants as outcome
-use Rattle.mk_run.specs.Ends.{AreInRange, QueuedAll, IsAwaiting, IsBrokenOff, IsLastFaulty, IsOpenWithin, IsFull, IsLongItem, SetupRestsWell, fault_named}
+use Rattle.mk_run.specs.Ends.{AreInRange, QueuedAll, IsAwaiting, IsBrokenOff, IsOpenWithin, IsFull, IsLongItem, SetupRestsWell, fault_named}
+use Rattle.mk_run.specs.inner.Shown.{EndsAs}
 
 -- how many links were started before the run, its scenario, the kinds at hand, the replies of each
 -- simulator to its handshake, and the plan that these make
@@ -83,11 +80,6 @@ put f s x i = if i == s then x else f i
 -- each simulator within the program has come on by the items that the journal sent it
 abbrev pub HaveCome : Setting → List Entry → List (Option Simulator) → Type 0
 HaveCome T J = HaveComeBy T (sent J)
-
--- no message came while a simulator was ready
-abbrev pub IsPatient : Plan → List Entry → Type 0
-IsPatient P J = (H : List Entry) (s : SimNo) (m : Message) (more : List Entry)
-    → J ≡ H ++ Got s m ∷ more → (i : ℕ) (x : Tier) → IsReady P (view P H) i x → ⊥
 
 -- over this log each rest of the handshake is right, and no link but the run's was read or written
 pub record IsLogRight (T : Setting) (log : List LogEntry) : Type 0 where
@@ -155,19 +147,9 @@ pub record IsAhead (T : Setting) (J : List Entry) (log : List LogEntry)
 -- what the outcome shows before the run is stopped
 abbrev pub EndsBy : Type 0 → Setting → Plan → List Entry → List LogEntry → CrewState → Outcome
     → Type 0
-EndsBy risen T P J log C outcome.Done = IsDone P (view P J)
-EndsBy risen T P J log C (outcome.Setup f) = ⊥
-EndsBy risen T P J log C (outcome.Core f) = IsLastFaulty P J f
-    ⊎ IsFull P J f (IsAhead T J log C ⊎ IsOpenWithin T.scenario P J)
-EndsBy risen T P J log C outcome.Fleet = risen
-EndsBy risen T P J log C (outcome.Gone i) = (l : LinkNo) × HasGiven T J log C i.0 l
-    × IsIn (Ended l) log
-EndsBy risen T P J log C (outcome.Garbled i n) = (l : LinkNo) × (g : HasGiven T J log C i.0 l)
-    × BeginsGarbled g.line.line.held n
-EndsBy risen T P J log C (outcome.LongFrame i n) = (l : LinkNo) × (g : HasGiven T J log C i.0 l)
-    × IsTooLong n g.line.line.held
-EndsBy risen T P J log C (outcome.LongItem i n) = IsLongItem T.started T.scenario P J i.0 n
-EndsBy risen T P J log C outcome.Mem = ⊤
+EndsBy risen T P J log C = EndsAs risen (IsDone P (view P J))
+    (λ f. IsFull P J f (IsAhead T J log C ⊎ IsOpenWithin T.scenario P J)) (HasGiven T J log C)
+    (λ i l g. g.line.line.held) (IsLongItem T.started T.scenario P J) P J log
 
 -- the run has come to its outcome, and its crew is still to be stopped
 pub record HasEnded (risen : Type 0) (T : Setting) (P : Plan) (J : List Entry) (log : List LogEntry)

@@ -25,7 +25,8 @@ only_by s given i = if s == i then given else []
 -- one link was polled, and its line moved; or all lines are parked, and nothing was done
 abbrev pub LooksAs : Looked → List LogEntry → Lines → Lines → Type 0
 LooksAs (looked.Heard sim h) entries old new = AreMoved entries (only_by sim.0 (message_in h))
-    (crew old) (crew new) × AreOfLinks (IsLineLink old) entries × IsLinked sim.0 old × HeardOf sim.0 h entries new
+    (crew old) (crew new) × AreOfLinks (IsLineLink old) entries × IsLinked sim.0 old
+    × HeardOf sim.0 h entries new
 LooksAs looked.Parked entries old new = AreMoved entries (λ i. []) (crew old) (crew new)
     × AreOfLinks (IsLineLink old) entries
 LooksAs looked.Quiet entries old new = (new ≡ old) × (entries ≡ []) × AreParked old
