@@ -22,9 +22,9 @@ use Rattle.mosaikrun_check.specs.Runnable.{IsRunnable, IsUnrunnable}
 use Rattle.mosaikrun_endings.specs.declared.ending.Ending.{Ending}
 use Rattle.mosaikrun_endings.specs.declared.ending.Ending.TheVariants as endings
 use Rattle.mosaikrun_sayings.specs.Sayings.{ids_of}
-use Rattle.mosaikrun_run.specs.Outcomes.{IsIdle, IsReadAgain, IsSaid, Outside}
+use Rattle.mosaikrun_run.specs.Outcomes.{IsReadAgain, IsSaid, Outside}
 use Rattle.mosaikrun_run.specs.Sayings.{halt_ending, record_of}
-use Rattle.mosaikrun_run.proofs.Telling.{writable}
+use Rattle.mosaikrun_run.proofs.Telling.{idle, writable}
 use Rattle.mosaikrun_paced.specs.Outcomes.{IsPacedOutcome, IsPacedScenario}
 use Rattle.mosaikrun_paced.specs.Sayings.{pace_saying}
 use Rattle.mosaikrun_paced.specs.inner.Halts.{IsHaltEnd}
@@ -93,9 +93,6 @@ module _ (O : Outside) (S : Scenario) (ranks : List ℕ) (factor : ℕ) (strict 
         }))
 
 -- or nothing was done
-idle : (O : Outside) (kept : Option (List ℕ)) → kept ≡ None → O.log ≡ [] → O.new_faults ≡ O.faults → IsIdle O kept
-idle O kept none quiet same = record { quiet = quiet; same_faults = same; unrecorded = none }
-
 pub unready : (O : Outside) (factor : ℕ) (strict : Option ℕ) (wanted : Bool) (S : Scenario) (e : Ending) (text : Result (List ℕ) Ending) (kept : Option (List ℕ)) → text ≡ Err e → kept ≡ None → O.log ≡ [] → O.new_faults ≡ O.faults → IsUnrunnable (map name_of O.kinds) S e → IsPacedScenario O factor strict wanted S text kept
 unready O factor strict wanted S e text kept is none quiet same cause = inl (record { ending = e; is = is; cause = cause; idle = idle O kept none quiet same })
 

@@ -25,8 +25,7 @@ use mk_pace::{PaceEnd, PaceRan, paced};
 use mk_plan::{Journal, Plan};
 use mk_scenario::Scenario;
 use mosaikrun_check::scenario_of;
-use mosaikrun_endings::Ending;
-use mosaikrun_run::{Accepted, Told, accept, record_of};
+use mosaikrun_run::{Accepted, Told, accept};
 use std::alloc::Global;
 use std::sync::Wait;
 
@@ -182,11 +181,6 @@ fn tell(
     ensures again { IfSome result.record
         (λ r. IsReadAgain plan.now journal.now.entries r.items) }
 {
-    match record_of(alloc, plan, journal, is_recorded) {
-        Ok(record) => Told {
-            text: saying_at(alloc, ids, end, plan, journal),
-            record,
-        },
-        Err(_) => Told::unrecorded(Ending::Mem),
-    }
+    let text = saying_at(alloc, ids, end, plan, journal);
+    Told::recorded(alloc, text, plan, journal, is_recorded)
 }

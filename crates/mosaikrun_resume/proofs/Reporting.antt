@@ -1,24 +1,19 @@
 -- The report of a resumed run is sequential execution's.
-use Rattle.std.proofs.Common.{◌≡◌, ℕ, ◌<◌, Bool, true, List, [], length, map, take, Option, Some, Result, Ok, Err, inl, inr, refl, sym, ap, ◌∙◌, subst, arith}
-use Rattle.mk_base.specs.declared.LinkNo.{LinkNo}
+use Rattle.std.proofs.Common.{◌≡◌, ℕ, ◌<◌, Bool, List, [], length, map, Option, Ok, inl, inr, sym, ap, ◌∙◌, subst, arith}
 use Rattle.mk_base.specs.Lists.{BeginsWith}
 use Rattle.mk_base.proofs.Lists.{append_nil}
 use Rattle.mk_plan.specs.declared.Plan.{Plan}
-use Rattle.mk_plan.specs.declared.Item.{Item}
 use Rattle.mk_plan.specs.declared.Entry.{Entry}
-use Rattle.mk_plan.specs.declared.Message.{Message}
 use Rattle.mk_plan.specs.Agreement.{Continues}
 use Rattle.mk_plan.specs.Journals.{bare, got, sent, view}
 use Rattle.mk_plan.specs.Plans.{sim_count}
 use Rattle.mk_plan.specs.Ready.{IsDone}
 use Rattle.mk_plan.specs.Report.{report}
-use Rattle.mk_plan.specs.Sequential.{Messages, all_ended, run_items, sequential}
+use Rattle.mk_plan.specs.Sequential.{Messages, run_items}
 use Rattle.mk_scenario.specs.declared.parts.Scenario.{Scenario}
 use Rattle.mk_record_read.specs.declared.saved.Saved.{Saved}
 use Rattle.mk_record_report.proofs.Bare.{report_bare}
 use Rattle.mk_run.specs.declared.outcome.Outcome.TheVariants as outcome
-use Rattle.mk_run.specs.Ends.{IsRun}
-use Rattle.mk_run_laws.specs.Handshake.{sim_link}
 use Rattle.mk_run_laws.specs.Rests.{run_messages}
 use Rattle.mk_run_laws.proofs.Following.{IsAllOf, all_done}
 use Rattle.mk_run_local.specs.Made.{kind_reply_of}

@@ -1,13 +1,10 @@
 -- From what a resumed run has come to, to what is said of it.
-use Rattle.std.proofs.Common.{◌≡◌, ◌⊎◌, inl, inr, ℕ, Bool, true, false, List, [], map, Option, Some, None, Result, Ok, Err, refl, sym, ap, ◌∙◌, subst}
+use Rattle.std.proofs.Common.{◌≡◌, ◌⊎◌, inl, inr, ℕ, Bool, true, false, List, [], map, Option, Some, None, Result, Err, refl, sym, ap, ◌∙◌, subst}
 use Rattle.std.specs.Prelude.{IfSome}
 use Rattle.std.specs.List.{list_all}
 use Rattle.mk_plan.specs.declared.Plan.{Plan}
 use Rattle.mk_plan.specs.declared.Journal.{Journal}
-use Rattle.mk_plan.specs.declared.Entry.{Entry}
-use Rattle.mk_outside.specs.Counts.{HasRisen}
 use Rattle.mk_scenario.specs.declared.parts.Scenario.{Scenario}
-use Rattle.mk_scenario.specs.Scenarios.{scenario_of}
 use Rattle.mk_local.specs.Kinds.{name_of}
 use Rattle.mk_record_read.specs.declared.saved.Saved.{Saved}
 use Rattle.mk_record.specs.Reading.{reading, Said}
@@ -20,16 +17,15 @@ use Rattle.mk_run_crew.specs.declared.halt.Halt.{Halt}
 use Rattle.mk_run_crew.specs.declared.halt.Halt.TheVariants as halt
 use Rattle.mk_resume_loop.specs.declared.ending.ResumeEnd.{ResumeEnd}
 use Rattle.mk_resume_loop.specs.declared.ending.ResumeEnd.TheVariants as ends
-use Rattle.mk_resume.specs.Resumed.{HasNotBegun, HasResumed, IsRefusedBy, ResumesAs}
-use Rattle.mosaikrun_check.specs.Checks.{IsUnchecked}
+use Rattle.mk_resume.specs.Resumed.{HasResumed, IsRefusedBy, ResumesAs}
 use Rattle.mosaikrun_check.specs.Runnable.{IsRunnable}
 use Rattle.mosaikrun_endings.specs.declared.ending.Ending.{Ending}
 use Rattle.mosaikrun_endings.specs.declared.ending.Ending.TheVariants as endings
 use Rattle.mosaikrun_records.specs.Saved.{IsUnread}
 use Rattle.mosaikrun_sayings.specs.Sayings.{ids_of}
-use Rattle.mosaikrun_run.specs.Outcomes.{IsIdle, IsReadAgain, IsSaid, Outside}
+use Rattle.mosaikrun_run.specs.Outcomes.{IsReadAgain, IsSaid, Outside}
 use Rattle.mosaikrun_run.specs.Sayings.{halt_ending, record_of}
-use Rattle.mosaikrun_run.proofs.Telling.{writable}
+use Rattle.mosaikrun_run.proofs.Telling.{idle, writable}
 use Rattle.mosaikrun_resume.specs.Outcomes.{IsSavedOutcome, IsStudyOutcome}
 use Rattle.mosaikrun_resume.specs.Sayings.{resume_saying}
 use Rattle.mosaikrun_resume.specs.inner.Refusals.{IsRefusalEnd}
@@ -120,9 +116,6 @@ module _ (O : Outside) (S : Scenario) (ranks : List ℕ) (saved : Saved) (end : 
       ]
 
 -- or nothing was done
-idle : (O : Outside) (kept : Option (List ℕ)) → kept ≡ None → O.log ≡ [] → O.new_faults ≡ O.faults → IsIdle O kept
-idle O kept none quiet same = record { quiet = quiet; same_faults = same; unrecorded = none }
-
 pub no_record : (O : Outside) (wanted : Bool) (S : Scenario) (ranks bytes : List ℕ) (e : Ending) (text : Result (List ℕ) Ending) (kept : Option (List ℕ)) → text ≡ Err e → kept ≡ None → O.log ≡ [] → O.new_faults ≡ O.faults → IsUnread bytes e → IsStudyOutcome O wanted S ranks bytes text kept
 no_record O wanted S ranks bytes e text kept is none quiet same cause = inl (record { ending = e; is = is; cause = cause; idle = idle O kept none quiet same })
 

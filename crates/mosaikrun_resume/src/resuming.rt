@@ -5,7 +5,6 @@ ghost use Rattle.mk_launch.specs.Starts.{AreNumbered};
 ghost use Rattle.mk_local.specs.Kinds.{name_of};
 ghost use Rattle.mk_local.specs.Registries.{rows_in};
 ghost use Rattle.mk_run_crew.specs.Wholly.{is_wholly_within};
-ghost use Rattle.mk_record.specs.Reading.{reading, Said};
 ghost use Rattle.mk_record.specs.Seen.{came};
 ghost use Rattle.mk_record.specs.Steps.{IsKnown};
 ghost use Rattle.mk_record.specs.Writable.{is_writable};
@@ -14,11 +13,10 @@ ghost use Rattle.mk_scenario.specs.Wellformed.{IsWellformed};
 ghost use Rattle.mosaikrun_check.specs.Checks.{IsUnchecked};
 ghost use Rattle.mosaikrun_check.specs.Runnable.{IsRunnable};
 ghost use Rattle.mosaikrun_endings.specs.declared.ending.Ending.TheVariants as ends;
-ghost use Rattle.mosaikrun_records.specs.Saved.{IsUnread};
 ghost use Rattle.mosaikrun_run.specs.Outcomes.{HoldsOver, IsReadAgain, IsSaid};
 ghost use Rattle.mosaikrun_run.specs.Sayings.{record_of};
 ghost use Rattle.mosaikrun_sayings.specs.Sayings.{ids_of};
-ghost use Rattle.mosaikrun_resume.specs.Outcomes.{IsResumeOutcome, IsStudyOutcome, IsSavedOutcome};
+ghost use Rattle.mosaikrun_resume.specs.Outcomes.{IsStudyOutcome, IsSavedOutcome};
 ghost use Rattle.mosaikrun_resume.specs.Sayings.{resume_saying};
 
 use crate::sayings::{refusal, saying_at};
@@ -32,7 +30,7 @@ use mk_scenario::Scenario;
 use mosaikrun_check::scenario_of;
 use mosaikrun_endings::Ending;
 use mosaikrun_records::saved_of;
-use mosaikrun_run::{Accepted, Told, accept, record_of};
+use mosaikrun_run::{Accepted, Told, accept};
 use std::alloc::Global;
 use std::sync::Wait;
 
@@ -202,13 +200,8 @@ fn tell_recorded(
     ensures again { IfSome result.record
         (λ r. IsReadAgain plan.now journal.now.entries r.items) }
 {
-    match record_of(alloc, plan, journal, is_recorded) {
-        Ok(record) => Told {
-            text: saying_at(alloc, ids, end, plan, journal),
-            record,
-        },
-        Err(_) => Told::unrecorded(Ending::Mem),
-    }
+    let text = saying_at(alloc, ids, end, plan, journal);
+    Told::recorded(alloc, text, plan, journal, is_recorded)
 }
 
 // What is said of a run whose record's messages met a fault. Nothing is recorded.

@@ -60,6 +60,15 @@ pub made_with_ending : {V : Type 0} (items : V → List ℕ) (wanted : Option (L
 made_with_ending items wanted kept text e is (inl made) t told = inl made
 made_with_ending items wanted kept text e is (inr none) t told = inr (ap (option_map items) none.0, (let same = sym is ∙ none.1 in let this : e ≡ ends.Mem = cc in told ∙ ap (λ x. Err x) this))
 
+-- what is said, where there may be no memory for the record
+pub said_text : {V : Type 0} (items : V → List ℕ) (wanted : Result (List ℕ) Ending) (text told : Result V Ending) → (told ≡ text) ⊎ (told ≡ Err ends.Mem) → IfOk text (λ v. wanted ≡ Ok (items v)) → IfOk told (λ v. IsSaid wanted (Ok (items v)))
+said_text {V} items wanted text told (inl same) h = subst (λ (r : Result V Ending). IfOk r (λ v. IsSaid wanted (Ok (items v)))) (sym same) (if_ok text (λ v is said. inl (sym said)) h)
+said_text {V} items wanted text told (inr none) h = subst (λ (r : Result V Ending). IfOk r (λ v. IsSaid wanted (Ok (items v)))) (sym none) tt
+
+pub said_ending : {V : Type 0} (wanted : Result (List ℕ) Ending) (text told : Result V Ending) → (told ≡ text) ⊎ (told ≡ Err ends.Mem) → IfErr text (λ e. IsSaid wanted (Err e)) → IfErr told (λ e. IsSaid wanted (Err e))
+said_ending {V} wanted text told (inl same) h = subst (λ (r : Result V Ending). IfErr r (λ e. IsSaid wanted (Err e))) (sym same) h
+said_ending {V} wanted text told (inr none) h = subst (λ (r : Result V Ending). IfErr r (λ e. IsSaid wanted (Err e))) (sym none) (inr refl)
+
 module _ (O : Outside) (S : Scenario) (ranks : List ℕ) (end : Outcome) where
   abbrev Runs : Option Plan → Option Journal → Type 0
   Runs plan journal = RunsAs O.started S ranks O.kinds plan journal O.log O.faults O.new_faults end
@@ -108,7 +117,7 @@ module _ (O : Outside) (S : Scenario) (ranks : List ℕ) (end : Outcome) where
         }))
 
 -- or nothing was done
-idle : (O : Outside) (kept : Option (List ℕ)) → kept ≡ None → O.log ≡ [] → O.new_faults ≡ O.faults → IsIdle O kept
+pub idle : (O : Outside) (kept : Option (List ℕ)) → kept ≡ None → O.log ≡ [] → O.new_faults ≡ O.faults → IsIdle O kept
 idle O kept none quiet same = record { quiet = quiet; same_faults = same; unrecorded = none }
 
 pub unready : (O : Outside) (form : Form) (wanted : Bool) (S : Scenario) (e : Ending) (text : Result (List ℕ) Ending) (kept : Option (List ℕ)) → text ≡ Err e → kept ≡ None → O.log ≡ [] → O.new_faults ≡ O.faults → IsUnrunnable (map name_of O.kinds) S e → IsScenarioOutcome O form wanted S text kept

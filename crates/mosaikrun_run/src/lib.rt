@@ -7,5 +7,5 @@ mod running;
 mod sayings;
 
 pub use laws::{alike_is_one_text, records_are_there, texts_are_sequential, within_is_one_text};
-pub use running::{Accepted, Told, accept, played, ran, record_of, unrun};
+pub use running::{Accepted, Told, accept, played, ran, unrun};
 pub use sayings::{Form, saying};

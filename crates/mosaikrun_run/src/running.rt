@@ -1,5 +1,5 @@
 // From a scenario, or a file's bytes, to the text and the record of its run.
-ghost use Rattle.std.specs.Prelude.{◌≡◌, ◌≤◌, ◌<◌, ◌⊎◌, IfOk, IfErr, IfSome, Some, None, Ok, Err, map, option_map, true};
+ghost use Rattle.std.specs.Prelude.{◌≡◌, ◌≤◌, ◌⊎◌, IfOk, IfErr, IfSome, Some, None, Ok, Err, map, option_map, true};
 ghost use Rattle.std.specs.List.{list_all};
 ghost use Rattle.mk_plan.specs.declared.Plan.{Plan};
 ghost use Rattle.mk_plan.specs.declared.Journal.{Journal};
@@ -11,7 +11,6 @@ ghost use Rattle.mk_launch.specs.Starts.{AreNumbered};
 ghost use Rattle.mk_local.specs.Kinds.{name_of};
 ghost use Rattle.mk_local.specs.Registries.{rows_in};
 ghost use Rattle.mosaikrun_check.specs.Runnable.{IsRunnable, IsUnrunnable};
-ghost use Rattle.mk_run.specs.Ran.{RunsAs};
 ghost use Rattle.mk_record.specs.Writable.{is_writable};
 ghost use Rattle.mk_run_crew.specs.declared.halt.Halt.{Halt};
 ghost use Rattle.mk_run.specs.Outcomes.{outcome_of};
@@ -50,6 +49,28 @@ impl Told {
         Told {
             text: Err(ending),
             record: None,
+        }
+    }
+
+    /// A run with a plan and a journal, of which this is said, and its record where one is wanted; or memory is wanting for that.
+    pub fn recorded(
+        alloc: Global,
+        text: Result<Vec<u8>, Ending>,
+        plan: &Plan,
+        journal: &Journal,
+        is_recorded: bool,
+    ) -> Told
+        requires { list_all is_writable journal.now.entries ≡ true }
+        ensures text { (result.text ≡ text) ⊎ (result.text ≡ Err ends.Mem) }
+        ensures recorded { (option_map (λ r. r.items) result.record
+            ≡ record_of is_recorded plan.now journal.now.entries)
+            ⊎ ((result.record ≡ None) × (result.text ≡ Err ends.Mem)) }
+        ensures again { IfSome result.record
+            (λ r. IsReadAgain plan.now journal.now.entries r.items) }
+    {
+        match record_of(alloc, plan, journal, is_recorded) {
+            Ok(record) => Told { text, record },
+            Err(_) => Told::unrecorded(Ending::Mem),
         }
     }
 }
@@ -218,17 +239,12 @@ fn tell(
     ensures again { IfSome result.record
         (λ r. IsReadAgain plan.now journal.now.entries r.items) }
 {
-    match record_of(alloc, plan, journal, is_recorded) {
-        Ok(record) => Told {
-            text: saying(alloc, form, ids, outcome, plan, journal),
-            record,
-        },
-        Err(_) => Told::unrecorded(Ending::Mem),
-    }
+    let text = saying(alloc, form, ids, outcome, plan, journal);
+    Told::recorded(alloc, text, plan, journal, is_recorded)
 }
 
-/// The record of the plan and the journal, where one is wanted.
-pub fn record_of(
+// The record of the plan and the journal, where one is wanted.
+fn record_of(
     alloc: Global,
     plan: &Plan,
     journal: &Journal,

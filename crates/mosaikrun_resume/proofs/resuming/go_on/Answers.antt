@@ -4,7 +4,7 @@ use Rattle.mk_local.specs.Registries.{rows_in}
 use Rattle.mosaikrun_run.specs.Sayings.{record_of}
 use Rattle.mosaikrun_run.specs.Outcomes.{IsReadAgain, outside}
 use Rattle.mosaikrun_run.proofs.Telling.{if_err, if_mapped, if_ok, made_with_ending, made_with_text}
-use Rattle.mosaikrun_resume.proofs.Telling.{is_refusal, may_be_written, not_one, not_other, refused, some}
+use Rattle.mosaikrun_resume.proofs.Telling.{is_refusal, may_be_written, refused, some}
 use Rattle.mosaikrun_resume.proofs.resuming.go_on.Goals as goal
 
 pub tell-requires : goal.tell-requires

@@ -1,0 +1,9 @@
+use Rattle.mosaikrun_run.proofs.Telling.{said_ending, said_text}
+use Rattle.mosaikrun_paced.specs.Sayings.{pace_saying}
+use Rattle.mosaikrun_paced.proofs.pacing.tell.Goals as goal
+
+pub returns-clause-text : goal.returns-clause-text
+returns-clause-text c = said_text (λ v. v.items) (pace_saying c.args.ids.now c.args.plan.now c.args.journal.now.entries c.args.end) c.saying_at-text.result c.recorded.result.text c.recorded.ensures.text c.saying_at-text.ensures.text
+
+pub returns-clause-none : goal.returns-clause-none
+returns-clause-none c = said_ending (pace_saying c.args.ids.now c.args.plan.now c.args.journal.now.entries c.args.end) c.saying_at-text.result c.recorded.result.text c.recorded.ensures.text c.saying_at-text.ensures.none
