@@ -1,5 +1,5 @@
 -- What a run's journal has may stand in its record.
-use Rattle.std.proofs.Common.{◌≡◌, ℕ, suc, ◌+◌, ◌^◌, ◌<◌, ◌≤◌, ◌⊎◌, inl, inr, ℤ, pos, ◌≤ℤ◌, int_le, ◌&&◌, Bool, true, false, List, [], ◌∷◌, ◌++◌, length, map, filter_map, Option, Some, None, unwrap_or, option_map, refl, sym, ap, ◌∙◌, subst, arith, append_assoc, length-append}
+use Rattle.std.proofs.Common.{◌≡◌, ℕ, suc, ◌+◌, ◌^◌, ◌<◌, ◌≤◌, inl, inr, ℤ, pos, ◌≤ℤ◌, int_le, ◌&&◌, true, List, [], ◌∷◌, ◌++◌, length, map, filter_map, Option, Some, None, unwrap_or, option_map, refl, sym, ap, ◌∙◌, subst, arith, append_assoc, length-append}
 use Rattle.std.specs.List.{cons_option}
 use Rattle.std.proofs.lemmas.Bool.{and_from}
 use Rattle.std.proofs.lemmas.Int.{ints}
@@ -27,6 +27,7 @@ use Rattle.mk_record_laws.specs.Readable.{IsHeard, IsReadable, MayStand}
 use Rattle.mk_record_laws.proofs.Steps.{EntryFits, StepFits, steps_fit}
 use Rattle.mk_run.specs.declared.outcome.Outcome.{Outcome}
 use Rattle.mk_run.specs.Ran.{HasRun}
+use Rattle.mk_run.proofs.ItemSent.{bool_or_not}
 use Rattle.mosaikrun_again.specs.Readable.{IsShallow, RunsAreReadable}
 use Rattle.mosaikrun_again.proofs.KindReplies.{kind_heard}
 use Rattle.mosaikrun_again.proofs.LinkMessages.{link_read}
@@ -57,10 +58,6 @@ first_low P valid i low =
     let same : first_id P i ≡ t.0.first_id = ap (λ (o : Option PlanSim). unwrap_or (option_map (λ (s : PlanSim). s.first_id) o) 0) t.1 in
     let few : t.0.first_id ≤ 1000000 = all_at (λ (s : PlanSim). s.first_id ≤ 1000000) P.sims i t.0 valid.well_formed.limits.first_ids t.1 in
     omega (arith, same, few)
-
-bool_or_not : (b : Bool) → (b ≡ true) ⊎ (b ≡ false)
-bool_or_not true = inl refl
-bool_or_not false = inr refl
 
 module _ (started : ℕ) (S : Scenario) (ranks : List ℕ) (rows : List Turn) (P : Plan) (J : List Entry) (log : List LogEntry) (faults new_faults : ℕ) (end : Outcome) (h : HasRun started S ranks rows P J log faults new_faults end) (shallow : IsShallow S J) where
   -- the ids of a simulator's requests in a run are below 2^63

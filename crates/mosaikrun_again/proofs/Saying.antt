@@ -12,7 +12,7 @@ use Rattle.mk_plan.specs.Sequential.{Messages, all_ended, messages_in, run_items
 use Rattle.mk_order.proofs.Headlines.{orderly_agrees, orderly_finished}
 use Rattle.mk_sched.specs.declared.faults.CoreFault.{CoreFault}
 use Rattle.mk_sched.specs.declared.faults.CoreFault.TheVariants as core
-use Rattle.mk_sched.specs.Answers.{fault_in}
+use Rattle.mk_sched.specs.Answers.{fault_in, IsLastFaulty}
 use Rattle.mk_outside.specs.declared.fleet.LogEntry.{LogEntry}
 use Rattle.mk_scenario.specs.declared.parts.Scenario.{Scenario}
 use Rattle.mk_run_laws.specs.Kinds.{Replies}
@@ -23,7 +23,7 @@ use Rattle.mk_run.specs.Ends.{IsRun}
 use Rattle.mk_record_read.specs.Texts.{record_text}
 use Rattle.mk_record_laws.specs.Again.{steps_of}
 use Rattle.mk_record_replay.specs.declared.replaying.ReplayEnd.TheVariants as ends
-use Rattle.mk_record_replay.specs.Replays.{EndsBy, IsLastFaulty, IsReplay, messages_from}
+use Rattle.mk_record_replay.specs.Replays.{EndsBy, IsReplay, messages_from}
 use Rattle.mk_record_replay.specs.Orders.{IsReplayBy}
 use Rattle.mk_record_replay.proofs.Pushing.{got_is}
 use Rattle.mk_record_report.proofs.Bare.{report_bare}
@@ -147,7 +147,7 @@ said_again started S reply P J log faults new_faults outcome.Done run read said 
 said_again started S reply P J log faults new_faults (outcome.Core f) run read said ids o is not =
     one_outcome (record_text P J) None o (saying_of Report ids P J (outcome.Core f)) is (own_ending P J run.valid run.eager run.within read ids f said (by_last run.shown)) not (not_mem ids P J f)
   where
-    by_last : (runs.IsLastFaulty P J f ⊎ runs.IsFull P J f (runs.IsMessageLeft started S P J log)) → IsLastFaulty P J f
+    by_last : (IsLastFaulty P J f ⊎ runs.IsFull P J f (runs.IsMessageLeft started S P J log)) → IsLastFaulty P J f
     by_last (inl last) = record { before = last.before; sim = last.sim; message = last.message; is = last.is; right_before = last.right_before; named = last.named; fault = last.fault }
     by_last (inr long) = absurd (let none : IsSome (fault_in (core.TooLong P.entries)) = subst (λ (g : CoreFault). IsSome (fault_in g)) long.named said in cc)
 said_again started S reply P J log faults new_faults (outcome.Setup f) run read said ids o is not = absurd said
@@ -166,7 +166,7 @@ limit_again started S reply P J log faults new_faults f run read none ids o is n
     by_end (inl limit) = inl (one_outcome (record_text P J) None o (saying_of Report ids P J (outcome.Core f)) is (own_limit P J run.valid run.eager run.within read ids f none limit) not (not_mem ids P J f))
     by_end (inr (n, short)) = inr (n, one_outcome (record_text P J) None o (Err (endings.Short n)) is (own_short P J run.valid run.eager run.within read n short) not (λ e. cc))
 
-    by_shown : (runs.IsLastFaulty P J f ⊎ runs.IsFull P J f (runs.IsMessageLeft started S P J log)) → IsLimitAgain (saying_of Report ids P J (outcome.Core f)) o
+    by_shown : (IsLastFaulty P J f ⊎ runs.IsFull P J f (runs.IsMessageLeft started S P J log)) → IsLimitAgain (saying_of Report ids P J (outcome.Core f)) o
     by_shown (inl last) = absurd (true≢false (sym last.named ∙ ap (λ (x : Option Fault). is_some x) none))
     by_shown (inr long) = by_end (full_again P J f (runs.IsMessageLeft started S P J log) long)
 

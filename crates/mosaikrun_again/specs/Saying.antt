@@ -68,7 +68,8 @@ pub record ReplaysSayTheSame : Type 0 where
 
 -- the record of a run is read as its plan and journal; the replay of that has to do with the run
 -- what is said above, and `replay` says the same
-pub record IsRecordOfRun (ids : List (List ℕ)) (P : Plan) (J : List Entry) (end : Outcome) : Type 0 where
+pub record IsRecordOfRun (ids : List (List ℕ)) (P : Plan) (J : List Entry) (end : Outcome)
+    : Type 0 where
   pub read : IsReadAs P J
   pub replayed : (K : List Entry) (replay_end : ReplayEnd)
       → IsReplayBy P (arrivals J) (Some (steps_of J)) None K replay_end

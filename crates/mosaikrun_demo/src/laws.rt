@@ -1,6 +1,5 @@
 // What the demo's run has nothing to do with.
-ghost use Rattle.std.specs.Prelude.{◌≡◌, ℕ, List, Err};
-ghost use Rattle.mosaikrun_endings.specs.declared.ending.Ending.{Ending};
+ghost use Rattle.std.specs.Prelude.{ℕ, List, Err};
 ghost use Rattle.mosaikrun_endings.specs.declared.ending.Ending.TheVariants as ends;
 ghost use Rattle.mosaikrun_endings.specs.declared.links.LinkFault.{LinkFault};
 ghost use Rattle.mosaikrun_run.specs.Outcomes.{Outside};

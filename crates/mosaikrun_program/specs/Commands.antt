@@ -77,8 +77,8 @@ OfTwo = OfTwoBy IsRecord
 
 -- what a command makes of these files' bytes, the program having these kinds and rules: its text, or why there
 -- is none
-abbrev pub IsOutcomeOf : List Turn → RulesSeen → FileCommand → List (List ℕ) → Result (List ℕ) Ending
-    → Type 0
+abbrev pub IsOutcomeOf : List Turn → RulesSeen → FileCommand → List (List ℕ)
+    → Result (List ℕ) Ending → Type 0
 IsOutcomeOf kinds rules (Replay name order) = OfOne (λ bytes. reports.IsOutcome bytes order)
 IsOutcomeOf kinds rules (Check scenario) = OfOne (checks.IsOutcome (map name_of kinds))
 IsOutcomeOf kinds rules (Pair Migrate old new) = OfOne IsMigration

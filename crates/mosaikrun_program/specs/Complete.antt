@@ -123,8 +123,8 @@ pub record IsFaultlessPacedStudy (O : Outside) (factor : ℕ) (strict : Option �
   pub run : (any : List ℕ) (P : Plan) (J : List Entry) (moments : List Moment) (end : PaceEnd)
       → (h : HasPaced O.started scenario any O.kinds factor strict P J moments O.log O.faults
       O.new_faults end)
-      → IsFaultlessPace O.started scenario P J (record { origin = h.origin; factor = factor }) strict
-      moments O.log O.faults O.new_faults
+      → IsFaultlessPace O.started scenario P J (record { origin = h.origin; factor = factor })
+      strict moments O.log O.faults O.new_faults
 
 -- a paced run of a file's bytes, where nothing goes wrong, comes to its end: its status is 0, or that of
 -- a folder or an output that failed, or of want of memory. Where the bytes are refused, as by a run, it

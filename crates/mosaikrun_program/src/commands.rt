@@ -108,7 +108,7 @@ fn replay_file<D: Folder>(
     reported(alloc, bytes.as_slice(), order)
 }
 
-// The ranks of a scenario.
+// What `check` says of a scenario.
 fn check_file<D: Folder>(
     alloc: Global,
     kinds: &Registry,
@@ -132,11 +132,11 @@ fn check_file<D: Folder>(
 // The record of a record's replay.
 fn migrate_file<D: Folder>(alloc: Global, old: &str, folder: &mut D) -> Result<Vec<u8>, Ending>
     ensures text { IfOk result (λ text. IsMadeOfOne (D.files folder.old) old.now
-        (IsMigration) (Ok text.items)) }
+        IsMigration (Ok text.items)) }
     ensures none { IfErr result (λ e. IsStuck (D.files folder.old) (old.now ∷ [])
         (HasRisen (D.faults folder.old) (D.faults folder.new)) e
         ⊎ IsMadeOfOne (D.files folder.old) old.now
-        (IsMigration) (Err e)) }
+        IsMigration (Err e)) }
     ensures kept { D.files folder.new ≡ D.files folder.old }
     ensures count { D.faults folder.old ≤ D.faults folder.new }
 {

@@ -1,5 +1,5 @@
 // The top call: all that the program does, over a folder, a fleet and two sinks.
-ghost use Rattle.std.specs.Prelude.{◌≡◌, ℕ, ◌≤◌, ◌<◌, ◌⊎◌, List, Some, Result, Err, IfSome, IsSome, IfOk, IfErr, OnOk, OnErr, map, option_map};
+ghost use Rattle.std.specs.Prelude.{◌≡◌, ℕ, ◌≤◌, ◌⊎◌, List, Some, Result, Err, IfSome, IsSome, IfOk, IfErr, OnOk, OnErr, map, option_map};
 ghost use Rattle.std.specs.String.{string_bytes};
 ghost use Rattle.mk_outside.specs.Counts.{HasRisen};
 ghost use Rattle.mk_outside.specs.Folders.{with_file};
@@ -368,6 +368,7 @@ fn pace<D: Folder, F: Paced, K: Sink, R: Wait>(
     hand_out(told, name, folder, out)
 }
 
+// A number of milliseconds as wide as those of a clock.
 fn wide(number: Option<u32>) -> Option<u64>
     ensures { result ≡ number }
 {

@@ -1,5 +1,4 @@
 // A report that is put to an output in pieces of each size.
-ghost use Rattle.std.specs.Prelude.{◌≡◌};
 
 use crate::calls::status_of;
 use crate::files::{RECORD, THREE_STEPS};

@@ -1,26 +1,18 @@
 -- For proofs alone. One record has one migration.
-use Rattle.std.proofs.Common.{◌≡◌, ℕ, List, ◌∷◌, length, Option, None, Result, Ok, Err, ◌⊎◌, inl, inr, refl, sym, ap, ◌∙◌, subst, arith, length-append}
+use Rattle.std.proofs.Common.{◌≡◌, ℕ, List, ◌∷◌, length, None, Result, Ok, Err, ◌⊎◌, inl, inr, refl, sym, ap, ◌∙◌, subst, arith, length-append}
 use Rattle.mk_plan.specs.declared.Plan.{Plan}
 use Rattle.mk_plan.specs.declared.Entry.{Entry}
 use Rattle.mk_plan.specs.Journals.{Arrival, arrivals}
-use Rattle.mk_record.specs.Reading.{reading, Said, Faulty}
+use Rattle.mk_record.specs.Reading.{reading, Faulty}
 use Rattle.mk_record.specs.Texts.{record_text}
-use Rattle.mk_record.specs.Asked.{Asked}
 use Rattle.mk_record.specs.Replays.{IsLeft}
 use Rattle.mk_record.specs.ReplayEnd.{ReplayEnd}
 use Rattle.mk_record.specs.ReplayEnd.TheVariants as ends
 use Rattle.mosaikrun_records.specs.Reports.{IsSaidOf}
-use Rattle.mosaikrun_records.proofs.OneOutcome.{same_plan, same_arrivals, same_end}
+use Rattle.mosaikrun_records.proofs.OneOutcome.{same_plan, same_arrivals, same_end, said_once, faulty_not, same_fault}
 use Rattle.mosaikrun_endings.specs.declared.ending.Ending.{Ending}
 use Rattle.mosaikrun_endings.specs.declared.ending.Ending.TheVariants.{Usage, Missing, TooLong, Scenario, Watches, Cycle, Launch, Setup, Record, Wrong, Failed, LoopLimit, Link, Short, Differs, OtherPlan, OtherMessage, Late, Fleet, Folder, Output, Entries, LongItem, Mem}
 use Rattle.mosaikrun_records.specs.Migrations.{IsKept, IsLost, IsRecordOf, IsNoRecordOf, IsMigration, Unmigrated}
-
--- of an end one thing is said
-said_once : (P : Plan) (J : List Entry) (end : ReplayEnd) (e f : Ending) → IsSaidOf P J end e → IsSaidOf P J end f → e ≡ f
-said_once P J ends.Done e f a b = absurd a
-said_once P J (ends.Short n) e f a b = a ∙ sym b
-said_once P J (ends.Other n) e f a b = a ∙ sym b
-said_once P J (ends.Core fault) e f a b = a ∙ sym b
 
 -- a message that is left isn't in the journal
 left_not : (A : List Arrival) (J : List Entry) → arrivals J ≡ A → IsLeft A J → ⊥
@@ -93,13 +85,6 @@ cause_of bytes Fleet h = absurd h
 cause_of bytes Output h = absurd h
 cause_of bytes (Entries entries) h = inr (stopped (Entries entries) h)
 cause_of bytes Mem h = inl refl
-
--- a record with a fault is none that is said
-faulty_not : (P : Plan) (A : List Arrival) (s : Option (List Asked)) (line fault : ℕ) → Said P A s ≡ Faulty line fault → ⊥
-faulty_not P A s line fault same = cc
-
-same_fault : (line fault l f : ℕ) → Faulty line fault ≡ Faulty l f → Record line fault ≡ Record l f
-same_fault line fault l f same = cc
 
 one_cause : (bytes : List ℕ) (e f : Ending) → Cause bytes e → Cause bytes f → e ≡ f
 one_cause bytes _ _ (faulty line fault a) (faulty l f b) = same_fault line fault l f (sym a ∙ b)

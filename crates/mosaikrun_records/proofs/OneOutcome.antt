@@ -36,7 +36,7 @@ module _ (P Q : Plan) (A B : List Arrival) (s z : Option (List Asked)) (same : S
       one_replay_by P A s order J K e f r q3
 
 -- of an end one thing is said
-said_once : (P : Plan) (J : List Entry) (end : ReplayEnd) (e f : Ending) → IsSaidOf P J end e → IsSaidOf P J end f → e ≡ f
+pub said_once : (P : Plan) (J : List Entry) (end : ReplayEnd) (e f : Ending) → IsSaidOf P J end e → IsSaidOf P J end f → e ≡ f
 said_once P J ends.Done e f a b = absurd a
 said_once P J (ends.Short n) e f a b = a ∙ sym b
 said_once P J (ends.Other n) e f a b = a ∙ sym b

@@ -26,7 +26,8 @@ pub record IsVerdictText (P : Plan) (J K : List Entry) (text : List ℕ) : Type 
   pub is : text ≡ verdict_text P verdict
 
 -- the plans are the same, and the text is that of the verdict
-pub record IsJudged (P : Plan) (J : List Entry) (Q : Plan) (K : List Entry) (text : List ℕ) : Type 0 where
+pub record IsJudged (P : Plan) (J : List Entry) (Q : Plan) (K : List Entry) (text : List ℕ)
+    : Type 0 where
   pub same : IsFirstOther P Q None
   pub text_is : IsVerdictText P J K text
 

@@ -1,5 +1,5 @@
 use Rattle.std.proofs.Common.{List, [], Ok, Err, refl, sym, ap, ◌∙◌, option_map, subst}
-use Rattle.std.specs.Prelude.{IfOk, IfErr}
+use Rattle.std.specs.Prelude.{IfErr}
 use Rattle.std.proofs.lemmas.Result.{err_from_is_err_and}
 use Rattle.mk_local.specs.Registries.{rows_in}
 use Rattle.mk_outside.specs.declared.fleet.LogEntry.{LogEntry}
