@@ -109,7 +109,7 @@ module _ (P : Plan) where
     pub pends_went : (V : View) (s : ℕ) (m : Message) (T : OpenTurn) (p : Place) → V.open_at s ≡ Some T → (i : ℕ) (q : List X) → Pends V i q → Pends (note_right P V s m T (Some p)) i q
     pends_went V s m T p is i q h = pends_same V (note_right P V s m T (Some p)) i q refl (went_last P V s m T p is i) h
 
-    -- ---- the end of a turn: act f of s is added, first its next time, then what each connection brings
+    -- ---- the end of a turn: act f of s is added, what each connection brings and its next time
 
     module _ (V : View) (s : ℕ) (f : Act) where
       -- j is due at y: it was so, or by the next time, if that was added, or by one of these connections
@@ -152,27 +152,27 @@ module _ (P : Plan) where
           back y (brought c m b) = brought c m b
 
       -- the next time is added at s; if something that came triggers s then, it was pending
-      pub with_next : (x : Tier) → IsNextOf P s f x → (IsTriggeredAt V s x → IsPendingAt V s x) → (q r : List X) → IsAdded time flag false x q r → PendsWith false [] s q → PendsWith true [] s r
-      with_next x n known q r added h = holds_added time flag (IsComingAt false [] s) (IsCalledAt [] s) (IsComingAt true [] s) (IsCalledAt [] s) false x to (itself refl refl n) back (λ y b. b) (λ e. absurd (true≢false (sym e))) flags q r added h
+      pub with_next : (cs : List Conn) (x : Tier) → IsNextOf P s f x → (IsTriggeredAt V s x → IsPendingAt V s x) → (q r : List X) → IsAdded time flag false x q r → PendsWith false cs s q → PendsWith true cs s r
+      with_next cs x n known q r added h = holds_added time flag (IsComingAt false cs s) (IsCalledAt cs s) (IsComingAt true cs s) (IsCalledAt cs s) false x to (itself refl refl n) back (λ y b. b) (λ e. absurd (true≢false (sym e))) flags q r added h
         where
-          to : (y : Tier) → IsComingAt false [] s y → IsComingAt true [] s y
+          to : (y : Tier) → IsComingAt false cs s y → IsComingAt true cs s y
           to y (was a) = was a
           to y (itself e _ _) = absurd (true≢false (sym e))
-          to y (brought c m _) = absurd m
+          to y (brought c m b) = brought c m b
 
           one_next : (y : Tier) → IsNextOf P s f y → y ≡ x
           one_next y k = k.is ∙ ap moment (some_same (sym k.next ∙ n.next)) ∙ sym n.is
 
-          back : (y : Tier) → IsComingAt true [] s y → IsComingAt false [] s y ⊎ (y ≡ x)
+          back : (y : Tier) → IsComingAt true cs s y → IsComingAt false cs s y ⊎ (y ≡ x)
           back y (was a) = inl (was a)
           back y (itself _ _ k) = inr (one_next y k)
-          back y (brought c m _) = absurd m
+          back y (brought c m b) = inl (brought c m b)
 
-          flags : (y : Tier) → IsComingAt true [] s y → IsCalledAt [] s y → (IsComingAt false [] s y × IsCalledAt [] s y) ⊎ ((y ≡ x) × (false ≡ true))
+          flags : (y : Tier) → IsComingAt true cs s y → IsCalledAt cs s y → (IsComingAt false cs s y × IsCalledAt cs s y) ⊎ ((y ≡ x) × (false ≡ true))
           flags y (was a) b = inl (was a, b)
           flags y (itself _ _ k) (called b) = inl (was (subst (IsPendingAt V s) (sym (one_next y k)) (known (subst (IsTriggeredAt V s) (one_next y k) b))), called b)
-          flags y (itself _ _ k) (calls c m _) = absurd m
-          flags y (brought c m _) b = absurd m
+          flags y (itself _ _ k) (calls c m b) = inl (brought c m b, calls c m b)
+          flags y (brought c m k) b = inl (brought c m k, b)
 
       -- one connection more, that brings something to j at x, or nothing
       pub with_brought : (own : Bool) (cs : List Conn) (c : Conn) (j : ℕ) (x : Tier) → Brings P s f j x c → (q r : List X) → IsAdded time flag true x q r → PendsWith own cs j q → PendsWith own (cs ++ c ∷ []) j r

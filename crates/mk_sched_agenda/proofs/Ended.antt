@@ -38,21 +38,21 @@ use Rattle.mk_sched_agenda.proofs.Tidying.{same_or, queue_here, queue_else}
 use Rattle.mk_sched_agenda.proofs.Ending.{from_of, beyond_is}
 
 -- the steps to come with the next time that the act returned
-next_comes : (P : Plan) (V : View) (s : ℕ) (f : Act) → s < sim_count P → ((y : Tier) → IsNextOf P s f y → IsTriggeredAt P V s y → IsPendingAt P V s y) → (n : Option ℤ) → n ≡ next_time f → (L : Limits) → L ≡ limits_of P → (q : List Due)
-    → PendsWith P time_of flag_of V s f false [] s q → PendsWith P time_of flag_of V s f true [] s (next_queue L q n)
-next_comes P V s f low known None is L limits q h = with_no_next P time_of flag_of V s f [] s q (λ y _ k. not_next P s f (sym is) y k) h
-next_comes P V s f low known (Some t) is L limits q h = go (is_inside L (moment t)) refl
+next_comes : (P : Plan) (V : View) (s : ℕ) (f : Act) (cs : List Conn) → s < sim_count P → ((y : Tier) → IsNextOf P s f y → IsTriggeredAt P V s y → IsPendingAt P V s y) → (n : Option ℤ) → n ≡ next_time f → (L : Limits) → L ≡ limits_of P → (q : List Due)
+    → PendsWith P time_of flag_of V s f false cs s q → PendsWith P time_of flag_of V s f true cs s (next_queue L q n)
+next_comes P V s f cs low known None is L limits q h = with_no_next P time_of flag_of V s f cs s q (λ y _ k. not_next P s f (sym is) y k) h
+next_comes P V s f cs low known (Some t) is L limits q h = go (is_inside L (moment t)) refl
   where
     within : is_inside L (moment t) ≡ is_within P (moment t)
     within = ap (λ (M : Limits). is_inside M (moment t)) limits
 
-    go : (b : Bool) → is_inside L (moment t) ≡ b → PendsWith P time_of flag_of V s f true [] s (next_queue L q (Some t))
+    go : (b : Bool) → is_inside L (moment t) ≡ b → PendsWith P time_of flag_of V s f true cs s (next_queue L q (Some t))
     go true e =
         let next : IsNextOf P s f (moment t) = next_by P s f t low (sym is) (sym within ∙ e) in
-        subst (PendsWith P time_of flag_of V s f true [] s) (sym (ap (λ (b : Bool). if b then added false (moment t) q else q) e))
-        (with_next P time_of flag_of V s f (moment t) next (known (moment t) next) q (added false (moment t) q) (added_is false (moment t) q) h)
-    go false e = subst (PendsWith P time_of flag_of V s f true [] s) (sym (ap (λ (b : Bool). if b then added false (moment t) q else q) e))
-        (with_no_next P time_of flag_of V s f [] s q (λ y _ k. not_within P s f t (sym is) (sym within ∙ e) y k) h)
+        subst (PendsWith P time_of flag_of V s f true cs s) (sym (ap (λ (b : Bool). if b then added false (moment t) q else q) e))
+        (with_next P time_of flag_of V s f cs (moment t) next (known (moment t) next) q (added false (moment t) q) (added_is false (moment t) q) h)
+    go false e = subst (PendsWith P time_of flag_of V s f true cs s) (sym (ap (λ (b : Bool). if b then added false (moment t) q else q) e))
+        (with_no_next P time_of flag_of V s f cs s q (λ y _ k. not_within P s f t (sym is) (sym within ∙ e) y k) h)
 
 none_beyond : (Q : List (List Due)) (B : Seen) (O : List Bool) → IsTidy Q O B → (i : ℕ) → length Q ≤ i → start_in B i ≡ None
 none_beyond Q B O tidy i high = go B.owns i (omega (arith, high, tidy.owns))
@@ -86,34 +86,46 @@ module _ (P : Plan) (J : List Entry) (s : SimNo) (T : OpenTurn) (m : Message) (x
       kept = ended_in_limit P h.valid J h.orderly s m T h.allowed h.opened h.right h.over (fault_is ∙ ap (option_map fault_of) fine);
     }
 
-    -- the turn has closed
-    pub come_closed : (O : List Bool) → IsTidy A.queues O A.bounds → (R : List (List Due)) (C : Seen) → R ≡ slice_set A.queues s.0 (next_queue A.limits (queue_in A.queues s.0) n) → (own : Option Tier) → C ≡ with_start A.bounds s.0 own false → IsOf P C
-        → HasCome P (view P J) s.0 (ended_turn T m) [] R C
-    come_closed O tidy R C are own is of = record {
+    -- nothing has come yet, and the turn is open
+    pub come_begun : HasCome P (view P J) s.0 (ended_turn T m) false [] A.queues A.bounds
+    come_begun = record {
+      plan = mirrors.plan.bounds;
+      count = mirrors.plan.count;
+      queues = λ j under. with_none P time_of flag_of (view P J) s.0 (ended_turn T m) j (queue_in A.queues j) (mirrors.queues j under);
+      busy = mirrors.starts.opened s.0 ∙ ap is_some h.opened;
+      others = λ j k. mirrors.starts.opened j;
+      kept = λ j k _. mirrors.starts.at j;
+    }
+
+    -- the turn closes behind what these connections brought
+    pub come_closed : (cs : List Conn) (Q : List (List Due)) (O : List Bool) (B : Seen) → IsTidy Q O B → s.0 < length Q → HasCome P (view P J) s.0 (ended_turn T m) false cs Q B
+        → (R : List (List Due)) (C : Seen) → R ≡ slice_set Q s.0 (next_queue A.limits (queue_in Q s.0) n) → (own : Option Tier) → C ≡ with_start B s.0 own false → IsOf P C
+        → HasCome P (view P J) s.0 (ended_turn T m) true cs R C
+    come_closed cs Q O B tidy there come R C are own is of = record {
       plan = of;
-      count = ap length are ∙ length_set A.queues s.0 (next_queue A.limits (queue_in A.queues s.0) n) ∙ mirrors.plan.count;
-      queues = λ j under. subst (λ (q : List Due). PendsWith P time_of flag_of (view P J) s.0 (ended_turn T m) true [] j q) (sym (ap (λ (l : List (List Due)). queue_in l j) are)) (elim (same_or j s.0) [
-        | inl e ↦ subst (λ (k : ℕ). PendsWith P time_of flag_of (view P J) s.0 (ended_turn T m) true [] k (queue_in (slice_set A.queues s.0 (next_queue A.limits (queue_in A.queues s.0) n)) k)) (sym e)
-            (subst (PendsWith P time_of flag_of (view P J) s.0 (ended_turn T m) true [] s.0) (sym (queue_here A.queues s.0 (next_queue A.limits (queue_in A.queues s.0) n) low))
-            (next_comes P (view P J) s.0 (ended_turn T m) (omega (arith, low, mirrors.plan.count)) (λ y k b. next_was_pending P h.valid J h.orderly s m T h.allowed h.opened h.right h.over y (omega (arith, low, mirrors.plan.count)) k b)
-            n h.next A.limits mirrors.plan.limits (queue_in A.queues s.0) (with_none P time_of flag_of (view P J) s.0 (ended_turn T m) s.0 (queue_in A.queues s.0) (mirrors.queues s.0 (omega (arith, low, mirrors.plan.count))))))
-        | inr k ↦ subst (PendsWith P time_of flag_of (view P J) s.0 (ended_turn T m) true [] j) (sym (queue_else A.queues s.0 j (next_queue A.limits (queue_in A.queues s.0) n) k))
-            (with_no_next P time_of flag_of (view P J) s.0 (ended_turn T m) [] j (queue_in A.queues j) (λ y e _. k e) (with_none P time_of flag_of (view P J) s.0 (ended_turn T m) j (queue_in A.queues j) (mirrors.queues j under)))
+      count = ap length are ∙ length_set Q s.0 (next_queue A.limits (queue_in Q s.0) n) ∙ come.count;
+      queues = λ j under. subst (λ (q : List Due). PendsWith P time_of flag_of (view P J) s.0 (ended_turn T m) true cs j q) (sym (ap (λ (l : List (List Due)). queue_in l j) are)) (elim (same_or j s.0) [
+        | inl e ↦ subst (λ (k : ℕ). PendsWith P time_of flag_of (view P J) s.0 (ended_turn T m) true cs k (queue_in (slice_set Q s.0 (next_queue A.limits (queue_in Q s.0) n)) k)) (sym e)
+            (subst (PendsWith P time_of flag_of (view P J) s.0 (ended_turn T m) true cs s.0) (sym (queue_here Q s.0 (next_queue A.limits (queue_in Q s.0) n) there))
+            (next_comes P (view P J) s.0 (ended_turn T m) cs (omega (arith, low, mirrors.plan.count)) (λ y k b. next_was_pending P h.valid J h.orderly s m T h.allowed h.opened h.right h.over y (omega (arith, low, mirrors.plan.count)) k b)
+            n h.next A.limits mirrors.plan.limits (queue_in Q s.0) (come.queues s.0 (omega (arith, low, mirrors.plan.count)))))
+        | inr k ↦ subst (PendsWith P time_of flag_of (view P J) s.0 (ended_turn T m) true cs j) (sym (queue_else Q s.0 j (next_queue A.limits (queue_in Q s.0) n) k))
+            (with_no_next P time_of flag_of (view P J) s.0 (ended_turn T m) cs j (queue_in Q j) (λ y e _. k e) (come.queues j under))
       ]);
-      closed = busy_here A.bounds C s.0 own false is (omega (arith, low, tidy.busies));
-      others = λ j k. busy_else A.bounds C s.0 own false is j k ∙ mirrors.starts.opened j;
-      kept = λ j k _. own_else A.bounds C s.0 own false is (omega (arith, low, tidy.owns)) j k ∙ mirrors.starts.at j;
+      busy = busy_here B C s.0 own false is (omega (arith, there, tidy.busies));
+      others = λ j k. busy_else B C s.0 own false is j k ∙ come.others j k;
+      kept = λ j k on. own_else B C s.0 own false is (omega (arith, there, tidy.owns)) j k ∙ come.kept j k (sym (busy_else B C s.0 own false is j k) ∙ on);
     }
 
     -- all that the act brings has come
-    pub come_ended : (O : List Bool) (R : List (List Due)) (C : Seen) (lasts : List (Option Tier)) → lasts ≡ A.lasts → IsTidy R O C → HasCome P (view P J) s.0 (ended_turn T m) (triggering_from P s.0) R C
+    pub come_ended : (O : List Bool) (R : List (List Due)) (C : Seen) (lasts : List (Option Tier)) → lasts ≡ A.lasts → IsTidy R O C → HasCome P (view P J) s.0 (ended_turn T m) true (triggering_from P s.0) R C
         → Mirrors P (note P (view P J) (Got s m)) (let E : AgendaState = record { limits = A.limits; outlets = A.outlets; queues = R; lasts = lasts; bounds = C } in E)
     come_ended O R C lasts stays tidy come = record {
       plan = record { limits = mirrors.plan.limits; count = come.count; outlets = mirrors.plan.outlets; bounds = come.plan };
       queues = pends;
       lasts = λ i under. ap (λ (l : List (Option Tier)). last_in l i) stays ∙ mirrors.lasts i under ∙ sym (ap (λ (W : View). last_step W i) after ∙ ended_last P (view P J) s.0 m T h.opened i);
       starts = subst (λ (W : View). StartsOf P W (start_in C) (is_busy_in C)) (sym after)
-          (starts_ended P (view P J) (start_in A.bounds) (is_busy_in A.bounds) mirrors.starts s.0 m T h.opened (start_in C) (is_busy_in C) come.closed others stay pend);
+          (starts_ended P (view P J) (start_in A.bounds) (is_busy_in A.bounds) mirrors.starts s.0 m T h.opened (start_in C) (is_busy_in C) come.busy others stay pend);
     }
       where
         after : note P (view P J) (Got s m) ≡ note_right P (view P J) s.0 m T None
@@ -139,7 +151,7 @@ module _ (P : Plan) (J : List Entry) (s : SimNo) (T : OpenTurn) (m : Message) (x
 
         pend : (j : ℕ) → (note_right P (view P J) s.0 m T None).open_at j ≡ None → start_in C j ≡ pending P (note_right P (view P J) s.0 m T None).acts j
         pend j shut = elim (cases_lt j (sim_count P)) [
-          | inl under ↦ tidy.starts j (omega (arith, under, come.count)) (sym (tidy.busy j) ∙ busy_ended P (view P J) (start_in A.bounds) (is_busy_in A.bounds) mirrors.starts s.0 m T (is_busy_in C) come.closed others j ∙ ap is_some shut)
+          | inl under ↦ tidy.starts j (omega (arith, under, come.count)) (sym (tidy.busy j) ∙ busy_ended P (view P J) (start_in A.bounds) (is_busy_in A.bounds) mirrors.starts s.0 m T (is_busy_in C) come.busy others j ∙ ap is_some shut)
               ∙ sym (pending_is P time_of flag_of (note_right P (view P J) s.0 m T None) j (queue_in R j) shut (subst (λ (V : View). Pends P time_of flag_of V j (queue_in R j)) after (pends j under)) (least (queue_in R j)) (least_is_least (queue_in R j) (tidy.rising j)))
           | inr high ↦ none_beyond R C O tidy j (omega (arith, high, come.count)) ∙ sym (no_later j high (pending P (note_right P (view P J) s.0 m T None).acts j) refl)
         ]

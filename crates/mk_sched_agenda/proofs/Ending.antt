@@ -113,30 +113,30 @@ module _ (Q : List (List Due)) (O : List Bool) (B : Seen) (tidy : IsTidy Q O B) 
 
 -- ---- what comes about, connection by connection
 
-module _ (P : Plan) (V : View) (s : ℕ) (f : Act) (cs : List Conn) (c : Conn) where
-  pub come_apart : ((j : ℕ) (y : Tier) → Brings P s f j y c → ⊥) → (Q : List (List Due)) (B : Seen) → HasCome P V s f cs Q B → HasCome P V s f (cs ++ c ∷ []) Q B
+module _ (P : Plan) (V : View) (s : ℕ) (f : Act) (closed : Bool) (cs : List Conn) (c : Conn) where
+  pub come_apart : ((j : ℕ) (y : Tier) → Brings P s f j y c → ⊥) → (Q : List (List Due)) (B : Seen) → HasCome P V s f closed cs Q B → HasCome P V s f closed (cs ++ c ∷ []) Q B
   come_apart none Q B h = record {
     plan = h.plan;
     count = h.count;
-    queues = λ j low. with_not_brought P time_of flag_of V s f true cs c j (none j) (queue_in Q j) (h.queues j low);
-    closed = h.closed;
+    queues = λ j low. with_not_brought P time_of flag_of V s f closed cs c j (none j) (queue_in Q j) (h.queues j low);
+    busy = h.busy;
     others = h.others;
     kept = h.kept;
   }
 
-  pub come_more : (x : Tier) (i : ℕ) → i ≡ owner P c.to → Brings P s f (owner P c.to) x c → (Q R : List (List Due)) (O : List Bool) (B C : Seen) → IsTidy Q O B → i < length Q → HasCome P V s f cs Q B
-      → R ≡ slice_set Q i (added true x (queue_in Q i)) → C ≡ with_trigger B O (queue_in Q i) i x → IsOf P C → HasCome P V s f (cs ++ c ∷ []) R C
+  pub come_more : (x : Tier) (i : ℕ) → i ≡ owner P c.to → Brings P s f (owner P c.to) x c → (Q R : List (List Due)) (O : List Bool) (B C : Seen) → IsTidy Q O B → i < length Q → HasCome P V s f closed cs Q B
+      → R ≡ slice_set Q i (added true x (queue_in Q i)) → C ≡ with_trigger B O (queue_in Q i) i x → IsOf P C → HasCome P V s f closed (cs ++ c ∷ []) R C
   come_more x i to b Q R O B C tidy low h grown is of = record {
     plan = of;
     count = ap length grown ∙ length_set Q i (added true x (queue_in Q i)) ∙ h.count;
-    queues = λ j under. subst (λ (q : List Due). PendsWith P time_of flag_of V s f true (cs ++ c ∷ []) j q) (sym (ap (λ (l : List (List Due)). queue_in l j) grown)) (elim (same_or j i) [
-      | inl e ↦ subst (λ (k : ℕ). PendsWith P time_of flag_of V s f true (cs ++ c ∷ []) k (queue_in (slice_set Q i (added true x (queue_in Q i))) k)) (sym e)
-          (subst (PendsWith P time_of flag_of V s f true (cs ++ c ∷ []) i) (sym (queue_here Q i (added true x (queue_in Q i)) low))
-          (with_brought P time_of flag_of V s f true cs c i x (subst (λ (k : ℕ). Brings P s f k x c) (sym to) b) (queue_in Q i) (added true x (queue_in Q i)) (added_is true x (queue_in Q i)) (h.queues i (omega (arith, low, h.count)))))
-      | inr n ↦ subst (PendsWith P time_of flag_of V s f true (cs ++ c ∷ []) j) (sym (queue_else Q i j (added true x (queue_in Q i)) n))
-          (with_not_brought P time_of flag_of V s f true cs c j (λ y. not_to P s f j y c (λ e. n (sym e ∙ sym to))) (queue_in Q j) (h.queues j under))
+    queues = λ j under. subst (λ (q : List Due). PendsWith P time_of flag_of V s f closed (cs ++ c ∷ []) j q) (sym (ap (λ (l : List (List Due)). queue_in l j) grown)) (elim (same_or j i) [
+      | inl e ↦ subst (λ (k : ℕ). PendsWith P time_of flag_of V s f closed (cs ++ c ∷ []) k (queue_in (slice_set Q i (added true x (queue_in Q i))) k)) (sym e)
+          (subst (PendsWith P time_of flag_of V s f closed (cs ++ c ∷ []) i) (sym (queue_here Q i (added true x (queue_in Q i)) low))
+          (with_brought P time_of flag_of V s f closed cs c i x (subst (λ (k : ℕ). Brings P s f k x c) (sym to) b) (queue_in Q i) (added true x (queue_in Q i)) (added_is true x (queue_in Q i)) (h.queues i (omega (arith, low, h.count)))))
+      | inr n ↦ subst (PendsWith P time_of flag_of V s f closed (cs ++ c ∷ []) j) (sym (queue_else Q i j (added true x (queue_in Q i)) n))
+          (with_not_brought P time_of flag_of V s f closed cs c j (λ y. not_to P s f j y c (λ e. n (sym e ∙ sym to))) (queue_in Q j) (h.queues j under))
     ]);
-    closed = ap (λ (D : Seen). is_busy_in D s) is ∙ trigger_busy Q O B tidy i low x (queue_in Q i) s ∙ h.closed;
+    busy = ap (λ (D : Seen). is_busy_in D s) is ∙ trigger_busy Q O B tidy i low x (queue_in Q i) s ∙ h.busy;
     others = λ j n. ap (λ (D : Seen). is_busy_in D j) is ∙ trigger_busy Q O B tidy i low x (queue_in Q i) j ∙ h.others j n;
     kept = λ j n on.
         let was : is_busy_in B j ≡ true = sym (ap (λ (D : Seen). is_busy_in D j) is ∙ trigger_busy Q O B tidy i low x (queue_in Q i) j) ∙ on in
@@ -212,15 +212,15 @@ get_into [] k x is = cc
 get_into (y ∷ ys) zero x is = inl (sym (some_same is))
 get_into (y ∷ ys) (suc k) x is = inr (get_into ys k x is)
 
-module _ (P : Plan) (V : View) (s : ℕ) (f : Act) (L : Limits) (os : List Outlet) (gs : List Bool) (x : Tier) (ending : IsEnding P s f L os gs x) where
+module _ (P : Plan) (V : View) (s : ℕ) (f : Act) (closed : Bool) (L : Limits) (os : List Outlet) (gs : List Bool) (x : Tier) (ending : IsEnding P s f L os gs x) where
   -- one connection more, by what `bring` ensures
-  pub come_next : (k : ℕ) (d : Outlet) (g : Bool) → k < length os → (Q R : List (List Due)) (B C : Seen) → HasCome P V s f (take k (triggering_from P s)) Q B
-      → ((c : Conn) → IsOutletOf P c (get_or os k d) → IsIn c (triggering_from P s) → get_or gs k g ≡ is_some (output P f c.from c.from_attr) → x ≡ made f → L ≡ limits_of P → IsInLimit P s f → HasCome P V s f (take k (triggering_from P s)) Q B → HasCome P V s f (take k (triggering_from P s) ++ c ∷ []) R C)
-      → HasCome P V s f (take (k + 1) (triggering_from P s)) R C
+  pub come_next : (k : ℕ) (d : Outlet) (g : Bool) → k < length os → (Q R : List (List Due)) (B C : Seen) → HasCome P V s f closed (take k (triggering_from P s)) Q B
+      → ((c : Conn) → IsOutletOf P c (get_or os k d) → IsIn c (triggering_from P s) → get_or gs k g ≡ is_some (output P f c.from c.from_attr) → x ≡ made f → L ≡ limits_of P → IsInLimit P s f → HasCome P V s f closed (take k (triggering_from P s)) Q B → HasCome P V s f closed (take k (triggering_from P s) ++ c ∷ []) R C)
+      → HasCome P V s f closed (take (k + 1) (triggering_from P s)) R C
   come_next k d g low Q R B C h more =
       let t = outlet_at P (triggering_from P s) os k d low ending.outlets in
-      subst (λ (cs : List Conn). HasCome P V s f cs R C) (sym (ap (λ (n : ℕ). take n (triggering_from P s)) (add-one k) ∙ take_get (triggering_from P s) k t.0 t.1))
+      subst (λ (cs : List Conn). HasCome P V s f closed cs R C) (sym (ap (λ (n : ℕ). take n (triggering_from P s)) (add-one k) ∙ take_get (triggering_from P s) k t.0 t.1))
       (more t.0 t.2 (get_into (triggering_from P s) k t.0 t.1) (ap (λ (l : List Bool). get_or l k g) ending.given ∙ flag_at P f (triggering_from P s) k t.0 g t.1) ending.made ending.limits ending.kept h)
 
-  pub come_all : (k : ℕ) → length os ≤ k → (Q : List (List Due)) (B : Seen) → HasCome P V s f (take k (triggering_from P s)) Q B → HasCome P V s f (triggering_from P s) Q B
-  come_all k high Q B h = subst (λ (cs : List Conn). HasCome P V s f cs Q B) (take_whole (triggering_from P s) k (omega (arith, high, outlet_count P (triggering_from P s) os ending.outlets))) h
+  pub come_all : (k : ℕ) → length os ≤ k → (Q : List (List Due)) (B : Seen) → HasCome P V s f closed (take k (triggering_from P s)) Q B → HasCome P V s f closed (triggering_from P s) Q B
+  come_all k high Q B h = subst (λ (cs : List Conn). HasCome P V s f closed cs Q B) (take_whole (triggering_from P s) k (omega (arith, high, outlet_count P (triggering_from P s) os ending.outlets))) h

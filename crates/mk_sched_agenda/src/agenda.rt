@@ -191,8 +191,10 @@ impl Agenda {
         if let Some(beyond) = first_beyond(&self.limits, outlets, given, made) {
             return Ok(Some(beyond));
         }
-        self.dues.close_turn(&self.limits, sim, next, noted)?;
+        // What is triggered comes first: whoever may step then by this turn anyway keeps its bound as the
+        // turn closes.
         bring_all(&mut self.dues, &self.limits, outlets, given, made, noted)?;
+        self.dues.close_turn(&self.limits, sim, next, noted)?;
         Ok(None)
     }
 }

@@ -1,5 +1,5 @@
-//! What a turn's outputs trigger as it ends.
-ghost use Rattle.std.specs.Prelude.{◌≡◌, ℕ, ◌<◌, ◌≤◌, ◌≤ℤ◌, ◌∷◌, ◌++◌, ◌&&◌, [], List, pos, length, All, OnOk, is_some};
+//! What a turn's outputs trigger as it ends, before it closes.
+ghost use Rattle.std.specs.Prelude.{◌≡◌, ℕ, ◌<◌, ◌≤◌, ◌≤ℤ◌, ◌∷◌, ◌++◌, ◌&&◌, [], List, false, pos, length, All, OnOk, is_some};
 ghost use Rattle.mk_base.specs.Lists.{IsIn};
 ghost use Rattle.mk_base.specs.Tiers.{HasWidth};
 ghost use Rattle.mk_plan.specs.declared.Plan.{Plan};
@@ -80,8 +80,8 @@ pub fn bring_all(
     ensures lasts { dues.new.lasts.items ≡ dues.old.lasts.items }
     ensures come { (P : Plan) → (V : View) → (s : ℕ) → (f : Act)
         → IsEnding P s f limits.now outlets.now given.now made_at
-        → HasCome P V s f [] dues.old.queues.items dues.old.bounds
-        → OnOk result (HasCome P V s f
+        → HasCome P V s f false [] dues.old.queues.items dues.old.bounds
+        → OnOk result (HasCome P V s f false
         (triggering_from P s) dues.new.queues.items dues.new.bounds) }
     ensures noted { OnOk result (HasNoted dues.old.bounds dues.new.bounds noted.old noted.new) }
 {
@@ -113,8 +113,9 @@ fn bring(
         → IsOutletOf P c outlet.now → IsIn c (triggering_from P s)
         → given ≡ is_some (output P f c.from c.from_attr) → made_at ≡ made f
         → limits.now ≡ limits_of P → IsInLimit P s f
-        → HasCome P V s f cs dues.old.queues.items dues.old.bounds
-        → OnOk result (HasCome P V s f (cs ++ c ∷ []) dues.new.queues.items dues.new.bounds) }
+        → HasCome P V s f false cs dues.old.queues.items dues.old.bounds
+        → OnOk result (HasCome P V s f false
+        (cs ++ c ∷ []) dues.new.queues.items dues.new.bounds) }
     ensures noted { OnOk result (HasNoted dues.old.bounds dues.new.bounds noted.old noted.new) }
 {
     let at = made_at.after(outlet.via);

@@ -1,6 +1,6 @@
 -- For proofs alone. While a turn ends: what of its act has come about, and the search for a trigger
 -- beyond the loop limit.
-use Rattle.std.specs.Prelude.{◌≡◌, ℕ, ◌+◌, ◌<◌, Bool, true, false, ◌&&◌, List, [], ◌∷◌, length, Option, Some, None, is_some, int_lt, ◌==◌, if◌then◌else◌}
+use Rattle.std.specs.Prelude.{◌≡◌, ℕ, ◌+◌, ◌<◌, Bool, true, false, not, ◌&&◌, List, [], ◌∷◌, length, Option, Some, None, is_some, int_lt, ◌==◌, if◌then◌else◌}
 use Rattle.mk_base.specs.declared.tier.Tier.{Tier}
 use Rattle.mk_base.specs.Tiers.{delayed}
 use Rattle.mk_plan.specs.declared.Plan.{Plan}
@@ -31,15 +31,15 @@ pub record IsEnding (P : Plan) (s : ℕ) (f : Act) (L : Limits) (os : List Outle
   pub made : x ≡ made f
   pub kept : IsInLimit P s f
 
--- the turn of s has closed, its next time has come, and so has what these connections bring by its
--- act
-pub record HasCome (P : Plan) (V : View) (s : ℕ) (f : Act) (cs : List Conn) (Q : List (List Due))
-    (B : Seen) : Type 0 where
+-- what these connections bring by the act of s has come; where its turn has closed, so has its next
+-- time
+pub record HasCome (P : Plan) (V : View) (s : ℕ) (f : Act) (closed : Bool) (cs : List Conn)
+    (Q : List (List Due)) (B : Seen) : Type 0 where
   pub plan : IsOf P B
   pub count : length Q ≡ sim_count P
   pub queues : (j : ℕ) → j < sim_count P
-      → PendsWith P time_of flag_of V s f true cs j (queue_in Q j)
-  pub closed : is_busy_in B s ≡ false
+      → PendsWith P time_of flag_of V s f closed cs j (queue_in Q j)
+  pub busy : is_busy_in B s ≡ not closed
   pub others : (j : ℕ) → (j ≡ s → ⊥) → is_busy_in B j ≡ is_some (V.open_at j)
   pub kept : (j : ℕ) → (j ≡ s → ⊥) → is_busy_in B j ≡ true → start_in B j ≡ start P V j
 

@@ -1,4 +1,4 @@
-use Rattle.std.proofs.Common.{◌≡◌, ℕ, [], length, take}
+use Rattle.std.proofs.Common.{◌≡◌, ℕ, [], false, length, take}
 use Rattle.mk_plan.specs.declared.Plan.{Plan}
 use Rattle.mk_plan.specs.Acts.{Act}
 use Rattle.mk_plan.specs.Journals.{View}
@@ -12,6 +12,6 @@ abbrev pub invariant-loop-place : goal.invariant-loop-place
 invariant-loop-place l = IsTidy l.dues.queues.items l.dues.opened.items l.dues.bounds
     × (length l.dues.queues.items ≡ length l.fn.dues.queues.items)
     × (l.dues.lasts.items ≡ l.fn.dues.lasts.items)
-    × ((P : Plan) → (V : View) → (s : ℕ) → (f : Act) → IsEnding P s f l.limits l.outlets l.given l.fn.made_at → HasCome P V s f [] l.fn.dues.queues.items l.fn.dues.bounds
-    → HasCome P V s f (take l.place (triggering_from P s)) l.dues.queues.items l.dues.bounds)
+    × ((P : Plan) → (V : View) → (s : ℕ) → (f : Act) → IsEnding P s f l.limits l.outlets l.given l.fn.made_at → HasCome P V s f false [] l.fn.dues.queues.items l.fn.dues.bounds
+    → HasCome P V s f false (take l.place (triggering_from P s)) l.dues.queues.items l.dues.bounds)
     × HasNoted l.fn.dues.bounds l.dues.bounds l.fn.noted l.noted
