@@ -6,3 +6,4 @@ pub mod Compact
 pub mod Back
 mod Turns
 mod Gathering
+mod Quoting

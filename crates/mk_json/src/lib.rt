@@ -4,11 +4,13 @@
 mod data;
 mod members;
 mod number;
+mod quotes;
 mod read;
 mod scratch;
 mod write;
 
 pub use data::{DatumFault, datum};
+pub use quotes::put_text;
 pub use read::{JsonFault, read_json, read_json_in};
 pub use scratch::Scratch;
-pub use write::{put_json, put_text};
+pub use write::put_json;

@@ -1,5 +1,5 @@
 // From bytes to a tree, token by token.
-ghost use Rattle.std.specs.Prelude.{◌≡◌, ◌≤◌, ◌<◌, length, true, Err, IfOk, OnOk, None, Some, option_map};
+ghost use Rattle.std.specs.Prelude.{◌≡◌, ◌≤◌, ◌<◌, length, true, Err, IfOk, OnOk, None, Some};
 ghost use Rattle.json.specs.Json.{value, items, members};
 ghost use Rattle.serde_json.specs.Data as values;
 ghost use Rattle.serde_json.specs.Read as meant;

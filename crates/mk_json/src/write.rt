@@ -2,10 +2,9 @@
 ghost use Rattle.std.specs.Prelude.{◌≡◌, ◌≤◌, true, Some, ◌++◌, ◌∷◌, [], map, OnOk, OnErr};
 ghost use Rattle.std.specs.List.{list_all};
 ghost use Rattle.std.specs.Fmt.{signed_decimal};
-ghost use Rattle.std.specs.Str.{IsUtf8};
 ghost use Rattle.json.specs.Token.{number};
 ghost use Rattle.json.specs.Tree.{json_tokens, items_tokens, members_tokens};
-ghost use Rattle.mk_base.specs.Texts.{text_of, quoted};
+ghost use Rattle.mk_base.specs.Texts.{text_of};
 ghost use Rattle.mk_base.specs.Trees.{nesting, in_range, is_in_range};
 ghost use Rattle.mk_json.specs.inner.Outline.{outline, items_in, members_in};
 ghost use Rattle.mk_json.specs.Parsed.{parsed};
@@ -13,30 +12,9 @@ ghost use Rattle.mk_base.specs.Proper.{is_proper};
 ghost use Rattle.mk_base.specs.inner.Proper.{are_proper};
 
 use json::Writer;
-use mk_base::{Json, List, Mem, Members, Text};
+use mk_base::{Json, List, Mem, Members};
 use std::alloc::{AllocError, Global};
 use std::mem;
-
-/// Appends a text in quotes with the shortest escapes (RFC 8259, section 7).
-pub fn put_text(alloc: Global, out: &mut Vec<u8>, text: &Text) -> Result<(), Mem>
-    ensures ok { OnOk result (out.new.items ≡ out.old.items ++ quoted text.now) }
-    ensures err { OnErr result (out.new.items ≡ out.old.items) }
-    ensures utf8 { IsUtf8 text.now }
-{
-    let kept = out.as_slice().len();
-    let mut writer = Writer::new(mem::replace(out, Vec::new(alloc)));
-    match writer.string(text.as_str()) {
-        Ok(()) => {
-            *out = writer.into_inner();
-            Ok(())
-        }
-        Err(_) => {
-            *out = writer.into_inner();
-            out.truncate(kept);
-            Err(Mem)
-        }
-    }
-}
 
 /// Appends the compact text of a tree: no space, members in byte order of their names, the shortest
 /// escapes, and `0.5` for a number that isn't whole. Read again, the text of a tree that nests at
