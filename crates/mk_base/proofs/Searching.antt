@@ -1,5 +1,5 @@
 -- Where names rise, those below a name stand before all others: their count is its place.
-use Rattle.std.proofs.Common.{◌≡◌, ℕ, zero, suc, ◌<◌, ◌≤◌, Bool, true, false, true≢false, List, [], ◌∷◌, length, Option, Some, None, option_map, slice_get, get_or, refl, sym, ap, ◌∙◌, arith, cond, if◌then◌else◌}
+use Rattle.std.proofs.Common.{◌≡◌, ℕ, zero, suc, ◌<◌, ◌≤◌, ◌-◌, Bool, true, false, true≢false, List, [], ◌∷◌, length, Option, Some, None, option_map, slice_get, get_or, refl, sym, ap, ◌∙◌, arith, cond, if◌then◌else◌}
 use Rattle.std.specs.Cmp.Lexicographic.{slice_cmp}
 use Rattle.std.specs.List.{AllByRecursion, find}
 use Rattle.std.specs.List.Sorted.{IsStrictlySortedBy, IsPartitionedBy, IsPartitionPoint}
@@ -53,6 +53,19 @@ module _ {V : Type 0} (k : List ℕ) where
   place_is (e ∷ es) (suc i) low p =
       ap suc (place_is es i (omega (arith, low)) ((λ j d a b. p.0 (suc j) d (omega arith) (omega (arith, b))), λ j d a b. p.1 (suc j) d (omega (arith, a)) (omega (arith, b))))
       ∙ ap (λ b. cond b (suc (place_under k es)) 0) (sym (p.0 0 e (omega arith) (omega arith)))
+
+  get_is : (es : List (List ℕ × V)) (i : ℕ) (e d : List ℕ × V) → slice_get es i ≡ Some e → get_or es i d ≡ e
+  get_is [] i e d is = cc
+  get_is (f ∷ es) zero e d is = cc
+  get_is (f ∷ es) (suc i) e d is = get_is es i e d is
+
+  -- a name behind the last one is behind all
+  pub past_end : (es : List (List ℕ × V)) (e : List ℕ × V) → IsStrictlySortedBy (slice_cmp nat_cmp) (keys_of es) → slice_get es (length es - 1) ≡ Some e → is_past e ≡ true → length es ≡ place_under k es
+  past_end [] e s is past = refl
+  past_end (f ∷ es) e s is past = place_is (f ∷ es) (length (f ∷ es)) (omega arith) (
+    (λ j d a b. parted (f ∷ es) s j (length (f ∷ es) - 1) d (omega (arith, b)) (omega arith) (ap is_past (get_is (f ∷ es) (length (f ∷ es) - 1) e d is) ∙ past)),
+    λ j d a b. absurd (omega (arith, a, b)),
+  )
 
   -- the value under the name, by the test of the first entry
   abbrev value_by : Bool → List ℕ × V → List (List ℕ × V) → Option V

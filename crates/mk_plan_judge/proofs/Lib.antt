@@ -1,4 +1,3 @@
 pub mod Putting
 pub mod Right
 pub mod Taken
-pub mod Finding

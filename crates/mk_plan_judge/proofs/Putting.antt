@@ -5,12 +5,12 @@ use Rattle.std.specs.declared.cmp.Ordering.{Ordering}
 use Rattle.std.specs.declared.cmp.Ordering.TheVariants.{Less, Equal, Greater}
 use Rattle.std.specs.Ordering.{ordering_reverse, ordering_index}
 use Rattle.std.specs.List.{insert, AllByRecursion, HoldsAt}
-use Rattle.std.specs.List.Sorted.{IsStrictlySortedBy, IsNonDecreasingBy, IsPartitionPoint}
+use Rattle.std.specs.List.Sorted.{IsStrictlySortedBy, IsNonDecreasingBy, IsPartitionPoint, IsBinarySearchResult, IsSearchInRange}
 use Rattle.std.specs.Cmp.Lexicographic.{on_texts}
 use Rattle.std.proofs.lemmas.Cmp.{then_total}
-use Rattle.mk_base.specs.Lists.{put, placed}
+use Rattle.mk_base.specs.Lists.{put, put_at, placed}
 use Rattle.mk_plan.specs.declared.Want.{Want}
-use Rattle.mk_plan_judge.specs.inner.Wants.{by_names}
+use Rattle.mk_plan.specs.Turns.{want_order}
 
 module _ {X : Type 0} where
   all_on : (P Q : X → Type 0) → ((x : X) → P x → Q x) → (xs : List X) → AllByRecursion P xs → AllByRecursion Q xs
@@ -96,7 +96,13 @@ module _ {X : Type 0} (order : X → X → Ordering) (total : IsTotalOrder order
       (subst (λ (l : List X). IsNonDecreasingBy (λ y. ordering_index (order y x)) l → IsPartitionPoint (λ y. order y x ≡ Less) (λ y. order y x ≡ Greater) l i) is parts (rising x xs sorted))
       in (made, subst (IsStrictlySortedBy order) (sym made) (put_sorted x xs sorted))
 
-pub names_total : IsTotalOrder by_names
+  -- the list after an item was put where a search has found its place
+  pub put_there : (x : X) (xs items new : List X) (place : Result ℕ ℕ) → IsStrictlySortedBy order xs → items ≡ xs → IsSearchInRange place (length items)
+      → IsBinarySearchResult (λ y. order y x) items place → new ≡ put_at place x xs → (new ≡ put order x xs) × IsStrictlySortedBy order new
+  put_there x xs items new (Ok i) sorted is there same set = put_found x xs items new i sorted is there same set
+  put_there x xs items new (Err i) sorted is there parts set = put_unfound x xs items new i sorted is there parts set
+
+pub names_total : IsTotalOrder want_order
 names_total = then_total (on_texts (λ (w : Want). w.eid)) (on_texts (λ (w : Want). w.attr))
 
 -- what follows from a fact on success

@@ -10,8 +10,7 @@ use Rattle.mk_plan.specs.declared.Plan.{Plan}
 use Rattle.mk_plan.specs.declared.Conn.{Conn}
 use Rattle.mk_plan.specs.declared.Want.{Want}
 use Rattle.mk_plan.specs.Plans.{owner, eid_of}
-use Rattle.mk_plan.specs.Turns.{wanted}
-use Rattle.mk_plan_judge.specs.inner.Wants.{by_names}
+use Rattle.mk_plan.specs.Turns.{wanted, want_order}
 
 module _ {X : Type 0} (order : X → X → Ordering) where
   put_is_in : (x : X) (ys : List X) → IsIn x (put order x ys)
@@ -39,7 +38,7 @@ both_equal Less p e = cc
 both_equal Equal p e = (refl, e)
 both_equal Greater p e = cc
 
-same_names : (v w : Want) → by_names v w ≡ Equal → v ≡ w
+same_names : (v w : Want) → want_order v w ≡ Equal → v ≡ w
 same_names v w e = let t = both_equal (text_order v.eid w.eid) (text_order v.attr w.attr) e in λ i. record { eid = exact_bytes v.eid w.eid t.0 i; attr = exact_bytes v.attr w.attr t.1 i }
 
 -- what a connection takes from its source
@@ -48,4 +47,4 @@ taken P c = record { eid = eid_of P c.from; attr = c.from_attr }
 
 -- it is among what each GetData asks of the source's simulator
 pub taken_is_wanted : (P : Plan) (c : Conn) (i : ℕ) → IsIn c P.conns → owner P c.from ≡ i → IsIn (taken P c) (wanted P i)
-taken_is_wanted P c i m e = all_put_in by_names same_names (taken P) c (filter (λ d. owner P d.from == i) P.conns) [] (inr (filter_in (λ d. owner P d.from == i) c P.conns m (eq-eqb _ _ e)))
+taken_is_wanted P c i m e = all_put_in want_order same_names (taken P) c (filter (λ d. owner P d.from == i) P.conns) [] (inr (filter_in (λ d. owner P d.from == i) c P.conns m (eq-eqb _ _ e)))

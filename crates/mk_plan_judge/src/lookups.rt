@@ -1,19 +1,12 @@
 // Finds the values of wants in the data of a reply, one want after the other: a name is looked for first where it stands if
 // wants and data are in the same order, and only else by a search.
-ghost use Rattle.std.specs.Prelude.{◌≡◌, true, Some, option_map, option_and_then, slice_get};
-ghost use Rattle.std.specs.Ordering.{nat_cmp, is_gt};
-ghost use Rattle.std.specs.Cmp.Lexicographic.{slice_cmp};
-ghost use Rattle.std.specs.List.Sorted.{IsStrictlySortedBy};
-ghost use Rattle.std.specs.Map.{keys_of};
-ghost use Rattle.mk_base.specs.Lists.{value_under};
+ghost use Rattle.std.specs.Prelude.{◌≡◌, true, Some, option_map, option_and_then};
 ghost use Rattle.mk_base.specs.Trees.{member};
-ghost use Rattle.mk_base.specs.inner.Lists.{place_under, value_if_named};
 ghost use Rattle.mk_plan.specs.Turns.{part_for, value_for};
 ghost use Rattle.mk_plan_judge.specs.inner.Parts.{HasPart};
 
-use mk_base::{Json, Members, Text};
+use mk_base::{Json, Near, Text};
 use mk_plan::Want;
-use std::cmp::Ordering;
 
 // How far the wants have been looked up: the entity of the last one, what the data give it, and the places in the data, and
 // in what they give the entity, behind what was found last.
@@ -24,13 +17,6 @@ pub struct Lookups<'a, 'w> {
     part: Option<&'a Json>,
     next_part: usize,
     next_value: usize,
-}
-
-// A value, where there is one, and the place behind it, or else the place at which it would stand.
-#[derive(Clone, Copy)]
-struct Found<'a> {
-    value: Option<&'a Json>,
-    next: usize,
 }
 
 impl<'a, 'w> Lookups<'a, 'w> {
@@ -120,72 +106,14 @@ impl<'a, 'w> Lookups<'a, 'w> {
 }
 
 // The member of that name of a tree, which may stand at the place of the guess.
-fn find<'a>(tree: &'a Json, name: &Text, guess: usize) -> Found<'a>
+fn find<'a>(tree: &'a Json, name: &Text, guess: usize) -> Near<'a, Json>
     ensures { option_map (λ v. v.now) result.value ≡ member name.now tree.now }
 {
     match tree {
-        Json::Object(members) => find_in(members, name, guess),
-        _ => Found {
+        Json::Object(members) => members.get_near(name.bytes(), guess),
+        _ => Near {
             value: None,
             next: 0,
         },
-    }
-}
-
-// The same among members: names are distinct, so what has this name at the place of the guess is the member.
-fn find_in<'a>(members: &'a Members<Json>, name: &Text, guess: usize) -> Found<'a>
-    ensures { option_map (λ v. v.now) result.value ≡ value_under name.now members.now }
-{
-    let entries = members.entries();
-    let name = name.bytes();
-    match value_at(entries, guess, name) {
-        Some(value) => Found {
-            value: Some(value),
-            next: guess.saturating_add(1),
-        },
-        None => search(entries, name),
-    }
-}
-
-// The same among entries, whose names rise, where there is no guess.
-fn search<'a>(entries: &'a [(Text, Json)], name: &[u8]) -> Found<'a>
-    requires { IsStrictlySortedBy (slice_cmp nat_cmp) (keys_of entries.now) }
-    ensures { option_map (λ v. v.now) result.value ≡ value_under name.now entries.now }
-{
-    let place = place_of(entries, name);
-    let value = value_at(entries, place, name);
-    let next = if value.is_some() {
-        place.saturating_add(1)
-    } else {
-        place
-    };
-    Found { value, next }
-}
-
-// The value at this place, if the entry there has this name.
-fn value_at<'a>(entries: &'a [(Text, Json)], place: usize, name: &[u8]) -> Option<&'a Json>
-    ensures { option_map (λ v. v.now) result
-        ≡ value_if_named name.now (slice_get entries.now place) }
-{
-    match entries.get(place) {
-        Some((key, value)) if name == key.bytes() => Some(value),
-        _ => None,
-    }
-}
-
-// How many of these entries, whose names rise, stand before the place of this name.
-fn place_of(entries: &[(Text, Json)], name: &[u8]) -> usize
-    requires { IsStrictlySortedBy (slice_cmp nat_cmp) (keys_of entries.now) }
-    ensures { result ≡ place_under name.now entries.now }
-{
-    entries.partition_point(|entry| is_greater(name, &entry.0))
-}
-
-fn is_greater(name: &[u8], key: &Text) -> bool
-    ensures { result ≡ is_gt (slice_cmp nat_cmp name.now key.now) }
-{
-    match name.cmp(key.bytes()) {
-        Ordering::Greater => true,
-        Ordering::Equal | Ordering::Less => false,
     }
 }

@@ -1,5 +1,5 @@
 // Times and bounds in messages.
-ghost use Rattle.std.specs.Prelude.{◌≡◌, ℤ, int_le, int_lt, FitsSigned, option_and_then};
+ghost use Rattle.std.specs.Prelude.{◌≡◌, int_le, int_lt, FitsSigned, option_and_then};
 ghost use Rattle.std.specs.Int.{w64};
 ghost use Rattle.std.specs.Option.{ForSome};
 ghost use Rattle.mk_base.specs.Trees.{whole_in};

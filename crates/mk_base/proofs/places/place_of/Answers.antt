@@ -1,7 +1,7 @@
 use Rattle.std.proofs.Common.{rules}
 use Rattle.std.proofs.lemmas.Fn.{always_returns_same}
 use Rattle.mk_base.proofs.Searching.{is_past, parted, place_is}
-use Rattle.mk_base.proofs.members.place_of.Goals as goal
+use Rattle.mk_base.proofs.places.place_of.Goals as goal
 
 pub returns : goal.returns
 returns g c = place_is c.args.name.now c.args.entries.now c.partition_point.result c.partition_point.ensures.bound

@@ -1,8 +1,0 @@
-use Rattle.std.proofs.Common.{rules}
-use Rattle.std.proofs.lemmas.Fn.{always_returns_same}
-use Rattle.mk_base.proofs.Searching.{is_past, parted, place_is}
-use Rattle.mk_plan_judge.proofs.lookups.place_of.Goals as goal
-
-pub returns : goal.returns
-returns c = place_is c.args.name.now c.args.entries.now c.partition_point.result c.partition_point.ensures.bound
-    (c.partition_point.ensures.partitioned (is_past c.args.name.now) (always_returns_same _ _ _ (λ a r f' k. search rules)) (parted c.args.name.now c.args.entries.now c.requires))
