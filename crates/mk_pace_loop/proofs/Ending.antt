@@ -8,6 +8,7 @@ use Rattle.mk_plan.specs.declared.Item.TheVariants.{Step, GetData, Answer, Refus
 use Rattle.mk_plan.specs.declared.Plan.{Plan}
 use Rattle.mk_plan.specs.Journals.{got}
 use Rattle.mk_plan.specs.Plans.{sim_count}
+use Rattle.mk_plan.specs.Sequential.{takes_id}
 use Rattle.mk_outside.specs.declared.fleet.LogEntry.{LogEntry}
 use Rattle.mk_local.specs.Simulators.{Simulator}
 use Rattle.mk_sched.specs.declared.faults.CoreFault.{CoreFault}
@@ -16,7 +17,6 @@ use Rattle.mk_sched.specs.Answers as sched
 use Rattle.mk_sched.specs.Answers.{IsOutOfMemory, IsOver, WasFaulty}
 use Rattle.mk_run_laws.specs.Crews.{CrewState}
 use Rattle.mk_run_laws.specs.Handshake.{is_within, sim_link}
-use Rattle.mk_run_laws.specs.Payloads.{takes_id}
 use Rattle.mk_run_crew.specs.Seen.{CrewSeen, crew_of}
 use Rattle.mk_run.specs.declared.outcome.Outcome.{Outcome}
 use Rattle.mk_run.specs.declared.outcome.Outcome.TheVariants as outcome

@@ -11,13 +11,13 @@ use Rattle.mk_plan.specs.declared.Plan.{Plan}
 use Rattle.mk_plan.specs.Journals.{got, sent}
 use Rattle.mk_plan.specs.Plans.{first_id, sim_count}
 use Rattle.mk_plan.specs.Report.{is_step}
+use Rattle.mk_plan.specs.Sequential.{takes_id, id_after}
 use Rattle.mk_message.specs.Written.{item_text}
 use Rattle.mk_frame.specs.Frames.{limit}
 use Rattle.mk_outside.specs.declared.fleet.LogEntry.{LogEntry}
 use Rattle.mk_sched.proofs.Pushed.{heads, not_empty}
 use Rattle.mk_run_laws.specs.Handshake.{is_within}
 use Rattle.mk_run_laws.specs.Lines.{Line}
-use Rattle.mk_run_laws.specs.Payloads.{id_after, takes_id}
 use Rattle.mk_run_laws.proofs.Stepping.{same_or_not}
 use Rattle.mk_run_links.specs.Crews.{IsLengthOf}
 use Rattle.mk_run_local.specs.Laws.{RepliesAreKinds}

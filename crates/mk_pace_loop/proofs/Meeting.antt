@@ -10,6 +10,7 @@ use Rattle.mk_plan.specs.declared.Message.{Message}
 use Rattle.mk_plan.specs.declared.Plan.{Plan}
 use Rattle.mk_plan.specs.Journals.{Arrival, OpenTurn, bare, got, sent, view}
 use Rattle.mk_plan.specs.Plans.{sim_count}
+use Rattle.mk_plan.specs.Sequential.{takes_id}
 use Rattle.mk_order.proofs.Pushing.{got_push}
 use Rattle.mk_outside.specs.declared.fleet.LogEntry.{LogEntry}
 use Rattle.mk_outside.specs.declared.fleet.LogEntry.TheVariants.{Nap}
@@ -20,7 +21,6 @@ use Rattle.mk_sched.specs.Answers.{SomeReady}
 use Rattle.mk_run_laws.specs.Handshake.{is_within, sim_link}
 use Rattle.mk_run_laws.specs.Kinds.{IsKindReply, KeepsToKinds, Replies}
 use Rattle.mk_run_laws.specs.Lines.{Line}
-use Rattle.mk_run_laws.specs.Payloads.{takes_id}
 use Rattle.mk_run_laws.specs.Crews.{CrewState, IsHeard, IsMovedAt, given_by, kept_of, line_at}
 use Rattle.mk_run_laws.specs.Running.{BeginsOnLink}
 use Rattle.mk_run_laws.specs.inner.Running.{HasLine}

@@ -12,6 +12,7 @@ use Rattle.mk_plan.specs.declared.Plan.{Plan}
 use Rattle.mk_plan.specs.Journals.{bare, got, sent, view}
 use Rattle.mk_plan.specs.Plans.{sim_count}
 use Rattle.mk_plan.specs.Report.{is_step}
+use Rattle.mk_plan.specs.Sequential.{takes_id, id_after}
 use Rattle.mk_outside.specs.declared.fleet.LogEntry.{LogEntry}
 use Rattle.mk_outside.specs.Logs.{said_on}
 use Rattle.mk_local.specs.Replies.{IsItemReplied}
@@ -19,7 +20,6 @@ use Rattle.mk_local.specs.Simulators.{Simulator}
 use Rattle.mk_run_laws.specs.Crews.{kept_from, kept_of, line_at}
 use Rattle.mk_run_laws.specs.Handshake.{is_within, setup_count, sim_link}
 use Rattle.mk_run_laws.specs.Lines.{Line}
-use Rattle.mk_run_laws.specs.Payloads.{id_after, takes_id}
 use Rattle.mk_run_laws.specs.Rests.{all_frames}
 use Rattle.mk_run_laws.specs.Running.{IsInStep}
 use Rattle.mk_run_laws.specs.inner.Running.{HasLine, awaited}

@@ -6,6 +6,7 @@ use Rattle.mk_base.proofs.Lists.{filter_append, none_some, some_same}
 use Rattle.mk_plan.specs.declared.Item.{Item}
 use Rattle.mk_plan.specs.declared.Item.TheVariants.{Step, GetData, Answer, Refuse}
 use Rattle.mk_plan.specs.declared.Message.{Message}
+use Rattle.mk_plan.specs.Sequential.{takes_id, id_after}
 use Rattle.mk_message.specs.Written.{item_text}
 use Rattle.mk_scenario.specs.declared.parts.Scenario.{Scenario}
 use Rattle.mk_outside.specs.declared.fleet.LogEntry.{LogEntry}
@@ -13,7 +14,7 @@ use Rattle.mk_outside.specs.declared.fleet.LogEntry.TheVariants.{Told, Nap}
 use Rattle.mk_run_laws.specs.Crews.{CrewState, AreMoved, IsMovedAt, IsSentOnLink, line_at}
 use Rattle.mk_run_laws.specs.Handshake.{setup_count, setup_payloads}
 use Rattle.mk_run_laws.specs.Lines.{IsLineAt, IsMoved, Line, queued}
-use Rattle.mk_run_laws.specs.Payloads.{id_after, item_payloads, takes_id}
+use Rattle.mk_run_laws.specs.Payloads.{item_payloads}
 use Rattle.mk_run_laws.specs.Running.{SetupReplies}
 use Rattle.mk_run_laws.specs.inner.Running.{HasLine}
 use Rattle.mk_run_laws.proofs.Moving.{line_moved, line_queued}

@@ -9,13 +9,13 @@ use Rattle.mk_plan.specs.declared.Message.{Message}
 use Rattle.mk_plan.specs.declared.Plan.{Plan}
 use Rattle.mk_plan.specs.Journals.{Arrival, sent, view}
 use Rattle.mk_plan.specs.Plans.{first_id, sim_count}
+use Rattle.mk_plan.specs.Sequential.{takes_id, id_after}
 use Rattle.mk_outside.specs.declared.fleet.LogEntry.{LogEntry}
 use Rattle.mk_local.specs.Replies.{IsItemReplied}
 use Rattle.mk_local.specs.Simulators.{Simulator}
 use Rattle.mk_sched.specs.Cores.{Stands}
 use Rattle.mk_sched.specs.Answers.{SomeReady}
 use Rattle.mk_run_laws.specs.Handshake.{is_within}
-use Rattle.mk_run_laws.specs.Payloads.{id_after, takes_id}
 use Rattle.mk_run_laws.specs.Crews.{CrewState, IsHeard, kept_of}
 use Rattle.mk_run_laws.specs.inner.Running.{HasLine}
 use Rattle.mk_run_laws.proofs.Stepping.{after_message, item_leaves_open, same_or_not}

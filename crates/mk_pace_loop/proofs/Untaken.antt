@@ -11,6 +11,7 @@ use Rattle.mk_plan.specs.declared.Message.{Message}
 use Rattle.mk_plan.specs.declared.Plan.{Plan}
 use Rattle.mk_plan.specs.Journals.{OpenTurn, got, sent, view}
 use Rattle.mk_plan.specs.Plans.{sim_count}
+use Rattle.mk_plan.specs.Sequential.{takes_id}
 use Rattle.mk_outside.specs.declared.fleet.LogEntry.{LogEntry}
 use Rattle.mk_sched.specs.declared.faults.CoreFault.{CoreFault}
 use Rattle.mk_sched.specs.Cores.{CoreState, Stands}
@@ -18,7 +19,6 @@ use Rattle.mk_sched.specs.Answers.{IsFaulty, IsOutOfMemory, IsUnanswered, IsUnta
 use Rattle.mk_run_laws.specs.Crews.{IsHeard}
 use Rattle.mk_run_laws.specs.Handshake.{is_within, sim_link}
 use Rattle.mk_run_laws.specs.Kinds.{KeepsToKinds}
-use Rattle.mk_run_laws.specs.Payloads.{takes_id}
 use Rattle.mk_run_laws.specs.inner.Running.{HasLine}
 use Rattle.mk_run_links.specs.Entries.{IsRunLink}
 use Rattle.mk_run_links.proofs.OnEntries.{no_rests}

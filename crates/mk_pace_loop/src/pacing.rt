@@ -111,22 +111,22 @@ fn take(
     kinds: &Registry,
     waiting: &mut Waiting,
     sim: SimNo,
-    message: &Message,
+    message: Message,
 ) -> Result<(), Outcome>
     requires going { core.old.ended ≡ None }
     requires there { sim.0 < sim_count core.old.plan }
-    requires form { is_message_in_range message.now ≡ true }
+    requires form { is_message_in_range message ≡ true }
     requires known { AreOf (rows_in kinds.now) (within_of crew.old) }
     requires heard { (S : Setting) × (log : List LogEntry)
-        × IsPast S core.old log sim message.now crew.old waiting.old }
-    ensures taken { TakesAs result sim message.now core.old crew.old waiting.old core.new crew.new
+        × IsPast S core.old log sim message crew.old waiting.old }
+    ensures taken { TakesAs result sim message core.old crew.old waiting.old core.new crew.new
         waiting.new }
     ensures still { IsStill crew.old crew.new }
     ensures same_halt { crew.new.halt ≡ crew.old.halt }
     ensures on_tempo { IsOnTempo waiting.old waiting.new }
 {
     replies_are_kinds();
-    match core.arrive(sim, message)? {
+    match core.take(sim, message)? {
         Taken::Quiet => Ok(()),
         Taken::Send => answer(core, crew, kinds, waiting, sim),
         Taken::Fault(fault) => Err(Outcome::Core(fault)),
@@ -190,7 +190,7 @@ fn attend<F: Paced>(
     ensures on_tempo { IsOnTempo waiting.old waiting.new }
 {
     match crew.try_hear(fleet) {
-        Ok(Some((sim, message))) => take(core, crew, kinds, waiting, sim, &message),
+        Ok(Some((sim, message))) => take(core, crew, kinds, waiting, sim, message),
         Ok(None) => nap(waiting, fleet, told),
         Err(halt) => Err(outcome_of(halt)),
     }

@@ -1,11 +1,10 @@
 // What waits of a paced run, and the moments of what was sent.
-ghost use Rattle.std.specs.Prelude.{◌≡◌, ◌<◌, ◌≤◌, ◌+◌, ◌^◌, ℕ, List, [], ◌∷◌, ◌++◌, None, Some, Option, IfOk, IfSome, MatchOption, OnErr, OnOk, is_some, length, pos, replicate, slice_get, ◌≤ℤ◌};
+ghost use Rattle.std.specs.Prelude.{◌≡◌, ◌<◌, ◌≤◌, ◌+◌, ◌^◌, ℕ, List, [], ◌∷◌, ◌++◌, None, Some, IfOk, IfSome, MatchOption, OnErr, OnOk, is_some, length, pos, replicate, slice_get, ◌≤ℤ◌};
 ghost use Rattle.mk_pace_held.specs.declared.held.First.{First};
 ghost use Rattle.mk_pace_held.specs.declared.held.Held.{Held};
 ghost use Rattle.mk_pace_held.specs.Firsts.{IsFirst, first_at};
 ghost use Rattle.mk_pace_laws.specs.declared.end.Moment.{Moment};
 ghost use Rattle.mk_pace_laws.specs.Moments.{moment_at};
-ghost use Rattle.mk_plan.specs.declared.Item.{Item};
 ghost use Rattle.mk_pace_loop.specs.inner.Pacing.{DueAs};
 ghost use Rattle.mk_pace_loop.specs.inner.Waiting.{HasTime, IsHeldAnew, IsOnTempo, IsTooLate};
 

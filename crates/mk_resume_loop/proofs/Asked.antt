@@ -12,13 +12,13 @@ use Rattle.mk_plan.specs.declared.Entry.TheVariants.{Sent}
 use Rattle.mk_plan.specs.Plans.{sim_count, first_id}
 use Rattle.mk_plan.specs.Ready.{IsReady}
 use Rattle.mk_plan.specs.Journals.{View, view, sent, got}
+use Rattle.mk_plan.specs.Sequential.{id_after}
 use Rattle.mk_order.proofs.Pushing.{view_push}
 use Rattle.mk_outside.specs.declared.fleet.LogEntry.{LogEntry}
 use Rattle.mk_sched.specs.Cores.{CoreState, Stands}
 use Rattle.mk_sched.specs.Answers.{IsAsked, open_id}
 use Rattle.mk_local.specs.Replies.{IsItemReplied}
 use Rattle.mk_run_laws.specs.Handshake.{setup_count, sim_link}
-use Rattle.mk_run_laws.specs.Payloads.{id_after}
 use Rattle.mk_run_laws.specs.Lines.{Line}
 use Rattle.mk_run_laws.specs.Crews.{line_at}
 use Rattle.mk_run_laws.proofs.Saying.{link_there}

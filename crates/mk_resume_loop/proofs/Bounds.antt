@@ -8,8 +8,8 @@ use Rattle.mk_plan.specs.declared.Entry.{Entry}
 use Rattle.mk_plan.specs.declared.Entry.TheVariants.{Sent, Got}
 use Rattle.mk_plan.specs.Plans.{IsValidPlan, first_id, sim_count}
 use Rattle.mk_plan.specs.Journals.{sent}
+use Rattle.mk_plan.specs.Sequential.{takes_id}
 use Rattle.mk_sched.specs.Cores.{CoreState}
-use Rattle.mk_run_laws.specs.Payloads.{takes_id}
 use Rattle.mk_run_crew.specs.Seen.{CrewSeen}
 use Rattle.mk_resume_walk.specs.Walks.{IsFirstOwn, is_of}
 use Rattle.mk_resume_loop.specs.inner.Turns.{Course, IsDue}

@@ -15,6 +15,7 @@ use Rattle.mk_plan.specs.Advance.{IsAdvance}
 use Rattle.mk_plan.specs.Orderly.{IsOrderlySoFar}
 use Rattle.mk_plan.specs.Turns.{wanted}
 use Rattle.mk_plan.specs.Journals.{bare, got, sent}
+use Rattle.mk_plan.specs.Sequential.{takes_id, id_after}
 use Rattle.mk_order.proofs.Pushing.{orderly_front}
 use Rattle.mk_outside.specs.declared.fleet.LogEntry.{LogEntry}
 use Rattle.mk_sched.specs.Cores.{CoreState, Stands}
@@ -22,7 +23,6 @@ use Rattle.mk_sched.specs.Answers.{IsAnswered, IsQuiet, open_id, with_message}
 use Rattle.mk_local.specs.Replies.{IsItemReplied}
 use Rattle.mk_local.specs.Simulators.{Simulator}
 use Rattle.mk_run_laws.specs.Handshake.{is_within, setup_count, sim_link}
-use Rattle.mk_run_laws.specs.Payloads.{takes_id, id_after}
 use Rattle.mk_run_laws.specs.Lines.{Line}
 use Rattle.mk_run_laws.specs.Crews.{CrewState, IsHeard, IsSentWithin, kept_of, line_at}
 use Rattle.mk_run_laws.proofs.Saying.{link_there}

@@ -9,11 +9,11 @@ use Rattle.mk_plan.specs.declared.Message.{Message}
 use Rattle.mk_plan.specs.declared.Entry.{Entry}
 use Rattle.mk_plan.specs.Plans.{sim_count}
 use Rattle.mk_plan.specs.Journals.{bare}
+use Rattle.mk_plan.specs.Sequential.{takes_id, id_after}
 use Rattle.mk_outside.specs.declared.fleet.LogEntry.{LogEntry}
 use Rattle.mk_scenario.specs.declared.parts.Scenario.{Scenario}
 use Rattle.mk_local.specs.Simulators.{Simulator}
 use Rattle.mk_run_laws.specs.Handshake.{is_within, setup_count, sim_link}
-use Rattle.mk_run_laws.specs.Payloads.{takes_id, id_after}
 use Rattle.mk_run_laws.specs.Lines.{Line}
 use Rattle.mk_run_laws.specs.Kinds.{Replies}
 use Rattle.mk_run_laws.specs.Crews.{CrewState, line_at, given_by}

@@ -13,8 +13,8 @@ use Rattle.mk_plan.specs.Ready.{IsReady}
 use Rattle.mk_plan.specs.Advance.{IsAdvance}
 use Rattle.mk_plan.specs.Orderly.{IsOrderlyFrom, IsOrderlySoFar}
 use Rattle.mk_plan.specs.Journals.{View, empty_view, got, note, sent, view}
+use Rattle.mk_plan.specs.Sequential.{id_after}
 use Rattle.mk_order.proofs.Pushing.{orderly_front}
-use Rattle.mk_run_laws.specs.Payloads.{id_after}
 use Rattle.mk_run_laws.proofs.Stepping.{same_or_not}
 use Rattle.mk_resume_walk.specs.Talks.{free_items, up_to}
 use Rattle.mk_resume_walk.specs.Walks.{IsFirstOwn, IsGoneTo, IsNextAt, is_of}

@@ -10,10 +10,10 @@ use Rattle.mk_plan.specs.declared.Entry.{Entry}
 use Rattle.mk_plan.specs.declared.Entry.TheVariants.{Sent, Got}
 use Rattle.mk_plan.specs.Plans.{first_id, sim_count}
 use Rattle.mk_plan.specs.Journals.{sent}
+use Rattle.mk_plan.specs.Sequential.{takes_id, id_after}
 use Rattle.mk_sched.specs.Cores.{CoreState}
 use Rattle.mk_local.specs.Replies.{IsItemReplied}
 use Rattle.mk_run_laws.specs.Handshake.{is_within, setup_count}
-use Rattle.mk_run_laws.specs.Payloads.{takes_id, id_after}
 use Rattle.mk_run_local.specs.Laws.{RepliesAreKinds}
 use Rattle.mk_run_crew.specs.Seen.{CrewSeen, is_here}
 use Rattle.mk_run_crew.specs.Calls.{HasNext, SendsAs}

@@ -6,6 +6,7 @@ use Rattle.mk_plan.specs.declared.Item.{Item}
 use Rattle.mk_plan.specs.declared.Entry.{Entry}
 use Rattle.mk_plan.specs.Plans.{first_id}
 use Rattle.mk_plan.specs.Journals.{view}
+use Rattle.mk_plan.specs.Sequential.{id_after}
 use Rattle.mk_frame.specs.Frames.{limit}
 use Rattle.mk_message.specs.Written.{item_text}
 use Rattle.mk_sched.specs.declared.faults.CoreFault.{CoreFault}
@@ -13,7 +14,6 @@ use Rattle.mk_sched.specs.declared.faults.CoreFault.TheVariants.{TooLong}
 use Rattle.mk_sched.specs.Answers.{SomeReady}
 use Rattle.mk_scenario.specs.declared.parts.Scenario.{Scenario}
 use Rattle.mk_run_laws.specs.Handshake.{sim_link}
-use Rattle.mk_run_laws.specs.Payloads.{id_after}
 use Rattle.mk_run.specs.Ends.{QueuedAll, IsBrokenOff}
 use Rattle.mk_resume_loop.specs.declared.ending.ResumeEnd.{ResumeEnd}
 use Rattle.mk_resume_loop.specs.declared.ending.ResumeEnd.TheVariants as ends

@@ -122,23 +122,23 @@ fn take(
     kinds: &Registry,
     behind: &Behind,
     sim: SimNo,
-    message: &Message,
+    message: Message,
 ) -> Result<(), ResumeEnd>
     requires going { core.old.ended ≡ None }
     requires there { sim.0 < sim_count core.old.plan }
-    requires form { is_message_in_range message.now ≡ true }
+    requires form { is_message_in_range message ≡ true }
     requires known { AreOf (rows_in kinds.now) (within_of crew.old) }
     requires caught { slice_get behind.now.sims sim.0 ≡ Some None }
     requires heard { (T : Setting) × (first : List Entry) × (heard : Counts)
         × (log : List LogEntry)
-        × IsPast T first heard core.old log sim message.now crew.old behind.now }
-    ensures taken { TakesAs result sim message.now core.old crew.old behind.now core.new crew.new
+        × IsPast T first heard core.old log sim message crew.old behind.now }
+    ensures taken { TakesAs result sim message core.old crew.old behind.now core.new crew.new
         behind.now }
     ensures still { IsStill crew.old crew.new }
     ensures same_halt { crew.new.halt ≡ crew.old.halt }
 {
     replies_are_kinds();
-    match core.arrive(sim, message)? {
+    match core.take(sim, message)? {
         Taken::Quiet => Ok(()),
         Taken::Send => send(core, crew, kinds, sim),
         Taken::Fault(fault) => Err(ResumeEnd::Outcome(Outcome::Core(fault))),
@@ -240,7 +240,7 @@ fn accept(
 {
     match behind.standing(sim) {
         Some(at) => repeat(alloc, core, crew, kinds, behind, sim, message, at),
-        None => take(core, crew, kinds, behind, sim, &message),
+        None => take(core, crew, kinds, behind, sim, message),
     }
 }
 

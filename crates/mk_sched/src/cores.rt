@@ -1,5 +1,5 @@
 // The core: a run of a plan, message by message.
-ghost use Rattle.std.specs.Prelude.{◌≡◌, ◌<◌, ◌≤◌, [], true, IfOk, IfErr, None};
+ghost use Rattle.std.specs.Prelude.{◌≡◌, ◌<◌, ◌≤◌, [], true, IfOk, IfErr, IsSome, None};
 ghost use Rattle.mk_base.specs.declared.tier.Tier.{Tier};
 ghost use Rattle.mk_plan.specs.Plans.{IsValidPlan, sim_count};
 ghost use Rattle.mk_plan.specs.Deliveries.{supply};
@@ -142,7 +142,8 @@ impl Core {
     /// where nothing is open; after that, always `None`.
     pub fn id_of(&self, sim: SimNo) -> Option<u64>
         requires there { sim.0 < sim_count self.now.plan }
-        ensures { self.now.ended ≡ None → result ≡ open_id self.now sim.0 }
+        ensures going { self.now.ended ≡ None → result ≡ open_id self.now sim.0 }
+        ensures after { IsSome self.now.ended → result ≡ None }
     {
         if self.ended.is_some() {
             return None;

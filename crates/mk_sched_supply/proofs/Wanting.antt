@@ -13,9 +13,8 @@ use Rattle.mk_plan.specs.declared.Plan.{Plan}
 use Rattle.mk_plan.specs.declared.Conn.{Conn}
 use Rattle.mk_plan.specs.declared.Want.{Want}
 use Rattle.mk_plan.specs.Plans.{owner, eid_of}
-use Rattle.mk_plan.specs.Turns.{wanted}
+use Rattle.mk_plan.specs.Turns.{wanted, want_order}
 use Rattle.mk_plan.specs.Asks.{gives_attr}
-use Rattle.mk_plan_judge.specs.inner.Wants.{by_names}
 use Rattle.mk_plan_judge.proofs.Putting.{names_total}
 use Rattle.mk_plan_judge.proofs.Taken.{taken_is_wanted}
 use Rattle.mk_order.proofs.Assembled.{put_sorted}
@@ -23,11 +22,11 @@ use Rattle.mk_order.proofs.Reasons.{and_both, both_and}
 use Rattle.mk_order.proofs.GivenValues.{text_is}
 use Rattle.std.proofs.lemmas.Bool.{eqb-true, eq-eqb}
 
-fold_sorted : {C : Type 0} (f : C → Want) (cs : List C) (ws : List Want) → IsStrictlySortedBy by_names ws → IsStrictlySortedBy by_names (fold (λ ws c. put by_names (f c) ws) ws cs)
+fold_sorted : {C : Type 0} (f : C → Want) (cs : List C) (ws : List Want) → IsStrictlySortedBy want_order ws → IsStrictlySortedBy want_order (fold (λ ws c. put want_order (f c) ws) ws cs)
 fold_sorted f [] ws sorted = sorted
-fold_sorted f (c ∷ cs) ws sorted = fold_sorted f cs (put by_names (f c) ws) (put_sorted by_names names_total (f c) ws sorted)
+fold_sorted f (c ∷ cs) ws sorted = fold_sorted f cs (put want_order (f c) ws) (put_sorted want_order names_total (f c) ws sorted)
 
-pub wanted_sorted : (P : Plan) (s : ℕ) → IsStrictlySortedBy by_names (wanted P s)
+pub wanted_sorted : (P : Plan) (s : ℕ) → IsStrictlySortedBy want_order (wanted P s)
 unfolding IsStrictlySortedBy
 wanted_sorted P s = fold_sorted (λ (c : Conn). record { eid = eid_of P c.from; attr = c.from_attr }) (filter (λ c. owner P c.from == s) P.conns) [] tt
 
@@ -38,16 +37,16 @@ both_equal Less p e = cc
 both_equal Equal p e = (refl, e)
 both_equal Greater p e = cc
 
-same_want : (v w : Want) → by_names v w ≡ Equal → v ≡ w
+same_want : (v w : Want) → want_order v w ≡ Equal → v ≡ w
 same_want v w e = let t = both_equal (text_order v.eid w.eid) (text_order v.attr w.attr) e in λ i. record { eid = exact_bytes v.eid w.eid t.0 i; attr = exact_bytes v.attr w.attr t.1 i }
 
-not_itself : (w : Want) → by_names w w ≡ Less → ⊥
+not_itself : (w : Want) → want_order w w ≡ Less → ⊥
 not_itself w h = let k : Less ≡ Greater = sym h ∙ names_total.antisymm w w ∙ ap ordering_reverse h in cc
 
-equal_itself : (w : Want) → by_names w w ≡ Equal
-equal_itself w = go (by_names w w) refl
+equal_itself : (w : Want) → want_order w w ≡ Equal
+equal_itself w = go (want_order w w) refl
   where
-    go : (o : Ordering) → by_names w w ≡ o → o ≡ Equal
+    go : (o : Ordering) → want_order w w ≡ o → o ≡ Equal
     go Less e = absurd (not_itself w e)
     go Equal e = refl
     go Greater e = let k : Greater ≡ Less = sym e ∙ names_total.antisymm w w ∙ ap ordering_reverse e in cc
@@ -84,12 +83,12 @@ module _ {Y : Type 0} (f : Want → List Y) (v : Want) where
   not_want : (w : Want) → (w ≡ v → ⊥) → is_want v w ≡ false
   not_want w n = elim (is_want v w) as (λ b. is_want v w ≡ b → b ≡ false) [ true ↦ λ e. absurd (n (is_want_same v w e)) | false ↦ λ e. refl ] refl
 
-  pub one_of : (ws : List Want) → IsStrictlySortedBy by_names ws → IsIn v ws → flat_map of_want ws ≡ f v
+  pub one_of : (ws : List Want) → IsStrictlySortedBy want_order ws → IsIn v ws → flat_map of_want ws ≡ f v
   unfolding IsStrictlySortedBy
   one_of [] sorted m = absurd m
-  one_of (w ∷ ws) sorted (inl e) = ap (λ (l : List Y). of_want w ++ l) (none_of ws (λ u m. not_want u (λ q. not_itself w (subst (λ (x : Want). by_names w x ≡ Less) (q ∙ e) (all_has (λ u. by_names w u ≡ Less) ws u sorted.0 m)))))
+  one_of (w ∷ ws) sorted (inl e) = ap (λ (l : List Y). of_want w ++ l) (none_of ws (λ u m. not_want u (λ q. not_itself w (subst (λ (x : Want). want_order w x ≡ Less) (q ∙ e) (all_has (λ u. want_order w u ≡ Less) ws u sorted.0 m)))))
       ∙ ap (λ (u : Want). (if is_want v u then f u else []) ++ []) (sym e) ∙ ap (λ (b : Bool). (if b then f v else []) ++ []) (is_want_itself v) ∙ append_nil (f v)
-  one_of (w ∷ ws) sorted (inr m) = ap (λ (b : Bool). (if b then f w else []) ++ flat_map of_want ws) (not_want w (λ q. not_itself w (subst (λ (x : Want). by_names w x ≡ Less) (sym q) (all_has (λ u. by_names w u ≡ Less) ws v sorted.0 m)))) ∙ one_of ws sorted.1 m
+  one_of (w ∷ ws) sorted (inr m) = ap (λ (b : Bool). (if b then f w else []) ++ flat_map of_want ws) (not_want w (λ q. not_itself w (subst (λ (x : Want). want_order w x ≡ Less) (sym q) (all_has (λ u. want_order w u ≡ Less) ws v sorted.0 m)))) ∙ one_of ws sorted.1 m
 
 -- what some connection takes is wanted of its simulator
 pub given_is_wanted : (P : Plan) (e : ℕ) (attr : List ℕ) → gives_attr P e attr ≡ true → IsIn (let w : Want = record { eid = eid_of P e; attr = attr } in w) (wanted P (owner P e))
@@ -102,38 +101,38 @@ given_is_wanted P e attr given =
 
 -- ---- found by a search
 
-rising : (ws : List Want) (v : Want) → IsStrictlySortedBy by_names ws → IsNonDecreasingBy (λ w. ordering_index (by_names w v)) ws
+rising : (ws : List Want) (v : Want) → IsStrictlySortedBy want_order ws → IsNonDecreasingBy (λ w. ordering_index (want_order w v)) ws
 unfolding IsStrictlySortedBy
 rising ws v sorted = searchable_from_sorted names_total (λ w. w) ws v (λ k d low below. not_less (get_or ws k d) (get_or ws (k + 1) d) (next ws k d sorted below))
   where
-    not_less : (x y : Want) → by_names x y ≡ Less → is_lt (by_names y x) ≡ false
+    not_less : (x y : Want) → want_order x y ≡ Less → is_lt (want_order y x) ≡ false
     not_less x y h = ap is_lt (names_total.antisymm y x ∙ ap ordering_reverse h)
 
     all_at : (Q : Want → Type 0) (xs : List Want) (d : Want) → AllByRecursion Q xs → 0 < length xs → Q (get_or xs 0 d)
     all_at Q [] d all low = absurd (omega arith)
     all_at Q (x ∷ xs) d all low = all.0
 
-    next : (xs : List Want) (k : ℕ) (d : Want) → IsStrictlySortedBy by_names xs → k + 1 < length xs → by_names (get_or xs k d) (get_or xs (k + 1) d) ≡ Less
+    next : (xs : List Want) (k : ℕ) (d : Want) → IsStrictlySortedBy want_order xs → k + 1 < length xs → want_order (get_or xs k d) (get_or xs (k + 1) d) ≡ Less
     next [] k d sorted below = absurd (omega arith)
-    next (x ∷ xs) zero d sorted below = all_at (λ y. by_names x y ≡ Less) xs d sorted.0 (omega arith)
-    next (x ∷ xs) (suc k) d sorted below = subst (λ (n : ℕ). by_names (get_or xs k d) (get_or (x ∷ xs) n d) ≡ Less) {x = suc (k + 1)} {y = suc k + 1} (omega arith) (next xs k d sorted.1 (omega arith))
+    next (x ∷ xs) zero d sorted below = all_at (λ y. want_order x y ≡ Less) xs d sorted.0 (omega arith)
+    next (x ∷ xs) (suc k) d sorted below = subst (λ (n : ℕ). want_order (get_or xs k d) (get_or (x ∷ xs) n d) ≡ Less) {x = suc (k + 1)} {y = suc k + 1} (omega arith) (next xs k d sorted.1 (omega arith))
 
 some_at : {X : Type 0} (xs : List X) (i : ℕ) (d : X) → i < length xs → slice_get xs i ≡ Some (get_or xs i d)
 some_at [] i d low = absurd (omega arith)
 some_at (x ∷ xs) zero d low = refl
 some_at (x ∷ xs) (suc i) d low = some_at xs i d (omega arith)
 
-pub found_at : (ws : List Want) (v : Want) (i : ℕ) → i < length ws → HoldsAt (λ w. by_names w v ≡ Equal) ws i → slice_get ws i ≡ Some v
+pub found_at : (ws : List Want) (v : Want) (i : ℕ) → i < length ws → HoldsAt (λ w. want_order w v ≡ Equal) ws i → slice_get ws i ≡ Some v
 found_at ws v i low holds = some_at ws i v low ∙ ap Some (same_want (get_or ws i v) v (holds v))
 
-pub not_missing : (ws : List Want) (v : Want) (i : ℕ) → (IsNonDecreasingBy (λ w. ordering_index (by_names w v)) ws → IsPartitionPoint (λ w. by_names w v ≡ Less) (λ w. by_names w v ≡ Greater) ws i) → IsStrictlySortedBy by_names ws → IsIn v ws → slice_get ws i ≡ Some v
+pub not_missing : (ws : List Want) (v : Want) (i : ℕ) → (IsNonDecreasingBy (λ w. ordering_index (want_order w v)) ws → IsPartitionPoint (λ w. want_order w v ≡ Less) (λ w. want_order w v ≡ Greater) ws i) → IsStrictlySortedBy want_order ws → IsIn v ws → slice_get ws i ≡ Some v
 not_missing ws v i parts sorted m =
     let p = parts (rising ws v sorted) in
     let t = in_at v ws m in
     let g = get_is ws t.0 v t.1 in
     absurd (elim (below_or t.0 i) [
-      | inl low ↦ not_itself v (subst (λ (w : Want). by_names w v ≡ Less) g.1 (p.0 t.0 v (omega arith) low))
-      | inr high ↦ let k : Greater ≡ Equal = sym (subst (λ (w : Want). by_names w v ≡ Greater) g.1 (p.1 t.0 v high g.0)) ∙ equal_itself v in cc
+      | inl low ↦ not_itself v (subst (λ (w : Want). want_order w v ≡ Less) g.1 (p.0 t.0 v (omega arith) low))
+      | inr high ↦ let k : Greater ≡ Equal = sym (subst (λ (w : Want). want_order w v ≡ Greater) g.1 (p.1 t.0 v high g.0)) ∙ equal_itself v in cc
     ])
   where
     below_or : (a b : ℕ) → (a < b) ⊎ (b ≤ a)

@@ -1,24 +1,21 @@
 // What a request in a step is answered.
-ghost use Rattle.std.specs.Prelude.{◌≡◌, ℕ, ◌≤ℤ◌, ◌≤◌, ◌<◌, pos, true, All, IfOk, IfSome, IsSome, OnOk, Some, List, length, option_map};
+ghost use Rattle.std.specs.Prelude.{◌≡◌, ℕ, ◌≤ℤ◌, ◌≤◌, pos, true, All, IfOk, IsSome, OnOk, Some, List, option_map};
 ghost use Rattle.std.specs.List.{list_all};
-ghost use Rattle.mk_base.specs.Tiers.{IsUpTo, delayed};
-ghost use Rattle.mk_base.specs.declared.tier.Via.TheVariants.{Shift};
+ghost use Rattle.mk_base.specs.Tiers.{IsUpTo};
 ghost use Rattle.mk_base.specs.Trees.{is_in_range};
 ghost use Rattle.mk_plan.specs.declared.Plan.{Plan};
 ghost use Rattle.mk_plan.specs.declared.Entry.{Entry};
 ghost use Rattle.mk_plan.specs.declared.Entry.TheVariants.{Got};
 ghost use Rattle.mk_plan.specs.declared.Message.TheVariants.{Ask};
 ghost use Rattle.mk_plan.specs.declared.Place.{Place};
-ghost use Rattle.mk_plan.specs.declared.SetValue.{SetValue};
 ghost use Rattle.mk_plan.specs.Plans.{IsValidPlan, RefersInside};
-ghost use Rattle.mk_plan.specs.Asks.{content_text, knows, permits, sets_in};
+ghost use Rattle.mk_plan.specs.Asks.{content_text, knows};
 ghost use Rattle.mk_plan.specs.Deliveries.{Supply, supply};
 ghost use Rattle.mk_plan.specs.Inputs.{value_at};
 ghost use Rattle.mk_plan.specs.Sequential.{response};
 ghost use Rattle.mk_plan.specs.Journals.{OpenTurn, View, note_right, note_sent, view};
 ghost use Rattle.mk_plan_names.specs.Names.{AreNamesOf};
 ghost use Rattle.mk_buffers.specs.Standing.{HasSameMarks, Stands, least_mark};
-ghost use Rattle.mk_buffers.specs.Marking.{asks_of};
 ghost use Rattle.mk_async.specs.Asked.{IsGivenBy, asked_in, is_asked_in_range};
 ghost use Rattle.mk_sched_open.specs.Turns.{IsRight};
 

@@ -3,8 +3,8 @@ ghost use Rattle.std.specs.Prelude.{◌≡◌, ◌<◌, ◌+◌, ◌^◌, length
 ghost use Rattle.mk_base.specs.Lists.{IsIn};
 ghost use Rattle.mk_plan.specs.declared.Want.{Want};
 ghost use Rattle.mk_plan.specs.Plans.{RefersInside};
+ghost use Rattle.mk_plan.specs.Turns.{want_order};
 ghost use Rattle.std.specs.List.Sorted.{IsStrictlySortedBy, IsBinarySearchResult, IsSearchInRange};
-ghost use Rattle.mk_plan_judge.specs.inner.Wants.{by_names};
 ghost use Rattle.mk_sched_supply.specs.inner.Making.{AreFeedsOf, HasNoTriggers, names_of};
 
 use mk_base::{List, Mem, SimNo, Text};
@@ -67,7 +67,7 @@ fn add_conn(plan: &Plan, feeds: &mut Vec<Feed>, place: usize, conn: &Conn) -> Re
 
 // The place of a want among these.
 fn place_of(wants: &[Want], eid: &Text, attr: &Text) -> usize
-    ensures { IsStrictlySortedBy by_names wants.now → IsIn (names_of eid.now attr.now) wants.now
+    ensures { IsStrictlySortedBy want_order wants.now → IsIn (names_of eid.now attr.now) wants.now
         → slice_get wants.now result ≡ Some (names_of eid.now attr.now) }
 {
     match search(wants, eid, attr) {
@@ -80,14 +80,14 @@ fn place_of(wants: &[Want], eid: &Text, attr: &Text) -> usize
 fn search(wants: &[Want], eid: &Text, attr: &Text) -> Result<usize, usize>
     ensures within { IsSearchInRange result (length wants.now) }
     ensures found { IsBinarySearchResult
-        (λ w. by_names w (names_of eid.now attr.now)) wants.now result }
+        (λ w. want_order w (names_of eid.now attr.now)) wants.now result }
 {
     wants.binary_search_by(|want| order_of(want, eid, attr))
 }
 
 // By the entity's name, then the attribute's, each in byte order.
 fn order_of(want: &Want, eid: &Text, attr: &Text) -> Ordering
-    ensures { result ≡ by_names want.now (names_of eid.now attr.now) }
+    ensures { result ≡ want_order want.now (names_of eid.now attr.now) }
 {
     want.eid
         .bytes()

@@ -9,6 +9,7 @@ use Rattle.mk_plan.specs.declared.Message.{Message}
 use Rattle.mk_plan.specs.declared.Plan.{Plan}
 use Rattle.mk_plan.specs.Journals.{view, sent, got}
 use Rattle.mk_plan.specs.Ready.{IsDone}
+use Rattle.mk_plan.specs.Sequential.{takes_id}
 use Rattle.mk_outside.specs.declared.fleet.LogEntry.{LogEntry}
 use Rattle.mk_outside.specs.declared.fleet.LogEntry.TheVariants.{Rest}
 use Rattle.mk_sched.specs.Cores.{Stands}
@@ -16,7 +17,6 @@ use Rattle.mk_run_laws.specs.Crews.{CrewState}
 use Rattle.mk_run_laws.specs.Handshake.{is_within, sim_link}
 use Rattle.mk_run_laws.specs.Hearing.{first_message}
 use Rattle.mk_run_laws.specs.Kinds.{KeepsToKinds}
-use Rattle.mk_run_laws.specs.Payloads.{takes_id}
 use Rattle.mk_run_laws.specs.Rests.{AllSetUp, IsWellInSetup}
 use Rattle.mk_run_links.specs.Entries.{AreOnOrOfClock, IsRunLink}
 use Rattle.mk_run_laws.specs.inner.Running.{HasLine}

@@ -1,7 +1,7 @@
 -- For proofs alone. Where a simulator stands behind an entry of it, and whether anybody is behind.
 use Rattle.std.specs.Prelude.{◌≡◌, ℕ, ◌+◌, Option, Some, None, if◌then◌else◌, slice_get}
 use Rattle.mk_plan.specs.declared.Item.{Item}
-use Rattle.mk_run_laws.specs.Payloads.{takes_id}
+use Rattle.mk_plan.specs.Sequential.{takes_id}
 use Rattle.mk_resume_loop.specs.declared.behind.Standing.{Standing}
 use Rattle.mk_resume_loop.specs.inner.Underway.{BehindSeen}
 

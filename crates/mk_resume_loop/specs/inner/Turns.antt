@@ -8,11 +8,11 @@ use Rattle.mk_plan.specs.declared.Entry.TheVariants.{Got}
 use Rattle.mk_plan.specs.Plans.{first_id, sim_count}
 use Rattle.mk_plan.specs.Journals.{view}
 use Rattle.mk_plan.specs.Ready.{IsDone}
+use Rattle.mk_plan.specs.Sequential.{id_after}
 use Rattle.mk_outside.specs.declared.fleet.LogEntry.{LogEntry}
 use Rattle.mk_sched.specs.Cores.{CoreState}
 use Rattle.mk_sched.specs.Answers.{SomeReady, SomeOpen}
 use Rattle.mk_run_laws.specs.Handshake.{is_within}
-use Rattle.mk_run_laws.specs.Payloads.{id_after}
 use Rattle.mk_run_local.specs.Calls.{IsFitSuccess}
 use Rattle.mk_run_crew.specs.Seen.{CrewSeen, crew_of}
 use Rattle.mk_run.specs.inner.Underway.{Setting}

@@ -7,12 +7,12 @@ use Rattle.mk_plan.specs.declared.Message.{Message}
 use Rattle.mk_plan.specs.declared.Entry.{Entry}
 use Rattle.mk_plan.specs.Plans.{first_id, sim_count}
 use Rattle.mk_plan.specs.Journals.{Arrival, got, sent, view}
+use Rattle.mk_plan.specs.Sequential.{id_after}
 use Rattle.mk_outside.specs.declared.fleet.LogEntry.{LogEntry}
 use Rattle.mk_sched.specs.Cores.{Stands}
 use Rattle.mk_sched.specs.Answers.{SomeReady}
 use Rattle.mk_local.specs.Simulators.{Simulator}
 use Rattle.mk_run_laws.specs.Handshake.{is_within}
-use Rattle.mk_run_laws.specs.Payloads.{id_after}
 use Rattle.mk_run_laws.specs.Crews.{CrewState, IsHeard}
 use Rattle.mk_run_local.specs.Calls.{IsFitSuccess}
 use Rattle.mk_run_crew.specs.Seen.{CrewSeen, crew_of}

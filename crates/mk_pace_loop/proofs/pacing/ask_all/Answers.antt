@@ -3,10 +3,10 @@ use Rattle.std.proofs.lemmas.Result.{err_from_is_err_and}
 use Rattle.mk_plan.specs.declared.Item.TheVariants.{Step}
 use Rattle.mk_plan.specs.Journals.{sent}
 use Rattle.mk_plan.specs.Plans.{first_id}
+use Rattle.mk_plan.specs.Sequential.{id_after}
 use Rattle.mk_sched.specs.declared.faults.Next.{Next}
 use Rattle.mk_sched.specs.Cores.{CoreState}
 use Rattle.mk_sched.specs.Answers.{NextOf, IsAsked, IsWaiting, IsOver}
-use Rattle.mk_run_laws.specs.Payloads.{id_after}
 use Rattle.mk_run.specs.declared.outcome.Outcome.{Outcome}
 use Rattle.mk_run.proofs.Turning.{waits_so}
 use Rattle.mk_pace_loop.specs.inner.Turns.{AsksAs, GoesOn, IsStopping}

@@ -9,51 +9,51 @@ use Rattle.mk_pace_loop.proofs.Answering.{answered_so, can_answer, owed_ends, ow
 use Rattle.mk_pace_loop.proofs.Untaken.{fault_ends, untaken_for_memory}
 use Rattle.mk_pace_loop.proofs.pacing.take.Goals as goal
 
-pub returns-in_err-arrive-clause-taken : goal.returns-in_err-arrive-clause-taken
-returns-in_err-arrive-clause-taken g c =
+pub returns-in_err-take-clause-taken : goal.returns-in_err-take-clause-taken
+returns-in_err-take-clause-taken g c =
     let e = err_from_is_err_and c.from_residual.result c.from_residual.ensures.1 in
-    subst (λ (r : Result (Unit {0}) Outcome). TakesAs r c.args.sim c.args.message.now c.args.core.now c.args.crew.now c.args.waiting.now c.arrive.new.self c.args.crew.now c.args.waiting.now) (sym (e.1 ∙ ap (λ (end : Outcome). Err end) e.2))
-    (λ S log h. untaken_for_memory S c.args.core.now log c.args.sim c.args.message.now c.args.crew.now c.args.waiting.now h c.arrive.new.self c.in_err-arrive.ensures.err)
+    subst (λ (r : Result (Unit {0}) Outcome). TakesAs r c.args.sim c.args.message c.args.core.now c.args.crew.now c.args.waiting.now c.take.new.self c.args.crew.now c.args.waiting.now) (sym (e.1 ∙ ap (λ (end : Outcome). Err end) e.2))
+    (λ S log h. untaken_for_memory S c.args.core.now log c.args.sim c.args.message c.args.crew.now c.args.waiting.now h c.take.new.self c.in_err-take.ensures.err)
 
 pub answer-requires-clause-there : goal.answer-requires-clause-there
 answer-requires-clause-there g c =
     let t = c.requires.heard in
-    owed_low t.0 c.args.core.now c.arrive.new.self t.1 c.args.sim c.args.message.now c.args.crew.now c.args.waiting.now t.2 c.arrive.ensures.stands
-    (subst (λ (n : Taken). ArriveOf c.args.core.now c.args.sim c.args.message.now n c.arrive.new.self) c.in-Send.is c.in_ok-arrive.ensures.ok)
+    owed_low t.0 c.args.core.now c.take.new.self t.1 c.args.sim c.args.message c.args.crew.now c.args.waiting.now t.2 c.take.ensures.stands
+    (subst (λ (n : Taken). ArriveOf c.args.core.now c.args.sim c.args.message n c.take.new.self) c.in-Send.is c.in_ok-take.ensures.ok)
 
 pub answer-requires-clause-sized : goal.answer-requires-clause-sized
 answer-requires-clause-sized g c =
     let t = c.requires.heard in
-    owed_sized t.0 c.args.core.now c.arrive.new.self t.1 c.args.sim c.args.message.now c.args.crew.now c.args.waiting.now t.2 c.arrive.ensures.stands
-    (subst (λ (n : Taken). ArriveOf c.args.core.now c.args.sim c.args.message.now n c.arrive.new.self) c.in-Send.is c.in_ok-arrive.ensures.ok)
+    owed_sized t.0 c.args.core.now c.take.new.self t.1 c.args.sim c.args.message c.args.crew.now c.args.waiting.now t.2 c.take.ensures.stands
+    (subst (λ (n : Taken). ArriveOf c.args.core.now c.args.sim c.args.message n c.take.new.self) c.in-Send.is c.in_ok-take.ensures.ok)
 
 pub answer-requires-clause-last : goal.answer-requires-clause-last
 answer-requires-clause-last g c =
     let t = c.requires.heard in
-    let a : IsAnswered c.args.core.now c.args.sim c.args.message.now c.arrive.new.self = subst (λ (n : Taken). ArriveOf c.args.core.now c.args.sim c.args.message.now n c.arrive.new.self) c.in-Send.is c.in_ok-arrive.ensures.ok in (
+    let a : IsAnswered c.args.core.now c.args.sim c.args.message c.take.new.self = subst (λ (n : Taken). ArriveOf c.args.core.now c.args.sim c.args.message n c.take.new.self) c.in-Send.is c.in_ok-take.ensures.ok in (
       a.item,
       _,
-      owed_ends t.0 c.args.core.now c.arrive.new.self t.1 c.args.sim c.args.message.now c.args.crew.now c.args.waiting.now t.2 c.arrive.ensures.stands a,
-      owed_time t.0 c.args.core.now c.arrive.new.self t.1 c.args.sim c.args.message.now c.args.crew.now c.args.waiting.now t.2 c.arrive.ensures.stands a,
+      owed_ends t.0 c.args.core.now c.take.new.self t.1 c.args.sim c.args.message c.args.crew.now c.args.waiting.now t.2 c.take.ensures.stands a,
+      owed_time t.0 c.args.core.now c.take.new.self t.1 c.args.sim c.args.message c.args.crew.now c.args.waiting.now t.2 c.take.ensures.stands a,
     )
 
 pub answer-requires-clause-due : goal.answer-requires-clause-due
 answer-requires-clause-due g c =
     let t = c.requires.heard in
-    λ none. can_answer t.0 c.args.core.now c.arrive.new.self t.1 c.args.sim c.args.message.now c.args.crew.now c.args.waiting.now t.2 c.arrive.ensures.stands
-    (subst (λ (n : Taken). ArriveOf c.args.core.now c.args.sim c.args.message.now n c.arrive.new.self) c.in-Send.is c.in_ok-arrive.ensures.ok) none
+    λ none. can_answer t.0 c.args.core.now c.take.new.self t.1 c.args.sim c.args.message c.args.crew.now c.args.waiting.now t.2 c.take.ensures.stands
+    (subst (λ (n : Taken). ArriveOf c.args.core.now c.args.sim c.args.message n c.take.new.self) c.in-Send.is c.in_ok-take.ensures.ok) none
 
 pub returns-in-Quiet-clause-taken : goal.returns-in-Quiet-clause-taken
 returns-in-Quiet-clause-taken g c =
-    let q : IsQuiet c.args.core.now c.args.sim c.args.message.now c.arrive.new.self =
-    subst (λ (n : Taken). ArriveOf c.args.core.now c.args.sim c.args.message.now n c.arrive.new.self) c.in-Quiet.is c.in_ok-arrive.ensures.ok in
-    (ap (λ (k : CoreState). k.ended) q.moved, λ S log h. quiet_goes S c.args.core.now c.arrive.new.self log c.args.sim c.args.message.now c.args.crew.now c.args.waiting.now h c.arrive.ensures.stands q)
+    let q : IsQuiet c.args.core.now c.args.sim c.args.message c.take.new.self =
+    subst (λ (n : Taken). ArriveOf c.args.core.now c.args.sim c.args.message n c.take.new.self) c.in-Quiet.is c.in_ok-take.ensures.ok in
+    (ap (λ (k : CoreState). k.ended) q.moved, λ S log h. quiet_goes S c.args.core.now c.take.new.self log c.args.sim c.args.message c.args.crew.now c.args.waiting.now h c.take.ensures.stands q)
 
 pub returns-in-Send-clause-taken : goal.returns-in-Send-clause-taken
 returns-in-Send-clause-taken g c =
-    answered_so c.args.core.now c.arrive.new.self c.args.sim c.args.message.now c.args.crew.now c.answer.new.crew c.args.waiting.now c.answer.new.waiting c.answer.result
-    (subst (λ (n : Taken). ArriveOf c.args.core.now c.args.sim c.args.message.now n c.arrive.new.self) c.in-Send.is c.in_ok-arrive.ensures.ok) c.arrive.ensures.stands c.replies_are_kinds.ensures c.answer.ensures.answered
+    answered_so c.args.core.now c.take.new.self c.args.sim c.args.message c.args.crew.now c.answer.new.crew c.args.waiting.now c.answer.new.waiting c.answer.result
+    (subst (λ (n : Taken). ArriveOf c.args.core.now c.args.sim c.args.message n c.take.new.self) c.in-Send.is c.in_ok-take.ensures.ok) c.take.ensures.stands c.replies_are_kinds.ensures c.answer.ensures.answered
 
 pub returns-in-Fault-clause-taken : goal.returns-in-Fault-clause-taken
-returns-in-Fault-clause-taken g c = λ S log h. fault_ends S c.args.core.now log c.args.sim c.args.message.now c.args.crew.now c.args.waiting.now h c.arrive.new.self c.in-Fault.fault c.requires.going c.arrive.ensures.stands
-    (subst (λ (n : Taken). ArriveOf c.args.core.now c.args.sim c.args.message.now n c.arrive.new.self) c.in-Fault.is c.in_ok-arrive.ensures.ok)
+returns-in-Fault-clause-taken g c = λ S log h. fault_ends S c.args.core.now log c.args.sim c.args.message c.args.crew.now c.args.waiting.now h c.take.new.self c.in-Fault.fault c.requires.going c.take.ensures.stands
+    (subst (λ (n : Taken). ArriveOf c.args.core.now c.args.sim c.args.message n c.take.new.self) c.in-Fault.is c.in_ok-take.ensures.ok)

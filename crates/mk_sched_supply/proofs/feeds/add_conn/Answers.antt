@@ -5,9 +5,8 @@ use Rattle.mk_base.proofs.Lists.{all_at}
 use Rattle.mk_plan.specs.declared.Conn.{Conn}
 use Rattle.mk_plan.specs.declared.Want.{Want}
 use Rattle.mk_plan.specs.Plans.{sim_count}
-use Rattle.mk_plan.specs.Turns.{wanted}
+use Rattle.mk_plan.specs.Turns.{wanted, want_order}
 use Rattle.mk_order.proofs.EntityNames.{owner_is_below}
-use Rattle.mk_plan_judge.specs.inner.Wants.{by_names}
 use Rattle.mk_sched_supply.specs.inner.Making.{names_of}
 use Rattle.mk_sched_supply.proofs.Feeding.{at_index, conn_wanted, feeds_kept, feeds_pushed, named_taken}
 use Rattle.mk_sched_supply.proofs.Wanting.{wanted_sorted}
@@ -23,7 +22,7 @@ returns-in_ok-push c =
     let wants = (c.requires.feeds.each s c.index_mut-feed.result.now here).wants in
     let name = named_taken P c.args.place conn c.requires.there c.at.result.now c.at.ensures in
     let all : c.as_slice.result.now ≡ wanted P s = c.as_slice.ensures ∙ wants in
-    let found = c.place_of-trigger.ensures (subst (IsStrictlySortedBy by_names) (sym all) (wanted_sorted P s))
+    let found = c.place_of-trigger.ensures (subst (IsStrictlySortedBy want_order) (sym all) (wanted_sorted P s))
     (subst (λ (ws : List Want). IsIn (names_of c.at.result.now.eid conn.from_attr) ws) (sym all) (subst (λ (w : Want). IsIn w (wanted P s)) (sym name) (conn_wanted P c.args.place conn c.requires.there s c.owner.ensures))) in
     feeds_pushed P c.args.place conn c.requires.there c.args.feeds.now.items s c.place_of-trigger.result c.index_mut-feed.result.now _ c.owner.ensures c.if-conn.true here refl c.in_ok-push.ensures.items
     (sym (ap (λ (ws : List Want). slice_get ws c.place_of-trigger.result) all) ∙ found ∙ ap Some name) c.requires.feeds

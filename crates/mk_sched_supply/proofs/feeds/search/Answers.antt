@@ -1,8 +1,8 @@
 use Rattle.std.proofs.Common.{rules}
 use Rattle.std.proofs.lemmas.Fn.{always_returns_same}
-use Rattle.mk_plan_judge.specs.inner.Wants.{by_names}
+use Rattle.mk_plan.specs.Turns.{want_order}
 use Rattle.mk_sched_supply.specs.inner.Making.{names_of}
 use Rattle.mk_sched_supply.proofs.feeds.search.Goals as goal
 
 pub returns-clause-found : goal.returns-clause-found
-returns-clause-found c = c.binary_search_by.ensures.position (λ w. by_names w (names_of c.args.eid.now c.args.attr.now)) (always_returns_same _ _ _ (λ a r f' k. search rules))
+returns-clause-found c = c.binary_search_by.ensures.position (λ w. want_order w (names_of c.args.eid.now c.args.attr.now)) (always_returns_same _ _ _ (λ a r f' k. search rules))
