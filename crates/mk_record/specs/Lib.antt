@@ -14,4 +14,3 @@ pub use Rattle.mk_record_compare.specs.Differences
 pub use Rattle.mk_record_replay.specs.Orders
 pub use Rattle.mk_record_replay.specs.Replays
 pub use Rattle.mk_record_replay.specs.declared.replaying.ReplayEnd
-pub use Rattle.mk_record_report.specs.Summary

@@ -34,7 +34,7 @@ use Rattle.mk_plan_check.proofs.Meaning.{is_same}
 use Rattle.mk_record_read.specs.declared.kinds.LineKind.TheVariants as kinds
 use Rattle.mk_record_read.specs.declared.saved.Asked.{Asked}
 use Rattle.mk_record_read.specs.Entries.{RecordEntry, StepOf, MessageOf, entries_of, entry_of}
-use Rattle.mk_record_read.specs.Fields.{misformed, found, limited, is_between, is_below}
+use Rattle.mk_record_read.specs.Fields.{misformed, limited, is_between, is_below}
 use Rattle.mk_record_read.specs.Lines.{arrival_in, asked_in, step_fits}
 use Rattle.mk_record_read.specs.Reading.{State, Step, Going, Ended, Bad, line_step, kind_step, part_step, arrived, asked, end_step, is_number, miscounted, may_stand, items_read}
 use Rattle.mk_record_read.specs.Texts.{got_line, ask_line, entry_line}
@@ -78,8 +78,8 @@ arrival s m = record { sim = s; message = m }
 
 arrival_again : (P : Plan) (s : ℕ) (m : Message) → s < length P.sims → Sayable m → arrival_in P (tree.Whole (pos s) ∷ message_tree m ∷ []) ≡ Ok (arrival s m)
 arrival_again P s m low say =
-    ap (λ o. found misformed o (λ z. found misformed (result_ok (message_in (message_tree m))) (λ n. limited (is_below (length P.sims) z) (arrival (nat_abs z) n)))) (whole_of (pos s))
-    ∙ ap (λ r. found misformed (result_ok r) (λ n. limited (is_below (length P.sims) (pos s)) (arrival s n))) (message_again m say)
+    ap (λ o. tested misformed o (λ z. tested misformed (result_ok (message_in (message_tree m))) (λ n. limited (is_below (length P.sims) z) (arrival (nat_abs z) n)))) (whole_of (pos s))
+    ∙ ap (λ r. tested misformed (result_ok r) (λ n. limited (is_below (length P.sims) (pos s)) (arrival s n))) (message_again m say)
     ∙ ap (λ b. limited b (arrival s m)) (below (length P.sims) s low)
 
 got_read : (P : Plan) → first_bad P ≡ None → length P.sims ≤ 200 → (last : ℕ) (A : List Arrival) (steps : List Asked) (a : Arrival) → 3 ≤ last → last ≤ 8 → entry_fits P (MessageOf a) ≡ true
@@ -95,7 +95,7 @@ got_read P valid few last A steps a low high fits =
     let S : State = state last P A steps in
     a_line S (state 8 P (A ++ a ∷ []) steps) (codes "got " ++ list_text fields) (clean_line (codes "got ") fields ts refl are each)
     (entry_kind last P A steps kinds.Got (list_text fields) valid (stands last 8 low high)
-    ∙ ap (λ o. arrived S (found misformed o (arrival_in P))) (ap (λ fs. items_read (list_text fs)) are ∙ read_items ts each)
+    ∙ ap (λ o. arrived S (tested misformed o (arrival_in P))) (ap (λ fs. items_read (list_text fs)) are ∙ read_items ts each)
     ∙ ap (arrived S) (arrival_again P a.sim a.message inside say))
 
 -- ---- steps
@@ -117,7 +117,7 @@ ask_read P valid few last A steps sim at advance low high fits =
     let again : asked_in P (length A) ts ≡ Ok (record { before = length A; sim = record { 0 = sim }; at = at; max_advance = advance }) = rw (whole_of (pos sim), whole_of at.time, whole_of (pos at.tier), whole_of advance, within, limits) refl in
     a_line S (state 8 P A (steps ++ record { before = length A; sim = record { 0 = sim }; at = at; max_advance = advance } ∷ [])) (codes "ask " ++ list_text fields) (clean_line (codes "ask ") fields ts refl are each)
     (entry_kind last P A steps kinds.Ask (list_text fields) valid (stands last 8 low high)
-    ∙ ap (λ o. asked S steps (found misformed o (asked_in P (length A)))) (ap (λ fs. items_read (list_text fs)) are ∙ read_items ts each)
+    ∙ ap (λ o. asked S steps (tested misformed o (asked_in P (length A)))) (ap (λ fs. items_read (list_text fs)) are ∙ read_items ts each)
     ∙ ap (asked S steps) again)
 
 -- ---- one after another

@@ -15,8 +15,9 @@ use Rattle.mk_base.specs.declared.json.Json.{Json}
 use Rattle.mk_base.specs.Lists.{Each, all_there}
 use Rattle.mk_base.specs.Texts.{quoted, list_text, text_of}
 use Rattle.mk_base.specs.Data.{IsDatumText}
-use Rattle.mk_base.specs.Trees.{in_range, is_whole, is_datum, nesting, value_depth, whole_in, text_in, bool_in, items_in}
+use Rattle.mk_base.specs.Trees.{in_range, is_whole, is_datum, nesting, value_depth, whole_in, text_in, bool_in, items_in, texts_in}
 use Rattle.mk_base.proofs.Lists.{append_nil}
+use Rattle.mk_base.specs.Names.{kind_named, kind_name}
 use Rattle.mk_plan.specs.declared.Plan.{Plan}
 use Rattle.mk_plan.specs.declared.PlanSim.{PlanSim}
 use Rattle.mk_plan.specs.declared.PlanModel.{PlanModel}
@@ -29,14 +30,15 @@ use Rattle.mk_plan_check.specs.Nesting.{nesting_of}
 use Rattle.mk_plan_check.specs.Tests as tests
 use Rattle.mk_plan_check.specs.Tests.{first_bad}
 use Rattle.mk_plan_check.proofs.Scanning.{nesting_is}
+use Rattle.mk_message.specs.Messages.{tested}
 use Rattle.mk_record_read.specs.declared.kinds.LineKind.{LineKind}
 use Rattle.mk_record_read.specs.declared.kinds.LineKind.TheVariants as kinds
 use Rattle.mk_record_read.specs.declared.saved.Asked.{Asked}
-use Rattle.mk_record_read.specs.Fields.{misformed, found, is_between, is_below, kind_named, way_in, via_of, initial_in, wholes_in, texts_in}
+use Rattle.mk_record_read.specs.Fields.{misformed, is_between, is_below, way_in, via_of, initial_in, wholes_in}
 use Rattle.mk_record_read.specs.Lines as lines
 use Rattle.mk_record_read.specs.Lines.{with_run, with_sim, with_model, with_entity, with_conn, with_async}
 use Rattle.mk_record_read.specs.Reading.{State, Step, Going, Ended, Bad, invalid, is_feed, line_step, kind_step, part_step, plan_step, planned, with_part, place, may_stand, ends_plan, items_read, reading_from, start}
-use Rattle.mk_record_read.specs.Texts.{kind_name, via_text, bool_text, initial_text, run_line, sim_line, model_line, entity_line, conn_line, async_line}
+use Rattle.mk_record_read.specs.Texts.{via_text, bool_text, initial_text, run_line, sim_line, model_line, entity_line, conn_line, async_line}
 use Rattle.mk_record_read.proofs.Splitting.{reads_on}
 use Rattle.mk_record_laws.specs.Again.{model_is_text, conn_is_text}
 use Rattle.mk_record_laws.proofs.Clean.{clean, all_clean, clean-append, clean-text}
@@ -101,7 +103,7 @@ clean_line word fields ts bare are each = clean-append word (list_text fields) b
 a_plan_line : (last : ℕ) (P Q : Plan) (kind : LineKind) (fields : List (List ℕ)) (ts : List Json) → fields ≡ map text_of ts → Each (Field 126) ts → with_part true kind P ts ≡ Ok Q
     → plan_step (state last P [] []) kind (list_text fields) ≡ Going (state (place kind) Q [] [])
 a_plan_line last P Q kind fields ts are each ok =
-    ap (λ o. planned (state last P [] []) kind (found misformed o (with_part true kind P))) (ap (λ fs. items_read (list_text fs)) are ∙ read_items ts each) ∙ ap (planned (state last P [] []) kind) ok
+    ap (λ o. planned (state last P [] []) kind (tested misformed o (with_part true kind P))) (ap (λ fs. items_read (list_text fs)) are ∙ read_items ts each) ∙ ap (planned (state last P [] []) kind) ok
 
 -- a line of the plan
 a_part : (last : ℕ) (P Q : Plan) (kind : LineKind) (word : List ℕ) (fields : List (List ℕ)) (ts : List Json) → all_clean word ≡ true → ((S : State) (X : List ℕ) → line_step S (word ++ X) ≡ kind_step S kind X)

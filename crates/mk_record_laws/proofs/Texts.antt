@@ -11,7 +11,7 @@ use Rattle.mk_base.specs.declared.json.Json.TheVariants as v
 use Rattle.mk_base.specs.Data.{IsDatumText}
 use Rattle.mk_base.specs.Lists.{Each, same_text}
 use Rattle.mk_base.specs.Texts.{text_of}
-use Rattle.mk_base.specs.Trees.{bool_in, whole_in, text_in, items_in, is_whole, is_datum, is_in_range, nesting, value_depth}
+use Rattle.mk_base.specs.Trees.{bool_in, whole_in, text_in, items_in, is_whole, is_datum, is_in_range, nesting, value_depth, texts_in}
 use Rattle.mk_base.proofs.Lists.{some_same, none_some}
 use Rattle.mk_plan.specs.declared.Plan.{Plan}
 use Rattle.mk_plan.specs.declared.PlanSim.{PlanSim}
@@ -20,13 +20,14 @@ use Rattle.mk_plan.specs.declared.Conn.{Conn}
 use Rattle.mk_plan.specs.declared.Message.{Message}
 use Rattle.mk_plan.specs.Journals.{Arrival}
 use Rattle.mk_base.specs.Proper.{is_proper}
+use Rattle.mk_base.specs.Names.{kind_named}
 use Rattle.mk_json.proofs.LevelTests.{range-List, proper-List}
-use Rattle.mk_message.specs.Messages.{message_in}
+use Rattle.mk_message.specs.Messages.{message_in, tested}
 use Rattle.mk_plan_check.specs.Tests.{first_bad}
 use Rattle.mk_record_read.specs.declared.kinds.LineKind.{LineKind}
 use Rattle.mk_record_read.specs.declared.kinds.LineKind.TheVariants.{Head, Run, Sim, Model, Entity, Conn as ConnLine, Async, Ask, Got, End}
 use Rattle.mk_record_read.specs.declared.saved.Asked.{Asked}
-use Rattle.mk_record_read.specs.Fields.{misformed, out_of_limits, found, limited, is_below, wholes_in, texts_in, initial_in, kind_named, way_in, via_of}
+use Rattle.mk_record_read.specs.Fields.{misformed, out_of_limits, limited, is_below, wholes_in, initial_in, way_in, via_of}
 use Rattle.mk_record_read.specs.Lines.{with_run, run_fits, with_sim, sim_fits, with_model, with_entity, entity_fits, with_way, with_conn, with_async, arrival_in, asked_in}
 use Rattle.mk_record_read.specs.Reading.{State, start, Step, Going, Ended, Bad, Reading, Said, Faulty, planned, arrived, asked, items_read, end_step, with_part, is_second, steps_in, plan_step, head_step, part_step, kind_step, known_step, line_step, kind_of_word, word_of, rest_of, ends_plan, may_stand, invalid, closed, overlong, reading_from, reading, is_feed, is_number, miscounted}
 use Rattle.std.specs.Fmt.{decimal}
@@ -41,7 +42,7 @@ abbrev Passes : {Y : Type 0} → (Y → Type 0) → Result Y ℕ → Type 0
 Passes Q (Ok y) = Q y
 Passes Q (Err n) = ⊤
 
-found_passes : {X Y : Type 0} (Q : Y → Type 0) (n : ℕ) (o : Option X) (f : X → Result Y ℕ) → ((x : X) → o ≡ Some x → Passes Q (f x)) → Passes Q (found n o f)
+found_passes : {X Y : Type 0} (Q : Y → Type 0) (n : ℕ) (o : Option X) (f : X → Result Y ℕ) → ((x : X) → o ≡ Some x → Passes Q (f x)) → Passes Q (tested n o f)
 found_passes Q n None f h = tt
 found_passes Q n (Some x) f h = h x refl
 
@@ -246,7 +247,7 @@ either true x y h k = h
 either false x y h k = k
 
 plan_keeps : (S : State) (kind : LineKind) (text : List ℕ) → IsMade S → Keeps (plan_step S kind text)
-plan_keeps S kind text made = planned_keeps S kind (found misformed (items_read text) (with_part (is_second S) kind S.plan)) made
+plan_keeps S kind text made = planned_keeps S kind (tested misformed (items_read text) (with_part (is_second S) kind S.plan)) made
     (found_passes HasTexts misformed (items_read text) (with_part (is_second S) kind S.plan) (λ items is. part_passes (is_second S) kind S.plan items (read_sound text items is) made.texts))
 
 head_keeps : (S : State) (text : List ℕ) → IsMade S → Keeps (head_step S text)
@@ -264,8 +265,8 @@ part_keeps S Model text made = plan_keeps S Model text made
 part_keeps S Entity text made = plan_keeps S Entity text made
 part_keeps S ConnLine text made = plan_keeps S ConnLine text made
 part_keeps S Async text made = plan_keeps S Async text made
-part_keeps S Ask text made = asked_keeps S (steps_in S) (found misformed (items_read text) (asked_in S.plan (length S.arrivals))) made
-part_keeps S Got text made = arrived_keeps S (found misformed (items_read text) (arrival_in S.plan)) made
+part_keeps S Ask text made = asked_keeps S (steps_in S) (tested misformed (items_read text) (asked_in S.plan (length S.arrivals))) made
+part_keeps S Got text made = arrived_keeps S (tested misformed (items_read text) (arrival_in S.plan)) made
     (found_passes CanBeSaid misformed (items_read text) (arrival_in S.plan) (λ items is. arrival_passes S.plan items (read_sound text items is)))
 part_keeps S End text made = end_keeps (length S.arrivals + length (steps_in S)) text
 

@@ -9,14 +9,14 @@ use Rattle.mk_base.specs.Trees.{is_in_range, whole_in}
 use Rattle.mk_plan.specs.declared.Plan.{Plan}
 use Rattle.mk_plan.specs.declared.Message.{Message}
 use Rattle.mk_plan.specs.Journals.{Arrival}
-use Rattle.mk_message.specs.Messages.{message_in}
+use Rattle.mk_message.specs.Messages.{message_in, tested}
 use Rattle.mk_message.proofs.Ranges.{fits_in}
-use Rattle.mk_record_read.specs.Fields.{found, limited, misformed, is_below}
+use Rattle.mk_record_read.specs.Fields.{limited, misformed, is_below}
 use Rattle.mk_record_read.specs.Lines.{arrival_in}
 use Rattle.mk_record_read.specs.Steps.{IsKnown}
 
--- what is found is there
-found-ok : {X Y : Type 0} (n : ℕ) (o : Option X) (f : X → Result Y ℕ) (y : Y) → found n o f ≡ Ok y → (x : X) × (o ≡ Some x) × (f x ≡ Ok y)
+-- what is tested is there
+found-ok : {X Y : Type 0} (n : ℕ) (o : Option X) (f : X → Result Y ℕ) (y : Y) → tested n o f ≡ Ok y → (x : X) × (o ≡ Some x) × (f x ≡ Ok y)
 found-ok n None f y e = absurd (grind (arith, e))
 found-ok n (Some x) f y e = (x, refl, e)
 

@@ -1,7 +1,5 @@
 -- The fields of a record's line, and the faults of a line.
 use Rattle.std.specs.Prelude.{ℕ, ℤ, Bool, true, false, ◌&&◌, int_le, int_lt, pos, nat_abs, List, [], ◌∷◌, map, Option, Some, None, option_and_then, Result, Ok, Err, codes, if◌then◌else◌}
-use Rattle.mk_base.specs.declared.SimKind.{SimKind}
-use Rattle.mk_base.specs.declared.SimKind.TheVariants.{TimeBased, EventBased, Hybrid}
 use Rattle.mk_base.specs.declared.json.Json.{Json}
 use Rattle.mk_base.specs.declared.tier.Via.{Via}
 use Rattle.mk_base.specs.declared.tier.Via.TheVariants.{Plain, Shift, Weak}
@@ -18,11 +16,6 @@ misformed = 1
 abbrev pub out_of_limits : ℕ
 out_of_limits = 2
 
--- the reading goes on with what was found; where there is nothing, the line has the fault n
-abbrev pub found : {X Y : Type 0} → ℕ → Option X → (X → Result Y ℕ) → Result Y ℕ
-found n None f = Err n
-found n (Some x) f = f x
-
 -- the value, if the numbers are within their limits
 abbrev pub limited : {Y : Type 0} → Bool → Y → Result Y ℕ
 limited true y = Ok y
@@ -36,10 +29,6 @@ is_between low high n = int_le low n && int_le n high
 abbrev pub wholes_in : Json → Option (List ℤ)
 wholes_in tree = option_and_then (λ (js : List Json). all_there (map whole_in js)) (items_in tree)
 
--- the texts of the list that the tree is, if all its items are such
-abbrev pub texts_in : Json → Option (List (List ℕ))
-texts_in tree = option_and_then (λ (js : List Json). all_there (map text_in js)) (items_in tree)
-
 abbrev initial_among : List Json → Option (Option (List ℕ))
 initial_among [] = Some None
 initial_among (value ∷ []) = if is_datum value then Some (Some (text_of value)) else None
@@ -48,12 +37,6 @@ initial_among (value ∷ more ∷ rest) = None
 -- an initial value: none where the list is empty, or the text of the one datum in it
 abbrev pub initial_in : Json → Option (Option (List ℕ))
 initial_in tree = option_and_then initial_among (items_in tree)
-
--- the type of a simulator
-abbrev pub kind_named : List ℕ → Option SimKind
-kind_named name = if same_text name (codes "time-based") then Some TimeBased
-    else if same_text name (codes "event-based") then Some EventBased
-    else if same_text name (codes "hybrid") then Some Hybrid else None
 
 -- how a connection delays, as it stands in a line: a name, and a number where one stands beside it
 abbrev pub Way : Type 0

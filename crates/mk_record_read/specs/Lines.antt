@@ -4,11 +4,12 @@ use Rattle.std.specs.Prelude.{ℕ, ℤ, pos, nat_abs, Bool, ◌&&◌, List, [], 
 use Rattle.std.specs.Result.{result_ok}
 use Rattle.std.specs.List.{list_all}
 use Rattle.mk_base.specs.declared.json.Json.{Json}
-use Rattle.mk_base.specs.Trees.{bool_in, whole_in, text_in}
+use Rattle.mk_base.specs.Trees.{bool_in, whole_in, text_in, texts_in}
+use Rattle.mk_base.specs.Names.{kind_named}
 use Rattle.mk_plan.specs.declared.Plan.{Plan}
 use Rattle.mk_plan.specs.Journals.{Arrival}
-use Rattle.mk_message.specs.Messages.{message_in}
-use Rattle.mk_record_read.specs.Fields.{misformed, out_of_limits, found, limited, is_between, is_below, wholes_in, texts_in, initial_in, kind_named, way_in, via_of}
+use Rattle.mk_message.specs.Messages.{message_in, tested}
+use Rattle.mk_record_read.specs.Fields.{misformed, out_of_limits, limited, is_between, is_below, wholes_in, initial_in, way_in, via_of}
 use Rattle.mk_record_read.specs.declared.saved.Asked.{Asked}
 
 abbrev pub run_fits : ℤ → ℤ → ℤ → Bool
@@ -18,8 +19,8 @@ run_fits until loops entries = is_between (pos 1) (pos 1000000000) until
 -- `run [until,loops,entries]`
 abbrev pub with_run : Plan → List Json → Result Plan ℕ
 with_run P (until ∷ loops ∷ entries ∷ []) =
-    found misformed (whole_in until)
-    (λ t. found misformed (whole_in loops) (λ l. found misformed (whole_in entries) (λ n.
+    tested misformed (whole_in until)
+    (λ t. tested misformed (whole_in loops) (λ l. tested misformed (whole_in entries) (λ n.
     limited (run_fits t l n)
     (record P { until = t; loops = nat_abs l; entries = nat_abs n }))))
 with_run P _ = Err misformed
@@ -34,11 +35,11 @@ sim_fits first_id rank events = is_between (pos 0) (pos 1000000) first_id
 -- `sim [id,type,first_id,rank,[initial events]]`
 abbrev pub with_sim : Plan → List Json → Result Plan ℕ
 with_sim P (id ∷ type ∷ first ∷ rank ∷ events ∷ []) =
-    found misformed (text_in id)
-    (λ i. found misformed (text_in type)
-    (λ t. found misformed (whole_in first)
-    (λ f. found misformed (whole_in rank) (λ r. found misformed (wholes_in events) (λ es.
-    found out_of_limits (kind_named t) (λ k.
+    tested misformed (text_in id)
+    (λ i. tested misformed (text_in type)
+    (λ t. tested misformed (whole_in first)
+    (λ f. tested misformed (whole_in rank) (λ r. tested misformed (wholes_in events) (λ es.
+    tested out_of_limits (kind_named t) (λ k.
     limited (sim_fits f r es)
     (record P {
       sims = P.sims
@@ -50,9 +51,9 @@ with_sim P _ = Err misformed
 -- `model [sim,name,[attrs],any_inputs]`
 abbrev pub with_model : Plan → List Json → Result Plan ℕ
 with_model P (sim ∷ name ∷ attrs ∷ any ∷ []) =
-    found misformed (whole_in sim)
-    (λ s. found misformed (text_in name)
-    (λ n. found misformed (texts_in attrs) (λ ts. found misformed (bool_in any) (λ a.
+    tested misformed (whole_in sim)
+    (λ s. tested misformed (text_in name)
+    (λ n. tested misformed (texts_in attrs) (λ ts. tested misformed (bool_in any) (λ a.
     limited (is_below (length P.sims) s)
     (record P {
       models = P.models
@@ -66,8 +67,8 @@ entity_fits count model related = is_below count model && list_all (is_below 100
 -- `entity [model,eid,[related]]`
 abbrev pub with_entity : Plan → List Json → Result Plan ℕ
 with_entity P (model ∷ eid ∷ related ∷ []) =
-    found misformed (whole_in model)
-    (λ m. found misformed (text_in eid) (λ e. found misformed (wholes_in related) (λ rs.
+    tested misformed (whole_in model)
+    (λ m. tested misformed (text_in eid) (λ e. tested misformed (wholes_in related) (λ rs.
     limited (entity_fits (length P.models) m rs)
     (record P {
       entities = P.entities
@@ -79,10 +80,10 @@ with_entity P _ = Err misformed
 -- where its ends are read
 abbrev pub with_way : Bool → Plan → ℤ → List ℕ → ℤ → List ℕ → List Json → Result Plan ℕ
 with_way second P from from_attr to to_attr (via ∷ persistent ∷ triggering ∷ initial ∷ []) =
-    found misformed (way_in second via)
-    (λ v. found misformed (bool_in persistent)
-    (λ p. found misformed (bool_in triggering) (λ g. found misformed (initial_in initial) (λ i.
-    found out_of_limits (via_of second v) (λ way.
+    tested misformed (way_in second via)
+    (λ v. tested misformed (bool_in persistent)
+    (λ p. tested misformed (bool_in triggering) (λ g. tested misformed (initial_in initial) (λ i.
+    tested out_of_limits (via_of second v) (λ way.
     limited (is_below (length P.entities) from && is_below (length P.entities) to)
     (record P {
       conns = P.conns
@@ -103,16 +104,16 @@ with_way second P from from_attr to to_attr _ = Err misformed
 -- 1
 abbrev pub with_conn : Bool → Plan → List Json → Result Plan ℕ
 with_conn second P (from ∷ from_attr ∷ to ∷ to_attr ∷ way) =
-    found misformed (whole_in from)
-    (λ f. found misformed (text_in from_attr)
-    (λ fa. found misformed (whole_in to)
-    (λ t. found misformed (text_in to_attr) (λ ta. with_way second P f fa t ta way))))
+    tested misformed (whole_in from)
+    (λ f. tested misformed (text_in from_attr)
+    (λ fa. tested misformed (whole_in to)
+    (λ t. tested misformed (text_in to_attr) (λ ta. with_way second P f fa t ta way))))
 with_conn second P _ = Err misformed
 
 -- `async [from,to]`
 abbrev pub with_async : Plan → List Json → Result Plan ℕ
 with_async P (from ∷ to ∷ []) =
-    found misformed (whole_in from) (λ f. found misformed (whole_in to) (λ t.
+    tested misformed (whole_in from) (λ f. tested misformed (whole_in to) (λ t.
     limited (is_below (length P.sims) f && is_below (length P.sims) t)
     (record P {
       asyncs = P.asyncs
@@ -123,7 +124,7 @@ with_async P _ = Err misformed
 -- `got [sim,message]`
 abbrev pub arrival_in : Plan → List Json → Result Arrival ℕ
 arrival_in P (sim ∷ message ∷ []) =
-    found misformed (whole_in sim) (λ s. found misformed (result_ok (message_in message)) (λ m.
+    tested misformed (whole_in sim) (λ s. tested misformed (result_ok (message_in message)) (λ m.
     limited (is_below (length P.sims) s) (record { sim = nat_abs s; message = m })))
 arrival_in P _ = Err misformed
 
@@ -145,9 +146,9 @@ step_asked before sim time tier advance = limited (step_fits time tier advance)
 -- `ask [sim,time,tier,max_advance]`, where so many messages came before
 abbrev pub asked_in : Plan → ℕ → List Json → Result Asked ℕ
 asked_in P before (sim ∷ time ∷ tier ∷ advance ∷ []) =
-    found misformed (whole_in sim)
-    (λ s. found misformed (whole_in time)
-    (λ t. found misformed (whole_in tier) (λ k. found misformed (whole_in advance) (λ a.
+    tested misformed (whole_in sim)
+    (λ s. tested misformed (whole_in time)
+    (λ t. tested misformed (whole_in tier) (λ k. tested misformed (whole_in advance) (λ a.
     if is_below (length P.sims) s then step_asked before (nat_abs s) t k a
     else Err out_of_limits))))
 asked_in P before _ = Err misformed

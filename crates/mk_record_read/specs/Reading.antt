@@ -6,13 +6,15 @@ use Rattle.std.specs.List.{slice_split, before_first, after_first, list_all}
 use Rattle.mk_base.specs.declared.json.Json.{Json}
 use Rattle.mk_base.specs.Lists.{same_text}
 use Rattle.mk_base.specs.Trees.{items_in}
+use Rattle.mk_base.specs.Numbers.{is_digit}
 use Rattle.mk_plan.specs.declared.Plan.{Plan}
 use Rattle.mk_plan.specs.Journals.{Arrival}
 use Rattle.mk_json.specs.Parsed.{parsed}
 use Rattle.mk_plan_check.specs.Tests.{first_bad}
+use Rattle.mk_message.specs.Messages.{tested}
 use Rattle.mk_record_read.specs.declared.kinds.LineKind.{LineKind}
 use Rattle.mk_record_read.specs.declared.kinds.LineKind.TheVariants.{Head, Run, Sim, Model, Entity, Conn, Async, Ask, Got, End}
-use Rattle.mk_record_read.specs.Fields.{misformed, found}
+use Rattle.mk_record_read.specs.Fields.{misformed}
 use Rattle.mk_record_read.specs.Lines.{with_run, with_sim, with_model, with_entity, with_conn, with_async, arrival_in, asked_in}
 use Rattle.mk_record_read.specs.declared.saved.Asked.{Asked}
 
@@ -136,9 +138,6 @@ asked S steps (Err n) = Bad n
 abbrev pub items_read : List ℕ → Option (List Json)
 items_read text = option_and_then items_in (parsed text)
 
-abbrev pub is_digit : ℕ → Bool
-is_digit b = nat_le 48 b && nat_le b 57
-
 -- decimal digits without sign or leading zero
 abbrev pub is_number : List ℕ → Bool
 is_number [] = false
@@ -174,7 +173,7 @@ steps_in S = unwrap_or S.asks []
 -- a line that adds to the plan, by what stands after its word
 abbrev pub plan_step : State → LineKind → List ℕ → Step
 plan_step S kind text = planned S kind
-    (found misformed (items_read text) (with_part (is_second S) kind S.plan))
+    (tested misformed (items_read text) (with_part (is_second S) kind S.plan))
 
 -- the first line, by the version
 abbrev pub head_step : State → List ℕ → Step
@@ -193,8 +192,8 @@ part_step S Entity text = plan_step S Entity text
 part_step S Conn text = plan_step S Conn text
 part_step S Async text = plan_step S Async text
 part_step S Ask text = asked S (steps_in S)
-    (found misformed (items_read text) (asked_in S.plan (length S.arrivals)))
-part_step S Got text = arrived S (found misformed (items_read text) (arrival_in S.plan))
+    (tested misformed (items_read text) (asked_in S.plan (length S.arrivals)))
+part_step S Got text = arrived S (tested misformed (items_read text) (arrival_in S.plan))
 part_step S End text = end_step (length S.arrivals + length (steps_in S)) text
 
 -- the tests of a line whose kind is known: the plan before the messages, whether it may stand here,

@@ -1,12 +1,11 @@
 -- The text of a record, version 2.
 use Rattle.std.specs.Prelude.{ℕ, ℤ, Bool, List, [], ◌∷◌, ◌++◌, length, map, flat_map, Option, Some, None, codes, if◌then◌else◌}
 use Rattle.std.specs.Fmt.{decimal, signed_decimal}
-use Rattle.mk_base.specs.declared.SimKind.{SimKind}
-use Rattle.mk_base.specs.declared.SimKind.TheVariants.{TimeBased, EventBased, Hybrid}
 use Rattle.mk_base.specs.declared.tier.Via.{Via}
 use Rattle.mk_base.specs.declared.tier.Via.TheVariants.{Plain, Shift, Weak}
 use Rattle.mk_base.specs.declared.tier.Tier.{Tier}
 use Rattle.mk_base.specs.Texts.{quoted, list_text}
+use Rattle.mk_base.specs.Names.{kind_name}
 use Rattle.mk_plan.specs.declared.Plan.{Plan}
 use Rattle.mk_plan.specs.declared.PlanSim.{PlanSim}
 use Rattle.mk_plan.specs.declared.PlanModel.{PlanModel}
@@ -21,11 +20,6 @@ use Rattle.mk_message.specs.Written.{message_text}
 -- a word, a space and a list of fields
 abbrev line_text : List ℕ → List (List ℕ) → List ℕ
 line_text word fields = word ++ codes " " ++ list_text fields ++ codes "\n"
-
-abbrev pub kind_name : SimKind → List ℕ
-kind_name TimeBased = codes "time-based"
-kind_name EventBased = codes "event-based"
-kind_name Hybrid = codes "hybrid"
 
 -- how a connection delays: a name, or for a time shift a list of its name and its width
 abbrev pub via_text : Via → List ℕ

@@ -1,10 +1,11 @@
 // The fields of a line, from its tree.
-ghost use Rattle.std.specs.Prelude.{◌≡◌, Some, None, ℤ, pos, map, nat_abs, MatchResult, MatchOption, IfOk, IfErr, true, ◌≤ℤ◌};
+ghost use Rattle.std.specs.Prelude.{◌≡◌, Some, None, map, IfOk, IfErr, true};
 ghost use Rattle.std.specs.List.{list_all};
 ghost use Rattle.mk_base.specs.Lists.{all_there, same_text};
 ghost use Rattle.mk_base.specs.Texts.{text_of};
-ghost use Rattle.mk_base.specs.Trees.{bool_in, text_in, whole_in, items_in, is_in_range, is_datum};
-ghost use Rattle.mk_record_read.specs.Fields.{wholes_in, texts_in, initial_in, kind_named, way_in, way_in_list, shift_of, lone, via_of, is_between};
+ghost use Rattle.mk_base.specs.Trees.{bool_in, text_in, whole_in, items_in, is_in_range, is_datum, texts_in};
+ghost use Rattle.mk_base.specs.Names.{kind_named};
+ghost use Rattle.mk_record_read.specs.Fields.{wholes_in, initial_in, way_in, way_in_list, shift_of, lone, via_of, is_between};
 ghost use Rattle.mk_record_read.specs.inner.Seen.{is_second};
 ghost use Rattle.mk_record_read.specs.inner.Faults.{IsMissing, IsUnknown, IsNoDatum};
 

@@ -2,12 +2,12 @@
 ghost use Rattle.std.specs.Prelude.{◌≡◌, Ok, Err, Some, OnOk, IfOk, IfErr, MatchOption, true, ◌&&◌, map, nat_abs, ◌∷◌, []};
 ghost use Rattle.std.specs.List.{list_all};
 ghost use Rattle.std.specs.Result.{result_ok};
-ghost use Rattle.mk_message.specs.Messages.{message_in};
+ghost use Rattle.mk_message.specs.Messages.{message_in, tested};
 ghost use Rattle.mk_base.specs.Trees.{is_in_range, items_in};
 ghost use Rattle.mk_plan.specs.declared.Plan as plans;
 ghost use Rattle.mk_record_read.specs.inner.Faults.{IsBeyond, IsFaultOf, IsMissing};
 ghost use Rattle.mk_record_read.specs.inner.Lines.{conn_put, entity_put, model_put, sim_put};
-ghost use Rattle.mk_record_read.specs.Fields.{is_below, found, misformed};
+ghost use Rattle.mk_record_read.specs.Fields.{is_below, misformed};
 ghost use Rattle.mk_record_read.specs.Steps.{IsKnown};
 ghost use Rattle.mk_record_read.specs.Lines.{run_fits, event_fits, sim_fits, entity_fits, with_run, with_sim, with_model, with_entity, with_way, with_conn, with_async, arrival_in, asked_in, step_asked, step_fits};
 ghost use Rattle.mk_record_read.specs.Seen.{came};
@@ -471,9 +471,9 @@ pub fn add_async(plan: &mut Plan, items: &[Json]) -> Result<(), LineFault>
 // The message of a line, whose parts are moved into it.
 pub fn arrival_of(plan: &Plan, tree: Json) -> Result<Arrival, LineFault>
     ensures ok { IfOk result
-        (λ a. found misformed (items_in tree) (arrival_in plan.now) ≡ Ok (came a)) }
+        (λ a. tested misformed (items_in tree) (arrival_in plan.now) ≡ Ok (came a)) }
     ensures err { IfErr result
-        (IsFaultOf (found misformed (items_in tree) (arrival_in plan.now))) }
+        (IsFaultOf (tested misformed (items_in tree) (arrival_in plan.now))) }
     ensures known { is_in_range tree ≡ true → IfOk result (λ a. IsKnown plan.now (came a)) }
 {
     match tree {

@@ -1,12 +1,14 @@
 // What a line adds, by its kind and what stands after its word.
-ghost use Rattle.std.specs.Prelude.{◌≡◌, Ok, Some, OnOk, IfOk, IfErr, true, length, ◌&&◌};
+ghost use Rattle.std.specs.Prelude.{◌≡◌, Ok, Some, OnOk, IfOk, IfErr, true, ◌&&◌};
 ghost use Rattle.std.specs.List.{list_all};
 ghost use Rattle.mk_base.specs.Trees.{is_in_range};
+ghost use Rattle.mk_base.specs.Numbers.{is_digit};
 ghost use Rattle.mk_json.specs.Parsed.{parsed};
+ghost use Rattle.mk_message.specs.Messages.{tested};
 ghost use Rattle.mk_record_read.specs.inner.Faults.{IsFaultOf, IsMissing};
-ghost use Rattle.mk_record_read.specs.Fields.{found, misformed};
+ghost use Rattle.mk_record_read.specs.Fields.{misformed};
 ghost use Rattle.mk_record_read.specs.Lines.{arrival_in, asked_in};
-ghost use Rattle.mk_record_read.specs.Reading.{is_digit, is_number, end_step, items_read, with_part};
+ghost use Rattle.mk_record_read.specs.Reading.{is_number, end_step, items_read, with_part};
 ghost use Rattle.mk_record_read.specs.Seen.{came};
 ghost use Rattle.mk_record_read.specs.inner.Seen.{is_second};
 ghost use Rattle.mk_record_read.specs.Steps.{IsKnown};
@@ -51,11 +53,11 @@ pub fn add_part(
     text: &[u8],
 ) -> Result<(), LineFault>
     ensures ok { OnOk result
-        (found misformed (items_read text.now) (with_part (is_second version) kind plan.old)
+        (tested misformed (items_read text.now) (with_part (is_second version) kind plan.old)
         ≡ Ok plan.new) }
     ensures err { IfErr result
         (IsFaultOf
-        (found misformed (items_read text.now) (with_part (is_second version) kind plan.old))) }
+        (tested misformed (items_read text.now) (with_part (is_second version) kind plan.old))) }
 {
     let tree = tree_of(alloc, scratch, text)?;
     let items = items_of(&tree)?;
@@ -94,9 +96,9 @@ pub fn read_arrival(
     text: &[u8],
 ) -> Result<Arrival, LineFault>
     ensures ok { IfOk result
-        (λ a. found misformed (items_read text.now) (arrival_in plan.now) ≡ Ok (came a)) }
+        (λ a. tested misformed (items_read text.now) (arrival_in plan.now) ≡ Ok (came a)) }
     ensures err { IfErr result
-        (IsFaultOf (found misformed (items_read text.now) (arrival_in plan.now))) }
+        (IsFaultOf (tested misformed (items_read text.now) (arrival_in plan.now))) }
     ensures known { IfOk result (λ a. IsKnown plan.now (came a)) }
 {
     let tree = tree_of(alloc, scratch, text)?;
@@ -111,9 +113,9 @@ pub fn read_asked(
     text: &[u8],
 ) -> Result<Asked, LineFault>
     ensures ok { IfOk result
-        (λ a. found misformed (items_read text.now) (asked_in plan.now before) ≡ Ok a) }
+        (λ a. tested misformed (items_read text.now) (asked_in plan.now before) ≡ Ok a) }
     ensures err { IfErr result
-        (IsFaultOf (found misformed (items_read text.now) (asked_in plan.now before))) }
+        (IsFaultOf (tested misformed (items_read text.now) (asked_in plan.now before))) }
 {
     let tree = tree_of(alloc, scratch, text)?;
     let items = items_of(&tree)?;

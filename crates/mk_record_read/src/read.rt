@@ -178,7 +178,8 @@ fn version_of(progress: &Progress) -> Version
     }
 }
 
-// How many lines say that a message came or that a step was asked for.
+// How many lines say that a message came or that a step was asked for: none of a step where the
+// record has no such lines.
 fn line_count(progress: &Progress) -> u128
     ensures { result ≡ length progress.now.arrivals + length (steps_in (state_of progress.now)) }
 {

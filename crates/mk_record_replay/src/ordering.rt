@@ -110,7 +110,7 @@ fn round(
 {
     match settle(core)? {
         Next::Fault(fault) => Ok(Some(ReplayEnd::Core(fault))),
-        Next::Ask(_) => Ok(Some(ReplayEnd::Done)),
+        Next::Ask(_) => unreachable!(),
         Next::Done => match give_next(alloc, core, waiting, number)? {
             Given::Going => Ok(None),
             Given::Nothing => Ok(Some(ReplayEnd::Done)),
@@ -124,7 +124,7 @@ fn round(
     }
 }
 
-// Gives the message that is next, if one is left.
+// Gives the message that is next, if one is left. A simulator is next only where it has one.
 fn give_next(
     alloc: Global,
     core: &mut Core,
@@ -145,7 +145,7 @@ fn give_next(
     match next_sim(alloc, core, waiting.as_slice(), number)? {
         None => Ok(Given::Nothing),
         Some(sim) => match pop_message(waiting, sim) {
-            None => Ok(Given::Nothing),
+            None => unreachable!(),
             Some(message) => {
                 let given = give_message(core, SimNo(sim), message)?;
                 Ok(given)

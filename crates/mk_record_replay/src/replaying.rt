@@ -191,7 +191,7 @@ fn give(core: &mut Core, arrival: Arrival) -> Result<Option<CoreFault>, Mem>
 {
     match settle(core)? {
         Next::Fault(fault) => Ok(Some(fault)),
-        Next::Ask(_) => Ok(None),
+        Next::Ask(_) => unreachable!(),
         Next::Wait => take(core, arrival),
         Next::Done => take(core, arrival),
     }
@@ -222,7 +222,7 @@ fn finish(core: &mut Core) -> Result<ReplayEnd, Mem>
     match settle(core)? {
         Next::Fault(fault) => Ok(ReplayEnd::Core(fault)),
         Next::Done => Ok(ReplayEnd::Done),
-        Next::Ask(_) => Ok(ReplayEnd::Done),
+        Next::Ask(_) => unreachable!(),
         Next::Wait => Ok(ReplayEnd::Short(open_count(core))),
     }
 }

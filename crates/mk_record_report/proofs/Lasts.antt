@@ -3,12 +3,12 @@ use Rattle.std.proofs.Common.{◌≡◌, ℕ, true, false, cond, List, [], ◌�
 use Rattle.std.specs.Prelude.{codes}
 use Rattle.std.specs.List.{cons_option}
 use Rattle.mk_base.proofs.Lists.{append_nil, filter_append}
+use Rattle.mk_base.specs.Lists.{last_of}
 use Rattle.mk_plan.specs.declared.Item.{Item}
 use Rattle.mk_plan.specs.declared.Entry.{Entry}
 use Rattle.mk_plan.specs.Journals.{sent, sent_to}
-use Rattle.mk_plan.specs.Report.{is_step, line_of, steps_in}
-use Rattle.mk_record_report.specs.Summary.{last_line, last_stepped}
-use Rattle.mk_record_report.specs.inner.Summary.{last_of, later, step_in, step_to, steps_at}
+use Rattle.mk_plan.specs.Report.{is_step, line_of, steps_in, last_line, last_stepped}
+use Rattle.mk_record_report.specs.inner.Summary.{later, step_in, step_to, steps_at}
 use Rattle.mk_record_report.proofs.Parting.{sent_push}
 
 last_push : (xs : List Item) (x : Item) → last_of (xs ++ x ∷ []) ≡ Some x
@@ -29,12 +29,12 @@ steps_push : (J : List Entry) (e : Entry) (i : ℕ) → steps_in (sent (J ++ e �
 steps_push J e i = ap steps_in (sent_push J e i) ∙ filter_append is_step (sent J i) (sent (e ∷ []) i) ∙ ap (λ l. steps_in (sent J i) ++ l) (steps_listed (sent_to i e))
 
 last_listed : (xs : List Item) (o : Option Item) → last_of (xs ++ listed o) ≡ later (last_of xs) o
-last_listed xs None = ap last_of (append_nil xs)
+last_listed xs None = ap (λ (l : List Item). last_of l) (append_nil xs)
 last_listed xs (Some x) = last_push xs x
 
 -- the last Step after one more entry
 pub last_more : (J : List Entry) (e : Entry) (i : ℕ) (first second : Option Item) → first ≡ last_of (steps_in (sent J i)) → second ≡ step_to i e → later first second ≡ last_of (steps_in (sent (J ++ e ∷ []) i))
-last_more J e i first second before here = sym (ap last_of (steps_push J e i) ∙ last_listed (steps_in (sent J i)) (step_to i e) ∙ ap (λ o. later o (step_to i e)) (sym before) ∙ ap (later first) (sym here))
+last_more J e i first second before here = sym (ap (λ (l : List Item). last_of l) (steps_push J e i) ∙ last_listed (steps_in (sent J i)) (step_to i e) ∙ ap (λ o. later o (step_to i e)) (sym before) ∙ ap (later first) (sym here))
 
 -- the line of the last item, if there is one
 no_last_line : (xs : List Item) → last_of xs ≡ None → last_line xs ≡ []

@@ -9,9 +9,8 @@ use Rattle.mk_plan.specs.declared.PlanSim.{PlanSim}
 use Rattle.mk_plan.specs.declared.Entry.{Entry}
 use Rattle.mk_plan.specs.declared.Item.{Item}
 use Rattle.mk_plan.specs.Journals.{sent}
-use Rattle.mk_plan.specs.Report.{summary, steps_in}
+use Rattle.mk_plan.specs.Report.{summary, steps_in, values_in, counts, last_line, last_stepped}
 use Rattle.mk_record_report.specs.declared.tallies.Tally.{Tally}
-use Rattle.mk_record_report.specs.Summary.{counts, last_line, last_stepped, values_in}
 use Rattle.mk_record_report.specs.inner.Summary.{IsTally, steps_at}
 use Rattle.mk_record_report.proofs.Lasts.{last_stepped_push}
 use Rattle.mk_record_report.proofs.Texts.{all_taken, one_more, sum_last}

@@ -10,10 +10,9 @@ use Rattle.mk_plan.specs.declared.Message.{Message}
 use Rattle.mk_plan.specs.declared.Entry.{Entry}
 use Rattle.mk_plan.specs.declared.Entry.TheVariants.{Sent, Got}
 use Rattle.mk_plan.specs.Journals.{sent}
-use Rattle.mk_plan.specs.Report.{steps_in}
+use Rattle.mk_plan.specs.Report.{steps_in, inputs_of, values_in}
 use Rattle.mk_record_report.specs.declared.tallies.Tally.{Tally}
 use Rattle.mk_record_report.specs.inner.Parts.{step_count}
-use Rattle.mk_record_report.specs.Summary.{inputs_of, values_in}
 use Rattle.mk_record_report.specs.inner.Summary.{IsTally, AreTallies, all_values, value_count}
 use Rattle.mk_record_report.proofs.Parting.{sent_push, other_sim, same_sim, more_steps, few_steps}
 

@@ -1,9 +1,9 @@
 // The summary of a journal.
 ghost use Rattle.std.specs.Prelude.{◌≡◌, ◌++◌, IfOk, OnOk, option_map};
+ghost use Rattle.mk_base.specs.Lists.{last_of};
 ghost use Rattle.mk_plan.specs.Journals.{sent};
-ghost use Rattle.mk_plan.specs.Report.{steps_in, summary};
-ghost use Rattle.mk_record_report.specs.Summary.{counts, last_line};
-ghost use Rattle.mk_record_report.specs.inner.Summary.{last_of, later, step_to, steps_at};
+ghost use Rattle.mk_plan.specs.Report.{steps_in, summary, counts, last_line};
+ghost use Rattle.mk_record_report.specs.inner.Summary.{later, step_to, steps_at};
 
 use crate::lines::{put_bytes, put_count, put_line};
 use crate::parts::steps_in;

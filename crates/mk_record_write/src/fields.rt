@@ -5,7 +5,8 @@ ghost use Rattle.std.specs.List.{list_all};
 ghost use Rattle.std.specs.Str.{is_utf8};
 ghost use Rattle.mk_base.specs.Data.{IsDatumText};
 ghost use Rattle.mk_base.specs.Texts.{list_text, quoted};
-ghost use Rattle.mk_record_read.specs.Texts.{bool_text, initial_text, kind_name, via_text};
+ghost use Rattle.mk_base.specs.Names.{kind_name};
+ghost use Rattle.mk_record_read.specs.Texts.{bool_text, initial_text, via_text};
 ghost use Rattle.mk_record_write.specs.inner.Commas.{comma_before};
 
 use mk_base::{Datum, Mem, SimKind, Text, Via, put, put_signed, put_unsigned};

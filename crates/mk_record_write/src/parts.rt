@@ -1,12 +1,12 @@
 //! The lines of a plan: its limits, and a line for each of its parts.
-ghost use Rattle.std.specs.Prelude.{◌≡◌, ◌++◌, ◌∷◌, [], ◌&&◌, true, codes, map, flat_map, All, IfSome, OnOk};
+ghost use Rattle.std.specs.Prelude.{◌≡◌, ◌++◌, ◌∷◌, [], true, map, flat_map, All, IfSome, OnOk};
 ghost use Rattle.std.specs.Fmt.{decimal, signed_decimal};
 ghost use Rattle.std.specs.List.{join_with_byte, list_all};
 ghost use Rattle.std.specs.Str.{is_utf8};
 ghost use Rattle.mk_base.specs.Data.{IsDatumText};
 ghost use Rattle.mk_base.specs.Texts.{list_text, quoted};
 ghost use Rattle.mk_plan_check.specs.inner.FirstBad.{HasDatums};
-ghost use Rattle.mk_record_read.specs.Texts.{bool_text, initial_text, kind_name, via_text, run_line, sim_line, model_line, entity_line, conn_line, async_line, plan_text};
+ghost use Rattle.mk_record_read.specs.Texts.{bool_text, initial_text, via_text, run_line, sim_line, model_line, entity_line, conn_line, async_line, plan_text};
 ghost use Rattle.mk_record_laws.specs.Again.{conn_is_text, model_is_text};
 ghost use Rattle.mk_record_laws.specs.inner.Readable.{HasNames};
 

@@ -1,12 +1,14 @@
 -- For proofs alone. What a line adds where the texts and numbers of its fields are read.
 use Rattle.std.specs.Prelude.{ℕ, ℤ, nat_abs, Bool, ◌&&◌, List, [], ◌∷◌, ◌++◌, length, map, Option, Result}
 use Rattle.mk_base.specs.declared.tier.Via.{Via}
+use Rattle.mk_base.specs.Names.{kind_named}
 use Rattle.mk_plan.specs.declared.Plan.{Plan}
-use Rattle.mk_record_read.specs.Fields.{out_of_limits, found, limited, is_below, kind_named}
+use Rattle.mk_message.specs.Messages.{tested}
+use Rattle.mk_record_read.specs.Fields.{out_of_limits, limited, is_below}
 use Rattle.mk_record_read.specs.Lines.{sim_fits, entity_fits}
 
 abbrev pub sim_put : Plan → List ℕ → List ℕ → ℤ → ℤ → List ℤ → Result Plan ℕ
-sim_put P id type first rank events = found out_of_limits (kind_named type) (λ k.
+sim_put P id type first rank events = tested out_of_limits (kind_named type) (λ k.
     limited (sim_fits first rank events)
     (record P {
       sims = P.sims

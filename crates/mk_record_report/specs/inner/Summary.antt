@@ -1,13 +1,12 @@
--- For proofs alone. Beside `Summary`, which has what a reader needs.
-use Rattle.std.specs.Prelude.{◌≡◌, ℕ, List, [], ◌∷◌, length, slice_get, Option, Some, None, if◌then◌else◌}
+-- For proofs alone. What is counted of each simulator's items while a summary is made.
+use Rattle.std.specs.Prelude.{◌≡◌, ℕ, List, [], length, slice_get, Option, Some, None, if◌then◌else◌}
 use Rattle.std.specs.List.{sum_by}
 use Rattle.mk_plan.specs.declared.Item.{Item}
 use Rattle.mk_plan.specs.declared.Item.TheVariants.{Step, GetData, Answer, Refuse}
 use Rattle.mk_plan.specs.declared.Entry.{Entry}
 use Rattle.mk_plan.specs.Journals.{sent, sent_to}
-use Rattle.mk_plan.specs.Report.{is_step, steps_in}
+use Rattle.mk_plan.specs.Report.{is_step, steps_in, values_in}
 use Rattle.mk_record_report.specs.declared.tallies.Tally.{Tally}
-use Rattle.mk_record_report.specs.Summary.{values_in}
 
 -- how many input values the item has
 abbrev pub value_count : Item → ℕ
@@ -38,12 +37,6 @@ step_in (Some item) = if is_step item then Some item else None
 -- the Step that an entry sends to a simulator, if it is one
 abbrev pub step_to : ℕ → Entry → Option Item
 step_to i e = step_in (sent_to i e)
-
--- the last item, if there is one
-abbrev pub last_of : List Item → Option Item
-last_of [] = None
-last_of (item ∷ []) = Some item
-last_of (item ∷ more ∷ items) = last_of (more ∷ items)
 
 -- the second item, if there is one, else the first
 abbrev pub later : Option Item → Option Item → Option Item

@@ -1,12 +1,13 @@
 use Rattle.std.proofs.Common.{◌≡◌, ◌<◌, ◌≤◌, ℕ, List, [], ◌∷◌, length, get_or, Option, Some, None, refl, ap, sym, ◌∙◌, arith, subst}
 use Rattle.std.specs.Prelude.{Result, Ok, Err, IfErr, IsErr, IsErrAnd}
 use Rattle.mk_base.specs.declared.json.Json.{Json}
-use Rattle.mk_base.specs.Trees.{bool_in, whole_in, text_in}
+use Rattle.mk_base.specs.Trees.{bool_in, whole_in, text_in, texts_in}
 use Rattle.mk_plan.specs.declared.Plan.{Plan}
+use Rattle.mk_message.specs.Messages.{tested}
 use Rattle.mk_record_read.specs.declared.faults.LineFault.{LineFault}
 use Rattle.mk_record_read.specs.declared.faults.LineFault.TheVariants.{Bad, Mem}
 use Rattle.mk_record_read.specs.inner.Faults.{IsFaultOf, IsMissing}
-use Rattle.mk_record_read.specs.Fields.{misformed, found, texts_in}
+use Rattle.mk_record_read.specs.Fields.{misformed}
 use Rattle.mk_record_read.specs.Lines.{with_model}
 use Rattle.mk_record_read.proofs.lines.add_model.Goals as goal
 
@@ -15,11 +16,11 @@ four (w ∷ x ∷ y ∷ z ∷ []) a b c d low high p q r s = cc
 four _ a b c d low high p q r s = absurd (omega (arith, low, high))
 
 -- what is missing is missing, whatever stands before it
-missed : {A B C D Y : Type 0} (o : Option A) (p : Option B) (q : Option C) (r : Option D) (f : A → B → C → D → Result Y ℕ) → r ≡ None → found misformed o (λ a. found misformed p (λ b. found misformed q (λ c. found misformed r (f a b c)))) ≡ Err misformed
+missed : {A B C D Y : Type 0} (o : Option A) (p : Option B) (q : Option C) (r : Option D) (f : A → B → C → D → Result Y ℕ) → r ≡ None → tested misformed o (λ a. tested misformed p (λ b. tested misformed q (λ c. tested misformed r (f a b c)))) ≡ Err misformed
 missed None p q r f none = refl
 missed (Some a) None q r f none = refl
 missed (Some a) (Some b) None r f none = refl
-missed (Some a) (Some b) (Some c) r f none = ap (λ o. found misformed o (f a b c)) none
+missed (Some a) (Some b) (Some c) r f none = ap (λ o. tested misformed o (f a b c)) none
 
 flag_missed : (P : Plan) (xs : List Json) (a b c d : Json) (e : LineFault) → xs ≡ a ∷ b ∷ c ∷ d ∷ [] → IsMissing (bool_in d) e → IsFaultOf (with_model P xs) e
 flag_missed P xs a b c d Mem is none = tt

@@ -1,6 +1,6 @@
 use Rattle.std.proofs.Common.{◌≡◌, take, true}
 use Rattle.std.specs.List.{list_all}
-use Rattle.mk_record_read.specs.Reading.{is_digit}
+use Rattle.mk_base.specs.Numbers.{is_digit}
 use Rattle.mk_record_read.proofs.parts.are_digits.Given as goal
 
 abbrev pub invariant-loop-byte : goal.invariant-loop-byte

@@ -26,8 +26,8 @@ pub returns-in-None-clause-given : goal.returns-in-None-clause-given
 returns-in-None-clause-given c = λ A N b.
     all_given c.args.core.now c.as_slice.result.now c.args.waiting.now.items c.args.number.now c.as_slice.ensures.value A N b c.in_ok-next_sim.field-0 c.in_ok-next_sim.ensures.chosen c.in-None.is
 
-pub returns-in-None-pop_message-clause-given : goal.returns-in-None-pop_message-clause-given
-returns-in-None-pop_message-clause-given c = λ A N b.
+pub unreachable-requires : goal.unreachable-requires
+unreachable-requires c =
     let low = picked_there c.args.core.now c.as_slice.result.now c.args.waiting.now.items c.args.number.now c.as_slice.ensures.value c.in_ok-next_sim.field-0 c.in-Some.sim c.in_ok-next_sim.ensures.chosen c.in-Some.is in
     let t = below_get c.args.waiting.now.items c.in-Some.sim low.0 in
     nothing_popped c.args.waiting.now.items c.in-Some.sim t.0 t.1 low.1 (c.in-None-pop_message.ensures t.0 t.1)

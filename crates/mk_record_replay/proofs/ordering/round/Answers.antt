@@ -34,3 +34,6 @@ returns-in-Stopped-2-clause-round c = λ A N b. ended_before A N c.args.core.now
 pub returns-in-Nothing-2-clause-round : goal.returns-in-Nothing-2-clause-round
 returns-in-Nothing-2-clause-round c = λ A N b. short_ends A N c.args.core.now c.settle.new.core c.args.waiting.now.items c.args.number.now b c.open_count.result c.give_next-in-Wait.new.core (subst (λ (n : Next). IsSettled c.args.core.now n c.settle.new.core) c.in-Wait.is c.in_ok-fault.ensures) c.open_count.ensures
     (subst (λ (g : Given). GivenNext A N c.settle.new.core g c.give_next-in-Wait.new.core c.give_next-in-Wait.new.waiting.items c.give_next-in-Wait.new.number) c.in-Nothing-2.is (c.in_ok-give_next-in-Wait.ensures.given A N (between_mid A N c.args.core.now c.settle.new.core c.args.waiting.now.items c.args.number.now b c.in_ok-fault.ensures.goes)))
+
+pub unreachable-requires : goal.unreachable-requires
+unreachable-requires c = (subst (λ (n : Next). IsSettled c.args.core.now n c.settle.new.core) c.in-Ask.is c.in_ok-fault.ensures).by

@@ -12,3 +12,6 @@ returns-in-Done c = λ A way. ends_done c.args.core.now c.settle.new.core A (sub
 
 pub returns-in-Wait : goal.returns-in-Wait
 returns-in-Wait c = λ A way. ends_short c.args.core.now c.settle.new.core c.open_count.result A (subst (λ (n : Next). IsSettled c.args.core.now n c.settle.new.core) c.in-Wait.is c.in_ok-fault.ensures) c.open_count.ensures way
+
+pub unreachable-requires : goal.unreachable-requires
+unreachable-requires c = (subst (λ (n : Next). IsSettled c.args.core.now n c.settle.new.core) c.in-Ask.is c.in_ok-fault.ensures).by

@@ -13,3 +13,6 @@ returns-in-Wait c = on_ok c.take.result (λ o h. given_after c.args.core.now c.s
 
 pub returns-in-Done : goal.returns-in-Done
 returns-in-Done c = on_ok c.take-in-Done.result (λ o h. given_after c.args.core.now c.settle.new.core c.take-in-Done.new.core (came c.args.arrival) o c.in_ok-fault.ensures.goes h) c.take-in-Done.ensures.given
+
+pub unreachable-requires : goal.unreachable-requires
+unreachable-requires c = (subst (λ (n : Next). IsSettled c.args.core.now n c.settle.new.core) c.in-Ask.is c.in_ok-fault.ensures).by

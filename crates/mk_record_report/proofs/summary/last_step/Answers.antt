@@ -3,7 +3,7 @@ use Rattle.std.proofs.lemmas.List.{take_more}
 use Rattle.mk_plan.specs.declared.Entry.{Entry}
 use Rattle.mk_plan.specs.Journals.{sent}
 use Rattle.mk_plan.specs.Report.{steps_in}
-use Rattle.mk_record_report.specs.inner.Summary.{last_of}
+use Rattle.mk_base.specs.Lists.{last_of}
 use Rattle.mk_record_report.proofs.Lasts.{last_more}
 use Rattle.mk_record_report.proofs.summary.last_step.Goals as goal
 

@@ -1,7 +1,7 @@
 use Rattle.std.proofs.Common.{◌≡◌, option_map, take}
 use Rattle.mk_plan.specs.Journals.{sent}
 use Rattle.mk_plan.specs.Report.{steps_in}
-use Rattle.mk_record_report.specs.inner.Summary.{last_of}
+use Rattle.mk_base.specs.Lists.{last_of}
 use Rattle.mk_record_report.proofs.summary.last_step.Given as goal
 
 abbrev pub invariant-loop-entry : goal.invariant-loop-entry

@@ -3,9 +3,8 @@ use Rattle.std.proofs.lemmas.List.Sums.{sum_by_more}
 use Rattle.mk_plan.specs.declared.PlanSim.{PlanSim}
 use Rattle.mk_plan.specs.declared.Entry.{Entry}
 use Rattle.mk_plan.specs.Journals.{sent}
-use Rattle.mk_plan.specs.Report.{summary}
+use Rattle.mk_plan.specs.Report.{summary, counts}
 use Rattle.mk_record_report.specs.declared.tallies.Tally.{Tally}
-use Rattle.mk_record_report.specs.Summary.{counts}
 use Rattle.mk_record_report.specs.inner.Summary.{IsTally, all_values, steps_at}
 use Rattle.mk_record_report.proofs.Parting.{there}
 use Rattle.mk_record_report.proofs.Summing.{counts_push, stepped_push, valued_push, last_here, last_before, summary_is}

@@ -1,8 +1,7 @@
 use Rattle.std.proofs.Common.{◌≡◌, ◌<◌, ◌≤◌, ◌*◌, ◌-◌, ◌^◌, ◌++◌, [], take, flat_map, sum, map, length}
 use Rattle.std.specs.List.{enumerate_from}
 use Rattle.mk_plan.specs.Journals.{sent}
-use Rattle.mk_plan.specs.Report.{steps_in}
-use Rattle.mk_record_report.specs.Summary.{counts, values_in, last_stepped}
+use Rattle.mk_plan.specs.Report.{steps_in, values_in, counts, last_stepped}
 use Rattle.mk_record_report.specs.inner.Summary.{AreTallies, all_values, steps_at}
 use Rattle.mk_record_report.proofs.summary.write_summary.Given as goal
 
