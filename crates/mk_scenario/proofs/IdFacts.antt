@@ -7,7 +7,8 @@ use Rattle.std.proofs.lemmas.Fmt.{decimal_injective, decimal_by_steps}
 use Rattle.std.proofs.lemmas.List.{length-map}
 use Rattle.mk_base.specs.Lists.{Each, same_text}
 use Rattle.mk_base.proofs.Lists.{some_same, at_in, in_each}
-use Rattle.mk_scenario_keys.specs.Spelling.{is_digit, begins_name, starts_well, longest_name, is_name}
+use Rattle.mk_base.specs.Numbers.{is_digit}
+use Rattle.mk_scenario_keys.specs.Spelling.{begins_name, starts_well, longest_name, is_name}
 use Rattle.mk_scenario.specs.Sims.{sim_id}
 use Rattle.mk_scenario.specs.Scenarios.{ids_of}
 use Rattle.mk_scenario.specs.Wellformed.{AreIdsOf, IsWellformed}

@@ -116,6 +116,7 @@ fn put(alloc: Global, places: &mut IndexMap<String, u32>, id: &str, place: usize
             places.insert(String::from_str(alloc, id)?, place)?;
             Ok(())
         }
+        // So many names as have no number aren't kept.
         Err(_) => Err(Mem),
     }
 }

@@ -166,7 +166,7 @@ fn group_of_id(alloc: Global, ids: &Names, path: &Text, id: &str) -> Result<u32,
     }
 }
 
-// How many entities the group has.
+// How many entities the group has; none where there is no such group.
 fn num_at(groups: &[Group], n: u32) -> u32
     ensures { result ≡ references.num_at groups.now n }
 {

@@ -3,7 +3,8 @@ use Rattle.std.proofs.Common.{◌≡◌, ℕ, ◌+◌, ◌<◌, ◌≤◌, arith
 use Rattle.std.proofs.Math.Seq.{drop-cons}
 use Rattle.std.proofs.lemmas.List.{append_assoc, append-nil, drop_all}
 use Rattle.std.specs.List.{enumerate_from}
-use Rattle.mk_scenario_keys.specs.Tests.{before, all_well, each_at}
+use Rattle.mk_base.specs.Verdicts.{before, all_well}
+use Rattle.mk_scenario_keys.specs.Tests.{each_at}
 use Rattle.mk_scenario_keys.specs.declared.fault.ScenarioFault.{ScenarioFault}
 
 -- what the items from place n on give

@@ -1,11 +1,9 @@
 -- How names, numbers and ports are spelled.
-use Rattle.std.specs.Prelude.{ℕ, ◌+◌, ◌*◌, ◌-◌, Bool, false, ◌&&◌, ◌||◌, ◌==◌, nat_le, List, [], ◌∷◌, length, Option, Some, None, option_and_then, if◌then◌else◌, codes}
+use Rattle.std.specs.Prelude.{ℕ, Bool, false, ◌&&◌, ◌||◌, ◌==◌, nat_le, List, [], ◌∷◌, length, Option, Some, None, option_and_then, if◌then◌else◌, codes}
 use Rattle.std.specs.Fmt.{decimal}
-use Rattle.std.specs.List.{list_all, fold, before_first, after_first}
+use Rattle.std.specs.List.{list_all, before_first, after_first}
 use Rattle.mk_base.specs.Lists.{same_text}
-
-abbrev pub is_digit : ℕ → Bool
-is_digit b = nat_le 48 b && nat_le b 57
+use Rattle.mk_base.specs.Numbers.{number_of, is_digit}
 
 -- an ASCII letter or `_`
 abbrev pub begins_name : ℕ → Bool
@@ -23,10 +21,6 @@ longest_name = 64
 abbrev pub is_name : List ℕ → Bool
 is_name text = starts_well text && list_all (λ b. begins_name b || is_digit b) text
     && nat_le (length text) longest_name
-
--- the number of these decimal digits
-abbrev pub number_of : List ℕ → ℕ
-number_of digits = fold (λ n d. n * 10 + (d - 48)) 0 digits
 
 -- the number that the text spells by at least one and at most so many decimal digits
 abbrev pub spelled : ℕ → List ℕ → Option ℕ

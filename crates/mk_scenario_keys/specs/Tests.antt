@@ -1,7 +1,8 @@
 -- How tests follow one another, the first that fails naming the fault, and the paths of keys.
-use Rattle.std.specs.Prelude.{◌≡◌, ◌⊎◌, ℕ, Bool, List, [], ◌∷◌, ◌++◌, map, take, codes, Option, Some, None, Result, Ok, Err, if◌then◌else◌}
+use Rattle.std.specs.Prelude.{◌≡◌, ◌⊎◌, ℕ, List, ◌++◌, map, take, codes, Option, Some, None, Result, Ok, Err}
 use Rattle.std.specs.Fmt.{decimal}
 use Rattle.std.specs.List.{enumerate_from}
+use Rattle.mk_base.specs.Verdicts.{all_well}
 use Rattle.mk_scenario_keys.specs.declared.fault.ScenarioFault.{ScenarioFault}
 use Rattle.mk_scenario_keys.specs.declared.fault.ScenarioFault.TheVariants.{Mem}
 
@@ -15,32 +16,10 @@ abbrev pub passed : {A B : Type 0} → Result A ScenarioFault → (A → Result 
 passed (Ok x) next = next x
 passed (Err fault) next = Err fault
 
--- what follows a test that holds, and the fault where it doesn't
-abbrev pub held : {B : Type 0} → ScenarioFault → Bool → Result B ScenarioFault
-    → Result B ScenarioFault
-held fault holds next = if holds then next else Err fault
-
--- what follows a test that no text fails, and the fault of the one that does
-abbrev pub no_text : {B : Type 0} → (List ℕ → ScenarioFault) → Option (List ℕ)
-    → Result B ScenarioFault → Result B ScenarioFault
-no_text fault None next = next
-no_text fault (Some text) next = Err (fault text)
-
 -- what was found, and the fault where nothing was
 abbrev pub found : {A : Type 0} → ScenarioFault → Option A → Result A ScenarioFault
 found fault (Some x) = Ok x
 found fault None = Err fault
-
--- one item before the others, unless there is a fault among these
-abbrev pub before : {A : Type 0} → A → Result (List A) ScenarioFault → Result (List A) ScenarioFault
-before x (Ok xs) = Ok (x ∷ xs)
-before x (Err fault) = Err fault
-
--- what the items give, or the first fault among them
-abbrev pub all_well : {A : Type 0} → List (Result A ScenarioFault) → Result (List A) ScenarioFault
-all_well [] = Ok []
-all_well (Err fault ∷ more) = Err fault
-all_well (Ok x ∷ more) = before x (all_well more)
 
 -- what the items give, each by its place
 abbrev pub each_at : {X A : Type 0} → (ℕ → X → Result A ScenarioFault) → List X

@@ -1,6 +1,5 @@
 // What stands under a table's keys. Each fault names the key by its path, or the item of its list.
-ghost use Rattle.std.specs.Prelude.{◌≡◌, ℕ, List, [], None, Some, IfOk, IfErr, Ok, false, not, map, option_map, pos};
-ghost use Rattle.std.specs.List.{find};
+ghost use Rattle.std.specs.Prelude.{◌≡◌, [], None, Some, IfOk, IfErr, Ok, false, option_map, pos};
 ghost use Rattle.mk_base.specs.declared.json.Json.{Json};
 ghost use Rattle.mk_base.specs.declared.json.Json as tree;
 ghost use Rattle.mk_base.specs.Trees.{member};

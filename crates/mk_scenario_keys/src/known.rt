@@ -1,10 +1,9 @@
 // The keys that each kind of table has.
 ghost use Rattle.std.specs.Prelude.{◌≡◌, ℕ, List, map, not, option_map};
-ghost use Rattle.std.specs.List.{find, list_any};
+ghost use Rattle.std.specs.List.{find};
 ghost use Rattle.mk_base.specs.declared.json.Json.{Json};
-ghost use Rattle.mk_base.specs.Lists.{same_text};
 ghost use Rattle.mk_scenario_keys.specs.Keys.{is_among, first_unknown};
-ghost use Rattle.mk_scenario_keys.specs.Known.{block_keys, group_keys, keys_of, sim_keys, top_keys};
+ghost use Rattle.mk_scenario_keys.specs.Known.{keys_of};
 
 use mk_base::{Json, Members, Text};
 
@@ -51,68 +50,53 @@ pub enum Table {
 pub fn first_unknown(table: Table, value: &Json) -> Option<&Text>
     ensures { option_map (λ t. t.now) result ≡ first_unknown (keys_of table) value.now }
 {
+    match table {
+        Table::Top => {
+            let keys: [&str; 6] = TOP_KEYS;
+            first_other(keys.as_slice(), value)
+        }
+        Table::Sim => {
+            let keys: [&str; 6] = SIM_KEYS;
+            first_other(keys.as_slice(), value)
+        }
+        Table::Group => {
+            let keys: [&str; 5] = GROUP_KEYS;
+            first_other(keys.as_slice(), value)
+        }
+        Table::Block => {
+            let keys: [&str; 7] = BLOCK_KEYS;
+            first_other(keys.as_slice(), value)
+        }
+    }
+}
+
+/// The first key of the value, in byte order, that is none of these; none of a value that is no table.
+pub fn first_other<'a>(keys: &[&str], value: &'a Json) -> Option<&'a Text>
+    ensures { option_map (λ t. t.now) result
+        ≡ first_unknown (map (λ key. key.now) keys.now) value.now }
+{
     match value.as_object() {
-        Some(members) => first_unknown_of(table, members),
+        Some(members) => first_other_of(keys, members),
         None => None,
     }
 }
 
-fn first_unknown_of(table: Table, members: &Members<Json>) -> Option<&Text>
+fn first_other_of<'a>(keys: &[&str], members: &'a Members<Json>) -> Option<&'a Text>
     ensures { option_map (λ t. t.now) result
-        ≡ find (λ key. not (is_among (keys_of table) key))
+        ≡ find (λ key. not (is_among (map (λ key. key.now) keys.now) key))
         (map (λ (m : List ℕ × Json). m.0) members.now) }
 {
     for (key, _) in members.entries() {
-        if !is_key(table, key.as_str()) {
+        if !is_among(keys, key.as_str()) {
             return Some(key);
         }
     }
     None
 }
 
-// Whether such a table has a key of this name.
-fn is_key(table: Table, name: &str) -> bool
-    ensures { result ≡ is_among (keys_of table) name.now }
-{
-    match table {
-        Table::Top => is_top_key(name),
-        Table::Sim => is_sim_key(name),
-        Table::Group => is_group_key(name),
-        Table::Block => is_block_key(name),
-    }
-}
-
-fn is_top_key(name: &str) -> bool
-    ensures { result ≡ is_among top_keys name.now }
-{
-    let keys: [&str; 6] = TOP_KEYS;
-    is_among(keys.as_slice(), name)
-}
-
-fn is_sim_key(name: &str) -> bool
-    ensures { result ≡ is_among sim_keys name.now }
-{
-    let keys: [&str; 6] = SIM_KEYS;
-    is_among(keys.as_slice(), name)
-}
-
-fn is_group_key(name: &str) -> bool
-    ensures { result ≡ is_among group_keys name.now }
-{
-    let keys: [&str; 5] = GROUP_KEYS;
-    is_among(keys.as_slice(), name)
-}
-
-fn is_block_key(name: &str) -> bool
-    ensures { result ≡ is_among block_keys name.now }
-{
-    let keys: [&str; 7] = BLOCK_KEYS;
-    is_among(keys.as_slice(), name)
-}
-
 // Whether the name is one of these keys.
 fn is_among(keys: &[&str], name: &str) -> bool
-    ensures { result ≡ list_any (λ key. same_text name.now key.now) keys.now }
+    ensures { result ≡ is_among (map (λ key. key.now) keys.now) name.now }
 {
     for key in keys {
         if name == *key {

@@ -13,7 +13,7 @@ pub use keys::{
     count_or, optional_port, optional_text, required_name, required_tables, required_text,
     required_time, tables_or_none, times_or_none, truth_or_false, values_or_none, width_or_none,
 };
-pub use known::{Table, first_unknown};
+pub use known::{Table, first_other, first_unknown};
 pub use paths::{item_in, key_in};
 pub use spelling::{port_of, spelled};
 pub use values::items;

@@ -1,12 +1,13 @@
 // How names, numbers and ports are spelled.
-ghost use Rattle.std.specs.Prelude.{◌≡◌, ◌≤◌, ℕ, nat_le, ◌&&◌, ◌||◌, if◌then◌else◌, length, Some, None};
+ghost use Rattle.std.specs.Prelude.{◌≡◌, ◌≤◌, nat_le, ◌&&◌, ◌||◌, if◌then◌else◌, length, Some, None};
 ghost use Rattle.std.specs.Fmt.{decimal};
 ghost use Rattle.std.specs.List.{list_all};
 ghost use Rattle.mk_base.specs.Lists.{same_text};
+ghost use Rattle.mk_base.specs.Numbers as numbers;
 ghost use Rattle.mk_scenario_keys.specs.Spelling as spelling;
 
 use itoa::Buffer;
-use mk_base::Text;
+use mk_base::{Text, are_digits, is_digit, number_of};
 
 const LONGEST_NAME: usize = 64;
 
@@ -19,7 +20,7 @@ pub fn is_name(text: &Text) -> bool
 }
 
 fn goes_on_well(bytes: &[u8]) -> bool
-    ensures { result ≡ list_all (λ b. spelling.begins_name b || spelling.is_digit b) bytes.now }
+    ensures { result ≡ list_all (λ b. spelling.begins_name b || numbers.is_digit b) bytes.now }
 {
     bytes.iter().all(|b| begins_name(*b) || is_digit(*b))
 }
@@ -39,12 +40,6 @@ fn begins_name(b: u8) -> bool
     (b'A' <= b && b <= b'Z') || (b'a' <= b && b <= b'z') || b == b'_'
 }
 
-fn is_digit(b: u8) -> bool
-    ensures { result ≡ spelling.is_digit b }
-{
-    b'0' <= b && b <= b'9'
-}
-
 /// The number that the bytes spell by at least one and at most so many decimal digits, of which there may be nine.
 pub fn spelled(most: usize, bytes: &[u8]) -> Option<u64>
     requires { most ≤ 9 }
@@ -55,24 +50,6 @@ pub fn spelled(most: usize, bytes: &[u8]) -> Option<u64>
     } else {
         None
     }
-}
-
-fn are_digits(bytes: &[u8]) -> bool
-    ensures { result ≡ list_all (λ b. spelling.is_digit b) bytes.now }
-{
-    bytes.iter().all(|b| is_digit(*b))
-}
-
-// The number of these decimal digits.
-fn number_of(digits: &[u8]) -> u64
-    requires { length digits.now ≤ 9 }
-    ensures { result ≡ spelling.number_of digits.now }
-{
-    let mut number: u64 = 0;
-    for digit in digits {
-        number = number * 10 + u64::from(digit.saturating_sub(b'0'));
-    }
-    number
 }
 
 /// The port of an address on this machine: `127.0.0.1` or `localhost`, a colon, and a port from 1 to 65535 in decimal digits

@@ -149,7 +149,7 @@ pub fn table<'a>(path: &Text, value: &'a Json) -> Result<&'a Json, ScenarioFault
     }
 }
 
-// The value, which is a table of whole values that don't nest too deep.
+/// The value, which is a table of whole values that don't nest too deep.
 pub fn values<'a>(alloc: Global, path: &Text, value: &'a Json) -> Result<&'a Json, ScenarioFault>
     ensures ok { IfOk result (λ t. keys.values path.now value.now ≡ Ok t.now) }
     ensures refused { IfErr result (λ e. IsFaultOf (keys.values path.now value.now) e) }

@@ -1,5 +1,5 @@
 //! Words of templates, and a fleet that is asked for each simulator.
-ghost use Rattle.std.specs.Prelude.{◌≡◌, ◌<◌, ◌^◌, ℕ, List, length};
+ghost use Rattle.std.specs.Prelude.{◌<◌, ◌^◌, ℕ, List, length};
 ghost use Rattle.mk_launch.specs.Ready.{IsPrepared};
 
 use mk_base::{List, Mem, SimNo, Text};

@@ -1,12 +1,12 @@
 // The lines of a table.
 ghost use Rattle.std.specs.Prelude.{◌≡◌, ◌++◌, codes, OnOk};
-ghost use Rattle.std.specs.Fmt.{decimal, signed_decimal};
+ghost use Rattle.std.specs.Fmt.{signed_decimal};
 ghost use Rattle.mk_plan.specs.Plans.{sim_id};
 ghost use Rattle.mk_watch.specs.Tables.{head_text, row_text, total_text};
 
 use crate::rows::Row;
 use mk_base::{Mem, SimNo, Text, put, put_signed, put_unsigned};
-use mk_plan::Plan;
+use mk_plan::{Plan, put_id};
 
 // Appends the head of a table: the entity by its full id, the attribute, the rule's name.
 pub fn put_head(
@@ -56,16 +56,6 @@ pub fn put_total(out: &mut Vec<u8>, count: u64, total: Option<i64>) -> Result<()
             put_number(out, &value)?;
             put(out, "\n")
         }
-    }
-}
-
-// Appends a simulator's id.
-fn put_id(out: &mut Vec<u8>, plan: &Plan, sim: SimNo) -> Result<(), Mem>
-    ensures { OnOk result (out.new.items ≡ out.old.items ++ sim_id plan.now sim.0) }
-{
-    match plan.sims.get(sim.0 as usize) {
-        Some(part) => put(out, part.id.as_str()),
-        None => Ok(()),
     }
 }
 

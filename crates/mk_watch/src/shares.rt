@@ -1,5 +1,5 @@
 // What each simulator was sent in a journal.
-ghost use Rattle.std.specs.Prelude.{◌≡◌, ◌++◌, ◌∷◌, [], ℕ, List, map, IfOk, OnOk};
+ghost use Rattle.std.specs.Prelude.{◌++◌, ◌∷◌, [], ℕ, List, map, IfOk, OnOk};
 ghost use Rattle.mk_plan.specs.declared.Entry.{Entry};
 ghost use Rattle.mk_plan.specs.declared.Entry.TheVariants as entry;
 ghost use Rattle.mk_watch.specs.inner.Shares.{AreShares};

@@ -1,6 +1,5 @@
 // The tables of watches over a journal.
-ghost use Rattle.std.specs.Prelude.{◌≡◌, ◌<◌, ◌++◌, ℕ, List, flat_map, length, map, IfOk, OnOk};
-ghost use Rattle.mk_plan.specs.declared.Plan.{Plan};
+ghost use Rattle.std.specs.Prelude.{◌≡◌, ◌<◌, ◌++◌, ℕ, List, length, map, IfOk, OnOk};
 ghost use Rattle.mk_plan.specs.declared.Entry.{Entry};
 ghost use Rattle.mk_plan.specs.Plans.{IsValidPlan, RefersInside, eid_of, full_id, owner, sim_count};
 ghost use Rattle.mk_plan.specs.Journals.{got, sent};

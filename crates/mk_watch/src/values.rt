@@ -5,7 +5,8 @@ ghost use Rattle.mk_local.specs.Inputs.{number_in};
 ghost use Rattle.mk_watch.specs.Values.{folded, is_watched, number_at, numbers_at, with_number};
 ghost use Rattle.mk_watch.specs.inner.Folding.{after_input};
 
-use mk_base::{Datum, List, Text};
+use mk_base::{List, Text};
+use mk_local::number_in;
 use mk_plan::Input;
 use mk_watch_read::Rule;
 
@@ -67,17 +68,4 @@ fn is_same(text: &Text, other: &Text) -> bool
     ensures { result ≡ same_text text.now other.now }
 {
     text.bytes() == other.bytes()
-}
-
-// The number that a value writes, or 0 where it writes no whole number within 64 bits.
-fn number_in(value: &Datum) -> i64
-    ensures { result ≡ number_in value.now }
-{
-    match std::str::from_utf8(value.bytes()) {
-        Ok(text) => match text.parse::<i64>() {
-            Ok(n) => n,
-            Err(_) => 0,
-        },
-        Err(_) => 0,
-    }
 }

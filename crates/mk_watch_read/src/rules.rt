@@ -16,6 +16,7 @@ pub struct Rules {
 impl Rules {
     ghost use Rattle.mk_watch_read.specs.Rules.{folds_in, has_name, names_in, place_of};
 
+    /// No rule.
     pub fn new(alloc: Global) -> Rules
         ensures names { names_in result ≡ [] }
         ensures folds { folds_in result ≡ [] }

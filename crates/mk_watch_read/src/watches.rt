@@ -1,6 +1,5 @@
 // From a text to the watches that it says.
-ghost use Rattle.std.specs.Prelude.{◌≡◌, ◌<◌, IfOk, IfErr, Ok, length, codes};
-ghost use Rattle.mk_base.specs.Trees.{member};
+ghost use Rattle.std.specs.Prelude.{◌≡◌, IfOk, IfErr, Ok, length, codes};
 ghost use Rattle.mk_plan.specs.declared.Plan.{Plan};
 ghost use Rattle.mk_plan.specs.Plans.{IsValidPlan};
 ghost use Rattle.mk_plan_names.specs.Names.{AreNamesOf};

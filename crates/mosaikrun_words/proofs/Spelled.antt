@@ -4,10 +4,11 @@ use Rattle.std.proofs.lemmas.Bool.Decides.{nat_tests}
 use Rattle.std.proofs.lemmas.Slice.Eq.{bytes_eq-Decides}
 use Rattle.std.specs.List.{list_all}
 use Rattle.mk_base.specs.Lists.{Each, IsIn, same_text}
+use Rattle.mk_base.specs.Numbers.{number_of, is_digit}
 use Rattle.mosaikrun_words.specs.declared.reading.Found.{Found}
 use Rattle.mosaikrun_words.specs.declared.reading.Two.{Two}
 use Rattle.mosaikrun_words.specs.inner.Arranged.{alone, behind, long, number_in, one_word, only_word, pair, start, two_words, value_after, word_with}
-use Rattle.mosaikrun_words.specs.Numbers.{IsNumber, is_digit, most_digits, number_of}
+use Rattle.mosaikrun_words.specs.Numbers.{IsNumber, most_digits}
 use Rattle.mosaikrun_words.specs.Requests.{if_given}
 use Rattle.mosaikrun_words.specs.Words.{Given, Text, is_value, spellings}
 

@@ -1,13 +1,7 @@
 -- Numbers on the command line.
-use Rattle.std.specs.Prelude.{◌≡◌, ℕ, ◌+◌, ◌*◌, ◌-◌, ◌≤◌, Bool, true, ◌&&◌, nat_le, List, length}
-use Rattle.std.specs.List.{list_all, fold}
-
-abbrev pub is_digit : ℕ → Bool
-is_digit b = nat_le 48 b && nat_le b 57
-
--- the number of these decimal digits
-abbrev pub number_of : List ℕ → ℕ
-number_of digits = fold (λ n d. n * 10 + (d - 48)) 0 digits
+use Rattle.std.specs.Prelude.{◌≡◌, ℕ, ◌≤◌, true, List, length}
+use Rattle.std.specs.List.{list_all}
+use Rattle.mk_base.specs.Numbers.{number_of, is_digit}
 
 -- the most digits that a number may have
 abbrev pub most_digits : ℕ

@@ -1,8 +1,8 @@
 // Numbers on the command line.
-ghost use Rattle.std.specs.Prelude.{◌≡◌, ◌≤◌, ◌&&◌, nat_le, length, Some, None, if◌then◌else◌};
-ghost use Rattle.std.specs.List.{list_all};
+ghost use Rattle.std.specs.Prelude.{◌≡◌, ◌&&◌, nat_le, Some, None, if◌then◌else◌};
 ghost use Rattle.mosaikrun_words.specs.inner.Arranged.{number_in};
-ghost use Rattle.mosaikrun_words.specs.Numbers as numbers;
+
+use mk_base::{are_digits, number_of};
 
 // The most digits that a number may have.
 const MOST_DIGITS: usize = 10;
@@ -27,28 +27,4 @@ fn within(least: u32, most: u32, n: u64) -> Option<u32>
     } else {
         None
     }
-}
-
-fn are_digits(bytes: &[u8]) -> bool
-    ensures { result ≡ list_all numbers.is_digit bytes.now }
-{
-    bytes.iter().all(|b| is_digit(*b))
-}
-
-fn is_digit(b: u8) -> bool
-    ensures { result ≡ numbers.is_digit b }
-{
-    b'0' <= b && b <= b'9'
-}
-
-// The number of these decimal digits.
-fn number_of(digits: &[u8]) -> u64
-    requires { length digits.now ≤ numbers.most_digits }
-    ensures { result ≡ numbers.number_of digits.now }
-{
-    let mut number: u64 = 0;
-    for digit in digits {
-        number = number * 10 + u64::from(digit.saturating_sub(b'0'));
-    }
-    number
 }

@@ -1,7 +1,6 @@
 // The words after a command with two options, sorted: which are its own, and which are the values of options.
 ghost use Rattle.std.specs.Prelude.{◌≡◌, None, Some, map, option_map};
 ghost use Rattle.std.specs.String.{string_bytes};
-ghost use Rattle.mosaikrun_words.specs.inner.Arranged.{name_of};
 ghost use Rattle.mosaikrun_words.specs.inner.Sorted.{joined, named, nothing, seen, single, sorted_of, with_option, with_plain, with_save, with_strict};
 
 use crate::arranged::{is_value, start, value_after};
@@ -123,7 +122,8 @@ fn with_option<'a>(
     value: &'a str,
     behind: Option<Sorted<'a>>,
 ) -> Option<Sorted<'a>>
-    ensures { option_map seen result ≡ with_option option value.entry.now (option_map seen behind.entry) }
+    ensures { option_map seen result
+        ≡ with_option option value.entry.now (option_map seen behind.entry) }
 {
     match option {
         OptionName::Strict => with_strict(value, behind),

@@ -1,5 +1,5 @@
 -- For proofs alone. Beside `References`, which has what a reader needs.
-use Rattle.std.specs.Prelude.{◌≡◌, ℕ, ◌==◌, ◌-◌, List, true}
+use Rattle.std.specs.Prelude.{◌≡◌, ℕ, ◌==◌, List, true}
 use Rattle.std.specs.List.{before_first, after_first}
 use Rattle.mk_scenario.specs.References.{has_byte}
 

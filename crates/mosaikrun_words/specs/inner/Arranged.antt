@@ -2,11 +2,12 @@
 use Rattle.std.specs.Prelude.{ℕ, ◌&&◌, ◌==◌, nat_le, List, [], ◌∷◌, ◌++◌, length, Option, Some, None, if◌then◌else◌, codes}
 use Rattle.std.specs.List.{list_all}
 use Rattle.mk_base.specs.Lists.{same_text}
+use Rattle.mk_base.specs.Numbers.{number_of, is_digit}
 use Rattle.mosaikrun_words.specs.declared.reading.Found.{Found}
 use Rattle.mosaikrun_words.specs.declared.reading.Two.{Two}
 use Rattle.mosaikrun_words.specs.declared.request.OptionName.{OptionName}
 use Rattle.mosaikrun_words.specs.declared.request.OptionName.TheVariants.{Record, Order, Strict}
-use Rattle.mosaikrun_words.specs.Numbers.{is_digit, most_digits, number_of}
+use Rattle.mosaikrun_words.specs.Numbers.{most_digits}
 use Rattle.mosaikrun_words.specs.Words.{Text, is_value}
 
 abbrev pub name_of : OptionName → Text

@@ -45,7 +45,8 @@ number_given least most (Some text) = option_map (λ n. Some n) (number_in least
 
 abbrev pub pace_in : Found → Option Pace
 pace_in f = option_and_then
-    (λ n. option_map (λ s. record { factor = n; strict = s }) (number_given 0 most_milliseconds f.value))
+    (λ n. option_map (λ s. record { factor = n; strict = s })
+    (number_given 0 most_milliseconds f.value))
     (number_in 1 most_milliseconds f.word)
 
 -- the pace that these words write
@@ -55,7 +56,8 @@ pace_of factor strict = option_and_then pace_in (word_with factor strict)
 -- the run by a clock that these words ask for
 abbrev pub paced_from : Text → Text → Option Text → Option Text → Option Request
 paced_from scenario factor strict save = option_and_then
-    (λ (p : Pace). option_map (λ (f : Found). Paced f.word p.factor p.strict f.value) (word_with scenario save))
+    (λ (p : Pace). option_map (λ (f : Found). Paced f.word p.factor p.strict f.value)
+    (word_with scenario save))
     (pace_of factor strict)
 
 abbrev pub paced_in : Option Text → Option Text → Shape → Option Request
@@ -69,7 +71,8 @@ paced_of rest = option_and_then (λ (p : Shape). paced_in p.first p.second p) (s
 -- the order's number, where there is one
 abbrev pub replay_in : Text → Option Text → Option Request
 replay_in name None = Some (Files (Replay name None))
-replay_in name (Some text) = option_map (λ n. Files (Replay name (Some n))) (number_in 0 4294967295 text)
+replay_in name (Some text) = option_map (λ n. Files (Replay name (Some n)))
+    (number_in 0 4294967295 text)
 
 abbrev pub replay_of : List Text → Option Request
 replay_of rest = option_and_then (λ (f : Found). replay_in f.word f.value)

@@ -1,9 +1,6 @@
-use Rattle.std.proofs.Common.{◌≡◌, drop}
-use Rattle.std.specs.List.{list_any}
-use Rattle.mk_base.specs.Lists.{same_text}
+use Rattle.std.proofs.Common.{◌≡◌, drop, map}
+use Rattle.mk_scenario_keys.specs.Keys.{is_among}
 use Rattle.mk_scenario_keys.proofs.known.is_among.Given as goal
 
 abbrev pub invariant-loop-key : goal.invariant-loop-key
-invariant-loop-key l =
-    list_any (λ key. same_text l.fn.name key.now) (drop l.key-index l.keys)
-    ≡ list_any (λ key. same_text l.fn.name key.now) l.keys
+invariant-loop-key l = is_among (map (λ key. key.now) (drop l.key-index l.keys)) l.fn.name ≡ is_among (map (λ key. key.now) l.keys) l.fn.name

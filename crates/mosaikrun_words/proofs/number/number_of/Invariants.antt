@@ -1,9 +1,0 @@
-use Rattle.std.proofs.Common.{◌≡◌, ◌+◌, ◌*◌, ◌^◌, ◌≤◌, take}
-use Rattle.mosaikrun_words.specs.Numbers as numbers
-use Rattle.mosaikrun_words.proofs.number.number_of.Given as goal
-
-abbrev pub invariant-loop-digit : goal.invariant-loop-digit
-invariant-loop-digit l = record {
-  told : l.number ≡ numbers.number_of (take l.digit-index l.digits);
-  small : l.number + 23 ≤ 23 * 10 ^ l.digit-index;
-}
