@@ -3,8 +3,8 @@ use Rattle.std.proofs.Common.{◌≡◌, ℕ, Bool, true, false, ◌&&◌, List,
 use Rattle.std.specs.List.{list_all}
 use Rattle.mk_base.specs.declared.json.Json.{Json}
 use Rattle.mk_base.specs.Lists.{all_there}
-use Rattle.mk_base.specs.Trees.{text_in, items_in, members_in, is_datum}
-use Rattle.mk_plan.specs.Asks.{texts_in, members_by, datum_in, Get, Set, RelatedOfEach}
+use Rattle.mk_base.specs.Trees.{text_in, items_in, members_in, is_datum, texts_in}
+use Rattle.mk_plan.specs.Asks.{members_by, datum_in, Get, Set, RelatedOfEach}
 use Rattle.mk_async.specs.Asked.{get_in, named_by}
 use Rattle.mk_async.specs.Forms.{are_texts, each_passes, is_destinations, is_object_of, is_such, is_texts, is_values}
 use Rattle.mk_async.specs.inner.Forms.{set_of, texts_of}

@@ -3,11 +3,11 @@ use Rattle.std.proofs.Common.{◌≡◌, ℕ, Bool, false, ◌&&◌, List, [], �
 use Rattle.std.specs.List.{list_all}
 use Rattle.mk_base.specs.declared.json.Json.{Json}
 use Rattle.mk_base.specs.Lists.{all_there}
-use Rattle.mk_base.specs.Trees.{text_in, items_in, members_in}
+use Rattle.mk_base.specs.Trees.{text_in, items_in, members_in, texts_in}
 use Rattle.mk_base.proofs.Lists.{some_same, none_some}
 use Rattle.mk_plan.specs.declared.Plan.{Plan}
 use Rattle.mk_plan.specs.Plans.{owner}
-use Rattle.mk_plan.specs.Asks.{Named, Request, Get, Set, RelatedOfEach, texts_in, members_by, datum_in, entity_of, of_entity, gives_attr, takes_attr, knows, permits}
+use Rattle.mk_plan.specs.Asks.{Named, Request, Get, Set, RelatedOfEach, members_by, datum_in, entity_of, of_entity, gives_attr, takes_attr, knows, permits}
 use Rattle.mk_async.specs.Asked.{named_by, asked_in}
 use Rattle.mk_async.specs.Forms.{is_such}
 use Rattle.mk_async.specs.inner.Known.{Members, are_known, gives_each, is_known, knows_asked, knows_destination, knows_destinations, knows_source, knows_sources, knows_want, knows_wants, lends, lends_destinations, lends_each, lends_sources, permits_asked, takes_each}

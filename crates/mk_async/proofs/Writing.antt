@@ -10,11 +10,11 @@ use Rattle.std.proofs.lemmas.Map.Lookups.{exact_bytes}
 use Rattle.mk_base.specs.declared.json.Json as tree
 use Rattle.mk_base.specs.Lists.{Each, all_there, placed, text_order}
 use Rattle.mk_base.specs.Texts.{object_text}
-use Rattle.mk_base.specs.Trees.{text_in, items_in}
+use Rattle.mk_base.specs.Trees.{text_in, items_in, texts_in}
 use Rattle.mk_base.proofs.Lists.{flat_map_append, none_some, some_same}
 use Rattle.mk_json.proofs.OfOutlines.{left_is}
 use Rattle.mk_plan.specs.declared.Plan.{Plan}
-use Rattle.mk_plan.specs.Asks.{Lookup, Named, Get, content_text, entity_of, ordered, texts_in}
+use Rattle.mk_plan.specs.Asks.{Lookup, Named, Get, content_text, entity_of, ordered}
 use Rattle.mk_plan.specs.Asks as asks
 use Rattle.mk_async.specs.Asked.{get_in, named_by}
 use Rattle.mk_async.specs.inner.Content.{Texts, listed, member_text, put_attr, put_named, put_value, values_in, values_of, want_text, wants_text}

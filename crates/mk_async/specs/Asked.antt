@@ -3,11 +3,11 @@ use Rattle.std.specs.Prelude.{◌≡◌, ℕ, Bool, true, false, List, map, Opti
 use Rattle.std.specs.List.{list_all}
 use Rattle.mk_base.specs.declared.json.Json.{Json}
 use Rattle.mk_base.specs.Lists.{all_there}
-use Rattle.mk_base.specs.Trees.{text_in, is_in_range}
+use Rattle.mk_base.specs.Trees.{text_in, is_in_range, texts_in}
 use Rattle.mk_plan.specs.declared.Plan.{Plan}
 use Rattle.mk_plan.specs.declared.SetValue.{SetValue}
 use Rattle.mk_plan.specs.Plans.{owner}
-use Rattle.mk_plan.specs.Asks.{Named, Request, Get, Set, Related, RelatedOfEach, AskAnswer, Answered, Refused, texts_in, members_by, datum_in}
+use Rattle.mk_plan.specs.Asks.{Named, Request, Get, Set, Related, RelatedOfEach, AskAnswer, Answered, Refused, members_by, datum_in}
 use Rattle.mk_buffers.specs.Standing.{IsSourced}
 use Rattle.mk_async.specs.declared.request.Asked.{Asked}
 use Rattle.mk_async.specs.declared.request.Asked.TheVariants as as_asked

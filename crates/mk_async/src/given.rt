@@ -10,7 +10,7 @@ ghost use Rattle.mk_async.specs.inner.Given.{is_source, members_of, values_from,
 use crate::known::entity_of;
 use crate::request::Asked;
 use mk_base::{Datum, Json, List, Mem, Members, Text};
-use mk_json::datum;
+use mk_json::{DatumFault, datum};
 use mk_plan::{Plan, SetValue};
 use mk_plan_names::Names;
 use std::alloc::Global;
@@ -189,6 +189,7 @@ pub fn datum_of(alloc: Global, value: &Json) -> Result<Datum, Mem>
 {
     match datum(alloc, value) {
         Ok(text) => Ok(text),
-        Err(_) => Err(Mem),
+        Err(DatumFault::Mem) => Err(Mem),
+        Err(_) => unreachable!(),
     }
 }

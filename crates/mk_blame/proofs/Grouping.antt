@@ -6,7 +6,8 @@ use Rattle.mk_plan.specs.declared.Entry.{Entry}
 use Rattle.mk_plan.specs.declared.Entry.TheVariants.{Sent, Got}
 use Rattle.mk_blame.specs.Talks.{is_with, said, talk}
 use Rattle.mk_plan.specs.Acts.{Said}
-use Rattle.mk_blame.specs.inner.Parted.{AreTalks, sim_of}
+use Rattle.mk_plan.specs.Journals.{sim_of}
+use Rattle.mk_blame.specs.inner.Parted.{AreTalks}
 
 with_is : (i : ℕ) (e : Entry) → is_with i e ≡ (sim_of e == i)
 with_is i (Sent s item) = refl

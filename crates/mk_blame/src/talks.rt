@@ -1,7 +1,8 @@
 // The entries of each simulator.
 ghost use Rattle.std.specs.Prelude.{◌≡◌, ◌++◌, ◌∷◌, [], ℕ, List, map, IfOk, OnOk};
 ghost use Rattle.mk_plan.specs.declared.Entry.{Entry};
-ghost use Rattle.mk_blame.specs.inner.Parted.{AreTalks, sim_of};
+ghost use Rattle.mk_plan.specs.Journals.{sim_of};
+ghost use Rattle.mk_blame.specs.inner.Parted.{AreTalks};
 
 use mk_base::Mem;
 use mk_plan::Entry;

@@ -1,14 +1,13 @@
 // The text of a verdict.
 ghost use Rattle.std.specs.Prelude.{◌≡◌, ◌++◌, true, IfOk, OnOk};
-ghost use Rattle.std.specs.Fmt.{decimal, signed_decimal};
-ghost use Rattle.mk_plan.specs.Plans.{sim_id};
+ghost use Rattle.std.specs.Fmt.{signed_decimal};
 ghost use Rattle.mk_message.specs.Written.{message_text, is_in_range};
 ghost use Rattle.mk_blame.specs.Written.{is_writable, lines_of, may_be_written, verdict_text};
 
 use crate::verdict::{Blamed, Verdict};
-use mk_base::{Mem, SimNo, put, put_signed, put_unsigned};
+use mk_base::{Mem, put, put_signed, put_unsigned};
 use mk_message::write;
-use mk_plan::{Message, Plan};
+use mk_plan::{Message, Plan, put_id};
 use std::alloc::Global;
 
 /// The text of a verdict on two journals of this plan: for each simulator to blame its id, the
@@ -50,15 +49,6 @@ fn put_blamed(alloc: Global, out: &mut Vec<u8>, plan: &Plan, blamed: &Blamed) ->
     put(out, "\nsecond ")?;
     put_message(alloc, out, &blamed.second)?;
     put(out, "\n")
-}
-
-fn put_id(out: &mut Vec<u8>, plan: &Plan, sim: SimNo) -> Result<(), Mem>
-    ensures { OnOk result (out.new.items ≡ out.old.items ++ sim_id plan.now sim.0) }
-{
-    match plan.sims.get(sim.0 as usize) {
-        Some(part) => put(out, part.id.as_str()),
-        None => Ok(()),
-    }
 }
 
 fn put_message(alloc: Global, out: &mut Vec<u8>, message: &Message) -> Result<(), Mem>

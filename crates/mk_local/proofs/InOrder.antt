@@ -2,15 +2,17 @@
 use Rattle.std.proofs.Common.{◌≡◌, ℕ, ◌+◌, ℤ, cond, List, [], ◌∷◌, ◌++◌, option_to_list, is_some, Option, Some, refl, sym, ap, ◌∙◌, arith, append_assoc}
 use Rattle.mk_base.specs.declared.json.Json.{Json}
 use Rattle.mk_base.specs.declared.tier.Tier.{Tier}
+use Rattle.mk_base.specs.Lists.{last_of}
 use Rattle.mk_plan.specs.declared.Plan.{Plan}
 use Rattle.mk_plan.specs.declared.Input.{Input}
 use Rattle.mk_plan.specs.declared.Item.{Item}
 use Rattle.mk_plan.specs.declared.Item.TheVariants.{Step, GetData, Answer, Refuse}
 use Rattle.mk_plan.specs.declared.Message.{Message}
 use Rattle.mk_plan.specs.declared.Message.TheVariants.{Success}
+use Rattle.mk_plan.specs.Sequential.{id_after}
 use Rattle.mk_local.specs.Data.{data_content}
 use Rattle.mk_local.specs.Replies.{after_item, after_items, item_reply, replies}
-use Rattle.mk_local.specs.Right.{AreBareRepliesSame, AreRightInOrder, Fits, id_after, last_of}
+use Rattle.mk_local.specs.Right.{AreBareRepliesSame, AreRightInOrder, Fits}
 use Rattle.mk_local.specs.Simulators.{Simulator}
 use Rattle.mk_local.specs.Steps.{after_step, step_content}
 use Rattle.mk_local.proofs.Replied.{data_replies, step_replies}
@@ -41,7 +43,7 @@ last_is (n ∷ k ∷ ms) m = last_is (k ∷ ms) m
 -- the last message is the reply to the last item
 last_reply : (L : Simulator) (id : ℕ) (before : List Item) (item : Item) (m : Message) → item_reply (after_items L before) (id_after id before) item ≡ Some m → last_of (replies L id (before ++ item ∷ [])) ≡ Some m
 last_reply L id before item m is =
-    ap last_of (replies_append L id before (item ∷ []) ∙ ap (λ (o : Option Message). replies L id before ++ (option_to_list o ++ [])) is)
+    ap (λ (l : List Message). last_of l) (replies_append L id before (item ∷ []) ∙ ap (λ (o : Option Message). replies L id before ++ (option_to_list o ++ [])) is)
     ∙ last_is (replies L id before) m
 
 -- what a plan asks of a simulator stays, whatever it is sent

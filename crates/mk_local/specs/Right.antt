@@ -1,15 +1,15 @@
 -- What makes the replies right at their places.
-use Rattle.std.specs.Prelude.{◌≡◌, ◌≢◌, ℕ, ◌+◌, Bool, true, false, List, [], ◌∷◌, ◌++◌, map, filter, length, codes, Option, Some, None, ℤ, FitsSigned}
+use Rattle.std.specs.Prelude.{◌≡◌, ◌≢◌, ℕ, ◌+◌, List, [], ◌∷◌, ◌++◌, map, codes, Some, None, ℤ, FitsSigned}
 use Rattle.std.specs.Int.{w64}
 use Rattle.mk_base.specs.declared.json.Json as tree
 use Rattle.mk_base.specs.Texts.{text_of}
 use Rattle.mk_base.specs.declared.tier.Tier.{Tier}
-use Rattle.mk_base.specs.Lists.{Each}
+use Rattle.mk_base.specs.Lists.{Each, last_of}
 use Rattle.mk_plan.specs.declared.Plan.{Plan}
 use Rattle.mk_plan.specs.declared.Input.{Input}
 use Rattle.mk_plan.specs.declared.Want.{Want}
 use Rattle.mk_plan.specs.declared.Item.{Item}
-use Rattle.mk_plan.specs.declared.Item.TheVariants.{Step, GetData, Answer, Refuse}
+use Rattle.mk_plan.specs.declared.Item.TheVariants.{Step, GetData}
 use Rattle.mk_plan.specs.declared.Message.{Message}
 use Rattle.mk_plan.specs.declared.Message.TheVariants.{Success}
 use Rattle.mk_plan.specs.declared.Place.{Place}
@@ -17,6 +17,7 @@ use Rattle.mk_plan.specs.declared.Place.TheVariants.{Stepping, Fetching}
 use Rattle.mk_plan.specs.Plans.{kind_of}
 use Rattle.mk_plan.specs.Journals.{bare}
 use Rattle.mk_plan.specs.Turns.{wanted, wrong}
+use Rattle.mk_plan.specs.Sequential.{id_after}
 use Rattle.mk_local.specs.Inputs.{number_in}
 use Rattle.mk_local.specs.Kinds.{type_of}
 use Rattle.mk_local.specs.Replies.{after_item, item_reply, replies}
@@ -43,23 +44,6 @@ AreDataRepliesRight = (P : Plan) (i : ℕ) (L : Simulator) → Fits P i L → (x
     (m : Message)
     → item_reply (after_item L (Step x inputs advance)) id (GetData asked) ≡ Some m
     → wrong P i (Fetching x id) m ≡ None
-
--- the item has an id of its own: it is a Step or a GetData
-abbrev pub takes_id : Item → Bool
-takes_id (Step at inputs advance) = true
-takes_id (GetData wanted) = true
-takes_id (Answer asked content) = false
-takes_id (Refuse asked reason) = false
-
--- the id that comes next after these items, which begin with this one
-abbrev pub id_after : ℕ → List Item → ℕ
-id_after id items = id + length (filter takes_id items)
-
--- the last of the messages
-abbrev pub last_of : List Message → Option Message
-last_of [] = None
-last_of (m ∷ []) = Some m
-last_of (m ∷ n ∷ ms) = last_of (n ∷ ms)
 
 -- what the simulator sent last after these items is a success with the id of the last of them, and
 -- right there

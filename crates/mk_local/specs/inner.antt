@@ -1,4 +1,3 @@
 -- What proofs alone need.
 pub mod Inputs
-pub mod Replies
 pub mod Steps

@@ -97,8 +97,8 @@ fn takes(turn: Turn, attr: &str) -> bool
     }
 }
 
-// The number that a value writes, or 0 where it writes no whole number within 64 bits.
-fn number_in(value: &Datum) -> i64
+/// The number that a value writes, or 0 where it writes no whole number within 64 bits.
+pub fn number_in(value: &Datum) -> i64
     ensures { result ≡ number_in value.now }
 {
     match std::str::from_utf8(value.bytes()) {

@@ -14,6 +14,7 @@ pub struct Kind {
 }
 
 impl Kind {
+    /// The kind whose entities take this turn, which the body computes.
     pub fn new(turn: Turn, body: Box<dyn Fn(EntityStep) -> EntityTurn>) -> Kind
         requires callable { (s : _) → IsAllowed turn s → pre body s }
         requires answers { (s : _) (t : _) → IsAllowed turn s → post body s t → t ≡ row turn s }

@@ -16,8 +16,10 @@ mod steps;
 mod trees;
 mod turn;
 
+pub use inputs::number_in;
 pub use kind::Kind;
 pub use laws::{metadata_is_accepted, numbers_are_read, replies_are_right};
+pub use params::whole_from_to;
 pub use registry::Registry;
 pub use sim::LocalSim;
 pub use turn::{

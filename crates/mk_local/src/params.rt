@@ -1,5 +1,5 @@
 // The parameters of `init` and `create`.
-ghost use Rattle.std.specs.Prelude.{◌≡◌, ◌≤ℤ◌, IfSome, is_some, option_map};
+ghost use Rattle.std.specs.Prelude.{◌≡◌, ◌≤ℤ◌, IfSome, option_map};
 ghost use Rattle.mk_local.specs.Calls.{as_setting, as_step, first_bad, is_create_param, is_init_param, params_in, setting_in, step_in, whole_from_to};
 ghost use Rattle.mk_local.specs.Rows.{IsStepOf};
 
@@ -104,8 +104,8 @@ fn as_setting(value: &Json) -> Option<i64>
     whole_from_to(-GREATEST_SETTING, GREATEST_SETTING, value)
 }
 
-// The whole number from the least to the most that the value is.
-fn whole_from_to(least: i64, most: i64, value: &Json) -> Option<i64>
+/// The whole number from the least to the most that the value is; `None` for any other value.
+pub fn whole_from_to(least: i64, most: i64, value: &Json) -> Option<i64>
     ensures same { result ≡ whole_from_to least most value.now }
     ensures in_range { IfSome result (λ n. (least ≤ℤ n) × (n ≤ℤ most)) }
 {

@@ -17,6 +17,7 @@ pub struct Registry {
 }
 
 impl Registry {
+    /// No kind.
     pub fn new(alloc: Global) -> Registry
         ensures { rows_in result ≡ [] }
     {

@@ -3,11 +3,11 @@ use Rattle.std.proofs.Common.{◌≡◌, ℕ, Bool, true, false, List, [], map, 
 use Rattle.mk_base.specs.declared.json.Json.{Json}
 use Rattle.mk_base.specs.Lists.{all_there}
 use Rattle.mk_base.specs.Texts.{text_of}
-use Rattle.mk_base.specs.Trees.{items_in, text_in, is_in_range}
+use Rattle.mk_base.specs.Trees.{items_in, text_in, is_in_range, texts_in}
 use Rattle.mk_base.proofs.Lists.{none_some}
 use Rattle.mk_plan.specs.declared.Input.{Input}
 use Rattle.mk_plan.specs.declared.Want.{Want}
-use Rattle.mk_plan.specs.Asks.{Named, Set, Get, members_by, datum_in, texts_in}
+use Rattle.mk_plan.specs.Asks.{Named, Set, Get, members_by, datum_in}
 use Rattle.mk_async.specs.Asked.{named_by}
 use Rattle.mk_async.specs.Forms.{each_passes, is_destinations, is_texts}
 use Rattle.mk_async.specs.inner.Given.{is_source, members_of}

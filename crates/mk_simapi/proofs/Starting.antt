@@ -3,8 +3,8 @@ use Rattle.std.proofs.Common.{◌≡◌, ℕ, ◌+◌, inl, inr, List, [], ◌�
 use Rattle.mk_base.specs.declared.LinkNo.{LinkNo}
 use Rattle.mk_base.specs.Lists.{IsIn}
 use Rattle.mk_base.proofs.Lists.{append_nil, in_back, some_same}
+use Rattle.mk_base.specs.Links.{without}
 use Rattle.mk_outside.specs.declared.fleet.LogEntry.{LogEntry}
-use Rattle.mk_outside.specs.Fleets.{without}
 use Rattle.mk_outside.specs.Logs.{Adds}
 use Rattle.mk_outside.proofs.OnLogs.{adds_more}
 use Rattle.mk_local.specs.declared.turn.Turn.{Turn}

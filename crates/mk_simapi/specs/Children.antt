@@ -1,8 +1,8 @@
 -- The words of a program that is one simulator, and how such a program ends.
 use Rattle.std.specs.Prelude.{◌≡◌, ℕ, ◌+◌, ◌⊎◌, List, [], ◌∷◌, ◌++◌, Option, Some, None, option_map, if◌then◌else◌}
 use Rattle.mk_base.specs.declared.LinkNo.{LinkNo}
+use Rattle.mk_base.specs.Links.{without}
 use Rattle.mk_outside.specs.declared.fleet.LogEntry.{LogEntry}
-use Rattle.mk_outside.specs.Fleets.{without}
 use Rattle.mk_outside.specs.Logs.{Adds}
 use Rattle.mk_scenario_keys.specs.Spelling.{port_of}
 use Rattle.mk_local.specs.declared.turn.Turn.{Turn}

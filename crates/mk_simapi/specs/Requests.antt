@@ -5,8 +5,8 @@ use Rattle.std.specs.List.{flat_map}
 use Rattle.mk_base.specs.declared.json.Json.{Json}
 use Rattle.mk_base.specs.Lists.{same_text}
 use Rattle.mk_base.specs.Texts.{text_of}
-use Rattle.mk_base.specs.Trees.{text_in, members_in}
-use Rattle.mk_plan.specs.Asks.{Named, argument, texts_in, members_by, datum_in}
+use Rattle.mk_base.specs.Trees.{text_in, members_in, texts_in}
+use Rattle.mk_plan.specs.Asks.{Named, argument, members_by, datum_in}
 use Rattle.mk_plan.specs.declared.Call.{Call}
 use Rattle.mk_plan.specs.declared.Call.TheVariants.{Init, Create, SetupDone, Stop}
 use Rattle.mk_plan.specs.declared.Input.{Input}

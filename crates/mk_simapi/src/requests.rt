@@ -1,15 +1,15 @@
 // What a request asks for, by its function and its arguments.
-ghost use Rattle.std.specs.Prelude.{◌≡◌, ◌≤ℤ◌, true, IfOk, IfSome, option_map};
+ghost use Rattle.std.specs.Prelude.{◌≡◌, true, IfOk, IfSome, option_map};
 ghost use Rattle.std.specs.List.{list_all};
 ghost use Rattle.mk_base.specs.Trees.{is_in_range};
 ghost use Rattle.mk_plan.specs.Asks.{argument};
-ghost use Rattle.mk_local.specs.Calls.{whole_from_to};
 ghost use Rattle.mk_local.specs.Replies.{IsItemReplied};
 ghost use Rattle.mk_simapi.specs.Requests.{bare_in, call_in, create_in, create_of, data_in, init_in, item_in, step_in, step_of};
 
 use crate::forms::{is_bare, is_unnamed};
 use crate::gathering::{inputs_in, wants_in};
 use mk_base::{Json, List, Mem, Text, Tier};
+use mk_local::whole_from_to;
 use mk_plan::{Call, Item};
 use std::alloc::Global;
 
@@ -158,22 +158,5 @@ fn argument<'a>(args: &'a List<Json>, named: &Json) -> Option<&'a Json>
     match args.as_slice() {
         [tree] => Some(tree),
         _ => None,
-    }
-}
-
-// The whole number from the least to the most that the value is.
-fn whole_from_to(least: i64, most: i64, value: &Json) -> Option<i64>
-    ensures same { result ≡ whole_from_to least most value.now }
-    ensures in_range { IfSome result (λ n. (least ≤ℤ n) × (n ≤ℤ most)) }
-{
-    match value.as_whole() {
-        Some(n) => {
-            if least as i128 <= n && n <= most as i128 {
-                Some(n as i64)
-            } else {
-                None
-            }
-        }
-        None => None,
     }
 }

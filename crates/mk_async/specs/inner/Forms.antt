@@ -2,8 +2,8 @@
 use Rattle.std.specs.Prelude.{ℕ, List, [], ◌∷◌, map, Option, Some, None, is_some, option_map, if◌then◌else◌}
 use Rattle.mk_base.specs.declared.json.Json.{Json}
 use Rattle.mk_base.specs.Lists.{all_there}
-use Rattle.mk_base.specs.Trees.{text_in}
-use Rattle.mk_plan.specs.Asks.{Request, Get, Set, Related, RelatedOfEach, texts_in, members_by, datum_in}
+use Rattle.mk_base.specs.Trees.{text_in, texts_in}
+use Rattle.mk_plan.specs.Asks.{Request, Get, Set, Related, RelatedOfEach, members_by, datum_in}
 use Rattle.mk_async.specs.Asked.{named_by}
 
 -- the one item

@@ -5,7 +5,6 @@ use Rattle.mk_base.specs.declared.tier.Tier.{Tier}
 use Rattle.mk_base.specs.Lists.{IsIn}
 use Rattle.mk_plan.specs.declared.Message.{Message}
 use Rattle.mk_plan.specs.declared.Entry.{Entry}
-use Rattle.mk_plan.specs.declared.Entry.TheVariants.{Sent, Got}
 use Rattle.mk_plan.specs.Acts.{Said, Told, Heard}
 use Rattle.mk_blame.specs.declared.parting.Parting.{Parting}
 use Rattle.mk_blame.specs.declared.parting.Parting.TheVariants as partings
@@ -17,11 +16,6 @@ use Rattle.mk_blame.specs.Verdicts.{IsBlamedBy, IsBlamed, AreEqual, SomeDiffer, 
 abbrev pub is_message : Said → Bool
 is_message (Told item) = false
 is_message (Heard m) = true
-
--- the simulator of an entry
-abbrev pub sim_of : Entry → ℕ
-sim_of (Sent s item) = s.0
-sim_of (Got s m) = s.0
 
 -- for each of so many simulators the entries with it, in order
 pub record AreTalks (count : ℕ) (J : List Entry) (talks : List (List Entry)) : Type 0 where

@@ -3,10 +3,10 @@ use Rattle.std.specs.Prelude.{ℕ, List, [], map, Option, option_map, unwrap_or}
 use Rattle.std.specs.List.{flat_map}
 use Rattle.mk_base.specs.declared.json.Json.{Json}
 use Rattle.mk_base.specs.Texts.{text_of}
-use Rattle.mk_base.specs.Trees.{text_in, items_in}
+use Rattle.mk_base.specs.Trees.{text_in, items_in, texts_in}
 use Rattle.mk_plan.specs.declared.Input.{Input}
 use Rattle.mk_plan.specs.declared.Want.{Want}
-use Rattle.mk_plan.specs.Asks.{texts_in, members_by, datum_in}
+use Rattle.mk_plan.specs.Asks.{members_by, datum_in}
 use Rattle.mk_async.specs.Asked.{named_by}
 use Rattle.mk_async.specs.inner.Given.{members_of}
 use Rattle.mk_async.specs.inner.Known.{Members}
