@@ -4,6 +4,7 @@ use Rattle.std.specs.Prelude.{IsTrue}
 use Rattle.std.proofs.lemmas.Bool.{and_parts}
 use Rattle.mk_base.specs.Lists.{Each, same_text}
 use Rattle.mk_base.proofs.Lists.{at_in, below_get, get_is, in_each, some_same}
+use Rattle.mk_base.specs.Names.{is_eid}
 use Rattle.mk_plan.specs.declared.Conn.{Conn}
 use Rattle.mk_plan.specs.declared.Plan.{Plan}
 use Rattle.mk_plan.specs.declared.PlanEntity.{PlanEntity}
@@ -12,7 +13,6 @@ use Rattle.mk_plan.specs.Plans.{HasDistinctNames, dot}
 use Rattle.mk_meta.specs.declared.meta.Meta.{Meta}
 use Rattle.mk_entities.specs.declared.entities.EntityInfo.{EntityInfo}
 use Rattle.mk_entities.specs.Creation.{number_of}
-use Rattle.mk_entities.specs.Descriptions.{is_eid}
 use Rattle.mk_entities.specs.Sound.{AreSound, IsSound}
 use Rattle.mk_entities.specs.Tied.{IsFound}
 use Rattle.mk_scenario.specs.declared.parts.Scenario.{Scenario}

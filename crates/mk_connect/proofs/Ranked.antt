@@ -6,6 +6,7 @@ use Rattle.std.proofs.lemmas.List.Sums.{length-filter}
 use Rattle.mk_base.specs.declared.tier.Via.TheVariants.{Plain}
 use Rattle.mk_base.specs.Lists.{IsIn}
 use Rattle.mk_base.proofs.Lists.{at_in, below_get, each_in, flat_map_in, get_is, in_each, in_either, in_flat_map}
+use Rattle.mk_base.specs.Tiers.{is_plain}
 use Rattle.mk_plan.specs.declared.AsyncPair.{AsyncPair}
 use Rattle.mk_plan.specs.declared.Conn.{Conn}
 use Rattle.mk_plan.specs.declared.Plan.{Plan}
@@ -25,7 +26,7 @@ use Rattle.mk_scenario.specs.Wellformed.{IsWellformed, IsWellformedBlock}
 use Rattle.mk_connect.specs.Asyncs.{asyncs_in, asyncs_of, pair_put, same_pair}
 use Rattle.mk_connect.specs.ByPlace.{by_place}
 use Rattle.mk_connect.specs.Complete.{IsComplete, IsOfModel}
-use Rattle.mk_connect.specs.Edges.{edges_in, edges_of, is_ordering, is_plain, sim_at}
+use Rattle.mk_connect.specs.Edges.{edges_in, edges_of, is_ordering, sim_at}
 use Rattle.mk_connect.specs.Made.{number_at, plan_sim, plan_with}
 use Rattle.mk_connect_pairs.specs.Models.{models_of}
 use Rattle.mk_connect.proofs.Below.{place_below}

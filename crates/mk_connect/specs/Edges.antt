@@ -1,7 +1,6 @@
 -- Which simulators a scenario's connections put before which.
-use Rattle.std.specs.Prelude.{ℕ, Bool, true, false, not, ◌||◌, ◌&&◌, ◌==◌, List, [], ◌∷◌, length, flat_map, option_map, unwrap_or, slice_get, if◌then◌else◌}
-use Rattle.mk_base.specs.declared.tier.Via.{Via}
-use Rattle.mk_base.specs.declared.tier.Via.TheVariants.{Plain, Shift, Weak}
+use Rattle.std.specs.Prelude.{ℕ, Bool, not, ◌||◌, ◌&&◌, ◌==◌, List, [], ◌∷◌, length, flat_map, option_map, unwrap_or, slice_get, if◌then◌else◌}
+use Rattle.mk_base.specs.Tiers.{is_plain}
 use Rattle.mk_cycles.specs.declared.ranking.Edge.{Edge}
 use Rattle.mk_cycles.specs.Edges.{edge}
 use Rattle.mk_scenario.specs.declared.parts.Group.{Group}
@@ -19,11 +18,6 @@ abbrev pub sim_at : List Group → Place → ℕ
 sim_at groups (Whole n) = sim_of_group groups n
 sim_at groups (One n i) = sim_of_group groups n
 sim_at groups (Full sim eid) = sim.0
-
-abbrev pub is_plain : Via → Bool
-is_plain Plain = true
-is_plain (Shift d) = false
-is_plain Weak = false
 
 -- the left side has to come first: the block is asynchronous, or it is plain and connects
 -- attributes

@@ -1,5 +1,5 @@
 //! The asynchronous pairs of simulators, each once, at the first block that asks for it.
-ghost use Rattle.std.specs.Prelude.{◌≡◌, [], flat_map, fold, map, IfOk, OnOk, IfErr};
+ghost use Rattle.std.specs.Prelude.{◌≡◌, [], fold, map, IfOk, OnOk};
 ghost use Rattle.mk_connect.specs.Asyncs.{asyncs_in, asyncs_of, pair_put};
 
 use crate::ordering::sim_at;

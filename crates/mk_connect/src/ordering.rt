@@ -1,8 +1,9 @@
 //! Which simulators a scenario's connections put before which: what ranks rise along.
-ghost use Rattle.std.specs.Prelude.{◌≡◌, ◌++◌, ◌||◌, ◌&&◌, not, length, slice_get, option_map, unwrap_or, IfOk, OnOk, OnErr};
+ghost use Rattle.std.specs.Prelude.{◌≡◌, ◌++◌, ◌||◌, ◌&&◌, length, IfOk, OnOk};
+ghost use Rattle.mk_base.specs.Tiers.{is_plain};
 ghost use Rattle.mk_cycles.specs.Edges.{EndsBelow};
 ghost use Rattle.mk_scenario.specs.Wellformed.{IsWellformed};
-ghost use Rattle.mk_connect.specs.Edges.{edges_in, edges_of, is_ordering, is_plain, sim_at, sim_of_group};
+ghost use Rattle.mk_connect.specs.Edges.{edges_in, edges_of, is_ordering, sim_at, sim_of_group};
 
 use mk_base::{List, Mem, SimNo, Via};
 use mk_cycles::Edge;
@@ -63,6 +64,8 @@ pub fn sim_at(groups: &[Group], place: &Place) -> SimNo
     }
 }
 
+// The simulator of a group. A scenario's places name groups that are there; else simulator 0, which
+// the definition says too.
 fn sim_of_group(groups: &[Group], group: u32) -> SimNo
     ensures { result.0 ≡ sim_of_group groups.now group }
 {

@@ -60,6 +60,7 @@ fn copied(alloc: Global, times: &List<i64>) -> Result<List<i64>, Mem>
     Ok(List::from_vec(times.as_slice().iter().copied().collect(alloc)?))
 }
 
+// The type of a simulator, time-based where its metadata isn't there.
 fn kind_at(metas: &List<Meta>, s: usize) -> SimKind
     ensures { result ≡ kind_at metas.now s }
 {
@@ -69,6 +70,7 @@ fn kind_at(metas: &List<Meta>, s: usize) -> SimKind
     }
 }
 
+// The first id of a simulator, 0 where none is told.
 fn first_id_at(first_ids: &[u64], s: usize) -> u64
     ensures { result ≡ number_at first_ids.now s }
 {
@@ -78,6 +80,7 @@ fn first_id_at(first_ids: &[u64], s: usize) -> u64
     }
 }
 
+// The rank of a simulator, 0 where none is told.
 fn rank_at(ranks: &List<u32>, s: usize) -> u32
     ensures { result ≡ number_at ranks.now s }
 {

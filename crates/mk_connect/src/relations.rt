@@ -1,5 +1,5 @@
 //! Which entities are related: one names the other or has it as its child, or a block pairs them.
-ghost use Rattle.std.specs.Prelude.{◌≡◌, ◌<◌, ℕ, [], List, ◌∷◌, flat_map, fold, length, map, IfOk, OnOk};
+ghost use Rattle.std.specs.Prelude.{◌≡◌, ◌<◌, ℕ, [], List, flat_map, fold, length, map, IfOk, OnOk};
 ghost use Rattle.std.specs.List.{range_with_len};
 ghost use Rattle.std.specs.Ordering.{nat_cmp};
 ghost use Rattle.std.specs.BTreeSet.{insert_key};
@@ -11,7 +11,7 @@ ghost use Rattle.mk_connect.specs.Related.{own_pairs, pairs_of, related};
 
 use mk_base::{List, Mem};
 use mk_connect_pairs::{Study, block_pairs};
-use mk_entities::EntityInfo;
+use mk_entities::{EntityInfo, listed};
 use mk_scenario::Block;
 use std::alloc::Global;
 use std::collections::BTreeSet;
@@ -55,16 +55,6 @@ impl Numbers {
     {
         listed(alloc, &self.kept)
     }
-}
-
-fn listed(alloc: Global, numbers: &BTreeSet<u32>) -> Result<List<u32>, Mem>
-    ensures { IfOk result (λ list. list ≡ numbers.now.keys) }
-{
-    let mut list = List::new(alloc);
-    for number in numbers.iter() {
-        list.push(*number)?;
-    }
-    Ok(list)
 }
 
 // The numbers of the entities that each entity is related to.

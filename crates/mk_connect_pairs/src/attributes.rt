@@ -1,5 +1,5 @@
 //! What an entity's model says of an attribute.
-ghost use Rattle.std.specs.Prelude.{◌≡◌, option_map, not};
+ghost use Rattle.std.specs.Prelude.{◌≡◌, option_map};
 ghost use Rattle.mk_connect_pairs.specs.Models.{has_attr, is_persistent, is_triggering, keeps_attr, model_at, says, takes_attr, triggers_by};
 
 use crate::models::SimModel;

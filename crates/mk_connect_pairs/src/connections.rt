@@ -1,5 +1,5 @@
 //! The connections that a scenario makes, or the first test that one of them fails.
-ghost use Rattle.std.specs.Prelude.{◌≡◌, ◌++◌, ◌∷◌, [], Ok, None, true, not, is_some, length, option_and_then, option_map, IfOk, IfErr, false};
+ghost use Rattle.std.specs.Prelude.{◌≡◌, ◌++◌, ◌∷◌, [], Ok, None, true, length, IfOk, IfErr, false};
 ghost use Rattle.std.specs.List.{list_any};
 ghost use Rattle.mk_base.specs.Trees.{is_datum, is_in_range};
 ghost use Rattle.mk_base.specs.Lists.{Each};
@@ -307,6 +307,7 @@ fn initial_text(alloc: Global, initial: &Json, attr: &Text) -> Result<Option<Dat
     }
 }
 
+// The text of an initial value: it is a datum in range, so nothing but memory can be wanting.
 fn datum_of(alloc: Global, value: &Json) -> Result<Datum, Mem>
     requires in_range { is_in_range value.now ≡ true }
     requires value { is_datum value.now ≡ true }

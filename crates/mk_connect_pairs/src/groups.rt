@@ -4,7 +4,7 @@ ghost use Rattle.std.specs.List.{find};
 ghost use Rattle.mk_scenario.specs.Wellformed.{IsWellformed};
 ghost use Rattle.mk_base.specs.declared.json.Json.{Json};
 ghost use Rattle.mk_scenario_keys.specs.Keys.{first_unknown, is_among};
-ghost use Rattle.mk_connect_pairs.specs.Groups.{fault_of_group, group_fault, id_of_sim, model_fault, model_named, param_fault};
+ghost use Rattle.mk_connect_pairs.specs.Groups.{fault_of_group, group_fault, id_of_sim, model_named, param_fault};
 
 use crate::fault::ConnectFault;
 use crate::texts::{Texts, texts_of};

@@ -1,5 +1,5 @@
 //! The entities of each group.
-ghost use Rattle.std.specs.Prelude.{◌≡◌, ◌≤◌, ◌<◌, ◌^◌, [], length, IfOk, OnOk};
+ghost use Rattle.std.specs.Prelude.{◌≡◌, ◌≤◌, ◌<◌, [], length, IfOk, OnOk};
 ghost use Rattle.mk_entities.specs.Creation.{most_entities};
 ghost use Rattle.mk_connect_pairs.specs.Lookups.{HasMembers};
 ghost use Rattle.mk_connect_pairs.specs.inner.Lookups.{HasMember};

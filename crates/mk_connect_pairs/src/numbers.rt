@@ -1,9 +1,9 @@
 //! The models of all simulators in order, found by simulator and name.
-ghost use Rattle.std.specs.Prelude.{◌≡◌, ◌++◌, ◌∷◌, [], length, map, option_map, position, slice_get, IfOk, OnOk, None};
+ghost use Rattle.std.specs.Prelude.{◌≡◌, ◌++◌, ◌∷◌, [], map, option_map, position, slice_get, IfOk, OnOk, None};
 ghost use Rattle.std.specs.Map.{lookup};
 ghost use Rattle.std.specs.String.{string_bytes};
 ghost use Rattle.mk_connect_pairs.specs.inner.Lookups.{HasNumbers, IsKeyOf, is_key};
-ghost use Rattle.mk_connect_pairs.specs.Models.{is_model, models_of, models_from, model_number, sim_model};
+ghost use Rattle.mk_connect_pairs.specs.Models.{is_model, models_of, model_number, sim_model};
 
 use crate::models::SimModel;
 use crate::texts::{Texts, texts_of};
@@ -140,6 +140,7 @@ fn number(
             numbers.insert(key, place)?;
             Ok(())
         }
+        // So many models as have no number aren't kept.
         Err(_) => Err(Mem),
     }
 }
@@ -157,6 +158,7 @@ pub fn models_of(alloc: Global, metas: &List<Meta>) -> Result<Models, Mem>
     Ok(models)
 }
 
+// The number of a simulator. So many metadata as have no number aren't kept.
 fn sim_no(sim: usize) -> Result<SimNo, Mem>
     ensures { IfOk result (λ no. no.0 ≡ sim) }
 {

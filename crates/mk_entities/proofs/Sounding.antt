@@ -12,13 +12,14 @@ use Rattle.mk_base.specs.declared.json.Json.{Json}
 use Rattle.mk_base.specs.Lists.{Each}
 use Rattle.mk_base.specs.Trees.{items_in, member, nesting, text_in}
 use Rattle.mk_base.proofs.Lists.{none_some, some_same}
+use Rattle.mk_base.specs.Names.{is_eid}
 use Rattle.mk_meta.specs.declared.meta.Meta.{Meta}
 use Rattle.mk_entities.specs.declared.described.Described.{Described}
 use Rattle.mk_entities.specs.declared.entities.EntityInfo.{EntityInfo}
 use Rattle.mk_entities.specs.declared.fault.CreateFault.{CreateFault}
 use Rattle.mk_entities.specs.declared.fault.CreateFault.TheVariants.{NoEid, TwiceEid, OfType, TooMany}
 use Rattle.mk_entities.specs.Creation.{added, entity_fault, found, has_number, has_type, held, most_entities}
-use Rattle.mk_entities.specs.Descriptions.{below, children_in, described, eid_in, family, if_eid, is_eid, list_under}
+use Rattle.mk_entities.specs.Descriptions.{below, children_in, described, eid_in, family, if_eid, list_under}
 use Rattle.mk_entities.specs.inner.Making.{fault_at, first_fault, named_from, number_in}
 use Rattle.mk_entities.specs.Sound.{AreSound, IsSound}
 use Rattle.mk_entities.proofs.Distinct.{none_at}

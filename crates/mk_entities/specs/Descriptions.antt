@@ -1,8 +1,9 @@
 -- What a reply to `create` describes.
-use Rattle.std.specs.Prelude.{ℕ, suc, zero, Bool, true, false, not, ◌&&◌, codes, List, [], ◌∷◌, map, filter_map, flat_map, Option, Some, None, is_some, option_and_then, unwrap_or, if◌then◌else◌}
+use Rattle.std.specs.Prelude.{ℕ, suc, zero, Bool, true, false, codes, List, [], ◌∷◌, map, filter_map, flat_map, Option, Some, None, is_some, option_and_then, unwrap_or, if◌then◌else◌}
 use Rattle.mk_base.specs.declared.json.Json.{Json, Json-F, out-Json}
-use Rattle.mk_base.specs.Lists.{same_text, all_there}
+use Rattle.mk_base.specs.Lists.{all_there}
 use Rattle.mk_base.specs.Trees.{text_in, items_in, member, nesting}
+use Rattle.mk_base.specs.Names.{is_eid}
 use Rattle.mk_meta.specs.Metadata.{unless_missing}
 use Rattle.mk_entities.specs.declared.described.Described.{Described}
 
@@ -27,10 +28,6 @@ texts_under name tree = option_and_then (λ (items : List Json). all_there (map 
 -- what is described under `children`
 abbrev pub children_in : Json → List Json
 children_in tree = unwrap_or (list_under (codes "children") tree) []
-
--- a text that may be an eid: neither empty nor `time`
-abbrev pub is_eid : List ℕ → Bool
-is_eid text = not (same_text text []) && not (same_text text (codes "time"))
 
 abbrev pub if_eid : List ℕ → Option (List ℕ)
 if_eid text = if is_eid text then Some text else None

@@ -3,8 +3,8 @@ use Rattle.std.specs.Prelude.{ℕ, ◌<◌, IsTrue, List, length}
 use Rattle.std.specs.List.Sorted.{IsStrictlySortedBy}
 use Rattle.std.specs.Ordering.{nat_cmp}
 use Rattle.mk_base.specs.Lists.{Each}
+use Rattle.mk_base.specs.Names.{is_eid}
 use Rattle.mk_entities.specs.declared.entities.EntityInfo.{EntityInfo}
-use Rattle.mk_entities.specs.Descriptions.{is_eid}
 
 -- one of so many entities has a proper eid, and is related to some of them, named in rising order
 pub record IsSound (count : ℕ) (entity : EntityInfo) : Type 0 where

@@ -1,11 +1,11 @@
 // A reply's entities, depth first.
-ghost use Rattle.std.specs.Prelude.{◌≡◌, ◌++◌, [], false, map, codes, filter_map, flat_map, IfOk, OnOk, option_and_then};
+ghost use Rattle.std.specs.Prelude.{◌≡◌, ◌++◌, [], false, map, filter_map, flat_map, IfOk, OnOk};
 ghost use Rattle.std.specs.List.{cons_option};
 ghost use Rattle.mk_base.specs.Lists.{all_there};
 ghost use Rattle.mk_base.specs.Trees.{text_in};
 ghost use Rattle.mk_entities.specs.Descriptions.{described, eid_in, family, texts_under};
 
-use crate::trees::{children_of, copied, eid_of, list_under, text_at, text_of};
+use crate::trees::{children_of, copied, eid_of, list_under, text_at};
 use mk_base::{Json, List, Mem, Text};
 use std::alloc::Global;
 
@@ -79,7 +79,7 @@ fn texts_among(alloc: Global, items: &[Json]) -> Result<Option<List<Text>>, Mem>
 {
     let mut found = List::new(alloc);
     for item in items {
-        let Some(text) = text_of(item) else {
+        let Some(text) = item.as_text() else {
             return Ok(None);
         };
         found.push(text.copy()?)?;

@@ -100,6 +100,7 @@ impl Entities {
         )
     }
 
+    /// How many entities there are.
     pub fn len(&self) -> usize
         ensures len { result ≡ length self.now }
         ensures few { length self.now ≤ most_entities }

@@ -10,3 +10,4 @@ mod trees;
 
 pub use entities::{Entities, EntityInfo};
 pub use fault::CreateFault;
+pub use making::listed;

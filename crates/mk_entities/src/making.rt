@@ -311,7 +311,8 @@ fn put_number(number: Option<u32>, into: &mut BTreeSet<u32>) -> Result<(), Mem>
     Ok(())
 }
 
-fn listed(alloc: Global, numbers: &BTreeSet<u32>) -> Result<List<u32>, Mem>
+/// The numbers of a set, in their order.
+pub fn listed(alloc: Global, numbers: &BTreeSet<u32>) -> Result<List<u32>, Mem>
     ensures { IfOk result (λ list. list ≡ numbers.now.keys) }
 {
     let mut list = List::new(alloc);

@@ -1,30 +1,17 @@
 // What the members of a description are.
-ghost use Rattle.std.specs.Prelude.{◌≡◌, [], codes, unwrap_or, IfOk, option_map, option_and_then};
+ghost use Rattle.std.specs.Prelude.{◌≡◌, [], unwrap_or, IfOk, option_map, option_and_then};
 ghost use Rattle.mk_base.specs.Trees.{items_in, member, text_in};
-ghost use Rattle.mk_entities.specs.Descriptions.{children_in, eid_in, if_eid, is_eid, list_in, list_under};
+ghost use Rattle.mk_base.specs.Names.{is_eid};
+ghost use Rattle.mk_entities.specs.Descriptions.{children_in, eid_in, if_eid, list_in, list_under};
 
 use mk_base::{Json, Mem, Text};
-
-pub fn text_of(tree: &Json) -> Option<&Text>
-    ensures { option_map (λ t. t.now) result ≡ text_in tree.now }
-{
-    match tree {
-        Json::Null => None,
-        Json::Bool(_) => None,
-        Json::Whole(_) => None,
-        Json::Odd => None,
-        Json::Text(text) => Some(text),
-        Json::List(_) => None,
-        Json::Object(_) => None,
-    }
-}
 
 // The text under this name.
 pub fn text_at<'a>(tree: &'a Json, name: &str) -> Option<&'a Text>
     ensures { option_map (λ t. t.now) result ≡ option_and_then text_in (member name.now tree.now) }
 {
     match tree.member(name) {
-        Some(value) => text_of(value),
+        Some(value) => value.as_text(),
         None => None,
     }
 }
@@ -33,14 +20,9 @@ pub fn text_at<'a>(tree: &'a Json, name: &str) -> Option<&'a Text>
 pub fn items_of(tree: &Json) -> &[Json]
     ensures { result.now ≡ unwrap_or (items_in tree.now) [] }
 {
-    match tree {
-        Json::Null => &[],
-        Json::Bool(_) => &[],
-        Json::Whole(_) => &[],
-        Json::Odd => &[],
-        Json::Text(_) => &[],
-        Json::List(items) => items.as_slice(),
-        Json::Object(_) => &[],
+    match tree.as_list() {
+        Some(items) => items.as_slice(),
+        None => &[],
     }
 }
 

@@ -4,8 +4,8 @@ use Rattle.std.proofs.Math.Seq.{drop-cons}
 use Rattle.std.proofs.lemmas.List.{take_more, take-append-drop, map-append}
 use Rattle.std.specs.Prelude.{option_map}
 use Rattle.mk_base.specs.Lists.{all_there}
+use Rattle.mk_base.specs.Verdicts.{before, all_well}
 use Rattle.mk_meta.specs.declared.fault.MetaFault.{MetaFault}
-use Rattle.mk_meta.specs.Metadata.{before, all_well}
 
 swapped : {X : Type 0} (x y : X) (r : Option (List X)) → option_map (λ ys. y ∷ ys) (option_map (λ ys. ys ++ x ∷ []) r) ≡ option_map (λ ys. ys ++ x ∷ []) (option_map (λ ys. y ∷ ys) r)
 swapped x y None = refl

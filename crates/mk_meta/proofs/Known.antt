@@ -5,12 +5,13 @@ use Rattle.std.specs.List.{find}
 use Rattle.mk_base.specs.declared.SimKind.{SimKind}
 use Rattle.mk_base.specs.declared.SimKind.TheVariants.{TimeBased, EventBased, Hybrid}
 use Rattle.mk_base.specs.declared.json.Json.{Json}
-use Rattle.mk_base.specs.Lists.{Each}
-use Rattle.mk_base.specs.Trees.{bool_in, is_object, member}
+use Rattle.mk_base.specs.Lists.{Each, is_among}
+use Rattle.mk_base.specs.Trees.{bool_in, is_object, member, texts_in}
+use Rattle.mk_base.specs.Verdicts.{held, no_text, before, all_well}
 use Rattle.mk_meta.specs.declared.meta.ModelMeta.{ModelMeta}
 use Rattle.mk_meta.specs.declared.fault.MetaFault.{MetaFault}
 use Rattle.mk_meta.specs.declared.fault.MetaFault.TheVariants.{Model, TriggerUnknown}
-use Rattle.mk_meta.specs.Metadata.{HasKnownAttrs, all_well, before, first_unknown, found, held, hybrid_texts, is_among, is_hybrid, model_in, no_text, texts_in, unless_missing, with_known}
+use Rattle.mk_meta.specs.Metadata.{HasKnownAttrs, first_unknown, found, hybrid_texts, is_hybrid, model_in, unless_missing, with_known}
 
 ok_same : {X : Type 0} (r : Result X MetaFault) (x y : X) → r ≡ Ok x → r ≡ Ok y → x ≡ y
 ok_same r x y is also = cc

@@ -1,12 +1,14 @@
 -- The metadata that a reply to `init` has, or the first test that it fails.
-use Rattle.std.specs.Prelude.{◌≡◌, IsTrue, ℕ, Bool, true, false, ◌==◌, not, codes, nat_le, ◌≤◌, List, [], ◌∷◌, map, length, Option, Some, None, option_and_then, unwrap_or, Result, Ok, Err, if◌then◌else◌}
-use Rattle.std.specs.List.{find, list_any, before_first}
+use Rattle.std.specs.Prelude.{◌≡◌, IsTrue, ℕ, Bool, true, false, ◌==◌, not, codes, nat_le, ◌≤◌, List, [], map, length, Option, Some, None, option_and_then, unwrap_or, Result, Ok, Err, if◌then◌else◌}
+use Rattle.std.specs.List.{find, before_first}
 use Rattle.std.specs.List.Sorted.{IsStrictlySortedBy}
 use Rattle.mk_base.specs.declared.SimKind.{SimKind}
 use Rattle.mk_base.specs.declared.SimKind.TheVariants.{TimeBased, EventBased, Hybrid}
 use Rattle.mk_base.specs.declared.json.Json.{Json}
-use Rattle.mk_base.specs.Lists.{same_text, text_order, all_there, Each}
-use Rattle.mk_base.specs.Trees.{bool_in, text_in, items_in, members_in, is_object, member}
+use Rattle.mk_base.specs.Lists.{same_text, text_order, Each, is_among}
+use Rattle.mk_base.specs.Trees.{bool_in, text_in, members_in, is_object, member, texts_in}
+use Rattle.mk_base.specs.Names.{kind_named}
+use Rattle.mk_base.specs.Verdicts.{held, no_text, all_well}
 use Rattle.mk_meta.specs.declared.meta.ModelMeta.{ModelMeta}
 use Rattle.mk_meta.specs.declared.meta.Meta.{Meta}
 use Rattle.mk_meta.specs.declared.fault.MetaFault.{MetaFault}
@@ -17,32 +19,6 @@ abbrev pub found : {A B : Type 0} → MetaFault → Option A → (A → Result B
     → Result B MetaFault
 found fault None next = Err fault
 found fault (Some x) next = next x
-
--- what follows a test that holds, and the fault where it doesn't
-abbrev pub held : {B : Type 0} → MetaFault → Bool → Result B MetaFault → Result B MetaFault
-held fault holds next = if holds then next else Err fault
-
--- what follows a test that no text fails, and the fault of the one that does
-abbrev pub no_text : {B : Type 0} → (List ℕ → MetaFault) → Option (List ℕ) → Result B MetaFault
-    → Result B MetaFault
-no_text fault None next = next
-no_text fault (Some text) next = Err (fault text)
-
--- one item before the others, unless there is a fault among these
-abbrev pub before : {B : Type 0} → B → Result (List B) MetaFault → Result (List B) MetaFault
-before x (Ok xs) = Ok (x ∷ xs)
-before x (Err fault) = Err fault
-
--- what the items give, or the first fault among them
-abbrev pub all_well : {B : Type 0} → List (Result B MetaFault) → Result (List B) MetaFault
-all_well [] = Ok []
-all_well (Err fault ∷ more) = Err fault
-all_well (Ok x ∷ more) = before x (all_well more)
-
--- the list of texts that the tree is
-abbrev pub texts_in : Json → Option (List (List ℕ))
-texts_in tree = option_and_then (λ (items : List Json). all_there (map text_in items))
-    (items_in tree)
 
 -- what is read of a member, or what stands for it where it is missing
 abbrev pub unless_missing : {A : Type 0} → A → (Json → Option A) → Option Json → Option A
@@ -56,12 +32,6 @@ version_in reply = option_and_then text_in (member (codes "api_version") reply)
 -- what stands before the version's first dot, or all of it, is 3
 abbrev pub is_version_three : List ℕ → Bool
 is_version_three version = same_text (before_first (λ b. b == 46) version) (codes "3")
-
--- the type of simulator that a word names
-abbrev pub kind_named : List ℕ → Option SimKind
-kind_named word = if same_text word (codes "time-based") then Some TimeBased
-    else if same_text word (codes "event-based") then Some EventBased
-    else if same_text word (codes "hybrid") then Some Hybrid else None
 
 -- the type of the simulator, time-based where it is missing
 abbrev pub kind_in : Json → Option SimKind
@@ -95,10 +65,6 @@ is_hybrid Hybrid = true
 abbrev pub hybrid_texts : SimKind → List ℕ → Json → Option (List (List ℕ))
 hybrid_texts kind name tree = if is_hybrid kind then unless_missing [] texts_in (member name tree)
     else Some []
-
--- the text is one of these
-abbrev pub is_among : List (List ℕ) → List ℕ → Bool
-is_among texts text = list_any (λ t. same_text t text) texts
 
 -- the first of the texts that isn't an attribute
 abbrev pub first_unknown : List (List ℕ) → List (List ℕ) → Option (List ℕ)

@@ -2,7 +2,9 @@
 ghost use Rattle.std.specs.Prelude.{◌≡◌, map, IfOk, IfErr, IfSome, ◌≤◌, length, Ok, Err, ◌⊎◌, option_map, option_and_then};
 ghost use Rattle.mk_base.specs.Lists.{Each, same_text};
 ghost use Rattle.mk_base.specs.Trees.{members_in};
-ghost use Rattle.mk_meta.specs.Metadata.{HasKnownAttrs, IsListed, most_models, all_well, is_version_three, kind_in, few_enough, kind_named, meta_in, model_in, models_in, type_text, version_in};
+ghost use Rattle.mk_base.specs.Names.{kind_named};
+ghost use Rattle.mk_base.specs.Verdicts.{all_well};
+ghost use Rattle.mk_meta.specs.Metadata.{HasKnownAttrs, IsListed, most_models, is_version_three, kind_in, few_enough, meta_in, model_in, models_in, type_text};
 ghost use Rattle.mk_meta.specs.declared.fault.MetaFault.TheVariants as fault;
 
 use crate::fault::MetaFault;
@@ -135,14 +137,9 @@ fn few_members_of(tree: &Json) -> Option<&Members<Json>>
         ≡ option_and_then few_enough (members_in tree.now) }
     ensures few { IfSome result (λ ms. length ms.now ≤ most_models) }
 {
-    match tree {
-        Json::Null => None,
-        Json::Bool(_) => None,
-        Json::Whole(_) => None,
-        Json::Odd => None,
-        Json::Text(_) => None,
-        Json::List(_) => None,
-        Json::Object(members) => few_enough(members),
+    match tree.as_object() {
+        Some(members) => few_enough(members),
+        None => None,
     }
 }
 

@@ -1,6 +1,7 @@
 // The tests of a model's description.
 ghost use Rattle.std.specs.Prelude.{◌≡◌, None, IfOk, Ok, Err, option_map, if◌then◌else◌};
-ghost use Rattle.mk_meta.specs.Metadata.{is_among, first_unknown, model_in, with_known};
+ghost use Rattle.mk_base.specs.Lists.{is_among};
+ghost use Rattle.mk_meta.specs.Metadata.{first_unknown, model_in, with_known};
 ghost use Rattle.mk_meta.specs.declared.fault.MetaFault.TheVariants as fault;
 
 use crate::fault::MetaFault;

@@ -1,8 +1,8 @@
 // What the members of a description are.
-ghost use Rattle.std.specs.Prelude.{◌≡◌, map, codes, false, IfOk, option_map, option_and_then};
+ghost use Rattle.std.specs.Prelude.{◌≡◌, map, false, IfOk, option_map, option_and_then};
 ghost use Rattle.mk_base.specs.Lists.{all_there};
-ghost use Rattle.mk_base.specs.Trees.{bool_in, member, text_in};
-ghost use Rattle.mk_meta.specs.Metadata.{texts_in, hybrid_texts, unless_missing};
+ghost use Rattle.mk_base.specs.Trees.{bool_in, member, text_in, texts_in};
+ghost use Rattle.mk_meta.specs.Metadata.{hybrid_texts, unless_missing};
 
 use mk_base::{Json, List, Mem, SimKind, Text};
 use std::alloc::Global;

@@ -1,5 +1,5 @@
 // The next request, after its test.
-ghost use Rattle.std.specs.Prelude.{◌≡◌, ◌+◌, ◌<◌, ◌⊎◌, false, length, slice_get, IfOk, IfErr, OnOk, None, Some};
+ghost use Rattle.std.specs.Prelude.{◌≡◌, ◌+◌, ◌<◌, ◌⊎◌, false, length, IfOk, IfErr, OnOk, None, Some};
 ghost use Rattle.mk_setup.specs.Answers.{NextOf};
 ghost use Rattle.mk_setup.specs.Asking.{test_before};
 ghost use Rattle.mk_setup.specs.Kept.{state_of};

@@ -1,7 +1,8 @@
 use Rattle.std.proofs.Common.{arith, sym, ap, ◌∙◌, ◌≡◌, subst, map, take, IfOk}
 use Rattle.std.proofs.lemmas.List.{take_all}
+use Rattle.mk_base.specs.Verdicts.{all_well}
 use Rattle.mk_meta.specs.declared.meta.ModelMeta.{ModelMeta}
-use Rattle.mk_meta.specs.Metadata.{all_well, model_in}
+use Rattle.mk_meta.specs.Metadata.{model_in}
 use Rattle.mk_meta.proofs.Gathering.{first_fault, more_well, more_named}
 use Rattle.mk_meta.proofs.Known.{all_known}
 use Rattle.mk_meta.proofs.Names.{models_listed, name_of, described_as}

@@ -1,6 +1,7 @@
 use Rattle.std.proofs.Common.{◌≡◌, Ok, map, take}
+use Rattle.mk_base.specs.Verdicts.{all_well}
 use Rattle.mk_meta.proofs.Names.{name_of, described_as}
-use Rattle.mk_meta.specs.Metadata.{all_well, model_in}
+use Rattle.mk_meta.specs.Metadata.{model_in}
 use Rattle.mk_meta.proofs.meta.models_from.Given as goal
 
 abbrev pub invariant-loop-name : goal.invariant-loop-name
