@@ -7,7 +7,7 @@ ghost use Rattle.mk_plan.specs.Plans.{RefersInside, HasDistinctNames, HasOneConn
 ghost use Rattle.mk_buffers.specs.declared.inlets.Target.{Target};
 ghost use Rattle.mk_buffers.specs.inner.Building.{AreRising};
 ghost use Rattle.mk_buffers.specs.Held.{input_of};
-ghost use Rattle.mk_buffers.specs.inner.Listing.{IsTarget, HasTargets, AreTargets, IsInletOf, AreListed, ComesNext, target_order};
+ghost use Rattle.mk_buffers.specs.inner.Listing.{IsTarget, AreTargets, IsInletOf, AreListed, ComesNext, target_order};
 
 use crate::delays::Delay;
 use crate::names::full_id;

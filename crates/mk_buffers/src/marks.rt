@@ -1,5 +1,5 @@
 //! Marks: before which times simulators will ask nothing.
-ghost use Rattle.std.specs.Prelude.{◌≡◌, ◌+◌, ◌<◌, length, false, IfOk, pos, slice_get, slice_set};
+ghost use Rattle.std.specs.Prelude.{◌≡◌, ◌+◌, ◌<◌, length, false, IfOk, pos, slice_get};
 ghost use Rattle.mk_base.specs.Tiers.{IsUpTo};
 ghost use Rattle.mk_base.specs.declared.tier.Tier.{Tier};
 ghost use Rattle.mk_buffers.specs.Marking.{IsLeastMark, IsLow};

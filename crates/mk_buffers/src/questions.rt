@@ -1,5 +1,5 @@
 //! The inputs of a step, and the value of an attribute, out of what is held.
-ghost use Rattle.std.specs.Prelude.{◌≡◌, ◌+◌, ◌<◌, pos, ◌++◌, true, length, IfOk, IfSome, OnOk, Some, slice_get, option_map, List};
+ghost use Rattle.std.specs.Prelude.{◌≡◌, ◌<◌, pos, ◌++◌, true, length, IfOk, IfSome, OnOk, Some, slice_get, option_map};
 ghost use Rattle.mk_base.specs.Tiers.{IsUpTo, delayed, moment};
 ghost use Rattle.mk_plan.specs.declared.Plan.{Plan};
 ghost use Rattle.mk_plan.specs.Asks.{gives_attr};

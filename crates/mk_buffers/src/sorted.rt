@@ -33,13 +33,8 @@ pub fn put_input(inputs: &mut List<Input>, new: Input) -> Result<(), Mem>
     ensures sorted { IsStrictlySortedBy input_order inputs.old
         → OnOk result (IsStrictlySortedBy input_order inputs.new) }
 {
-    match place_of(inputs.as_slice(), &new) {
-        Ok(place) => {
-            inputs.set(place, new);
-            Ok(())
-        }
-        Err(place) => inputs.insert(place, new),
-    }
+    let place = place_of(inputs.as_slice(), &new);
+    inputs.put_at(place, new)
 }
 
 // Where an equal input stands, or else the place before which the new one belongs.

@@ -1,6 +1,5 @@
 //! The tables of new buffers that go by no connection: entities, and what simulators begin with.
 ghost use Rattle.std.specs.Prelude.{◌≡◌, ◌<◌, ◌^◌, true, length, false, IfOk, slice_set};
-ghost use Rattle.mk_plan.specs.declared.Plan.{Plan};
 ghost use Rattle.mk_plan.specs.Plans.{RefersInside};
 ghost use Rattle.mk_buffers.specs.Marking.{AreAsking};
 ghost use Rattle.mk_buffers.specs.inner.Beginning.{HasStarts};

@@ -1,5 +1,5 @@
 // The way back from what has no rank, until it closes: the cycle.
-ghost use Rattle.std.specs.Prelude.{◌≡◌, ℕ, suc, ◌<◌, ◌≤◌, ◌^◌, ◌++◌, ◌∷◌, [], length, map, reverse, take, drop, slice_get, slice_index, Some, IfOk};
+ghost use Rattle.std.specs.Prelude.{◌≡◌, ℕ, suc, ◌<◌, ◌≤◌, ◌^◌, ◌++◌, ◌∷◌, [], length, reverse, take, drop, slice_get, slice_index, Some, IfOk};
 ghost use Rattle.mk_base.specs.Lists.{Each, IsIn};
 ghost use Rattle.mk_cycles.specs.Cycles.{IsBack, IsLeft, IsLoop, IsReached};
 ghost use Rattle.mk_cycles.specs.Edges.{IsChain};

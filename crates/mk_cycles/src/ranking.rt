@@ -1,5 +1,5 @@
 // Ranks along edges, or a cycle: the crate's call.
-ghost use Rattle.std.specs.Prelude.{◌≡◌, IfOk, IfErr, length};
+ghost use Rattle.std.specs.Prelude.{◌≡◌, IfOk, IfErr};
 ghost use Rattle.mk_cycles.specs.Edges.{EndsBelow, has_edge};
 ghost use Rattle.mk_cycles.specs.Orders.{IsRanking};
 ghost use Rattle.mk_cycles.specs.Outcomes.{ClosedWalkOf, CycleOf, IsEachOnce, IsRising};

@@ -1,5 +1,5 @@
 // Which simulator leads to which, as a table.
-ghost use Rattle.std.specs.Prelude.{◌≡◌, ℕ, ◌<◌, ◌*◌, ◌^◌, IfOk, vec_len};
+ghost use Rattle.std.specs.Prelude.{◌≡◌, ◌<◌, ◌*◌, ◌^◌, IfOk};
 ghost use Rattle.mk_cycles.specs.Edges.{EndsBelow, has_edge};
 ghost use Rattle.mk_cycles.specs.inner.Tables.{leads};
 

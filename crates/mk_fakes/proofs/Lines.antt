@@ -5,8 +5,8 @@ use Rattle.std.proofs.lemmas.List.{drop_more, drop-drop, length-drop, length-set
 use Rattle.std.proofs.lemmas.Bool.{le-ltb, lt-ltb}
 use Rattle.std.proofs.lemmas.Option.{slice_get_past, slice_get_read}
 use Rattle.mk_base.specs.declared.LinkNo.{LinkNo}
+use Rattle.mk_base.specs.Links.{same_link}
 use Rattle.mk_outside.specs.declared.fleet.Started.TheVariants as started
-use Rattle.mk_outside.specs.Logs.{same_link}
 use Rattle.mk_fakes.specs.declared.wires.Chunk.{Chunk}
 use Rattle.mk_fakes.specs.declared.wires.Cursor.{Cursor}
 use Rattle.mk_fakes.specs.inner.Cursors.{cut, line_of, lines_from}

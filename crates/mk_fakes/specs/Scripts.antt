@@ -2,14 +2,13 @@
 use Rattle.std.specs.Prelude.{ℕ, zero, suc, ◌+◌, ◌-◌, ◌^◌, Bool, true, false, ◌||◌, List, [], ◌∷◌, ◌++◌, length, drop, filter, min, nat_lt, Option, None, Some, option_map, option_and_then, unwrap_or, slice_get, if◌then◌else◌}
 use Rattle.std.specs.Option.{is_some}
 use Rattle.mk_base.specs.declared.LinkNo.{LinkNo}
+use Rattle.mk_base.specs.Links.{same_link, without}
 use Rattle.mk_outside.specs.declared.fleet.Started.{Started}
 use Rattle.mk_outside.specs.declared.fleet.Started.TheVariants as started
 use Rattle.mk_outside.specs.declared.fleet.ReadLink.{ReadLink}
 use Rattle.mk_outside.specs.declared.fleet.ReadLink.TheVariants as read
 use Rattle.mk_outside.specs.declared.fleet.WriteLink.{WriteLink}
 use Rattle.mk_outside.specs.declared.fleet.WriteLink.TheVariants as write
-use Rattle.mk_outside.specs.Logs.{same_link}
-use Rattle.mk_outside.specs.Fleets.{without}
 use Rattle.mk_fakes.specs.declared.wires.Chunk.{Chunk}
 use Rattle.mk_fakes.specs.Telling.{Line, Wiring}
 

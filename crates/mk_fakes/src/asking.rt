@@ -1,5 +1,5 @@
 // A fleet that notes what it was asked to start.
-ghost use Rattle.std.specs.Prelude.{◌≡◌, ◌++◌, ◌∷◌, [], IfOk, OnErr};
+ghost use Rattle.std.specs.Prelude.{◌≡◌, [], IfOk};
 ghost use Rattle.mk_fakes.specs.Asking.{asks_of};
 
 use mk_base::{LinkNo, List, Mem, Text};

@@ -1,5 +1,5 @@
 // Payloads written as frames.
-ghost use Rattle.std.specs.Prelude.{◌≡◌, ◌<◌, ◌≤◌, ◌++◌, ◌↔◌, length, Err, OnOk, OnErr};
+ghost use Rattle.std.specs.Prelude.{◌≡◌, ◌<◌, ◌≤◌, ◌++◌, length, Err, OnOk, OnErr};
 ghost use Rattle.mk_frame.specs.Frames.{frame_of, limit};
 
 use crate::header::{HEADER, LIMIT};

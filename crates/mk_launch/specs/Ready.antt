@@ -1,8 +1,7 @@
 -- Which simulators of a scenario can be begun.
-use Rattle.std.specs.Prelude.{◌≡◌, ℕ, Bool, List, Option, Some, None, take, slice_get, if◌then◌else◌}
-use Rattle.std.specs.List.{list_any}
+use Rattle.std.specs.Prelude.{◌≡◌, ℕ, List, Option, Some, None, take, slice_get, if◌then◌else◌}
 use Rattle.std.specs.Result.{result_err}
-use Rattle.mk_base.specs.Lists.{Each, same_text}
+use Rattle.mk_base.specs.Lists.{Each, is_among}
 use Rattle.mk_scenario.specs.declared.parts.Begin.{Begin}
 use Rattle.mk_scenario.specs.declared.parts.Begin.TheVariants.{Command, Connect, Local}
 use Rattle.mk_scenario.specs.declared.parts.SimPart.{SimPart}
@@ -12,16 +11,12 @@ use Rattle.mk_launch.specs.declared.faults.LaunchFault.TheVariants.{NoKind}
 use Rattle.mk_launch.specs.declared.faults.Unready.{Unready}
 use Rattle.mk_launch.specs.Words.{template_words}
 
--- a kind has this name
-abbrev pub has_kind : List (List ℕ) → List ℕ → Bool
-has_kind kinds kind = list_any (λ known. same_text known kind) kinds
-
 -- why a simulator can't be begun so, the kinds having these names: its template has a fault, or
 -- there is no kind of its name
 abbrev pub begin_fault : List (List ℕ) → Begin → Option LaunchFault
 begin_fault kinds (Command template) = result_err (template_words template)
 begin_fault kinds (Connect port) = None
-begin_fault kinds (Local kind) = if has_kind kinds kind then None else Some NoKind
+begin_fault kinds (Local kind) = if is_among kinds kind then None else Some NoKind
 
 -- the simulator can be begun
 abbrev pub CanBegin : List (List ℕ) → SimPart → Type 0

@@ -1,8 +1,9 @@
 //! Which simulator of a scenario can't be begun, before any is.
 ghost use Rattle.std.specs.Prelude.{◌≡◌, ◌⊎◌, ◌<◌, ◌^◌, None, Some, true, false, length, IfErr, OnOk};
 ghost use Rattle.std.specs.Result.{result_err};
+ghost use Rattle.mk_base.specs.Lists.{is_among};
 ghost use Rattle.mk_launch.specs.Words.{template_words};
-ghost use Rattle.mk_launch.specs.Ready.{IsFirstFault, IsPrepared, begin_fault, has_kind};
+ghost use Rattle.mk_launch.specs.Ready.{IsFirstFault, IsPrepared, begin_fault};
 ghost use Rattle.mk_launch.specs.declared.faults.LaunchFault.TheVariants as faults;
 
 use crate::faults::{LaunchFault, Unready};
@@ -56,11 +57,11 @@ fn test_template(alloc: Global, template: &Text) -> Result<(), LaunchFault>
 }
 
 fn test_kind(kind: &Text, kinds: &List<Text>) -> Result<(), LaunchFault>
-    ensures ok { OnOk result (has_kind kinds.now kind.now ≡ true) }
+    ensures ok { OnOk result (is_among kinds.now kind.now ≡ true) }
     ensures err { IfErr result (λ fault. (fault ≡ faults.NoKind)
-        × (has_kind kinds.now kind.now ≡ false)) }
+        × (is_among kinds.now kind.now ≡ false)) }
 {
-    if has_kind(kinds.as_slice(), kind.as_str()) {
+    if is_among(kinds.as_slice(), kind.as_str()) {
         Ok(())
     } else {
         Err(LaunchFault::NoKind)
@@ -68,8 +69,8 @@ fn test_kind(kind: &Text, kinds: &List<Text>) -> Result<(), LaunchFault>
 }
 
 // Whether a kind has this name.
-fn has_kind(kinds: &[Text], kind: &str) -> bool
-    ensures { result ≡ has_kind kinds.now kind.now }
+fn is_among(kinds: &[Text], kind: &str) -> bool
+    ensures { result ≡ is_among kinds.now kind.now }
 {
     kinds.iter().any(|known| known.as_str() == kind)
 }

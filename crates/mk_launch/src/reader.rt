@@ -1,7 +1,7 @@
 //! Reads the words of a template, one by one.
-ghost use Rattle.std.specs.Prelude.{◌≡◌, ◌⊎◌, [], ◌++◌, None, Some, Ok, Err, IfOk, IfErr, OnOk, string_bytes, unwrap_or, option_map, encode_utf8};
+ghost use Rattle.std.specs.Prelude.{◌≡◌, ◌⊎◌, [], None, Some, Ok, Err, IfOk, IfErr, OnOk, string_bytes, unwrap_or, option_map, encode_utf8};
 ghost use Rattle.mk_launch.specs.Words.{address_at};
-ghost use Rattle.mk_launch.specs.inner.Steps.{IsReadOf, after_front, after_quote, after_space, with_letters, without_word, words_read};
+ghost use Rattle.mk_launch.specs.inner.Steps.{IsReadOf, after_quote, after_space, with_letters, without_word, words_read};
 ghost use Rattle.mk_launch.specs.declared.faults.LaunchFault.TheVariants as faults;
 
 use crate::faults::LaunchFault;
@@ -29,7 +29,7 @@ pub struct Reader {
 }
 
 impl Model for Reader {
-    ghost use Rattle.std.specs.Prelude.{string_bytes, option_map, ℕ};
+    ghost use Rattle.std.specs.Prelude.{string_bytes, option_map};
     ghost use Rattle.mk_launch.specs.inner.Reading.{Reading};
     ghost use Rattle.mk_launch.specs.declared.reader.Part.{Part};
 

@@ -1,9 +1,9 @@
 // From an item to its payload.
-ghost use Rattle.std.specs.Prelude.{◌≡◌, ◌++◌, ◌∷◌, [], codes, decimal, IfOk, OnOk};
+ghost use Rattle.std.specs.Prelude.{◌≡◌, ◌++◌, ◌∷◌, [], codes, decimal, IfOk};
 ghost use Rattle.std.specs.Fmt.{signed_decimal};
 ghost use Rattle.mk_base.specs.Texts.{list_text, quoted};
 ghost use Rattle.mk_plan.specs.Report.{inputs_text};
-ghost use Rattle.mk_message.specs.Written.{success_text, failure_text, refusal_text, wanted_text, item_text, request_text};
+ghost use Rattle.mk_message.specs.Written.{refusal_text, item_text};
 
 use crate::groups::{inputs_bytes, wanted_bytes};
 use mk_base::{List, Mem, Text, Tier, put_signed, put_unsigned};

@@ -1,5 +1,5 @@
 // From a payload to its message.
-ghost use Rattle.std.specs.Prelude.{◌≡◌, ℕ, true, Ok, Err, None, Some, IfOk, option_map};
+ghost use Rattle.std.specs.Prelude.{◌≡◌, ℕ, true, Ok, Err, None, Some, IfOk};
 ghost use Rattle.mk_base.specs.Trees as trees;
 ghost use Rattle.mk_message.specs.Written.{is_in_range};
 ghost use Rattle.mk_message.specs.Messages.{three_of, three_in, kind_in, id_in, request_in, content_in, message_in, message_of};

@@ -10,6 +10,7 @@ use Rattle.mk_plan.specs.declared.Entry.{Entry}
 use Rattle.mk_plan.specs.Plans.{IsValidPlan, first_id, sim_count}
 use Rattle.mk_plan.specs.Journals.{got, view}
 use Rattle.mk_plan.specs.Orderly.{IsEager}
+use Rattle.mk_plan.specs.Sequential.{takes_id}
 use Rattle.mk_outside.specs.Counts.{HasRisen}
 use Rattle.mk_outside.specs.declared.fleet.LogEntry.{LogEntry}
 use Rattle.mk_outside.specs.declared.fleet.LogEntry.TheVariants.{Nap, Rest, Told}
@@ -18,7 +19,6 @@ use Rattle.mk_local.specs.declared.turn.Turn.{Turn}
 use Rattle.mk_run_laws.specs.Handshake.{is_within, setup_count, setup_requests, sim_link}
 use Rattle.mk_run_laws.specs.Kinds.{Replies}
 use Rattle.mk_run_laws.specs.Laws.{IsJournalOf}
-use Rattle.mk_run_laws.specs.Payloads.{takes_id}
 use Rattle.mk_run_laws.specs.Rests.{AllSetUp, IsWellInSetup}
 use Rattle.mk_run_laws.specs.Running.{SetupReplies}
 use Rattle.mk_run_laws.specs.Runs.{IsLinkOfRun}

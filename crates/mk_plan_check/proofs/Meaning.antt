@@ -9,16 +9,17 @@ use Rattle.mk_base.specs.declared.SimKind.TheVariants.{TimeBased, EventBased, Hy
 use Rattle.mk_base.specs.declared.tier.Via.{Via}
 use Rattle.mk_base.specs.declared.tier.Via.TheVariants.{Plain, Shift, Weak}
 use Rattle.mk_base.specs.Lists.{same_text}
-use Rattle.mk_base.specs.Tiers.{HasWidth}
+use Rattle.mk_base.specs.Tiers.{HasWidth, is_plain}
 use Rattle.mk_base.specs.Trees.{nesting, value_depth}
 use Rattle.mk_base.specs.Data.{IsValueText, IsDatumText}
 use Rattle.mk_base.proofs.Lists.{all_in, range_in, filter_none}
+use Rattle.mk_base.specs.Names.{is_eid}
 use Rattle.mk_plan.specs.declared.Plan.{Plan}
 use Rattle.mk_plan.specs.declared.PlanSim.{PlanSim}
 use Rattle.mk_plan.specs.declared.Conn.{Conn}
 use Rattle.mk_plan.specs.Plans.{owner, eid_of, kind_of, rank_of, dot, IsWithinLimits, RefersInside, HasDistinctNames, IsWellFormed, HasRanks, HasOneConnectionEach, HasInitialValues, HasKindsOfConnections, IsValidPlan}
 use Rattle.mk_plan_check.specs.Nesting.{nesting_of}
-use Rattle.mk_plan_check.specs.Tests.{all_apart, implies, numbers_fit, sizes_fit, event_fits, sim_fits, models_of, models_fit, initial_fits, width_fits, is_within_limits, entity_refers, conn_refers, pair_refers, refers_inside, sims_apart, has_no_dot, eids_differ, eids_apart, is_eid, has_distinct_names, is_well_formed, ranked, is_plain, conn_rises, pair_rises, has_ranks, same_way, has_one_connection_each, initial_stands, has_initial_values, persistence_fits, triggering_fits, kinds_fit, same_bool, same_source, same_target, sources_agree, targets_agree, has_kinds_of_connections, first_bad}
+use Rattle.mk_plan_check.specs.Tests.{all_apart, implies, numbers_fit, sizes_fit, event_fits, sim_fits, models_of, models_fit, initial_fits, width_fits, is_within_limits, entity_refers, conn_refers, pair_refers, refers_inside, sims_apart, has_no_dot, eids_differ, eids_apart, has_distinct_names, is_well_formed, ranked, conn_rises, pair_rises, has_ranks, same_way, has_one_connection_each, initial_stands, has_initial_values, persistence_fits, triggering_fits, kinds_fit, same_bool, same_source, same_target, sources_agree, targets_agree, has_kinds_of_connections, first_bad}
 use Rattle.mk_plan_check.specs.FirstBad.{IsFirstBad}
 use Rattle.mk_plan_check.specs.inner.FirstBad.{HasDatums}
 use Rattle.mk_plan_check.proofs.Scanning.{nesting_is}

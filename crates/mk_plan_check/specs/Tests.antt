@@ -1,5 +1,5 @@
 -- The five parts of a valid plan as tests, and the first that fails.
-use Rattle.std.specs.Prelude.{ℕ, ℤ, pos, int_le, Bool, true, false, not, ◌&&◌, ◌||◌, List, [], ◌∷◌, length, count_by, Option, Some, None, is_some, option_map, unwrap_or, ◌==◌, nat_le, nat_lt, codes, if◌then◌else◌}
+use Rattle.std.specs.Prelude.{ℕ, ℤ, pos, int_le, Bool, true, false, not, ◌&&◌, ◌||◌, List, [], ◌∷◌, length, count_by, Option, Some, None, is_some, option_map, unwrap_or, ◌==◌, nat_le, nat_lt, if◌then◌else◌}
 use Rattle.std.specs.List.{list_all, range_with_len}
 use Rattle.mk_base.specs.declared.SimKind.{SimKind}
 use Rattle.mk_base.specs.declared.SimKind.TheVariants.{TimeBased, EventBased, Hybrid}
@@ -7,6 +7,8 @@ use Rattle.mk_base.specs.declared.tier.Via.{Via}
 use Rattle.mk_base.specs.declared.tier.Via.TheVariants.{Plain, Shift, Weak}
 use Rattle.mk_base.specs.Lists.{same_text}
 use Rattle.mk_base.specs.Trees.{value_depth}
+use Rattle.mk_base.specs.Names.{is_eid}
+use Rattle.mk_base.specs.Tiers.{is_plain}
 use Rattle.mk_plan.specs.declared.Plan.{Plan}
 use Rattle.mk_plan.specs.declared.PlanSim.{PlanSim}
 use Rattle.mk_plan.specs.declared.PlanEntity.{PlanEntity}
@@ -90,9 +92,6 @@ eids_differ P d e = not ((owner P d == owner P e) && same_text (eid_of P d) (eid
 abbrev pub eids_apart : Plan → Bool
 eids_apart P = all_apart (eids_differ P) (range_with_len 0 (length P.entities))
 
-abbrev pub is_eid : List ℕ → Bool
-is_eid eid = not (same_text eid []) && not (same_text eid (codes "time"))
-
 abbrev pub has_distinct_names : Plan → Bool
 has_distinct_names P = sims_apart P && list_all (λ s. has_no_dot s.id) P.sims
     && list_all (λ n. is_eid n.eid) P.entities && eids_apart P
@@ -103,11 +102,6 @@ is_well_formed P = is_within_limits P && refers_inside P && has_distinct_names P
 -- how many simulators have that rank
 abbrev pub ranked : Plan → ℕ → ℕ
 ranked P r = count_by (λ s. s.rank == r) P.sims
-
-abbrev pub is_plain : Via → Bool
-is_plain Plain = true
-is_plain (Shift width) = false
-is_plain Weak = false
 
 -- a plain connection goes to a higher rank
 abbrev pub conn_rises : Plan → Conn → Bool

@@ -1,6 +1,6 @@
 // What tells connections, or entities, apart: two numbers and a text, with a flag beside them. Sorted by these, the
 // marks that are alike stand side by side.
-ghost use Rattle.std.specs.Prelude.{◌≡◌, ◌+◌, map, IfOk, length};
+ghost use Rattle.std.specs.Prelude.{◌≡◌, map, IfOk, length};
 ghost use Rattle.std.specs.List.Sorted.{IsPermutation, IsSortedBy};
 ghost use Rattle.std.specs.List.{range_with_len};
 ghost use Rattle.mk_plan_check.specs.inner.Marks.{label_of, mark_order, second_order, comes_first, way_label, source_label, target_label, name_label};

@@ -2,7 +2,8 @@
 ghost use Rattle.std.specs.Prelude.{◌≡◌, not, IfOk};
 ghost use Rattle.std.specs.List.{list_all};
 ghost use Rattle.mk_base.specs.Lists.{same_text};
-ghost use Rattle.mk_plan_check.specs.Tests.{all_apart, has_no_dot, is_eid, sims_apart, eids_apart, has_distinct_names};
+ghost use Rattle.mk_base.specs.Names.{is_eid};
+ghost use Rattle.mk_plan_check.specs.Tests.{has_no_dot, sims_apart, eids_apart, has_distinct_names};
 
 use crate::agreement::are_apart;
 use crate::marks::names;

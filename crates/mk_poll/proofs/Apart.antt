@@ -4,8 +4,9 @@ use Rattle.std.proofs.lemmas.Bool.{eqb-true}
 use Rattle.std.specs.List.{list_any}
 use Rattle.mk_base.specs.declared.LinkNo.{LinkNo}
 use Rattle.mk_base.specs.Lists.{IsIn}
+use Rattle.mk_base.specs.Links.{same_link, without}
 use Rattle.mk_poll.specs.Turning.{Turning}
-use Rattle.mk_poll.specs.Links.{same_link, times_in, without, IsAdded, IsApart, added, made_parked, made_ready}
+use Rattle.mk_poll.specs.Links.{times_in, IsAdded, IsApart, added, made_parked, made_ready}
 use Rattle.mk_poll.proofs.OnLinks.{eq-self, found}
 
 -- 1 where it holds

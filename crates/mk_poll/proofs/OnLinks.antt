@@ -3,8 +3,9 @@ use Rattle.std.proofs.Common.{rules, ◌≡◌, ℕ, ◌+◌, ◌<◌, ◌≤◌
 use Rattle.std.specs.List.{list_any}
 use Rattle.mk_base.specs.declared.LinkNo.{LinkNo}
 use Rattle.mk_base.specs.Lists.{IsIn}
+use Rattle.mk_base.specs.Links.{same_link, without}
 use Rattle.mk_poll.specs.Turning.{Turning}
-use Rattle.mk_poll.specs.Links.{same_link, without, IsAdded, made_ready}
+use Rattle.mk_poll.specs.Links.{IsAdded, made_ready}
 
 -- a number is itself
 pub eq-self : (n : ℕ) → (n == n) ≡ true

@@ -1,17 +1,10 @@
 -- How links change their places.
-use Rattle.std.specs.Prelude.{◌≡◌, ◌+◌, ◌≤◌, ◌⊎◌, ℕ, ◌==◌, Bool, not, List, [], ◌∷◌, ◌++◌, filter, Option, None, Some, if◌then◌else◌}
+use Rattle.std.specs.Prelude.{◌≡◌, ◌+◌, ◌≤◌, ◌⊎◌, ℕ, List, [], ◌∷◌, ◌++◌, Option, None, Some, if◌then◌else◌}
 use Rattle.std.specs.List.{list_any}
 use Rattle.mk_base.specs.declared.LinkNo.{LinkNo}
 use Rattle.mk_base.specs.Lists.{IsIn}
+use Rattle.mk_base.specs.Links.{same_link, without}
 use Rattle.mk_poll.specs.Turning.{Turning}
-
--- the two are one link
-abbrev pub same_link : LinkNo → LinkNo → Bool
-same_link one other = one.0 == other.0
-
--- the links without this one
-abbrev pub without : LinkNo → List LinkNo → List LinkNo
-without link = filter (λ other. not (same_link other link))
 
 -- no link
 abbrev pub no_links : Turning

@@ -1,7 +1,8 @@
 // Links in a vector.
 ghost use Rattle.std.specs.Prelude.{◌≡◌, ◌≤◌, vec_capacity};
 ghost use Rattle.std.specs.List.{list_any};
-ghost use Rattle.mk_poll.specs.Links.{same_link, times_in, without};
+ghost use Rattle.mk_base.specs.Links.{same_link, without};
+ghost use Rattle.mk_poll.specs.Links.{times_in};
 
 use mk_base::LinkNo;
 use std::collections::VecDeque;

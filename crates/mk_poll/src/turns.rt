@@ -1,8 +1,7 @@
 // Whose turn it is: links that are ready, taken or parked.
 ghost use Rattle.std.specs.Prelude.{◌≡◌, OnOk, OnErr};
-ghost use Rattle.std.specs.List.{list_any};
 ghost use Rattle.mk_base.specs.Lists.{IsIn};
-ghost use Rattle.mk_poll.specs.Links.{IsAdded, IsApart, TakeOf, added, made_parked, made_ready, no_links, same_link};
+ghost use Rattle.mk_poll.specs.Links.{IsAdded, IsApart, TakeOf, added, made_parked, made_ready, no_links};
 
 use crate::places::{holds, leave, leave_last};
 use mk_base::{LinkNo, Mem};
@@ -36,7 +35,9 @@ impl Model for Turns {
       parked = a.parked.items;
     } };
 
-    ghost invariant = { λ a. HasRoom a.count (length a.ready.items) (length a.taken.items) (length a.parked.items) (deque_capacity a.ready) (vec_capacity a.taken) (vec_capacity a.parked)
+    ghost invariant = { λ a. HasRoom a.count (length a.ready.items) (length a.taken.items)
+        (length a.parked.items) (deque_capacity a.ready) (vec_capacity a.taken)
+        (vec_capacity a.parked)
         × IsApart (record { ready = a.ready.items; taken = a.taken.items; parked = a.parked.items }) };
 }
 

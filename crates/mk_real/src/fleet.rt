@@ -1,7 +1,8 @@
 // Links to simulators over sockets on this machine.
 ghost use Rattle.std.specs.Prelude.{◌≡◌, ◌≢◌, ◌<◌, ◌≤◌, [], IfOk, length};
+ghost use Rattle.mk_base.specs.Links.{without};
 ghost use Rattle.mk_outside.specs.Counts.{HasRisen};
-ghost use Rattle.mk_outside.specs.Fleets.{IsWritten, ReadAs, StartedAs, without};
+ghost use Rattle.mk_outside.specs.Fleets.{IsWritten, ReadAs, StartedAs};
 
 use crate::desk::{Desk, mark};
 use crate::door::{AwaitedAt, Door, connect};

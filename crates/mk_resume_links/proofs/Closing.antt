@@ -12,10 +12,10 @@ use Rattle.mk_plan.specs.declared.Entry.{Entry}
 use Rattle.mk_plan.specs.declared.Entry.TheVariants.{Sent, Got}
 use Rattle.mk_plan.specs.Journals.{bare, got, view}
 use Rattle.mk_plan.specs.Ready.{IsReady}
+use Rattle.mk_plan.specs.Sequential.{takes_id}
 use Rattle.mk_scenario.specs.declared.parts.Scenario.{Scenario}
 use Rattle.mk_outside.specs.declared.fleet.LogEntry.{LogEntry}
 use Rattle.mk_run_laws.specs.Handshake.{is_within, sim_link}
-use Rattle.mk_run_laws.specs.Payloads.{takes_id}
 use Rattle.mk_run_laws.specs.Lines.{Line}
 use Rattle.mk_run_laws.specs.Kinds.{Replies}
 use Rattle.mk_run_laws.specs.Crews.{CrewState, line_at, kept_of, given_by, IsSentOnLink, IsSentWithin}

@@ -7,12 +7,13 @@ use Rattle.mk_plan.specs.declared.Item.{Item}
 use Rattle.mk_plan.specs.declared.Item.TheVariants.{Step, GetData, Answer, Refuse}
 use Rattle.mk_plan.specs.declared.Message.{Message}
 use Rattle.mk_plan.specs.Journals.{Arrival}
+use Rattle.mk_plan.specs.Sequential.{takes_id, id_after}
 use Rattle.mk_message.specs.Written.{item_text}
 use Rattle.mk_scenario.specs.declared.parts.SimPart.{SimPart}
 use Rattle.mk_scenario.specs.declared.parts.Scenario.{Scenario}
 use Rattle.mk_outside.specs.declared.fleet.LogEntry.{LogEntry}
 use Rattle.mk_run_laws.specs.Handshake.{is_local, has_link, is_within, sim_link, setup_count, setup_payloads}
-use Rattle.mk_run_laws.specs.Payloads.{takes_id, id_after, item_payloads}
+use Rattle.mk_run_laws.specs.Payloads.{item_payloads}
 use Rattle.mk_run_laws.specs.Lines.{Line, IsLineAt, IsMoved, queued}
 use Rattle.mk_run_laws.specs.Crews.{CrewState, line_at, kept_from, kept_of, IsMovedAt, given_by, AreMoved, IsSentOnLink, IsSentWithin}
 use Rattle.mk_run_laws.specs.Running.{SetupReplies, IsInStep, IsBegun}

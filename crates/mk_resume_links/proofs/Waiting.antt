@@ -10,11 +10,12 @@ use Rattle.mk_plan.specs.declared.Entry.{Entry}
 use Rattle.mk_plan.specs.declared.Entry.TheVariants.{Got}
 use Rattle.mk_plan.specs.Journals.{Arrival, view, got}
 use Rattle.mk_plan.specs.Ready.{IsReady}
+use Rattle.mk_plan.specs.Sequential.{id_after}
 use Rattle.mk_scenario.specs.declared.parts.Scenario.{Scenario}
 use Rattle.mk_outside.specs.declared.fleet.LogEntry.{LogEntry}
 use Rattle.mk_outside.specs.declared.fleet.LogEntry.TheVariants.{Rest}
 use Rattle.mk_run_laws.specs.Handshake.{sim_link, setup_count, setup_payloads}
-use Rattle.mk_run_laws.specs.Payloads.{item_payloads, id_after}
+use Rattle.mk_run_laws.specs.Payloads.{item_payloads}
 use Rattle.mk_run_laws.specs.Lines.{IsLineAt}
 use Rattle.mk_run_laws.specs.Crews.{CrewState, AreParkedAtRests, IsRestless}
 use Rattle.mk_run_laws.specs.Running.{SetupReplies, BeginsOnLink, IsBegun}

@@ -3,7 +3,8 @@ use Rattle.std.proofs.Common.{◌≡◌, inl, inr, ℕ, zero, suc, ◌+◌, ◌<
 use Rattle.std.proofs.lemmas.Bool.{cases_eq, eqb-true, eq-eqb}
 use Rattle.mk_base.proofs.Lists.{none_some, some_same, append_nil, filter_append, get_is, length_set, map_append, set_else, set_here}
 use Rattle.mk_plan.specs.declared.Entry.{Entry}
-use Rattle.mk_resume_walk.specs.Walks.{has_none, IsFirstOwn, is_of, sim_of}
+use Rattle.mk_plan.specs.Journals.{sim_of}
+use Rattle.mk_resume_walk.specs.Walks.{has_none, IsFirstOwn, is_of}
 use Rattle.mk_resume_walk.specs.Index.{Indexed, IsIndexOf, own_count, places_from}
 
 -- ---- the place behind those gone through

@@ -4,14 +4,9 @@ use Rattle.std.specs.List.{list_all}
 use Rattle.mk_base.specs.declared.SimNo.{SimNo}
 use Rattle.mk_plan.specs.declared.Message.{Message}
 use Rattle.mk_plan.specs.declared.Entry.{Entry}
-use Rattle.mk_plan.specs.declared.Entry.TheVariants.{Sent, Got}
-use Rattle.mk_plan.specs.Journals.{got}
+use Rattle.mk_plan.specs.declared.Entry.TheVariants.{Got}
+use Rattle.mk_plan.specs.Journals.{got, sim_of}
 use Rattle.mk_resume_walk.specs.Talks.{up_to}
-
--- the simulator of an entry
-abbrev pub sim_of : Entry → ℕ
-sim_of (Sent s item) = s.0
-sim_of (Got s m) = s.0
 
 -- the entry is one of simulator i
 abbrev pub is_of : ℕ → Entry → Bool

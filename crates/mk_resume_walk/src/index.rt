@@ -2,8 +2,9 @@
 ghost use Rattle.std.specs.Prelude.{◌≡◌, ℕ, ◌+◌, ◌<◌, List, [], ◌∷◌, ◌++◌, length, take, IfOk, OnOk};
 ghost use Rattle.mk_base.specs.Lists.{BeginsWith};
 ghost use Rattle.mk_plan.specs.declared.Entry.{Entry};
+ghost use Rattle.mk_plan.specs.Journals.{sim_of};
 ghost use Rattle.mk_resume_walk.specs.Index.{IsIndexOf, own_count};
-ghost use Rattle.mk_resume_walk.specs.Walks.{IsFirstOwn, sim_of};
+ghost use Rattle.mk_resume_walk.specs.Walks.{IsFirstOwn};
 
 use mk_base::{Mem, SimNo};
 use mk_plan::Entry;

@@ -12,6 +12,7 @@ use Rattle.mk_plan.specs.declared.Entry.{Entry}
 use Rattle.mk_plan.specs.declared.Entry.TheVariants.{Sent, Got}
 use Rattle.mk_plan.specs.Plans.{sim_count, first_id}
 use Rattle.mk_plan.specs.Journals.{sent, got, view}
+use Rattle.mk_plan.specs.Sequential.{takes_id, id_after}
 use Rattle.mk_message.specs.Written.{item_text}
 use Rattle.mk_frame.specs.Frames.{IsTooLong, limit}
 use Rattle.mk_outside.specs.declared.fleet.LogEntry.{LogEntry}
@@ -25,7 +26,7 @@ use Rattle.mk_sched.specs.Answers as sched
 use Rattle.mk_sched.specs.Answers.{SomeReady, SomeOpen, IsOver, IsOutOfMemory, IsFaulty, IsUntaken, IsUnanswered, WasFaulty, fault_in}
 use Rattle.mk_run_laws.specs.Hearing.{first_message}
 use Rattle.mk_run_laws.specs.Handshake.{setup_count, setup_payloads, sim_link, is_within}
-use Rattle.mk_run_laws.specs.Payloads.{takes_id, id_after, item_payloads}
+use Rattle.mk_run_laws.specs.Payloads.{item_payloads}
 use Rattle.mk_run_laws.specs.Lines.{Line, IsLineAt, IsMoved}
 use Rattle.mk_run_laws.specs.Crews.{CrewState, line_at, IsMovedAt, IsHeard, IsUnheard}
 use Rattle.mk_run_laws.specs.Running.{RestsEnd}

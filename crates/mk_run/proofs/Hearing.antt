@@ -17,6 +17,7 @@ use Rattle.mk_plan.specs.Orderly.{IsOrderlySoFar}
 use Rattle.mk_order.proofs.Pushing.{orderly_front}
 use Rattle.mk_plan.specs.Turns.{wanted}
 use Rattle.mk_plan.specs.Journals.{Arrival, OpenTurn, view, sent, bare}
+use Rattle.mk_plan.specs.Sequential.{takes_id, id_after}
 use Rattle.mk_scenario.specs.declared.parts.Scenario.{Scenario}
 use Rattle.mk_outside.specs.declared.fleet.LogEntry.{LogEntry}
 use Rattle.mk_message.specs.Written.{is_in_range}
@@ -26,7 +27,6 @@ use Rattle.mk_local.specs.Replies.{IsItemReplied}
 use Rattle.mk_local.specs.Simulators.{Simulator}
 use Rattle.mk_run_laws.specs.Hearing.{Takes}
 use Rattle.mk_run_laws.specs.Handshake.{setup_count, sim_link, is_within}
-use Rattle.mk_run_laws.specs.Payloads.{takes_id, id_after}
 use Rattle.mk_run_laws.specs.Lines.{Line}
 use Rattle.mk_run_laws.specs.Kinds.{Replies}
 use Rattle.mk_run_laws.specs.Crews.{CrewState, line_at, kept_of, given_by, IsMovedAt, IsHeard, IsSentWithin}

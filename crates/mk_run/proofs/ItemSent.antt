@@ -4,10 +4,10 @@ use Rattle.mk_base.proofs.Lists.{some_same}
 use Rattle.mk_plan.specs.declared.Item.{Item}
 use Rattle.mk_plan.specs.declared.Message.{Message}
 use Rattle.mk_plan.specs.Journals.{bare}
+use Rattle.mk_plan.specs.Sequential.{id_after}
 use Rattle.mk_local.specs.Replies.{item_reply, after_item}
 use Rattle.mk_local.specs.Simulators.{Simulator}
 use Rattle.mk_run_laws.specs.Handshake.{setup_count, is_within}
-use Rattle.mk_run_laws.specs.Payloads.{id_after}
 use Rattle.mk_run_laws.specs.Crews.{IsSentWithin}
 use Rattle.mk_run_laws.proofs.Stepping.{same_or_not}
 use Rattle.mk_run_local.specs.Laws.{HasCome, RepliesAreKinds}

@@ -16,7 +16,7 @@ use Rattle.mk_plan.specs.declared.Place.TheVariants.{Idle, Stepping, Fetching}
 use Rattle.mk_plan.specs.declared.Cause.{Cause}
 use Rattle.mk_plan.specs.Acts.{Heard}
 use Rattle.mk_plan.specs.Deliveries.{supply}
-use Rattle.mk_plan.specs.Sequential.{response}
+use Rattle.mk_plan.specs.Sequential.{response, takes_id, id_after}
 use Rattle.mk_plan.specs.Turns.{wrong, next_place, wanted}
 use Rattle.mk_plan.specs.Plans.{first_id, sim_count, has_outputs}
 use Rattle.mk_plan.specs.Journals.{View, OpenTurn, Owed, view, sent, bare, place_at, open_after, told_more, note_got, note_right}
@@ -31,7 +31,6 @@ use Rattle.mk_sched.specs.Answers.{SomeReady, SomeOpen, IsAsked, IsQuiet, IsAnsw
 use Rattle.mk_order.proofs.Seen.{reached_sound, same_self, open_after_is}
 use Rattle.mk_order.proofs.Pushing.{view_push}
 use Rattle.mk_run_laws.specs.Handshake.{setup_count, sim_link, is_within}
-use Rattle.mk_run_laws.specs.Payloads.{takes_id, id_after}
 use Rattle.mk_run_laws.specs.Lines.{Line}
 use Rattle.mk_run_laws.specs.Kinds.{Replies}
 use Rattle.mk_run_laws.specs.Crews.{CrewState, line_at, kept_of, IsHeard, IsSentOnLink, IsSentWithin}

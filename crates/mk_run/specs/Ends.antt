@@ -12,6 +12,7 @@ use Rattle.mk_plan.specs.Plans.{first_id, IsValidPlan}
 use Rattle.mk_plan.specs.Journals.{Fault, view, sent, got}
 use Rattle.mk_plan.specs.Ready.{IsDone}
 use Rattle.mk_plan.specs.Orderly.{IsEager}
+use Rattle.mk_plan.specs.Sequential.{id_after}
 use Rattle.mk_frame.specs.Frames.{limit, IsTooLong}
 use Rattle.mk_message.specs.Written.{item_text, is_in_range}
 use Rattle.mk_scenario.specs.declared.parts.Scenario.{Scenario}
@@ -25,7 +26,6 @@ use Rattle.mk_sched.specs.declared.faults.CoreFault.TheVariants.{TooLong}
 use Rattle.mk_sched.specs.Answers.{IsLastFaulty, SomeOpen, SomeReady, fault_in}
 use Rattle.mk_run_laws.specs.Hearing.{rest_heard}
 use Rattle.mk_run_laws.specs.Handshake.{sim_link, is_within}
-use Rattle.mk_run_laws.specs.Payloads.{id_after}
 use Rattle.mk_run_laws.specs.Kinds.{Replies}
 use Rattle.mk_run_laws.specs.Rests.{run_messages, AllSetUp, IsWellInSetup, RestsWell}
 use Rattle.mk_run_laws.specs.Running.{SetupReplies}

@@ -1,5 +1,5 @@
 // A run whose simulators are all within the program: over no fleet, and without waiting for anybody.
-ghost use Rattle.std.specs.Prelude.{◌≡◌, ℕ, List, [], true, None, Err, map, IfErr, OnOk};
+ghost use Rattle.std.specs.Prelude.{◌≡◌, ℕ, [], true, None, Err, map, IfErr, OnOk};
 ghost use Rattle.mk_scenario.specs.Wellformed.{IsWellformed};
 ghost use Rattle.mk_launch.specs.Ready.{IsPrepared};
 ghost use Rattle.mk_local.specs.Kinds.{name_of};

@@ -3,7 +3,7 @@ use Rattle.std.proofs.Common.{◌≡◌, ℕ, zero, suc, ◌+◌, ◌<◌, ◌||
 use Rattle.std.specs.Prelude.{option_map, option_and_then, option_to_list, unwrap_or, take, filter}
 use Rattle.std.specs.List.{list_any, find}
 use Rattle.mk_base.specs.declared.LinkNo.{LinkNo}
-use Rattle.mk_base.specs.Lists.{IsIn, Each, same_text}
+use Rattle.mk_base.specs.Lists.{IsIn, Each, same_text, is_among}
 use Rattle.mk_base.proofs.Lists.{none_some, some_same, at_in, below_get, get_is, in_each, flat_map_in}
 use Rattle.mk_scenario.specs.declared.parts.Begin.{Begin}
 use Rattle.mk_scenario.specs.declared.parts.Begin.TheVariants.{Command, Connect, Local}
@@ -11,7 +11,7 @@ use Rattle.mk_scenario.specs.declared.parts.SimPart.{SimPart}
 use Rattle.mk_scenario.specs.declared.parts.Scenario.{Scenario}
 use Rattle.mk_launch.specs.declared.faults.LaunchFault.{LaunchFault}
 use Rattle.mk_launch.specs.declared.faults.LaunchFault.TheVariants.{NoKind}
-use Rattle.mk_launch.specs.Ready.{IsPrepared, CanBegin, begin_fault, has_kind}
+use Rattle.mk_launch.specs.Ready.{IsPrepared, CanBegin, begin_fault}
 use Rattle.mk_launch.specs.Starts.{places, links_in, place_of, link_count}
 use Rattle.mk_local.specs.declared.turn.Turn.{Turn}
 use Rattle.mk_local.specs.Kinds.{name_of, kind_named}
@@ -38,9 +38,9 @@ here_by rows n (Connect p) L e = absurd (none_some e)
 here_by rows n (Local k) L e = (refl, refl)
 
 -- a kind of that name is found
-named_there : (kind : List ℕ) (rows : List Turn) → has_kind (map name_of rows) kind ≡ true → (T : Turn) × (kind_named kind rows ≡ Some T)
+named_there : (kind : List ℕ) (rows : List Turn) → is_among (map name_of rows) kind ≡ true → (T : Turn) × (kind_named kind rows ≡ Some T)
 named_there kind [] e = cc
-named_there kind (T ∷ rows) e = elim (same_text (name_of T) kind) as (λ b. (b || has_kind (map name_of rows) kind) ≡ true → (U : Turn) × ((if b then Some T else kind_named kind rows) ≡ Some U)) [
+named_there kind (T ∷ rows) e = elim (same_text (name_of T) kind) as (λ b. (b || is_among (map name_of rows) kind) ≡ true → (U : Turn) × ((if b then Some T else kind_named kind rows) ≡ Some U)) [
   | true ↦ λ h. (T, refl)
   | false ↦ λ h. named_there kind rows h
 ] e
@@ -53,13 +53,13 @@ there_by : (rows : List Turn) (n : ℕ) (b : Begin) → begun_as rows b ≡ None
 there_by rows n (Command t) none fine = (record { 0 = n }, refl)
 there_by rows n (Connect p) none fine = (record { 0 = n }, refl)
 there_by rows n (Local k) none fine =
-    let t = named_there k rows (kind_there (has_kind (map name_of rows) k) fine) in
+    let t = named_there k rows (kind_there (is_among (map name_of rows) k) fine) in
     absurd (none_some (sym none ∙ ap (option_map new_simulator) t.1))
 
 local_by : (rows : List Turn) (b : Begin) → is_local b ≡ true → begin_fault (map name_of rows) b ≡ None → (L : Simulator) × (begun_as rows b ≡ Some L)
 local_by rows (Command t) e fine = cc
 local_by rows (Connect p) e fine = cc
-local_by rows (Local k) e fine = let t = named_there k rows (kind_there (has_kind (map name_of rows) k) fine) in (new_simulator t.0, ap (option_map new_simulator) t.1)
+local_by rows (Local k) e fine = let t = named_there k rows (kind_there (is_among (map name_of rows) k) fine) in (new_simulator t.0, ap (option_map new_simulator) t.1)
 
 -- ---- by its part of the scenario, if it is there
 

@@ -5,8 +5,7 @@ use Rattle.std.specs.List.{list_any}
 use Rattle.mk_base.specs.declared.LinkNo.{LinkNo}
 use Rattle.mk_base.specs.Lists.{IsIn, Each}
 use Rattle.mk_base.proofs.Lists.{each_in, in_back, in_each, in_at, in_flat_map, filter_in, filter_append, none_some, some_passes, some_same, filter_none, append_nil}
-use Rattle.mk_outside.specs.Fleets.{without}
-use Rattle.mk_outside.specs.Logs.{same_link}
+use Rattle.mk_base.specs.Links.{same_link, without}
 use Rattle.mk_outside.proofs.OnLogs.{each-append}
 use Rattle.mk_scenario.specs.declared.parts.SimPart.{SimPart}
 use Rattle.mk_scenario.specs.declared.parts.Begin.{Begin}

@@ -1,5 +1,5 @@
 -- The answers to the requests of a handshake, and what was heard of them.
-use Rattle.std.specs.Prelude.{◌≡◌, ℕ, ◌==◌, true, List, [], ◌∷◌, ◌++◌, length, take, map, filter_map, fold, Option, Some, None, slice_get, option_map, option_to_list, if◌then◌else◌}
+use Rattle.std.specs.Prelude.{◌≡◌, ℕ, ◌==◌, true, List, [], ◌∷◌, ◌++◌, take, map, filter_map, fold, Option, Some, slice_get, option_map, option_to_list, if◌then◌else◌}
 use Rattle.mk_base.specs.declared.LinkNo.{LinkNo}
 use Rattle.mk_base.specs.Lists.{BeginsWith}
 use Rattle.mk_outside.specs.declared.fleet.LogEntry.{LogEntry}

@@ -5,11 +5,11 @@ use Rattle.mk_frame.specs.Frames.{limit}
 use Rattle.mk_outside.specs.declared.fleet.LogEntry.{LogEntry}
 use Rattle.mk_plan.specs.declared.Item.{Item}
 use Rattle.mk_plan.specs.declared.Message.{Message}
+use Rattle.mk_plan.specs.Sequential.{takes_id}
 use Rattle.mk_local.specs.Replies.{item_reply, after_item}
 use Rattle.mk_local.specs.Simulators.{Simulator}
 use Rattle.mk_run_laws.specs.Lines.{Line}
 use Rattle.mk_run_laws.specs.Crews.{line_at, IsSentOnLink, IsSentWithin, IsHeard, IsUnheard}
-use Rattle.mk_run_laws.specs.Payloads.{takes_id}
 use Rattle.mk_run_links.specs.declared.answers.LinkHalt.{LinkHalt}
 use Rattle.mk_run_links.specs.declared.answers.LinkHalt.TheVariants as link_halt
 use Rattle.mk_run_links.specs.Crews.{ArePending, IsLengthOf}

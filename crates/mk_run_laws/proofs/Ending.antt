@@ -19,7 +19,8 @@ use Rattle.mk_outside.specs.Logs.{heard_on, said_on, last_write}
 use Rattle.mk_run_laws.specs.Hearing.{messages_heard, rest_heard, first_message}
 use Rattle.mk_run_laws.specs.Handshake.{setup_count, setup_payloads, call_payloads, calls_to, sim_link}
 use Rattle.mk_plan.specs.declared.Call.{Call}
-use Rattle.mk_run_laws.specs.Payloads.{AreFramed, item_payloads, id_after, link_payloads}
+use Rattle.mk_plan.specs.Sequential.{id_after}
+use Rattle.mk_run_laws.specs.Payloads.{AreFramed, item_payloads, link_payloads}
 use Rattle.mk_run_laws.specs.Lines.{Line, IsStopped}
 use Rattle.mk_run_laws.specs.Rests.{run_messages}
 use Rattle.mk_run_laws.specs.Crews.{CrewState, AreStopped, IsRestless}

@@ -18,8 +18,7 @@ use Rattle.mk_plan.specs.Acts.{Said, Told, Heard, Act, Family}
 use Rattle.mk_plan.specs.Deliveries.{supply}
 use Rattle.mk_plan.specs.Due.{is_due}
 use Rattle.mk_plan.specs.Inputs.{inputs}
-use Rattle.mk_plan.specs.Sequential.{Messages, Visit, visits, act, grown, visit, after_visits, no_acts, sequential, talk_of, items, told, all_ended, messages_in, rest, used, ends, turn_talk, next_step, ids_used, last_time}
-use Rattle.mk_run_laws.specs.Payloads.{id_after}
+use Rattle.mk_plan.specs.Sequential.{Messages, Visit, visits, act, grown, visit, after_visits, no_acts, sequential, talk_of, items, told, all_ended, messages_in, rest, used, ends, turn_talk, next_step, ids_used, last_time, id_after}
 use Rattle.mk_run_laws.specs.Kinds.{Replies, AnswersByKind, RepliesAreRight}
 use Rattle.mk_run_laws.proofs.Stepping.{same_or_not, same_is, apart_is}
 use Rattle.mk_run_laws.proofs.Numbering.{used_is}

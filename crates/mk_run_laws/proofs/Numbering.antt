@@ -20,14 +20,13 @@ use Rattle.mk_plan.specs.Acts.{Said, Told, Heard, Act}
 use Rattle.mk_plan.specs.Asks.{AskAnswer, Answered, Refused, item_of, answer}
 use Rattle.mk_plan.specs.Inputs.{value_at}
 use Rattle.mk_plan.specs.Deliveries.{supply}
-use Rattle.mk_plan.specs.Sequential.{ids_used, items, told, talk_of, response, opening}
+use Rattle.mk_plan.specs.Sequential.{ids_used, items, told, talk_of, response, opening, takes_id, id_after}
 use Rattle.mk_plan.specs.Journals.{View, OpenTurn, Owed, empty_view, view, sent, bare, said, talk_at, with_open, place_at, note, note_sent, note_got, note_right, open_after, told_more, ended_turn}
 use Rattle.mk_plan.specs.Ready.{IsReady}
 use Rattle.mk_plan.specs.Advance.{IsAdvance}
 use Rattle.mk_plan.specs.Orderly.{IsNext, IsAllowed, IsOrderlyFrom, IsOrderlySoFar}
 use Rattle.mk_order.proofs.Seen.{IsSound, follows, owed_at, same_self, not_same, open_after_is}
 use Rattle.mk_order.proofs.Told.{said_is}
-use Rattle.mk_run_laws.specs.Payloads.{takes_id, id_after}
 use Rattle.mk_run_laws.proofs.Stepping.{same_or_not}
 
 -- ---- counting

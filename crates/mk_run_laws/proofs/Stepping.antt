@@ -17,6 +17,7 @@ use Rattle.mk_plan.specs.declared.Place.{Place}
 use Rattle.mk_plan.specs.declared.Cause.{Cause}
 use Rattle.mk_plan.specs.Turns.{wrong, next_place}
 use Rattle.mk_plan.specs.Journals.{View, OpenTurn, Owed, Arrival, view, sent, got, bare, with_open, place_at, note_got, note_right, open_after, told_more}
+use Rattle.mk_plan.specs.Sequential.{takes_id, id_after}
 use Rattle.mk_message.specs.Written.{item_text}
 use Rattle.mk_scenario.specs.declared.parts.SimPart.{SimPart}
 use Rattle.mk_scenario.specs.declared.parts.Scenario.{Scenario}
@@ -24,7 +25,7 @@ use Rattle.mk_outside.specs.declared.fleet.LogEntry.{LogEntry}
 use Rattle.mk_outside.specs.declared.fleet.LogEntry.TheVariants.{Rest}
 use Rattle.mk_order.proofs.Pushing.{view_push, sent_push, got_push}
 use Rattle.mk_run_laws.specs.Handshake.{is_local, has_link, is_within, sim_link, setup_count, setup_payloads}
-use Rattle.mk_run_laws.specs.Payloads.{takes_id, id_after, item_payloads}
+use Rattle.mk_run_laws.specs.Payloads.{item_payloads}
 use Rattle.mk_run_laws.specs.Lines.{Line, IsLineAt, IsMoved, queued}
 use Rattle.mk_run_laws.specs.Kinds.{Replies, IsKindReply, KeepsToKinds}
 use Rattle.mk_run_laws.specs.Crews.{CrewState, line_at, kept_from, kept_of, IsMovedAt, given_by, AreMoved, AreParkedAtRests, IsHeard, IsSentOnLink, IsSentWithin}

@@ -4,10 +4,11 @@ use Rattle.std.specs.Prelude.{◌≡◌, ℕ, ◌==◌, true, List, [], ◌∷�
 use Rattle.mk_plan.specs.declared.Item.{Item}
 use Rattle.mk_plan.specs.declared.Message.{Message}
 use Rattle.mk_plan.specs.Journals.{Arrival}
+use Rattle.mk_plan.specs.Sequential.{id_after}
 use Rattle.mk_message.specs.Written.{item_text}
 use Rattle.mk_outside.specs.declared.fleet.LogEntry.{LogEntry}
 use Rattle.mk_outside.specs.declared.fleet.LogEntry.TheVariants.{Rest}
-use Rattle.mk_run_laws.specs.Payloads.{IsFramed, id_after}
+use Rattle.mk_run_laws.specs.Payloads.{IsFramed}
 use Rattle.mk_run_laws.specs.Lines.{Line, IsMoved, queued, IsStopped}
 
 -- the line of each simulator that has a link, and the replies of simulators within the program that

@@ -17,9 +17,8 @@ use Rattle.mk_plan.specs.declared.Place.TheVariants.{Stepping, Fetching}
 use Rattle.mk_plan.specs.Plans.{sim_count, first_id}
 use Rattle.mk_plan.specs.Turns.{is_wrong, wanted}
 use Rattle.mk_plan.specs.Acts.{Said, Heard}
-use Rattle.mk_plan.specs.Sequential.{Messages, Visit, visits, sequential, run_talk, items, all_ended}
+use Rattle.mk_plan.specs.Sequential.{Messages, Visit, visits, sequential, run_talk, items, all_ended, id_after}
 use Rattle.mk_plan.specs.Journals.{view, sent, bare}
-use Rattle.mk_run_laws.specs.Payloads.{id_after}
 
 -- the reply of simulator i to the last of the items that it was sent, without their max_advance
 abbrev pub Replies : Type 0

@@ -1,10 +1,10 @@
 -- The payloads of a run's items, and all that may be said on a link.
-use Rattle.std.specs.Prelude.{ℕ, ◌+◌, ◌≤◌, Bool, true, false, List, [], ◌∷◌, ◌++◌, length, take, filter}
+use Rattle.std.specs.Prelude.{ℕ, ◌≤◌, Bool, true, false, List, [], ◌∷◌, ◌++◌, length, take}
 use Rattle.mk_base.specs.Lists.{Each}
 use Rattle.mk_frame.specs.Frames.{limit}
 use Rattle.mk_plan.specs.declared.Call.TheVariants.{Stop}
 use Rattle.mk_plan.specs.declared.Item.{Item}
-use Rattle.mk_plan.specs.declared.Item.TheVariants.{Step, GetData, Answer, Refuse}
+use Rattle.mk_plan.specs.Sequential.{id_after}
 use Rattle.mk_message.specs.Written.{item_text, call_text}
 use Rattle.mk_scenario.specs.declared.parts.Scenario.{Scenario}
 use Rattle.mk_run_laws.specs.Handshake.{setup_payloads}
@@ -16,17 +16,6 @@ IsFramed payload = length payload ≤ limit
 -- and so is each of these
 abbrev pub AreFramed : List (List ℕ) → Type 0
 AreFramed payloads = Each IsFramed payloads
-
--- the item takes an id of the link; an Answer and a Refuse carry that of the request they answer
-abbrev pub takes_id : Item → Bool
-takes_id (Step at inputs advance) = true
-takes_id (GetData wanted) = true
-takes_id (Answer id content) = false
-takes_id (Refuse id reason) = false
-
--- the next id after these items
-abbrev pub id_after : ℕ → List Item → ℕ
-id_after id items = id + length (filter takes_id items)
 
 -- the payloads of these items, with ids that count up from id
 abbrev pub item_payloads : ℕ → List Item → List (List ℕ)

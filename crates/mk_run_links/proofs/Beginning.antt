@@ -8,13 +8,12 @@ use Rattle.std.proofs.lemmas.Option.{slice_get_read}
 use Rattle.mk_base.specs.declared.LinkNo.{LinkNo}
 use Rattle.mk_base.specs.Lists.{IsIn, Each}
 use Rattle.mk_base.proofs.Lists.{in_flat_map, flat_map_in, flat_map_append, in_at, at_in, some_passes, in_each, filter_in, some_same, none_some, map_append, append_nil}
+use Rattle.mk_base.specs.Links.{same_link, without}
 use Rattle.mk_poll.specs.Turning.{Turning}
 use Rattle.mk_poll.specs.Links.{IsAdded}
 use Rattle.mk_scenario.specs.declared.parts.Begin.{Begin}
 use Rattle.mk_scenario.specs.declared.parts.Begin.TheVariants.{Command, Connect, Local}
 use Rattle.mk_scenario.specs.declared.parts.SimPart.{SimPart}
-use Rattle.mk_outside.specs.Logs.{same_link}
-use Rattle.mk_outside.specs.Fleets.{without}
 use Rattle.mk_launch.specs.Starts.{link_count, links_in, place_of, places}
 use Rattle.mk_run_laws.specs.Lines.{Line}
 use Rattle.mk_run_laws.proofs.Stepping.{same_or_not, apart_is}

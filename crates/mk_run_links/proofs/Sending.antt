@@ -2,10 +2,11 @@
 use Rattle.std.proofs.Common.{◌≡◌, ℕ, List, [], ◌∷◌, length, Some, refl, sym, ap, ◌∙◌, subst}
 use Rattle.mk_base.proofs.Lists.{some_same}
 use Rattle.mk_plan.specs.declared.Item.{Item}
+use Rattle.mk_plan.specs.Sequential.{id_after}
 use Rattle.mk_message.specs.Written.{item_text}
 use Rattle.mk_run_laws.specs.Lines.{Line, queued}
 use Rattle.mk_run_laws.specs.Crews.{IsSentOnLink}
-use Rattle.mk_run_laws.specs.Payloads.{IsFramed, id_after}
+use Rattle.mk_run_laws.specs.Payloads.{IsFramed}
 use Rattle.mk_run_links.specs.Crews.{IsLengthOf}
 use Rattle.mk_run_links.specs.Places.{Lines, IsSet, at, crew}
 

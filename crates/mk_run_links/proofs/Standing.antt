@@ -4,8 +4,9 @@ use Rattle.std.specs.List.{list_any}
 use Rattle.mk_base.specs.declared.LinkNo.{LinkNo}
 use Rattle.mk_base.specs.Lists.{IsIn}
 use Rattle.mk_base.proofs.Lists.{none_some, some_same, in_front, in_back, filter_in, some_passes}
+use Rattle.mk_base.specs.Links.{same_link, without}
 use Rattle.mk_poll.specs.Turning.{Turning}
-use Rattle.mk_poll.specs.Links.{same_link, without, made_parked, made_ready, IsAdded, TakeOf}
+use Rattle.mk_poll.specs.Links.{made_parked, made_ready, IsAdded, TakeOf}
 use Rattle.mk_outside.specs.declared.fleet.LogEntry.{LogEntry}
 use Rattle.mk_session.specs.declared.answers.Heard.{Heard}
 use Rattle.mk_session.specs.declared.answers.Polled.{Polled}

@@ -1,5 +1,5 @@
 -- What the calls of a run's links do.
-use Rattle.std.specs.Prelude.{◌≡◌, ℕ, true, List, [], length, Option, Some, None, Result, Ok, Err}
+use Rattle.std.specs.Prelude.{◌≡◌, ℕ, true, List, length, Option, Some, None, Result, Ok, Err}
 use Rattle.mk_base.specs.declared.SimNo.{SimNo}
 use Rattle.mk_outside.specs.declared.fleet.LogEntry.{LogEntry}
 use Rattle.mk_plan.specs.declared.Item.{Item}

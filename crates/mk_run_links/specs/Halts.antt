@@ -4,7 +4,6 @@ use Rattle.mk_outside.specs.declared.fleet.LogEntry.{LogEntry}
 use Rattle.mk_outside.specs.declared.fleet.LogEntry.TheVariants.{Ended}
 use Rattle.mk_outside.specs.Logs.{last_read}
 use Rattle.mk_frame.specs.Frames.{IsTooLong, IsUnfinished}
-use Rattle.mk_plan.specs.declared.Message.{Message}
 use Rattle.mk_session.specs.declared.answers.Heard.{Heard}
 use Rattle.mk_session.specs.declared.answers.Heard.TheVariants as heard
 use Rattle.mk_session.specs.Fronts.{BeginsGarbled}

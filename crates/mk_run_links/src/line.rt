@@ -1,11 +1,11 @@
 // One line of a crew.
-ghost use Rattle.std.specs.Prelude.{◌≡◌, ℕ, ◌≤◌, ◌<◌, List, [], length, Err, false, IfOk, OnOk, OnErr};
+ghost use Rattle.std.specs.Prelude.{◌≡◌, ℕ, ◌≤◌, ◌<◌, List, length, Err, false, IfOk, OnOk, OnErr};
 ghost use Rattle.mk_base.specs.Lists.{IsIn};
 ghost use Rattle.mk_frame.specs.Frames.{limit};
 ghost use Rattle.mk_outside.specs.declared.fleet.LogEntry.{LogEntry};
 ghost use Rattle.mk_outside.specs.Counts.{HasRisen};
 ghost use Rattle.mk_outside.specs.Logs.{Adds};
-ghost use Rattle.mk_run_laws.specs.Lines.{last_bytes, queued};
+ghost use Rattle.mk_run_laws.specs.Lines.{queued};
 ghost use Rattle.mk_run_links.specs.inner.OneLine.{FlushesLine, PollsLine, StopsLine, is_pending};
 ghost use Rattle.mk_run_links.specs.Places.{new_line};
 

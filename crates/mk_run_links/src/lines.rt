@@ -1,6 +1,5 @@
 // The lines of a crew, each at the place of its simulator.
 ghost use Rattle.std.specs.Prelude.{◌≡◌, ℕ, ◌+◌, ◌≤◌, ◌<◌, ◌^◌, List, [], ◌∷◌, ◌++◌, length, filter_map, None, Some, Err, IfOk, IfSome, OnOk, OnErr};
-ghost use Rattle.mk_base.specs.Lists.{IsIn};
 ghost use Rattle.mk_frame.specs.Frames.{limit};
 ghost use Rattle.mk_outside.specs.declared.fleet.LogEntry.{LogEntry};
 ghost use Rattle.mk_outside.specs.Counts.{HasRisen};

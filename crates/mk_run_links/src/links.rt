@@ -8,7 +8,7 @@ ghost use Rattle.mk_outside.specs.Logs.{Adds};
 ghost use Rattle.mk_run_laws.specs.Lines.{Line, queued};
 ghost use Rattle.mk_poll.specs.Links.{IsAdded};
 ghost use Rattle.mk_run_laws.specs.Crews.{AreMoved, IsSentOnLink};
-ghost use Rattle.mk_run_laws.specs.Payloads.{id_after};
+ghost use Rattle.mk_plan.specs.Sequential.{id_after};
 ghost use Rattle.mk_run_links.specs.Crews.{HearsAs, IsLengthOf, StopsAll, TriesAs};
 ghost use Rattle.mk_run_links.specs.Halts.{lasting, lasting_halt};
 ghost use Rattle.mk_run_links.specs.Entries.{AreOn};

@@ -3,14 +3,13 @@ use Rattle.std.proofs.Common.{◌≡◌, ℕ, zero, suc, ◌||◌, Bool, true, f
 use Rattle.std.specs.List.{list_any}
 use Rattle.mk_base.specs.declared.SimNo.{SimNo}
 use Rattle.mk_plan.specs.declared.Message.{Message}
-use Rattle.mk_base.specs.Lists.{IsIn, same_text}
+use Rattle.mk_base.specs.Lists.{IsIn, same_text, is_among}
 use Rattle.mk_scenario.specs.declared.parts.Begin.{Begin}
 use Rattle.mk_scenario.specs.declared.parts.Begin.TheVariants.{Command, Connect, Local}
 use Rattle.mk_scenario.specs.declared.parts.SimPart.{SimPart}
 use Rattle.mk_scenario.specs.declared.parts.Scenario.{Scenario}
 use Rattle.mk_launch.specs.declared.faults.LaunchFault.{LaunchFault}
 use Rattle.mk_launch.specs.declared.faults.LaunchFault.TheVariants.{NoKind}
-use Rattle.mk_launch.specs.Ready as ready
 use Rattle.mk_launch.specs.Ready.{begin_fault}
 use Rattle.mk_local.specs.declared.turn.Turn.{Turn}
 use Rattle.mk_local.specs.Kinds.{has_kind, kind_named, name_of}
@@ -19,13 +18,13 @@ use Rattle.mk_local.proofs.Named.{named_in}
 use Rattle.mk_run_local.specs.inner.Standing.{IsFit, Stands}
 use Rattle.mk_run_local.specs.Seen.{WithinState, AreOf, arrival, begun_as, first_of, new_within, sim_at}
 
-same_kinds : (name : List ℕ) (rows : List Turn) → ready.has_kind (map name_of rows) name ≡ has_kind name rows
+same_kinds : (name : List ℕ) (rows : List Turn) → is_among (map name_of rows) name ≡ has_kind name rows
 same_kinds name [] = refl
 same_kinds name (T ∷ rows) = ap (λ b. same_text (name_of T) name || b) (same_kinds name rows)
 
 -- where a simulator can be begun within the program, its kind is there
 pub kind_there : (rows : List Turn) (name : List ℕ) (b : Begin) → b ≡ Local name → begin_fault (map name_of rows) b ≡ None → has_kind name rows ≡ true
-kind_there rows name b is none = sym (same_kinds name rows) ∙ by (ready.has_kind (map name_of rows) name) (ap (begin_fault (map name_of rows)) (sym is) ∙ none)
+kind_there rows name b is none = sym (same_kinds name rows) ∙ by (is_among (map name_of rows) name) (ap (begin_fault (map name_of rows)) (sym is) ∙ none)
   where
     by : (h : Bool) → cond h None (Some NoKind) ≡ None → h ≡ true
     by true e = refl

@@ -3,7 +3,7 @@ use Rattle.std.proofs.Common.{◌≡◌, ℕ, suc, ◌+◌, ◌<◌, ℤ, ◌≤
 use Rattle.std.proofs.lemmas.Int.{ints}
 use Rattle.mk_base.specs.declared.json.Json.{Json}
 use Rattle.mk_base.specs.declared.tier.Tier.{Tier}
-use Rattle.mk_base.specs.Lists.{IsIn}
+use Rattle.mk_base.specs.Lists.{IsIn, last_of}
 use Rattle.mk_base.proofs.Lists.{map_append}
 use Rattle.mk_plan.specs.declared.Plan.{Plan}
 use Rattle.mk_plan.specs.declared.Input.{Input}
@@ -15,7 +15,7 @@ use Rattle.mk_plan.specs.declared.Place.{Place}
 use Rattle.mk_plan.specs.declared.Place.TheVariants.{Stepping, Fetching}
 use Rattle.mk_plan.specs.Plans.{first_id, kind_of}
 use Rattle.mk_plan.specs.Turns.{is_wrong, wanted, wrong}
-use Rattle.mk_plan.specs.Sequential.{Visit, visits, at_tier}
+use Rattle.mk_plan.specs.Sequential.{Visit, visits, at_tier, takes_id, id_after}
 use Rattle.mk_plan.specs.Journals.{bare}
 use Rattle.mk_order.proofs.VisitOrder.{visits_are}
 use Rattle.mk_scenario.specs.declared.parts.Scenario.{Scenario}
@@ -24,13 +24,11 @@ use Rattle.mk_scenario.specs.declared.parts.Begin.{Begin}
 use Rattle.mk_scenario.specs.declared.parts.Begin.TheVariants.{Command, Connect, Local}
 use Rattle.mk_run_laws.specs.Handshake.{calls_to, is_within, setup_count}
 use Rattle.mk_run_laws.specs.Kinds.{RepliesAreRight}
-use Rattle.mk_run_laws.specs.Payloads as payloads
 use Rattle.mk_local.specs.declared.turn.Turn.{Turn}
 use Rattle.mk_local.specs.Kinds.{kind_named, type_of}
 use Rattle.mk_local.specs.Calls.{after_call}
 use Rattle.mk_local.specs.Replies.{after_item, after_items, item_reply, replies}
-use Rattle.mk_local.specs.Right as right
-use Rattle.mk_local.specs.Right.{EndsRight, Fits, last_of}
+use Rattle.mk_local.specs.Right.{EndsRight, Fits}
 use Rattle.mk_local.specs.Rows.{IsStepTime}
 use Rattle.mk_local.specs.Simulators.{Simulator, new_simulator}
 use Rattle.mk_local.proofs.InOrder.{right_in_order}
@@ -41,13 +39,7 @@ use Rattle.mk_run_local.proofs.Numbers.{IsStepping, new_steps, calls_step}
 
 -- ---- ids
 
-takes_same : (item : Item) → right.takes_id item ≡ payloads.takes_id item
-takes_same (Step at inputs advance) = refl
-takes_same (GetData wanted) = refl
-takes_same (Answer asked content) = refl
-takes_same (Refuse asked reason) = refl
-
-takes_bare : (item : Item) → payloads.takes_id (bare item) ≡ payloads.takes_id item
+takes_bare : (item : Item) → takes_id (bare item) ≡ takes_id item
 takes_bare (Step at inputs advance) = refl
 takes_bare (GetData wanted) = refl
 takes_bare (Answer asked content) = refl
@@ -56,22 +48,13 @@ takes_bare (Refuse asked reason) = refl
 abbrev count_step : Bool → Item → List Item → List Item
 count_step b item items = cond b (item ∷ items) items
 
-count_same : (items : List Item) → length (filter right.takes_id items) ≡ length (filter payloads.takes_id items)
-count_same [] = refl
-count_same (item ∷ items) = ap (λ b. length (count_step b item (filter right.takes_id items))) (takes_same item)
-    ∙ elim (payloads.takes_id item) as (λ b. length (count_step b item (filter right.takes_id items)) ≡ length (count_step b item (filter payloads.takes_id items))) [ true ↦ ap suc (count_same items) | false ↦ count_same items ]
-
--- the next id after the same items, by the words of simulators and by those of links
-pub ids_same : (id : ℕ) (items : List Item) → right.id_after id items ≡ payloads.id_after id items
-ids_same id items = ap (λ n. id + n) (count_same items)
-
-count_bare : (items : List Item) → length (filter payloads.takes_id (map bare items)) ≡ length (filter payloads.takes_id items)
+count_bare : (items : List Item) → length (filter takes_id (map bare items)) ≡ length (filter takes_id items)
 count_bare [] = refl
-count_bare (item ∷ items) = ap (λ b. length (count_step b (bare item) (filter payloads.takes_id (map bare items)))) (takes_bare item)
-    ∙ elim (payloads.takes_id item) as (λ b. length (count_step b (bare item) (filter payloads.takes_id (map bare items))) ≡ length (count_step b item (filter payloads.takes_id items))) [ true ↦ ap suc (count_bare items) | false ↦ count_bare items ]
+count_bare (item ∷ items) = ap (λ b. length (count_step b (bare item) (filter takes_id (map bare items)))) (takes_bare item)
+    ∙ elim (takes_id item) as (λ b. length (count_step b (bare item) (filter takes_id (map bare items))) ≡ length (count_step b item (filter takes_id items))) [ true ↦ ap suc (count_bare items) | false ↦ count_bare items ]
 
-ids_bare : (id : ℕ) (items : List Item) → right.id_after id (map bare items) ≡ payloads.id_after id items
-ids_bare id items = ids_same id (map bare items) ∙ ap (λ n. id + n) (count_bare items)
+ids_bare : (id : ℕ) (items : List Item) → id_after id (map bare items) ≡ id_after id items
+ids_bare id items = ap (λ n. id + n) (count_bare items)
 
 -- ---- the last reply
 
@@ -90,7 +73,7 @@ after_bare L (Refuse asked reason) = refl
 abbrev next_id : Simulator → ℕ → Item → ℕ
 next_id L id item = cond (is_some (item_reply L id item)) (id + 1) id
 
-one_id : (L : Simulator) (id : ℕ) (item : Item) (items : List Item) → right.id_after (next_id L id item) items ≡ right.id_after id (item ∷ items)
+one_id : (L : Simulator) (id : ℕ) (item : Item) (items : List Item) → id_after (next_id L id item) items ≡ id_after id (item ∷ items)
 one_id L id (Step at inputs advance) items = omega arith
 one_id L id (GetData wanted) items = omega arith
 one_id L id (Answer asked content) items = refl
@@ -102,14 +85,14 @@ last_behind (n ∷ []) m = refl
 last_behind (n ∷ k ∷ ms) m = last_behind (k ∷ ms) m
 
 -- the messages for some items and one more end with the reply to that one
-ends_with : (L : Simulator) (id : ℕ) (before : List Item) (item : Item) (m : Message) → item_reply (after_items L before) (right.id_after id before) item ≡ Some m → (ms : List Message) × (replies L id (before ++ item ∷ []) ≡ ms ++ m ∷ [])
+ends_with : (L : Simulator) (id : ℕ) (before : List Item) (item : Item) (m : Message) → item_reply (after_items L before) (id_after id before) item ≡ Some m → (ms : List Message) × (replies L id (before ++ item ∷ []) ≡ ms ++ m ∷ [])
 ends_with L id [] item m is = ([], ap (λ (o : Option Message). option_to_list o ++ []) (ap (λ n. item_reply L n item) (let e : id ≡ id + 0 = omega arith in e) ∙ is))
 ends_with L id (first ∷ before) item m is =
     let t = ends_with (after_item L first) (next_id L id first) before item m (ap (λ n. item_reply (after_items (after_item L first) before) n item) (one_id L id first before) ∙ is) in
     (option_to_list (item_reply L id first) ++ t.0, ap (λ (ms : List Message). option_to_list (item_reply L id first) ++ ms) t.1 ∙ sym (append_assoc (option_to_list (item_reply L id first)) t.0 (m ∷ [])))
 
-last_is : (L : Simulator) (id : ℕ) (before : List Item) (item : Item) (m : Message) → item_reply (after_items L before) (right.id_after id before) item ≡ Some m → last_of (replies L id (before ++ item ∷ [])) ≡ Some m
-last_is L id before item m is = let t = ends_with L id before item m is in ap last_of t.1 ∙ last_behind t.0 m
+last_is : (L : Simulator) (id : ℕ) (before : List Item) (item : Item) (m : Message) → item_reply (after_items L before) (id_after id before) item ≡ Some m → last_of (replies L id (before ++ item ∷ [])) ≡ Some m
+last_is L id before item m is = let t = ends_with L id before item m is in ap (λ (l : List Message). last_of l) t.1 ∙ last_behind t.0 m
 
 items_behind : (L : Simulator) (items : List Item) (item : Item) → after_items L (items ++ item ∷ []) ≡ after_item (after_items L items) item
 items_behind L [] item = refl
@@ -123,7 +106,7 @@ module _ (rows : List Turn) (S : Scenario) (i : ℕ) where
   reply_made : (first : Simulator) (items : List Item) (m : Message) → made rows S i ≡ Some first → last_of (replies first (setup_count S i) items) ≡ Some m → kind_reply_of rows S i items ≡ m
   reply_made first items m there last = ap (λ (o : Option Simulator). unwrap_or (option_and_then (λ L. last_of (replies L (setup_count S i) items)) o) no_reply) there ∙ ap (λ (o : Option Message). unwrap_or o no_reply) last
 
-  come_on : (items : List Item) (L : Simulator) (item : Item) (m : Message) → HasCome rows S i items L → item_reply L (payloads.id_after (setup_count S i) items) item ≡ Some m
+  come_on : (items : List Item) (L : Simulator) (item : Item) (m : Message) → HasCome rows S i items L → item_reply L (id_after (setup_count S i) items) item ≡ Some m
       → (m ≡ kind_reply_of rows S i (map bare (items ++ item ∷ []))) × HasCome rows S i (items ++ item ∷ []) (after_item L item)
   come_on items L item m come is = (
     sym (ap (kind_reply_of rows S i) (bare_behind items item) ∙ reply_made come.first (map bare items ++ bare item ∷ []) m come.begun (last_is come.first (setup_count S i) (map bare items) (bare item) m here)),
@@ -135,9 +118,9 @@ module _ (rows : List Turn) (S : Scenario) (i : ℕ) where
     },
   )
     where
-      here : item_reply (after_items come.first (map bare items)) (right.id_after (setup_count S i) (map bare items)) (bare item) ≡ Some m
-      here = ap (λ (N : Simulator). item_reply N (right.id_after (setup_count S i) (map bare items)) (bare item)) (sym come.sent)
-          ∙ ap (λ n. item_reply L n (bare item)) (ids_bare (setup_count S i) items) ∙ reply_bare L (payloads.id_after (setup_count S i) items) item ∙ is
+      here : item_reply (after_items come.first (map bare items)) (id_after (setup_count S i) (map bare items)) (bare item) ≡ Some m
+      here = ap (λ (N : Simulator). item_reply N (id_after (setup_count S i) (map bare items)) (bare item)) (sym come.sent)
+          ∙ ap (λ n. item_reply L n (bare item)) (ids_bare (setup_count S i) items) ∙ reply_bare L (id_after (setup_count S i) items) item ∙ is
 
 pub replies_kinds : RepliesAreKinds
 replies_kinds rows S i items L come item m is = come_on rows S i items L item m come is
@@ -196,27 +179,27 @@ module _ (rows : List Turn) (S : Scenario) (P : Plan) (fits : FitsKinds rows S P
     abbrev n : ℕ
     n = setup_count S i
 
-    ids : (before : List Item) → right.id_after n before ≡ payloads.id_after (first_id P i) before
-    ids before = ids_same n before ∙ ap (λ k. payloads.id_after k before) (sym (fits.first i within))
+    ids : (before : List Item) → id_after n before ≡ id_after (first_id P i) before
+    ids before = ap (λ k. id_after k before) (sym (fits.first i within))
 
     -- what the simulator sends last is a success with this id, and right there
     reply_right : (items : List Item) (id : ℕ) (place : Place) → EndsRight P i L n items id place → (content : Json) × (kind_reply_of rows S i items ≡ Success id content) × (is_wrong P i place (Success id content) ≡ false)
     reply_right items id place ends = (ends.content, reply_made rows S i L items (Success id ends.content) made_is ends.sent, right_is P i place (Success id ends.content) ends.right)
 
     module _ (before : List Item) (x : Tier) (inputs : List Input) (visit : IsIn {X = Visit} (x, i) (visits P)) where
-      both : EndsRight P i L n (before ++ Step x inputs (pos 0) ∷ []) (right.id_after n before) (Stepping x (right.id_after n before) 0)
-          × EndsRight P i L n ((before ++ Step x inputs (pos 0) ∷ []) ++ GetData (wanted P i) ∷ []) (right.id_after n before + 1) (Fetching x (right.id_after n before + 1))
+      both : EndsRight P i L n (before ++ Step x inputs (pos 0) ∷ []) (id_after n before) (Stepping x (id_after n before) 0)
+          × EndsRight P i L n ((before ++ Step x inputs (pos 0) ∷ []) ++ GetData (wanted P i) ∷ []) (id_after n before + 1) (Fetching x (id_after n before + 1))
       both = right_in_order P i L fit n before x (visit_time x i visit) inputs (pos 0) (wanted P i)
 
-      to_step : (content : Json) × (kind_reply_of rows S i (before ++ Step x inputs (pos 0) ∷ []) ≡ Success (payloads.id_after (first_id P i) before) content)
-          × (is_wrong P i (Stepping x (payloads.id_after (first_id P i) before) 0) (Success (payloads.id_after (first_id P i) before) content) ≡ false)
+      to_step : (content : Json) × (kind_reply_of rows S i (before ++ Step x inputs (pos 0) ∷ []) ≡ Success (id_after (first_id P i) before) content)
+          × (is_wrong P i (Stepping x (id_after (first_id P i) before) 0) (Success (id_after (first_id P i) before) content) ≡ false)
       to_step = subst (λ k. (content : Json) × (kind_reply_of rows S i (before ++ Step x inputs (pos 0) ∷ []) ≡ Success k content) × (is_wrong P i (Stepping x k 0) (Success k content) ≡ false)) (ids before)
-          (reply_right (before ++ Step x inputs (pos 0) ∷ []) (right.id_after n before) (Stepping x (right.id_after n before) 0) both.0)
+          (reply_right (before ++ Step x inputs (pos 0) ∷ []) (id_after n before) (Stepping x (id_after n before) 0) both.0)
 
-      to_get_data : (content : Json) × (kind_reply_of rows S i ((before ++ Step x inputs (pos 0) ∷ []) ++ GetData (wanted P i) ∷ []) ≡ Success (payloads.id_after (first_id P i) before + 1) content)
-          × (is_wrong P i (Fetching x (payloads.id_after (first_id P i) before + 1)) (Success (payloads.id_after (first_id P i) before + 1) content) ≡ false)
+      to_get_data : (content : Json) × (kind_reply_of rows S i ((before ++ Step x inputs (pos 0) ∷ []) ++ GetData (wanted P i) ∷ []) ≡ Success (id_after (first_id P i) before + 1) content)
+          × (is_wrong P i (Fetching x (id_after (first_id P i) before + 1)) (Success (id_after (first_id P i) before + 1) content) ≡ false)
       to_get_data = subst (λ k. (content : Json) × (kind_reply_of rows S i ((before ++ Step x inputs (pos 0) ∷ []) ++ GetData (wanted P i) ∷ []) ≡ Success (k + 1) content) × (is_wrong P i (Fetching x (k + 1)) (Success (k + 1) content) ≡ false)) (ids before)
-          (reply_right ((before ++ Step x inputs (pos 0) ∷ []) ++ GetData (wanted P i) ∷ []) (right.id_after n before + 1) (Fetching x (right.id_after n before + 1)) both.1)
+          (reply_right ((before ++ Step x inputs (pos 0) ∷ []) ++ GetData (wanted P i) ∷ []) (id_after n before + 1) (Fetching x (id_after n before + 1)) both.1)
 
   all_right : RepliesAreRight (kind_reply_of rows S) (is_within S) P
   all_right = record {

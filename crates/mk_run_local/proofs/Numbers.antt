@@ -5,6 +5,7 @@ use Rattle.std.specs.List.{enumerate_from}
 use Rattle.mk_base.specs.declared.json.Json.{Json}
 use Rattle.mk_base.specs.Lists.{Each}
 use Rattle.mk_base.specs.Trees.{whole_in, member}
+use Rattle.mk_base.specs.Numbers.{IsShort}
 use Rattle.mk_plan.specs.declared.Call.{Call}
 use Rattle.mk_plan.specs.declared.Call.TheVariants.{Init, Create, SetupDone, Stop}
 use Rattle.mk_plan.specs.declared.Input.{Input}
@@ -21,7 +22,7 @@ use Rattle.mk_local.specs.Simulators.{Simulator, new_simulator}
 use Rattle.mk_local.specs.Steps.{turned, entity_step, after_step}
 use Rattle.mk_local.specs.Calls.{whole_from_to, as_step, as_setting, step_in, setting_in, new_entity, init_content, create_content, unless_refused, after_call, least_setting, greatest_setting}
 use Rattle.mk_local.specs.Replies.{after_item}
-use Rattle.mk_run_local.specs.inner.Standing.{IsShort, IsShortIfThere, IsFitEntity, IsFit}
+use Rattle.mk_run_local.specs.inner.Standing.{IsShortIfThere, IsFitEntity, IsFit}
 
 pub clamped_short : (n : ℤ) → IsShort (clamped n)
 clamped_short (pos n) = (omega (arith, ints), omega (arith, ints))

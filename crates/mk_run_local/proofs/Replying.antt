@@ -11,6 +11,7 @@ use Rattle.mk_base.specs.declared.json.Json as tree
 use Rattle.mk_base.specs.Lists.{Each, same_text, text_order}
 use Rattle.mk_base.specs.Trees.{is_in_range, in_range}
 use Rattle.mk_base.proofs.OnTrees.{trees_compute}
+use Rattle.mk_base.specs.Numbers.{IsShort}
 use Rattle.mk_json.proofs.LevelTests.{range-Object}
 use Rattle.mk_plan.specs.declared.Input.{Input}
 use Rattle.mk_plan.specs.declared.Want.{Want}
@@ -29,7 +30,7 @@ use Rattle.mk_local.specs.Steps.{earlier, entity_step, least, number_or_null, ow
 use Rattle.mk_local.specs.Data.{data_content, entity_named, later_at, later_made, output, output_time, outputs, part, place_named, placed, time_part}
 use Rattle.mk_local.specs.Replies.{item_reply}
 use Rattle.mk_run_local.specs.Calls.{IsFitSuccess}
-use Rattle.mk_run_local.specs.inner.Standing.{IsShort, IsShortIfThere, IsFitEntity, IsFit}
+use Rattle.mk_run_local.specs.inner.Standing.{IsShortIfThere, IsFitEntity, IsFit}
 use Rattle.mk_run_local.proofs.Numbers.{clamped_short, next_short}
 
 abbrev Member : Type 0

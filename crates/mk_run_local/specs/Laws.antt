@@ -8,10 +8,10 @@ use Rattle.mk_plan.specs.declared.Want.{Want}
 use Rattle.mk_plan.specs.Plans.{kind_of, first_id}
 use Rattle.mk_plan.specs.Turns.{wanted}
 use Rattle.mk_plan.specs.Journals.{bare}
+use Rattle.mk_plan.specs.Sequential.{id_after}
 use Rattle.mk_scenario.specs.declared.parts.Scenario.{Scenario}
 use Rattle.mk_run_laws.specs.Handshake.{setup_count, is_within}
 use Rattle.mk_run_laws.specs.Kinds.{RepliesAreRight}
-use Rattle.mk_run_laws.specs.Payloads.{id_after}
 use Rattle.mk_local.specs.declared.turn.Turn.{Turn}
 use Rattle.mk_local.specs.Kinds.{type_of}
 use Rattle.mk_local.specs.Replies.{after_item, after_items, item_reply}

@@ -1,7 +1,7 @@
 -- What the simulators within the program are after their setup, and what each replies in a run.
-use Rattle.std.specs.Prelude.{ℕ, Bool, List, fold, Option, Some, slice_get, unwrap_or, option_map, option_and_then}
+use Rattle.std.specs.Prelude.{ℕ, List, fold, Option, slice_get, unwrap_or, option_map, option_and_then}
 use Rattle.mk_base.specs.declared.json.Json as tree
-use Rattle.mk_plan.specs.declared.Item.{Item}
+use Rattle.mk_base.specs.Lists.{last_of}
 use Rattle.mk_plan.specs.declared.Message.{Message}
 use Rattle.mk_plan.specs.declared.Message.TheVariants.{Success}
 use Rattle.mk_scenario.specs.declared.parts.Scenario.{Scenario}
@@ -10,7 +10,6 @@ use Rattle.mk_run_laws.specs.Kinds.{Replies}
 use Rattle.mk_local.specs.declared.turn.Turn.{Turn}
 use Rattle.mk_local.specs.Calls.{after_call}
 use Rattle.mk_local.specs.Replies.{replies}
-use Rattle.mk_local.specs.Right.{last_of}
 use Rattle.mk_local.specs.Simulators.{Simulator}
 use Rattle.mk_run_local.specs.Seen.{first_of}
 

@@ -1,5 +1,5 @@
 // The simulators within the program: what each replies before and in a run.
-ghost use Rattle.std.specs.Prelude.{◌≡◌, ℕ, List, [], None, map, IfOk, IfSome, OnOk, OnErr, is_some, MatchOption};
+ghost use Rattle.std.specs.Prelude.{◌≡◌, List, [], None, map, IfOk, IfSome, OnOk, OnErr, is_some, MatchOption};
 ghost use Rattle.mk_base.specs.Lists.{Each};
 ghost use Rattle.mk_launch.specs.Ready.{CanBegin, IsPrepared, begin_fault};
 ghost use Rattle.mk_local.specs.declared.turn.Turn.{Turn};

@@ -7,8 +7,8 @@ use Rattle.mk_tiers.specs.declared.bits.Bits.{Bits}
 use Rattle.mk_tiers.specs.Seen.{Seen, IsOf, IsEarliestIn}
 use Rattle.mk_tiers.specs.Sets.{has}
 
--- as bounds go from A to B they stay those of their plan and the set grows: who isn't in it after
--- that may step from the same time on by B as by A
+-- as bounds go from A to B they stay those of their plan, with as many simulators, and the set
+-- grows: who isn't in it after that may step from the same time on by B as by A
 pub record HasNoted (A B : Seen) (old new : Bits) : Type 0 where
   pub plan : (P : Plan) → IsOf P A → IsOf P B
   pub count : length B.owns ≡ length A.owns

@@ -18,7 +18,7 @@ use Rattle.std.specs.Ordering.{match_ordering, nat_cmp}
 use Rattle.std.specs.Str.{chars, is_utf8}
 use Rattle.std.specs.Str.Parse.{AllDigits}
 use Rattle.mk_base.specs.declared.json.Json as tree
-use Rattle.mk_base.specs.Lists.{Each, same_text, text_order}
+use Rattle.mk_base.specs.Lists.{Each, same_text, text_order, last_of}
 use Rattle.mk_base.specs.Proper.{is_proper}
 use Rattle.mk_base.specs.Trees as trees
 use Rattle.mk_base.specs.Trees.{deepest, nesting}
@@ -44,7 +44,6 @@ use Rattle.mk_local.specs.declared.entity.Entity.{Entity}
 use Rattle.mk_local.specs.Data.{data_content, entity_named, output_time, outputs, part, place_named, placed, time_part}
 use Rattle.mk_local.specs.Kinds.{output_of}
 use Rattle.mk_local.specs.Replies.{after_item, item_reply, replies}
-use Rattle.mk_local.specs.Right.{last_of}
 use Rattle.mk_local.specs.Simulators.{Simulator}
 use Rattle.mk_local.specs.Steps.{next_of, number_or_null, step_content}
 use Rattle.mk_run_local.specs.Made.{kind_reply_of, made, no_reply}

@@ -46,7 +46,7 @@ fn put_counted(alloc: Global, out: &mut Vec<u8>, word: &str, n: usize) -> Result
     put(out, line.as_str())
 }
 
-// The simulator's id.
+// The simulator's id; no text where there is none of this number.
 pub fn id_at(scenario: &Scenario, sim: usize) -> &str
     ensures { result.now ≡ id_at scenario.now sim }
 {
@@ -56,7 +56,7 @@ pub fn id_at(scenario: &Scenario, sim: usize) -> &str
     }
 }
 
-// The simulator of this rank, by its number.
+// The simulator of this rank, by its number; 0 where none has it.
 fn sim_of_rank(ranks: &[u32], rank: u32) -> usize
     ensures { result ≡ sim_of_rank ranks.now rank }
 {

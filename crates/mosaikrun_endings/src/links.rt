@@ -1,5 +1,5 @@
 // What is said of a link that ended, or on which no message came.
-ghost use Rattle.std.specs.Prelude.{◌≡◌, [], ◌++◌, OnOk};
+ghost use Rattle.std.specs.Prelude.{◌≡◌, [], OnOk};
 ghost use Rattle.mosaikrun_endings.specs.Links.{text_of_link};
 
 use crate::lines::{put, put_number};

@@ -1,5 +1,5 @@
 // What is said where no plan can be made.
-ghost use Rattle.std.specs.Prelude.{◌≡◌, [], ◌++◌, ◌∷◌, OnOk};
+ghost use Rattle.std.specs.Prelude.{◌≡◌, [], ◌++◌, OnOk};
 ghost use Rattle.std.specs.Fmt.{decimal};
 ghost use Rattle.mosaikrun_endings.specs.Setups.{spaced, text_of_connect, text_of_create, text_of_meta, text_of_setup};
 

@@ -1,5 +1,5 @@
 // What is said of a file that says no watches.
-ghost use Rattle.std.specs.Prelude.{◌≡◌, [], ◌++◌, OnOk};
+ghost use Rattle.std.specs.Prelude.{◌≡◌, [], OnOk};
 ghost use Rattle.mosaikrun_endings.specs.Watches.{text_of_watches};
 
 use crate::lines::{put, put_after, put_two};

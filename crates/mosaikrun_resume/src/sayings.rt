@@ -1,7 +1,6 @@
 // What is said of how a resumed run ended.
 ghost use Rattle.std.specs.Prelude.{◌≡◌, [], IfOk, IfErr, Ok, Err};
 ghost use Rattle.mk_plan.specs.declared.Plan.{Plan};
-ghost use Rattle.mk_run.specs.declared.outcome.Outcome.{Outcome};
 ghost use Rattle.mk_run_crew.specs.declared.halt.Halt.{Halt};
 ghost use Rattle.mk_run.specs.Outcomes.{outcome_of};
 ghost use Rattle.mosaikrun_endings.specs.declared.ending.Ending.TheVariants as endings;

@@ -11,11 +11,12 @@ use Rattle.mk_outside.specs.Logs.{said_on}
 use Rattle.mk_plan.specs.declared.Call.{Call}
 use Rattle.mk_plan.specs.declared.Call.TheVariants.{Stop}
 use Rattle.mk_plan.specs.declared.Item.TheVariants.{Step}
+use Rattle.mk_plan.specs.Sequential.{id_after}
 use Rattle.mk_scenario.specs.declared.parts.Scenario.{Scenario}
 use Rattle.mk_local.specs.declared.turn.Turn.{Turn}
 use Rattle.mk_local.specs.Kinds.{name_of}
 use Rattle.mk_run_laws.specs.Handshake.{call_payloads, calls_to, setup_payloads}
-use Rattle.mk_run_laws.specs.Payloads.{id_after, link_payloads}
+use Rattle.mk_run_laws.specs.Payloads.{link_payloads}
 use Rattle.mk_run_local.specs.Made.{kind_reply_of}
 use Rattle.mk_setup.specs.declared.fault.SetupFault.TheVariants as fault
 use Rattle.mk_run_crew.specs.declared.halt.Halt.{Halt}

@@ -10,8 +10,7 @@ use Rattle.mk_plan.specs.declared.Item.{Item}
 use Rattle.mk_plan.specs.declared.Item.TheVariants.{Step, GetData, Answer, Refuse}
 use Rattle.mk_plan.specs.Plans.{sim_count}
 use Rattle.mk_plan.specs.Journals.{bare}
-use Rattle.mk_plan.specs.Report.{steps_in, summary}
-use Rattle.mk_record.specs.Summary.{counts, inputs_of, last_line, last_stepped, values_in}
+use Rattle.mk_plan.specs.Report.{steps_in, summary, inputs_of, values_in, counts, last_line, last_stepped}
 use Rattle.mk_record_report.proofs.Bare.{joined_numbered, line_bare, map_numbered, steps_bare}
 
 -- the inputs stay

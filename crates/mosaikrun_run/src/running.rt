@@ -1,8 +1,6 @@
 // From a scenario, or a file's bytes, to the text and the record of its run.
 ghost use Rattle.std.specs.Prelude.{◌≡◌, ◌≤◌, ◌⊎◌, IfOk, IfErr, IfSome, Some, None, Ok, Err, map, option_map, true};
 ghost use Rattle.std.specs.List.{list_all};
-ghost use Rattle.mk_plan.specs.declared.Plan.{Plan};
-ghost use Rattle.mk_plan.specs.declared.Journal.{Journal};
 ghost use Rattle.mk_scenario.specs.declared.parts.Scenario.{Scenario};
 ghost use Rattle.mk_scenario.specs.Scenarios.{scenario_of};
 ghost use Rattle.mk_scenario.specs.Wellformed.{IsWellformed};

@@ -1,5 +1,4 @@
 -- For proofs alone. Beside `Fakes`, which has what a reader needs.
-use Rattle.std.specs.Prelude.{◌-◌}
 use Rattle.mk_fakes.specs.declared.failing.Failing.{Failing}
 use Rattle.mk_fakes.specs.Fakes.{next_count}
 

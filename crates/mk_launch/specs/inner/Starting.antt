@@ -3,9 +3,9 @@ use Rattle.std.specs.Prelude.{◌≡◌, ◌+◌, List, [], ◌∷◌, ◌++◌,
 use Rattle.std.specs.Bool.{⊤}
 use Rattle.std.specs.Result.{result_err}
 use Rattle.mk_base.specs.declared.LinkNo.{LinkNo}
+use Rattle.mk_base.specs.Links.{without}
 use Rattle.mk_outside.specs.Asked.{Asked, to_start}
 use Rattle.mk_outside.specs.declared.fleet.Start.{Start}
-use Rattle.mk_outside.specs.Fleets.{without}
 use Rattle.mk_scenario.specs.declared.parts.Begin.{Begin}
 use Rattle.mk_scenario.specs.declared.parts.Begin.TheVariants.{Command, Connect, Local}
 use Rattle.mk_launch.specs.declared.starting.Begun.{Begun}

@@ -7,7 +7,8 @@ use Rattle.mk_plan.specs.declared.Message.TheVariants.{Ask}
 
 -- the request, where the arguments are a list and an object
 abbrev pub ask_named : ℕ → List ℕ → Json → Json → Option Message
-ask_named id name args named = option_and_then (λ items. if is_object named then Some (Ask id name items named) else None) (items_in args)
+ask_named id name args named = option_and_then
+    (λ items. if is_object named then Some (Ask id name items named) else None) (items_in args)
 
 -- the same where the name is a text
 abbrev pub ask_in : ℕ → Json → Json → Json → Option Message

@@ -39,8 +39,8 @@ abbrev pub IsCatching : Counts → ℕ → Scenario → SetupReplies → Replies
 IsCatching saved started S replies reply P J heard = IsCatchingWith
     (λ i. free_items J i (heard i)) (awaited S reply J heard) saved started S replies reply P J heard
 
--- a reply of simulator s that was taken was awaited: the simulator runs within the program, it is its
--- kind's reply to what was free, and none of it is kept now; of the others as before
+-- a reply of simulator s that was taken was awaited: the simulator runs within the program, it is
+-- its kind's reply to what was free, and none of it is kept now; of the others as before
 pub record WasAwaited (S : Scenario) (reply : Replies) (J : List Entry) (heard : Counts) (s : ℕ)
     (m : Message) (kept : List Arrival) : Type 0 where
   pub inside : is_within S s ≡ true

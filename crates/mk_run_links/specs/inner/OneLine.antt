@@ -2,10 +2,11 @@
 use Rattle.std.specs.Prelude.{◌≡◌, ℕ, ◌⊎◌, Bool, true, false, List, [], ◌∷◌, ◌++◌, Some, Option, None, option_map, ⊤}
 use Rattle.mk_base.specs.declared.LinkNo.{LinkNo}
 use Rattle.mk_base.specs.Lists.{Each, BeginsWith}
+use Rattle.mk_base.specs.Links.{same_link}
 use Rattle.mk_plan.specs.declared.Message.{Message}
 use Rattle.mk_outside.specs.declared.fleet.LogEntry.{LogEntry}
 use Rattle.mk_outside.specs.declared.fleet.LogEntry.TheVariants.{NotSaid}
-use Rattle.mk_outside.specs.Logs.{IsOf, heard_on, said_on, last_write, same_link}
+use Rattle.mk_outside.specs.Logs.{IsOf, heard_on, said_on, last_write}
 use Rattle.mk_session.specs.declared.answers.Heard.{Heard}
 use Rattle.mk_session.specs.declared.answers.Heard.TheVariants as heard
 use Rattle.mk_session.specs.declared.answers.Polled.{Polled}

@@ -1,16 +1,13 @@
--- What holds of the simulators within the program and of the replies that are kept. For proofs
--- alone.
-use Rattle.std.specs.Prelude.{◌≡◌, ℕ, ℤ, pos, negsuc, ◌≤ℤ◌, Option, Some, None, ⊤}
+-- For proofs alone. What holds of the simulators within the program and of the replies that are
+-- kept.
+use Rattle.std.specs.Prelude.{◌≡◌, ℕ, ℤ, Option, Some, None, ⊤}
 use Rattle.mk_base.specs.Lists.{Each}
+use Rattle.mk_base.specs.Numbers.{IsShort}
 use Rattle.mk_plan.specs.Journals.{Arrival}
 use Rattle.mk_local.specs.declared.entity.Entity.{Entity}
 use Rattle.mk_local.specs.Simulators.{Simulator}
 use Rattle.mk_run_local.specs.Seen.{WithinState, sim_at}
 use Rattle.mk_run_local.specs.Calls.{IsFitSuccess}
-
--- a number within 64 bits
-abbrev pub IsShort : ℤ → Type 0
-IsShort n = (negsuc 9223372036854775807 ≤ℤ n) × (n ≤ℤ pos 9223372036854775807)
 
 -- the same, if it is there
 abbrev pub IsShortIfThere : Option ℤ → Type 0

@@ -1,6 +1,7 @@
 use Rattle.std.proofs.Common.{rules, ◌≡◌, ◌≤◌, ◌++◌, [], ◌∷◌, ap, sym, subst, ◌∙◌, List}
 use Rattle.mk_base.specs.declared.LinkNo.{LinkNo}
-use Rattle.mk_poll.specs.Links.{times_in, without}
+use Rattle.mk_base.specs.Links.{without}
+use Rattle.mk_poll.specs.Links.{times_in}
 use Rattle.mk_poll.proofs.Apart.{last_left}
 use Rattle.mk_poll.proofs.places.leave_last.Goals as goal
 
