@@ -6,11 +6,10 @@ use Rattle.mk_plan.specs.declared.Plan.{Plan}
 use Rattle.mk_plan.specs.Plans.{IsValidPlan}
 use Rattle.mk_tiers.specs.declared.bits.Bits.{Bits}
 use Rattle.mk_tiers.specs.declared.net.Net.{Net}
-use Rattle.mk_tiers.specs.Seen.{Seen, IsOf, IsEarliestIn}
+use Rattle.mk_tiers.specs.Seen.{Seen, AreOfPlan, IsEarliestIn}
 use Rattle.mk_tiers.specs.Noted.{HasNoted}
-use Rattle.mk_tiers.specs.Sets.{has}
 use Rattle.mk_tiers.specs.Times.{unpacked}
-use Rattle.mk_tiers.specs.inner.Standing.{Stands}
+use Rattle.mk_tiers.specs.inner.Standing.{AreLabelled}
 use Rattle.mk_tiers.proofs.Speaking.{earliest_is, seen}
 
 -- there is one least end of walks
@@ -21,8 +20,8 @@ one_earliest P B s (Some e) None h k = absurd (k e h.reached)
 one_earliest P B s (Some e) (Some o) h k = ap Some (up_to_antisym e o (h.least o k.reached) (k.least e h.reached))
 
 -- where the label is as it was, so is the least end of walks
-pub earliest_stays : (net : Net) (owns labels owns' labels' : List ℕ) (busy busy' : List Bool) (ready ready' : Bits) → Stands net owns labels busy ready → Stands net owns' labels' busy' ready'
-    → (P : Plan) → IsValidPlan P → IsOf P (seen net owns busy) → IsOf P (seen net owns' busy') → (s : ℕ) → s < length owns → s < length owns' → slice_index labels' s ≡ slice_index labels s
+pub earliest_stays : (net : Net) (owns labels owns' labels' : List ℕ) (busy busy' : List Bool) (ready ready' : Bits) → AreLabelled net owns labels busy ready → AreLabelled net owns' labels' busy' ready'
+    → (P : Plan) → IsValidPlan P → AreOfPlan P (seen net owns busy) → AreOfPlan P (seen net owns' busy') → (s : ℕ) → s < length owns → s < length owns' → slice_index labels' s ≡ slice_index labels s
     → (e : Option Tier) → IsEarliestIn P (seen net owns busy) s e → IsEarliestIn P (seen net owns' busy') s e
 earliest_stays net owns labels owns' labels' busy busy' ready ready' S T P valid of of' s low low' same e was =
     subst (IsEarliestIn P (seen net owns' busy') s) (ap unpacked same ∙ one_earliest P (seen net owns busy) s (unpacked (slice_index labels s)) e (earliest_is net owns labels busy ready S P valid of s low) was)

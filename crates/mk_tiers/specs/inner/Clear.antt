@@ -14,7 +14,8 @@ pub record IsClearAt (waits : List (List Arc)) (owns labels : List ℕ) (busy : 
   pub free : IsFree (row waits v) labels (slice_index owns v)
 
 -- the set says whether the simulator is clear
-pub record IsSaid (waits : List (List Arc)) (owns labels : List ℕ) (busy : List Bool) (ready : Bits)
+pub record IsMarkedClear (waits : List (List Arc)) (owns labels : List ℕ) (busy : List Bool)
+    (ready : Bits)
     (v : ℕ) : Type 0 where
   pub here : has ready v ≡ true → IsClearAt waits owns labels busy v
   pub not_here : has ready v ≡ false → IsClearAt waits owns labels busy v → ⊥

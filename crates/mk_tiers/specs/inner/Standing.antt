@@ -4,7 +4,7 @@ use Rattle.mk_base.specs.declared.tier.Tier.{Tier}
 use Rattle.mk_tiers.specs.declared.bits.Bits.{Bits}
 use Rattle.mk_tiers.specs.declared.net.Net.{Net}
 use Rattle.mk_tiers.specs.inner.Arcs.{IsNet, HasReason, IsLow, IsWithin}
-use Rattle.mk_tiers.specs.inner.Clear.{IsSaid}
+use Rattle.mk_tiers.specs.inner.Clear.{IsMarkedClear}
 use Rattle.mk_tiers.specs.inner.Levels.{IsApart}
 use Rattle.mk_tiers.specs.Times.{never}
 use Rattle.mk_tiers.specs.inner.Times.{packed, IsStart}
@@ -20,7 +20,7 @@ pub record AreNets (n : ℕ) (net : Net) : Type 0 where
   pub waits : IsNet n net.waits.ins net.waits.outs
 
 -- the labels fit the starts, and the set says who is clear
-pub record Stands (net : Net) (owns labels : List ℕ) (busy : List Bool)
+pub record AreLabelled (net : Net) (owns labels : List ℕ) (busy : List Bool)
     (ready : Bits) : Type 0 where
   pub nets : AreNets (length owns) net
   pub labels_count : length labels ≡ length owns
@@ -30,7 +30,7 @@ pub record Stands (net : Net) (owns labels : List ℕ) (busy : List Bool)
   pub low : (v : ℕ) → v < length owns → IsLow net.triggers.ins owns labels v
   pub fits : (i : ℕ) → slice_index labels i ≤ never
   pub within : IsWithin (length owns) ready
-  pub said : (v : ℕ) → v < length owns → IsSaid net.waits.ins owns labels busy ready v
+  pub said : (v : ℕ) → v < length owns → IsMarkedClear net.waits.ins owns labels busy ready v
 
 -- it is known where nothing comes back
 abbrev pub IsLoopedIn : ℕ → Net → List Bool → Type 0
