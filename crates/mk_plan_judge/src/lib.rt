@@ -14,4 +14,4 @@ pub use causes::wrong;
 pub use data::values_for;
 pub use numbers::{next_time, output_time};
 pub use places::next_place;
-pub use wants::{has_outputs, owner, wanted};
+pub use wants::{owner, wanted};

@@ -1,18 +1,20 @@
 // What is open after a right message.
-ghost use Rattle.std.specs.Prelude.{◌≡◌, ◌<◌, ◌^◌, ◌+◌, None};
-ghost use Rattle.mk_plan.specs.Turns.{next_place, wrong};
+ghost use Rattle.std.specs.Prelude.{◌≡◌, ℕ, ◌<◌, ◌^◌, ◌+◌, None};
+ghost use Rattle.mk_plan.specs.declared.Plan.{Plan};
+ghost use Rattle.mk_plan.specs.Turns.{next_place, wanted, wrong};
 ghost use Rattle.mk_plan_judge.specs.Places.{open_id};
 
-use crate::wants::has_outputs;
-use mk_base::SimNo;
-use mk_plan::{Message, Place, Plan};
+use mk_base::List;
+use mk_plan::{Message, Place, Want};
 
-/// The place of what is open after a right message at this place; `None` where the turn has ended. A request leaves the
-/// Step open; the Step's reply is followed by a GetData under the next id, if some connection leaves the simulator.
-pub fn next_place(plan: &Plan, sim: SimNo, place: &Place, message: &Message) -> Option<Place>
-    requires right { wrong plan.now sim.0 place.now message.now ≡ None }
+/// The place of what is open after a right message at this place, of a simulator of which each GetData asks for `wants`;
+/// `None` where the turn has ended. A request leaves the Step open; the Step's reply is followed by a GetData under the
+/// next id, if it asks for anything, so if some connection leaves the simulator.
+pub fn next_place(wants: &List<Want>, place: &Place, message: &Message) -> Option<Place>
+    requires right { (P : Plan) × (i : ℕ) × (wrong P i place.now message.now ≡ None) }
     requires more { open_id place.now + 1 < 2 ^ 64 }
-    ensures { result ≡ next_place plan.now sim.0 place.now message.now }
+    ensures { (P : Plan) → (i : ℕ) → wants.now ≡ wanted P i
+        → result ≡ next_place P i place.now message.now }
 {
     match place {
         Place::Idle => None,
@@ -28,13 +30,13 @@ pub fn next_place(plan: &Plan, sim: SimNo, place: &Place, message: &Message) -> 
                 asks: *asks + 1,
             }),
             Message::Success { id: _, content: _ } => {
-                if has_outputs(plan, sim) {
+                if wants.is_empty() {
+                    None
+                } else {
                     Some(Place::Fetching {
                         at: *at,
                         id: *id + 1,
                     })
-                } else {
-                    None
                 }
             }
             Message::Failure { id: _, text: _ } => None,

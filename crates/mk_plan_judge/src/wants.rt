@@ -1,6 +1,6 @@
 // What each GetData asks of a simulator.
 ghost use Rattle.std.specs.Prelude.{◌≡◌, ◌==◌, ◌<◌, length, unwrap_or, option_map, IfOk};
-ghost use Rattle.mk_plan.specs.Plans.{RefersInside, sim_count, eid_of, owner, has_outputs};
+ghost use Rattle.mk_plan.specs.Plans.{RefersInside, sim_count, eid_of, owner};
 ghost use Rattle.mk_plan.specs.Turns.{wanted};
 
 use crate::sorted::put;
@@ -16,16 +16,6 @@ pub fn owner(plan: &Plan, entity: u32) -> SimNo
 {
     let model = plan.entities.at(entity as usize).model;
     plan.models.at(model as usize).sim
-}
-
-/// Whether some connection leaves the simulator.
-pub fn has_outputs(plan: &Plan, sim: SimNo) -> bool
-    ensures { result ≡ has_outputs plan.now sim.0 }
-{
-    plan.conns
-        .as_slice()
-        .iter()
-        .any(|conn| is_owner(plan, sim, conn.from))
 }
 
 /// What each GetData asks of the simulator: the attributes that some connection takes from its entities, each once, in

@@ -45,7 +45,7 @@ fn judged_of(alloc: Global, text: &str) -> Result<Result<Option<Place>, Cause>, 
     };
     Ok(match wrong(&plan, &wants, SimNo(0), &place, &message) {
         Some(cause) => Err(cause),
-        None => Ok(next_place(&plan, SimNo(0), &place, &message)),
+        None => Ok(next_place(&wants, &place, &message)),
     })
 }
 
