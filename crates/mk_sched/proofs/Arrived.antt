@@ -31,9 +31,9 @@ use Rattle.mk_sched_agenda.specs.Mirrors.{Mirrors}
 use Rattle.mk_sched_agenda.proofs.Mirroring.{told_mirrors, went_mirrors}
 use Rattle.mk_sched_open.specs.Sims.{AreSimsOf}
 use Rattle.mk_sched_open.specs.Turns.{IsRight}
-use Rattle.mk_sched_supply.specs.Stock.{IsStockOf, MayCome}
+use Rattle.mk_sched_supply.specs.Stock.{IsStockOf, MayComeNext}
 use Rattle.mk_sched_supply.specs.declared.stock.Stock.{Stock}
-use Rattle.mk_sched.specs.declared.kept.Kept.{Kept}
+use Rattle.mk_sched.specs.declared.derived.Derived.{Derived}
 use Rattle.mk_sched.specs.declared.faults.CoreFault.{CoreFault}
 use Rattle.mk_sched.specs.declared.faults.CoreFault.TheVariants.{TooLong}
 use Rattle.mk_sched.specs.declared.faults.Ended.{Ended}
@@ -42,45 +42,45 @@ use Rattle.mk_sched.specs.declared.faults.Taken.{Taken}
 use Rattle.mk_sched.specs.declared.faults.Taken.TheVariants as taken
 use Rattle.mk_sched.specs.declared.taking.Upshot.{Upshot}
 use Rattle.mk_sched.specs.Answers.{HasRoom, fault_in}
-use Rattle.mk_sched.specs.inner.Kept.{IsCurrent, IsKept, HasTaken, IsTaking, Leaves, core_of, entries_by, fault_by, taken_by}
-use Rattle.mk_sched.proofs.Standing.{kept_push, kept_twice, ended_kept, one_longer}
+use Rattle.mk_sched.specs.inner.Derived.{IsCurrent, IsDerived, HasTaken, IsTaking, Leaves, core_of, entries_by, fault_by, taken_by}
+use Rattle.mk_sched.proofs.Standing.{derived_push, derived_twice, ended_derived, one_longer}
 use Rattle.mk_sched.proofs.Judged.{noted_wrong, noted_right}
 
--- nothing is claimed of what is kept after an end
+-- nothing is claimed of what is derived after an end
 pub no_end : {X : Type 0} (end : Ended) → Some end ≡ None → X
 no_end end e = absurd (none_some (sym e))
 
-pub taken_failed : (P : Plan) (J : List Entry) (K : Kept) → IsKept P J K None → (sim : SimNo) (m : Message) (e : Mem) (L : Kept) (M : List Entry) → M ≡ J → HasTaken P J sim m (Err e) L M
-taken_failed P J K kept sim m e L M same = record { kept = ended_kept P J K kept M L OutOfMemory same; ok = tt; err = same }
+pub taken_failed : (P : Plan) (J : List Entry) (K : Derived) → IsDerived P J K None → (sim : SimNo) (m : Message) (e : Mem) (L : Derived) (M : List Entry) → M ≡ J → HasTaken P J sim m (Err e) L M
+taken_failed P J K derived sim m e L M same = record { derived = ended_derived P J K derived M L OutOfMemory same; ok = tt; err = same }
 
-pub taken_full : (P : Plan) (J : List Entry) (K : Kept) → IsKept P J K None → (sim : SimNo) (m : Message) → length J ≡ P.entries → HasTaken P J sim m (Ok (taken.Fault (TooLong P.entries))) K J
-taken_full P J K kept sim m full = record {
-  kept = ended_kept P J K kept J K (Faulty (TooLong P.entries)) refl;
+pub taken_full : (P : Plan) (J : List Entry) (K : Derived) → IsDerived P J K None → (sim : SimNo) (m : Message) → length J ≡ P.entries → HasTaken P J sim m (Ok (taken.Fault (TooLong P.entries))) K J
+taken_full P J K derived sim m full = record {
+  derived = ended_derived P J K derived J K (Faulty (TooLong P.entries)) refl;
   ok = inr (inl (record { going = refl; named = refl; full = full; ended = refl }));
   err = tt;
 }
 
 -- what follows a message is in the journal
-pub taken_pushed : (P : Plan) (J : List Entry) (K : Kept) → IsKept P J K None → (sim : SimNo) (m : Message) (u : Upshot) (L : Kept) → Leaves P J sim m u L → (r : Result Taken Mem) (M : List Entry) → IfOk r (λ t. (t ≡ taken_by u) × (M ≡ entries_by J sim m u)) → IfErr r (λ _. M ≡ J) → HasTaken P J sim m r L M
-taken_pushed P J K kept sim m u L leaves (Ok t) M ok err =
+pub taken_pushed : (P : Plan) (J : List Entry) (K : Derived) → IsDerived P J K None → (sim : SimNo) (m : Message) (u : Upshot) (L : Derived) → Leaves P J sim m u L → (r : Result Taken Mem) (M : List Entry) → IfOk r (λ t. (t ≡ taken_by u) × (M ≡ entries_by J sim m u)) → IfErr r (λ _. M ≡ J) → HasTaken P J sim m r L M
+taken_pushed P J K derived sim m u L leaves (Ok t) M ok err =
     subst (λ (n : Taken). HasTaken P J sim m (Ok n) L M) (sym ok.0) (subst (λ (N : List Entry). HasTaken P J sim m (Ok (taken_by u)) L N) (sym ok.1) leaves)
-taken_pushed P J K kept sim m u L leaves (Err e) M ok err = taken_failed P J K kept sim m e L M err
+taken_pushed P J K derived sim m u L leaves (Err e) M ok err = taken_failed P J K derived sim m e L M err
 
-pub few_entries : (P : Plan) (J : List Entry) (K : Kept) (end : Option Ended) → IsKept P J K end → length J ≤ 20000000
-few_entries P J K end kept = let a : length J ≤ P.entries = kept.within in let b : P.entries ≤ 20000000 = kept.valid.well_formed.limits.entries.1 in omega arith
+pub few_entries : (P : Plan) (J : List Entry) (K : Derived) (end : Option Ended) → IsDerived P J K end → length J ≤ 20000000
+few_entries P J K end derived = let a : length J ≤ P.entries = derived.within in let b : P.entries ≤ 20000000 = derived.valid.well_formed.limits.entries.1 in omega arith
 
-module _ (P : Plan) (J : List Entry) (K : Kept) (sim : SimNo) (m : Message) (taking : IsTaking P J K sim m) where
+module _ (P : Plan) (J : List Entry) (K : Derived) (sim : SimNo) (m : Message) (taking : IsTaking P J K sim m) where
   pub its : IsCurrent P (view P J) (length J) K
-  its = taking.kept.current refl
+  its = taking.derived.current refl
 
   pub got_allowed : IsAllowed IsReady IsAdvance P (view P J) (Got sim m)
   got_allowed = (its.no_fault, subst (λ (o : Option Owed). IsNext IsReady IsAdvance P (view P J) o (Got sim m)) (sym its.none_owed) taking.there)
 
-  pub got_may : MayCome P J (Got sim m)
-  got_may = record { valid = taking.kept.valid; orderly = taking.kept.orderly.0; allowed = got_allowed }
+  pub got_may : MayComeNext P J (Got sim m)
+  got_may = record { valid = taking.derived.valid; orderly = taking.derived.orderly.0; allowed = got_allowed }
 
   pub the_room : HasRoom (core_of P J None)
-  the_room = record { going = refl; room = let w : length J ≤ P.entries = taking.kept.within in omega (arith, taking.room) }
+  the_room = record { going = refl; room = let w : length J ≤ P.entries = taking.derived.within in omega (arith, taking.room) }
 
   -- ---- a wrong message
 
@@ -88,14 +88,14 @@ module _ (P : Plan) (J : List Entry) (K : Kept) (sim : SimNo) (m : Message) (tak
   fault_named (cause.Wrong number) n is = ap (λ (k : ℕ). Some (WrongMessage sim.0 k number)) is
   fault_named cause.Failed n is = ap (λ (k : ℕ). Some (FailedSim sim.0 k)) is
 
-  pub taken_wrong : (place : Place) (c : Cause) (n : ℕ) → place ≡ place_at ((view P J).open_at sim.0) → wrong P sim.0 place m ≡ Some c → n ≡ length (heard (view P J) sim.0) → (L : Kept) (M : List Entry) → M ≡ J ++ Got sim m ∷ []
+  pub taken_wrong : (place : Place) (c : Cause) (n : ℕ) → place ≡ place_at ((view P J).open_at sim.0) → wrong P sim.0 place m ≡ Some c → n ≡ length (heard (view P J) sim.0) → (L : Derived) (M : List Entry) → M ≡ J ++ Got sim m ∷ []
       → HasTaken P J sim m (Ok (taken.Fault (fault_by sim n c))) L M
   taken_wrong place c n is w so L M same =
       let fault : CoreFault = fault_by sim n c in
       let named : fault_in (fault_by sim n c) ≡ Some (fault_of (view P J) sim.0 c) = fault_named c n so in
       record {
-        kept = subst (λ (N : List Entry). IsKept P N L (Some (Faulty (fault_by sim n c)))) (sym same)
-            (kept_push P J K L (Some (Faulty (fault_by sim n c))) (Got sim m) taking.kept taking.room got_allowed (inl (ap (λ (V : View). V.owed) (noted_wrong P (view P J) sim m place c is w) ∙ its.none_owed)) (no_end (Faulty (fault_by sim n c))));
+        derived = subst (λ (N : List Entry). IsDerived P N L (Some (Faulty (fault_by sim n c)))) (sym same)
+            (derived_push P J K L (Some (Faulty (fault_by sim n c))) (Got sim m) taking.derived taking.room got_allowed (inl (ap (λ (V : View). V.owed) (noted_wrong P (view P J) sim m place c is w) ∙ its.none_owed)) (no_end (Faulty (fault_by sim n c))));
         ok = inr (inr (inl (record {
           room = the_room;
           named = subst (λ (o : Option Fault). IsSome o) (sym named) refl;
@@ -124,13 +124,13 @@ module _ (P : Plan) (J : List Entry) (K : Kept) (sim : SimNo) (m : Message) (tak
     fault_is = ap (λ (V : View). V.fault) noted ∙ its.no_fault
 
     late : is_step (response P (supply P (view P J).acts) sim.0 T.at T.place m) ≡ false
-    late = (reached_sound IsReady IsAdvance P (λ V s x r. r) (J ++ Got sim m ∷ []) (orderly_push IsReady IsAdvance P J (Got sim m) taking.kept.orderly.0 got_allowed)).later
+    late = (reached_sound IsReady IsAdvance P (λ V s x r. r) (J ++ Got sim m ∷ []) (orderly_push IsReady IsAdvance P J (Got sim m) taking.derived.orderly.0 got_allowed)).later
         (record { sim = sim.0; item = response P (supply P (view P J).acts) sim.0 T.at T.place m }) (ap (λ (V : View). V.owed) (view_push P J (Got sim m)) ∙ owed_is)
 
     -- there is no room for what is owed
-    pub taken_left : length J + 1 ≡ P.entries → (L : Kept) (M : List Entry) → M ≡ J ++ Got sim m ∷ [] → HasTaken P J sim m (Ok (taken.Fault (TooLong P.entries))) L M
+    pub taken_left : length J + 1 ≡ P.entries → (L : Derived) (M : List Entry) → M ≡ J ++ Got sim m ∷ [] → HasTaken P J sim m (Ok (taken.Fault (TooLong P.entries))) L M
     taken_left full L M same = record {
-      kept = subst (λ (N : List Entry). IsKept P N L (Some (Faulty (TooLong P.entries)))) (sym same) (kept_push P J K L (Some (Faulty (TooLong P.entries))) (Got sim m) taking.kept taking.room got_allowed (inr full) (no_end (Faulty (TooLong P.entries))));
+      derived = subst (λ (N : List Entry). IsDerived P N L (Some (Faulty (TooLong P.entries)))) (sym same) (derived_push P J K L (Some (Faulty (TooLong P.entries))) (Got sim m) taking.derived taking.room got_allowed (inr full) (no_end (Faulty (TooLong P.entries))));
       ok = inr (inr (inr (record {
         room = the_room;
         no_fault = ap (λ (V : View). V.fault) (view_push P J (Got sim m)) ∙ fault_is;
@@ -146,14 +146,14 @@ module _ (P : Plan) (J : List Entry) (K : Kept) (sim : SimNo) (m : Message) (tak
     answer_allowed = (fault_is, subst (λ (o : Option Owed). IsNext IsReady IsAdvance P (note P (view P J) (Got sim m)) o (Sent sim (response P (supply P (view P J).acts) sim.0 T.at T.place m))) (sym owed_is) refl)
 
     -- what is owed is sent
-    pub taken_sent : length J + 1 ≢ P.entries → (L : Kept) (M : List Entry) → M ≡ J ++ Got sim m ∷ [] ++ Sent sim (response P (supply P (view P J).acts) sim.0 T.at T.place m) ∷ []
+    pub taken_sent : length J + 1 ≢ P.entries → (L : Derived) (M : List Entry) → M ≡ J ++ Got sim m ∷ [] ++ Sent sim (response P (supply P (view P J).acts) sim.0 T.at T.place m) ∷ []
         → AreSimsOf P (note_sent P (note_right P (view P J) sim.0 m T (Some q)) sim.0 (response P (supply P (view P J).acts) sim.0 T.at T.place m)) (length J + 2) L.sims
         → L.agenda ≡ K.agenda
         → IsStockOf P (note_sent P (note_right P (view P J) sim.0 m T (Some q)) sim.0 (response P (supply P (view P J).acts) sim.0 T.at T.place m)) L.stock
         → HasTaken P J sim m (Ok taken.Send) L M
     taken_sent room L M same sims agenda stock = record {
-      kept = subst (λ (N : List Entry). IsKept P N L None) (sym same)
-          (kept_twice P J K L (Got sim m) (Sent sim (response P (supply P (view P J).acts) sim.0 T.at T.place m)) taking.kept (let w : length J ≤ P.entries = taking.kept.within in omega (arith, room, taking.room)) got_allowed answer_allowed refl
+      derived = subst (λ (N : List Entry). IsDerived P N L None) (sym same)
+          (derived_twice P J K L (Got sim m) (Sent sim (response P (supply P (view P J).acts) sim.0 T.at T.place m)) taking.derived (let w : length J ≤ P.entries = taking.derived.within in omega (arith, room, taking.room)) got_allowed answer_allowed refl
           (subst (λ (V : View). IsCurrent P (note_sent P V sim.0 (response P (supply P (view P J).acts) sim.0 T.at T.place m)) (length J + 2) L) (sym noted) (record {
             sims = sims;
             agenda = subst (Mirrors P (note_sent P (note_right P (view P J) sim.0 m T (Some q)) sim.0 (response P (supply P (view P J).acts) sim.0 T.at T.place m))) (sym agenda)

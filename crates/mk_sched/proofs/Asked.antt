@@ -26,32 +26,32 @@ use Rattle.mk_order.proofs.Reasons.{and_both}
 use Rattle.mk_sched_agenda.specs.Mirrors.{Mirrors}
 use Rattle.mk_sched_open.specs.Sims.{AreSimsOf}
 use Rattle.mk_sched_open.specs.Turns.{IsInRun}
-use Rattle.mk_sched_supply.specs.Stock.{IsStockOf, MayCome}
-use Rattle.mk_sched.specs.declared.kept.Kept.{Kept}
+use Rattle.mk_sched_supply.specs.Stock.{IsStockOf, MayComeNext}
+use Rattle.mk_sched.specs.declared.derived.Derived.{Derived}
 use Rattle.mk_sched.specs.declared.faults.Ended.TheVariants.{Faulty, OutOfMemory}
 use Rattle.mk_sched.specs.declared.faults.CoreFault.TheVariants.{TooLong}
 use Rattle.mk_sched.specs.declared.faults.Next.TheVariants as next
 use Rattle.mk_sched.specs.Answers.{IsAsked}
-use Rattle.mk_sched.specs.inner.Holding.{IsSettled}
-use Rattle.mk_sched.specs.inner.Kept.{IsCurrent, IsKept, HasAdvanced, core_of}
-use Rattle.mk_sched.proofs.Standing.{kept_push, ended_kept, ended_settled}
+use Rattle.mk_sched.specs.inner.Holding.{HasGivenUp}
+use Rattle.mk_sched.specs.inner.Derived.{IsCurrent, IsDerived, HasAdvanced, core_of}
+use Rattle.mk_sched.proofs.Standing.{derived_push, ended_derived, ended_given_up}
 
-module _ (P : Plan) (J : List Entry) (K : Kept) (kept : IsKept P J K None) where
+module _ (P : Plan) (J : List Entry) (K : Derived) (derived : IsDerived P J K None) where
   pub its : IsCurrent P (view P J) (length J) K
-  its = kept.current refl
+  its = derived.current refl
 
   -- where nothing is open at a simulator its last Step is that of its last act
   pub last_closed : (s : ℕ) (x : Tier) → IsReady P (view P J) s x → last_step (view P J) s ≡ last_time ((view P J).acts s)
   last_closed s x ready = ap (λ (o : Option OpenTurn). step_at o (last_time ((view P J).acts s))) ready.closed
 
   pub ready_low : (s : ℕ) (x : Tier) → IsReady P (view P J) s x → s < sim_count P
-  ready_low s x ready = (pending_within IsReady IsAdvance P (λ V s x r. r) kept.valid J kept.orderly.0 s x ready.at_pending).2
+  ready_low s x ready = (pending_within IsReady IsAdvance P (λ V s x r. r) derived.valid J derived.orderly.0 s x ready.at_pending).2
 
   pub in_run : (s : ℕ) (x : Tier) → IsReady P (view P J) s x → IsInRun x
   in_run s x ready =
-      let w = pending_within IsReady IsAdvance P (λ V s x r. r) kept.valid J kept.orderly.0 s x ready.at_pending in
-      let u : P.until ≤ℤ pos 1000000000 = kept.valid.well_formed.limits.until.1 in
-      let l : P.loops ≤ 1000 = kept.valid.well_formed.limits.loops.1 in
+      let w = pending_within IsReady IsAdvance P (λ V s x r. r) derived.valid J derived.orderly.0 s x ready.at_pending in
+      let u : P.until ≤ℤ pos 1000000000 = derived.valid.well_formed.limits.until.1 in
+      let l : P.loops ≤ 1000 = derived.valid.well_formed.limits.loops.1 in
       let t = and_both (int_lt x.time P.until) (nat_le x.tier P.loops) w.1 in
       let e : int_lt x.time P.until ≡ true = t.0 in
       let k : x.tier ≤ P.loops = leb-true x.tier P.loops t.1 in
@@ -65,38 +65,38 @@ module _ (P : Plan) (J : List Entry) (K : Kept) (kept : IsKept P J K None) where
           (first, given ∙ ap (λ (p : Option Tier). inputs P (supply P (view P J).acts) s.0 p x) (last_closed s.0 x first.0), promise),
     )
 
-    pub asked_may : MayCome P J (Sent s (Step x ins advance))
-    asked_may = record { valid = kept.valid; orderly = kept.orderly.0; allowed = asked_allowed }
+    pub asked_may : MayComeNext P J (Sent s (Step x ins advance))
+    asked_may = record { valid = derived.valid; orderly = derived.orderly.0; allowed = asked_allowed }
 
-    pub asked : (L : Kept) (M : List Entry) → length J ≢ P.entries → M ≡ J ++ Sent s (Step x ins advance) ∷ [] → AreSimsOf P (note_sent P (view P J) s.0 (Step x ins advance)) (length J + 1) L.sims → Mirrors P (note_sent P (view P J) s.0 (Step x ins advance)) L.agenda
-        → IsStockOf P (note_sent P (view P J) s.0 (Step x ins advance)) L.stock → IsKept P M L None × IsAsked (core_of P J None) s (core_of P M None)
+    pub asked : (L : Derived) (M : List Entry) → length J ≢ P.entries → M ≡ J ++ Sent s (Step x ins advance) ∷ [] → AreSimsOf P (note_sent P (view P J) s.0 (Step x ins advance)) (length J + 1) L.sims → Mirrors P (note_sent P (view P J) s.0 (Step x ins advance)) L.agenda
+        → IsStockOf P (note_sent P (view P J) s.0 (Step x ins advance)) L.stock → IsDerived P M L None × IsAsked (core_of P J None) s (core_of P M None)
     asked L M room is sims agenda stock = (
-      subst (λ (N : List Entry). IsKept P N L None) (sym is) (kept_push P J K L None (Sent s (Step x ins advance)) kept room asked_allowed (inl refl)
+      subst (λ (N : List Entry). IsDerived P N L None) (sym is) (derived_push P J K L None (Sent s (Step x ins advance)) derived room asked_allowed (inl refl)
           (λ going. record { sims = sims; agenda = agenda; stock = stock; no_fault = its.no_fault; none_owed = refl })),
       record { going = refl; at = x; inputs = ins; advance = advance; allowed = asked_allowed; moved = ap (λ (N : List Entry). core_of P N None) is },
     )
 
   -- ---- what is answered
 
-  pub next_asked : (s : SimNo) (L : Kept) (M : List Entry) → IsKept P M L None → IsAsked (core_of P J None) s (core_of P M None) → IsSettled P M L None → HasAdvanced P J (Ok (next.Ask s)) L M
-  next_asked s L M kept asked settled = record { kept = kept; settled = settled; ok = asked; err = tt }
+  pub next_asked : (s : SimNo) (L : Derived) (M : List Entry) → IsDerived P M L None → IsAsked (core_of P J None) s (core_of P M None) → HasGivenUp P M L None → HasAdvanced P J (Ok (next.Ask s)) L M
+  next_asked s L M derived asked given_up = record { derived = derived; given_up = given_up; ok = asked; err = tt }
 
-  pub next_failed : (e : Mem) (L : Kept) (M : List Entry) → M ≡ J → HasAdvanced P J (Err e) L M
-  next_failed e L M same = record { kept = ended_kept P J K kept M L OutOfMemory same; settled = ended_settled P M L OutOfMemory; ok = tt; err = same }
+  pub next_failed : (e : Mem) (L : Derived) (M : List Entry) → M ≡ J → HasAdvanced P J (Err e) L M
+  next_failed e L M same = record { derived = ended_derived P J K derived M L OutOfMemory same; given_up = ended_given_up P M L OutOfMemory; ok = tt; err = same }
 
   pub next_full : (s : ℕ) (x : Tier) → IsReady P (view P J) s x → length J ≡ P.entries → HasAdvanced P J (Ok (next.Fault (TooLong P.entries))) K J
   next_full s x ready full = record {
-    kept = ended_kept P J K kept J K (Faulty (TooLong P.entries)) refl;
-    settled = ended_settled P J K (Faulty (TooLong P.entries));
+    derived = ended_derived P J K derived J K (Faulty (TooLong P.entries)) refl;
+    given_up = ended_given_up P J K (Faulty (TooLong P.entries));
     ok = inr (record { going = refl; named = refl; full = full; ready = (s, x, ready); ended = refl });
     err = tt;
   }
 
-  module _ (settled : IsSettled P J K None) (nobody_ready : (i : ℕ) (x : Tier) → IsReady P (view P J) i x → ⊥) where
+  module _ (given_up : HasGivenUp P J K None) (nobody_ready : (i : ℕ) (x : Tier) → IsReady P (view P J) i x → ⊥) where
     pub next_waits : (i : ℕ) × (i < sim_count P) × (is_some ((view P J).open_at i) ≡ true) → HasAdvanced P J (Ok next.Wait) K J
     next_waits t = record {
-      kept = kept;
-      settled = settled;
+      derived = derived;
+      given_up = given_up;
       ok = record { going = refl; nobody = λ r. nobody_ready r.0 r.1 r.2; waiting = (t.0, (t.1, λ none. true≢false (sym t.2 ∙ ap is_some none))); same = refl };
       err = tt;
     }
@@ -107,15 +107,15 @@ module _ (P : Plan) (J : List Entry) (K : Kept) (kept : IsKept P J K None) where
       where
         go : (o : Option Tier) → pending P (view P J).acts i ≡ o → o ≡ None
         go None e = refl
-        go (Some y) e = let t = somebody_is_ready IsReady IsAdvance P (λ V s x r. r) kept.valid J kept.orderly.0 shut i y e in absurd (nobody_ready t.0 t.1 t.2)
+        go (Some y) e = let t = somebody_is_ready IsReady IsAdvance P (λ V s x r. r) derived.valid J derived.orderly.0 shut i y e in absurd (nobody_ready t.0 t.1 t.2)
 
     is_over : ((i : ℕ) → i < sim_count P → (view P J).open_at i ≡ None) → IsDone P (view P J)
     is_over shut = record { no_fault = its.no_fault; closed = shut; none_pending = none_pending shut }
 
     pub next_done : ((i : ℕ) → i < sim_count P → (view P J).open_at i ≡ None) → HasAdvanced P J (Ok next.Done) K J
     next_done shut = record {
-      kept = kept;
-      settled = settled;
-      ok = record { going = refl; done = is_over shut; finished = orderly_finished P kept.valid J kept.orderly (is_over shut); same = refl };
+      derived = derived;
+      given_up = given_up;
+      ok = record { going = refl; done = is_over shut; finished = orderly_finished P derived.valid J derived.orderly (is_over shut); same = refl };
       err = tt;
     }

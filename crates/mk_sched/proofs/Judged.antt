@@ -27,7 +27,7 @@ use Rattle.mk_plan_judge.proofs.Right.{right_data_reply, right_step_reply, right
 use Rattle.mk_sched_agenda.specs.Outlets.{triggering_from}
 use Rattle.mk_sched_agenda.specs.Endings.{CanBeMade}
 use Rattle.mk_sched_open.specs.Turns.{IsRight, IsInRun, IsPlaceInRun, next_in}
-use Rattle.mk_sched.specs.inner.Kept.{IsJudged, made_at}
+use Rattle.mk_sched.specs.inner.Derived.{IsJudged, made_at}
 
 module _ (P : Plan) (V : View) (s : SimNo) (m : Message) where
   pub judge : (place : Place) → place ≡ place_at (V.open_at s.0) → IsPlaceInRun place → wrong P s.0 place m ≡ None → (q : Option Place) → next_place P s.0 place m ≡ q → IsJudged P V s.0 m place q

@@ -1,5 +1,5 @@
 pub mod Standing
-pub mod Settled
+pub mod GivingUp
 pub mod Asked
 pub mod Judged
 pub mod Arrived

@@ -33,11 +33,11 @@ use Rattle.mk_sched_agenda.specs.Endings.{IsLast, given_by, fault_of}
 use Rattle.mk_sched_open.specs.Sims.{AreSimsOf}
 use Rattle.mk_sched_open.specs.Turns.{IsRight, next_in}
 use Rattle.mk_sched_supply.specs.Stock.{IsStockOf}
-use Rattle.mk_sched.specs.declared.kept.Kept.{Kept}
+use Rattle.mk_sched.specs.declared.derived.Derived.{Derived}
 use Rattle.mk_sched.specs.declared.faults.Ended.TheVariants.{Faulty}
 use Rattle.mk_sched.specs.declared.faults.Taken.TheVariants as taken
-use Rattle.mk_sched.specs.inner.Kept.{IsKept, HasTaken, IsTaking, EndsStep, core_of, limit_by, made_at}
-use Rattle.mk_sched.proofs.Standing.{kept_push}
+use Rattle.mk_sched.specs.inner.Derived.{IsDerived, HasTaken, IsTaking, EndsStep, core_of, limit_by, made_at}
+use Rattle.mk_sched.proofs.Standing.{derived_push}
 use Rattle.mk_sched.proofs.Judged.{IsEnd, step_end, noted_right, none_leaves}
 use Rattle.mk_sched.proofs.Arrived.{its, got_allowed, the_room, no_end}
 
@@ -49,7 +49,7 @@ as_many P [] (o ∷ os) all = absurd all
 as_many P (c ∷ cs) [] all = absurd all
 as_many P (c ∷ cs) (o ∷ os) all = ap suc (as_many P cs os all.1)
 
-module _ (P : Plan) (J : List Entry) (K : Kept) (sim : SimNo) (m : Message) (taking : IsTaking P J K sim m) (T : OpenTurn) (right : IsRight P (view P J) sim.0 m T None) where
+module _ (P : Plan) (J : List Entry) (K : Derived) (sim : SimNo) (m : Message) (taking : IsTaking P J K sim m) (T : OpenTurn) (right : IsRight P (view P J) sim.0 m T None) where
   outlet_count : length (outlets_in K.agenda.outlets sim.0) ≡ length (triggering_from P sim.0)
   outlet_count = as_many P (triggering_from P sim.0) (outlets_in K.agenda.outlets sim.0) ((its P J K sim m taking).agenda.plan.outlets sim.0 taking.there)
 
@@ -70,7 +70,7 @@ module _ (P : Plan) (J : List Entry) (K : Kept) (sim : SimNo) (m : Message) (tak
 
   right_act : acts.IsRight (ended_turn T m)
   right_act = in_each acts.IsRight (ended_turn T m) ((view P (J ++ Got sim m ∷ [])).acts sim.0)
-      (view_right IsReady IsAdvance P (λ V s x r. r) taking.kept.valid (J ++ Got sim m ∷ []) (orderly_push IsReady IsAdvance P J (Got sim m) taking.kept.orderly.0 (got_allowed P J K sim m taking)) sim.0)
+      (view_right IsReady IsAdvance P (λ V s x r. r) taking.derived.valid (J ++ Got sim m ∷ []) (orderly_push IsReady IsAdvance P J (Got sim m) taking.derived.orderly.0 (got_allowed P J K sim m taking)) sim.0)
       (subst (λ (V : View). IsIn (ended_turn T m) (V.acts sim.0)) (sym (view_push P J (Got sim m) ∙ noted))
       (subst (λ (l : List Act). IsIn (ended_turn T m) l) (sym (ap (λ (b : Bool). if b then (view P J).acts sim.0 ++ ended_turn T m ∷ [] else (view P J).acts sim.0) (same_self sim.0)))
       (in_back (ended_turn T m) ((view P J).acts sim.0) (ended_turn T m ∷ []) (inl refl))))
@@ -80,8 +80,8 @@ module _ (P : Plan) (J : List Entry) (K : Kept) (sim : SimNo) (m : Message) (tak
 
   pub last : (x : Tier) (n : Option ℤ) (flags : List Bool) → x ≡ made (ended_turn T m) → n ≡ next_time (ended_turn T m) → flags ≡ given_by P sim.0 (ended_turn T m) → IsLast P J sim T m x n flags
   last x n flags when next given = record {
-    valid = taking.kept.valid;
-    orderly = taking.kept.orderly.0;
+    valid = taking.derived.valid;
+    orderly = taking.derived.orderly.0;
     allowed = got_allowed P J K sim m taking;
     opened = right.opened;
     right = right.right;
@@ -114,10 +114,10 @@ module _ (P : Plan) (J : List Entry) (K : Kept) (sim : SimNo) (m : Message) (tak
 
   -- ---- what is answered
 
-  pub taken_limit : (b : Beyond) → loop_fault P sim.0 (ended_turn T m) ≡ Some (fault_of b) → (L : Kept) (M : List Entry) → M ≡ J ++ Got sim m ∷ [] → HasTaken P J sim m (Ok (taken.Fault (limit_by b))) L M
+  pub taken_limit : (b : Beyond) → loop_fault P sim.0 (ended_turn T m) ≡ Some (fault_of b) → (L : Derived) (M : List Entry) → M ≡ J ++ Got sim m ∷ [] → HasTaken P J sim m (Ok (taken.Fault (limit_by b))) L M
   taken_limit b limit L M same = record {
-    kept = subst (λ (N : List Entry). IsKept P N L (Some (Faulty (limit_by b)))) (sym same)
-        (kept_push P J K L (Some (Faulty (limit_by b))) (Got sim m) taking.kept taking.room (got_allowed P J K sim m taking) (inl (ap (λ (V : View). V.owed) noted ∙ (its P J K sim m taking).none_owed)) (no_end (Faulty (limit_by b))));
+    derived = subst (λ (N : List Entry). IsDerived P N L (Some (Faulty (limit_by b)))) (sym same)
+        (derived_push P J K L (Some (Faulty (limit_by b))) (Got sim m) taking.derived taking.room (got_allowed P J K sim m taking) (inl (ap (λ (V : View). V.owed) noted ∙ (its P J K sim m taking).none_owed)) (no_end (Faulty (limit_by b))));
     ok = inr (inr (inl (record {
       room = the_room P J K sim m taking;
       named = refl;
@@ -127,11 +127,11 @@ module _ (P : Plan) (J : List Entry) (K : Kept) (sim : SimNo) (m : Message) (tak
     err = tt;
   }
 
-  pub taken_ended : loop_fault P sim.0 (ended_turn T m) ≡ None → (L : Kept) (M : List Entry) → M ≡ J ++ Got sim m ∷ [] → AreSimsOf P (note_right P (view P J) sim.0 m T None) (length J + 1) L.sims → Mirrors P (note P (view P J) (Got sim m)) L.agenda
+  pub taken_ended : loop_fault P sim.0 (ended_turn T m) ≡ None → (L : Derived) (M : List Entry) → M ≡ J ++ Got sim m ∷ [] → AreSimsOf P (note_right P (view P J) sim.0 m T None) (length J + 1) L.sims → Mirrors P (note P (view P J) (Got sim m)) L.agenda
       → IsStockOf P (note_right P (view P J) sim.0 m T None) L.stock → HasTaken P J sim m (Ok taken.Quiet) L M
   taken_ended fine L M same sims agenda stock = record {
-    kept = subst (λ (N : List Entry). IsKept P N L None) (sym same)
-        (kept_push P J K L None (Got sim m) taking.kept taking.room (got_allowed P J K sim m taking) (inl none_owed)
+    derived = subst (λ (N : List Entry). IsDerived P N L None) (sym same)
+        (derived_push P J K L None (Got sim m) taking.derived taking.room (got_allowed P J K sim m taking) (inl none_owed)
         (λ going. record {
           sims = subst (λ (V : View). AreSimsOf P V (length J + 1) L.sims) (sym noted) sims;
           agenda = agenda;

@@ -11,7 +11,7 @@ use Rattle.mk_plan.specs.Ready.{start}
 use Rattle.mk_plan.specs.Walks.{Reach, nobody, IsEarliest}
 use Rattle.mk_plan.specs.Asks.{gives_attr}
 use Rattle.mk_buffers.specs.Bounds.{most_kept}
-use Rattle.mk_buffers.specs.Standing.{Stands, least_mark, mark_of, outputs_held}
+use Rattle.mk_buffers.specs.Standing.{StandFor, least_mark, mark_of, outputs_held}
 use Rattle.mk_buffers.specs.declared.buffers.Buffers.{Buffers}
 
 -- neither the run's end, nor an outstanding step, nor a step that may still come, is before this
@@ -32,7 +32,7 @@ pub record IsMarked (P : Plan) (V : View) (s : ℕ) (m : Tier) : Type 0 where
 pub record IsHeld (P : Plan) (J : List Entry) (n : ℕ) : Type 0 where
   pub buffers : Buffers
   pub added : Supply
-  pub stands : Stands P buffers added
+  pub stands : StandFor P buffers added
   pub outputs : (e : ℕ) (attr : List ℕ) → gives_attr P e attr ≡ true
       → added.outputs e attr ≡ (supply P (view P J).acts).outputs e attr
   pub marks : (s : ℕ) → s < sim_count P → IsMarked P (view P J) s (mark_of buffers s)

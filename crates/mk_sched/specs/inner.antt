@@ -1,4 +1,4 @@
 -- What proofs alone need.
 pub mod Holding
-pub mod Kept
+pub mod Derived
 pub mod Patient

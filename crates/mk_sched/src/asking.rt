@@ -6,39 +6,39 @@ ghost use Rattle.mk_plan.specs.Ready.{IsReady};
 ghost use Rattle.mk_plan.specs.Advance.{IsAdvance};
 ghost use Rattle.mk_plan.specs.Orderly.{IsFirstReady};
 ghost use Rattle.mk_sched.specs.Answers.{IsAsked};
-ghost use Rattle.mk_sched.specs.inner.Holding.{HasTold, IsSettled, Notes};
-ghost use Rattle.mk_sched.specs.inner.Kept.{IsKept, HasAdvanced, core_of, end_after_next};
+ghost use Rattle.mk_sched.specs.inner.Holding.{HasToldRest, HasGivenUp, Notes};
+ghost use Rattle.mk_sched.specs.inner.Derived.{IsDerived, HasAdvanced, core_of, end_after_next};
 
+use crate::derived::Derived;
 use crate::entries::{is_full, too_long};
 use crate::faults::Next;
-use crate::kept::Kept;
-use crate::marks::settle;
+use crate::marks::give_up;
 use mk_base::Mem;
 use mk_plan::{Entry, Item, Journal, Plan};
 use mk_sched_agenda::Ready;
 use mk_sched_supply::stock_stays;
 
 // Asks the first simulator that is ready, if the journal has room.
-pub fn advance(plan: &Plan, kept: &mut Kept, journal: &mut Journal) -> Result<Next, Mem>
-    requires kept { IsKept plan.now journal.old.entries kept.old None }
-    requires settled { IsSettled plan.now journal.old.entries kept.old None }
-    requires told { HasTold plan.now kept.old None }
-    ensures advanced { HasAdvanced plan.now journal.old.entries result kept.new
+pub fn advance(plan: &Plan, derived: &mut Derived, journal: &mut Journal) -> Result<Next, Mem>
+    requires derived { IsDerived plan.now journal.old.entries derived.old None }
+    requires given_up { HasGivenUp plan.now journal.old.entries derived.old None }
+    requires told { HasToldRest plan.now derived.old None }
+    ensures advanced { HasAdvanced plan.now journal.old.entries result derived.new
         journal.new.entries }
-    ensures told { HasTold plan.now kept.new (end_after_next result) }
+    ensures told { HasToldRest plan.now derived.new (end_after_next result) }
 {
-    match kept.agenda.first_ready() {
+    match derived.agenda.first_ready() {
         Some(ready) => {
             if is_full(plan, journal) {
                 Ok(Next::Fault(too_long(plan)))
             } else {
-                ask(kept, journal, ready)?;
-                settle(plan, kept, None);
+                ask(derived, journal, ready)?;
+                give_up(plan, derived, None);
                 Ok(Next::Ask(ready.sim))
             }
         }
         None => {
-            if kept.agenda.is_any_open() {
+            if derived.agenda.is_any_open() {
                 Ok(Next::Wait)
             } else {
                 Ok(Next::Done)
@@ -48,23 +48,23 @@ pub fn advance(plan: &Plan, kept: &mut Kept, journal: &mut Journal) -> Result<Ne
 }
 
 // Begins a step of the simulator that is ready, and ends the journal with its Step.
-fn ask(kept: &mut Kept, journal: &mut Journal, ready: Ready) -> Result<(), Mem>
-    requires sims { ready.sim.0 < length kept.old.sims }
-    requires queues { ready.sim.0 < length kept.old.agenda.queues }
-    ensures ok { (P : Plan) → IsKept P journal.old.entries kept.old None
+fn ask(derived: &mut Derived, journal: &mut Journal, ready: Ready) -> Result<(), Mem>
+    requires sims { ready.sim.0 < length derived.old.sims }
+    requires queues { ready.sim.0 < length derived.old.agenda.queues }
+    ensures ok { (P : Plan) → IsDerived P journal.old.entries derived.old None
         → length journal.old.entries ≢ P.entries
         → IsFirstReady IsReady IsAdvance P (view P journal.old.entries) ready.sim.0 ready.at
-        → IfOk result (λ _. IsKept P journal.new.entries kept.new None
+        → IfOk result (λ _. IsDerived P journal.new.entries derived.new None
         × IsAsked (core_of P journal.old.entries None) ready.sim
         (core_of P journal.new.entries None)) }
     ensures err { IfErr result (λ _. journal.new.entries ≡ journal.old.entries) }
-    ensures stock { kept.new.stock ≡ kept.old.stock }
-    ensures notes { IfOk result (λ _. Notes kept.old kept.new) }
+    ensures stock { derived.new.stock ≡ derived.old.stock }
+    ensures notes { IfOk result (λ _. Notes derived.old derived.new) }
 {
     let Ready { sim, at } = ready;
-    let previous = kept.agenda.last_step(sim);
-    let inputs = kept.stock.inputs_at(sim, previous, at)?;
-    let max_advance = kept.agenda.max_advance(sim, at);
+    let previous = derived.agenda.last_step(sim);
+    let inputs = derived.stock.inputs_at(sim, previous, at)?;
+    let max_advance = derived.agenda.max_advance(sim, at);
     journal.entries.push(Entry::Sent(
         sim,
         Item::Step {
@@ -73,8 +73,8 @@ fn ask(kept: &mut Kept, journal: &mut Journal, ready: Ready) -> Result<(), Mem>
             max_advance,
         },
     ))?;
-    kept.agenda.step(sim, &mut kept.untold);
-    kept.sims.begin(sim, at);
+    derived.agenda.step(sim, &mut derived.untold);
+    derived.sims.begin(sim, at);
     stock_stays();
     Ok(())
 }

@@ -8,12 +8,12 @@ ghost use Rattle.mk_buffers.specs.Bounds.{most_kept};
 ghost use Rattle.mk_sched.specs.Cores.{CoreState, Stands, is_message_in_range};
 ghost use Rattle.mk_sched.specs.Answers.{NextOf, ArriveOf, IsOutOfMemory, SomeReady, open_id, id_at};
 ghost use Rattle.mk_sched.specs.Holding.{IsFloor, IsHeld};
-ghost use Rattle.mk_sched.specs.inner.Kept.{end_after_next, end_after_arrive};
+ghost use Rattle.mk_sched.specs.inner.Derived.{end_after_next, end_after_arrive};
 
 use crate::asking::advance;
+use crate::derived::{Derived, new_derived};
 use crate::faults::{Ended, Next, Taken};
-use crate::kept::{Kept, new_kept};
-use crate::marks::settle;
+use crate::marks::give_up;
 use crate::taking::take;
 use mk_base::{List, Mem, SimNo};
 use mk_plan::{Journal, Message, Place, Plan};
@@ -30,14 +30,14 @@ pub struct Core {
     alloc: Global,
     plan: Plan,
     journal: Journal,
-    kept: Kept,
+    derived: Derived,
     ended: Option<Ended>,
 }
 
 impl Model for Core {
     ghost use Rattle.mk_sched.specs.Cores.{CoreState};
-    ghost use Rattle.mk_sched.specs.inner.Holding.{HasTold, IsSettled};
-    ghost use Rattle.mk_sched.specs.inner.Kept.{IsKept};
+    ghost use Rattle.mk_sched.specs.inner.Holding.{HasToldRest, HasGivenUp};
+    ghost use Rattle.mk_sched.specs.inner.Derived.{IsDerived};
     ghost use Rattle.mk_base.specs.contracts.json.Json as json;
     ghost use Rattle.std.specs.Coded.{codes};
 
@@ -47,9 +47,9 @@ impl Model for Core {
 
     ghost view = { λ a. record { plan = a.plan; entries = a.journal.entries; ended = a.ended } };
 
-    ghost invariant = { λ a. IsKept a.plan a.journal.entries a.kept a.ended
-        × IsSettled a.plan a.journal.entries a.kept a.ended
-        × HasTold a.plan a.kept a.ended };
+    ghost invariant = { λ a. IsDerived a.plan a.journal.entries a.derived a.ended
+        × HasGivenUp a.plan a.journal.entries a.derived a.ended
+        × HasToldRest a.plan a.derived a.ended };
 }
 
 impl Core {
@@ -58,8 +58,8 @@ impl Core {
         requires { IsValidPlan plan }
         ensures { IfOk result (λ core. core ≡ record { plan = plan; entries = []; ended = None }) }
     {
-        let mut kept = new_kept(alloc, &plan)?;
-        settle(&plan, &mut kept, None);
+        let mut derived = new_derived(alloc, &plan)?;
+        give_up(&plan, &mut derived, None);
         let journal = Journal {
             entries: List::new(alloc),
         };
@@ -67,7 +67,7 @@ impl Core {
             alloc,
             plan,
             journal,
-            kept,
+            derived,
             ended: None,
         })
     }
@@ -84,7 +84,7 @@ impl Core {
             Some(Ended::OutOfMemory) => return Err(Mem),
             None => {}
         }
-        let answer = advance(&self.plan, &mut self.kept, &mut self.journal);
+        let answer = advance(&self.plan, &mut self.derived, &mut self.journal);
         self.ended = end_after_next(&answer);
         answer
     }
@@ -128,13 +128,13 @@ impl Core {
         let answer = take(
             self.alloc,
             &self.plan,
-            &mut self.kept,
+            &mut self.derived,
             &mut self.journal,
             sim,
             message,
         );
         self.ended = end_after_arrive(&answer);
-        settle(&self.plan, &mut self.kept, self.ended);
+        give_up(&self.plan, &mut self.derived, self.ended);
         answer
     }
 
@@ -148,7 +148,7 @@ impl Core {
         if self.ended.is_some() {
             return None;
         }
-        id_at(&self.kept.sims.place(sim))
+        id_at(&self.derived.sims.place(sim))
     }
 
     /// How many outputs are held, since questions can still reach them. Where the core has not ended and nobody is ready, so
@@ -167,7 +167,7 @@ impl Core {
             → result ≤ most_kept self.now.plan
             (supply self.now.plan (view self.now.plan self.now.entries).acts) m }
     {
-        self.kept.stock.kept()
+        self.derived.stock.kept()
     }
 
     /// The plan of the run.
@@ -195,16 +195,16 @@ impl Core {
             alloc: _,
             plan,
             journal,
-            kept,
+            derived,
             ended: _,
         } = self;
-        let_go(kept);
+        let_go(derived);
         (plan, journal)
     }
 }
 
-// Lets go of what was kept beside the journal.
-fn let_go(_kept: Kept) {}
+// Lets go of what was derived from the journal.
+fn let_go(_derived: Derived) {}
 
 // What the core answers after this answer, if it has ended.
 fn end_after_next(answer: &Result<Next, Mem>) -> Option<Ended>

@@ -8,10 +8,10 @@ ghost use Rattle.mk_plan.specs.Journals.{view};
 ghost use Rattle.mk_plan.specs.Acts.{content_of};
 ghost use Rattle.mk_buffers.specs.Standing.{HasSameMarks};
 ghost use Rattle.mk_sched.specs.inner.Holding.{Notes};
-ghost use Rattle.mk_sched.specs.inner.Kept.{Leaves, IsTaking, IsJudged, EndsStep, EndsFetch, limit_by, made_at};
+ghost use Rattle.mk_sched.specs.inner.Derived.{Leaves, IsTaking, IsJudged, EndsStep, EndsFetch, limit_by, made_at};
 
+use crate::derived::Derived;
 use crate::faults::CoreFault;
-use crate::kept::Kept;
 use crate::taking::{Upshot, next_in};
 use mk_base::{Json, Mem, SimNo, Tier};
 use mk_plan::{Journal, Message, Place, Plan};
@@ -23,26 +23,26 @@ use mk_sched_supply::stock_stays;
 // The turn ends by the message, which came at `place`.
 pub fn end_turn(
     plan: &Plan,
-    kept: &mut Kept,
+    derived: &mut Derived,
     journal: &Journal,
     sim: SimNo,
     message: &Message,
     place: Place,
 ) -> Result<Upshot, Mem>
-    requires taking { IsTaking plan.now journal.now.entries kept.old sim message.now }
+    requires taking { IsTaking plan.now journal.now.entries derived.old sim message.now }
     requires judged { IsJudged plan.now
         (view plan.now journal.now.entries) sim.0 message.now place None }
     ensures leaves { IfOk result
-        (λ upshot. Leaves plan.now journal.now.entries sim message.now upshot kept.new) }
-    ensures marks { HasSameMarks kept.old.stock.buffers kept.new.stock.buffers }
-    ensures notes { IfOk result (λ _. Notes kept.old kept.new) }
+        (λ upshot. Leaves plan.now journal.now.entries sim message.now upshot derived.new) }
+    ensures marks { HasSameMarks derived.old.stock.buffers derived.new.stock.buffers }
+    ensures notes { IfOk result (λ _. Notes derived.old derived.new) }
 {
     match (place, message) {
         (Place::Stepping { at, id: _, asks: _ }, Message::Success { id: _, content: _ }) => {
-            end_step(plan, kept, journal, sim, message, at)
+            end_step(plan, derived, journal, sim, message, at)
         }
         (Place::Fetching { at, id: _ }, Message::Success { id: _, content }) => {
-            end_fetch(plan, kept, journal, sim, message, content, at)
+            end_fetch(plan, derived, journal, sim, message, content, at)
         }
         _ => Ok(Upshot::Quiet),
     }
@@ -51,28 +51,28 @@ pub fn end_turn(
 // A turn at `at` ends by the reply to its Step: nothing is given.
 fn end_step(
     plan: &Plan,
-    kept: &mut Kept,
+    derived: &mut Derived,
     journal: &Journal,
     sim: SimNo,
     message: &Message,
     at: Tier,
 ) -> Result<Upshot, Mem>
-    requires taking { IsTaking plan.now journal.now.entries kept.old sim message.now }
+    requires taking { IsTaking plan.now journal.now.entries derived.old sim message.now }
     requires ends { EndsStep plan.now (view plan.now journal.now.entries) sim.0 message.now at }
     ensures leaves { IfOk result
-        (λ upshot. Leaves plan.now journal.now.entries sim message.now upshot kept.new) }
-    ensures marks { HasSameMarks kept.old.stock.buffers kept.new.stock.buffers }
-    ensures notes { IfOk result (λ _. Notes kept.old kept.new) }
+        (λ upshot. Leaves plan.now journal.now.entries sim message.now upshot derived.new) }
+    ensures marks { HasSameMarks derived.old.stock.buffers derived.new.stock.buffers }
+    ensures notes { IfOk result (λ _. Notes derived.old derived.new) }
 {
     ends_of_turns();
     stock_stays();
-    let ended = kept
+    let ended = derived
         .agenda
-        .end_turn(sim, at, next_in(message), &[], &mut kept.untold)?;
+        .end_turn(sim, at, next_in(message), &[], &mut derived.untold)?;
     match ended {
         Some(beyond) => Ok(Upshot::Fault(limit_by(beyond))),
         None => {
-            kept.sims.end(sim);
+            derived.sims.end(sim);
             Ok(Upshot::Quiet)
         }
     }
@@ -81,31 +81,37 @@ fn end_step(
 // A turn at `at` ends by the reply to its GetData, whose content gives its outputs.
 fn end_fetch(
     plan: &Plan,
-    kept: &mut Kept,
+    derived: &mut Derived,
     journal: &Journal,
     sim: SimNo,
     message: &Message,
     content: &Json,
     at: Tier,
 ) -> Result<Upshot, Mem>
-    requires taking { IsTaking plan.now journal.now.entries kept.old sim message.now }
+    requires taking { IsTaking plan.now journal.now.entries derived.old sim message.now }
     requires ends { EndsFetch plan.now (view plan.now journal.now.entries) sim.0 message.now at }
     requires content { content_of message.now ≡ Some content.now }
     ensures leaves { IfOk result
-        (λ upshot. Leaves plan.now journal.now.entries sim message.now upshot kept.new) }
-    ensures marks { HasSameMarks kept.old.stock.buffers kept.new.stock.buffers }
-    ensures notes { IfOk result (λ _. Notes kept.old kept.new) }
+        (λ upshot. Leaves plan.now journal.now.entries sim message.now upshot derived.new) }
+    ensures marks { HasSameMarks derived.old.stock.buffers derived.new.stock.buffers }
+    ensures notes { IfOk result (λ _. Notes derived.old derived.new) }
 {
     ends_of_turns();
     let made = made_at(at, content);
-    let next = kept.sims.next(sim);
-    let outputs = kept.stock.outputs(sim, content)?;
-    let ended = kept.agenda.end_turn(sim, made, next, outputs.given.as_slice(), &mut kept.untold)?;
+    let next = derived.sims.next(sim);
+    let outputs = derived.stock.outputs(sim, content)?;
+    let ended = derived.agenda.end_turn(
+        sim,
+        made,
+        next,
+        outputs.given.as_slice(),
+        &mut derived.untold,
+    )?;
     match ended {
         Some(beyond) => Ok(Upshot::Fault(limit_by(beyond))),
         None => {
-            kept.stock.take_outputs(sim, made, &outputs)?;
-            kept.sims.end(sim);
+            derived.stock.take_outputs(sim, made, &outputs)?;
+            derived.sims.end(sim);
             Ok(Upshot::Quiet)
         }
     }

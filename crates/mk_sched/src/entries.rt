@@ -1,6 +1,6 @@
 // How entries are added to a journal, as far as there is room.
 ghost use Rattle.std.specs.Prelude.{◌≡◌, ◌+◌, ◌∷◌, ◌++◌, ◌==◌, [], length, IfOk, IfErr};
-ghost use Rattle.mk_sched.specs.inner.Kept.{taken_by, entries_by};
+ghost use Rattle.mk_sched.specs.inner.Derived.{taken_by, entries_by};
 
 use crate::faults::{CoreFault, Taken};
 use crate::taking::Upshot;

@@ -3,10 +3,10 @@
 
 mod asking;
 mod cores;
+mod derived;
 mod ending;
 mod entries;
 mod faults;
-mod kept;
 mod marks;
 mod taking;
 

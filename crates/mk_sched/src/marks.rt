@@ -7,11 +7,11 @@ ghost use Rattle.mk_plan.specs.Journals.{View};
 ghost use Rattle.mk_sched_agenda.specs.Mirrors.{Mirrors};
 ghost use Rattle.mk_buffers.specs.Standing.{mark_of};
 ghost use Rattle.mk_sched_supply.specs.Stock.{IsStockOf};
-ghost use Rattle.mk_sched.specs.inner.Holding.{AllAreTold, AreTold, HasTold, IsSettled, IsToldTo};
-ghost use Rattle.mk_sched.specs.inner.Kept.{IsKept};
+ghost use Rattle.mk_sched.specs.inner.Holding.{AllAreTold, AreToldBut, HasToldRest, HasGivenUp, IsToldTo};
+ghost use Rattle.mk_sched.specs.inner.Derived.{IsDerived};
 
+use crate::derived::Derived;
 use crate::faults::Ended;
-use crate::kept::Kept;
 use mk_base::{SimNo, Tier};
 use mk_plan::Plan;
 use mk_sched_agenda::Agenda;
@@ -21,19 +21,24 @@ use mk_tiers::Bits;
 // Where the core has not ended, and nobody is ready, tells the stock from when on each simulator may
 // step of which it has not been told since that changed: what no question reaches any more is given
 // up.
-pub fn settle(plan: &Plan, kept: &mut Kept, ended: Option<Ended>)
+pub fn give_up(plan: &Plan, derived: &mut Derived, ended: Option<Ended>)
     requires valid { IsValidPlan plan.now }
-    requires whole { ended ≡ None → sim_count plan.now ≤ length kept.old.agenda.queues }
-    ensures { (J : List Entry) → IsKept plan.now J kept.old ended
-        → HasTold plan.now kept.old ended → IsKept plan.now J kept.new ended
-        × IsSettled plan.now J kept.new ended × HasTold plan.now kept.new ended }
+    requires whole { ended ≡ None → sim_count plan.now ≤ length derived.old.agenda.queues }
+    ensures { (J : List Entry) → IsDerived plan.now J derived.old ended
+        → HasToldRest plan.now derived.old ended → IsDerived plan.now J derived.new ended
+        × HasGivenUp plan.now J derived.new ended × HasToldRest plan.now derived.new ended }
 {
     if ended.is_some() {
         return;
     }
-    match kept.agenda.first_ready() {
+    match derived.agenda.first_ready() {
         Some(_) => {}
-        None => tell_all(plan, &kept.agenda, &mut kept.stock, &mut kept.untold),
+        None => tell_all(
+            plan,
+            &derived.agenda,
+            &mut derived.stock,
+            &mut derived.untold,
+        ),
     }
 }
 
@@ -44,7 +49,7 @@ fn tell_all(plan: &Plan, agenda: &Agenda, stock: &mut Stock, untold: &mut Bits)
     ensures stock { (V : View) → Mirrors plan.now V agenda.now → IsStockOf plan.now V stock.old
         → IsStockOf plan.now V stock.new }
     ensures told { (V : View) → Mirrors plan.now V agenda.now → IsStockOf plan.now V stock.old
-        → AreTold plan.now agenda.now.bounds stock.old untold.old
+        → AreToldBut plan.now agenda.now.bounds stock.old untold.old
         → AllAreTold plan.now agenda.now.bounds stock.new }
 {
     'telling: while let Some(number) = untold.take_from(0) {

@@ -13,16 +13,16 @@ ghost use Rattle.mk_plan.specs.Sequential.{response};
 ghost use Rattle.mk_plan.specs.Journals.{OpenTurn, view, note_right, note_sent};
 ghost use Rattle.mk_buffers.specs.Standing.{HasSameMarks};
 ghost use Rattle.mk_sched_open.specs.Turns.{IsInRun, IsRight, next_in};
-ghost use Rattle.mk_sched_supply.specs.Stock.{IsStockOf, MayCome};
-ghost use Rattle.mk_sched_supply.specs.Asking.{IsInStep};
+ghost use Rattle.mk_sched_supply.specs.Stock.{IsStockOf, MayComeNext};
+ghost use Rattle.mk_sched_supply.specs.Asking.{IsStepOpen};
 ghost use Rattle.mk_sched.specs.Cores.{is_message_in_range};
 ghost use Rattle.mk_sched.specs.inner.Holding.{Notes};
-ghost use Rattle.mk_sched.specs.inner.Kept.{IsKept, HasTaken, IsTaking, IsJudged, Leaves, time_at, fault_by};
+ghost use Rattle.mk_sched.specs.inner.Derived.{IsDerived, HasTaken, IsTaking, IsJudged, Leaves, time_at, fault_by};
 
+use crate::derived::Derived;
 use crate::ending::end_turn;
 use crate::entries::{has_last_room, is_full, push_all, too_long};
 use crate::faults::{CoreFault, Taken};
-use crate::kept::Kept;
 use mk_base::{List, Mem, SimNo, Tier};
 use mk_plan::{Cause, Item, Journal, Message, Place, Plan, Want};
 use mk_plan_judge::{next_place, next_time, wrong};
@@ -42,23 +42,23 @@ pub enum Upshot {
 pub fn take(
     alloc: Global,
     plan: &Plan,
-    kept: &mut Kept,
+    derived: &mut Derived,
     journal: &mut Journal,
     sim: SimNo,
     message: Message,
 ) -> Result<Taken, Mem>
-    requires kept { IsKept plan.now journal.old.entries kept.old None }
+    requires derived { IsDerived plan.now journal.old.entries derived.old None }
     requires there { sim.0 < sim_count plan.now }
     requires form { is_message_in_range message ≡ true }
-    ensures taken { HasTaken plan.now journal.old.entries sim message result kept.new
+    ensures taken { HasTaken plan.now journal.old.entries sim message result derived.new
         journal.new.entries }
-    ensures marks { HasSameMarks kept.old.stock.buffers kept.new.stock.buffers }
-    ensures notes { IfOk result (λ _. Notes kept.old kept.new) }
+    ensures marks { HasSameMarks derived.old.stock.buffers derived.new.stock.buffers }
+    ensures notes { IfOk result (λ _. Notes derived.old derived.new) }
 {
     if is_full(plan, journal) {
         return Ok(Taken::Fault(too_long(plan)));
     }
-    match weigh(alloc, plan, kept, journal, sim, &message) {
+    match weigh(alloc, plan, derived, journal, sim, &message) {
         Ok(upshot) => push_all(journal, sim, message, upshot),
         Err(Mem) => Err(Mem),
     }
@@ -68,23 +68,23 @@ pub fn take(
 fn weigh(
     alloc: Global,
     plan: &Plan,
-    kept: &mut Kept,
+    derived: &mut Derived,
     journal: &Journal,
     sim: SimNo,
     message: &Message,
 ) -> Result<Upshot, Mem>
-    requires taking { IsTaking plan.now journal.now.entries kept.old sim message.now }
+    requires taking { IsTaking plan.now journal.now.entries derived.old sim message.now }
     ensures leaves { IfOk result
-        (λ upshot. Leaves plan.now journal.now.entries sim message.now upshot kept.new) }
-    ensures marks { HasSameMarks kept.old.stock.buffers kept.new.stock.buffers }
-    ensures notes { IfOk result (λ _. Notes kept.old kept.new) }
+        (λ upshot. Leaves plan.now journal.now.entries sim message.now upshot derived.new) }
+    ensures marks { HasSameMarks derived.old.stock.buffers derived.new.stock.buffers }
+    ensures notes { IfOk result (λ _. Notes derived.old derived.new) }
 {
-    let place = kept.sims.place(sim);
-    match wrong(plan, kept.stock.wants(sim), sim, &place, message) {
-        Some(cause) => Ok(Upshot::Fault(fault_by(sim, kept.sims.heard(sim), cause))),
-        None => match next_place(plan, sim, &place, message) {
-            Some(next) => go_on(alloc, plan, kept, journal, sim, message, place, next),
-            None => end_turn(plan, kept, journal, sim, message, place),
+    let place = derived.sims.place(sim);
+    match wrong(plan, derived.stock.wants(sim), sim, &place, message) {
+        Some(cause) => Ok(Upshot::Fault(fault_by(sim, derived.sims.heard(sim), cause))),
+        None => match next_place(derived.stock.wants(sim), &place, message) {
+            Some(next) => go_on(alloc, plan, derived, journal, sim, message, place, next),
+            None => end_turn(plan, derived, journal, sim, message, place),
         },
     }
 }
@@ -107,28 +107,28 @@ fn fault_by(sim: SimNo, heard: u64, cause: Cause) -> CoreFault
 fn go_on(
     alloc: Global,
     plan: &Plan,
-    kept: &mut Kept,
+    derived: &mut Derived,
     journal: &Journal,
     sim: SimNo,
     message: &Message,
     place: Place,
     next: Place,
 ) -> Result<Upshot, Mem>
-    requires taking { IsTaking plan.now journal.now.entries kept.old sim message.now }
+    requires taking { IsTaking plan.now journal.now.entries derived.old sim message.now }
     requires judged { IsJudged plan.now (view plan.now journal.now.entries) sim.0 message.now place
         (Some next) }
     ensures leaves { IfOk result
-        (λ upshot. Leaves plan.now journal.now.entries sim message.now upshot kept.new) }
-    ensures marks { HasSameMarks kept.old.stock.buffers kept.new.stock.buffers }
-    ensures notes { IfOk result (λ _. Notes kept.old kept.new) }
+        (λ upshot. Leaves plan.now journal.now.entries sim message.now upshot derived.new) }
+    ensures marks { HasSameMarks derived.old.stock.buffers derived.new.stock.buffers }
+    ensures notes { IfOk result (λ _. Notes derived.old derived.new) }
 {
     if has_last_room(plan, journal) {
         return Ok(Upshot::Fault(too_long(plan)));
     }
     ends_of_turns();
     let at = time_at(&place);
-    let item = owed_after(alloc, plan, &mut kept.stock, sim, at, message)?;
-    kept.sims.go_on(sim, next, next_in(message));
+    let item = owed_after(alloc, plan, &mut derived.stock, sim, at, message)?;
+    derived.sims.go_on(sim, next, next_in(message));
     Ok(Upshot::Send(item))
 }
 
@@ -154,12 +154,12 @@ fn owed_after(
 ) -> Result<Item, Mem>
     requires valid { IsValidPlan plan.now }
     requires there { sim.0 < sim_count plan.now }
-    requires asked { IsInStep plan.now sim.0 at stock.old }
+    requires asked { IsStepOpen plan.now sim.0 at stock.old }
     requires run { IsInRun at }
     requires form { is_message_in_range message.now ≡ true }
     ensures marks { HasSameMarks stock.old.buffers stock.new.buffers }
     ensures owed { (J : List Entry) → (T : OpenTurn) → (q : Place)
-        → MayCome plan.now J (Got sim message.now)
+        → MayComeNext plan.now J (Got sim message.now)
         → IsRight plan.now (view plan.now J) sim.0 message.now T (Some q) → T.at ≡ at
         → IsStockOf plan.now (view plan.now J) stock.old
         → IfOk result (λ item. (item

@@ -11,7 +11,7 @@ use Rattle.mk_tiers.specs.Seen.{Seen, IsEarliestIn}
 use Rattle.mk_tiers.specs.Sets.{has}
 use Rattle.mk_buffers.specs.Standing.{mark_of}
 use Rattle.mk_sched_supply.specs.declared.stock.Stock.{Stock}
-use Rattle.mk_sched.specs.declared.kept.Kept.{Kept}
+use Rattle.mk_sched.specs.declared.derived.Derived.{Derived}
 use Rattle.mk_sched.specs.declared.faults.Ended.{Ended}
 use Rattle.mk_sched.specs.Answers.{SomeReady}
 
@@ -25,18 +25,18 @@ abbrev pub AllAreTold : Plan → Seen → Stock → Type 0
 AllAreTold P B k = (s : ℕ) → s < sim_count P → s < 256 → IsToldTo P B s (mark_of k.buffers s)
 
 -- and this of all but those in the set
-abbrev pub AreTold : Plan → Seen → Stock → Bits → Type 0
-AreTold P B k untold = (s : ℕ) → s < sim_count P → s < 256 → has untold s ≡ false
+abbrev pub AreToldBut : Plan → Seen → Stock → Bits → Type 0
+AreToldBut P B k untold = (s : ℕ) → s < sim_count P → s < 256 → has untold s ≡ false
     → IsToldTo P B s (mark_of k.buffers s)
 
 -- where the core has not ended, the stock was told of all who aren't noted
-abbrev pub HasTold : Plan → Kept → Option Ended → Type 0
-HasTold P K end = end ≡ None → AreTold P K.agenda.bounds K.stock K.untold
+abbrev pub HasToldRest : Plan → Derived → Option Ended → Type 0
+HasToldRest P K end = end ≡ None → AreToldBut P K.agenda.bounds K.stock K.untold
 
 -- where the core has not ended, and nobody is ready, the stock was told of all
-abbrev pub IsSettled : Plan → List Entry → Kept → Option Ended → Type 0
-IsSettled P J K end = end ≡ None → (SomeReady P J → ⊥) → AllAreTold P K.agenda.bounds K.stock
+abbrev pub HasGivenUp : Plan → List Entry → Derived → Option Ended → Type 0
+HasGivenUp P J K end = end ≡ None → (SomeReady P J → ⊥) → AllAreTold P K.agenda.bounds K.stock
 
 -- who may step from another time on is noted
-abbrev pub Notes : Kept → Kept → Type 0
+abbrev pub Notes : Derived → Derived → Type 0
 Notes K L = HasNoted K.agenda.bounds L.agenda.bounds K.untold L.untold

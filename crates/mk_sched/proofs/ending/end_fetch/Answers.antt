@@ -5,7 +5,7 @@ use Rattle.mk_sched_agenda.specs.declared.outlets.Beyond.{Beyond}
 use Rattle.mk_sched_agenda.specs.Endings.{EndOf}
 use Rattle.mk_sched.specs.declared.faults.CoreFault.{CoreFault}
 use Rattle.mk_sched.specs.declared.faults.Taken.TheVariants as taken
-use Rattle.mk_sched.specs.inner.Kept.{HasTaken}
+use Rattle.mk_sched.specs.inner.Derived.{HasTaken}
 use Rattle.mk_sched.proofs.ending.end_fetch.Goals as goal
 use Rattle.mk_sched.proofs.Arrived.{its, got_may, few_entries}
 use Rattle.mk_sched.proofs.TurnEnds.{given_all, next_not_negative, fetch_made, last, taken_limit, taken_ended}
@@ -14,7 +14,7 @@ pub end_turn-requires-clause-next : goal.end_turn-requires-clause-next
 end_turn-requires-clause-next c =
     let P = c.args.plan.now in
     let J = c.args.journal.now.entries in
-    let K = c.args.kept.now in
+    let K = c.args.derived.now in
     let s = c.args.sim in
     let m = c.args.message.now in
     let judged = c.requires.ends.judged in
@@ -25,7 +25,7 @@ pub end_turn-requires-clause-given : goal.end_turn-requires-clause-given
 end_turn-requires-clause-given c =
     let P = c.args.plan.now in
     let J = c.args.journal.now.entries in
-    let K = c.args.kept.now in
+    let K = c.args.derived.now in
     let s = c.args.sim in
     let m = c.args.message.now in
     let taking = c.requires.taking in
@@ -40,7 +40,7 @@ pub returns-in-Some-clause-leaves : goal.returns-in-Some-clause-leaves
 returns-in-Some-clause-leaves c =
     let P = c.args.plan.now in
     let J = c.args.journal.now.entries in
-    let K = c.args.kept.now in
+    let K = c.args.derived.now in
     let s = c.args.sim in
     let m = c.args.message.now in
     let taking = c.requires.taking in
@@ -59,7 +59,7 @@ pub returns-clause-leaves : goal.returns-clause-leaves
 returns-clause-leaves c =
     let P = c.args.plan.now in
     let J = c.args.journal.now.entries in
-    let K = c.args.kept.now in
+    let K = c.args.derived.now in
     let s = c.args.sim in
     let m = c.args.message.now in
     let taking = c.requires.taking in
@@ -74,6 +74,6 @@ returns-clause-leaves c =
     (c.as_slice.ensures.value ∙ outs.given (ended_turn T m) law.0)) now.agenda in
     let fine = subst (λ (o : Option Beyond). EndOf P J s T m K.agenda o c.end_turn.new.self) c.in-None.is end in
     taken_ended P J K s m taking T right fine.0 (record { sims = c.end.new.self; agenda = c.end_turn.new.self; stock = c.take_outputs.new.self; untold = c.end_turn.new.noted }) (J ++ Got s m ∷ []) refl
-    (c.end.ensures.sims P (view P J) _ m T (few_entries P J K _ taking.kept) now.sims right)
+    (c.end.ensures.sims P (view P J) _ m T (few_entries P J K _ taking.derived) now.sims right)
     fine.1
     (c.in_ok-take_outputs-in-None.ensures.stock P J m T c.args.content.now (got_may P J K s m taking) right law.0 made_is outs now.stock)

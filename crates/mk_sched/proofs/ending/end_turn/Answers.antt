@@ -18,4 +18,4 @@ returns-in_default-clause-leaves c =
     ]
 
 pub returns-in_default-clause-notes : goal.returns-in_default-clause-notes
-returns-in_default-clause-notes c = noted_none c.args.kept.now.agenda.bounds c.args.kept.now.untold
+returns-in_default-clause-notes c = noted_none c.args.derived.now.agenda.bounds c.args.derived.now.untold

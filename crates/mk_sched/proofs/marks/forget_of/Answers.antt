@@ -1,6 +1,6 @@
 use Rattle.std.proofs.Common.{◌∙◌, ap, unwrap_or}
 use Rattle.mk_buffers.specs.Standing.{mark_of}
-use Rattle.mk_sched.proofs.Settled.{mark_of_earliest, told_here}
+use Rattle.mk_sched.proofs.GivingUp.{mark_of_earliest, told_here}
 use Rattle.mk_sched.proofs.marks.forget_of.Goals as goal
 
 pub returns-clause-stock : goal.returns-clause-stock

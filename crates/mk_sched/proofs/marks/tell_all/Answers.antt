@@ -1,6 +1,6 @@
 use Rattle.std.proofs.Common.{arith, refl}
 use Rattle.mk_tiers.proofs.Counting.{taken_falls}
-use Rattle.mk_sched.proofs.Settled.{told_all, told_more}
+use Rattle.mk_sched.proofs.GivingUp.{told_all, told_more}
 use Rattle.mk_sched.proofs.marks.tell_all.Goals as goal
 
 pub telling-init : goal.telling-init

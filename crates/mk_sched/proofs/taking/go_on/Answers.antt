@@ -11,7 +11,7 @@ use Rattle.mk_sched_open.specs.Turns.{IsInRun, IsPlaceInRun}
 use Rattle.mk_sched_supply.specs.Stock.{IsStockOf}
 use Rattle.mk_sched.specs.declared.faults.CoreFault.{CoreFault}
 use Rattle.mk_sched.specs.declared.faults.Taken.TheVariants as taken
-use Rattle.mk_sched.specs.inner.Kept.{HasTaken, time_at}
+use Rattle.mk_sched.specs.inner.Derived.{HasTaken, time_at}
 use Rattle.mk_sched.proofs.Standing.{not_same_number}
 use Rattle.mk_sched.proofs.Judged.{is_open, goes_on}
 use Rattle.mk_sched.proofs.Arrived.{its, got_may, few_entries, taken_left, taken_sent}
@@ -22,7 +22,7 @@ pub returns-then-has_last_room-clause-leaves : goal.returns-then-has_last_room-c
 returns-then-has_last_room-clause-leaves c =
     let P = c.args.plan.now in
     let J = c.args.journal.now.entries in
-    let K = c.args.kept.now in
+    let K = c.args.derived.now in
     let s = c.args.sim in
     let m = c.args.message.now in
     let judged = c.requires.judged in
@@ -33,7 +33,7 @@ pub owed_after-requires-clause-asked : goal.owed_after-requires-clause-asked
 owed_after-requires-clause-asked c =
     let P = c.args.plan.now in
     let J = c.args.journal.now.entries in
-    let K = c.args.kept.now in
+    let K = c.args.derived.now in
     let s = c.args.sim in
     let m = c.args.message.now in
     let taking = c.requires.taking in
@@ -62,7 +62,7 @@ pub returns-clause-leaves : goal.returns-clause-leaves
 returns-clause-leaves c =
     let P = c.args.plan.now in
     let J = c.args.journal.now.entries in
-    let K = c.args.kept.now in
+    let K = c.args.derived.now in
     let s = c.args.sim in
     let m = c.args.message.now in
     let taking = c.requires.taking in
@@ -77,12 +77,12 @@ returns-clause-leaves c =
     let owed = c.in_ok-item.ensures.owed J T q (got_may P J K s m taking) right at now.stock in
     taken_sent P J K s m taking T q right (not_same_number _ _ (sym c.has_last_room.ensures ∙ c.if-has_last_room.false)) (record { sims = c.go_on.new.self; agenda = K.agenda; stock = c.owed_after.new.stock; untold = K.untold }) (J ++ Got s m ∷ [] ++ Sent s c.in_ok-item.item ∷ [])
     (ap (λ (i : Item). J ++ Got s m ∷ [] ++ Sent s i ∷ []) owed.0)
-    (c.go_on.ensures.sims P (view P J) _ m T (few_entries P J K _ taking.kept) now.sims right c.next_in.ensures)
+    (c.go_on.ensures.sims P (view P J) _ m T (few_entries P J K _ taking.derived) now.sims right c.next_in.ensures)
     refl
     (subst (λ (i : Item). IsStockOf P (note_sent P (note_right P (view P J) s.0 m T (Some q)) s.0 i) c.owed_after.new.stock) owed.0 owed.1)
 
 pub returns-then-has_last_room-clause-notes : goal.returns-then-has_last_room-clause-notes
-returns-then-has_last_room-clause-notes c = noted_none c.args.kept.now.agenda.bounds c.args.kept.now.untold
+returns-then-has_last_room-clause-notes c = noted_none c.args.derived.now.agenda.bounds c.args.derived.now.untold
 
 pub returns-clause-notes : goal.returns-clause-notes
-returns-clause-notes c = noted_none c.args.kept.now.agenda.bounds c.args.kept.now.untold
+returns-clause-notes c = noted_none c.args.derived.now.agenda.bounds c.args.derived.now.untold

@@ -5,7 +5,7 @@ use Rattle.mk_plan.specs.Acts.{is_ask}
 use Rattle.mk_plan.specs.Journals.{view}
 use Rattle.std.proofs.Common.{Some}
 use Rattle.mk_sched_open.specs.Turns.{IsRight}
-use Rattle.mk_sched_supply.specs.Stock.{MayCome}
+use Rattle.mk_sched_supply.specs.Stock.{MayComeNext}
 use Rattle.mk_sched.proofs.Arrived.{owed_asked, owed_fetched}
 use Rattle.mk_sched.proofs.taking.owed_after.Goals as goal
 
@@ -13,7 +13,7 @@ pub returns-in-Ask-clause-owed : goal.returns-in-Ask-clause-owed
 returns-in-Ask-clause-owed c = λ J T q may right at stock.
     let P = c.args.plan.now in
     let s = c.args.sim in
-    let coming = subst (λ (m : Message). MayCome P J (Got s m)) c.in-Ask.is may in
+    let coming = subst (λ (m : Message). MayComeNext P J (Got s m)) c.in-Ask.is may in
     let is = subst (λ (m : Message). IsRight P (view P J) s.0 m T (Some q)) c.in-Ask.is right in
     owed_asked P (view P J) s.0 T q c.args.at at c.answer.new.self c.args.message.now c.in-Ask.id c.in-Ask.name c.in-Ask.args c.in-Ask.named c.in-Ask.is c.answer.result
     (c.answer.ensures.item (view P J) T stock)

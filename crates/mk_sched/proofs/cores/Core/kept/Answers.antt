@@ -1,5 +1,5 @@
 use Rattle.mk_sched.proofs.cores.Core.kept.Goals as goal
-use Rattle.mk_sched.proofs.Settled.{few_kept, held_of}
+use Rattle.mk_sched.proofs.GivingUp.{few_kept, held_of}
 
 pub returns-clause-held : goal.returns-clause-held
 returns-clause-held c = rw (← c.self.view_is) (held_of _ _ _ _ c.self.invariant.0 c.self.invariant.1 c.kept.result c.kept.ensures.count (λ V stock. c.kept.ensures.few _ V stock))

@@ -1,9 +1,9 @@
 use Rattle.std.proofs.Common.{refl}
-use Rattle.mk_sched.proofs.Settled.{whole_of}
+use Rattle.mk_sched.proofs.GivingUp.{whole_of}
 use Rattle.mk_sched.proofs.cores.Core.new.Goals as goal
 
-pub settle-requires-clause-whole : goal.settle-requires-clause-whole
-settle-requires-clause-whole c = λ going. whole_of _ _ _ _ c.in_ok-kept.ensures.kept refl
+pub give_up-requires-clause-whole : goal.give_up-requires-clause-whole
+give_up-requires-clause-whole c = λ going. whole_of _ _ _ _ c.in_ok-derived.ensures.derived refl
 
 pub invariant_of-result : goal.invariant_of-result
-invariant_of-result c = rw c.new.ensures (c.settle.ensures _ c.in_ok-kept.ensures.kept c.in_ok-kept.ensures.told)
+invariant_of-result c = rw c.new.ensures (c.give_up.ensures _ c.in_ok-derived.ensures.derived c.in_ok-derived.ensures.told)

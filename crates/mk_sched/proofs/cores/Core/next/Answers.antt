@@ -8,7 +8,7 @@ pub returns-in-Some-OutOfMemory-clause-stands : goal.returns-in-Some-OutOfMemory
 returns-in-Some-OutOfMemory-clause-stands c = rw (← c.self.view_is) (stands_of _ _ _ _ c.self.invariant.0)
 
 pub returns-clause-stands : goal.returns-clause-stands
-returns-clause-stands c = stands_of _ _ _ _ c.advance-answer.ensures.advanced.kept
+returns-clause-stands c = stands_of _ _ _ _ c.advance-answer.ensures.advanced.derived
 
-pub advance-answer-requires-clause-settled : goal.advance-answer-requires-clause-settled
-advance-answer-requires-clause-settled c = λ going. c.self.invariant.1 c.in-None.is
+pub advance-answer-requires-clause-given_up : goal.advance-answer-requires-clause-given_up
+advance-answer-requires-clause-given_up c = λ going. c.self.invariant.1 c.in-None.is

@@ -1,9 +1,9 @@
 use Rattle.std.proofs.Common.{Option, refl, subst, sym}
 use Rattle.mk_sched.specs.declared.faults.Ended.{Ended}
-use Rattle.mk_sched.specs.inner.Holding.{HasTold}
-use Rattle.mk_sched.specs.inner.Kept.{IsKept}
+use Rattle.mk_sched.specs.inner.Holding.{HasToldRest}
+use Rattle.mk_sched.specs.inner.Derived.{IsDerived}
 use Rattle.mk_sched.proofs.cores.Core.take.Goals as goal
-use Rattle.mk_sched.proofs.Settled.{told_after, whole_of}
+use Rattle.mk_sched.proofs.GivingUp.{told_after, whole_of}
 use Rattle.mk_sched.proofs.Standing.{stands_of}
 
 pub returns-in-Some-Faulty-clause-stands : goal.returns-in-Some-Faulty-clause-stands
@@ -13,18 +13,18 @@ pub returns-in-Some-OutOfMemory-clause-stands : goal.returns-in-Some-OutOfMemory
 returns-in-Some-OutOfMemory-clause-stands c = rw (← c.self.view_is) (stands_of _ _ _ _ c.self.invariant.0)
 
 pub returns-clause-stands : goal.returns-clause-stands
-returns-clause-stands c = stands_of _ _ _ _ c.take-answer.ensures.taken.kept
+returns-clause-stands c = stands_of _ _ _ _ c.take-answer.ensures.taken.derived
 
-pub settle-requires-clause-whole : goal.settle-requires-clause-whole
-settle-requires-clause-whole c = rw c.end_after_arrive-self-inside.ensures (whole_of _ _ _ _ c.take-answer.ensures.taken.kept)
+pub give_up-requires-clause-whole : goal.give_up-requires-clause-whole
+give_up-requires-clause-whole c = rw c.end_after_arrive-self-inside.ensures (whole_of _ _ _ _ c.take-answer.ensures.taken.derived)
 
 pub invariant_of-self : goal.invariant_of-self
 invariant_of-self c =
     let P = c.self.inside.plan in
     let J = c.take-answer.new.journal.entries in
-    let L = c.take-answer.new.kept in
-    let K = c.self.inside.kept in
-    let had = subst (λ (e : Option Ended). IsKept P c.self.inside.journal.entries K e) c.in-None.is c.self.invariant.0 in
-    c.settle.ensures J (subst (λ (e : Option Ended). IsKept P J L e) (sym c.end_after_arrive-self-inside.ensures) c.take-answer.ensures.taken.kept)
-    (subst (λ (e : Option Ended). HasTold P L e) (sym c.end_after_arrive-self-inside.ensures)
+    let L = c.take-answer.new.derived in
+    let K = c.self.inside.derived in
+    let had = subst (λ (e : Option Ended). IsDerived P c.self.inside.journal.entries K e) c.in-None.is c.self.invariant.0 in
+    c.give_up.ensures J (subst (λ (e : Option Ended). IsDerived P J L e) (sym c.end_after_arrive-self-inside.ensures) c.take-answer.ensures.taken.derived)
+    (subst (λ (e : Option Ended). HasToldRest P L e) (sym c.end_after_arrive-self-inside.ensures)
     (told_after P had.valid K L (had.current refl).agenda.plan.bounds c.take-answer.ensures.marks (c.self.invariant.2 c.in-None.is) c.take-answer.result c.take-answer.ensures.notes))

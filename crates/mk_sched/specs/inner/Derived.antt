@@ -1,4 +1,4 @@
--- What is kept beside the journal, and what one call leaves of it. For proofs alone.
+-- What is derived from the journal, and what one call leaves of it. For proofs alone.
 use Rattle.std.specs.Prelude.{◌≡◌, ◌≢◌, ℕ, ◌<◌, ◌≤◌, ℤ, int_lt, true, List, [], ◌∷◌, ◌++◌, length, Option, Some, None, unwrap_or, option_map, option_and_then, if◌then◌else◌, Result, Ok, Err, IfOk, IfErr}
 use Rattle.mk_base.specs.declared.Mem.{Mem}
 use Rattle.mk_base.specs.declared.SimNo.{SimNo}
@@ -23,7 +23,7 @@ use Rattle.mk_sched_agenda.specs.declared.outlets.Beyond.{Beyond}
 use Rattle.mk_sched_open.specs.Sims.{AreSimsOf}
 use Rattle.mk_sched_open.specs.Turns.{IsRight, IsPlaceInRun}
 use Rattle.mk_sched_supply.specs.Stock.{IsStockOf}
-use Rattle.mk_sched.specs.declared.kept.Kept.{Kept}
+use Rattle.mk_sched.specs.declared.derived.Derived.{Derived}
 use Rattle.mk_sched.specs.declared.faults.CoreFault.{CoreFault}
 use Rattle.mk_sched.specs.declared.faults.CoreFault.TheVariants.{Wrong, Failed, LoopLimit}
 use Rattle.mk_sched.specs.declared.faults.Ended.{Ended}
@@ -36,11 +36,11 @@ use Rattle.mk_sched.specs.declared.taking.Upshot.{Upshot}
 use Rattle.mk_sched.specs.declared.taking.Upshot.TheVariants as upshot
 use Rattle.mk_sched.specs.Cores.{CoreState, is_message_in_range}
 use Rattle.mk_sched.specs.Answers.{NextOf, ArriveOf}
-use Rattle.mk_sched.specs.inner.Holding.{IsSettled}
+use Rattle.mk_sched.specs.inner.Holding.{HasGivenUp}
 
--- what is kept stands for the view of a journal of n entries; nothing is owed, and there is no
+-- what was derived stands for the view of a journal of n entries; nothing is owed, and there is no
 -- fault
-pub record IsCurrent (P : Plan) (V : View) (n : ℕ) (K : Kept) : Type 0 where
+pub record IsCurrent (P : Plan) (V : View) (n : ℕ) (K : Derived) : Type 0 where
   pub sims : AreSimsOf P V n K.sims
   pub agenda : Mirrors P V K.agenda
   pub stock : IsStockOf P V K.stock
@@ -48,7 +48,7 @@ pub record IsCurrent (P : Plan) (V : View) (n : ℕ) (K : Kept) : Type 0 where
   pub none_owed : V.owed ≡ None
 
 -- what holds of the fields of a core
-pub record IsKept (P : Plan) (J : List Entry) (K : Kept) (end : Option Ended) : Type 0 where
+pub record IsDerived (P : Plan) (J : List Entry) (K : Derived) (end : Option Ended) : Type 0 where
   pub valid : IsValidPlan P
   pub orderly : IsOrderly P J
   pub within : length J ≤ P.entries
@@ -73,18 +73,18 @@ end_after_arrive (Ok (taken.Fault fault)) = Some (Faulty fault)
 end_after_arrive (Err e) = Some OutOfMemory
 
 -- what `next` leaves
-pub record HasAdvanced (P : Plan) (J : List Entry) (answer : Result Next Mem) (L : Kept)
+pub record HasAdvanced (P : Plan) (J : List Entry) (answer : Result Next Mem) (L : Derived)
     (M : List Entry) : Type 0 where
-  pub kept : IsKept P M L (end_after_next answer)
-  pub settled : IsSettled P M L (end_after_next answer)
+  pub derived : IsDerived P M L (end_after_next answer)
+  pub given_up : HasGivenUp P M L (end_after_next answer)
   pub ok : IfOk answer
       (λ next. NextOf (core_of P J None) next (core_of P M (end_after_next answer)))
   pub err : IfErr answer (λ _. M ≡ J)
 
 -- what `arrive` leaves
 pub record HasTaken (P : Plan) (J : List Entry) (sim : SimNo) (m : Message)
-    (answer : Result Taken Mem) (L : Kept) (M : List Entry) : Type 0 where
-  pub kept : IsKept P M L (end_after_arrive answer)
+    (answer : Result Taken Mem) (L : Derived) (M : List Entry) : Type 0 where
+  pub derived : IsDerived P M L (end_after_arrive answer)
   pub ok : IfOk answer
       (λ taken. ArriveOf (core_of P J None) sim m taken (core_of P M (end_after_arrive answer)))
   pub err : IfErr answer (λ _. M ≡ J)
@@ -101,14 +101,14 @@ entries_by J sim m upshot.Quiet = J ++ Got sim m ∷ []
 entries_by J sim m (upshot.Send item) = J ++ Got sim m ∷ [] ++ Sent sim item ∷ []
 entries_by J sim m (upshot.Fault fault) = J ++ Got sim m ∷ []
 
--- this follows a message, and leaves what is kept
-abbrev pub Leaves : Plan → List Entry → SimNo → Message → Upshot → Kept → Type 0
+-- this follows a message, and leaves what is derived
+abbrev pub Leaves : Plan → List Entry → SimNo → Message → Upshot → Derived → Type 0
 Leaves P J sim m u L = HasTaken P J sim m (Ok (taken_by u)) L (entries_by J sim m u)
 
 -- there is room for the message
-pub record IsTaking (P : Plan) (J : List Entry) (K : Kept) (sim : SimNo)
+pub record IsTaking (P : Plan) (J : List Entry) (K : Derived) (sim : SimNo)
     (m : Message) : Type 0 where
-  pub kept : IsKept P J K None
+  pub derived : IsDerived P J K None
   pub there : sim.0 < sim_count P
   pub room : length J ≢ P.entries
   pub form : is_message_in_range m ≡ true

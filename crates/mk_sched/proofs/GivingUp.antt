@@ -16,7 +16,7 @@ use Rattle.mk_plan.specs.Walks.{Reach, nobody, IsEarliest}
 use Rattle.mk_order.proofs.LaterQuestions.{IsMarkOf, earliest_is_mark, unreached_is_mark}
 use Rattle.mk_order.proofs.Opened.{outputs_opened}
 use Rattle.mk_tiers.specs.declared.bits.Bits.{Bits}
-use Rattle.mk_tiers.specs.Seen.{Seen, IsOf, IsEarliestIn}
+use Rattle.mk_tiers.specs.Seen.{Seen, AreOfPlan, IsEarliestIn}
 use Rattle.mk_tiers.specs.Sets.{IsEmpty, IsTaken}
 use Rattle.mk_tiers.proofs.Counting.{without_other}
 use Rattle.mk_sched_agenda.specs.Mirrors.{Mirrors, AgendaState}
@@ -29,13 +29,13 @@ use Rattle.mk_buffers.proofs.Marking.{apart_or_same}
 use Rattle.mk_sched_supply.specs.declared.stock.Stock.{Stock}
 use Rattle.mk_sched_supply.specs.Stock.{IsStockOf}
 use Rattle.mk_sched_supply.proofs.Holding.{most_at}
-use Rattle.mk_sched.specs.declared.kept.Kept.{Kept}
+use Rattle.mk_sched.specs.declared.derived.Derived.{Derived}
 use Rattle.mk_sched.specs.declared.faults.Ended.{Ended}
 use Rattle.mk_sched.specs.declared.faults.Taken.{Taken}
 use Rattle.mk_sched.specs.Answers.{SomeReady}
 use Rattle.mk_sched.specs.Holding.{IsFloor, IsHeld, IsMarked}
-use Rattle.mk_sched.specs.inner.Holding.{AllAreTold, AreTold, HasTold, IsSettled, IsToldTo, Notes}
-use Rattle.mk_sched.specs.inner.Kept.{IsKept, end_after_arrive}
+use Rattle.mk_sched.specs.inner.Holding.{AllAreTold, AreToldBut, HasToldRest, HasGivenUp, IsToldTo, Notes}
+use Rattle.mk_sched.specs.inner.Derived.{IsDerived, end_after_arrive}
 
 -- a simulator's mark is the least tiered time at which it may still step, or any where nothing can make it step
 pub mark_of_earliest : (P : Plan) (V : View) (s : ℕ) (end : Tier) (o : Option Tier) → MatchOption o ((y : Tier) → Reach P (start P V) nobody s y → ⊥) (λ e. IsEarliest P (start P V) s e) → (m : Tier) → m ≡ unwrap_or o end → IsMarkOf P V s m
@@ -71,26 +71,26 @@ told_same P B s m n is told = subst (IsToldTo P B s) (sym is) told
 
 -- one more was told, and isn't in the set any more
 pub told_more : (P : Plan) (B : Seen) (k l : Stock) (old new : Bits) (n : ℕ) → IsTaken old n new → (n < sim_count P → IsToldTo P B n (mark_of l.buffers n)) → ((r : ℕ) → r ≢ n → mark_of l.buffers r ≡ mark_of k.buffers r)
-    → AreTold P B k old → AreTold P B l new
+    → AreToldBut P B k old → AreToldBut P B l new
 told_more P B k l old new n taken here others told s low h out = elim (apart_or_same s n) [
   | inl same ↦ subst (λ (i : ℕ). IsToldTo P B i (mark_of l.buffers i)) (sym same) (here (subst (λ (i : ℕ). i < sim_count P) same low))
   | inr apart ↦ told_same P B s (mark_of k.buffers s) (mark_of l.buffers s) (others s apart) (told s low h (sym (without_other old n new taken.out s h apart) ∙ out))
 ]
 
 -- nobody is left
-pub told_all : (P : Plan) (B : Seen) (k : Stock) (untold : Bits) → IsEmpty untold → AreTold P B k untold → AllAreTold P B k
+pub told_all : (P : Plan) (B : Seen) (k : Stock) (untold : Bits) → IsEmpty untold → AreToldBut P B k untold → AllAreTold P B k
 told_all P B k untold none told s low h = told s low h (none s h)
 
 -- marks as they were, and whoever may step from another time on noted
-pub told_on : (P : Plan) → IsValidPlan P → (K L : Kept) → IsOf P K.agenda.bounds → HasSameMarks K.stock.buffers L.stock.buffers → Notes K L → AreTold P K.agenda.bounds K.stock K.untold → AreTold P L.agenda.bounds L.stock L.untold
+pub told_on : (P : Plan) → IsValidPlan P → (K L : Derived) → AreOfPlan P K.agenda.bounds → HasSameMarks K.stock.buffers L.stock.buffers → Notes K L → AreToldBut P K.agenda.bounds K.stock K.untold → AreToldBut P L.agenda.bounds L.stock L.untold
 told_on P valid K L of same notes told s low h out =
     let t = told s low h (notes.grown s h out) in
     let mark : mark_of L.stock.buffers s ≡ mark_of K.stock.buffers s = ap (λ (m : Marked). unwrap_or (slice_get m.marks s) (moment (pos 0))) same in
     (t.0, notes.same P valid of s (omega (arith, low, of.count)) h out t.0 t.1, subst (IsUpTo (unwrap_or t.0 (moment P.until))) (sym mark) t.2)
 
 -- over a message
-pub told_after : (P : Plan) → IsValidPlan P → (K L : Kept) → IsOf P K.agenda.bounds → HasSameMarks K.stock.buffers L.stock.buffers → AreTold P K.agenda.bounds K.stock K.untold
-    → (r : Result Taken Mem) → IfOk r (λ _. Notes K L) → HasTold P L (end_after_arrive r)
+pub told_after : (P : Plan) → IsValidPlan P → (K L : Derived) → AreOfPlan P K.agenda.bounds → HasSameMarks K.stock.buffers L.stock.buffers → AreToldBut P K.agenda.bounds K.stock K.untold
+    → (r : Result Taken Mem) → IfOk r (λ _. Notes K L) → HasToldRest P L (end_after_arrive r)
 told_after P valid K L of same told (Ok t) notes going = told_on P valid K L of same notes told
 told_after P valid K L of same told (Err e) notes going = absurd (none_some (sym going))
 
@@ -117,16 +117,16 @@ few_sims : (P : Plan) → IsValidPlan P → (s : ℕ) → s < sim_count P → s 
 few_sims P valid s low = omega (arith, low, valid.well_formed.limits.sims.1)
 
 -- the agenda has each simulator's steps
-pub whole_of : (P : Plan) (J : List Entry) (K : Kept) (end : Option Ended) → IsKept P J K end → end ≡ None → sim_count P ≤ length K.agenda.queues
-whole_of P J K end kept going = let count = (kept.current going).agenda.plan.count in omega (arith, count)
+pub whole_of : (P : Plan) (J : List Entry) (K : Derived) (end : Option Ended) → IsDerived P J K end → end ≡ None → sim_count P ≤ length K.agenda.queues
+whole_of P J K end derived going = let count = (derived.current going).agenda.plan.count in omega (arith, count)
 
--- what is kept, with another stock of the same view
-pub kept_stock : (P : Plan) (J : List Entry) (K L : Kept) (end : Option Ended) → L.sims ≡ K.sims → L.agenda ≡ K.agenda → ((V : View) → Mirrors P V K.agenda → IsStockOf P V K.stock → IsStockOf P V L.stock) → IsKept P J K end → IsKept P J L end
-kept_stock P J K L end sims agenda stock kept = record {
-  valid = kept.valid;
-  orderly = kept.orderly;
-  within = kept.within;
-  current = λ going. let now = kept.current going in record {
+-- what is derived, with another stock of the same view
+pub derived_stock : (P : Plan) (J : List Entry) (K L : Derived) (end : Option Ended) → L.sims ≡ K.sims → L.agenda ≡ K.agenda → ((V : View) → Mirrors P V K.agenda → IsStockOf P V K.stock → IsStockOf P V L.stock) → IsDerived P J K end → IsDerived P J L end
+derived_stock P J K L end sims agenda stock derived = record {
+  valid = derived.valid;
+  orderly = derived.orderly;
+  within = derived.within;
+  current = λ going. let now = derived.current going in record {
     sims = subst (AreSimsOf P (view P J) _) (sym sims) now.sims;
     agenda = subst (Mirrors P (view P J)) (sym agenda) now.agenda;
     stock = stock (view P J) now.agenda now.stock;
@@ -135,32 +135,32 @@ kept_stock P J K L end sims agenda stock kept = record {
   };
 }
 
--- what is kept, with a stock that was told of all
-pub all_settled : (P : Plan) (J : List Entry) (K L : Kept) (end : Option Ended) → L.sims ≡ K.sims → L.agenda ≡ K.agenda → ((V : View) → Mirrors P V K.agenda → IsStockOf P V K.stock → IsStockOf P V L.stock)
-    → ((V : View) → Mirrors P V K.agenda → IsStockOf P V K.stock → AreTold P K.agenda.bounds K.stock K.untold → AllAreTold P K.agenda.bounds L.stock) → IsKept P J K end → HasTold P K end → IsKept P J L end × IsSettled P J L end × HasTold P L end
-all_settled P J K L end sims agenda stock told kept had =
-    let all : end ≡ None → AllAreTold P L.agenda.bounds L.stock = λ going. subst (λ (A : AgendaState). AllAreTold P A.bounds L.stock) (sym agenda) (told (view P J) (kept.current going).agenda (kept.current going).stock (had going)) in
-    (kept_stock P J K L end sims agenda stock kept, (λ going nobody. all going), (λ going s low h out. all going s low h))
+-- what is derived, with a stock that was told of all
+pub all_given_up : (P : Plan) (J : List Entry) (K L : Derived) (end : Option Ended) → L.sims ≡ K.sims → L.agenda ≡ K.agenda → ((V : View) → Mirrors P V K.agenda → IsStockOf P V K.stock → IsStockOf P V L.stock)
+    → ((V : View) → Mirrors P V K.agenda → IsStockOf P V K.stock → AreToldBut P K.agenda.bounds K.stock K.untold → AllAreTold P K.agenda.bounds L.stock) → IsDerived P J K end → HasToldRest P K end → IsDerived P J L end × HasGivenUp P J L end × HasToldRest P L end
+all_given_up P J K L end sims agenda stock told derived had =
+    let all : end ≡ None → AllAreTold P L.agenda.bounds L.stock = λ going. subst (λ (A : AgendaState). AllAreTold P A.bounds L.stock) (sym agenda) (told (view P J) (derived.current going).agenda (derived.current going).stock (had going)) in
+    (derived_stock P J K L end sims agenda stock derived, (λ going nobody. all going), (λ going s low h out. all going s low h))
 
 -- ---- what a core holds where it has not ended and nobody is ready
 
-pub few_kept : (P : Plan) (J : List Entry) (K : Kept) (end : Option Ended) → IsKept P J K end → IsSettled P J K end → (n : ℕ) → ((V : View) → IsStockOf P V K.stock → n ≤ most_kept P (supply P V.acts) (least_mark K.stock.buffers))
+pub few_kept : (P : Plan) (J : List Entry) (K : Derived) (end : Option Ended) → IsDerived P J K end → HasGivenUp P J K end → (n : ℕ) → ((V : View) → IsStockOf P V K.stock → n ≤ most_kept P (supply P V.acts) (least_mark K.stock.buffers))
     → end ≡ None → (SomeReady P J → ⊥) → (m : Tier) → IsFloor P (view P J) m → n ≤ most_kept P (supply P (view P J).acts) m
-few_kept P J K end kept settled n few going nobody m floor =
-    let now = kept.current going in
-    most_at P (view P J) K.stock now.stock m (λ s low. told_floor P (view P J) K.agenda now.agenda s low m (mark_of K.stock.buffers s) (settled going nobody s low (few_sims P kept.valid s low)) floor) n (few (view P J) now.stock)
+few_kept P J K end derived given_up n few going nobody m floor =
+    let now = derived.current going in
+    most_at P (view P J) K.stock now.stock m (λ s low. told_floor P (view P J) K.agenda now.agenda s low m (mark_of K.stock.buffers s) (given_up going nobody s low (few_sims P derived.valid s low)) floor) n (few (view P J) now.stock)
 
-pub held_of : (P : Plan) (J : List Entry) (K : Kept) (end : Option Ended) → IsKept P J K end → IsSettled P J K end → (n : ℕ) → n ≡ min (outputs_held K.stock.buffers) 18446744073709551615
+pub held_of : (P : Plan) (J : List Entry) (K : Derived) (end : Option Ended) → IsDerived P J K end → HasGivenUp P J K end → (n : ℕ) → n ≡ min (outputs_held K.stock.buffers) 18446744073709551615
     → ((V : View) → IsStockOf P V K.stock → n ≤ most_kept P (supply P V.acts) (least_mark K.stock.buffers)) → end ≡ None → (SomeReady P J → ⊥) → IsHeld P J n
-held_of P J K end kept settled n count few going nobody =
-    let now = kept.current going in
+held_of P J K end derived given_up n count few going nobody =
+    let now = derived.current going in
     let stock = now.stock in
     record {
       buffers = K.stock.buffers;
       added = stock.supplied.0;
       stands = stock.supplied.1;
       outputs = λ e attr given. stock.supplied.2.outputs e attr given ∙ outputs_opened P (view P J) e attr;
-      marks = λ s low. told_marked P (view P J) K.agenda now.agenda s (mark_of K.stock.buffers s) (settled going nobody s low (few_sims P kept.valid s low)) (stock.marks s low);
+      marks = λ s low. told_marked P (view P J) K.agenda now.agenda s (mark_of K.stock.buffers s) (given_up going nobody s low (few_sims P derived.valid s low)) (stock.marks s low);
       count = count;
       few = few (view P J) stock;
     }

@@ -1,8 +1,8 @@
-// What the core keeps beside the journal.
+// What is derived from the journal, and kept beside it so that it isn't read again.
 ghost use Rattle.std.specs.Prelude.{[], None, IfOk};
 ghost use Rattle.mk_plan.specs.Plans.{IsValidPlan};
-ghost use Rattle.mk_sched.specs.inner.Holding.{HasTold};
-ghost use Rattle.mk_sched.specs.inner.Kept.{IsKept};
+ghost use Rattle.mk_sched.specs.inner.Holding.{HasToldRest};
+ghost use Rattle.mk_sched.specs.inner.Derived.{IsDerived};
 
 use mk_base::Mem;
 use mk_plan::Plan;
@@ -15,23 +15,23 @@ use std::alloc::Global;
 // What is open at each simulator, when each is due, what was given so far, and of which simulators
 // the stock has not been told from when on they may step since that changed.
 #[derive(Drop)]
-pub struct Kept {
+pub struct Derived {
     pub sims: Sims,
     pub agenda: Agenda,
     pub stock: Stock,
     pub untold: Bits,
 }
 
-// What is kept before any entry.
-pub fn new_kept(alloc: Global, plan: &Plan) -> Result<Kept, Mem>
+// What is derived of no entry.
+pub fn new_derived(alloc: Global, plan: &Plan) -> Result<Derived, Mem>
     requires { IsValidPlan plan.now }
-    ensures kept { IfOk result (λ kept. IsKept plan.now [] kept None) }
-    ensures told { IfOk result (λ kept. HasTold plan.now kept None) }
+    ensures derived { IfOk result (λ derived. IsDerived plan.now [] derived None) }
+    ensures told { IfOk result (λ derived. HasToldRest plan.now derived None) }
 {
     let sims = Sims::new(alloc, plan)?;
     let agenda = Agenda::new(alloc, plan)?;
     let stock = Stock::new(alloc, plan)?;
-    Ok(Kept {
+    Ok(Derived {
         sims,
         agenda,
         stock,

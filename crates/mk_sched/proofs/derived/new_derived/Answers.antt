@@ -1,5 +1,5 @@
 use Rattle.std.proofs.Common.{sym, ◌∙◌, true≢false, arith}
-use Rattle.mk_sched.proofs.kept.new_kept.Goals as goal
+use Rattle.mk_sched.proofs.derived.new_derived.Goals as goal
 
 pub returns-clause-told : goal.returns-clause-told
 returns-clause-told c = λ going s low h out. absurd (true≢false (sym (c.below.ensures s (omega (arith, low, c.len.ensures))) ∙ out))
