@@ -16,7 +16,7 @@ use Rattle.mk_record_read.specs.declared.faults.RecordFault.TheVariants.{Line}
 use Rattle.mk_record_read.specs.declared.saved.Arrival.{Arrival}
 use Rattle.mk_record_read.specs.declared.saved.Progress.{Progress}
 use Rattle.mk_record_read.specs.Lines.{arrival_in}
-use Rattle.mk_record_read.specs.Reading.{Going, Ended, Said, Faulty, start, is_feed, line_step, reading, reading_from, overlong}
+use Rattle.mk_record_read.specs.Reading.{Going, Ended, Said, Faulty, before_lines, is_feed, line_step, reading, reading_from, overlong}
 use Rattle.mk_record_read.specs.Seen.{came, said_by}
 use Rattle.mk_record_read.specs.inner.Seen.{state_of, saved_in}
 use Rattle.mk_record_read.specs.Steps.{IsKnown}
@@ -46,7 +46,7 @@ pub record Reads (bytes rest : List ℕ) (number : ℕ) (p : Progress) : Type 0 
   pub going : reading_from (state_of p) number (slice_split is_feed rest) ≡ reading bytes
   pub counted : number + length rest ≤ length bytes + 1
 
-pub reads-first : (bytes : List ℕ) (p : Progress) → state_of p ≡ start → IsSound p → Reads bytes bytes 1 p
+pub reads-first : (bytes : List ℕ) (p : Progress) → state_of p ≡ before_lines → IsSound p → Reads bytes bytes 1 p
 reads-first bytes p is sound = record { sound = sound; going = ap (λ S. reading_from S 1 (slice_split is_feed bytes)) is; counted = omega arith }
 
 -- after a line

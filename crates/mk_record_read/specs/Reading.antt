@@ -79,8 +79,8 @@ pub record State : Type 0 where
   pub asks : Option (List Asked)
 
 -- before any line
-abbrev pub start : State
-start = record {
+abbrev pub before_lines : State
+before_lines = record {
   last = 0;
   plan = record {
     until = pos 0;
@@ -241,4 +241,4 @@ is_feed b = b == 10
 
 -- what a record's bytes say
 abbrev pub reading : List ℕ → Reading
-reading bytes = reading_from start 1 (slice_split is_feed bytes)
+reading bytes = reading_from before_lines 1 (slice_split is_feed bytes)

@@ -324,6 +324,15 @@ pub fn add_conn(
     }
 }
 
+// The ends of a connection as its line says them: places of entities, and attributes.
+#[derive(Drop)]
+struct Ends<'a> {
+    from: i128,
+    from_attr: &'a Text,
+    to: i128,
+    to_attr: &'a Text,
+}
+
 // The same where the line has as many fields as it needs, or more.
 fn add_conn_of(
     alloc: Global,
@@ -343,35 +352,35 @@ fn add_conn_of(
         (IsFaultOf (with_conn (is_second version) plan.old
         (from.now ∷ from_attr.now ∷ to.now ∷ to_attr.now ∷ way.now))) }
 {
-    let from = whole_of(from)?;
-    let from_attr = text_of(from_attr)?;
-    let to = whole_of(to)?;
-    let to_attr = text_of(to_attr)?;
-    add_way(alloc, plan, version, from, from_attr, to, to_attr, way)
+    let ends = Ends {
+        from: whole_of(from)?,
+        from_attr: text_of(from_attr)?,
+        to: whole_of(to)?,
+        to_attr: text_of(to_attr)?,
+    };
+    add_way(alloc, plan, version, &ends, way)
 }
 
+// Adds a connection with these ends, and the fields behind them.
 fn add_way(
     alloc: Global,
     plan: &mut Plan,
     version: Version,
-    from: i128,
-    from_attr: &Text,
-    to: i128,
-    to_attr: &Text,
+    ends: &Ends,
     way: &[Json],
 ) -> Result<(), LineFault>
     requires { list_all is_in_range way.now ≡ true }
     ensures ok { OnOk result
-        (with_way (is_second version) plan.old from from_attr.now to to_attr.now way.now
-        ≡ Ok plan.new) }
+        (with_way (is_second version) plan.old ends.now.from ends.now.from_attr.now ends.now.to
+        ends.now.to_attr.now way.now ≡ Ok plan.new) }
     ensures err { IfErr result
-        (IsFaultOf
-        (with_way (is_second version) plan.old from from_attr.now to to_attr.now way.now)) }
+        (IsFaultOf (with_way
+        (is_second version) plan.old ends.now.from ends.now.from_attr.now ends.now.to
+        ends.now.to_attr.now way.now)) }
 {
     match way {
         [via, persistent, triggering, initial] => add_way_of(
-            alloc, plan, version, from, from_attr, to, to_attr, via, persistent, triggering,
-            initial,
+            alloc, plan, version, ends, via, persistent, triggering, initial,
         ),
         _ => Err(MISFORMED),
     }
@@ -382,10 +391,7 @@ fn add_way_of(
     alloc: Global,
     plan: &mut Plan,
     version: Version,
-    from: i128,
-    from_attr: &Text,
-    to: i128,
-    to_attr: &Text,
+    ends: &Ends,
     via: &Json,
     persistent: &Json,
     triggering: &Json,
@@ -393,43 +399,42 @@ fn add_way_of(
 ) -> Result<(), LineFault>
     requires { is_in_range initial.now ≡ true }
     ensures ok { OnOk result
-        (with_way (is_second version) plan.old from from_attr.now to to_attr.now
-        (via.now ∷ persistent.now ∷ triggering.now ∷ initial.now ∷ []) ≡ Ok plan.new) }
+        (with_way (is_second version) plan.old ends.now.from ends.now.from_attr.now ends.now.to
+        ends.now.to_attr.now (via.now ∷ persistent.now ∷ triggering.now ∷ initial.now ∷ [])
+        ≡ Ok plan.new) }
     ensures err { IfErr result
-        (IsFaultOf (with_way (is_second version) plan.old from from_attr.now to to_attr.now
-        (via.now ∷ persistent.now ∷ triggering.now ∷ initial.now ∷ []))) }
+        (IsFaultOf (with_way
+        (is_second version) plan.old ends.now.from ends.now.from_attr.now ends.now.to
+        ends.now.to_attr.now (via.now ∷ persistent.now ∷ triggering.now ∷ initial.now ∷ []))) }
 {
     let (name, width) = way_of(version, via)?;
     let persistent = bool_of(persistent)?;
     let triggering = bool_of(triggering)?;
     let initial = initial_of(alloc, initial)?;
     let via = via_of(version, name, width)?;
-    put_conn(
-        plan, from, from_attr, to, to_attr, via, persistent, triggering, initial,
-    )
+    put_conn(plan, ends, via, persistent, triggering, initial)
 }
 
 // Adds a connection, if the entities that it joins stand before.
 fn put_conn(
     plan: &mut Plan,
-    from: i128,
-    from_attr: &Text,
-    to: i128,
-    to_attr: &Text,
+    ends: &Ends,
     via: Via,
     persistent: bool,
     triggering: bool,
     initial: Option<Datum>,
 ) -> Result<(), LineFault>
     ensures ok { OnOk result
-        (conn_put plan.old from from_attr.now to to_attr.now via persistent triggering initial
-        ≡ Ok plan.new) }
+        (conn_put plan.old ends.now.from ends.now.from_attr.now ends.now.to ends.now.to_attr.now via
+        persistent
+        triggering initial ≡ Ok plan.new) }
     ensures err { IfErr result
-        (IsFaultOf
-        (conn_put plan.old from from_attr.now to to_attr.now via persistent triggering initial)) }
+        (IsFaultOf (conn_put plan.old ends.now.from ends.now.from_attr.now ends.now.to
+        ends.now.to_attr.now via
+        persistent triggering initial)) }
 {
-    let (from, to) = places_among(plan.entities.len(), from, to)?;
-    let (from_attr, to_attr) = both_copied(from_attr, to_attr)?;
+    let (from, to) = places_among(plan.entities.len(), ends.from, ends.to)?;
+    let (from_attr, to_attr) = both_copied(ends.from_attr, ends.to_attr)?;
     plan.conns.push(Conn {
         from,
         from_attr,

@@ -3,11 +3,11 @@ ghost use Rattle.std.specs.Prelude.{◌≡◌, ◌<◌, ◌+◌, ◌≤◌, ℕ,
 ghost use Rattle.std.specs.List.{slice_split};
 ghost use Rattle.mk_plan.specs.Plans.{IsValidPlan};
 ghost use Rattle.mk_plan_check.specs.Tests.{first_bad};
-ghost use Rattle.mk_record_read.specs.Reading.{reading, Faulty, start, is_feed, word_of, rest_of, place, may_stand, line_step, kind_step, part_step, plan_step, steps_in};
+ghost use Rattle.mk_record_read.specs.Reading.{reading, Faulty, before_lines, is_feed, word_of, rest_of, place, may_stand, line_step, kind_step, part_step, plan_step, steps_in};
 ghost use Rattle.mk_record_read.specs.Seen.{came, said_by};
 ghost use Rattle.mk_record_read.specs.inner.Seen.{is_second, state_of, saved_in};
 ghost use Rattle.mk_record_read.specs.Steps.{IsKnown};
-ghost use Rattle.mk_record_read.specs.inner.Steps.{IsSound, IsInvalid, IsOverlong, IsFaultAt, IsSoundAfter, IsTaken};
+ghost use Rattle.mk_record_read.specs.inner.Steps.{IsSound, IsInvalid, IsOverlong, IsFaultAt, IsSoundAfter, IsLineTaken};
 
 use crate::faults::{LineFault, RecordFault};
 use crate::fields::is_word;
@@ -51,7 +51,7 @@ fn take_part(
     requires stands { may_stand progress.old.last kind ≡ true }
     requires valid { 8 ≤ place kind → IsValidPlan progress.old.plan }
     requires sound { IsSound progress.old }
-    ensures { IsTaken progress.old
+    ensures { IsLineTaken progress.old
         (part_step (state_of progress.old) kind text.now) result progress.new }
 {
     match kind {
@@ -71,7 +71,7 @@ fn take_part(
 fn take_head(alloc: Global, progress: &mut Progress, text: &[u8]) -> Result<bool, LineFault>
     requires stands { may_stand progress.old.last LineKind.Head ≡ true }
     requires sound { IsSound progress.old }
-    ensures { IsTaken progress.old
+    ensures { IsLineTaken progress.old
         (part_step (state_of progress.old) LineKind.Head text.now) result progress.new }
 {
     if is_word(text, b"1") {
@@ -95,7 +95,7 @@ fn take_addition(
     requires stands { may_stand progress.old.last kind ≡ true }
     requires early { place kind < 8 }
     requires sound { IsSound progress.old }
-    ensures { IsTaken progress.old
+    ensures { IsLineTaken progress.old
         (plan_step (state_of progress.old) kind text.now) result progress.new }
 {
     let version = version_of(progress);
@@ -112,7 +112,7 @@ fn take_message(
 ) -> Result<bool, LineFault>
     requires valid { IsValidPlan progress.old.plan }
     requires sound { IsSound progress.old }
-    ensures { IsTaken progress.old
+    ensures { IsLineTaken progress.old
         (part_step (state_of progress.old) LineKind.Got text.now) result progress.new }
 {
     let arrival = read_arrival(alloc, scratch, &progress.plan, text)?;
@@ -130,7 +130,7 @@ fn take_ask(
 ) -> Result<bool, LineFault>
     requires valid { IsValidPlan progress.old.plan }
     requires sound { IsSound progress.old }
-    ensures { IsTaken progress.old
+    ensures { IsLineTaken progress.old
         (part_step (state_of progress.old) LineKind.Ask text.now) result progress.new }
 {
     let asked = read_asked(
@@ -161,7 +161,7 @@ fn add_step(alloc: Global, asks: &mut Option<List<Asked>>, asked: Asked) -> Resu
 fn take_end(progress: &mut Progress, text: &[u8]) -> Result<bool, LineFault>
     requires valid { IsValidPlan progress.old.plan }
     requires sound { IsSound progress.old }
-    ensures { IsTaken progress.old
+    ensures { IsLineTaken progress.old
         (part_step (state_of progress.old) LineKind.End text.now) result progress.new }
 {
     read_end(line_count(progress), text)?;
@@ -198,7 +198,7 @@ fn take_line(
     line: &[u8],
 ) -> Result<bool, LineFault>
     requires { IsSound progress.old }
-    ensures { IsTaken progress.old
+    ensures { IsLineTaken progress.old
         (line_step (state_of progress.old) line.now) result progress.new }
 {
     let (word, text) = word_and_rest(line);
@@ -216,7 +216,7 @@ fn take_kind(
     text: &[u8],
 ) -> Result<bool, LineFault>
     requires { IsSound progress.old }
-    ensures { IsTaken progress.old
+    ensures { IsLineTaken progress.old
         (kind_step (state_of progress.old) kind text.now) result progress.new }
 {
     if ends_plan(progress.last, kind) {
@@ -272,7 +272,7 @@ pub fn read_record(alloc: Global, bytes: &[u8]) -> Result<Saved, RecordFault>
 
 // Adds the lines of a record.
 fn read_lines(alloc: Global, progress: &mut Progress, bytes: &[u8]) -> Result<(), RecordFault>
-    requires empty { state_of progress.old ≡ start }
+    requires empty { state_of progress.old ≡ before_lines }
     requires sound { IsSound progress.old }
     ensures ok { OnOk result (reading bytes.now ≡ said_by (saved_in progress.new)) }
     ensures sound { OnOk result (IsSoundAfter true progress.new) }
@@ -304,7 +304,7 @@ fn at_line(number: u64, fault: LineFault) -> RecordFault
 }
 
 fn empty_progress(alloc: Global) -> Progress
-    ensures empty { state_of result ≡ start }
+    ensures empty { state_of result ≡ before_lines }
     ensures sound { IsSound result }
 {
     Progress {

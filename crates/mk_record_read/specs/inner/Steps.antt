@@ -38,7 +38,7 @@ pub record IsSoundAfter (ended : Bool) (p : Progress) : Type 0 where
 
 -- what the answer on a line means: what its step makes of the lines before it is kept, or the
 -- answer is the step's fault
-pub record IsTaken (old : Progress) (step : Step) (result : Result Bool LineFault)
+pub record IsLineTaken (old : Progress) (step : Step) (result : Result Bool LineFault)
     (new : Progress) : Type 0 where
   pub ok : IfOk result (λ ended. IsStep (state_of old) step ended new)
   pub err : IfErr result (IsBadStep step)
