@@ -23,7 +23,7 @@ use Rattle.mk_outside.specs.declared.fleet.LogEntry.{LogEntry}
 use Rattle.mk_outside.specs.Logs.{said_on}
 use Rattle.mk_run_laws.specs.Handshake.{Request, setup_requests, call_to, calls_to, call_payloads, setup_payloads, setup_count, sim_link, is_within}
 use Rattle.mk_run_laws.specs.Payloads.{AreFramed, link_payloads}
-use Rattle.mk_run_laws.specs.Lines.{Line, IsLineAt, IsStopped}
+use Rattle.mk_run_laws.specs.Channels.{Channel, IsChannelAt, IsStopped}
 use Rattle.mk_run_laws.specs.Kinds.{Replies, KeepsToKinds}
 use Rattle.mk_run_laws.specs.Rests.{run_messages}
 use Rattle.mk_run_laws.specs.Running.{SetupReplies}
@@ -64,8 +64,8 @@ first_requests S i queued later is =
     ∙ ap (take (length (filter_map (call_to i) queued))) (sym t.1 ∙ ap (call_payloads 0) (sym calls))
 
 -- where the handshake ended early, a link says the first of its requests and a stop
-pub handshake_says : (started : ℕ) (S : Scenario) (reply : Replies) (log entries : List LogEntry) (risen : Type 0) (i : ℕ) (l : LinkNo) (queued later : List Request) → setup_requests S ≡ queued ++ later → (ms : List Message) (w : Line) → w.link ≡ l
-    → IsLineAt log ms (call_payloads 0 (filter_map (call_to i) queued)) (length (filter_map (call_to i) queued)) w → IsStopped entries risen w
+pub handshake_says : (started : ℕ) (S : Scenario) (reply : Replies) (log entries : List LogEntry) (risen : Type 0) (i : ℕ) (l : LinkNo) (queued later : List Request) → setup_requests S ≡ queued ++ later → (ms : List Message) (w : Channel) → w.link ≡ l
+    → IsChannelAt log ms (call_payloads 0 (filter_map (call_to i) queued)) (length (filter_map (call_to i) queued)) w → IsStopped entries risen w
     → SaysRight started S reply None (log ++ entries) i l (length (filter_map (call_to i) queued)) [] true
 handshake_says started S reply log entries risen i l queued later is ms w link at stopped = record {
   handshake = let e : length (calls_to S i) ≡ length (filter_map (call_to i) queued) + length (filter_map (call_to i) later) = ap (λ (rs : List Request). length (filter_map (call_to i) rs)) is ∙ ap length (filter_map_append (call_to i) queued later)

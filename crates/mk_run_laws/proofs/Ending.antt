@@ -21,11 +21,11 @@ use Rattle.mk_run_laws.specs.Handshake.{setup_count, setup_payloads, call_payloa
 use Rattle.mk_plan.specs.declared.Call.{Call}
 use Rattle.mk_plan.specs.Sequential.{id_after}
 use Rattle.mk_run_laws.specs.Payloads.{AreFramed, item_payloads, link_payloads}
-use Rattle.mk_run_laws.specs.Lines.{Line, IsStopped}
+use Rattle.mk_run_laws.specs.Channels.{Channel, IsStopped}
 use Rattle.mk_run_laws.specs.Rests.{run_messages}
 use Rattle.mk_run_laws.specs.Crews.{CrewState, AreStopped, IsRestless}
 use Rattle.mk_run_laws.specs.Running.{SetupReplies, RestsEnd}
-use Rattle.mk_run_laws.specs.inner.Running.{HasLine}
+use Rattle.mk_run_laws.specs.inner.Running.{HasChannel}
 use Rattle.mk_run_laws.specs.Runs.{run_frames, IsLinkOfRun}
 use Rattle.mk_run_laws.proofs.Taking.{taken_heard, taken_rest, none_heard}
 use Rattle.mk_run_laws.proofs.Moving.{said_at_stop, framed_at_stop, all_at_stop, heard_at_stop}
@@ -42,17 +42,17 @@ payloads_of_run S i items = ap (λ (ps : List (List ℕ)). (ps ++ item_payloads 
     (ap (λ (n : ℕ). take n (setup_payloads S i)) (sym (calls_counted 0 (calls_to S i))) ∙ take-length (setup_payloads S i))
 
 module _ (started : ℕ) (S : Scenario) (replies : SetupReplies) (counts : (i : ℕ) (l : LinkNo) → sim_link started S i ≡ Some l → length (replies i) ≡ setup_count S i) (J : List Entry) (log entries : List LogEntry) (risen : Type 0) (C : CrewState)
-    (stopped : AreStopped entries risen C) (i : ℕ) (l : LinkNo) (linked : sim_link started S i ≡ Some l) (messages : List Message) (items : List Item) (h : HasLine S replies log i l messages items C) where
-  abbrev pub w : Line
-  w = h.line
+    (stopped : AreStopped entries risen C) (i : ℕ) (l : LinkNo) (linked : sim_link started S i ≡ Some l) (messages : List Message) (items : List Item) (h : HasChannel S replies log i l messages items C) where
+  abbrev pub w : Channel
+  w = h.channel
 
   stopped_here : IsStopped entries risen w
-  stopped_here = stopped i h.line h.there
+  stopped_here = stopped i h.channel h.there
 
   -- what was heard: the setup replies, the messages that were given, and what is held
   all_heard : messages_heard (heard_on l (log ++ entries)) ≡ (replies i ++ messages) ++ messages_heard w.held
-  all_heard = ap (λ (k : LinkNo). messages_heard (heard_on k (log ++ entries))) (sym h.link) ∙ ap messages_heard (heard_at_stop log entries risen h.line stopped_here)
-      ∙ taken_heard (heard_on h.line.link log) (replies i ++ messages) h.line.held h.in_step.heard
+  all_heard = ap (λ (k : LinkNo). messages_heard (heard_on k (log ++ entries))) (sym h.link) ∙ ap messages_heard (heard_at_stop log entries risen h.channel stopped_here)
+      ∙ taken_heard (heard_on h.channel.link log) (replies i ++ messages) h.channel.held h.in_step.heard
 
   run_heard : run_messages S (log ++ entries) i l ≡ messages ++ messages_heard w.held
   run_heard = ap (drop (setup_count S i)) (all_heard ∙ append_assoc (replies i) messages (messages_heard w.held)) ∙ ap (λ (n : ℕ). drop n (replies i ++ (messages ++ messages_heard w.held))) (sym (counts i l linked))
@@ -65,12 +65,12 @@ module _ (started : ℕ) (S : Scenario) (replies : SetupReplies) (counts : (i : 
         ∙ take-append_seam (replies i) (messages ++ messages_heard w.held);
     got = (given.0 ++ messages_heard w.held, run_heard ∙ ap (λ (ms : List Message). ms ++ messages_heard w.held) given.1 ∙ append_assoc (got J i) given.0 (messages_heard w.held));
     items_sent = queued;
-    said = subst (λ (k : LinkNo). BeginsWith (run_frames S i items) (said_on k (log ++ entries))) h.link (subst (λ (ps : List (List ℕ)). BeginsWith (frames_of ps) (said_on h.line.link (log ++ entries))) (sym (payloads_of_run S i items))
-        (said_at_stop log entries (replies i ++ messages) (setup_payloads S i ++ item_payloads (setup_count S i) items) (id_after (setup_count S i) items) risen h.line h.in_step stopped_here));
-    framed = subst AreFramed (sym (payloads_of_run S i items)) (framed_at_stop log entries (replies i ++ messages) (setup_payloads S i ++ item_payloads (setup_count S i) items) (id_after (setup_count S i) items) risen h.line h.in_step stopped_here);
+    said = subst (λ (k : LinkNo). BeginsWith (run_frames S i items) (said_on k (log ++ entries))) h.link (subst (λ (ps : List (List ℕ)). BeginsWith (frames_of ps) (said_on h.channel.link (log ++ entries))) (sym (payloads_of_run S i items))
+        (said_at_stop log entries (replies i ++ messages) (setup_payloads S i ++ item_payloads (setup_count S i) items) (id_after (setup_count S i) items) risen h.channel h.in_step stopped_here));
+    framed = subst AreFramed (sym (payloads_of_run S i items)) (framed_at_stop log entries (replies i ++ messages) (setup_payloads S i ++ item_payloads (setup_count S i) items) (id_after (setup_count S i) items) risen h.channel h.in_step stopped_here);
     whole = subst (λ (k : LinkNo). (said_on k (log ++ entries) ≡ run_frames S i items) ⊎ ((last_write k (log ++ entries) ≡ Some (NotSaid k)) ⊎ risen)) h.link
-        (subst (λ (ps : List (List ℕ)). (said_on h.line.link (log ++ entries) ≡ frames_of ps) ⊎ ((last_write h.line.link (log ++ entries) ≡ Some (NotSaid h.line.link)) ⊎ risen)) (sym (payloads_of_run S i items))
-        (all_at_stop log entries (replies i ++ messages) (setup_payloads S i ++ item_payloads (setup_count S i) items) (id_after (setup_count S i) items) risen h.line h.in_step stopped_here));
+        (subst (λ (ps : List (List ℕ)). (said_on h.channel.link (log ++ entries) ≡ frames_of ps) ⊎ ((last_write h.channel.link (log ++ entries) ≡ Some (NotSaid h.channel.link)) ⊎ risen)) (sym (payloads_of_run S i items))
+        (all_at_stop log entries (replies i ++ messages) (setup_payloads S i ++ item_payloads (setup_count S i) items) (id_after (setup_count S i) items) risen h.channel h.in_step stopped_here));
   }
 
   -- where no message is held, all messages that were heard are those that were given
@@ -79,8 +79,8 @@ module _ (started : ℕ) (S : Scenario) (replies : SetupReplies) (counts : (i : 
 
   -- and what is behind them is what is held
   pub rest_held : first_message w.held ≡ None → rest_heard (heard_on l (log ++ entries)) ≡ w.held
-  rest_held none = ap (λ (k : LinkNo). rest_heard (heard_on k (log ++ entries))) (sym h.link) ∙ ap rest_heard (heard_at_stop log entries risen h.line stopped_here)
-      ∙ taken_rest (heard_on h.line.link log) (replies i ++ messages) h.line.held h.in_step.heard ∙ (none_heard w.held none).1
+  rest_held none = ap (λ (k : LinkNo). rest_heard (heard_on k (log ++ entries))) (sym h.link) ∙ ap rest_heard (heard_at_stop log entries risen h.channel stopped_here)
+      ∙ taken_rest (heard_on h.channel.link log) (replies i ++ messages) h.channel.held h.in_step.heard ∙ (none_heard w.held none).1
 
 -- a stop adds no rest
 pub rests_stopped : (started : ℕ) (S : Scenario) (replies : SetupReplies) (P : Plan) (J : List Entry) (log entries : List LogEntry) → IsRestless entries → RestsEnd started S replies P J log → RestsEnd started S replies P J (log ++ entries)

@@ -12,39 +12,39 @@ use Rattle.mk_outside.specs.declared.fleet.LogEntry.TheVariants.{Rest}
 use Rattle.mk_run_laws.specs.Handshake.{Request, setup_requests, call_to, call_payloads, sim_link, is_within}
 use Rattle.mk_run_laws.specs.Hearing.{Takes}
 use Rattle.mk_run_laws.specs.Hearing as hearing
-use Rattle.mk_run_laws.specs.Lines.{Line, IsMoved, IsLineAt, queued}
+use Rattle.mk_run_laws.specs.Channels.{Channel, IsMoved, IsChannelAt, queued}
 use Rattle.mk_run_laws.specs.Payloads.{IsFramed}
 use Rattle.mk_run_laws.specs.Rests.{AllSetUp, IsWellInSetup}
-use Rattle.mk_run_laws.specs.Crews.{CrewState, line_at, IsMovedAt, given_by, AreMoved, AreParkedAtRests}
+use Rattle.mk_run_laws.specs.Crews.{CrewState, channel_at, IsMovedAt, given_by, AreMoved, AreParkedAtRests}
 use Rattle.mk_run_laws.specs.Running.{SetupReplies, IsBegun}
 use Rattle.mk_run_laws.specs.inner.Running.{IsSettingUp, IsBetween}
-use Rattle.mk_run_laws.proofs.Moving.{line_moved, line_queued}
-use Rattle.mk_run_laws.proofs.Polling.{IsForeign, line_left}
+use Rattle.mk_run_laws.proofs.Moving.{channel_moved, channel_queued}
+use Rattle.mk_run_laws.proofs.Polling.{IsForeign, channel_left}
 use Rattle.mk_run_laws.proofs.Stepping.{same_or_not, same_is, apart_is, first_or_second, not_empty}
 use Rattle.mk_run_laws.proofs.SettingUp.{well_in_setup, not_set_up}
 
--- ---- one line of a list
+-- ---- one channel of a list
 
--- one line was moved by entries of its link, and the others are left
-pub moved_one : (entries : List LogEntry) (given : List Message) (C D : CrewState) (s : ℕ) (w v : Line) → line_at C s ≡ Some w → line_at D s ≡ Some v → ((i : ℕ) → (i ≡ s → ⊥) → line_at D i ≡ line_at C i) → IsMoved entries given w v
-    → ((i : ℕ) (u : Line) → (i ≡ s → ⊥) → line_at C i ≡ Some u → IsForeign u.link entries) → AreMoved entries (λ i. if s == i then given else []) C D
+-- one channel was moved by entries of its link, and the others are left
+pub moved_one : (entries : List LogEntry) (given : List Message) (C D : CrewState) (s : ℕ) (w v : Channel) → channel_at C s ≡ Some w → channel_at D s ≡ Some v → ((i : ℕ) → (i ≡ s → ⊥) → channel_at D i ≡ channel_at C i) → IsMoved entries given w v
+    → ((i : ℕ) (u : Channel) → (i ≡ s → ⊥) → channel_at C i ≡ Some u → IsForeign u.link entries) → AreMoved entries (λ i. if s == i then given else []) C D
 moved_one entries given C D s w v there now others moved foreign i = elim (same_or_not i s) [
-  | inl q ↦ subst (λ (j : ℕ). IsMovedAt entries (if s == j then given else []) (line_at C j) (line_at D j)) (sym q)
-      (subst (λ (b : Bool). IsMovedAt entries (if b then given else []) (line_at C s) (line_at D s)) (sym (same_is s))
-      (subst (λ (o : Option Line). IsMovedAt entries given o (line_at D s)) (sym there) (subst (λ (o : Option Line). IsMovedAt entries given (Some w) o) (sym now) moved)))
-  | inr apart ↦ subst (λ (b : Bool). IsMovedAt entries (if b then given else []) (line_at C i) (line_at D i)) (sym (apart_is s i (λ e. apart (sym e))))
-      (subst (λ (o : Option Line). IsMovedAt entries [] (line_at C i) o) (sym (others i apart)) (still (line_at C i) refl apart))
+  | inl q ↦ subst (λ (j : ℕ). IsMovedAt entries (if s == j then given else []) (channel_at C j) (channel_at D j)) (sym q)
+      (subst (λ (b : Bool). IsMovedAt entries (if b then given else []) (channel_at C s) (channel_at D s)) (sym (same_is s))
+      (subst (λ (o : Option Channel). IsMovedAt entries given o (channel_at D s)) (sym there) (subst (λ (o : Option Channel). IsMovedAt entries given (Some w) o) (sym now) moved)))
+  | inr apart ↦ subst (λ (b : Bool). IsMovedAt entries (if b then given else []) (channel_at C i) (channel_at D i)) (sym (apart_is s i (λ e. apart (sym e))))
+      (subst (λ (o : Option Channel). IsMovedAt entries [] (channel_at C i) o) (sym (others i apart)) (still (channel_at C i) refl apart))
 ]
   where
-    still : (o : Option Line) → line_at C i ≡ o → (i ≡ s → ⊥) → IsMovedAt entries [] o o
+    still : (o : Option Channel) → channel_at C i ≡ o → (i ≡ s → ⊥) → IsMovedAt entries [] o o
     still None e apart = tt
-    still (Some u) e apart = line_left entries u (foreign i u apart e)
+    still (Some u) e apart = channel_left entries u (foreign i u apart e)
 
 -- a place that is set, and the others
-pub line_set : (C D : CrewState) (s : ℕ) (old : Option Line) (v : Line) → slice_get C.lines s ≡ Some old → D.lines ≡ slice_set C.lines s (Some v) → (line_at D s ≡ Some v) × ((i : ℕ) → (i ≡ s → ⊥) → line_at D i ≡ line_at C i)
-line_set C D s old v there is = (
-  ap (λ (l : List (Option Line)). option_and_then (λ (o : Option Line). o) (slice_get l s)) is ∙ ap (λ (o : Option (Option Line)). option_and_then (λ (p : Option Line). p) o) (set_here C.lines s (Some v) old there),
-  (λ i apart. ap (λ (l : List (Option Line)). option_and_then (λ (o : Option Line). o) (slice_get l i)) is ∙ ap (λ (o : Option (Option Line)). option_and_then (λ (p : Option Line). p) o) (set_else C.lines s i (Some v) apart)),
+pub channel_set : (C D : CrewState) (s : ℕ) (old : Option Channel) (v : Channel) → slice_get C.channels s ≡ Some old → D.channels ≡ slice_set C.channels s (Some v) → (channel_at D s ≡ Some v) × ((i : ℕ) → (i ≡ s → ⊥) → channel_at D i ≡ channel_at C i)
+channel_set C D s old v there is = (
+  ap (λ (l : List (Option Channel)). option_and_then (λ (o : Option Channel). o) (slice_get l s)) is ∙ ap (λ (o : Option (Option Channel)). option_and_then (λ (p : Option Channel). p) o) (set_here C.channels s (Some v) old there),
+  (λ i apart. ap (λ (l : List (Option Channel)). option_and_then (λ (o : Option Channel). o) (slice_get l i)) is ∙ ap (λ (o : Option (Option Channel)). option_and_then (λ (p : Option Channel). p) o) (set_else C.channels s i (Some v) apart)),
 )
 
 -- ---- requests one after another
@@ -63,35 +63,35 @@ payloads_push id [] c = ap (λ (n : ℕ). call_text n c ∷ []) (let e : id ≡ 
 payloads_push id (d ∷ calls) c = ap (λ (l : List (List ℕ)). call_text id d ∷ l) (payloads_push (id + 1) calls c ∙ ap (λ (n : ℕ). call_payloads (id + 1) calls ++ call_text n c ∷ []) (let e : (id + 1) + length calls ≡ id + length (d ∷ calls) = omega arith in e))
 
 module _ (started : ℕ) (S : Scenario) where
-  -- a request is queued on its line
+  -- a request is queued on its channel
   pub requested : (replies : SetupReplies) (log : List LogEntry) (C D : CrewState) (done : List Request) (now : Request) (later : List Request) (l : LinkNo) → IsBetween started S replies log C done (now ∷ later) → sim_link started S now.sim ≡ Some l
-      → ((w : Line) → line_at C now.sim ≡ Some w → (line_at D now.sim ≡ Some (queued (call_text w.next now.call) (w.next + 1) w)) × IsFramed (call_text w.next now.call)) → ((i : ℕ) → (i ≡ now.sim → ⊥) → line_at D i ≡ line_at C i) → IsSettingUp started S replies log D done now later
+      → ((w : Channel) → channel_at C now.sim ≡ Some w → (channel_at D now.sim ≡ Some (queued (call_text w.next now.call) (w.next + 1) w)) × IsFramed (call_text w.next now.call)) → ((i : ℕ) → (i ≡ now.sim → ⊥) → channel_at D i ≡ channel_at C i) → IsSettingUp started S replies log D done now later
   requested replies log C D done now later l b linked here others = record {
     parts = b.parts;
     linked = (l, linked);
     counts = b.counts;
-    lines = λ i k e. elim (same_or_not i now.sim) [
+    channels = λ i k e. elim (same_or_not i now.sim) [
       | inl q ↦ subst (λ (j : ℕ). (k : LinkNo) → sim_link started S j ≡ Some k → At j k) (sym q) at_now k e
-      | inr apart ↦ let t = b.lines i k e in (
+      | inr apart ↦ let t = b.channels i k e in (
         t.0,
         others i apart ∙ t.1,
         t.2,
-        subst (λ (cs : List Call). IsLineAt log (replies i) (call_payloads 0 cs) (length cs) t.0)
+        subst (λ (cs : List Call). IsChannelAt log (replies i) (call_payloads 0 cs) (length cs) t.0)
             (sym (calls_push i done now ∙ ap (λ (cs : List Call). filter_map (call_to i) done ++ cs) (one_away now i apart) ∙ append_nil (filter_map (call_to i) done))) t.3,
       )
     ];
   }
     where
       At : ℕ → LinkNo → Type 0
-      At i k = (w : Line) × (line_at D i ≡ Some w) × (w.link ≡ k) × IsLineAt log (replies i) (call_payloads 0 (filter_map (call_to i) (done ++ now ∷ []))) (length (filter_map (call_to i) (done ++ now ∷ []))) w
+      At i k = (w : Channel) × (channel_at D i ≡ Some w) × (w.link ≡ k) × IsChannelAt log (replies i) (call_payloads 0 (filter_map (call_to i) (done ++ now ∷ []))) (length (filter_map (call_to i) (done ++ now ∷ []))) w
 
       at_now : (k : LinkNo) → sim_link started S now.sim ≡ Some k → At now.sim k
       at_now k e =
-          let t = b.lines now.sim k e in
+          let t = b.channels now.sim k e in
           let cs : List Call = filter_map (call_to now.sim) done in
           let all : filter_map (call_to now.sim) (done ++ now ∷ []) ≡ cs ++ now.call ∷ [] = calls_push now.sim done now ∙ ap (λ (ds : List Call). cs ++ ds) (one_here now) in
-          let at : IsLineAt log (replies now.sim) (call_payloads 0 cs ++ call_text (t.0).next now.call ∷ []) ((t.0).next + 1) (queued (call_text (t.0).next now.call) ((t.0).next + 1) t.0) =
-          line_queued log (replies now.sim) (call_payloads 0 cs) (length cs) ((t.0).next + 1) (call_text (t.0).next now.call) t.0 t.3 (here t.0 t.1).1 in
+          let at : IsChannelAt log (replies now.sim) (call_payloads 0 cs ++ call_text (t.0).next now.call ∷ []) ((t.0).next + 1) (queued (call_text (t.0).next now.call) ((t.0).next + 1) t.0) =
+          channel_queued log (replies now.sim) (call_payloads 0 cs) (length cs) ((t.0).next + 1) (call_text (t.0).next now.call) t.0 t.3 (here t.0 t.1).1 in
           let next : (t.0).next ≡ length cs = t.3.next_id in
           let size : (t.0).next + 1 ≡ length (cs ++ now.call ∷ []) = let e = length-append cs (now.call ∷ []) in omega (arith, e, next) in
           let texts : call_payloads 0 cs ++ call_text (t.0).next now.call ∷ [] ≡ call_payloads 0 (cs ++ now.call ∷ []) =
@@ -99,9 +99,9 @@ module _ (started : ℕ) (S : Scenario) where
             queued (call_text (t.0).next now.call) ((t.0).next + 1) t.0,
             (here t.0 t.1).0,
             t.2,
-            subst (λ (ds : List Call). IsLineAt log (replies now.sim) (call_payloads 0 ds) (length ds) (queued (call_text (t.0).next now.call) ((t.0).next + 1) t.0)) (sym all)
-                (subst (λ (n : ℕ). IsLineAt log (replies now.sim) (call_payloads 0 (cs ++ now.call ∷ [])) n (queued (call_text (t.0).next now.call) ((t.0).next + 1) t.0)) size
-                (subst (λ (ps : List (List ℕ)). IsLineAt log (replies now.sim) ps ((t.0).next + 1) (queued (call_text (t.0).next now.call) ((t.0).next + 1) t.0)) texts at)),
+            subst (λ (ds : List Call). IsChannelAt log (replies now.sim) (call_payloads 0 ds) (length ds) (queued (call_text (t.0).next now.call) ((t.0).next + 1) t.0)) (sym all)
+                (subst (λ (n : ℕ). IsChannelAt log (replies now.sim) (call_payloads 0 (cs ++ now.call ∷ [])) n (queued (call_text (t.0).next now.call) ((t.0).next + 1) t.0)) size
+                (subst (λ (ps : List (List ℕ)). IsChannelAt log (replies now.sim) ps ((t.0).next + 1) (queued (call_text (t.0).next now.call) ((t.0).next + 1) t.0)) texts at)),
           )
 
   -- a request to a simulator within the program is answered at once
@@ -110,17 +110,17 @@ module _ (started : ℕ) (S : Scenario) where
   requested_within replies log C done now later b none = record {
     parts = b.parts ∙ sym (append_assoc done (now ∷ []) later);
     counts = λ i l e. b.counts i l e ∙ ap length (sym (same i l e));
-    lines = λ i l e. let t = b.lines i l e in (t.0, t.1, t.2, subst (λ (cs : List Call). IsLineAt log (replies i) (call_payloads 0 cs) (length cs) t.0) (sym (same i l e)) t.3);
+    channels = λ i l e. let t = b.channels i l e in (t.0, t.1, t.2, subst (λ (cs : List Call). IsChannelAt log (replies i) (call_payloads 0 cs) (length cs) t.0) (sym (same i l e)) t.3);
     rests = b.rests;
   }
     where
       same : (i : ℕ) (l : LinkNo) → sim_link started S i ≡ Some l → filter_map (call_to i) (done ++ now ∷ []) ≡ filter_map (call_to i) done
       same i l e = calls_push i done now ∙ ap (λ (cs : List Call). filter_map (call_to i) done ++ cs) (one_away now i (λ q. none_some (sym none ∙ ap (sim_link started S) (sym q) ∙ e))) ∙ append_nil (filter_map (call_to i) done)
 
-  moved_there : (entries : List LogEntry) (given : List Message) (o p : Option Line) (w : Line) → o ≡ Some w → IsMovedAt entries given o p → (v : Line) × (p ≡ Some v) × IsMoved entries given w v
+  moved_there : (entries : List LogEntry) (given : List Message) (o p : Option Channel) (w : Channel) → o ≡ Some w → IsMovedAt entries given o p → (v : Channel) × (p ≡ Some v) × IsMoved entries given w v
   moved_there entries given None p w e moved = absurd (none_some e)
   moved_there entries given (Some u) None w e moved = absurd moved
-  moved_there entries given (Some u) (Some v) w e moved = (v, refl, subst (λ (x : Line). IsMoved entries given x v) (some_same e) moved)
+  moved_there entries given (Some u) (Some v) w e moved = (v, refl, subst (λ (x : Channel). IsMoved entries given x v) (some_same e) moved)
 
   -- its reply was heard
   pub replied : (replies : SetupReplies) (log entries : List LogEntry) (C D : CrewState) (done : List Request) (now : Request) (later : List Request) (m : Message) → IsSettingUp started S replies log C done now later
@@ -129,8 +129,8 @@ module _ (started : ℕ) (S : Scenario) where
   replied replies log entries C D done now later m up rests moved parked = record {
     parts = up.parts ∙ sym (append_assoc done (now ∷ []) later);
     counts = λ i l e. length-append (replies i) (given_by now.sim m i) ∙ ap (λ (n : ℕ). n + length (given_by now.sim m i)) (up.counts i l e) ∙ more i ∙ sym (ap length (calls_push i done now) ∙ length-append (filter_map (call_to i) done) (filter_map (call_to i) (now ∷ [])));
-    lines = λ i l e. let t = up.lines i l e in let v = moved_there entries (given_by now.sim m i) (line_at C i) (line_at D i) t.0 t.1 (moved i) in
-        (v.0, v.1, v.2.link ∙ t.2, line_moved log entries (replies i) (given_by now.sim m i) (call_payloads 0 (filter_map (call_to i) (done ++ now ∷ []))) (length (filter_map (call_to i) (done ++ now ∷ []))) t.0 v.0 t.3 v.2);
+    channels = λ i l e. let t = up.channels i l e in let v = moved_there entries (given_by now.sim m i) (channel_at C i) (channel_at D i) t.0 t.1 (moved i) in
+        (v.0, v.1, v.2.link ∙ t.2, channel_moved log entries (replies i) (given_by now.sim m i) (call_payloads 0 (filter_map (call_to i) (done ++ now ∷ []))) (length (filter_map (call_to i) (done ++ now ∷ []))) t.0 v.0 t.3 v.2);
     rests = λ before after is. elim (first_or_second log entries before after Rest is) [
       | inl t ↦ rests before t.0 t.1
       | inr t ↦ subst (λ (b : List LogEntry). IsWellInSetup started S b × (AllSetUp started S b → ⊥)) (sym t.1)
@@ -142,19 +142,19 @@ module _ (started : ℕ) (S : Scenario) where
       more i = elim (now.sim == i) as (λ b. length (filter_map (call_to i) done) + length (if b then m ∷ [] else []) ≡ length (filter_map (call_to i) done) + length (cons_option (if b then Some now.call else None) [])) [ true ↦ refl | false ↦ refl ]
 
   -- after the last reply the run begins
-  pub greeted : (replies : SetupReplies) (log : List LogEntry) (C : CrewState) (done : List Request) → IsBetween started S replies log C done [] → ((i : ℕ) → is_within S i ≡ true → line_at C i ≡ None) → C.kept ≡ [] → IsBegun started S replies log C
-  greeted replies log C done b no_line none = record {
-    lines = λ i l e. let t = b.lines i l e in (t.0, t.1, t.2, subst (λ (rs : List Request). IsLineAt log (replies i) (call_payloads 0 (filter_map (call_to i) rs)) (length (filter_map (call_to i) rs)) t.0) (sym (append_nil done) ∙ sym b.parts) t.3);
-    no_line = no_line;
+  pub greeted : (replies : SetupReplies) (log : List LogEntry) (C : CrewState) (done : List Request) → IsBetween started S replies log C done [] → ((i : ℕ) → is_within S i ≡ true → channel_at C i ≡ None) → C.kept ≡ [] → IsBegun started S replies log C
+  greeted replies log C done b no_channel none = record {
+    channels = λ i l e. let t = b.channels i l e in (t.0, t.1, t.2, subst (λ (rs : List Request). IsChannelAt log (replies i) (call_payloads 0 (filter_map (call_to i) rs)) (length (filter_map (call_to i) rs)) t.0) (sym (append_nil done) ∙ sym b.parts) t.3);
+    no_channel = no_channel;
     none_kept = none;
     setting_up = λ before after is up. (b.rests before after is).1 up;
   }
 
-  -- before the first request: each line is new
-  pub fresh : (C : CrewState) → ((i : ℕ) (l : LinkNo) → sim_link started S i ≡ Some l → line_at C i ≡ Some (record { link = l; held = []; unsent = []; parked = false; next = 0 })) → IsBetween started S (λ i. []) [] C [] (setup_requests S)
+  -- before the first request: each channel is new
+  pub fresh : (C : CrewState) → ((i : ℕ) (l : LinkNo) → sim_link started S i ≡ Some l → channel_at C i ≡ Some (record { link = l; held = []; unsent = []; parked = false; next = 0 })) → IsBetween started S (λ i. []) [] C [] (setup_requests S)
   fresh C new = record {
     parts = refl;
     counts = λ i l e. refl;
-    lines = λ i l e. (record { link = l; held = []; unsent = []; parked = false; next = 0 }, new i l e, refl, record { heard = hearing.none []; said = refl; framed = tt; next_id = refl; parked = λ p. absurd (true≢false (sym p)) });
+    channels = λ i l e. (record { link = l; held = []; unsent = []; parked = false; next = 0 }, new i l e, refl, record { heard = hearing.none []; said = refl; framed = tt; next_id = refl; parked = λ p. absurd (true≢false (sym p)) });
     rests = λ before after is. absurd (not_empty before after Rest is);
   }

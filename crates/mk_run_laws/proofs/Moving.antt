@@ -1,4 +1,4 @@
--- How a line's account over a log goes on with the entries of a call.
+-- How a channel's account over a log goes on with the entries of a call.
 use Rattle.std.proofs.Common.{◌≡◌, ℕ, Bool, List, [], ◌∷◌, ◌++◌, Option, Some, None, refl, sym, ap, ◌∙◌, subst, ◌⊎◌, inl, inr, append_assoc, true≢false, if◌then◌else◌}
 use Rattle.mk_base.specs.declared.LinkNo.{LinkNo}
 use Rattle.mk_base.specs.Lists.{BeginsWith}
@@ -12,7 +12,7 @@ use Rattle.mk_outside.specs.declared.fleet.LogEntry.TheVariants.{NotHeard, NotSa
 use Rattle.mk_outside.specs.Logs.{heard_by, said_by, heard_on, said_on, later_of, last_that, last_read, last_write, is_read, is_write}
 use Rattle.mk_run_laws.specs.Hearing.{Takes}
 use Rattle.mk_run_laws.specs.Payloads.{AreFramed, IsFramed}
-use Rattle.mk_run_laws.specs.Lines.{Line, IsParkedIn, IsLeft, IsMoved, IsLineAt, queued, IsStopped}
+use Rattle.mk_run_laws.specs.Channels.{Channel, IsParkedIn, StaysParked, IsMoved, IsChannelAt, queued, IsStopped}
 use Rattle.mk_run_laws.proofs.Taking.{takes_more}
 
 -- ---- logs
@@ -49,17 +49,17 @@ frames_more a b = flat_map_append frame_of a b
 pub frames_push : (a : List (List ℕ)) (p : List ℕ) → frames_of (a ++ p ∷ []) ≡ frames_of a ++ frame_of p
 frames_push a p = frames_more a (p ∷ []) ∙ ap (λ (f : List ℕ). frames_of a ++ f) (append_nil (frame_of p))
 
--- ---- parked lines
+-- ---- parked channels
 
-pub parked_later : (log entries : List LogEntry) (w : Line) → IsParkedIn entries w → IsParkedIn (log ++ entries) w
+pub parked_later : (log entries : List LogEntry) (w : Channel) → IsParkedIn entries w → IsParkedIn (log ++ entries) w
 parked_later log entries w p = record {
   heard_all = last_later (is_read w.link) log entries (NotHeard w.link) p.heard_all;
   said_all = elim p.said_all [ inl none ↦ inl none | inr not ↦ inr (last_later (is_write w.link) log entries (NotSaid w.link) not) ];
   unfinished = p.unfinished;
 }
 
-pub parked_still : (log entries : List LogEntry) (old new : Line) → IsLeft entries old new → IsParkedIn log old → IsParkedIn (log ++ entries) new
-parked_still log entries old new left p = subst (λ (w : Line). IsParkedIn (log ++ entries) w) (sym left.same) (record {
+pub parked_still : (log entries : List LogEntry) (old new : Channel) → StaysParked entries old new → IsParkedIn log old → IsParkedIn (log ++ entries) new
+parked_still log entries old new left p = subst (λ (w : Channel). IsParkedIn (log ++ entries) w) (sym left.same) (record {
   heard_all = last_kept (is_read old.link) log entries left.unread ∙ p.heard_all;
   said_all = elim p.said_all [ inl none ↦ inl none | inr not ↦ inr (last_kept (is_write old.link) log entries left.unwritten ∙ not) ];
   unfinished = p.unfinished;
@@ -67,10 +67,10 @@ parked_still log entries old new left p = subst (λ (w : Line). IsParkedIn (log 
 
 -- ---- the calls
 
--- a line goes on by the entries of a call, and gives messages
-pub line_moved : (log entries : List LogEntry) (ms given : List Message) (payloads : List (List ℕ)) (next : ℕ) (old new : Line) → IsLineAt log ms payloads next old → IsMoved entries given old new
-    → IsLineAt (log ++ entries) (ms ++ given) payloads next new
-line_moved log entries ms given payloads next old new at moved = record {
+-- a channel goes on by the entries of a call, and gives messages
+pub channel_moved : (log entries : List LogEntry) (ms given : List Message) (payloads : List (List ℕ)) (next : ℕ) (old new : Channel) → IsChannelAt log ms payloads next old → IsMoved entries given old new
+    → IsChannelAt (log ++ entries) (ms ++ given) payloads next new
+channel_moved log entries ms given payloads next old new at moved = record {
   heard = subst (λ (l : LinkNo). Takes (heard_on l (log ++ entries)) (ms ++ given) new.held) (sym moved.link)
       (subst (λ (h : List ℕ). Takes h (ms ++ given) new.held) (sym (heard_more old.link log entries))
       (takes_more (heard_on old.link log) (heard_on old.link entries) old.held new.held ms given at.heard moved.taken));
@@ -82,7 +82,7 @@ line_moved log entries ms given payloads next old new at moved = record {
 }
 
 -- two calls after each other are as one
-pub moved_twice : (a b : List LogEntry) (given later : List Message) (old mid new : Line) → IsMoved a given old mid → IsMoved b later mid new → IsMoved (a ++ b) (given ++ later) old new
+pub moved_twice : (a b : List LogEntry) (given later : List Message) (old mid new : Channel) → IsMoved a given old mid → IsMoved b later mid new → IsMoved (a ++ b) (given ++ later) old new
 moved_twice a b given later old mid new one two = record {
   link = two.link ∙ one.link;
   next = two.next ∙ one.next;
@@ -112,9 +112,9 @@ framed_push [] payload all one = (one, tt)
 framed_push (p ∷ payloads) payload all one = (all.0, framed_push payloads payload all.1 one)
 
 -- a payload is queued that a frame may have
-pub line_queued : (log : List LogEntry) (ms : List Message) (payloads : List (List ℕ)) (next after : ℕ) (payload : List ℕ) (old : Line) → IsLineAt log ms payloads next old → IsFramed payload
-    → IsLineAt log ms (payloads ++ payload ∷ []) after (queued payload after old)
-line_queued log ms payloads next after payload old at one = record {
+pub channel_queued : (log : List LogEntry) (ms : List Message) (payloads : List (List ℕ)) (next after : ℕ) (payload : List ℕ) (old : Channel) → IsChannelAt log ms payloads next old → IsFramed payload
+    → IsChannelAt log ms (payloads ++ payload ∷ []) after (queued payload after old)
+channel_queued log ms payloads next after payload old at one = record {
   heard = at.heard;
   said = sym (append_assoc (said_on old.link log) old.unsent (frame_of payload)) ∙ ap (λ (b : List ℕ). b ++ frame_of payload) at.said ∙ sym (frames_push payloads payload);
   framed = framed_push payloads payload at.framed one;
@@ -122,8 +122,8 @@ line_queued log ms payloads next after payload old at one = record {
   parked = λ p. absurd (true≢false (sym p));
 }
 
--- a line is stopped: what was said is a beginning of the frames of all payloads and of a stop
-pub said_at_stop : (log entries : List LogEntry) (ms : List Message) (payloads : List (List ℕ)) (next : ℕ) (risen : Type 0) (w : Line) → IsLineAt log ms payloads next w → IsStopped entries risen w
+-- a channel is stopped: what was said is a beginning of the frames of all payloads and of a stop
+pub said_at_stop : (log entries : List LogEntry) (ms : List Message) (payloads : List (List ℕ)) (next : ℕ) (risen : Type 0) (w : Channel) → IsChannelAt log ms payloads next w → IsStopped entries risen w
     → BeginsWith (frames_of (payloads ++ call_text next Stop ∷ [])) (said_on w.link (log ++ entries))
 said_at_stop log entries ms payloads next risen w at stopped = (
   stopped.said.0,
@@ -136,7 +136,7 @@ said_at_stop log entries ms payloads next risen w at stopped = (
 )
 
 -- and all of it, but where a write took nothing or the count of faults rose
-pub all_at_stop : (log entries : List LogEntry) (ms : List Message) (payloads : List (List ℕ)) (next : ℕ) (risen : Type 0) (w : Line) → IsLineAt log ms payloads next w → IsStopped entries risen w
+pub all_at_stop : (log entries : List LogEntry) (ms : List Message) (payloads : List (List ℕ)) (next : ℕ) (risen : Type 0) (w : Channel) → IsChannelAt log ms payloads next w → IsStopped entries risen w
     → (said_on w.link (log ++ entries) ≡ frames_of (payloads ++ call_text next Stop ∷ [])) ⊎ ((last_write w.link (log ++ entries) ≡ Some (NotSaid w.link)) ⊎ risen)
 all_at_stop log entries ms payloads next risen w at stopped = elim stopped.whole [
   | inl all ↦ inl (said_more w.link log entries ∙ ap (λ (b : List ℕ). said_on w.link log ++ b) all
@@ -149,9 +149,9 @@ all_at_stop log entries ms payloads next risen w at stopped = elim stopped.whole
 ]
 
 -- and no payload is longer than a frame's may be
-pub framed_at_stop : (log entries : List LogEntry) (ms : List Message) (payloads : List (List ℕ)) (next : ℕ) (risen : Type 0) (w : Line) → IsLineAt log ms payloads next w → IsStopped entries risen w → AreFramed (payloads ++ call_text next Stop ∷ [])
+pub framed_at_stop : (log entries : List LogEntry) (ms : List Message) (payloads : List (List ℕ)) (next : ℕ) (risen : Type 0) (w : Channel) → IsChannelAt log ms payloads next w → IsStopped entries risen w → AreFramed (payloads ++ call_text next Stop ∷ [])
 framed_at_stop log entries ms payloads next risen w at stopped = framed_push payloads (call_text next Stop) at.framed (subst (λ (n : ℕ). IsFramed (call_text n Stop)) at.next_id stopped.framed)
 
--- nothing is heard while a line is stopped
-pub heard_at_stop : (log entries : List LogEntry) (risen : Type 0) (w : Line) → IsStopped entries risen w → heard_on w.link (log ++ entries) ≡ heard_on w.link log
+-- nothing is heard while a channel is stopped
+pub heard_at_stop : (log entries : List LogEntry) (risen : Type 0) (w : Channel) → IsStopped entries risen w → heard_on w.link (log ++ entries) ≡ heard_on w.link log
 heard_at_stop log entries risen w stopped = heard_more w.link log entries ∙ ap (λ (b : List ℕ). heard_on w.link log ++ b) stopped.unheard ∙ append_nil (heard_on w.link log)

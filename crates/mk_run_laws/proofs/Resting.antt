@@ -20,7 +20,7 @@ use Rattle.mk_outside.specs.declared.fleet.LogEntry.TheVariants.{NotHeard, NotSa
 use Rattle.mk_outside.specs.Logs.{heard_on, said_on, last_read, last_write}
 use Rattle.mk_run_laws.specs.Hearing.{messages_heard}
 use Rattle.mk_run_laws.specs.Handshake.{setup_count, sim_link}
-use Rattle.mk_run_laws.specs.Lines.{Line, IsLineAt}
+use Rattle.mk_run_laws.specs.Channels.{Channel, IsChannelAt}
 use Rattle.mk_run_laws.specs.Rests.{with_number, within, run_messages, heard_counts, at_rest, all_frames, SaysAll, IsWellAtRest, RestsWell}
 use Rattle.mk_run_laws.specs.Running.{SetupReplies, IsInStep, IsRestOf, BeginsOnLink, RestsEnd}
 use Rattle.mk_run_laws.proofs.Taking.{taken_heard, none_heard, none_first, unfinished_none}
@@ -105,8 +105,8 @@ within_is left (Got s m ∷ A) K fits over = go (λ l f o. within_is l A K f o) 
 
 -- ---- from the run's account to the clause at a rest
 
--- a parked line has said all that was queued on it, or a part of it after which a write took nothing
-pub parked_said : (log : List LogEntry) (ms : List Message) (payloads : List (List ℕ)) (next : ℕ) (w : Line) → w.parked ≡ true → IsLineAt log ms payloads next w → SaysAll w.link log (frames_of payloads)
+-- a parked channel has said all that was queued on it, or a part of it after which a write took nothing
+pub parked_said : (log : List LogEntry) (ms : List Message) (payloads : List (List ℕ)) (next : ℕ) (w : Channel) → w.parked ≡ true → IsChannelAt log ms payloads next w → SaysAll w.link log (frames_of payloads)
 parked_said log ms payloads next w parked at = go w.unsent refl (at.parked parked).said_all
   where
     go : (unsent : List ℕ) → w.unsent ≡ unsent → (w.unsent ≡ []) ⊎ (last_write w.link log ≡ Some (NotSaid w.link)) → SaysAll w.link log (frames_of payloads)
@@ -115,13 +115,13 @@ parked_said log ms payloads next w parked at = go w.unsent refl (at.parked parke
     go (x ∷ xs) e (inr not) = inr ((x ∷ xs, omega arith, sym at.said ∙ ap (λ (b : List ℕ). said_on w.link log ++ b) e), not)
 
 -- and holds no message: what was heard is what was given
-pub parked_messages : (log : List LogEntry) (ms : List Message) (payloads : List (List ℕ)) (next : ℕ) (w : Line) → w.parked ≡ true → IsLineAt log ms payloads next w → messages_heard (heard_on w.link log) ≡ ms
+pub parked_messages : (log : List LogEntry) (ms : List Message) (payloads : List (List ℕ)) (next : ℕ) (w : Channel) → w.parked ≡ true → IsChannelAt log ms payloads next w → messages_heard (heard_on w.link log) ≡ ms
 parked_messages log ms payloads next w parked at = taken_heard (heard_on w.link log) ms w.held at.heard
     ∙ ap (λ (more : List Message). ms ++ more) (none_heard w.held (none_first w.held (unfinished_none w.held (at.parked parked).unfinished))).0 ∙ append_nil ms
 
 module _ (started : ℕ) (S : Scenario) (replies : SetupReplies) (counts : (i : ℕ) (l : LinkNo) → sim_link started S i ≡ Some l → length (replies i) ≡ setup_count S i) (P : Plan) (J : List Entry) (before : List LogEntry) where
-  -- a parked line holds no message: what was heard is what was given
-  pub parked_heard : (i : ℕ) (l : LinkNo) → sim_link started S i ≡ Some l → (messages : List Message) (items : List Item) (w : Line) → w.link ≡ l → w.parked ≡ true → IsInStep S replies before i messages items w
+  -- a parked channel holds no message: what was heard is what was given
+  pub parked_heard : (i : ℕ) (l : LinkNo) → sim_link started S i ≡ Some l → (messages : List Message) (items : List Item) (w : Channel) → w.link ≡ l → w.parked ≡ true → IsInStep S replies before i messages items w
       → run_messages S before i l ≡ messages
   parked_heard i l linked messages items w is parked step =
       let p = step.parked parked in
@@ -132,7 +132,7 @@ module _ (started : ℕ) (S : Scenario) (replies : SetupReplies) (counts : (i : 
 
   module _ (r : IsRestOf started S replies P J before) (next : (r.more ≡ []) ⊎ BeginsOnLink started S r.more) where
     heard_of_link : (i : ℕ) (l : LinkNo) → sim_link started S i ≡ Some l → run_messages S before i l ≡ got r.at i
-    heard_of_link i l linked = let t = r.line i l linked in parked_heard i l linked (got r.at i) (sent r.at i) t.0 t.1 t.2 t.3
+    heard_of_link i l linked = let t = r.channel i l linked in parked_heard i l linked (got r.at i) (sent r.at i) t.0 t.1 t.2 t.3
 
     left_of_link : (i : ℕ) (l : LinkNo) → sim_link started S i ≡ Some l → heard_counts started S before i ≡ Some (length (got r.at i))
     left_of_link i l linked = ap (option_map (λ (k : LinkNo). length (run_messages S before i k))) linked ∙ ap (λ (ms : List Message). Some (length ms)) (heard_of_link i l linked)
@@ -159,9 +159,9 @@ module _ (started : ℕ) (S : Scenario) (replies : SetupReplies) (counts : (i : 
       has_all = λ i l linked. ap (λ (A : List Entry). got A i) rest_is ∙ sym (heard_of_link i l linked);
       replied = λ i inside. ap (λ (A : List Entry). (view P A).open_at i) rest_is ∙ r.replied i inside;
       nobody = λ i x ready. r.nobody i x (subst (λ (A : List Entry). IsReady P (view P A) i x) rest_is ready);
-      said = λ i l linked. let t = r.line i l linked in subst (λ (A : List Entry). SaysAll l before (all_frames S i (sent A i))) (sym rest_is)
+      said = λ i l linked. let t = r.channel i l linked in subst (λ (A : List Entry). SaysAll l before (all_frames S i (sent A i))) (sym rest_is)
           (subst (λ (k : LinkNo). SaysAll k before (all_frames S i (sent r.at i))) t.1 (parked_said before (replies i ++ got r.at i) _ _ t.0 t.2 t.3));
-      heard_all = λ i l linked. let t = r.line i l linked in subst (λ (k : LinkNo). last_read k before ≡ Some (NotHeard k)) t.1 (t.3.parked t.2).heard_all;
+      heard_all = λ i l linked. let t = r.channel i l linked in subst (λ (k : LinkNo). last_read k before ≡ Some (NotHeard k)) t.1 (t.3.parked t.2).heard_all;
     }
 
 -- so each rest of a run is one

@@ -12,12 +12,12 @@ use Rattle.mk_outside.specs.declared.fleet.LogEntry.TheVariants.{NotHeard, Rest}
 use Rattle.mk_outside.specs.Logs.{heard_on, last_read}
 use Rattle.mk_run_laws.specs.Hearing.{messages_heard}
 use Rattle.mk_run_laws.specs.Handshake.{Request, setup_requests, call_to, call_payloads, setup_count, sim_link}
-use Rattle.mk_run_laws.specs.Lines.{Line, IsLineAt}
+use Rattle.mk_run_laws.specs.Channels.{Channel, IsChannelAt}
 use Rattle.mk_run_laws.specs.Rests.{with_number, asked, all_counts, AllSetUp, SaysAll, IsWellInSetup}
 use Rattle.mk_run_laws.specs.Crews.{CrewState, AreParkedAtRests}
 use Rattle.mk_run_laws.specs.Running.{SetupReplies}
 use Rattle.mk_run_laws.specs.inner.Running.{IsSettingUp}
-use Rattle.mk_run_laws.proofs.Moving.{line_moved}
+use Rattle.mk_run_laws.proofs.Moving.{channel_moved}
 use Rattle.mk_run_laws.proofs.Stepping.{same_or_not, same_is, apart_is}
 use Rattle.mk_run_laws.proofs.Resting.{number_here, number_away, parked_said, parked_messages}
 
@@ -77,17 +77,17 @@ asked_is heard (r ∷ A) now later counted there i wanted = go (λ h c t w. aske
 
 module _ (started : ℕ) (S : Scenario) (replies : SetupReplies) (log entries : List LogEntry) (C : CrewState) (done : List Request) (now : Request) (later : List Request) (up : IsSettingUp started S replies log C done now later)
     (parked : AreParkedAtRests entries C) (before after : List LogEntry) (is : entries ≡ before ++ Rest ∷ after) where
-  -- each line at the rest
+  -- each channel at the rest
   at_rest : (i : ℕ) (l : LinkNo) → sim_link started S i ≡ Some l
-      → (w : Line) × (w.link ≡ l) × (w.parked ≡ true) × IsLineAt (log ++ before) (replies i) (call_payloads 0 (filter_map (call_to i) (done ++ now ∷ []))) (length (filter_map (call_to i) (done ++ now ∷ []))) w
+      → (w : Channel) × (w.link ≡ l) × (w.parked ≡ true) × IsChannelAt (log ++ before) (replies i) (call_payloads 0 (filter_map (call_to i) (done ++ now ∷ []))) (length (filter_map (call_to i) (done ++ now ∷ []))) w
   at_rest i l linked =
-      let t = up.lines i l linked in
+      let t = up.channels i l linked in
       let p = parked before after is i t.0 t.1 in (
         p.0,
         p.1.link ∙ t.2,
         p.2,
-        subst (λ (ms : List Message). IsLineAt (log ++ before) ms (call_payloads 0 (filter_map (call_to i) (done ++ now ∷ []))) (length (filter_map (call_to i) (done ++ now ∷ []))) p.0) (append_nil (replies i))
-            (line_moved log before (replies i) [] (call_payloads 0 (filter_map (call_to i) (done ++ now ∷ []))) (length (filter_map (call_to i) (done ++ now ∷ []))) t.0 p.0 t.3 p.1),
+        subst (λ (ms : List Message). IsChannelAt (log ++ before) ms (call_payloads 0 (filter_map (call_to i) (done ++ now ∷ []))) (length (filter_map (call_to i) (done ++ now ∷ []))) p.0) (append_nil (replies i))
+            (channel_moved log before (replies i) [] (call_payloads 0 (filter_map (call_to i) (done ++ now ∷ []))) (length (filter_map (call_to i) (done ++ now ∷ []))) t.0 p.0 t.3 p.1),
       )
 
   heard_then : (i : ℕ) (l : LinkNo) → sim_link started S i ≡ Some l → messages_heard (heard_on l (log ++ before)) ≡ replies i

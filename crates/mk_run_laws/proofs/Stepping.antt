@@ -26,12 +26,12 @@ use Rattle.mk_outside.specs.declared.fleet.LogEntry.TheVariants.{Rest}
 use Rattle.mk_order.proofs.Pushing.{view_push, sent_push, got_push}
 use Rattle.mk_run_laws.specs.Handshake.{is_local, has_link, is_within, sim_link, setup_count, setup_payloads}
 use Rattle.mk_run_laws.specs.Payloads.{item_payloads}
-use Rattle.mk_run_laws.specs.Lines.{Line, IsLineAt, IsMoved, queued}
+use Rattle.mk_run_laws.specs.Channels.{Channel, IsChannelAt, IsMoved, queued}
 use Rattle.mk_run_laws.specs.Kinds.{Replies, IsKindReply, KeepsToKinds}
-use Rattle.mk_run_laws.specs.Crews.{CrewState, line_at, kept_from, kept_of, IsMovedAt, given_by, AreMoved, AreParkedAtRests, IsHeard, IsSentOnLink, IsSentWithin}
+use Rattle.mk_run_laws.specs.Crews.{CrewState, channel_at, kept_from, kept_of, IsMovedAt, given_by, AreMoved, AreParkedAtRests, IsHeard, IsSentOnLink, IsSentWithin}
 use Rattle.mk_run_laws.specs.Running.{SetupReplies, IsInStep, IsRestOf, BeginsOnLink, RestsEnd, IsBegun}
-use Rattle.mk_run_laws.specs.inner.Running.{HasLine, awaited, RestsOver, IsRunningWith, IsRunning, IsUnready}
-use Rattle.mk_run_laws.proofs.Moving.{line_moved, line_queued}
+use Rattle.mk_run_laws.specs.inner.Running.{HasChannel, awaited, RestsOver, IsRunningWith, IsRunning, IsUnready}
+use Rattle.mk_run_laws.proofs.Moving.{channel_moved, channel_queued}
 
 -- ---- numbers that are equal or not
 
@@ -198,7 +198,7 @@ module _ (started : ℕ) (S : Scenario) (replies : SetupReplies) (reply : Replie
   -- ---- the parts
 
   abbrev rest_longer : (J : List Entry) (e : Entry) (before : List LogEntry) (r : IsRestOf started S replies P J before) → IsRestOf started S replies P (J ++ e ∷ []) before
-  rest_longer J e before r = record { at = r.at; more = r.more ++ e ∷ []; parts = ap (λ (l : List Entry). l ++ e ∷ []) r.parts ∙ append_assoc r.at r.more (e ∷ []); nobody = r.nobody; replied = r.replied; line = r.line }
+  rest_longer J e before r = record { at = r.at; more = r.more ++ e ∷ []; parts = ap (λ (l : List Entry). l ++ e ∷ []) r.parts ∙ append_assoc r.at r.more (e ∷ []); nobody = r.nobody; replied = r.replied; channel = r.channel }
 
   begins_longer : (more : List Entry) (e : Entry) → BeginsOnLink started S more → BeginsOnLink started S (more ++ e ∷ [])
   begins_longer more e (s, m, later, l, is, linked) = (s, m, later ++ e ∷ [], l, ap (λ (k : List Entry). k ++ e ∷ []) is, linked)
@@ -226,48 +226,48 @@ module _ (started : ℕ) (S : Scenario) (replies : SetupReplies) (reply : Replie
 
   -- ---- an item is sent
 
-  -- to a simulator with a link: it is queued on its line
+  -- to a simulator with a link: it is queued on its channel
   pub sent_on_link : (awaits : ℕ → List Message) (J : List Entry) (log : List LogEntry) (C D : CrewState) (s : SimNo) (item : Item) (id : ℕ) (l : LinkNo) → IsRunningWith awaits started S replies reply P J log C
-      → sim_link started S s.0 ≡ Some l → IsSentOnLink s.0 item id C D → ((w : Line) → line_at C s.0 ≡ Some w → takes_id item ≡ true → id ≡ w.next)
+      → sim_link started S s.0 ≡ Some l → IsSentOnLink s.0 item id C D → ((w : Channel) → channel_at C s.0 ≡ Some w → takes_id item ≡ true → id ≡ w.next)
       → IsRunningWith awaits started S replies reply P (J ++ Sent s item ∷ []) log D
   sent_on_link awaits J log C D s item id l run linked sent_so right = record {
-    lines = λ i k e. elim (same_or_not i s.0) [
-      | inl q ↦ subst (λ (j : ℕ). (k : LinkNo) → sim_link started S j ≡ Some k → HasLine S replies log j k (got (J ++ Sent s item ∷ []) j) (sent (J ++ Sent s item ∷ []) j) D) (sym q) here k e
-      | inr apart ↦ let h = run.lines i k e in record {
-        line = h.line;
+    channels = λ i k e. elim (same_or_not i s.0) [
+      | inl q ↦ subst (λ (j : ℕ). (k : LinkNo) → sim_link started S j ≡ Some k → HasChannel S replies log j k (got (J ++ Sent s item ∷ []) j) (sent (J ++ Sent s item ∷ []) j) D) (sym q) here k e
+      | inr apart ↦ let h = run.channels i k e in record {
+        channel = h.channel;
         there = sent_so.others i apart ∙ h.there;
         link = h.link;
-        in_step = subst (λ (ms : List Message). IsInStep S replies log i ms (sent (J ++ Sent s item ∷ []) i) h.line) (sym (got_sent J s item i))
-            (subst (λ (l : List Item). IsInStep S replies log i (got J i) l h.line) (sym (sent_away J s item i apart)) h.in_step);
+        in_step = subst (λ (ms : List Message). IsInStep S replies log i ms (sent (J ++ Sent s item ∷ []) i) h.channel) (sym (got_sent J s item i))
+            (subst (λ (l : List Item). IsInStep S replies log i (got J i) l h.channel) (sym (sent_away J s item i apart)) h.in_step);
       }
     ];
-    no_line = λ i h. sent_so.others i (λ q. true≢false (sym h ∙ ap (is_within S) q ∙ linked_out s.0 l linked)) ∙ run.no_line i h;
+    no_channel = λ i h. sent_so.others i (λ q. true≢false (sym h ∙ ap (is_within S) q ∙ linked_out s.0 l linked)) ∙ run.no_channel i h;
     kept = λ i. ap (kept_of i) sent_so.kept ∙ run.kept i;
     kinds = kinds_sent J s item run.kinds;
     rests = rests_longer J (Sent s item) log run.rests;
   }
     where
-      here : (k : LinkNo) → sim_link started S s.0 ≡ Some k → HasLine S replies log s.0 k (got (J ++ Sent s item ∷ []) s.0) (sent (J ++ Sent s item ∷ []) s.0) D
+      here : (k : LinkNo) → sim_link started S s.0 ≡ Some k → HasChannel S replies log s.0 k (got (J ++ Sent s item ∷ []) s.0) (sent (J ++ Sent s item ∷ []) s.0) D
       here k e =
-          let h = run.lines s.0 k e in
-          let same : h.line ≡ sent_so.line = some_same (sym h.there ∙ sent_so.there) in
+          let h = run.channels s.0 k e in
+          let same : h.channel ≡ sent_so.channel = some_same (sym h.there ∙ sent_so.there) in
           let n : ℕ = setup_count S s.0 in
-          let w : Line = h.line in
+          let w : Channel = h.channel in
           let next_is : w.next ≡ id_after n (sent J s.0) = h.in_step.next_id in
           let text : item_text id item ≡ item_text (id_after n (sent J s.0)) item = text_same item id (id_after n (sent J s.0)) (λ takes. right w h.there takes ∙ next_is) in
           let after_is : id_after w.next (item ∷ []) ≡ id_after n (sent J s.0 ++ item ∷ []) = ap (λ (m : ℕ). id_after m (item ∷ [])) next_is ∙ ids_push n (sent J s.0) item in
-          let at : IsLineAt log (replies s.0 ++ got J s.0) ((setup_payloads S s.0 ++ item_payloads n (sent J s.0)) ++ item_text id item ∷ []) (id_after w.next (item ∷ [])) (queued (item_text id item) (id_after w.next (item ∷ [])) w) =
-          line_queued log (replies s.0 ++ got J s.0) (setup_payloads S s.0 ++ item_payloads n (sent J s.0)) (id_after n (sent J s.0)) (id_after w.next (item ∷ [])) (item_text id item) w h.in_step sent_so.framed in
+          let at : IsChannelAt log (replies s.0 ++ got J s.0) ((setup_payloads S s.0 ++ item_payloads n (sent J s.0)) ++ item_text id item ∷ []) (id_after w.next (item ∷ [])) (queued (item_text id item) (id_after w.next (item ∷ [])) w) =
+          channel_queued log (replies s.0 ++ got J s.0) (setup_payloads S s.0 ++ item_payloads n (sent J s.0)) (id_after n (sent J s.0)) (id_after w.next (item ∷ [])) (item_text id item) w h.in_step sent_so.framed in
           let payloads_are : (setup_payloads S s.0 ++ item_payloads n (sent J s.0)) ++ item_text id item ∷ [] ≡ setup_payloads S s.0 ++ item_payloads n (sent J s.0 ++ item ∷ []) =
           append_assoc (setup_payloads S s.0) (item_payloads n (sent J s.0)) (item_text id item ∷ []) ∙ ap (λ (t : List ℕ). setup_payloads S s.0 ++ (item_payloads n (sent J s.0) ++ t ∷ [])) text
           ∙ ap (λ (ps : List (List ℕ)). setup_payloads S s.0 ++ ps) (sym (items_push n (sent J s.0) item)) in
-          let new : Line = queued (item_text id item) (id_after w.next (item ∷ [])) w in
+          let new : Channel = queued (item_text id item) (id_after w.next (item ∷ [])) w in
           let step : IsInStep S replies log s.0 (got J s.0) (sent J s.0 ++ item ∷ []) new =
-          subst (λ (m : ℕ). IsLineAt log (replies s.0 ++ got J s.0) (setup_payloads S s.0 ++ item_payloads n (sent J s.0 ++ item ∷ [])) m new) after_is
-          (subst (λ (ps : List (List ℕ)). IsLineAt log (replies s.0 ++ got J s.0) ps (id_after w.next (item ∷ [])) new) payloads_are at) in
+          subst (λ (m : ℕ). IsChannelAt log (replies s.0 ++ got J s.0) (setup_payloads S s.0 ++ item_payloads n (sent J s.0 ++ item ∷ [])) m new) after_is
+          (subst (λ (ps : List (List ℕ)). IsChannelAt log (replies s.0 ++ got J s.0) ps (id_after w.next (item ∷ [])) new) payloads_are at) in
           record {
-            line = new;
-            there = sent_so.here ∙ ap (λ (v : Line). Some (queued (item_text id item) (id_after v.next (item ∷ [])) v)) (sym same);
+            channel = new;
+            there = sent_so.here ∙ ap (λ (v : Channel). Some (queued (item_text id item) (id_after v.next (item ∷ [])) v)) (sym same);
             link = h.link;
             in_step = subst (λ (ms : List Message). IsInStep S replies log s.0 ms (sent (J ++ Sent s item ∷ []) s.0) new) (sym (got_sent J s item s.0))
                 (subst (λ (l : List Item). IsInStep S replies log s.0 (got J s.0) l new) (sym (sent_here J s item)) step);
@@ -281,14 +281,14 @@ module _ (started : ℕ) (S : Scenario) (replies : SetupReplies) (reply : Replie
       → is_within S s.0 ≡ true → IsSentWithin s.0 (reply s.0 (map bare (sent (J ++ Sent s item ∷ []) s.0))) C D → awaits s.0 ≡ [] → ((i : ℕ) → (i ≡ s.0 → ⊥) → awaits i ≡ awaited S reply P J i)
       → is_some ((view P (J ++ Sent s item ∷ [])).open_at s.0) ≡ true → IsRunning started S replies reply P (J ++ Sent s item ∷ []) log D
   sent_within awaits J log C D s item run inside sent_so none others opened = record {
-    lines = λ i k e. let h = run.lines i k e in let apart : i ≡ s.0 → ⊥ = (λ q. true≢false (sym inside ∙ ap (is_within S) (sym q) ∙ linked_out i k e)) in record {
-      line = h.line;
-      there = ap (λ (l : List (Option Line)). line_in l i) sent_so.lines ∙ h.there;
+    channels = λ i k e. let h = run.channels i k e in let apart : i ≡ s.0 → ⊥ = (λ q. true≢false (sym inside ∙ ap (is_within S) (sym q) ∙ linked_out i k e)) in record {
+      channel = h.channel;
+      there = ap (λ (l : List (Option Channel)). channel_in l i) sent_so.channels ∙ h.there;
       link = h.link;
-      in_step = subst (λ (ms : List Message). IsInStep S replies log i ms (sent (J ++ Sent s item ∷ []) i) h.line) (sym (got_sent J s item i))
-          (subst (λ (l : List Item). IsInStep S replies log i (got J i) l h.line) (sym (sent_away J s item i apart)) h.in_step);
+      in_step = subst (λ (ms : List Message). IsInStep S replies log i ms (sent (J ++ Sent s item ∷ []) i) h.channel) (sym (got_sent J s item i))
+          (subst (λ (l : List Item). IsInStep S replies log i (got J i) l h.channel) (sym (sent_away J s item i apart)) h.in_step);
     };
-    no_line = λ i h. ap (λ (l : List (Option Line)). line_in l i) sent_so.lines ∙ run.no_line i h;
+    no_channel = λ i h. ap (λ (l : List (Option Channel)). channel_in l i) sent_so.channels ∙ run.no_channel i h;
     kept = λ i. ap (kept_of i) sent_so.kept ∙ kept_push i C.kept answer ∙ ap (λ (ms : List Message). ms ++ kept_of i (answer ∷ [])) (run.kept i) ∙ elim (same_or_not i s.0) [
       | inl q ↦ subst (λ (j : ℕ). awaits j ++ kept_of j (answer ∷ []) ≡ awaited S reply P (J ++ Sent s item ∷ []) j) (sym q) (ap (λ (ms : List Message). ms ++ kept_of s.0 (answer ∷ [])) none
           ∙ ap (λ (b : Bool). cons_option (if b then Some answer.message else None) []) (same_is s.0)
@@ -300,8 +300,8 @@ module _ (started : ℕ) (S : Scenario) (replies : SetupReplies) (reply : Replie
     rests = rests_longer J (Sent s item) log run.rests;
   }
     where
-      line_in : List (Option Line) → ℕ → Option Line
-      line_in l i = option_and_then (λ (o : Option Line). o) (slice_get l i)
+      channel_in : List (Option Channel) → ℕ → Option Channel
+      channel_in l i = option_and_then (λ (o : Option Channel). o) (slice_get l i)
 
       answer : Arrival
       answer = record { sim = s.0; message = reply s.0 (map bare (sent (J ++ Sent s item ∷ []) s.0)) }
@@ -343,7 +343,7 @@ module _ (started : ℕ) (S : Scenario) (replies : SetupReplies) (reply : Replie
           not_nil : {X : Type 0} {x : X} {xs : List X} → x ∷ xs ≡ [] → ⊥
           not_nil e = cc
 
-  -- lines that were moved to a rest are in step with the journal
+  -- channels that were moved to a rest are in step with the journal
   abbrev parked_rest : (J : List Entry) (log entries : List LogEntry) (C : CrewState) (run : IsRunning started S replies reply P J log C) → IsUnready P J → C.kept ≡ [] → AreParkedAtRests entries C
       → (before after : List LogEntry) → entries ≡ before ++ Rest ∷ after → IsRestOf started S replies P J (log ++ before)
   parked_rest J log entries C run nobody none parked before after is = record {
@@ -352,12 +352,12 @@ module _ (started : ℕ) (S : Scenario) (replies : SetupReplies) (reply : Replie
     parts = sym (append_nil J);
     nobody = nobody;
     replied = none_open J log C run none;
-    line = λ i l linked. let h = run.lines i l linked in let t = parked before after is i h.line h.there in (
+    channel = λ i l linked. let h = run.channels i l linked in let t = parked before after is i h.channel h.there in (
       t.0,
       t.1.link ∙ h.link,
       t.2,
-      subst (λ (ms : List Message). IsLineAt (log ++ before) ms (setup_payloads S i ++ item_payloads (setup_count S i) (sent J i)) (id_after (setup_count S i) (sent J i)) t.0) (append_nil (replies i ++ got J i))
-          (line_moved log before (replies i ++ got J i) [] (setup_payloads S i ++ item_payloads (setup_count S i) (sent J i)) (id_after (setup_count S i) (sent J i)) h.line t.0 h.in_step t.1),
+      subst (λ (ms : List Message). IsChannelAt (log ++ before) ms (setup_payloads S i ++ item_payloads (setup_count S i) (sent J i)) (id_after (setup_count S i) (sent J i)) t.0) (append_nil (replies i ++ got J i))
+          (channel_moved log before (replies i ++ got J i) [] (setup_payloads S i ++ item_payloads (setup_count S i) (sent J i)) (id_after (setup_count S i) (sent J i)) h.channel t.0 h.in_step t.1),
     );
   }
 
@@ -371,32 +371,32 @@ module _ (started : ℕ) (S : Scenario) (replies : SetupReplies) (reply : Replie
     | inr t ↦ subst (λ (b : List LogEntry). (r : IsRestOf started S replies P J b) × ((r.more ≡ []) ⊎ BeginsOnLink started S r.more)) (sym t.1) (parked_rest J log entries C run nobody none parked t.0 after t.2, inl refl)
   ]
 
-  moved_there : (entries : List LogEntry) (given : List Message) (o p : Option Line) (w : Line) → o ≡ Some w → IsMovedAt entries given o p → (v : Line) × (p ≡ Some v) × IsMoved entries given w v
+  moved_there : (entries : List LogEntry) (given : List Message) (o p : Option Channel) (w : Channel) → o ≡ Some w → IsMovedAt entries given o p → (v : Channel) × (p ≡ Some v) × IsMoved entries given w v
   moved_there entries given None p w e moved = absurd (none_some e)
   moved_there entries given (Some u) None w e moved = absurd moved
-  moved_there entries given (Some u) (Some v) w e moved = (v, refl, subst (λ (x : Line). IsMoved entries given x v) (some_same e) moved)
+  moved_there entries given (Some u) (Some v) w e moved = (v, refl, subst (λ (x : Channel). IsMoved entries given x v) (some_same e) moved)
 
-  moved_none : (entries : List LogEntry) (given : List Message) (o p : Option Line) → o ≡ None → IsMovedAt entries given o p → p ≡ None
+  moved_none : (entries : List LogEntry) (given : List Message) (o p : Option Channel) → o ≡ None → IsMovedAt entries given o p → p ≡ None
   moved_none entries given None None e moved = refl
   moved_none entries given None (Some v) e moved = absurd moved
   moved_none entries given (Some u) p e moved = absurd (none_some (sym e))
 
-  -- lines that were moved are in step
-  lines_moved : (J : List Entry) (log entries : List LogEntry) (C D : CrewState) (given : ℕ → List Message) → ((i : ℕ) (l : LinkNo) → sim_link started S i ≡ Some l → HasLine S replies log i l (got J i) (sent J i) C)
-      → AreMoved entries given C D → (i : ℕ) (l : LinkNo) → sim_link started S i ≡ Some l → HasLine S replies (log ++ entries) i l (got J i ++ given i) (sent J i) D
-  lines_moved J log entries C D given lines moved i l linked =
-      let h = lines i l linked in
-      let t = moved_there entries (given i) (line_at C i) (line_at D i) h.line h.there (moved i) in
+  -- channels that were moved are in step
+  channels_moved : (J : List Entry) (log entries : List LogEntry) (C D : CrewState) (given : ℕ → List Message) → ((i : ℕ) (l : LinkNo) → sim_link started S i ≡ Some l → HasChannel S replies log i l (got J i) (sent J i) C)
+      → AreMoved entries given C D → (i : ℕ) (l : LinkNo) → sim_link started S i ≡ Some l → HasChannel S replies (log ++ entries) i l (got J i ++ given i) (sent J i) D
+  channels_moved J log entries C D given channels moved i l linked =
+      let h = channels i l linked in
+      let t = moved_there entries (given i) (channel_at C i) (channel_at D i) h.channel h.there (moved i) in
       record {
-        line = t.0;
+        channel = t.0;
         there = t.1;
         link = t.2.link ∙ h.link;
-        in_step = subst (λ (ms : List Message). IsLineAt (log ++ entries) ms (setup_payloads S i ++ item_payloads (setup_count S i) (sent J i)) (id_after (setup_count S i) (sent J i)) t.0) (append_assoc (replies i) (got J i) (given i))
-            (line_moved log entries (replies i ++ got J i) (given i) (setup_payloads S i ++ item_payloads (setup_count S i) (sent J i)) (id_after (setup_count S i) (sent J i)) h.line t.0 h.in_step t.2);
+        in_step = subst (λ (ms : List Message). IsChannelAt (log ++ entries) ms (setup_payloads S i ++ item_payloads (setup_count S i) (sent J i)) (id_after (setup_count S i) (sent J i)) t.0) (append_assoc (replies i) (got J i) (given i))
+            (channel_moved log entries (replies i ++ got J i) (given i) (setup_payloads S i ++ item_payloads (setup_count S i) (sent J i)) (id_after (setup_count S i) (sent J i)) h.channel t.0 h.in_step t.2);
       }
 
-  same_lines : (i : ℕ) (C D : CrewState) → D.lines ≡ C.lines → line_at D i ≡ line_at C i
-  same_lines i C D e = ap (λ (l : List (Option Line)). option_and_then (λ (o : Option Line). o) (slice_get l i)) e
+  same_channels : (i : ℕ) (C D : CrewState) → D.channels ≡ C.channels → channel_at D i ≡ channel_at C i
+  same_channels i C D e = ap (λ (l : List (Option Channel)). option_and_then (λ (o : Option Channel). o) (slice_get l i)) e
 
   -- the rests so far, where a message of a link comes next
   rests_heard : (J : List Entry) (log entries : List LogEntry) (C : CrewState) (s : SimNo) (m : Message) (l : LinkNo) (run : IsRunning started S replies reply P J log C) → IsUnready P J → C.kept ≡ [] → AreParkedAtRests entries C
@@ -440,18 +440,18 @@ module _ (started : ℕ) (S : Scenario) (replies : SetupReplies) (reply : Replie
 
   -- a message is heard, and is the journal's next entry
   pub heard : (J : List Entry) (log entries : List LogEntry) (C D : CrewState) (s : SimNo) (m : Message) → IsRunning started S replies reply P J log C → IsUnready P J → IsHeard entries s.0 m C D
-      → ((w : Line) → line_at C s.0 ≡ Some w → (l : LinkNo) × (sim_link started S s.0 ≡ Some l))
+      → ((w : Channel) → channel_at C s.0 ≡ Some w → (l : LinkNo) × (sim_link started S s.0 ≡ Some l))
       → IsRunningWith (but s.0 (awaited S reply P J)) started S replies reply P (J ++ Got s m ∷ []) (log ++ entries) D
-  heard J log entries C D s m run nobody (IsHeard.kept is lines none) back = record {
-    lines = λ i k e. let h = run.lines i k e in let apart : i ≡ s.0 → ⊥ = (λ q. true≢false (sym t.0 ∙ ap (is_within S) (sym q) ∙ linked_out i k e)) in record {
-      line = h.line;
-      there = same_lines i C D lines ∙ h.there;
+  heard J log entries C D s m run nobody (IsHeard.kept is channels none) back = record {
+    channels = λ i k e. let h = run.channels i k e in let apart : i ≡ s.0 → ⊥ = (λ q. true≢false (sym t.0 ∙ ap (is_within S) (sym q) ∙ linked_out i k e)) in record {
+      channel = h.channel;
+      there = same_channels i C D channels ∙ h.there;
       link = h.link;
-      in_step = subst (λ (g : List LogEntry). IsInStep S replies g i (got (J ++ Got s m ∷ []) i) (sent (J ++ Got s m ∷ []) i) h.line) (sym log_is)
-          (subst (λ (ms : List Message). IsInStep S replies log i ms (sent (J ++ Got s m ∷ []) i) h.line) (sym (got_away J s m i apart))
-          (subst (λ (l : List Item). IsInStep S replies log i (got J i) l h.line) (sym (sent_got J s m i)) h.in_step));
+      in_step = subst (λ (g : List LogEntry). IsInStep S replies g i (got (J ++ Got s m ∷ []) i) (sent (J ++ Got s m ∷ []) i) h.channel) (sym log_is)
+          (subst (λ (ms : List Message). IsInStep S replies log i ms (sent (J ++ Got s m ∷ []) i) h.channel) (sym (got_away J s m i apart))
+          (subst (λ (l : List Item). IsInStep S replies log i (got J i) l h.channel) (sym (sent_got J s m i)) h.in_step));
     };
-    no_line = λ i h. same_lines i C D lines ∙ run.no_line i h;
+    no_channel = λ i h. same_channels i C D channels ∙ run.no_channel i h;
     kept = t.2;
     kinds = kinds_got J s m (λ h. t.1) run.kinds;
     rests = subst (λ (g : List LogEntry). RestsOver started S replies P (J ++ Got s m ∷ []) g) (sym log_is) (rests_longer J (Got s m) log run.rests);
@@ -463,14 +463,14 @@ module _ (started : ℕ) (S : Scenario) (replies : SetupReplies) (reply : Replie
       log_is : log ++ entries ≡ log
       log_is = ap (λ (e : List LogEntry). log ++ e) none ∙ append_nil log
   heard J log entries C D s m run nobody (IsHeard.on_link none none_after w there moved parked) back = record {
-    lines = λ i k e. let h = lines_moved J log entries C D (given_by s.0 m) run.lines moved i k e in record {
-      line = h.line;
+    channels = λ i k e. let h = channels_moved J log entries C D (given_by s.0 m) run.channels moved i k e in record {
+      channel = h.channel;
       there = h.there;
       link = h.link;
-      in_step = subst (λ (ms : List Message). IsInStep S replies (log ++ entries) i ms (sent (J ++ Got s m ∷ []) i) h.line) (sym (got_given J s m i))
-          (subst (λ (l : List Item). IsInStep S replies (log ++ entries) i (got J i ++ given_by s.0 m i) l h.line) (sym (sent_got J s m i)) h.in_step);
+      in_step = subst (λ (ms : List Message). IsInStep S replies (log ++ entries) i ms (sent (J ++ Got s m ∷ []) i) h.channel) (sym (got_given J s m i))
+          (subst (λ (l : List Item). IsInStep S replies (log ++ entries) i (got J i ++ given_by s.0 m i) l h.channel) (sym (sent_got J s m i)) h.in_step);
     };
-    no_line = λ i h. moved_none entries (given_by s.0 m i) (line_at C i) (line_at D i) (run.no_line i h) (moved i);
+    no_channel = λ i h. moved_none entries (given_by s.0 m i) (channel_at C i) (channel_at D i) (run.no_channel i h) (moved i);
     kept = λ i. ap (kept_of i) (none_after ∙ sym none) ∙ run.kept i ∙ elim (same_or_not i s.0) [
       | inl q ↦ subst (λ (j : ℕ). awaited S reply P J j ≡ but s.0 (awaited S reply P J) j) (sym q) (ap (λ (b : Bool). if b && is_some ((view P J).open_at s.0) then reply s.0 (map bare (sent J s.0)) ∷ [] else []) (linked_out s.0 l.0 l.1) ∙ sym (but_here s.0 (awaited S reply P J)))
       | inr apart ↦ sym (but_away s.0 (awaited S reply P J) i apart)
@@ -500,22 +500,22 @@ module _ (started : ℕ) (S : Scenario) (replies : SetupReplies) (reply : Replie
 
   pub quiet : (J : List Entry) (log : List LogEntry) (C : CrewState) (s : SimNo) (m : Message) → IsRunningWith (but s.0 (awaited S reply P J)) started S replies reply P (J ++ Got s m ∷ []) log C
       → is_some ((view P (J ++ Got s m ∷ [])).open_at s.0) ≡ false → IsRunning started S replies reply P (J ++ Got s m ∷ []) log C
-  quiet J log C s m run shut = record { lines = run.lines; no_line = run.no_line; kept = λ i. run.kept i ∙ awaited_after J s m shut i; kinds = run.kinds; rests = run.rests }
+  quiet J log C s m run shut = record { channels = run.channels; no_channel = run.no_channel; kept = λ i. run.kept i ∙ awaited_after J s m shut i; kinds = run.kinds; rests = run.rests }
 
   -- ---- the loop's steps
 
   -- a run begins
   pub begun : (log : List LogEntry) (C : CrewState) → IsBegun started S replies log C → IsRunning started S replies reply P [] log C
   begun log C b = record {
-    lines = λ i l linked. let t = b.lines i l linked in record {
-      line = t.0;
+    channels = λ i l linked. let t = b.channels i l linked in record {
+      channel = t.0;
       there = t.1;
       link = t.2;
-      in_step = subst (λ (ms : List Message). IsLineAt log ms (setup_payloads S i ++ []) (setup_count S i + 0) t.0) (sym (append_nil (replies i)))
-          (subst (λ (ps : List (List ℕ)). IsLineAt log (replies i) ps (setup_count S i + 0) t.0) (sym (append_nil (setup_payloads S i)))
-          (subst (λ (n : ℕ). IsLineAt log (replies i) (setup_payloads S i) n t.0) (let e : setup_count S i ≡ setup_count S i + 0 = omega arith in e) t.3));
+      in_step = subst (λ (ms : List Message). IsChannelAt log ms (setup_payloads S i ++ []) (setup_count S i + 0) t.0) (sym (append_nil (replies i)))
+          (subst (λ (ps : List (List ℕ)). IsChannelAt log (replies i) ps (setup_count S i + 0) t.0) (sym (append_nil (setup_payloads S i)))
+          (subst (λ (n : ℕ). IsChannelAt log (replies i) (setup_payloads S i) n t.0) (let e : setup_count S i ≡ setup_count S i + 0 = omega arith in e) t.3));
     };
-    no_line = b.no_line;
+    no_channel = b.no_channel;
     kept = λ i. ap (kept_of i) b.none_kept ∙ none (is_within S i) i;
     kinds = λ H s m more e h. absurd (not_empty H more (Got s m) e);
     rests = λ before after e up. absurd (b.setting_up before after e up);
@@ -527,9 +527,9 @@ module _ (started : ℕ) (S : Scenario) (replies : SetupReplies) (reply : Replie
 
   -- a Step is asked of a simulator with a link
   pub asked_on_link : (J : List Entry) (log : List LogEntry) (C D : CrewState) (s : SimNo) (item : Item) (id : ℕ) (l : LinkNo) → IsRunning started S replies reply P J log C
-      → sim_link started S s.0 ≡ Some l → IsSentOnLink s.0 item id C D → ((w : Line) → line_at C s.0 ≡ Some w → takes_id item ≡ true → id ≡ w.next) → IsRunning started S replies reply P (J ++ Sent s item ∷ []) log D
+      → sim_link started S s.0 ≡ Some l → IsSentOnLink s.0 item id C D → ((w : Channel) → channel_at C s.0 ≡ Some w → takes_id item ≡ true → id ≡ w.next) → IsRunning started S replies reply P (J ++ Sent s item ∷ []) log D
   asked_on_link J log C D s item id l run linked sent_so right = let r = sent_on_link (awaited S reply P J) J log C D s item id l run linked sent_so right in
-      record { lines = r.lines; no_line = r.no_line; kept = λ i. r.kept i ∙ sym (awaited_on_link J s item l linked i); kinds = r.kinds; rests = r.rests }
+      record { channels = r.channels; no_channel = r.no_channel; kept = λ i. r.kept i ∙ sym (awaited_on_link J s item l linked i); kinds = r.kinds; rests = r.rests }
 
   -- a Step is asked of one within the program, at which nothing is open
   pub asked_within : (J : List Entry) (log : List LogEntry) (C D : CrewState) (s : SimNo) (x : Tier) (ins : List Input) (advance : ℤ) → IsRunning started S replies reply P J log C
@@ -544,19 +544,19 @@ module _ (started : ℕ) (S : Scenario) (replies : SetupReplies) (reply : Replie
 
   -- a message was heard, the core took it, and nothing is owed
   pub heard_quiet : (J : List Entry) (log entries : List LogEntry) (C D : CrewState) (s : SimNo) (m : Message) → IsRunning started S replies reply P J log C → IsUnready P J → IsHeard entries s.0 m C D
-      → ((w : Line) → line_at C s.0 ≡ Some w → (l : LinkNo) × (sim_link started S s.0 ≡ Some l))
+      → ((w : Channel) → channel_at C s.0 ≡ Some w → (l : LinkNo) × (sim_link started S s.0 ≡ Some l))
       → (view P J).owed ≡ None → (view P (J ++ Got s m ∷ [])).fault ≡ None → (view P (J ++ Got s m ∷ [])).owed ≡ None → IsRunning started S replies reply P (J ++ Got s m ∷ []) (log ++ entries) D
   heard_quiet J log entries C D s m run nobody h back owes fine none = quiet J (log ++ entries) D s m (heard J log entries C D s m run nobody h back) ((after_message P J s m owes fine).0 none)
 
   -- a message of a link was heard, and the item that it is answered with was queued
   pub answered_on_link : (J : List Entry) (log : List LogEntry) (C D : CrewState) (s : SimNo) (m : Message) (item : Item) (id : ℕ) (l : LinkNo)
       → IsRunningWith (but s.0 (awaited S reply P J)) started S replies reply P (J ++ Got s m ∷ []) log C → sim_link started S s.0 ≡ Some l → IsSentOnLink s.0 item id C D
-      → ((w : Line) → line_at C s.0 ≡ Some w → takes_id item ≡ true → id ≡ w.next) → IsRunning started S replies reply P ((J ++ Got s m ∷ []) ++ Sent s item ∷ []) log D
+      → ((w : Channel) → channel_at C s.0 ≡ Some w → takes_id item ≡ true → id ≡ w.next) → IsRunning started S replies reply P ((J ++ Got s m ∷ []) ++ Sent s item ∷ []) log D
   answered_on_link J log C D s m item id l run linked sent_so right =
       let r = sent_on_link (but s.0 (awaited S reply P J)) (J ++ Got s m ∷ []) log C D s item id l run linked sent_so right in
       record {
-        lines = r.lines;
-        no_line = r.no_line;
+        channels = r.channels;
+        no_channel = r.no_channel;
         kept = λ i. r.kept i ∙ same i ∙ sym (awaited_on_link (J ++ Got s m ∷ []) s item l linked i);
         kinds = r.kinds;
         rests = r.rests;

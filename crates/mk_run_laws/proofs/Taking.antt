@@ -10,7 +10,7 @@ use Rattle.mk_plan.specs.declared.Message.{Message}
 use Rattle.mk_message.specs.Messages.{message_of}
 use Rattle.mk_frame.specs.Frames.{limit, frame_of, IsUnfinished, IsTooLong, BeginsWithFrame}
 use Rattle.mk_frame.proofs.OnFrames.{length-frame_of, read-frame_of}
-use Rattle.mk_run_laws.specs.Hearing.{passed, announced, first_frame, first_message, cut, messages_heard, rest_heard, Takes, none, more}
+use Rattle.mk_run_laws.specs.Hearing.{value_in, announced, first_frame, first_message, cut, messages_heard, rest_heard, Takes, none, more}
 
 -- ---- the front
 
@@ -100,9 +100,9 @@ message_shorter held f e = go (first_frame held) refl e
     inner g None h e = absurd (none_some e)
     inner g (Some m) h e = subst (λ (p : Message × List ℕ). length p.1 + 4 ≤ length held) (some_same e) h
 
-    go : (o : Option (List ℕ × List ℕ)) → first_frame held ≡ o → option_and_then (λ (f : List ℕ × List ℕ). option_map (λ (m : Message). let p : Message × List ℕ = (m, f.1) in p) (passed (message_of f.0))) o ≡ Some f → length f.1 + 4 ≤ length held
+    go : (o : Option (List ℕ × List ℕ)) → first_frame held ≡ o → option_and_then (λ (f : List ℕ × List ℕ). option_map (λ (m : Message). let p : Message × List ℕ = (m, f.1) in p) (value_in (message_of f.0))) o ≡ Some f → length f.1 + 4 ≤ length held
     go None is e = absurd (none_some e)
-    go (Some g) is e = inner g (passed (message_of g.0)) (frame_shorter held g is) e
+    go (Some g) is e = inner g (value_in (message_of g.0)) (frame_shorter held g is) e
 
 abbrev then_cut : ℕ → List ℕ → Option (Message × List ℕ) → List Message × List ℕ
 then_cut n held o = elim o [ None ↦ ([], held) | Some f ↦ (f.0 ∷ (cut n f.1).0, (cut n f.1).1) ]

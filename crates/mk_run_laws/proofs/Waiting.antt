@@ -4,12 +4,12 @@ use Rattle.mk_base.proofs.Lists.{append_nil, none_some, some_same}
 use Rattle.mk_plan.specs.declared.Message.{Message}
 use Rattle.mk_outside.specs.declared.fleet.LogEntry.{LogEntry}
 use Rattle.mk_outside.specs.declared.fleet.LogEntry.TheVariants.{Rest}
-use Rattle.mk_run_laws.specs.Lines.{Line, IsMoved}
-use Rattle.mk_run_laws.specs.Crews.{CrewState, line_at, IsMovedAt, AreMoved, AreParkedAtRests, IsRestless}
+use Rattle.mk_run_laws.specs.Channels.{Channel, IsMoved}
+use Rattle.mk_run_laws.specs.Crews.{CrewState, channel_at, IsMovedAt, AreMoved, AreParkedAtRests, IsRestless}
 use Rattle.mk_run_laws.proofs.Moving.{moved_twice}
 use Rattle.mk_run_laws.proofs.Stepping.{first_or_second, not_empty}
 
-moved_at_twice : (a b : List LogEntry) (g h : List Message) (o p q : Option Line) → IsMovedAt a g o p → IsMovedAt b h p q → IsMovedAt (a ++ b) (g ++ h) o q
+moved_at_twice : (a b : List LogEntry) (g h : List Message) (o p q : Option Channel) → IsMovedAt a g o p → IsMovedAt b h p q → IsMovedAt (a ++ b) (g ++ h) o q
 moved_at_twice a b g h None None None one two = tt
 moved_at_twice a b g h None None (Some w) one two = absurd two
 moved_at_twice a b g h None (Some v) q one two = absurd one
@@ -19,12 +19,12 @@ moved_at_twice a b g h (Some u) (Some v) (Some w) one two = moved_twice a b g h 
 
 -- what was moved by some entries and then by others was moved by all
 pub moved_on : (a b : List LogEntry) (g h : ℕ → List Message) (C D E : CrewState) → AreMoved a g C D → AreMoved b h D E → AreMoved (a ++ b) (λ i. g i ++ h i) C E
-moved_on a b g h C D E one two i = moved_at_twice a b (g i) (h i) (line_at C i) (line_at D i) (line_at E i) (one i) (two i)
+moved_on a b g h C D E one two i = moved_at_twice a b (g i) (h i) (channel_at C i) (channel_at D i) (channel_at E i) (one i) (two i)
 
-moved_there : (entries : List LogEntry) (given : List Message) (o p : Option Line) (w : Line) → o ≡ Some w → IsMovedAt entries given o p → (v : Line) × (p ≡ Some v) × IsMoved entries given w v
+moved_there : (entries : List LogEntry) (given : List Message) (o p : Option Channel) (w : Channel) → o ≡ Some w → IsMovedAt entries given o p → (v : Channel) × (p ≡ Some v) × IsMoved entries given w v
 moved_there entries given None p w e moved = absurd (none_some e)
 moved_there entries given (Some u) None w e moved = absurd moved
-moved_there entries given (Some u) (Some v) w e moved = (v, refl, subst (λ (x : Line). IsMoved entries given x v) (some_same e) moved)
+moved_there entries given (Some u) (Some v) w e moved = (v, refl, subst (λ (x : Channel). IsMoved entries given x v) (some_same e) moved)
 
 -- a poll adds no rest
 pub parked_polled : (entries more : List LogEntry) (C : CrewState) → AreParkedAtRests entries C → IsRestless more → AreParkedAtRests (entries ++ more) C
@@ -33,13 +33,13 @@ parked_polled entries more C parked restless before after is i w there = elim (f
   | inr t ↦ absurd (restless t.0 after t.2)
 ]
 
--- a rest comes where every line is parked
-pub parked_rested : (entries : List LogEntry) (C D : CrewState) → AreParkedAtRests entries C → AreMoved entries (λ i. []) C D → ((i : ℕ) (w : Line) → line_at D i ≡ Some w → w.parked ≡ true) → AreParkedAtRests (entries ++ Rest ∷ []) C
+-- a rest comes where every channel is parked
+pub parked_rested : (entries : List LogEntry) (C D : CrewState) → AreParkedAtRests entries C → AreMoved entries (λ i. []) C D → ((i : ℕ) (w : Channel) → channel_at D i ≡ Some w → w.parked ≡ true) → AreParkedAtRests (entries ++ Rest ∷ []) C
 parked_rested entries C D parked moved all before after is i w there = elim (first_or_second entries (Rest ∷ []) before after Rest is) [
   | inl t ↦ parked before t.0 t.1 i w there
   | inr t ↦
       let here : before ≡ entries = t.1 ∙ ap (λ (l : List LogEntry). entries ++ l) (first t.0 t.2) ∙ append_nil entries in
-      let m = moved_there entries [] (line_at C i) (line_at D i) w there (moved i) in
+      let m = moved_there entries [] (channel_at C i) (channel_at D i) w there (moved i) in
       (m.0, subst (λ (b : List LogEntry). IsMoved b [] w m.0) (sym here) m.2, all i m.0 m.1)
 ]
   where

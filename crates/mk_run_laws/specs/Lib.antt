@@ -1,7 +1,7 @@
 pub mod Hearing
 pub mod Handshake
 pub mod Payloads
-pub mod Lines
+pub mod Channels
 pub mod Kinds
 pub mod Rests
 pub mod Crews

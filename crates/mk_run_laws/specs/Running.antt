@@ -16,23 +16,27 @@ use Rattle.mk_outside.specs.declared.fleet.LogEntry.{LogEntry}
 use Rattle.mk_outside.specs.declared.fleet.LogEntry.TheVariants.{Rest}
 use Rattle.mk_run_laws.specs.Handshake.{setup_payloads, setup_count, sim_link, is_within}
 use Rattle.mk_run_laws.specs.Payloads.{item_payloads}
-use Rattle.mk_run_laws.specs.Lines.{Line, IsLineAt}
+use Rattle.mk_run_laws.specs.Channels.{Channel, IsChannelAt}
 use Rattle.mk_run_laws.specs.Rests.{AllSetUp}
-use Rattle.mk_run_laws.specs.Crews.{CrewState, line_at}
+use Rattle.mk_run_laws.specs.Crews.{CrewState, channel_at}
 
 -- the replies of each simulator to its handshake
 abbrev pub SetupReplies : Type 0
 SetupReplies = ℕ → List Message
 
--- over the log the line of simulator i gave its setup replies and these messages, and these items
+-- over the log the channel of simulator i gave its setup replies and these messages, and these
+-- items
 -- were queued on it
-abbrev pub IsInStep : Scenario → SetupReplies → List LogEntry → ℕ → List Message → List Item → Line
+abbrev pub IsInStep : Scenario → SetupReplies → List LogEntry → ℕ → List Message → List Item
+    → Channel
     → Type 0
-IsInStep S replies log i messages items w = IsLineAt log (replies i ++ messages) (setup_payloads S i
+IsInStep S replies log i messages items w = IsChannelAt log (replies i
+    ++ messages) (setup_payloads S i
     ++ item_payloads (setup_count S i) items) (id_after (setup_count S i) items) w
 
--- when the fleet rested behind these entries, the journal was a beginning of J, nobody was ready, no
--- request was open within the program, and each line was parked, in step with that journal
+-- when the fleet rested behind these entries, the journal was a beginning of J, nobody was ready,
+-- no
+-- request was open within the program, and each channel was parked, in step with that journal
 pub record IsRestOf (started : ℕ) (S : Scenario) (replies : SetupReplies) (P : Plan)
     (J : List Entry) (before : List LogEntry) : Type 0 where
   pub at : List Entry
@@ -40,7 +44,7 @@ pub record IsRestOf (started : ℕ) (S : Scenario) (replies : SetupReplies) (P :
   pub parts : J ≡ at ++ more
   pub nobody : (i : ℕ) (x : Tier) → IsReady P (view P at) i x → ⊥
   pub replied : (i : ℕ) → is_within S i ≡ true → (view P at).open_at i ≡ None
-  pub line : (i : ℕ) (l : LinkNo) → sim_link started S i ≡ Some l → (w : Line) × (w.link ≡ l)
+  pub channel : (i : ℕ) (l : LinkNo) → sim_link started S i ≡ Some l → (w : Channel) × (w.link ≡ l)
       × (w.parked ≡ true) × IsInStep S replies before i (got at i) (sent at i) w
 
 -- these entries begin with a message of a link
@@ -54,14 +58,14 @@ RestsEnd started S replies P J log = (before after : List LogEntry) → log ≡ 
     → AllSetUp started S before
     → (r : IsRestOf started S replies P J before) × ((r.more ≡ []) ⊎ BeginsOnLink started S r.more)
 
--- when the handshake is over: each line gave its setup replies, only its handshake was queued on
+-- when the handshake is over: each channel gave its setup replies, only its handshake was queued on
 -- it, nothing is kept, and at no rest had all replied
 pub record IsBegun (started : ℕ) (S : Scenario) (replies : SetupReplies) (log : List LogEntry)
     (C : CrewState) : Type 0 where
-  pub lines : (i : ℕ) (l : LinkNo) → sim_link started S i ≡ Some l → (w : Line)
-      × (line_at C i ≡ Some w) × (w.link ≡ l)
-      × IsLineAt log (replies i) (setup_payloads S i) (setup_count S i) w
-  pub no_line : (i : ℕ) → is_within S i ≡ true → line_at C i ≡ None
+  pub channels : (i : ℕ) (l : LinkNo) → sim_link started S i ≡ Some l → (w : Channel)
+      × (channel_at C i ≡ Some w) × (w.link ≡ l)
+      × IsChannelAt log (replies i) (setup_payloads S i) (setup_count S i) w
+  pub no_channel : (i : ℕ) → is_within S i ≡ true → channel_at C i ≡ None
   pub none_kept : C.kept ≡ []
   pub setting_up : (before after : List LogEntry) → log ≡ before ++ Rest ∷ after
       → AllSetUp started S before → ⊥

@@ -1,4 +1,4 @@
--- Lines of links that begin, and links that are closed.
+-- Channels of links that begin, and links that are closed.
 use Rattle.std.proofs.Common.{◌≡◌, ℕ, zero, suc, ◌+◌, ◌<◌, ◌≤◌, ◌^◌, inl, inr, Bool, true, false, not, cond, ◌||◌, List, [], ◌∷◌, ◌++◌, length, take, map, filter, Option, Some, None, option_map, get_or, slice_get, refl, sym, ap, ◌∙◌, subst, arith, true≢false}
 use Rattle.std.specs.Prelude.{IfSome, option_to_list}
 use Rattle.std.specs.List.{list_any}
@@ -15,10 +15,10 @@ use Rattle.mk_scenario.specs.declared.parts.Begin.{Begin}
 use Rattle.mk_scenario.specs.declared.parts.Begin.TheVariants.{Command, Connect, Local}
 use Rattle.mk_scenario.specs.declared.parts.SimPart.{SimPart}
 use Rattle.mk_launch.specs.Starts.{link_count, links_in, place_of, places}
-use Rattle.mk_run_laws.specs.Lines.{Line}
+use Rattle.mk_run_laws.specs.Channels.{Channel}
 use Rattle.mk_run_laws.proofs.Stepping.{same_or_not, apart_is}
-use Rattle.mk_run_links.specs.Places.{Lines, AreDistinct, at, new_line, new_lines, without_all}
-use Rattle.mk_run_links.specs.inner.Standing.{Stands}
+use Rattle.mk_run_links.specs.Places.{Channels, AreDistinct, at, new_channel, new_channels, without_all}
+use Rattle.mk_run_links.specs.inner.Standing.{HaveTurns}
 
 -- ---- places
 
@@ -80,7 +80,7 @@ places_distinct n (s ∷ sims) (suc i) zero l a b =
     absurd (omega (arith, t.0, t.1, low))
 places_distinct n (s ∷ sims) (suc i) (suc j) l a b = ap suc (places_distinct (n + link_count (place_of n s.begin)) sims i j l a b)
 
--- ---- lines that begin
+-- ---- channels that begin
 
 length_map : {X Y : Type 0} (f : X → Y) (xs : List X) → length (map f xs) ≡ length xs
 length_map f [] = refl
@@ -91,16 +91,16 @@ length_take zero xs = omega arith
 length_take (suc k) [] = omega arith
 length_take (suc k) (x ∷ xs) = let t = length_take k xs in omega (arith, t)
 
-pub few_lines : (links : List (Option LinkNo)) (k : ℕ) (L : Lines) → k < length links → length links < 2 ^ 32 → L ≡ new_lines (take k links) → length L + 1 < 2 ^ 32
-few_lines links k L less few is =
-    let size = ap length is ∙ length_map (option_map new_line) (take k links) in
+pub few_channels : (links : List (Option LinkNo)) (k : ℕ) (L : Channels) → k < length links → length links < 2 ^ 32 → L ≡ new_channels (take k links) → length L + 1 < 2 ^ 32
+few_channels links k L less few is =
+    let size = ap length is ∙ length_map (option_map new_channel) (take k links) in
     let taken = length_take k links in
     omega (arith, size, taken, less, few)
 
-pub lines_grow : (links : List (Option LinkNo)) (k : ℕ) (p : Option LinkNo) (L M : Lines) → k < length links → p ≡ get_or links k p → L ≡ new_lines (take k links) → M ≡ L ++ option_map new_line p ∷ [] → M ≡ new_lines (take (k + 1) links)
-lines_grow links k p L M less is so_far more =
-    more ∙ ap (λ (xs : Lines). xs ++ option_map new_line p ∷ []) so_far ∙ sym (map_append (option_map new_line) (take k links) (p ∷ []))
-    ∙ ap new_lines (ap (λ (q : Option LinkNo). take k links ++ q ∷ []) is ∙ sym (take_more links k p less))
+pub channels_grow : (links : List (Option LinkNo)) (k : ℕ) (p : Option LinkNo) (L M : Channels) → k < length links → p ≡ get_or links k p → L ≡ new_channels (take k links) → M ≡ L ++ option_map new_channel p ∷ [] → M ≡ new_channels (take (k + 1) links)
+channels_grow links k p L M less is so_far more =
+    more ∙ ap (λ (xs : Channels). xs ++ option_map new_channel p ∷ []) so_far ∙ sym (map_append (option_map new_channel) (take k links) (p ∷ []))
+    ∙ ap new_channels (ap (λ (q : Option LinkNo). take k links ++ q ∷ []) is ∙ sym (take_more links k p less))
 
 pub ready_grow : (links : List (Option LinkNo)) (k : ℕ) (p : Option LinkNo) (old new : List LinkNo) → k < length links → p ≡ get_or links k p → old ≡ links_in (take k links) → new ≡ old ++ option_to_list p → new ≡ links_in (take (k + 1) links)
 ready_grow links k p old new less is so_far more = more ∙ ap (λ (xs : List LinkNo). xs ++ option_to_list p) so_far ∙ sym (links_grow links k p less is)
@@ -117,16 +117,16 @@ place_fresh links k p t distinct less is ready taken parked = go p refl
     go None e = tt
     go (Some l) e = not_added links k p l t distinct less is e ready taken parked
 
-line_was : (links : List (Option LinkNo)) (i : ℕ) (v : Line) → at (new_lines links) i ≡ Some v → slice_get links i ≡ Some (Some v.link)
-line_was [] i v e = absurd (none_some e)
-line_was (None ∷ links) zero v e = absurd (none_some e)
-line_was (Some l ∷ links) zero v e = ap (λ (o : Option Line). Some (option_map (λ (w : Line). w.link) o)) e
-line_was (p ∷ links) (suc i) v e = line_was links i v e
+channel_was : (links : List (Option LinkNo)) (i : ℕ) (v : Channel) → at (new_channels links) i ≡ Some v → slice_get links i ≡ Some (Some v.link)
+channel_was [] i v e = absurd (none_some e)
+channel_was (None ∷ links) zero v e = absurd (none_some e)
+channel_was (Some l ∷ links) zero v e = ap (λ (o : Option Channel). Some (option_map (λ (w : Channel). w.link) o)) e
+channel_was (p ∷ links) (suc i) v e = channel_was links i v e
 
-begun_stands : (links : List (Option LinkNo)) (L : Lines) (t : Turning) → AreDistinct links → L ≡ new_lines links → t.ready ≡ links_in links → t.taken ≡ [] → Stands L t
-begun_stands links L t distinct is ready taken = subst (λ (X : Lines). Stands X t) (sym is) (record {
-  apart = λ i j v w ev ew same. distinct i j v.link (line_was links i v ev) (line_was links j w ew ∙ ap (λ (n : ℕ). Some (Some (number n))) (sym same));
-  turned = λ i w e. inl (subst (IsIn w.link) (sym ready) (flat_map_in option_to_list (Some w.link) w.link links (at_in (Some w.link) links i (line_was links i w e)) (inl refl)));
+begun_stands : (links : List (Option LinkNo)) (L : Channels) (t : Turning) → AreDistinct links → L ≡ new_channels links → t.ready ≡ links_in links → t.taken ≡ [] → HaveTurns L t
+begun_stands links L t distinct is ready taken = subst (λ (X : Channels). HaveTurns X t) (sym is) (record {
+  apart = λ i j v w ev ew same. distinct i j v.link (channel_was links i v ev) (channel_was links j w ew ∙ ap (λ (n : ℕ). Some (Some (number n))) (sym same));
+  turned = λ i w e. inl (subst (IsIn w.link) (sym ready) (flat_map_in option_to_list (Some w.link) w.link links (at_in (Some w.link) links i (channel_was links i w e)) (inl refl)));
   none_taken = taken;
 })
   where
@@ -139,10 +139,10 @@ take_whole zero (x ∷ xs) less = absurd (omega (arith, less))
 take_whole (suc k) [] less = refl
 take_whole (suc k) (x ∷ xs) less = ap (λ ys. x ∷ ys) (take_whole k xs (omega (arith, less)))
 
-pub all_begun : (links : List (Option LinkNo)) (k : ℕ) (L : Lines) (t : Turning) → AreDistinct links → length links ≤ k → L ≡ new_lines (take k links) → t.ready ≡ links_in (take k links) → t.taken ≡ [] → Stands L t
+pub all_begun : (links : List (Option LinkNo)) (k : ℕ) (L : Channels) (t : Turning) → AreDistinct links → length links ≤ k → L ≡ new_channels (take k links) → t.ready ≡ links_in (take k links) → t.taken ≡ [] → HaveTurns L t
 all_begun links k L t distinct over is ready taken =
     let same = take_whole k links over in
-    begun_stands links L t distinct (is ∙ ap new_lines same) (ready ∙ ap links_in same) taken
+    begun_stands links L t distinct (is ∙ ap new_channels same) (ready ∙ ap links_in same) taken
 
 -- ---- links that are closed
 

@@ -3,7 +3,7 @@ mod Hearing
 mod Linking
 mod Looking
 pub mod OnEntries
-mod OnLines
+mod OnChannels
 pub mod OnStops
 mod Sending
 mod Standing

@@ -5,23 +5,23 @@ use Rattle.mk_base.specs.Lists.{Each}
 use Rattle.mk_base.proofs.Lists.{some_same}
 use Rattle.mk_outside.specs.declared.fleet.LogEntry.{LogEntry}
 use Rattle.mk_outside.specs.declared.fleet.LogEntry.TheVariants.{Heard, NotHeard, Said, NotSaid, Ended, Rest, Told, Nap}
-use Rattle.mk_outside.specs.Logs.{IsOf}
+use Rattle.mk_outside.specs.Logs.{IsOnLink}
 use Rattle.mk_outside.proofs.OnLogs.{each-append}
 use Rattle.mk_scenario.specs.declared.parts.Scenario.{Scenario}
 use Rattle.mk_run_laws.specs.Crews.{IsRestless}
 use Rattle.mk_run_laws.specs.Handshake.{sim_link}
-use Rattle.mk_run_laws.specs.Lines.{Line}
+use Rattle.mk_run_laws.specs.Channels.{Channel}
 use Rattle.mk_run_laws.proofs.Stepping.{not_empty}
 use Rattle.mk_run_links.specs.Entries.{AreOfLinks, AreOn, AreOnOrOfClock, IsClockless, IsNotOfClock, IsOn, IsOnOrOfClock, IsRunLink}
-use Rattle.mk_run_links.specs.Places.{IsLineLink, Lines, at}
+use Rattle.mk_run_links.specs.Places.{IsChannelLink, Channels, at}
 
 -- entries of one of these links are of these
-pub of_link : (has : LinkNo → Type 0) (l : LinkNo) (entries : List LogEntry) → has l → Each (IsOf l) entries → AreOfLinks has entries
+pub of_link : (has : LinkNo → Type 0) (l : LinkNo) (entries : List LogEntry) → has l → Each (IsOnLink l) entries → AreOfLinks has entries
 of_link has l [] one all = tt
 of_link has l (e ∷ entries) one all = ((l, one, all.0), of_link has l entries one all.1)
 
 pub of_links_on : (has : LinkNo → Type 0) (a b : List LogEntry) → AreOfLinks has a → AreOfLinks has b → AreOfLinks has (a ++ b)
-of_links_on has a b one two = each-append (λ (entry : LogEntry). (link : LinkNo) × has link × IsOf link entry) a b one two
+of_links_on has a b one two = each-append (λ (entry : LogEntry). (link : LinkNo) × has link × IsOnLink link entry) a b one two
 
 -- of others where these are among them
 pub of_others : (has had : LinkNo → Type 0) (entries : List LogEntry) → ((l : LinkNo) → has l → had l) → AreOfLinks has entries → AreOfLinks had entries
@@ -33,8 +33,8 @@ pub no_rests : (has : LinkNo → Type 0) (entries : List LogEntry) → AreOfLink
 no_rests has [] all before after is = not_empty before after Rest is
 no_rests has (e ∷ entries) all [] after is = rest_of (all.0).0 (all.0).2 (heads is).0
   where
-    rest_of : (l : LinkNo) → IsOf l e → e ≡ Rest → ⊥
-    rest_of l of q = subst (λ (x : LogEntry). IsOf l x) q of
+    rest_of : (l : LinkNo) → IsOnLink l e → e ≡ Rest → ⊥
+    rest_of l of q = subst (λ (x : LogEntry). IsOnLink l x) q of
 
     heads : {x y : LogEntry} {xs ys : List LogEntry} → x ∷ xs ≡ y ∷ ys → (x ≡ y) × (xs ≡ ys)
     heads q = (cc, cc)
@@ -45,7 +45,7 @@ no_rests has (e ∷ entries) all (b ∷ before) after is = no_rests has entries 
 
 -- ---- entries on some links, and rests
 
-on_it : (has : LinkNo → Type 0) (e : LogEntry) (l : LinkNo) → has l → IsOf l e → IsOn has e
+on_it : (has : LinkNo → Type 0) (e : LogEntry) (l : LinkNo) → has l → IsOnLink l e → IsOn has e
 on_it has (Heard on bytes) l one of = subst has (sym of) one
 on_it has (NotHeard on) l one of = subst has (sym of) one
 on_it has (Said on bytes) l one of = subst has (sym of) one
@@ -123,25 +123,25 @@ or_clock_others has had (e ∷ entries) all some = (other e some.0, or_clock_oth
     other (Told moment) one = tt
     other Nap one = tt
 
--- where the lines stand for a run's links, entries on theirs are on the run's
-run_links : (started : ℕ) (S : Scenario) (L : Lines) → ((i : ℕ) (l : LinkNo) → sim_link started S i ≡ Some l → (w : Line) × (at L i ≡ Some w) × (w.link ≡ l)) → ((i : ℕ) (w : Line) → at L i ≡ Some w → (l : LinkNo) × (sim_link started S i ≡ Some l))
-    → (l : LinkNo) → IsLineLink L l → IsRunLink started S l
+-- where the channels stand for a run's links, entries on theirs are on the run's
+run_links : (started : ℕ) (S : Scenario) (L : Channels) → ((i : ℕ) (l : LinkNo) → sim_link started S i ≡ Some l → (w : Channel) × (at L i ≡ Some w) × (w.link ≡ l)) → ((i : ℕ) (w : Channel) → at L i ≡ Some w → (l : LinkNo) × (sim_link started S i ≡ Some l))
+    → (l : LinkNo) → IsChannelLink L l → IsRunLink started S l
 run_links started S L there back l (i, w, e, same) =
     let b = back i w e in
     let t = there i b.0 b.1 in
-    (i, b.1 ∙ ap Some (sym t.2 ∙ ap (λ (x : Line). x.link) (some_same (sym t.1 ∙ e)) ∙ same))
+    (i, b.1 ∙ ap Some (sym t.2 ∙ ap (λ (x : Channel). x.link) (some_same (sym t.1 ∙ e)) ∙ same))
 
-pub on_run : (started : ℕ) (S : Scenario) (L : Lines) (entries : List LogEntry) → ((i : ℕ) (l : LinkNo) → sim_link started S i ≡ Some l → (w : Line) × (at L i ≡ Some w) × (w.link ≡ l)) → ((i : ℕ) (w : Line) → at L i ≡ Some w → (l : LinkNo) × (sim_link started S i ≡ Some l))
-    → AreOn (IsLineLink L) entries → AreOn (IsRunLink started S) entries
-on_run started S L entries there back = on_others (IsLineLink L) (IsRunLink started S) entries (run_links started S L there back)
+pub on_run : (started : ℕ) (S : Scenario) (L : Channels) (entries : List LogEntry) → ((i : ℕ) (l : LinkNo) → sim_link started S i ≡ Some l → (w : Channel) × (at L i ≡ Some w) × (w.link ≡ l)) → ((i : ℕ) (w : Channel) → at L i ≡ Some w → (l : LinkNo) × (sim_link started S i ≡ Some l))
+    → AreOn (IsChannelLink L) entries → AreOn (IsRunLink started S) entries
+on_run started S L entries there back = on_others (IsChannelLink L) (IsRunLink started S) entries (run_links started S L there back)
 
-pub on_run_or_clock : (started : ℕ) (S : Scenario) (L : Lines) (entries : List LogEntry) → ((i : ℕ) (l : LinkNo) → sim_link started S i ≡ Some l → (w : Line) × (at L i ≡ Some w) × (w.link ≡ l)) → ((i : ℕ) (w : Line) → at L i ≡ Some w → (l : LinkNo) × (sim_link started S i ≡ Some l))
-    → AreOnOrOfClock (IsLineLink L) entries → AreOnOrOfClock (IsRunLink started S) entries
-on_run_or_clock started S L entries there back = or_clock_others (IsLineLink L) (IsRunLink started S) entries (run_links started S L there back)
+pub on_run_or_clock : (started : ℕ) (S : Scenario) (L : Channels) (entries : List LogEntry) → ((i : ℕ) (l : LinkNo) → sim_link started S i ≡ Some l → (w : Channel) × (at L i ≡ Some w) × (w.link ≡ l)) → ((i : ℕ) (w : Channel) → at L i ≡ Some w → (l : LinkNo) × (sim_link started S i ≡ Some l))
+    → AreOnOrOfClock (IsChannelLink L) entries → AreOnOrOfClock (IsRunLink started S) entries
+on_run_or_clock started S L entries there back = or_clock_others (IsChannelLink L) (IsRunLink started S) entries (run_links started S L there back)
 
-pub of_run : (started : ℕ) (S : Scenario) (L : Lines) (entries : List LogEntry) → ((i : ℕ) (l : LinkNo) → sim_link started S i ≡ Some l → (w : Line) × (at L i ≡ Some w) × (w.link ≡ l)) → ((i : ℕ) (w : Line) → at L i ≡ Some w → (l : LinkNo) × (sim_link started S i ≡ Some l))
-    → AreOfLinks (IsLineLink L) entries → AreOfLinks (IsRunLink started S) entries
-of_run started S L entries there back = of_others (IsLineLink L) (IsRunLink started S) entries (run_links started S L there back)
+pub of_run : (started : ℕ) (S : Scenario) (L : Channels) (entries : List LogEntry) → ((i : ℕ) (l : LinkNo) → sim_link started S i ≡ Some l → (w : Channel) × (at L i ≡ Some w) × (w.link ≡ l)) → ((i : ℕ) (w : Channel) → at L i ≡ Some w → (l : LinkNo) × (sim_link started S i ≡ Some l))
+    → AreOfLinks (IsChannelLink L) entries → AreOfLinks (IsRunLink started S) entries
+of_run started S L entries there back = of_others (IsChannelLink L) (IsRunLink started S) entries (run_links started S L there back)
 
 pub or_clock_more : (has : LinkNo → Type 0) (a b : List LogEntry) → AreOnOrOfClock has a → AreOnOrOfClock has b → AreOnOrOfClock has (a ++ b)
 or_clock_more has a b one two = each-append (IsOnOrOfClock has) a b one two

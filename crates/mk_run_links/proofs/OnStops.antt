@@ -1,4 +1,4 @@
--- A stop's frame, and lines that are stopped one after another.
+-- A stop's frame, and channels that are stopped one after another.
 use Rattle.std.proofs.Common.{◌≡◌, ℕ, ◌+◌, ◌<◌, ◌≤◌, inl, inr, List, [], ◌++◌, length, length-append, append_assoc, codes, decimal, Option, Some, None, slice_get, get_or, option_and_then, refl, sym, ap, ◌∙◌, subst, arith}
 use Rattle.std.proofs.lemmas.Option.{slice_get_read}
 use Rattle.byteorder.specs.Endian.{big_bytes}
@@ -13,15 +13,15 @@ use Rattle.mk_outside.specs.Counts.{HasRisen}
 use Rattle.mk_outside.specs.Logs.{Adds, heard_on, said_on, is_read, is_write}
 use Rattle.mk_outside.proofs.OnLogs.{adds_more}
 use Rattle.mk_run_laws.specs.Payloads.{IsFramed}
-use Rattle.mk_run_laws.specs.Lines.{Line, IsStopped}
+use Rattle.mk_run_laws.specs.Channels.{Channel, IsStopped}
 use Rattle.mk_run_laws.specs.Crews.{IsRestless}
 use Rattle.mk_run_laws.proofs.Moving.{heard_more, said_more, last_later, last_kept}
 use Rattle.mk_run_laws.proofs.Polling.{IsForeign, foreign, restless}
 use Rattle.mk_run_laws.proofs.Stepping.{first_or_second, not_empty, same_or_not}
 use Rattle.mk_run_links.specs.Crews.{StopsAll}
-use Rattle.mk_run_links.specs.inner.OneLine.{FlushesLine, StopsLine, StopsAt}
+use Rattle.mk_run_links.specs.inner.OneChannel.{FlushesChannel, StopsChannel, StopsAt}
 use Rattle.mk_run_links.specs.Entries.{AreOn}
-use Rattle.mk_run_links.specs.Places.{IsLineLink, Lines, at}
+use Rattle.mk_run_links.specs.Places.{IsChannelLink, Channels, at}
 use Rattle.mk_run_links.specs.inner.Standing.{AreApart}
 use Rattle.mk_run_links.proofs.Linking.{place_is}
 use Rattle.mk_run_links.proofs.OnEntries.{of_link, on_more, on_these}
@@ -48,23 +48,23 @@ frame_is id digits header one two three four t h a b c d =
 pub framed_is : (id : ℕ) (digits : List ℕ) → digits ≡ decimal id → length digits ≤ 40 → IsFramed (call_text id Stop)
 framed_is id digits t few = let e = stop_length id in let d = ap length t in omega (arith, e, d, few)
 
--- ---- one line
+-- ---- one channel
 
-pub stops_line : (w : Line) (last : List ℕ) (risen : Type 0) (entries : List LogEntry) → FlushesLine w last risen entries → last ≡ frame_of (call_text w.next Stop) → IsFramed (call_text w.next Stop) → StopsLine w risen entries
-stops_line w last risen entries f is one =
-    let g = subst (λ (b : List ℕ). FlushesLine w b risen entries) is f in
+pub stops_channel : (w : Channel) (last : List ℕ) (risen : Type 0) (entries : List LogEntry) → FlushesChannel w last risen entries → last ≡ frame_of (call_text w.next Stop) → IsFramed (call_text w.next Stop) → StopsChannel w risen entries
+stops_channel w last risen entries f is one =
+    let g = subst (λ (b : List ℕ). FlushesChannel w b risen entries) is f in
     record { on_link = g.on_link; stopped = record { unheard = g.unheard; said = g.said; framed = one; whole = g.whole } }
 
--- ---- lines one after another
+-- ---- channels one after another
 
--- the lines of the first k simulators were stopped, and nothing was said on the others
-pub record Stopping (k : ℕ) (L : Lines) (risen : Type 0) (old new : Option (List LogEntry)) : Type 0 where
+-- the channels of the first k simulators were stopped, and nothing was said on the others
+pub record Stopping (k : ℕ) (L : Channels) (risen : Type 0) (old new : Option (List LogEntry)) : Type 0 where
   pub entries : List LogEntry
   pub adds : Adds entries old new
-  pub done : (i : ℕ) (w : Line) → i < k → at L i ≡ Some w → IsStopped entries risen w
-  pub left : (i : ℕ) (w : Line) → k ≤ i → at L i ≡ Some w → IsForeign w.link entries
+  pub done : (i : ℕ) (w : Channel) → i < k → at L i ≡ Some w → IsStopped entries risen w
+  pub left : (i : ℕ) (w : Channel) → k ≤ i → at L i ≡ Some w → IsForeign w.link entries
   pub restless : IsRestless entries
-  pub on_links : AreOn (IsLineLink L) entries
+  pub on_links : AreOn (IsChannelLink L) entries
 
 pub risen_on : (a b c : ℕ) → a ≤ b → b ≤ c → HasRisen b c → HasRisen a c
 risen_on a b c ab bc (inl less) = inl (omega (arith, ab, less))
@@ -82,8 +82,8 @@ both a b l f g = record {
   unwritten = last_kept (is_write l) a b g.unwritten ∙ f.unwritten;
 }
 
--- a stopped line, and entries of others after it
-stopped_before : (a b : List LogEntry) (p q : Type 0) (w : Line) → (p → q) → IsStopped a p w → IsForeign w.link b → IsStopped (a ++ b) q w
+-- a stopped channel, and entries of others after it
+stopped_before : (a b : List LogEntry) (p q : Type 0) (w : Channel) → (p → q) → IsStopped a p w → IsForeign w.link b → IsStopped (a ++ b) q w
 stopped_before a b p q w on st f =
     let same : said_on w.link (a ++ b) ≡ said_on w.link a = said_more w.link a b ∙ ap (λ (x : List ℕ). said_on w.link a ++ x) f.unsaid ∙ append_nil (said_on w.link a) in
     record {
@@ -97,8 +97,8 @@ stopped_before a b p q w on st f =
       ];
     }
 
--- entries of others, and then a line that is stopped
-stopped_behind : (a b : List LogEntry) (p q : Type 0) (w : Line) → (p → q) → IsForeign w.link a → IsStopped b p w → IsStopped (a ++ b) q w
+-- entries of others, and then a channel that is stopped
+stopped_behind : (a b : List LogEntry) (p q : Type 0) (w : Channel) → (p → q) → IsForeign w.link a → IsStopped b p w → IsStopped (a ++ b) q w
 stopped_behind a b p q w on f st =
     let same : said_on w.link (a ++ b) ≡ said_on w.link b = said_more w.link a b ∙ ap (λ (x : List ℕ). x ++ said_on w.link b) f.unsaid in
     record {
@@ -121,21 +121,21 @@ restless_more a b one two before after is = elim (first_or_second a b before aft
 nobody : (k : LinkNo) → IsForeign k []
 nobody k = record { unheard = refl; unsaid = refl; unread = refl; unwritten = refl }
 
--- what a stop at one place says of the other lines
-apart_from : (k : ℕ) (L : Lines) (risen : Type 0) (more : List LogEntry) → AreApart L → StopsAt k L risen more → (o : Option Line) → at L k ≡ o → ((i : ℕ) (u : Line) → (i ≡ k → ⊥) → at L i ≡ Some u → IsForeign u.link more) × IsRestless more × AreOn (IsLineLink L) more
+-- what a stop at one place says of the other channels
+apart_from : (k : ℕ) (L : Channels) (risen : Type 0) (more : List LogEntry) → AreApart L → StopsAt k L risen more → (o : Option Channel) → at L k ≡ o → ((i : ℕ) (u : Channel) → (i ≡ k → ⊥) → at L i ≡ Some u → IsForeign u.link more) × IsRestless more × AreOn (IsChannelLink L) more
 apart_from k L risen more apart st None e = (
   (λ i u away there. subst (IsForeign u.link) (sym (st.none e)) (nobody u.link)),
   subst IsRestless (sym (st.none e)) (λ before after is. not_empty before after Rest is),
-  subst (AreOn (IsLineLink L)) (sym (st.none e)) tt,
+  subst (AreOn (IsChannelLink L)) (sym (st.none e)) tt,
 )
 apart_from k L risen more apart st (Some w) e =
     let s = st.some w e in (
       (λ i u away there. foreign w.link u.link (λ q. away (apart i k u w there e (sym q))) more s.on_link),
       restless w.link more s.on_link,
-      on_these (IsLineLink L) more (of_link (IsLineLink L) w.link more (k, w, e, refl) s.on_link),
+      on_these (IsChannelLink L) more (of_link (IsChannelLink L) w.link more (k, w, e, refl) s.on_link),
     )
 
-pub stops_one_more : (k : ℕ) (L : Lines) (p q r : Type 0) (old mid new : Option (List LogEntry)) (more : List LogEntry) → AreApart L → (p → r) → (q → r) → Stopping k L p old mid → Adds more mid new → StopsAt k L q more → Stopping (k + 1) L r old new
+pub stops_one_more : (k : ℕ) (L : Channels) (p q r : Type 0) (old mid new : Option (List LogEntry)) (more : List LogEntry) → AreApart L → (p → r) → (q → r) → Stopping k L p old mid → Adds more mid new → StopsAt k L q more → Stopping (k + 1) L r old new
 stops_one_more k L p q r old mid new more apart pr qr s adds st =
     let a = apart_from k L q more apart st (at L k) refl in
     record {
@@ -147,7 +147,7 @@ stops_one_more k L p q r old mid new more apart pr qr s adds st =
       ];
       left = λ i w le e. both s.entries more w.link (s.left i w (omega (arith, le)) e) (a.0 i w (λ same. above i le same) e);
       restless = restless_more s.entries more s.restless a.1;
-      on_links = on_more (IsLineLink L) s.entries more s.on_links a.2;
+      on_links = on_more (IsChannelLink L) s.entries more s.on_links a.2;
     }
   where
     below : (i : ℕ) → (i ≡ k → ⊥) → i < k + 1 → i < k
@@ -156,7 +156,7 @@ stops_one_more k L p q r old mid new more apart pr qr s adds st =
     above : (i : ℕ) → k + 1 ≤ i → i ≡ k → ⊥
     above i le same = omega (arith, le, same)
 
-pub none_stopped : (L : Lines) (p : Type 0) (log : Option (List LogEntry)) → Adds [] log log → Stopping 0 L p log log
+pub none_stopped : (L : Channels) (p : Type 0) (log : Option (List LogEntry)) → Adds [] log log → Stopping 0 L p log log
 none_stopped L p log adds = record {
   entries = [];
   adds = adds;
@@ -169,15 +169,15 @@ none_stopped L p log adds = record {
     none_below : (i : ℕ) → i < 0 → ⊥
     none_below i less = omega (arith, less)
 
-pub stops_none : (k : ℕ) (L : Lines) (risen : Type 0) → at L k ≡ None → StopsAt k L risen []
+pub stops_none : (k : ℕ) (L : Channels) (risen : Type 0) → at L k ≡ None → StopsAt k L risen []
 stops_none k L risen e = record { some = λ w there. absurd (none_some (sym e ∙ there)); none = λ q. refl }
 
--- a line stands at a place of the list
-below_length : (L : Lines) (i : ℕ) (w : Line) → at L i ≡ Some w → i < length L
+-- a channel stands at a place of the list
+below_length : (L : Channels) (i : ℕ) (w : Channel) → at L i ≡ Some w → i < length L
 below_length L i w e = (get_is L i (Some w) (place_is (slice_get L i) w e)).0
 
-pub all_stopped : (k n : ℕ) (L : Lines) (risen : Type 0) (old new : Option (List LogEntry)) → Stopping k L risen old new → n ≡ length L → n ≤ k → (entries : List LogEntry) × Adds entries old new × StopsAll entries risen L
+pub all_stopped : (k n : ℕ) (L : Channels) (risen : Type 0) (old new : Option (List LogEntry)) → Stopping k L risen old new → n ≡ length L → n ≤ k → (entries : List LogEntry) × Adds entries old new × StopsAll entries risen L
 all_stopped k n L risen old new s is over = (s.entries, s.adds, ((λ i w e. let below = below_length L i w e in s.done i w (omega (arith, below, is, over)) e), s.restless, s.on_links))
 
-pub none_at : (L : Lines) (i : ℕ) (x : Option Line) → i < length L → x ≡ get_or L i x → x ≡ None → at L i ≡ None
-none_at L i x less is none = ap (λ (q : Option (Option Line)). option_and_then (λ (r : Option Line). r) q) (slice_get_read L (length L) i x refl less is ∙ ap Some none)
+pub none_at : (L : Channels) (i : ℕ) (x : Option Channel) → i < length L → x ≡ get_or L i x → x ≡ None → at L i ≡ None
+none_at L i x less is none = ap (λ (q : Option (Option Channel)). option_and_then (λ (r : Option Channel). r) q) (slice_get_read L (length L) i x refl less is ∙ ap Some none)

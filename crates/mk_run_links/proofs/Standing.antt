@@ -1,4 +1,4 @@
--- The turns of a crew's links, while one line is set.
+-- The turns of a crew's links, while one channel is set.
 use Rattle.std.proofs.Common.{◌≡◌, ◌<◌, ℕ, arith, length, inl, inr, Bool, true, false, not, cond, List, [], ◌∷◌, ◌++◌, Option, None, Some, refl, sym, ap, ◌∙◌, subst, true≢false, if◌then◌else◌}
 use Rattle.std.specs.List.{list_any}
 use Rattle.mk_base.specs.declared.LinkNo.{LinkNo}
@@ -11,11 +11,11 @@ use Rattle.mk_outside.specs.declared.fleet.LogEntry.{LogEntry}
 use Rattle.mk_session.specs.declared.answers.Heard.{Heard}
 use Rattle.mk_session.specs.declared.answers.Polled.{Polled}
 use Rattle.mk_session.specs.declared.answers.Polled.TheVariants as polled
-use Rattle.mk_run_laws.specs.Lines.{Line, queued}
+use Rattle.mk_run_laws.specs.Channels.{Channel, queued}
 use Rattle.mk_run_laws.proofs.Stepping.{same_or_not, same_is, apart_is}
-use Rattle.mk_run_links.specs.inner.OneLine.{PollsAt, link_of, unparked}
-use Rattle.mk_run_links.specs.Places.{Lines, IsSet, at}
-use Rattle.mk_run_links.specs.inner.Standing.{HasTurn, AreApart, StandsBut, Stands}
+use Rattle.mk_run_links.specs.inner.OneChannel.{PollsAt, link_of, unparked}
+use Rattle.mk_run_links.specs.Places.{Channels, IsSet, at}
+use Rattle.mk_run_links.specs.inner.Standing.{HasTurn, AreApart, StandsBut, HaveTurns}
 
 same_number : (x y : LinkNo) → x.0 ≡ y.0 → x ≡ y
 same_number x y e = ap (λ (n : ℕ). let l : LinkNo = record { 0 = n } in l) e
@@ -23,29 +23,29 @@ same_number x y e = ap (λ (n : ℕ). let l : LinkNo = record { 0 = n } in l) e
 no_more : (l : LinkNo) → without l (l ∷ []) ≡ []
 no_more l = ap (λ (b : Bool). cond (not b) (l ∷ []) []) (same_is l.0)
 
--- where one line is set, each line was on its link before
-pub was : (s : ℕ) (w v : Line) (L M : Lines) → IsSet s w v L M → v.link ≡ w.link → (i : ℕ) (u : Line) → at M i ≡ Some u → (o : Line) × (at L i ≡ Some o) × (u.link ≡ o.link)
+-- where one channel is set, each channel was on its link before
+pub was : (s : ℕ) (w v : Channel) (L M : Channels) → IsSet s w v L M → v.link ≡ w.link → (i : ℕ) (u : Channel) → at M i ≡ Some u → (o : Channel) × (at L i ≡ Some o) × (u.link ≡ o.link)
 was s w v L M set same i u e = elim (same_or_not i s) [
-  | inl q ↦ (w, subst (λ (j : ℕ). at L j ≡ Some w) (sym q) set.there, ap (λ (x : Line). x.link) (some_same (sym e ∙ ap (at M) q ∙ set.here)) ∙ same)
+  | inl q ↦ (w, subst (λ (j : ℕ). at L j ≡ Some w) (sym q) set.there, ap (λ (x : Channel). x.link) (some_same (sym e ∙ ap (at M) q ∙ set.here)) ∙ same)
   | inr apart ↦ (u, sym (set.others i apart) ∙ e, refl)
 ]
 
-apart_set : (s : ℕ) (w v : Line) (L M : Lines) → IsSet s w v L M → v.link ≡ w.link → AreApart L → AreApart M
+apart_set : (s : ℕ) (w v : Channel) (L M : Channels) → IsSet s w v L M → v.link ≡ w.link → AreApart L → AreApart M
 apart_set s w v L M set same apart i j x y ex ey e =
     let a = was s w v L M set same i x ex in
     let b = was s w v L M set same j y ey in
     apart i j a.0 b.0 a.1 b.1 (sym (ap (λ (l : LinkNo). l.0) a.2) ∙ e ∙ ap (λ (l : LinkNo). l.0) b.2)
 
--- a line is set, and the turns are left
-pub changed : (s : ℕ) (w v : Line) (L M : Lines) (t : Turning) → Stands L t → IsSet s w v L M → v.link ≡ w.link → StandsBut s M t
+-- a channel is set, and the turns are left
+pub changed : (s : ℕ) (w v : Channel) (L M : Channels) (t : Turning) → HaveTurns L t → IsSet s w v L M → v.link ≡ w.link → StandsBut s M t
 changed s w v L M t st set same = record {
   apart = apart_set s w v L M set same st.apart;
   turned = λ i u apart e. st.turned i u (sym (set.others i apart) ∙ e);
   none_taken = st.none_taken;
 }
 
-still : (s : ℕ) (w : Line) (L : Lines) (t : Turning) (l : LinkNo) (rest : List LinkNo) → Stands L t → t.ready ≡ l ∷ rest → ((i : ℕ) (u : Line) → (i ≡ s → ⊥) → at L i ≡ Some u → u.link ≡ l → ⊥)
-    → (i : ℕ) (u : Line) → (i ≡ s → ⊥) → at L i ≡ Some u → HasTurn (record { ready = rest; taken = []; parked = t.parked ++ l ∷ [] }) u
+still : (s : ℕ) (w : Channel) (L : Channels) (t : Turning) (l : LinkNo) (rest : List LinkNo) → HaveTurns L t → t.ready ≡ l ∷ rest → ((i : ℕ) (u : Channel) → (i ≡ s → ⊥) → at L i ≡ Some u → u.link ≡ l → ⊥)
+    → (i : ℕ) (u : Channel) → (i ≡ s → ⊥) → at L i ≡ Some u → HasTurn (record { ready = rest; taken = []; parked = t.parked ++ l ∷ [] }) u
 still s w L t l rest st first none i u apart e = elim (st.turned i u e) [
   | inl ready ↦ behind (subst (λ (xs : List LinkNo). IsIn u.link xs) first ready)
   | inr parked ↦ inr (parked.0, in_front u.link t.parked (l ∷ []) parked.1)
@@ -55,8 +55,8 @@ still s w L t l rest st first none i u apart e = elim (st.turned i u e) [
     behind (inl here) = absurd (none i u apart e here)
     behind (inr there) = inl there
 
--- the first ready link was taken and parked, and its line was set
-pub taken_parked : (s : ℕ) (w v : Line) (L M : Lines) (t u : Turning) (l : LinkNo) (rest : List LinkNo) → Stands L t → t.ready ≡ l ∷ rest → u ≡ record { ready = rest; taken = t.taken ++ l ∷ []; parked = t.parked } → IsSet s w v L M → w.link ≡ l → v.link ≡ w.link
+-- the first ready link was taken and parked, and its channel was set
+pub taken_parked : (s : ℕ) (w v : Channel) (L M : Channels) (t u : Turning) (l : LinkNo) (rest : List LinkNo) → HaveTurns L t → t.ready ≡ l ∷ rest → u ≡ record { ready = rest; taken = t.taken ++ l ∷ []; parked = t.parked } → IsSet s w v L M → w.link ≡ l → v.link ≡ w.link
     → StandsBut s M (made_parked l u)
 taken_parked s w v L M t u l rest st first is set on same = subst (λ (x : Turning). StandsBut s M (made_parked l x)) (sym is) (record {
   apart = apart_set s w v L M set same st.apart;
@@ -64,10 +64,10 @@ taken_parked s w v L M t u l rest st first is set on same = subst (λ (x : Turni
   none_taken = ap (λ (xs : List LinkNo). without l (xs ++ l ∷ [])) st.none_taken ∙ no_more l;
 })
 
--- the first ready link was taken and parked, and no line is on it
-pub stray_parked : (L : Lines) (t u : Turning) (l : LinkNo) (rest : List LinkNo) → Stands L t → t.ready ≡ l ∷ rest → u ≡ record { ready = rest; taken = t.taken ++ l ∷ []; parked = t.parked } → ((i : ℕ) (w : Line) → at L i ≡ Some w → w.link ≡ l → ⊥)
-    → Stands L (made_parked l u)
-stray_parked L t u l rest st first is none = subst (λ (x : Turning). Stands L (made_parked l x)) (sym is) (record {
+-- the first ready link was taken and parked, and no channel is on it
+pub stray_parked : (L : Channels) (t u : Turning) (l : LinkNo) (rest : List LinkNo) → HaveTurns L t → t.ready ≡ l ∷ rest → u ≡ record { ready = rest; taken = t.taken ++ l ∷ []; parked = t.parked } → ((i : ℕ) (w : Channel) → at L i ≡ Some w → w.link ≡ l → ⊥)
+    → HaveTurns L (made_parked l u)
+stray_parked L t u l rest st first is none = subst (λ (x : Turning). HaveTurns L (made_parked l x)) (sym is) (record {
   apart = st.apart;
   turned = λ i x e. elim (st.turned i x e) [
     | inl ready ↦ behind i x e (subst (λ (xs : List LinkNo). IsIn x.link xs) first ready)
@@ -76,24 +76,24 @@ stray_parked L t u l rest st first is none = subst (λ (x : Turning). Stands L (
   none_taken = ap (λ (xs : List LinkNo). without l (xs ++ l ∷ [])) st.none_taken ∙ no_more l;
 })
   where
-    behind : (i : ℕ) (x : Line) → at L i ≡ Some x → IsIn x.link (l ∷ rest) → HasTurn (record { ready = rest; taken = []; parked = t.parked ++ l ∷ [] }) x
+    behind : (i : ℕ) (x : Channel) → at L i ≡ Some x → IsIn x.link (l ∷ rest) → HasTurn (record { ready = rest; taken = []; parked = t.parked ++ l ∷ [] }) x
     behind i x e (inl here) = absurd (none i x e here)
     behind i x e (inr there) = inl there
 
--- the line that was left out has its turn too
-pub all_stand : (s : ℕ) (v : Line) (M : Lines) (t : Turning) → StandsBut s M t → at M s ≡ Some v → HasTurn t v → Stands M t
+-- the channel that was left out has its turn too
+pub all_stand : (s : ℕ) (v : Channel) (M : Channels) (t : Turning) → StandsBut s M t → at M s ≡ Some v → HasTurn t v → HaveTurns M t
 all_stand s v M t but here turn = record {
   apart = but.apart;
   turned = λ i u e. elim (same_or_not i s) [
-    | inl q ↦ subst (λ (x : Line). HasTurn t x) (some_same (sym here ∙ sym (ap (at M) q) ∙ e)) turn
+    | inl q ↦ subst (λ (x : Channel). HasTurn t x) (some_same (sym here ∙ sym (ap (at M) q) ∙ e)) turn
     | inr apart ↦ but.turned i u apart e
   ];
   none_taken = but.none_taken;
 }
 
 -- its link is made ready
-pub ready_stand : (s : ℕ) (v : Line) (M : Lines) (t : Turning) (l : LinkNo) → StandsBut s M t → at M s ≡ Some v → v.link ≡ l → Stands M (made_ready l t)
-ready_stand s v M t l but here on = elim (list_any (λ (other : LinkNo). same_link other l) t.ready) as (λ b. list_any (λ (other : LinkNo). same_link other l) t.ready ≡ b → Stands M (if b then t else moved)) [
+pub ready_stand : (s : ℕ) (v : Channel) (M : Channels) (t : Turning) (l : LinkNo) → StandsBut s M t → at M s ≡ Some v → v.link ≡ l → HaveTurns M (made_ready l t)
+ready_stand s v M t l but here on = elim (list_any (λ (other : LinkNo). same_link other l) t.ready) as (λ b. list_any (λ (other : LinkNo). same_link other l) t.ready ≡ b → HaveTurns M (if b then t else moved)) [
   | true ↦ λ e. all_stand s v M t but here (inl (subst (λ (k : LinkNo). IsIn k t.ready) (sym on) (there e)))
   | false ↦ λ e. all_stand s v M moved (record {
     apart = but.apart;
@@ -113,7 +113,7 @@ ready_stand s v M t l but here on = elim (list_any (λ (other : LinkNo). same_li
           | inr apart ↦ absurd (true≢false (sym p.2 ∙ apart_is (p.0).0 l.0 apart))
         ]
 
-    goes_on : (u : Line) → HasTurn t u → HasTurn moved u
+    goes_on : (u : Channel) → HasTurn t u → HasTurn moved u
     goes_on u (inl ready) = inl (in_front u.link t.ready (l ∷ []) ready)
     goes_on u (inr parked) = elim (same_or_not (u.link).0 l.0) [
       | inl q ↦ inl (in_back u.link t.ready (l ∷ []) (inl (same_number u.link l q)))
@@ -122,39 +122,39 @@ ready_stand s v M t l but here on = elim (list_any (λ (other : LinkNo). same_li
 
 -- ---- the calls
 
--- simulator s has a line on this link
-abbrev IsAt : ℕ → Lines → LinkNo → Type 0
-IsAt s L l = (w : Line) × (at L s ≡ Some w) × (w.link ≡ l)
+-- simulator s has a channel on this link
+abbrev IsAt : ℕ → Channels → LinkNo → Type 0
+IsAt s L l = (w : Channel) × (at L s ≡ Some w) × (w.link ≡ l)
 
-pub linked_at : (s : ℕ) (L : Lines) (l : LinkNo) → Some l ≡ link_of (at L s) → IsAt s L l
+pub linked_at : (s : ℕ) (L : Channels) (l : LinkNo) → Some l ≡ link_of (at L s) → IsAt s L l
 linked_at s L l is = go (at L s) refl is
   where
-    go : (o : Option Line) → at L s ≡ o → Some l ≡ link_of o → IsAt s L l
+    go : (o : Option Channel) → at L s ≡ o → Some l ≡ link_of o → IsAt s L l
     go None e q = absurd (none_some (sym q))
     go (Some w) e q = (w, e, some_same (sym q))
 
-pub sent_stands : (s : ℕ) (L M : Lines) (t u : Turning) (l : LinkNo) (payload : List ℕ) (next : ℕ) → Stands L t → IsAt s L l → ((w : Line) × IsSet s w (queued payload next w) L M) → u ≡ made_ready l t → Stands M u
+pub sent_stands : (s : ℕ) (L M : Channels) (t u : Turning) (l : LinkNo) (payload : List ℕ) (next : ℕ) → HaveTurns L t → IsAt s L l → ((w : Channel) × IsSet s w (queued payload next w) L M) → u ≡ made_ready l t → HaveTurns M u
 sent_stands s L M t u l payload next st on set is =
-    let same : (set.0).link ≡ l = ap (λ (x : Line). x.link) (some_same (sym set.1.there ∙ on.1)) ∙ on.2 in
-    subst (Stands M) (sym is) (ready_stand s (queued payload next set.0) M t l (changed s set.0 (queued payload next set.0) L M t st set.1 refl) set.1.here same)
+    let same : (set.0).link ≡ l = ap (λ (x : Channel). x.link) (some_same (sym set.1.there ∙ on.1)) ∙ on.2 in
+    subst (HaveTurns M) (sym is) (ready_stand s (queued payload next set.0) M t l (changed s set.0 (queued payload next set.0) L M t st set.1 refl) set.1.here same)
 
-polled_but : (answer : Polled) (s : ℕ) (L M : Lines) (t u : Turning) (l : LinkNo) (entries : List LogEntry) → Stands L t → TakeOf t (Some l) u → IsAt s L l → (p : PollsAt answer s L entries M) → StandsBut s M (made_parked l u) × ((p.after).link ≡ l)
+polled_but : (answer : Polled) (s : ℕ) (L M : Channels) (t u : Turning) (l : LinkNo) (entries : List LogEntry) → HaveTurns L t → TakeOf t (Some l) u → IsAt s L l → (p : PollsAt answer s L entries M) → StandsBut s M (made_parked l u) × ((p.after).link ≡ l)
 polled_but answer s L M t u l entries st taken on p =
-    let same : (p.line).link ≡ l = ap (λ (x : Line). x.link) (some_same (sym p.set.there ∙ on.1)) ∙ on.2 in
-    (taken_parked s p.line p.after L M t u l taken.0 st taken.1 taken.2 p.set same p.polled.moved.link, p.polled.moved.link ∙ same)
+    let same : (p.channel).link ≡ l = ap (λ (x : Channel). x.link) (some_same (sym p.set.there ∙ on.1)) ∙ on.2 in
+    (taken_parked s p.channel p.after L M t u l taken.0 st taken.1 taken.2 p.set same p.polled.moved.link, p.polled.moved.link ∙ same)
 
-pub parked_stands : (s : ℕ) (L M : Lines) (t u x : Turning) (l : LinkNo) (entries : List LogEntry) → Stands L t → TakeOf t (Some l) u → IsAt s L l → PollsAt polled.Pending s L entries M → x ≡ made_parked l u → Stands M x
+pub parked_stands : (s : ℕ) (L M : Channels) (t u x : Turning) (l : LinkNo) (entries : List LogEntry) → HaveTurns L t → TakeOf t (Some l) u → IsAt s L l → PollsAt polled.Pending s L entries M → x ≡ made_parked l u → HaveTurns M x
 parked_stands s L M t u x l entries st taken on p is =
     let but = polled_but polled.Pending s L M t u l entries st taken on p in
-    subst (Stands M) (sym is) (all_stand s p.after M (made_parked l u) but.0 p.set.here (inr (p.polled.parked, subst (λ (k : LinkNo). IsIn k (u.parked ++ l ∷ [])) (sym but.1) (in_back l u.parked (l ∷ []) (inl refl)))))
+    subst (HaveTurns M) (sym is) (all_stand s p.after M (made_parked l u) but.0 p.set.here (inr (p.polled.parked, subst (λ (k : LinkNo). IsIn k (u.parked ++ l ∷ [])) (sym but.1) (in_back l u.parked (l ∷ []) (inl refl)))))
 
-pub heard_stands : (h : Heard) (s : ℕ) (L M : Lines) (t u x y : Turning) (l : LinkNo) (entries : List LogEntry) → Stands L t → TakeOf t (Some l) u → IsAt s L l → PollsAt (polled.Ready h) s L entries M → x ≡ made_parked l u → y ≡ made_ready l x → Stands M y
+pub heard_stands : (h : Heard) (s : ℕ) (L M : Channels) (t u x y : Turning) (l : LinkNo) (entries : List LogEntry) → HaveTurns L t → TakeOf t (Some l) u → IsAt s L l → PollsAt (polled.Ready h) s L entries M → x ≡ made_parked l u → y ≡ made_ready l x → HaveTurns M y
 heard_stands h s L M t u x y l entries st taken on p is and =
     let but = polled_but (polled.Ready h) s L M t u l entries st taken on p in
-    subst (Stands M) (sym (and ∙ ap (made_ready l) is)) (ready_stand s p.after M (made_parked l u) l but.0 p.set.here but.1)
+    subst (HaveTurns M) (sym (and ∙ ap (made_ready l) is)) (ready_stand s p.after M (made_parked l u) l but.0 p.set.here but.1)
 
-pub stray_stands : (L : Lines) (t u x : Turning) (l : LinkNo) → Stands L t → TakeOf t (Some l) u → ((i : ℕ) (w : Line) → at L i ≡ Some w → w.link ≡ l → ⊥) → x ≡ made_parked l u → Stands L x
-stray_stands L t u x l st taken none is = subst (Stands L) (sym is) (stray_parked L t u l taken.0 st taken.1 taken.2 none)
+pub stray_stands : (L : Channels) (t u x : Turning) (l : LinkNo) → HaveTurns L t → TakeOf t (Some l) u → ((i : ℕ) (w : Channel) → at L i ≡ Some w → w.link ≡ l → ⊥) → x ≡ made_parked l u → HaveTurns L x
+stray_stands L t u x l st taken none is = subst (HaveTurns L) (sym is) (stray_parked L t u l taken.0 st taken.1 taken.2 none)
 
 pub parked_added : (u x : Turning) (l : LinkNo) → x ≡ made_parked l u → IsAdded l x
 parked_added u x l is = subst (IsAdded l) (sym is) (inr (inr (in_back l u.parked (l ∷ []) (inl refl))))
@@ -165,7 +165,7 @@ one_fewer t u x l taken is =
     let after : x.ready ≡ taken.0 = ap (λ (y : Turning). y.ready) is ∙ ap (λ (y : Turning). y.ready) taken.2 in
     omega (arith, ap length after, ap length taken.1)
 
-pub woken_stands : (s : ℕ) (L M : Lines) (t u : Turning) (l : LinkNo) → Stands L t → IsAt s L l → ((w : Line) × IsSet s w (unparked w) L M) → u ≡ made_ready l t → Stands M u
+pub woken_stands : (s : ℕ) (L M : Channels) (t u : Turning) (l : LinkNo) → HaveTurns L t → IsAt s L l → ((w : Channel) × IsSet s w (unparked w) L M) → u ≡ made_ready l t → HaveTurns M u
 woken_stands s L M t u l st on set is =
-    let same : (set.0).link ≡ l = ap (λ (x : Line). x.link) (some_same (sym set.1.there ∙ on.1)) ∙ on.2 in
-    subst (Stands M) (sym is) (ready_stand s (unparked set.0) M t l (changed s set.0 (unparked set.0) L M t st set.1 refl) set.1.here same)
+    let same : (set.0).link ≡ l = ap (λ (x : Channel). x.link) (some_same (sym set.1.there ∙ on.1)) ∙ on.2 in
+    subst (HaveTurns M) (sym is) (ready_stand s (unparked set.0) M t l (changed s set.0 (unparked set.0) L M t st set.1 refl) set.1.here same)

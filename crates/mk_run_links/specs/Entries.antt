@@ -4,13 +4,13 @@ use Rattle.mk_base.specs.declared.LinkNo.{LinkNo}
 use Rattle.mk_base.specs.Lists.{Each}
 use Rattle.mk_outside.specs.declared.fleet.LogEntry.{LogEntry}
 use Rattle.mk_outside.specs.declared.fleet.LogEntry.TheVariants.{Heard, NotHeard, Said, NotSaid, Ended, Rest, Told, Nap}
-use Rattle.mk_outside.specs.Logs.{IsOf}
+use Rattle.mk_outside.specs.Logs.{IsOnLink}
 use Rattle.mk_scenario.specs.declared.parts.Scenario.{Scenario}
 use Rattle.mk_run_laws.specs.Handshake.{sim_link}
 
 -- each of these entries is of a read or a write on one of these links
 abbrev pub AreOfLinks : (LinkNo → Type 0) → List LogEntry → Type 0
-AreOfLinks has = Each (λ (entry : LogEntry). (link : LinkNo) × has link × IsOf link entry)
+AreOfLinks has = Each (λ (entry : LogEntry). (link : LinkNo) × has link × IsOnLink link entry)
 
 -- the entry is of a read or a write on one of these links, or the fleet rested
 abbrev pub IsOn : (LinkNo → Type 0) → LogEntry → Type 0

@@ -1,4 +1,4 @@
--- Why nothing more is heard on a run's links, and what their lines show of that.
+-- Why nothing more is heard on a run's links, and what their channels show of that.
 use Rattle.std.specs.Prelude.{◌≡◌, List, Option, None, Some, Result, Ok, Err, ⊤, ℕ}
 use Rattle.mk_outside.specs.declared.fleet.LogEntry.{LogEntry}
 use Rattle.mk_outside.specs.declared.fleet.LogEntry.TheVariants.{Ended}
@@ -7,14 +7,14 @@ use Rattle.mk_frame.specs.Frames.{IsTooLong, IsUnfinished}
 use Rattle.mk_session.specs.declared.answers.Heard.{Heard}
 use Rattle.mk_session.specs.declared.answers.Heard.TheVariants as heard
 use Rattle.mk_session.specs.Fronts.{BeginsGarbled}
-use Rattle.mk_run_laws.specs.Lines.{Line}
+use Rattle.mk_run_laws.specs.Channels.{Channel}
 use Rattle.mk_run_links.specs.declared.answers.LinkHalt.{LinkHalt}
 use Rattle.mk_run_links.specs.declared.answers.LinkHalt.TheVariants as halt
-use Rattle.mk_run_links.specs.Places.{Lines, at}
+use Rattle.mk_run_links.specs.Places.{Channels, at}
 
 -- why no message was heard: the link has ended where no whole frame was held, or what is held
 -- begins with something else
-abbrev pub ShowsHeard : Heard → List LogEntry → Line → Type 0
+abbrev pub ShowsHeard : Heard → List LogEntry → Channel → Type 0
 ShowsHeard (heard.Message message) entries w = ⊤
 ShowsHeard (heard.Garbled test) entries w = BeginsGarbled w.held test
 ShowsHeard (heard.TooLong n) entries w = IsTooLong n w.held
@@ -23,12 +23,12 @@ ShowsHeard heard.Closed entries w = IsUnfinished w.held
 ShowsHeard heard.Failed entries w = ⊤
 ShowsHeard heard.Mem entries w = ⊤
 
--- simulator s has a line, of which this was heard
-abbrev pub HeardOf : ℕ → Heard → List LogEntry → Lines → Type 0
-HeardOf s h entries new = (w : Line) × (at new s ≡ Some w) × ShowsHeard h entries w
+-- simulator s has a channel, of which this was heard
+abbrev pub HeardOf : ℕ → Heard → List LogEntry → Channels → Type 0
+HeardOf s h entries new = (w : Channel) × (at new s ≡ Some w) × ShowsHeard h entries w
 
 -- what the link of a halt shows
-abbrev pub ShowsHalt : LinkHalt → List LogEntry → Lines → Type 0
+abbrev pub ShowsHalt : LinkHalt → List LogEntry → Channels → Type 0
 ShowsHalt halt.Fleet entries new = ⊤
 ShowsHalt (halt.Gone sim) entries new = HeardOf sim.0 heard.Closed entries new
 ShowsHalt (halt.Garbled sim test) entries new = HeardOf sim.0 (heard.Garbled test) entries new

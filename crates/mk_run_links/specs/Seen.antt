@@ -1,9 +1,9 @@
 -- What contracts see of a run's links.
 use Rattle.std.specs.Prelude.{Option}
 use Rattle.mk_run_links.specs.declared.answers.LinkHalt.{LinkHalt}
-use Rattle.mk_run_links.specs.Places.{Lines}
+use Rattle.mk_run_links.specs.Places.{Channels}
 
--- their lines, and the halt that it answers again
+-- their channels, and the halt that it answers again
 pub record Seen : Type 0 where
-  pub lines : Lines
+  pub channels : Channels
   pub halt : Option LinkHalt

@@ -1,4 +1,4 @@
 -- What proofs alone need.
-pub mod OneLine
+pub mod OneChannel
 pub mod Looks
 pub mod Standing

@@ -2,10 +2,10 @@
 #![tactic(auto)]
 
 mod answers;
+mod channel;
+mod channels;
 mod closing;
 mod laws;
-mod line;
-mod lines;
 mod links;
 mod stopping;
 

@@ -5,20 +5,20 @@ ghost use Rattle.mk_base.specs.declared.SimNo.{SimNo};
 ghost use Rattle.mk_outside.specs.declared.fleet.LogEntry.{LogEntry};
 ghost use Rattle.mk_outside.specs.Counts.{HasRisen};
 ghost use Rattle.mk_outside.specs.Logs.{Adds};
-ghost use Rattle.mk_run_laws.specs.Lines.{Line, queued};
+ghost use Rattle.mk_run_laws.specs.Channels.{Channel, queued};
 ghost use Rattle.mk_poll.specs.Links.{IsAdded};
 ghost use Rattle.mk_run_laws.specs.Crews.{AreMoved, IsSentOnLink};
 ghost use Rattle.mk_plan.specs.Sequential.{id_after};
 ghost use Rattle.mk_run_links.specs.Crews.{HearsAs, IsLengthOf, StopsAll, TriesAs};
 ghost use Rattle.mk_run_links.specs.Halts.{lasting, lasting_halt};
 ghost use Rattle.mk_run_links.specs.Entries.{AreOn};
-ghost use Rattle.mk_run_links.specs.Places.{AreDistinct, AreOpen, IsLineLink, IsLinked, IsSet, at, crew, new_line, new_lines};
+ghost use Rattle.mk_run_links.specs.Places.{AreDistinct, AreOpen, IsChannelLink, IsLinked, IsSet, at, crew, new_channel, new_channels};
 ghost use Rattle.mk_run_links.specs.inner.Looks.{AreWoken, IsWokenAt, ListensAs, LooksAs, RestsAs, listened_of};
-ghost use Rattle.mk_run_links.specs.inner.Standing.{Stands};
+ghost use Rattle.mk_run_links.specs.inner.Standing.{HaveTurns};
 
 use crate::answers::{LinkHalt, Listened, Looked};
-use crate::line::CrewLine;
-use crate::lines::CrewLines;
+use crate::channel::CrewChannel;
+use crate::channels::CrewChannels;
 use mk_base::{LinkNo, Mem, SimNo};
 use mk_message::write_item;
 use mk_outside::{Fleet, Waited};
@@ -32,42 +32,43 @@ use std::sync::Wait;
 /// The links of a run, and the halt that `hear` answers again.
 #[derive(Drop)]
 pub struct Links {
-    lines: CrewLines,
+    channels: CrewChannels,
     turns: Turns,
     halt: Option<LinkHalt>,
 }
 
 impl Model for Links {
     ghost use Rattle.mk_run_links.specs.Seen.{Seen};
-    ghost use Rattle.mk_run_links.specs.inner.Standing.{Stands};
+    ghost use Rattle.mk_run_links.specs.inner.Standing.{HaveTurns};
 
     ghost Value = { Seen };
 
-    ghost view = { λ a. record { lines = a.lines; halt = a.halt } };
+    ghost view = { λ a. record { channels = a.channels; halt = a.halt } };
 
-    ghost invariant = { λ a. Stands a.lines a.turns };
+    ghost invariant = { λ a. HaveTurns a.channels a.turns };
 }
 
-// Adds the line of the next simulator and a turn of its link, or no line.
+// Adds the channel of the next simulator and a turn of its link, or no channel.
 fn add_place(
     alloc: Global,
-    lines: &mut CrewLines,
+    channels: &mut CrewChannels,
     turns: &mut Turns,
     place: &Option<LinkNo>,
 ) -> Result<(), Mem>
-    requires few { length lines.old + 1 < 2 ^ 32 }
+    requires few { length channels.old + 1 < 2 ^ 32 }
     requires fresh { IfSome place.now (λ link. ¬ IsAdded link turns.old) }
-    ensures lines { OnOk result (lines.new ≡ lines.old ++ option_map new_line place.now ∷ []) }
+    ensures channels { OnOk result (channels.new ≡ channels.old
+        ++ option_map new_channel place.now ∷ []) }
     ensures ready { OnOk result (turns.new.ready ≡ turns.old.ready ++ option_to_list place.now) }
     ensures taken { OnOk result (turns.new.taken ≡ turns.old.taken) }
     ensures parked { OnOk result (turns.new.parked ≡ turns.old.parked) }
 {
     match place {
         Some(link) => {
-            lines.push(Some(CrewLine::new(alloc, *link)?))?;
+            channels.push(Some(CrewChannel::new(alloc, *link)?))?;
             turns.add(*link)
         }
-        None => lines.push(None),
+        None => channels.push(None),
     }
 }
 
@@ -116,28 +117,28 @@ fn listened_of(sim: SimNo, heard: Heard) -> Listened
 }
 
 // Polls the link that has been ready for longest.
-fn look<F: Fleet>(lines: &mut CrewLines, turns: &mut Turns, fleet: &mut F) -> Looked
-    requires stands { Stands lines.old turns.old }
-    requires open { AreOpen lines.old (F.open_links fleet.old) }
+fn look<F: Fleet>(channels: &mut CrewChannels, turns: &mut Turns, fleet: &mut F) -> Looked
+    requires stands { HaveTurns channels.old turns.old }
+    requires open { AreOpen channels.old (F.open_links fleet.old) }
     ensures count { F.faults fleet.old ≤ F.faults fleet.new }
     ensures cause { (sim : SimNo) → result ≡ Looked.Heard sim Heard.Failed
         → HasRisen (F.faults fleet.old) (F.faults fleet.new) }
     ensures same_count { F.started fleet.new ≡ F.started fleet.old }
     ensures same_links { F.open_links fleet.new ≡ F.open_links fleet.old }
-    ensures stands { Stands lines.new turns.new }
+    ensures stands { HaveTurns channels.new turns.new }
     ensures fewer { result ≡ Looked.Parked → length turns.new.ready < length turns.old.ready }
     ensures looked { (entries : List LogEntry)
         × Adds entries (F.log fleet.old) (F.log fleet.new)
-        × LooksAs result entries lines.old lines.new }
+        × LooksAs result entries channels.old channels.new }
 {
     let Some(link) = turns.take() else {
         return Looked::Quiet;
     };
-    let Some(sim) = lines.sim_on(link) else {
+    let Some(sim) = channels.sim_on(link) else {
         turns.park(link);
         return Looked::Parked;
     };
-    let polled = lines.poll(sim, fleet);
+    let polled = channels.poll(sim, fleet);
     turns.park(link);
     match polled {
         Polled::Pending => Looked::Parked,
@@ -149,21 +150,21 @@ fn look<F: Fleet>(lines: &mut CrewLines, turns: &mut Turns, fleet: &mut F) -> Lo
 }
 
 // Polls links, each in its turn, until something is heard or all are parked. It waits for nobody.
-fn listen<F: Fleet>(lines: &mut CrewLines, turns: &mut Turns, fleet: &mut F) -> Listened
-    requires stands { Stands lines.old turns.old }
-    requires open { AreOpen lines.old (F.open_links fleet.old) }
+fn listen<F: Fleet>(channels: &mut CrewChannels, turns: &mut Turns, fleet: &mut F) -> Listened
+    requires stands { HaveTurns channels.old turns.old }
+    requires open { AreOpen channels.old (F.open_links fleet.old) }
     ensures count { F.faults fleet.old ≤ F.faults fleet.new }
     ensures cause { result ≡ Listened.Halted LinkHalt.Fleet
         → HasRisen (F.faults fleet.old) (F.faults fleet.new) }
     ensures same_count { F.started fleet.new ≡ F.started fleet.old }
     ensures same_links { F.open_links fleet.new ≡ F.open_links fleet.old }
-    ensures stands { Stands lines.new turns.new }
+    ensures stands { HaveTurns channels.new turns.new }
     ensures listened { (entries : List LogEntry)
         × Adds entries (F.log fleet.old) (F.log fleet.new)
-        × ListensAs result entries lines.old lines.new }
+        × ListensAs result entries channels.old channels.new }
 {
     'looking: loop {
-        match look(lines, turns, fleet) {
+        match look(channels, turns, fleet) {
             Looked::Heard(sim, heard) => return listened_of(sim, heard),
             Looked::Parked => {}
             Looked::Quiet => return Listened::Quiet,
@@ -176,15 +177,16 @@ impl Links {
     pub fn new(alloc: Global, links: &[Option<LinkNo>]) -> Result<Links, Mem>
         requires few { length links.now < 2 ^ 32 }
         requires distinct { AreDistinct links.now }
-        ensures { IfOk result (λ made. made ≡ record { lines = new_lines links.now; halt = None }) }
+        ensures { IfOk result (λ made. made
+            ≡ record { channels = new_channels links.now; halt = None }) }
     {
-        let mut lines = CrewLines::new(alloc);
+        let mut channels = CrewChannels::new(alloc);
         let mut turns = Turns::new(alloc);
         for place in links {
-            add_place(alloc, &mut lines, &mut turns, place)?;
+            add_place(alloc, &mut channels, &mut turns, place)?;
         }
         Ok(Links {
-            lines,
+            channels,
             turns,
             halt: None,
         })
@@ -192,10 +194,10 @@ impl Links {
 
     /// The next id of a simulator's link.
     pub fn next(&self, sim: SimNo) -> u64
-        requires { IsLinked sim.0 self.now.lines }
-        ensures { (w : Line) × (at self.now.lines sim.0 ≡ Some w) × (w.next ≡ result) }
+        requires { IsLinked sim.0 self.now.channels }
+        ensures { (w : Channel) × (at self.now.channels sim.0 ≡ Some w) × (w.next ≡ result) }
     {
-        self.lines.next(sim)
+        self.channels.next(sim)
     }
 
     /// The halt that `hear` answers again, if there is one.
@@ -207,17 +209,17 @@ impl Links {
 
     /// Queues a payload on a simulator's link, after which this is its next id. After a fault nothing has changed.
     pub fn queue(&mut self, sim: SimNo, payload: &[u8], next: u64) -> Result<(), QueueFault>
-        requires { IsLinked sim.0 self.old.lines }
-        ensures ok { OnOk result ((w : Line)
-            × IsSet sim.0 w (queued payload.now next w) self.old.lines self.new.lines) }
+        requires { IsLinked sim.0 self.old.channels }
+        ensures ok { OnOk result ((w : Channel)
+            × IsSet sim.0 w (queued payload.now next w) self.old.channels self.new.channels) }
         ensures allowed { OnOk result (length payload.now ≤ limit) }
         ensures too_long { (n : ℕ) → result ≡ Err (QueueFault.TooLong n) → n ≡ length payload.now }
         ensures too_long_only { (n : ℕ) → result ≡ Err (QueueFault.TooLong n) → limit < n }
         ensures err { OnErr result (self.new ≡ self.old) }
         ensures same_halt { self.new.halt ≡ self.old.halt }
     {
-        let link = self.lines.link(sim);
-        self.lines.queue(sim, payload, next)?;
+        let link = self.channels.link(sim);
+        self.channels.queue(sim, payload, next)?;
         self.turns.ready(link);
         Ok(())
     }
@@ -226,13 +228,14 @@ impl Links {
     /// id of what they answer. `TooLong` has the length of the item's payload, which may have at most 67,108,864 bytes.
     /// `Mem` comes for want of memory, and where the next id would be 2^64. After a fault nothing has changed.
     pub fn send(&mut self, alloc: Global, sim: SimNo, item: &Item) -> Result<(), QueueFault>
-        requires { IsLinked sim.0 self.old.lines }
-        ensures ok { OnOk result ((w : Line) × (at self.old.lines sim.0 ≡ Some w)
-            × IsSentOnLink sim.0 item.now w.next (crew self.old.lines) (crew self.new.lines)) }
-        ensures allowed { OnOk result ((n : ℕ) × IsLengthOf n item.now sim.0 self.old.lines
+        requires { IsLinked sim.0 self.old.channels }
+        ensures ok { OnOk result ((w : Channel) × (at self.old.channels sim.0 ≡ Some w)
+            × IsSentOnLink sim.0 item.now w.next (crew self.old.channels)
+            (crew self.new.channels)) }
+        ensures allowed { OnOk result ((n : ℕ) × IsLengthOf n item.now sim.0 self.old.channels
             × (n ≤ limit)) }
         ensures too_long { (n : ℕ) → result ≡ Err (QueueFault.TooLong n)
-            → IsLengthOf n item.now sim.0 self.old.lines × (limit < n) }
+            → IsLengthOf n item.now sim.0 self.old.channels × (limit < n) }
         ensures err { OnErr result (self.new ≡ self.old) }
         ensures same_halt { self.new.halt ≡ self.old.halt }
     {
@@ -249,7 +252,7 @@ impl Links {
 
     // Polls links, each in its turn, until something is heard or all are parked.
     fn listen<F: Fleet>(&mut self, fleet: &mut F) -> Listened
-        requires { AreOpen self.old.lines (F.open_links fleet.old) }
+        requires { AreOpen self.old.channels (F.open_links fleet.old) }
         ensures count { F.faults fleet.old ≤ F.faults fleet.new }
         ensures cause { result ≡ Listened.Halted LinkHalt.Fleet
             → HasRisen (F.faults fleet.old) (F.faults fleet.new) }
@@ -258,18 +261,18 @@ impl Links {
         ensures same_halt { self.new.halt ≡ self.old.halt }
         ensures listened { (entries : List LogEntry)
             × Adds entries (F.log fleet.old) (F.log fleet.new)
-            × ListensAs result entries self.old.lines self.new.lines }
+            × ListensAs result entries self.old.channels self.new.channels }
     {
-        listen(&mut self.lines, &mut self.turns, fleet)
+        listen(&mut self.channels, &mut self.turns, fleet)
     }
 
     // The link is no longer parked.
     fn wake(&mut self, link: LinkNo)
         ensures same_halt { self.new.halt ≡ self.old.halt }
-        ensures stands { AreMoved [] (λ i. []) (crew self.old.lines) (crew self.new.lines) }
+        ensures stands { AreMoved [] (λ i. []) (crew self.old.channels) (crew self.new.channels) }
     {
-        if let Some(sim) = self.lines.sim_on(link) {
-            self.lines.wake(sim);
+        if let Some(sim) = self.channels.sim_on(link) {
+            self.channels.wake(sim);
             self.turns.ready(link);
         }
     }
@@ -278,7 +281,7 @@ impl Links {
     fn wake_marked(&mut self, links: &[LinkNo], marks: &[bool])
         requires { length marks.now ≡ length links.now }
         ensures same_halt { self.new.halt ≡ self.old.halt }
-        ensures stands { AreMoved [] (λ i. []) (crew self.old.lines) (crew self.new.lines) }
+        ensures stands { AreMoved [] (λ i. []) (crew self.old.channels) (crew self.new.channels) }
     {
         for k in 0..links.len() {
             if marks[k] {
@@ -289,8 +292,8 @@ impl Links {
 
     // Waits on all links. Those that may be read or written again are no longer parked.
     fn rest<F: Fleet>(&mut self, alloc: Global, fleet: &mut F) -> Result<(), LinkHalt>
-        requires open { AreOpen self.old.lines (F.open_links fleet.old) }
-        requires some { (i : ℕ) × IsLinked i self.old.lines }
+        requires open { AreOpen self.old.channels (F.open_links fleet.old) }
+        requires some { (i : ℕ) × IsLinked i self.old.channels }
         ensures count { F.faults fleet.old ≤ F.faults fleet.new }
         ensures cause { result ≡ Err LinkHalt.Fleet
             → HasRisen (F.faults fleet.old) (F.faults fleet.new) }
@@ -299,9 +302,9 @@ impl Links {
         ensures same_halt { self.new.halt ≡ self.old.halt }
         ensures rested { (entries : List LogEntry)
             × Adds entries (F.log fleet.old) (F.log fleet.new)
-            × RestsAs result entries self.old.lines self.new.lines }
+            × RestsAs result entries self.old.channels self.new.channels }
     {
-        let links = self.lines.links(alloc)?;
+        let links = self.channels.links(alloc)?;
         let mut marks = unmarked(alloc, links.len())?;
         match fleet.wait(&links, &mut marks) {
             Waited::Marked => {
@@ -316,10 +319,10 @@ impl Links {
     // The link of a simulator, if it has one, is no longer parked.
     fn wake_sim(&mut self, sim: SimNo)
         ensures same_halt { self.new.halt ≡ self.old.halt }
-        ensures woken { IsWokenAt sim.0 self.old.lines self.new.lines }
+        ensures woken { IsWokenAt sim.0 self.old.channels self.new.channels }
     {
-        if let Some(link) = self.lines.link_at(sim) {
-            self.lines.wake(sim);
+        if let Some(link) = self.channels.link_at(sim) {
+            self.channels.wake(sim);
             self.turns.ready(link);
         }
     }
@@ -327,9 +330,9 @@ impl Links {
     // No link is parked any more.
     fn wake_all(&mut self)
         ensures same_halt { self.new.halt ≡ self.old.halt }
-        ensures woken { AreWoken self.old.lines self.new.lines }
+        ensures woken { AreWoken self.old.channels self.new.channels }
     {
-        for i in 0..self.lines.len() {
+        for i in 0..self.channels.len() {
             self.wake_sim(SimNo(i as u32));
         }
     }
@@ -341,8 +344,8 @@ impl Links {
         alloc: Global,
         fleet: &mut F,
     ) -> Result<(SimNo, Message), LinkHalt>
-        requires open { AreOpen self.old.lines (F.open_links fleet.old) }
-        requires some { (i : ℕ) × IsLinked i self.old.lines }
+        requires open { AreOpen self.old.channels (F.open_links fleet.old) }
+        requires some { (i : ℕ) × IsLinked i self.old.channels }
         ensures count { F.faults fleet.old ≤ F.faults fleet.new }
         ensures cause { result ≡ Err LinkHalt.Fleet
             → HasRisen (F.faults fleet.old) (F.faults fleet.new) }
@@ -350,8 +353,8 @@ impl Links {
         ensures same_links { F.open_links fleet.new ≡ F.open_links fleet.old }
         ensures same_halt { self.new.halt ≡ self.old.halt }
         ensures heard { (entries : List LogEntry) × Adds entries (F.log fleet.old) (F.log fleet.new)
-            × HearsAs result entries self.old.lines self.new.lines
-            × AreOn (IsLineLink self.old.lines) entries }
+            × HearsAs result entries self.old.channels self.new.channels
+            × AreOn (IsChannelLink self.old.channels) entries }
     {
         for _ in rt.forever() {
             match self.listen(fleet) {
@@ -368,7 +371,7 @@ impl Links {
 
     // Polls each link once, until something is heard.
     fn try_next<F: Fleet>(&mut self, fleet: &mut F) -> Result<Option<(SimNo, Message)>, LinkHalt>
-        requires open { AreOpen self.old.lines (F.open_links fleet.old) }
+        requires open { AreOpen self.old.channels (F.open_links fleet.old) }
         ensures count { F.faults fleet.old ≤ F.faults fleet.new }
         ensures cause { result ≡ Err LinkHalt.Fleet
             → HasRisen (F.faults fleet.old) (F.faults fleet.new) }
@@ -377,7 +380,7 @@ impl Links {
         ensures same_halt { self.new.halt ≡ self.old.halt }
         ensures tried { (entries : List LogEntry)
             × Adds entries (F.log fleet.old) (F.log fleet.new)
-            × TriesAs result entries self.old.lines self.new.lines }
+            × TriesAs result entries self.old.channels self.new.channels }
     {
         self.wake_all();
         match self.listen(fleet) {
@@ -395,8 +398,8 @@ impl Links {
         alloc: Global,
         fleet: &mut F,
     ) -> Result<(SimNo, Message), LinkHalt>
-        requires open { AreOpen self.old.lines (F.open_links fleet.old) }
-        requires some { (i : ℕ) × IsLinked i self.old.lines }
+        requires open { AreOpen self.old.channels (F.open_links fleet.old) }
+        requires some { (i : ℕ) × IsLinked i self.old.channels }
         ensures count { F.faults fleet.old ≤ F.faults fleet.new }
         ensures cause { self.old.halt ≡ None → result ≡ Err LinkHalt.Fleet
             → HasRisen (F.faults fleet.old) (F.faults fleet.new) }
@@ -407,8 +410,8 @@ impl Links {
         ensures lasts { self.old.halt ≡ None → self.new.halt ≡ lasting result }
         ensures heard { self.old.halt ≡ None → (entries : List LogEntry)
             × Adds entries (F.log fleet.old) (F.log fleet.new)
-            × HearsAs result entries self.old.lines self.new.lines
-            × AreOn (IsLineLink self.old.lines) entries }
+            × HearsAs result entries self.old.channels self.new.channels
+            × AreOn (IsChannelLink self.old.channels) entries }
     {
         if let Some(halt) = self.halt {
             return Err(halt);
@@ -428,7 +431,7 @@ impl Links {
         &mut self,
         fleet: &mut F,
     ) -> Result<Option<(SimNo, Message)>, LinkHalt>
-        requires open { AreOpen self.old.lines (F.open_links fleet.old) }
+        requires open { AreOpen self.old.channels (F.open_links fleet.old) }
         ensures count { F.faults fleet.old ≤ F.faults fleet.new }
         ensures cause { self.old.halt ≡ None → result ≡ Err LinkHalt.Fleet
             → HasRisen (F.faults fleet.old) (F.faults fleet.new) }
@@ -439,7 +442,7 @@ impl Links {
         ensures lasts { self.old.halt ≡ None → self.new.halt ≡ lasting result }
         ensures tried { self.old.halt ≡ None → (entries : List LogEntry)
             × Adds entries (F.log fleet.old) (F.log fleet.new)
-            × TriesAs result entries self.old.lines self.new.lines }
+            × TriesAs result entries self.old.channels self.new.channels }
     {
         if let Some(halt) = self.halt {
             return Err(halt);
@@ -455,16 +458,17 @@ impl Links {
 
     /// Says what is unsent and then a stop on each link, until all is said or a write takes nothing. It takes no memory.
     pub fn stop<F: Fleet>(&self, fleet: &mut F)
-        requires { AreOpen self.now.lines (F.open_links fleet.old) }
+        requires { AreOpen self.now.channels (F.open_links fleet.old) }
         ensures count { F.faults fleet.old ≤ F.faults fleet.new }
         ensures same_count { F.started fleet.new ≡ F.started fleet.old }
         ensures same_links { F.open_links fleet.new ≡ F.open_links fleet.old }
         ensures stopped { (entries : List LogEntry)
             × Adds entries (F.log fleet.old) (F.log fleet.new)
-            × StopsAll entries (HasRisen (F.faults fleet.old) (F.faults fleet.new)) self.now.lines }
+            × StopsAll entries (HasRisen (F.faults fleet.old) (F.faults fleet.new))
+            self.now.channels }
     {
-        for i in 0..self.lines.len() {
-            self.lines.stop(SimNo(i as u32), fleet);
+        for i in 0..self.channels.len() {
+            self.channels.stop(SimNo(i as u32), fleet);
         }
     }
 }

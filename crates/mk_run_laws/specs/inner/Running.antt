@@ -12,19 +12,19 @@ use Rattle.mk_scenario.specs.declared.parts.Scenario.{Scenario}
 use Rattle.mk_outside.specs.declared.fleet.LogEntry.{LogEntry}
 use Rattle.mk_outside.specs.declared.fleet.LogEntry.TheVariants.{Rest}
 use Rattle.mk_run_laws.specs.Handshake.{Request, setup_requests, call_to, call_payloads, sim_link, is_within}
-use Rattle.mk_run_laws.specs.Lines.{Line, IsLineAt}
+use Rattle.mk_run_laws.specs.Channels.{Channel, IsChannelAt}
 use Rattle.mk_run_laws.specs.Kinds.{Replies, KeepsToKinds}
 use Rattle.mk_run_laws.specs.Rests.{AllSetUp, IsWellInSetup}
-use Rattle.mk_run_laws.specs.Crews.{CrewState, line_at, kept_of}
+use Rattle.mk_run_laws.specs.Crews.{CrewState, channel_at, kept_of}
 use Rattle.mk_run_laws.specs.Running.{SetupReplies, IsInStep, IsRestOf, BeginsOnLink}
 
--- the line is there, and has given what the journal got and was sent
-pub record HasLine (S : Scenario) (replies : SetupReplies) (log : List LogEntry) (i : ℕ)
+-- the channel is there, and has given what the journal got and was sent
+pub record HasChannel (S : Scenario) (replies : SetupReplies) (log : List LogEntry) (i : ℕ)
     (l : LinkNo) (messages : List Message) (items : List Item) (C : CrewState) : Type 0 where
-  pub line : Line
-  pub there : line_at C i ≡ Some line
-  pub link : line.link ≡ l
-  pub in_step : IsInStep S replies log i messages items line
+  pub channel : Channel
+  pub there : channel_at C i ≡ Some channel
+  pub link : channel.link ≡ l
+  pub in_step : IsInStep S replies log i messages items channel
 
 -- the reply that is awaited of simulator i, if it runs within the program and a request is open at
 -- it
@@ -42,9 +42,9 @@ RestsOver started S replies P J log = (before after : List LogEntry) → log ≡
 pub record IsRunningWith (awaits : ℕ
     → List Message) (started : ℕ) (S : Scenario) (replies : SetupReplies) (reply : Replies)
     (P : Plan) (J : List Entry) (log : List LogEntry) (C : CrewState) : Type 0 where
-  pub lines : (i : ℕ) (l : LinkNo) → sim_link started S i ≡ Some l
-      → HasLine S replies log i l (got J i) (sent J i) C
-  pub no_line : (i : ℕ) → is_within S i ≡ true → line_at C i ≡ None
+  pub channels : (i : ℕ) (l : LinkNo) → sim_link started S i ≡ Some l
+      → HasChannel S replies log i l (got J i) (sent J i) C
+  pub no_channel : (i : ℕ) → is_within S i ≡ true → channel_at C i ≡ None
   pub kept : (i : ℕ) → kept_of i C.kept ≡ awaits i
   pub kinds : KeepsToKinds reply (is_within S) P J
   pub rests : RestsOver started S replies P J log
@@ -67,9 +67,9 @@ pub record IsSettingUp (started : ℕ) (S : Scenario) (replies : SetupReplies) (
   pub linked : (l : LinkNo) × (sim_link started S now.sim ≡ Some l)
   pub counts : (i : ℕ) (l : LinkNo) → sim_link started S i ≡ Some l
       → length (replies i) ≡ length (filter_map (call_to i) done)
-  pub lines : (i : ℕ) (l : LinkNo) → sim_link started S i ≡ Some l
-      → (w : Line) × (line_at C i ≡ Some w) × (w.link ≡ l)
-      × IsLineAt log (replies i) (call_payloads 0 (filter_map (call_to i) (done ++ now ∷ [])))
+  pub channels : (i : ℕ) (l : LinkNo) → sim_link started S i ≡ Some l
+      → (w : Channel) × (channel_at C i ≡ Some w) × (w.link ≡ l)
+      × IsChannelAt log (replies i) (call_payloads 0 (filter_map (call_to i) (done ++ now ∷ [])))
       (length (filter_map (call_to i) (done ++ now ∷ []))) w
 
 -- between two requests of the handshake: these were queued and answered, and at each rest so far
@@ -79,9 +79,9 @@ pub record IsBetween (started : ℕ) (S : Scenario) (replies : SetupReplies) (lo
   pub parts : setup_requests S ≡ done ++ later
   pub counts : (i : ℕ) (l : LinkNo) → sim_link started S i ≡ Some l
       → length (replies i) ≡ length (filter_map (call_to i) done)
-  pub lines : (i : ℕ) (l : LinkNo) → sim_link started S i ≡ Some l
-      → (w : Line) × (line_at C i ≡ Some w) × (w.link ≡ l)
-      × IsLineAt log (replies i) (call_payloads 0 (filter_map (call_to i) done))
+  pub channels : (i : ℕ) (l : LinkNo) → sim_link started S i ≡ Some l
+      → (w : Channel) × (channel_at C i ≡ Some w) × (w.link ≡ l)
+      × IsChannelAt log (replies i) (call_payloads 0 (filter_map (call_to i) done))
       (length (filter_map (call_to i) done)) w
   pub rests : (before after : List LogEntry) → log ≡ before ++ Rest ∷ after
       → IsWellInSetup started S before × (AllSetUp started S before → ⊥)

@@ -14,21 +14,21 @@ use Rattle.mk_run_links.specs.declared.answers.Listened.TheVariants as listened
 use Rattle.mk_run_links.specs.declared.answers.Looked.{Looked}
 use Rattle.mk_run_links.specs.declared.answers.Looked.TheVariants as looked
 use Rattle.mk_run_links.specs.Halts.{HeardOf, ShowsHalt}
-use Rattle.mk_run_links.specs.inner.OneLine.{message_in, unparked}
+use Rattle.mk_run_links.specs.inner.OneChannel.{message_in, unparked}
 use Rattle.mk_run_links.specs.Entries.{AreOfLinks}
-use Rattle.mk_run_links.specs.Places.{AreParked, IsLineLink, Lines, IsLinked, at, crew}
+use Rattle.mk_run_links.specs.Places.{AreParked, IsChannelLink, Channels, IsLinked, at, crew}
 
 -- simulator s gave these messages, and all others none
 abbrev pub only_by : ℕ → List Message → ℕ → List Message
 only_by s given i = if s == i then given else []
 
--- one link was polled, and its line moved; or all lines are parked, and nothing was done
-abbrev pub LooksAs : Looked → List LogEntry → Lines → Lines → Type 0
+-- one link was polled, and its channel moved; or all channels are parked, and nothing was done
+abbrev pub LooksAs : Looked → List LogEntry → Channels → Channels → Type 0
 LooksAs (looked.Heard sim h) entries old new = AreMoved entries (only_by sim.0 (message_in h))
-    (crew old) (crew new) × AreOfLinks (IsLineLink old) entries × IsLinked sim.0 old
+    (crew old) (crew new) × AreOfLinks (IsChannelLink old) entries × IsLinked sim.0 old
     × HeardOf sim.0 h entries new
 LooksAs looked.Parked entries old new = AreMoved entries (λ i. []) (crew old) (crew new)
-    × AreOfLinks (IsLineLink old) entries
+    × AreOfLinks (IsChannelLink old) entries
 LooksAs looked.Quiet entries old new = (new ≡ old) × (entries ≡ []) × AreParked old
 
 -- what came of looks where this was heard of a simulator
@@ -40,26 +40,26 @@ listened_of sim heard.Closed = listened.Halted (halt.Gone sim)
 listened_of sim heard.Failed = listened.Halted halt.Fleet
 listened_of sim heard.Mem = listened.Halted halt.Mem
 
--- a message was heard; or nothing was, for this cause; or nothing was, and all lines are parked
-abbrev pub ListensAs : Listened → List LogEntry → Lines → Lines → Type 0
+-- a message was heard; or nothing was, for this cause; or nothing was, and all channels are parked
+abbrev pub ListensAs : Listened → List LogEntry → Channels → Channels → Type 0
 ListensAs (listened.Message sim m) entries old new = IsHeard entries sim.0 m (crew old) (crew new)
-    × AreOfLinks (IsLineLink old) entries
+    × AreOfLinks (IsChannelLink old) entries
 ListensAs (listened.Halted h) entries old new = IsUnheard entries (crew old) (crew new)
-    × AreOfLinks (IsLineLink old) entries × ShowsHalt h entries new
+    × AreOfLinks (IsChannelLink old) entries × ShowsHalt h entries new
 ListensAs listened.Quiet entries old new = IsUnheard entries (crew old) (crew new)
-    × AreOfLinks (IsLineLink old) entries × AreParked new
+    × AreOfLinks (IsChannelLink old) entries × AreParked new
 
--- the fleet rested and all lines stand, but that some are no longer parked; or nothing was done
-abbrev pub RestsAs : Result (Unit {0}) LinkHalt → List LogEntry → Lines → Lines → Type 0
+-- the fleet rested and all channels stand, but that some are no longer parked; or nothing was done
+abbrev pub RestsAs : Result (Unit {0}) LinkHalt → List LogEntry → Channels → Channels → Type 0
 RestsAs (Ok done) entries old new = (entries ≡ Rest ∷ [])
     × AreMoved (Rest ∷ []) (λ i. []) (crew old) (crew new)
 RestsAs (Err h) entries old new = (entries ≡ []) × (new ≡ old) × ShowsHalt h [] new
 
--- the line of simulator s, if it has one, is no longer parked, and all others stand
-pub record IsWokenAt (s : ℕ) (old new : Lines) : Type 0 where
+-- the channel of simulator s, if it has one, is no longer parked, and all others stand
+pub record IsWokenAt (s : ℕ) (old new : Channels) : Type 0 where
   pub here : at new s ≡ option_map unparked (at old s)
   pub others : (i : ℕ) → (i ≡ s → ⊥) → at new i ≡ at old i
 
--- no line is parked any more
-abbrev pub AreWoken : Lines → Lines → Type 0
+-- no channel is parked any more
+abbrev pub AreWoken : Channels → Channels → Type 0
 AreWoken old new = (i : ℕ) → at new i ≡ option_map unparked (at old i)

@@ -14,7 +14,7 @@ looking-init g c = record {
   same_links = refl;
   stands = c.requires.stands;
   are_open = c.requires.open;
-  hush = hush_begins c.args.lines.now _ (adds_none _);
+  hush = hush_begins c.args.channels.now _ (adds_none _);
 }
 
 pub looking-preserved : goal.looking-preserved
@@ -26,17 +26,17 @@ looking-preserved g c =
       same_count = c.in-Parked.ensures.same_count ∙ so_far.same_count;
       same_links = c.in-Parked.ensures.same_links ∙ so_far.same_links;
       stands = c.in-Parked.ensures.stands;
-      are_open = subst (λ (ls : List LinkNo). AreOpen c.look.new.lines ls) (sym c.in-Parked.ensures.same_links) (open_parked looked.0 c.looking.lines c.look.new.lines _ looked.2 so_far.are_open);
-      hush = hush_goes_on c.args.lines.now c.looking.lines c.look.new.lines _ _ _ looked.0 so_far.hush looked.1 looked.2;
+      are_open = subst (λ (ls : List LinkNo). AreOpen c.look.new.channels ls) (sym c.in-Parked.ensures.same_links) (open_parked looked.0 c.looking.channels c.look.new.channels _ looked.2 so_far.are_open);
+      hush = hush_goes_on c.args.channels.now c.looking.channels c.look.new.channels _ _ _ looked.0 so_far.hush looked.1 looked.2;
     }
 
 pub returns-in-Heard-clause-listened : goal.returns-in-Heard-clause-listened
 returns-in-Heard-clause-listened g c =
     let looked = c.in-Heard.ensures.looked in
-    let all = hush_heard c.args.lines.now c.looking.lines c.look.new.lines _ _ _ looked.0 c.looking.invariant.hush looked.1 c.in-Heard.sim c.in-Heard.heard looked.2 in
-    (all.0, all.1, subst (λ (r : Listened). ListensAs r all.0 c.args.lines.now c.look.new.lines) (sym c.listened_of.ensures) all.2)
+    let all = hush_heard c.args.channels.now c.looking.channels c.look.new.channels _ _ _ looked.0 c.looking.invariant.hush looked.1 c.in-Heard.sim c.in-Heard.heard looked.2 in
+    (all.0, all.1, subst (λ (r : Listened). ListensAs r all.0 c.args.channels.now c.look.new.channels) (sym c.listened_of.ensures) all.2)
 
 pub returns-in-Quiet-clause-listened : goal.returns-in-Quiet-clause-listened
 returns-in-Quiet-clause-listened g c =
     let looked = c.in-Quiet.ensures.looked in
-    hush_lasts c.args.lines.now c.looking.lines c.look.new.lines _ _ _ looked.0 c.looking.invariant.hush looked.1 looked.2
+    hush_lasts c.args.channels.now c.looking.channels c.look.new.channels _ _ _ looked.0 c.looking.invariant.hush looked.1 looked.2

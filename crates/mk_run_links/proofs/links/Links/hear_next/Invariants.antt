@@ -9,5 +9,5 @@ invariant-loop g l = record {
   same_count : g.F.Fleet.started l.fleet ≡ g.F.Fleet.started l.fn.fleet;
   same_links : g.F.Fleet.open_links l.fleet ≡ g.F.Fleet.open_links l.fn.fleet;
   same_halt : l.self.halt ≡ l.fn.self.halt;
-  silence : Silence l.fn.self.lines l.self.lines (g.F.Fleet.log l.fn.fleet) (g.F.Fleet.log l.fleet);
+  silence : Silence l.fn.self.channels l.self.channels (g.F.Fleet.log l.fn.fleet) (g.F.Fleet.log l.fleet);
 }

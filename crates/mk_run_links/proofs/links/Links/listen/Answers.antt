@@ -4,4 +4,4 @@ use Rattle.mk_run_links.specs.Seen.{Seen}
 use Rattle.mk_run_links.proofs.links.Links.listen.Goals as goal
 
 pub listen-requires-clause-open : goal.listen-requires-clause-open
-listen-requires-clause-open g c = subst (λ (s : Seen). AreOpen s.lines (g.F.Fleet.open_links c.args.fleet.now)) (sym c.self.view_is) c.requires
+listen-requires-clause-open g c = subst (λ (s : Seen). AreOpen s.channels (g.F.Fleet.open_links c.args.fleet.now)) (sym c.self.view_is) c.requires

@@ -1,9 +1,9 @@
 use Rattle.std.proofs.Common.{None, arith, get_or, ◌∙◌}
-use Rattle.mk_run_links.proofs.Beginning.{all_begun, few_lines, lines_grow, place_fresh, ready_grow, there_is}
+use Rattle.mk_run_links.proofs.Beginning.{all_begun, few_channels, channels_grow, place_fresh, ready_grow, there_is}
 use Rattle.mk_run_links.proofs.links.Links.new.Goals as goal
 
 pub add_place-requires-clause-few : goal.add_place-requires-clause-few
-add_place-requires-clause-few c = few_lines c.args.links.now c.loop-place.place-index c.loop-place.lines c.loop-place-test.true c.requires.few c.loop-place.invariant.lines
+add_place-requires-clause-few c = few_channels c.args.links.now c.loop-place.place-index c.loop-place.channels c.loop-place-test.true c.requires.few c.loop-place.invariant.channels
 
 pub add_place-requires-clause-fresh : goal.add_place-requires-clause-fresh
 add_place-requires-clause-fresh c = place_fresh c.args.links.now c.loop-place.place-index (get_or c.args.links.now c.loop-place.place-index None) c.loop-place.turns c.requires.distinct c.loop-place-test.true
@@ -14,7 +14,7 @@ loop-place-preserved c =
     let so_far = c.loop-place.invariant in
     let is = there_is c.args.links.now c.loop-place.place-index None c.loop-place-test.true in
     record {
-      lines = lines_grow c.args.links.now c.loop-place.place-index _ c.loop-place.lines c.add_place.new.lines c.loop-place-test.true is so_far.lines c.in_ok-add_place.ensures.lines;
+      channels = channels_grow c.args.links.now c.loop-place.place-index _ c.loop-place.channels c.add_place.new.channels c.loop-place-test.true is so_far.channels c.in_ok-add_place.ensures.channels;
       ready = ready_grow c.args.links.now c.loop-place.place-index _ c.loop-place.turns.ready c.add_place.new.turns.ready c.loop-place-test.true is so_far.ready c.in_ok-add_place.ensures.ready;
       taken = c.in_ok-add_place.ensures.taken ∙ so_far.taken;
       parked = c.in_ok-add_place.ensures.parked ∙ so_far.parked;
@@ -23,4 +23,4 @@ loop-place-preserved c =
 pub invariant_of-result : goal.invariant_of-result
 invariant_of-result c =
     let so_far = c.loop-place.invariant in
-    all_begun c.args.links.now c.loop-place.place-index c.loop-place.lines c.loop-place.turns c.requires.distinct (omega (arith, c.loop-place-test.false)) so_far.lines so_far.ready so_far.taken
+    all_begun c.args.links.now c.loop-place.place-index c.loop-place.channels c.loop-place.turns c.requires.distinct (omega (arith, c.loop-place-test.false)) so_far.channels so_far.ready so_far.taken

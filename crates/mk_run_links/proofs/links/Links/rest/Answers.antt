@@ -5,7 +5,7 @@ use Rattle.mk_run_links.proofs.Linking.{links_open, some_link}
 use Rattle.mk_run_links.proofs.links.Links.rest.Goals as goal
 
 pub wait-requires-clause-open : goal.wait-requires-clause-open
-wait-requires-clause-open g c = links_open c.self.inside.lines _ _ (subst (λ (s : Seen). AreOpen s.lines (g.F.Fleet.open_links c.args.fleet.now)) (sym c.self.view_is) c.requires.open) (c.deref.ensures.value ∙ c.in_ok-links.ensures)
+wait-requires-clause-open g c = links_open c.self.inside.channels _ _ (subst (λ (s : Seen). AreOpen s.channels (g.F.Fleet.open_links c.args.fleet.now)) (sym c.self.view_is) c.requires.open) (c.deref.ensures.value ∙ c.in_ok-links.ensures)
 
 pub wait-requires-clause-some : goal.wait-requires-clause-some
-wait-requires-clause-some g c = some_link c.self.inside.lines _ (subst (λ (s : Seen). (i : ℕ) × IsLinked i s.lines) (sym c.self.view_is) c.requires.some) (c.deref.ensures.value ∙ c.in_ok-links.ensures)
+wait-requires-clause-some g c = some_link c.self.inside.channels _ (subst (λ (s : Seen). (i : ℕ) × IsLinked i s.channels) (sym c.self.view_is) c.requires.some) (c.deref.ensures.value ∙ c.in_ok-links.ensures)

@@ -4,10 +4,10 @@ use Rattle.mk_run_links.specs.Places.{crew}
 use Rattle.mk_run_links.proofs.links.Links.wake.Goals as goal
 
 pub invariant_of-self : goal.invariant_of-self
-invariant_of-self c = woken_stands c.in-Some.sim.0 c.self.inside.lines c.wake.new.self c.self.inside.turns c.ready.new.self c.args.link c.self.invariant c.in-Some.ensures.some c.wake.ensures c.ready.ensures.ready
+invariant_of-self c = woken_stands c.in-Some.sim.0 c.self.inside.channels c.wake.new.self c.self.inside.turns c.ready.new.self c.args.link c.self.invariant c.in-Some.ensures.some c.wake.ensures c.ready.ensures.ready
 
 pub returns-in-Some-clause-stands : goal.returns-in-Some-clause-stands
-returns-in-Some-clause-stands c = rw (← c.self.view_is) (woken_moved c.in-Some.sim.0 c.self.inside.lines c.wake.new.self c.wake.ensures)
+returns-in-Some-clause-stands c = rw (← c.self.view_is) (woken_moved c.in-Some.sim.0 c.self.inside.channels c.wake.new.self c.wake.ensures)
 
 pub returns-in_default-clause-stands : goal.returns-in_default-clause-stands
-returns-in_default-clause-stands c = (left_alone (crew c.args.self.now.lines)).0
+returns-in_default-clause-stands c = (left_alone (crew c.args.self.now.channels)).0

@@ -3,4 +3,4 @@ use Rattle.mk_run_links.proofs.Looking.{Waking}
 use Rattle.mk_run_links.proofs.links.Links.wake_all.Given as goal
 
 abbrev pub invariant-loop-i : goal.invariant-loop-i
-invariant-loop-i l = (l.self.halt ≡ l.fn.self.halt) × Waking l.i l.fn.self.lines l.self.lines
+invariant-loop-i l = (l.self.halt ≡ l.fn.self.halt) × Waking l.i l.fn.self.channels l.self.channels

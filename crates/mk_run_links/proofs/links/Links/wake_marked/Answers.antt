@@ -4,4 +4,4 @@ use Rattle.mk_run_links.specs.Places.{crew}
 use Rattle.mk_run_links.proofs.links.Links.wake_marked.Goals as goal
 
 pub loop-k-init : goal.loop-k-init
-loop-k-init c = (refl, (left_alone (crew c.args.self.now.lines)).0)
+loop-k-init c = (refl, (left_alone (crew c.args.self.now.channels)).0)

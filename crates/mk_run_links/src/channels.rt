@@ -1,73 +1,73 @@
-// The lines of a crew, each at the place of its simulator.
+// The channels of a crew, each at the place of its simulator.
 ghost use Rattle.std.specs.Prelude.{◌≡◌, ℕ, ◌+◌, ◌≤◌, ◌<◌, ◌^◌, List, [], ◌∷◌, ◌++◌, length, filter_map, None, Some, Err, IfOk, IfSome, OnOk, OnErr};
 ghost use Rattle.mk_frame.specs.Frames.{limit};
 ghost use Rattle.mk_outside.specs.declared.fleet.LogEntry.{LogEntry};
 ghost use Rattle.mk_outside.specs.Counts.{HasRisen};
 ghost use Rattle.mk_outside.specs.Logs.{Adds};
-ghost use Rattle.mk_run_laws.specs.Lines.{Line, queued};
-ghost use Rattle.mk_run_links.specs.inner.OneLine.{PollsAt, StopsAt, is_on, link_of, unparked};
+ghost use Rattle.mk_run_laws.specs.Channels.{Channel, queued};
+ghost use Rattle.mk_run_links.specs.inner.OneChannel.{PollsAt, StopsAt, is_on, link_of, unparked};
 ghost use Rattle.mk_run_links.specs.Places.{IsLinked, IsOpenAt, IsSet, at};
 
-use crate::line::CrewLine;
+use crate::channel::CrewChannel;
 use mk_base::{LinkNo, Mem, SimNo};
 use mk_outside::Fleet;
 use mk_session::{Heard, Polled, QueueFault};
 use std::alloc::Global;
 use std::marker::Model;
 
-// The lines of a crew; a simulator within the program has none.
+// The channels of a crew; a simulator within the program has none.
 #[derive(Drop)]
-pub struct CrewLines {
-    lines: Vec<Option<CrewLine>>,
+pub struct CrewChannels {
+    channels: Vec<Option<CrewChannel>>,
 }
 
-impl Model for CrewLines {
+impl Model for CrewChannels {
     ghost use Rattle.std.specs.Prelude.{List, Option, length, ◌<◌, ◌^◌};
-    ghost use Rattle.mk_run_laws.specs.Lines.{Line};
+    ghost use Rattle.mk_run_laws.specs.Channels.{Channel};
 
-    ghost Value = { List (Option Line) };
+    ghost Value = { List (Option Channel) };
 
-    ghost view = { λ a. a.lines.items };
+    ghost view = { λ a. a.channels.items };
 
-    ghost invariant = { λ a. length a.lines.items < 2 ^ 32 };
+    ghost invariant = { λ a. length a.channels.items < 2 ^ 32 };
 }
 
-fn is_on(line: &Option<CrewLine>, link: LinkNo) -> bool
-    ensures { result ≡ is_on link line.now }
+fn is_on(channel: &Option<CrewChannel>, link: LinkNo) -> bool
+    ensures { result ≡ is_on link channel.now }
 {
-    match line {
-        Some(line) => line.link().0 == link.0,
+    match channel {
+        Some(channel) => channel.link().0 == link.0,
         None => false,
     }
 }
 
-// Adds the link of a line, if there is one.
-fn add_link(links: &mut Vec<LinkNo>, line: &Option<CrewLine>) -> Result<(), Mem>
+// Adds the link of a channel, if there is one.
+fn add_link(links: &mut Vec<LinkNo>, channel: &Option<CrewChannel>) -> Result<(), Mem>
     ensures { OnOk result (links.new.items ≡ links.old.items
-        ++ filter_map link_of (line.now ∷ [])) }
+        ++ filter_map link_of (channel.now ∷ [])) }
 {
-    if let Some(line) = line {
-        links.push(line.link())?;
+    if let Some(channel) = channel {
+        links.push(channel.link())?;
     }
     Ok(())
 }
 
-impl CrewLines {
-    pub fn new(alloc: Global) -> CrewLines
+impl CrewChannels {
+    pub fn new(alloc: Global) -> CrewChannels
         ensures { result ≡ [] }
     {
-        CrewLines {
-            lines: Vec::new(alloc),
+        CrewChannels {
+            channels: Vec::new(alloc),
         }
     }
 
-    // Adds the line of the next simulator, or none. At want of memory nothing changes.
-    pub fn push(&mut self, line: Option<CrewLine>) -> Result<(), Mem>
+    // Adds the channel of the next simulator, or none. At want of memory nothing changes.
+    pub fn push(&mut self, channel: Option<CrewChannel>) -> Result<(), Mem>
         requires { length self.old + 1 < 2 ^ 32 }
-        ensures ok { OnOk result (self.new ≡ self.old ++ line ∷ []) }
+        ensures ok { OnOk result (self.new ≡ self.old ++ channel ∷ []) }
         ensures err { OnErr result (self.new ≡ self.old) }
     {
-        self.lines.push(line)?;
+        self.channels.push(channel)?;
         Ok(())
     }
 
@@ -76,92 +76,96 @@ impl CrewLines {
         ensures count { result ≡ length self.now }
         ensures few { length self.now < 2 ^ 32 }
     {
-        self.lines.len()
+        self.channels.len()
     }
 
-    // The link of a simulator's line.
+    // The link of a simulator's channel.
     pub fn link(&self, sim: SimNo) -> LinkNo
         requires { IsLinked sim.0 self.now }
-        ensures { (w : Line) × (at self.now sim.0 ≡ Some w) × (w.link ≡ result) }
+        ensures { (w : Channel) × (at self.now sim.0 ≡ Some w) × (w.link ≡ result) }
     {
-        match &self.lines[sim.0 as usize] {
-            Some(line) => line.link(),
+        match &self.channels[sim.0 as usize] {
+            Some(channel) => channel.link(),
             None => unreachable!(),
         }
     }
 
-    // The link of a simulator's line, if it has one.
+    // The link of a simulator's channel, if it has one.
     pub fn link_at(&self, sim: SimNo) -> Option<LinkNo>
         ensures { result ≡ link_of (at self.now sim.0) }
     {
-        match self.lines.get(sim.0 as usize) {
-            Some(Some(line)) => Some(line.link()),
+        match self.channels.get(sim.0 as usize) {
+            Some(Some(channel)) => Some(channel.link()),
             Some(None) | None => None,
         }
     }
 
-    // The next id of a simulator's line.
+    // The next id of a simulator's channel.
     pub fn next(&self, sim: SimNo) -> u64
         requires { IsLinked sim.0 self.now }
-        ensures { (w : Line) × (at self.now sim.0 ≡ Some w) × (w.next ≡ result) }
+        ensures { (w : Channel) × (at self.now sim.0 ≡ Some w) × (w.next ≡ result) }
     {
-        match &self.lines[sim.0 as usize] {
-            Some(line) => line.next(),
+        match &self.channels[sim.0 as usize] {
+            Some(channel) => channel.next(),
             None => unreachable!(),
         }
     }
 
-    // The simulator whose line is on this link.
+    // The simulator whose channel is on this link.
     pub fn sim_on(&self, link: LinkNo) -> Option<SimNo>
-        ensures some { IfSome result (λ sim. (w : Line) × (at self.now sim.0 ≡ Some w)
+        ensures some { IfSome result (λ sim. (w : Channel) × (at self.now sim.0 ≡ Some w)
             × (w.link ≡ link)) }
-        ensures none { result ≡ None → (i : ℕ) (w : Line) → at self.now i ≡ Some w → w.link ≡ link
+        ensures none { result ≡ None → (i : ℕ) (w : Channel) → at self.now i ≡ Some w
+            → w.link ≡ link
             → ⊥ }
     {
-        let i = self.lines.iter().position(|line| is_on(line, link))?;
+        let i = self
+            .channels
+            .iter()
+            .position(|channel| is_on(channel, link))?;
         Some(SimNo(i as u32))
     }
 
-    // The links of all lines, in the order of the simulators.
+    // The links of all channels, in the order of the simulators.
     pub fn links(&self, alloc: Global) -> Result<Vec<LinkNo>, Mem>
         ensures { IfOk result (λ links. links.items ≡ filter_map link_of self.now) }
     {
         let mut links = Vec::new(alloc);
-        for line in &self.lines {
-            add_link(&mut links, line)?;
+        for channel in &self.channels {
+            add_link(&mut links, channel)?;
         }
         Ok(links)
     }
 
-    // The line of a simulator is no longer parked.
+    // The channel of a simulator is no longer parked.
     pub fn wake(&mut self, sim: SimNo)
         requires { IsLinked sim.0 self.old }
-        ensures { (w : Line) × IsSet sim.0 w (unparked w) self.old self.new }
+        ensures { (w : Channel) × IsSet sim.0 w (unparked w) self.old self.new }
     {
-        match &mut self.lines[sim.0 as usize] {
-            Some(line) => line.wake(),
+        match &mut self.channels[sim.0 as usize] {
+            Some(channel) => channel.wake(),
             None => unreachable!(),
         }
     }
 
-    // Queues a payload on the line of a simulator, which isn't parked then and has this next id. After a fault nothing has
+    // Queues a payload on the channel of a simulator, which isn't parked then and has this next id. After a fault nothing has
     // changed.
     pub fn queue(&mut self, sim: SimNo, payload: &[u8], next: u64) -> Result<(), QueueFault>
         requires { IsLinked sim.0 self.old }
-        ensures ok { OnOk result ((w : Line)
+        ensures ok { OnOk result ((w : Channel)
             × IsSet sim.0 w (queued payload.now next w) self.old self.new) }
         ensures allowed { OnOk result (length payload.now ≤ limit) }
         ensures too_long { (n : ℕ) → result ≡ Err (QueueFault.TooLong n) → n ≡ length payload.now }
         ensures too_long_only { (n : ℕ) → result ≡ Err (QueueFault.TooLong n) → limit < n }
         ensures err { OnErr result (self.new ≡ self.old) }
     {
-        match &mut self.lines[sim.0 as usize] {
-            Some(line) => line.queue(payload, next),
+        match &mut self.channels[sim.0 as usize] {
+            Some(channel) => channel.queue(payload, next),
             None => unreachable!(),
         }
     }
 
-    // Polls the line of a simulator.
+    // Polls the channel of a simulator.
     pub fn poll<F: Fleet>(&mut self, sim: SimNo, fleet: &mut F) -> Polled
         requires there { IsLinked sim.0 self.old }
         requires open { IsOpenAt sim.0 self.old (F.open_links fleet.old) }
@@ -174,13 +178,13 @@ impl CrewLines {
             × Adds entries (F.log fleet.old) (F.log fleet.new)
             × PollsAt result sim.0 self.old entries self.new }
     {
-        match &mut self.lines[sim.0 as usize] {
-            Some(line) => line.poll(fleet),
+        match &mut self.channels[sim.0 as usize] {
+            Some(channel) => channel.poll(fleet),
             None => unreachable!(),
         }
     }
 
-    // Says what is unsent on the line of a simulator, and a stop; where there is no line nothing is done. It takes no memory.
+    // Says what is unsent on the channel of a simulator, and a stop; where there is no channel nothing is done. It takes no memory.
     pub fn stop<F: Fleet>(&self, sim: SimNo, fleet: &mut F)
         requires there { sim.0 < length self.now }
         requires open { IsOpenAt sim.0 self.now (F.open_links fleet.old) }
@@ -191,8 +195,8 @@ impl CrewLines {
             × Adds entries (F.log fleet.old) (F.log fleet.new)
             × StopsAt sim.0 self.now (HasRisen (F.faults fleet.old) (F.faults fleet.new)) entries }
     {
-        match &self.lines[sim.0 as usize] {
-            Some(line) => line.stop(fleet),
+        match &self.channels[sim.0 as usize] {
+            Some(channel) => channel.stop(fleet),
             None => {}
         }
     }

@@ -1,13 +1,13 @@
-// One line of a crew.
+// One channel of a crew.
 ghost use Rattle.std.specs.Prelude.{◌≡◌, ℕ, ◌≤◌, ◌<◌, List, length, Err, false, IfOk, OnOk, OnErr};
 ghost use Rattle.mk_base.specs.Lists.{IsIn};
 ghost use Rattle.mk_frame.specs.Frames.{limit};
 ghost use Rattle.mk_outside.specs.declared.fleet.LogEntry.{LogEntry};
 ghost use Rattle.mk_outside.specs.Counts.{HasRisen};
 ghost use Rattle.mk_outside.specs.Logs.{Adds};
-ghost use Rattle.mk_run_laws.specs.Lines.{queued};
-ghost use Rattle.mk_run_links.specs.inner.OneLine.{FlushesLine, PollsLine, StopsLine, is_pending};
-ghost use Rattle.mk_run_links.specs.Places.{new_line};
+ghost use Rattle.mk_run_laws.specs.Channels.{queued};
+ghost use Rattle.mk_run_links.specs.inner.OneChannel.{FlushesChannel, PollsChannel, StopsChannel, is_pending};
+ghost use Rattle.mk_run_links.specs.Places.{new_channel};
 
 use crate::stopping::stop_frame;
 use mk_base::{LinkNo, Mem};
@@ -18,16 +18,16 @@ use std::marker::Model;
 
 // A link's session, whether the link is parked, and the next id of a request on it.
 #[derive(Drop)]
-pub struct CrewLine {
+pub struct CrewChannel {
     session: Session,
     parked: bool,
     next: u64,
 }
 
-impl Model for CrewLine {
-    ghost use Rattle.mk_run_laws.specs.Lines.{Line};
+impl Model for CrewChannel {
+    ghost use Rattle.mk_run_laws.specs.Channels.{Channel};
 
-    ghost Value = { Line };
+    ghost Value = { Channel };
 
     ghost view = { λ a. record {
       link = a.session.link;
@@ -47,12 +47,12 @@ fn is_pending(polled: &Polled) -> bool
     }
 }
 
-impl CrewLine {
-    // The line of a link on which nothing was heard and nothing is to be said.
-    pub fn new(alloc: Global, link: LinkNo) -> Result<CrewLine, Mem>
-        ensures { IfOk result (λ line. line ≡ new_line link) }
+impl CrewChannel {
+    // The channel of a link on which nothing was heard and nothing is to be said.
+    pub fn new(alloc: Global, link: LinkNo) -> Result<CrewChannel, Mem>
+        ensures { IfOk result (λ channel. channel ≡ new_channel link) }
     {
-        Ok(CrewLine {
+        Ok(CrewChannel {
             session: Session::new(alloc, link)?,
             parked: false,
             next: 0,
@@ -108,7 +108,7 @@ impl CrewLine {
         ensures same_links { F.open_links fleet.new ≡ F.open_links fleet.old }
         ensures polled { (entries : List LogEntry)
             × Adds entries (F.log fleet.old) (F.log fleet.new)
-            × PollsLine result self.old entries self.new }
+            × PollsChannel result self.old entries self.new }
     {
         let polled = self.session.poll(fleet);
         self.parked = is_pending(&polled);
@@ -123,7 +123,7 @@ impl CrewLine {
         ensures same_links { F.open_links fleet.new ≡ F.open_links fleet.old }
         ensures flushed { (entries : List LogEntry)
             × Adds entries (F.log fleet.old) (F.log fleet.new)
-            × FlushesLine self.now last.now
+            × FlushesChannel self.now last.now
             (HasRisen (F.faults fleet.old) (F.faults fleet.new)) entries }
     {
         self.session.flush(fleet, last);
@@ -137,7 +137,7 @@ impl CrewLine {
         ensures same_links { F.open_links fleet.new ≡ F.open_links fleet.old }
         ensures stopped { (entries : List LogEntry)
             × Adds entries (F.log fleet.old) (F.log fleet.new)
-            × StopsLine self.now (HasRisen (F.faults fleet.old) (F.faults fleet.new)) entries }
+            × StopsChannel self.now (HasRisen (F.faults fleet.old) (F.faults fleet.new)) entries }
     {
         let frame = stop_frame(self.next);
         self.flush(fleet, frame.as_slice());

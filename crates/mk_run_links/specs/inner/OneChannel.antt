@@ -1,4 +1,4 @@
--- What came of a call on one line. For proofs alone.
+-- What came of a call on one channel. For proofs alone.
 use Rattle.std.specs.Prelude.{◌≡◌, ℕ, ◌⊎◌, Bool, true, false, List, [], ◌∷◌, ◌++◌, Some, Option, None, option_map, ⊤}
 use Rattle.mk_base.specs.declared.LinkNo.{LinkNo}
 use Rattle.mk_base.specs.Lists.{Each, BeginsWith}
@@ -6,13 +6,13 @@ use Rattle.mk_base.specs.Links.{same_link}
 use Rattle.mk_plan.specs.declared.Message.{Message}
 use Rattle.mk_outside.specs.declared.fleet.LogEntry.{LogEntry}
 use Rattle.mk_outside.specs.declared.fleet.LogEntry.TheVariants.{NotSaid}
-use Rattle.mk_outside.specs.Logs.{IsOf, heard_on, said_on, last_write}
+use Rattle.mk_outside.specs.Logs.{IsOnLink, heard_on, said_on, last_write}
 use Rattle.mk_session.specs.declared.answers.Heard.{Heard}
 use Rattle.mk_session.specs.declared.answers.Heard.TheVariants as heard
 use Rattle.mk_session.specs.declared.answers.Polled.{Polled}
 use Rattle.mk_session.specs.declared.answers.Polled.TheVariants as polled
-use Rattle.mk_run_laws.specs.Lines.{Line, IsMoved, IsStopped}
-use Rattle.mk_run_links.specs.Places.{Lines, IsSet, at}
+use Rattle.mk_run_laws.specs.Channels.{Channel, IsMoved, IsStopped}
+use Rattle.mk_run_links.specs.Places.{Channels, IsSet, at}
 use Rattle.mk_run_links.specs.Halts.{ShowsHeard}
 
 -- the message that was heard
@@ -35,44 +35,44 @@ is_pending (polled.Ready h) = false
 is_pending polled.Pending = true
 
 -- why a poll gave no message
-abbrev pub Shows : Polled → List LogEntry → Line → Type 0
+abbrev pub Shows : Polled → List LogEntry → Channel → Type 0
 Shows (polled.Ready h) entries w = ShowsHeard h entries w
 Shows polled.Pending entries w = ⊤
 
--- by these entries, which are of the line's link alone, a poll moved the line
-pub record PollsLine (answer : Polled) (old : Line) (entries : List LogEntry)
-    (new : Line) : Type 0 where
-  pub on_link : Each (IsOf old.link) entries
+-- by these entries, which are of the channel's link alone, a poll moved the channel
+pub record PollsChannel (answer : Polled) (old : Channel) (entries : List LogEntry)
+    (new : Channel) : Type 0 where
+  pub on_link : Each (IsOnLink old.link) entries
   pub moved : IsMoved entries (given_in answer) old new
   pub parked : new.parked ≡ is_pending answer
   pub shown : Shows answer entries new
 
--- by these entries, which are of the line's link alone, what is unsent and then these bytes were
+-- by these entries, which are of the channel's link alone, what is unsent and then these bytes were
 -- said: a beginning of them, and all but where a write took nothing or the count of faults rose
-pub record FlushesLine (w : Line) (last : List ℕ) (risen : Type 0)
+pub record FlushesChannel (w : Channel) (last : List ℕ) (risen : Type 0)
     (entries : List LogEntry) : Type 0 where
-  pub on_link : Each (IsOf w.link) entries
+  pub on_link : Each (IsOnLink w.link) entries
   pub unheard : heard_on w.link entries ≡ []
   pub said : BeginsWith (w.unsent ++ last) (said_on w.link entries)
   pub whole : (said_on w.link entries ≡ w.unsent ++ last)
       ⊎ ((last_write w.link entries ≡ Some (NotSaid w.link)) ⊎ risen)
 
--- by these entries, which are of the line's link alone, the line was stopped
-pub record StopsLine (w : Line) (risen : Type 0) (entries : List LogEntry) : Type 0 where
-  pub on_link : Each (IsOf w.link) entries
+-- by these entries, which are of the channel's link alone, the channel was stopped
+pub record StopsChannel (w : Channel) (risen : Type 0) (entries : List LogEntry) : Type 0 where
+  pub on_link : Each (IsOnLink w.link) entries
   pub stopped : IsStopped entries risen w
 
--- the line is on this link
-abbrev pub is_on : LinkNo → Option Line → Bool
+-- the channel is on this link
+abbrev pub is_on : LinkNo → Option Channel → Bool
 is_on link None = false
 is_on link (Some w) = same_link w.link link
 
--- the link of a line, if there is one
-abbrev pub link_of : Option Line → Option LinkNo
-link_of o = option_map (λ (w : Line). w.link) o
+-- the link of a channel, if there is one
+abbrev pub link_of : Option Channel → Option LinkNo
+link_of o = option_map (λ (w : Channel). w.link) o
 
--- the line, not parked
-abbrev pub unparked : Line → Line
+-- the channel, not parked
+abbrev pub unparked : Channel → Channel
 unparked w = record {
   link = w.link;
   held = w.held;
@@ -81,15 +81,16 @@ unparked w = record {
   next = w.next;
 }
 
--- the line of simulator s was polled with this answer, and all others stand
-pub record PollsAt (answer : Polled) (s : ℕ) (old : Lines) (entries : List LogEntry)
-    (new : Lines) : Type 0 where
-  pub line : Line
-  pub after : Line
-  pub set : IsSet s line after old new
-  pub polled : PollsLine answer line entries after
+-- the channel of simulator s was polled with this answer, and all others stand
+pub record PollsAt (answer : Polled) (s : ℕ) (old : Channels) (entries : List LogEntry)
+    (new : Channels) : Type 0 where
+  pub channel : Channel
+  pub after : Channel
+  pub set : IsSet s channel after old new
+  pub polled : PollsChannel answer channel entries after
 
--- by these entries the line of simulator s, if there is one, was stopped
-pub record StopsAt (s : ℕ) (lines : Lines) (risen : Type 0) (entries : List LogEntry) : Type 0 where
-  pub some : (w : Line) → at lines s ≡ Some w → StopsLine w risen entries
-  pub none : at lines s ≡ None → entries ≡ []
+-- by these entries the channel of simulator s, if there is one, was stopped
+pub record StopsAt (s : ℕ) (channels : Channels) (risen : Type 0)
+    (entries : List LogEntry) : Type 0 where
+  pub some : (w : Channel) → at channels s ≡ Some w → StopsChannel w risen entries
+  pub none : at channels s ≡ None → entries ≡ []
