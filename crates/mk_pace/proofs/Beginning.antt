@@ -16,9 +16,9 @@ use Rattle.mk_sched.specs.Cores.{CoreState}
 use Rattle.mk_run_laws.specs.Crews.{kept_of}
 use Rattle.mk_run_laws.specs.Handshake.{is_within, sim_link}
 use Rattle.mk_run_laws.specs.Hearing.{messages_heard}
-use Rattle.mk_run_laws.specs.Lines.{Line}
+use Rattle.mk_run_laws.specs.Channels.{Channel}
 use Rattle.mk_run_laws.specs.Rests.{AllSetUp, IsWellInSetup}
-use Rattle.mk_run_laws.specs.inner.Running.{HasLine}
+use Rattle.mk_run_laws.specs.inner.Running.{HasChannel}
 use Rattle.mk_run_laws.proofs.Stepping.{first_or_second, not_empty}
 use Rattle.mk_run_laws.proofs.Taking.{taken_heard}
 use Rattle.mk_run_links.specs.Entries.{IsClockless, IsRunLink}
@@ -37,7 +37,7 @@ use Rattle.mk_pace_loop.specs.inner.Pacing.{BeginsWithStep, IsPacing, held_at, r
 use Rattle.mk_pace_loop.specs.inner.Turns.{IsStopping}
 use Rattle.mk_pace_loop.specs.inner.Waiting.{WaitingSeen}
 use Rattle.mk_pace_loop.proofs.Passing.{no_naps}
-use Rattle.mk_pace_loop.proofs.Queueing.{has_line_moved, told_moved}
+use Rattle.mk_pace_loop.proofs.Queueing.{has_channel_moved, told_moved}
 use Rattle.mk_pace.specs.inner.Going.{IsStarted}
 use Rattle.mk_pace.proofs.Whole.{untold_entry}
 
@@ -79,7 +79,7 @@ module _ (A : Start) (C : CrewSeen) (P : Plan) (s : IsStarted A C P) where
   -- all messages of the handshake were heard
   set_up : AllSetUp A.started A.scenario A.log
   set_up i l linked =
-      let t = s.begun.begun.lines i l linked in
+      let t = s.begun.begun.channels i l linked in
       let heard : messages_heard (heard_on l A.log) ≡ s.begun.replies i ++ messages_heard t.0.held = ap (λ (k : LinkNo). messages_heard (heard_on k A.log)) (sym t.2) ∙ taken_heard (heard_on t.0.link A.log) (s.begun.replies i) t.0.held t.3.heard in
       let size : length (messages_heard (heard_on l A.log)) ≡ length (s.begun.replies i) + length (messages_heard t.0.held) = ap length heard ∙ length-append (s.begun.replies i) (messages_heard t.0.held) in
       let count = s.begun.counts i l linked in
@@ -88,15 +88,15 @@ module _ (A : Start) (C : CrewSeen) (P : Plan) (s : IsStarted A C P) where
   awake : IsAwake A.log
   awake before after is = no_naps A.log before after s.clockless is
 
-  pub links_at : (open_links : List LinkNo) → AreOpen C.lines open_links → AreLinksOpen setting_at open_links
+  pub links_at : (open_links : List LinkNo) → AreOpen C.channels open_links → AreLinksOpen setting_at open_links
   links_at open_links all = links_open A.started A.scenario A.ranks A.rows A.log C P s.begun open_links all
 
   module _ (origin factor : ℕ) (strict : Option ℕ) where
     told_once : List LogEntry
     told_once = A.log ++ Told origin ∷ []
 
-    lines_told : (i : ℕ) (l : LinkNo) → sim_link A.started A.scenario i ≡ Some l → HasLine A.scenario s.begun.replies (A.log ++ Told origin ∷ []) i l [] [] (crew_of C)
-    lines_told i l linked = has_line_moved A.scenario s.begun.replies A.log (Told origin ∷ []) i l [] [] [] (crew_of C) (crew_of C) (underway.running.lines i l linked) (told_moved origin (crew_of C) i)
+    channels_told : (i : ℕ) (l : LinkNo) → sim_link A.started A.scenario i ≡ Some l → HasChannel A.scenario s.begun.replies (A.log ++ Told origin ∷ []) i l [] [] (crew_of C)
+    channels_told i l linked = has_channel_moved A.scenario s.begun.replies A.log (Told origin ∷ []) i l [] [] [] (crew_of C) (crew_of C) (underway.running.channels i l linked) (told_moved origin (crew_of C) i)
 
     rests_told : (before after : List LogEntry) → A.log ++ Told origin ∷ [] ≡ before ++ Rest ∷ after → IsWellInSetup A.started A.scenario before × (AllSetUp A.started A.scenario before → ⊥)
     rests_told before after is = elim (first_or_second A.log (Told origin ∷ []) before after Rest is) [
@@ -125,8 +125,8 @@ module _ (A : Start) (C : CrewSeen) (P : Plan) (s : IsStarted A C P) where
       holding = λ i low. record { held = []; there = nothing_held (sim_count P) i low; waiting = []; items = refl; are = tt };
       steps = λ i h all there. subst BeginsWithStep (sym (held_none (sim_count P) i h there)) tt;
       fit = λ i low within. tt;
-      lines = lines_told;
-      no_line = underway.running.no_line;
+      channels = channels_told;
+      no_channel = underway.running.no_channel;
       no_other = underway.no_other;
       kept = λ i. underway.running.kept i ∙ ap (replies_kept setting_at P [] i) (sym (held_nowhere (sim_count P) i));
       kinds = underway.running.kinds;
@@ -152,8 +152,8 @@ module _ (A : Start) (C : CrewSeen) (P : Plan) (s : IsStarted A C P) where
     }
 
 -- the links of a crew that is to be stopped are open still
-pub stopping_open : (risen : Type 0) (S : Setting) (core : CoreState) (log : List LogEntry) (C : CrewSeen) (W : WaitingSeen) (end : PaceEnd) (open_links : List LinkNo) → IsStopping risen S core log C W end → AreLinksOpen S open_links → AreOpen C.lines open_links
+pub stopping_open : (risen : Type 0) (S : Setting) (core : CoreState) (log : List LogEntry) (C : CrewSeen) (W : WaitingSeen) (end : PaceEnd) (open_links : List LinkNo) → IsStopping risen S core log C W end → AreLinksOpen S open_links → AreOpen C.channels open_links
 stopping_open risen S core log C W end open_links u links i w there =
     let t = u.no_other i w there in
-    let g = (u.lines i t.0 t.1).line in
-    subst (λ (l : LinkNo). IsIn l open_links) (sym (ap (λ (v : Line). v.link) (some_same (sym there ∙ g.there)) ∙ g.link)) (links i t.0 t.1)
+    let g = (u.channels i t.0 t.1).channel in
+    subst (λ (l : LinkNo). IsIn l open_links) (sym (ap (λ (v : Channel). v.link) (some_same (sym there ∙ g.there)) ∙ g.link)) (links i t.0 t.1)

@@ -15,7 +15,7 @@ use Rattle.mk_run_laws.specs.Handshake.{setup_requests}
 use Rattle.mk_run_laws.proofs.Clauses.{handshake_says}
 use Rattle.mk_run_laws.proofs.Stepping.{first_or_second}
 use Rattle.mk_run_links.specs.Entries.{AreOn, AreOnOrOfClock, IsClockless, IsRunLink}
-use Rattle.mk_run_links.specs.Places.{IsLineLink}
+use Rattle.mk_run_links.specs.Places.{IsChannelLink}
 use Rattle.mk_run_links.proofs.OnEntries.{on_no_clock, on_or_clock, on_run_or_clock, or_clock_more}
 use Rattle.mk_run_crew.specs.declared.halt.Halt.{Halt}
 use Rattle.mk_run_crew.specs.declared.halt.Halt.TheVariants as halt
@@ -71,14 +71,14 @@ awake_on log entries one two before after is = elim (first_or_second log entries
 -- ---- the crew of a whole handshake is stopped
 
 halted : (A : Start) (C : CrewSeen) (P : Plan) (s : IsStarted A C P) (entries : List LogEntry) (some risen : Type 0) (h : Halt) → (some → risen) → ShowsCause A.started A.scenario A.ranks A.rows (A.log ++ entries) risen (setup_requests A.scenario) [] h
-    → AreStopped entries some (crew_of C) → IsRestless entries → AreOnOrOfClock (IsLineLink C.lines) entries → HasHalted A.started A.scenario A.ranks A.rows (A.log ++ entries) risen h
-halted A C P s entries some risen h on cause stopped restless of_lines = record {
+    → AreStopped entries some (crew_of C) → IsRestless entries → AreOnOrOfClock (IsChannelLink C.channels) entries → HasHalted A.started A.scenario A.ranks A.rows (A.log ++ entries) risen h
+halted A C P s entries some risen h on cause stopped restless of_channels = record {
   queued = setup_requests A.scenario;
   later = [];
   parts = sym (append_nil (setup_requests A.scenario));
-  says = λ reply i l linked. let t = s.begun.begun.lines i l linked in
+  says = λ reply i l linked. let t = s.begun.begun.channels i l linked in
       handshake_says A.started A.scenario reply A.log entries some i l (setup_requests A.scenario) [] (sym (append_nil (setup_requests A.scenario))) (s.begun.replies i) t.0 t.2 t.3 (stopped i t.0 t.1);
-  whole = λ apart i l linked. let t = s.begun.begun.lines i l linked in
+  whole = λ apart i l linked. let t = s.begun.begun.channels i l linked in
       all_said A.scenario A.log entries some risen i l (setup_requests A.scenario) [] (sym (append_nil (setup_requests A.scenario))) (s.begun.replies i) t.0 t.2 t.3 (stopped i t.0 t.1) on;
   rests = λ before after is. elim (first_or_second A.log entries before after Rest is) [
     | inl t ↦ (s.begun.rests before t.0 t.1, s.begun.begun.setting_up before t.0 t.1)
@@ -86,38 +86,38 @@ halted A C P s entries some risen h on cause stopped restless of_lines = record 
   ];
   cause = cause;
   on_links = or_clock_more (IsRunLink A.started A.scenario) A.log entries (on_or_clock (IsRunLink A.started A.scenario) A.log s.begun.on_links)
-      (on_run_or_clock A.started A.scenario C.lines entries (λ i l linked. let t = s.begun.begun.lines i l linked in (t.0, t.1, t.2)) s.begun.back of_lines);
+      (on_run_or_clock A.started A.scenario C.channels entries (λ i l linked. let t = s.begun.begun.channels i l linked in (t.0, t.1, t.2)) s.begun.back of_channels);
 }
 
 not_paced : (A : Start) (C : CrewSeen) (P : Plan) (s : IsStarted A C P) (entries : List LogEntry) (some risen : Type 0) (h : Halt) → (some → risen) → ShowsCause A.started A.scenario A.ranks A.rows (A.log ++ entries) risen (setup_requests A.scenario) [] h
-    → AreStopped entries some (crew_of C) → IsRestless entries → AreOnOrOfClock (IsLineLink C.lines) entries → IsAwake entries → HasNotPaced A.started A.scenario A.ranks A.rows (A.log ++ entries) risen (pace.Outcome (outcome_of h))
-not_paced A C P s entries some risen h on cause stopped restless of_lines awake = record {
+    → AreStopped entries some (crew_of C) → IsRestless entries → AreOnOrOfClock (IsChannelLink C.channels) entries → IsAwake entries → HasNotPaced A.started A.scenario A.ranks A.rows (A.log ++ entries) risen (pace.Outcome (outcome_of h))
+not_paced A C P s entries some risen h on cause stopped restless of_channels awake = record {
   outcome = outcome_of h;
   is = refl;
-  run = record { halt = h; is = refl; halted = halted A C P s entries some risen h on cause stopped restless of_lines };
+  run = record { halt = h; is = refl; halted = halted A C P s entries some risen h on cause stopped restless of_channels };
   awake = awake_on A.log entries (λ before after is. no_naps A.log before after s.clockless is) awake;
 }
 
 -- the stop takes no nap
-awake_of : (C : CrewSeen) (entries : List LogEntry) → AreOn (IsLineLink C.lines) entries → IsAwake entries
-awake_of C entries of_lines before after parts = no_naps entries before after (on_no_clock (IsLineLink C.lines) entries of_lines) parts
+awake_of : (C : CrewSeen) (entries : List LogEntry) → AreOn (IsChannelLink C.channels) entries → IsAwake entries
+awake_of C entries of_channels before after parts = no_naps entries before after (on_no_clock (IsChannelLink C.channels) entries of_channels) parts
 
 -- the clock failed: the count had risen before the stop
-pub clock_failed : (P : Plan) (C : CrewSeen) (factor : ℕ) (strict : Option ℕ) (entries : List LogEntry) (faults new_faults : ℕ) (some : Type 0) (ran : PaceRan) → HasRisen faults new_faults → AreStopped entries some (crew_of C) → IsRestless entries → AreOn (IsLineLink C.lines) entries → ran ≡ nothing_left outcome.Fleet
+pub clock_failed : (P : Plan) (C : CrewSeen) (factor : ℕ) (strict : Option ℕ) (entries : List LogEntry) (faults new_faults : ℕ) (some : Type 0) (ran : PaceRan) → HasRisen faults new_faults → AreStopped entries some (crew_of C) → IsRestless entries → AreOn (IsChannelLink C.channels) entries → ran ≡ nothing_left outcome.Fleet
     → PlanPacesAs P C factor strict entries faults new_faults ran.plan ran.journal ran.moments ran.end
-clock_failed P C factor strict entries faults new_faults some ran risen stopped restless of_lines is =
+clock_failed P C factor strict entries faults new_faults some ran risen stopped restless of_channels is =
     subst (λ (r : PaceRan). PlanPacesAs P C factor strict entries faults new_faults r.plan r.journal r.moments r.end) (sym is)
     (λ A before low s.
     let all : HasRisen before new_faults = risen_on before faults new_faults low risen in
-    (not_paced A C P s entries some (HasRisen before new_faults) halt.Fleet (λ more. all) all stopped restless (on_or_clock (IsLineLink C.lines) entries of_lines) (awake_of C entries of_lines), refl))
+    (not_paced A C P s entries some (HasRisen before new_faults) halt.Fleet (λ more. all) all stopped restless (on_or_clock (IsChannelLink C.channels) entries of_channels) (awake_of C entries of_channels), refl))
 
 -- there was no memory for the run, when the clock had told its origin
-pub no_memory : (P : Plan) (C : CrewSeen) (origin factor : ℕ) (strict : Option ℕ) (entries : List LogEntry) (faults new_faults : ℕ) (ran : PaceRan) → AreStopped entries (HasRisen faults new_faults) (crew_of C) → IsRestless entries → AreOn (IsLineLink C.lines) entries → ran ≡ nothing_left outcome.Mem
+pub no_memory : (P : Plan) (C : CrewSeen) (origin factor : ℕ) (strict : Option ℕ) (entries : List LogEntry) (faults new_faults : ℕ) (ran : PaceRan) → AreStopped entries (HasRisen faults new_faults) (crew_of C) → IsRestless entries → AreOn (IsChannelLink C.channels) entries → ran ≡ nothing_left outcome.Mem
     → PlanPacesAs P C factor strict (Told origin ∷ entries) faults new_faults ran.plan ran.journal ran.moments ran.end
-no_memory P C origin factor strict entries faults new_faults ran stopped restless of_lines is =
+no_memory P C origin factor strict entries faults new_faults ran stopped restless of_channels is =
     subst (λ (r : PaceRan). PlanPacesAs P C factor strict (Told origin ∷ entries) faults new_faults r.plan r.journal r.moments r.end) (sym is) (λ A before low s. (
       not_paced A C P s (Told origin ∷ entries) (HasRisen faults new_faults) (HasRisen before new_faults) halt.Mem (risen_on before faults new_faults low) tt (told_stopped origin entries (HasRisen faults new_faults) (crew_of C) stopped) (told_restless origin entries restless)
-          (tt, on_or_clock (IsLineLink C.lines) entries of_lines) (told_awake origin entries (awake_of C entries of_lines)),
+          (tt, on_or_clock (IsChannelLink C.channels) entries of_channels) (told_awake origin entries (awake_of C entries of_channels)),
       refl,
     ))
 

@@ -21,13 +21,13 @@ use Rattle.mk_run_laws.specs.Runs.{IsLinkOfRun}
 use Rattle.mk_run_laws.proofs.Ending.{link_ended}
 use Rattle.mk_run_laws.proofs.Stepping.{first_or_second}
 use Rattle.mk_run_links.specs.Entries.{AreOn, IsClockless, IsNotOfClock, IsRunLink}
-use Rattle.mk_run_links.specs.Places.{IsLineLink}
+use Rattle.mk_run_links.specs.Places.{IsChannelLink}
 use Rattle.mk_run_links.proofs.OnEntries.{on_no_clock, on_or_clock, on_run, or_clock_more}
 use Rattle.mk_run.specs.declared.outcome.Outcome.{Outcome}
 use Rattle.mk_run.specs.declared.outcome.Outcome.TheVariants as outcome
 use Rattle.mk_run.specs.Ends.{IsUngot}
 use Rattle.mk_run.specs.inner.Underway.{Setting, reply_in}
-use Rattle.mk_run.proofs.LinesStopped.{all_heard, behind_ungot, full_still, heard_behind, held_heard, stopped_by}
+use Rattle.mk_run.proofs.ChannelsStopped.{all_heard, behind_ungot, full_still, heard_behind, held_heard, stopped_by}
 use Rattle.mk_pace_laws.specs.declared.end.Moment.{Moment}
 use Rattle.mk_pace_laws.specs.declared.end.PaceEnd.{PaceEnd}
 use Rattle.mk_pace_laws.specs.declared.end.PaceEnd.TheVariants as pace
@@ -38,7 +38,7 @@ use Rattle.mk_pace_laws.specs.Naps.{AreAllLinked, AreNaps, NapsLook}
 use Rattle.mk_pace_laws.specs.Paced.{IsPaced, IsPacedLink}
 use Rattle.mk_pace_laws.proofs.Napping.{naps_well}
 use Rattle.mk_pace_laws.proofs.Timely.{timely_more}
-use Rattle.mk_pace_loop.specs.inner.PacedOut.{EndsOutcome, EndsPace, HasGivenPaced, HasPacedOut, IsAheadPaced, IsLastPacedLine}
+use Rattle.mk_pace_loop.specs.inner.PacedOut.{EndsOutcome, EndsPace, HasGivenPaced, HasPacedOut, IsAheadPaced, IsLastPacedChannel}
 use Rattle.mk_pace_loop.proofs.Passing.{moments_later, no_naps, origin_later}
 
 -- ---- entries of no clock
@@ -64,27 +64,27 @@ told_still log entries all =
     ap (λ (o : Option LogEntry). unwrap_or (option_map told_by o) 0) (last-append is_told log entries ∙ ap (later_of (last_that is_told log)) (none_looked entries all))
 
 module _ (S : Setting) (T : Tempo) (strict : Option ℕ) (P : Plan) (J : List Entry) (moments : List Moment) (log entries : List LogEntry) (C : CrewState) (end : PaceEnd) (faults new_faults : ℕ) (by_run by_stop : Type 0)
-    (risen : by_run → HasRisen faults new_faults) (rises : by_stop → HasRisen faults new_faults) (out : HasPacedOut by_run S T strict P J moments log C end) (stop : AreStopped entries by_stop C) (restless : IsRestless entries) (of_lines : AreOn (IsLineLink C.lines) entries) where
+    (risen : by_run → HasRisen faults new_faults) (rises : by_stop → HasRisen faults new_faults) (out : HasPacedOut by_run S T strict P J moments log C end) (stop : AreStopped entries by_stop C) (restless : IsRestless entries) (of_channels : AreOn (IsChannelLink C.channels) entries) where
   clockless : IsClockless entries
-  clockless = on_no_clock (IsLineLink C.lines) entries of_lines
+  clockless = on_no_clock (IsChannelLink C.channels) entries of_channels
 
   stopped : AreStopped entries (HasRisen faults new_faults) C
   stopped = stopped_by entries by_stop (HasRisen faults new_faults) C rises stop
 
-  linked_so : (i : ℕ) (l : LinkNo) (linked : sim_link S.started S.scenario i ≡ Some l) (t : IsLastPacedLine S T J moments log C end i l) → IsLinkOfRun S.scenario S.replies J (log ++ entries) (HasRisen faults new_faults) i l t.items
-  linked_so i l linked t = link_ended S.started S.scenario S.replies out.suits.counts J log entries (HasRisen faults new_faults) C stopped i l linked t.messages t.items t.line t.given t.queued
+  linked_so : (i : ℕ) (l : LinkNo) (linked : sim_link S.started S.scenario i ≡ Some l) (t : IsLastPacedChannel S T J moments log C end i l) → IsLinkOfRun S.scenario S.replies J (log ++ entries) (HasRisen faults new_faults) i l t.items
+  linked_so i l linked t = link_ended S.started S.scenario S.replies out.suits.counts J log entries (HasRisen faults new_faults) C stopped i l linked t.messages t.items t.channel t.given t.queued
 
-  -- all messages of a line that holds no further one were got, and behind them is what is held
+  -- all messages of a channel that holds no further one were got, and behind them is what is held
   all_got : (i : ℕ) (l : LinkNo) (g : HasGivenPaced S J log C i l) → got J i ≡ run_messages S.scenario (log ++ entries) i l
-  all_got i l g = all_heard S.started S.scenario S.replies out.suits.counts log entries (HasRisen faults new_faults) C stopped i l g.linked (got J i) g.items g.line g.none_held
+  all_got i l g = all_heard S.started S.scenario S.replies out.suits.counts log entries (HasRisen faults new_faults) C stopped i l g.linked (got J i) g.items g.channel g.none_held
 
-  held_so : (i : ℕ) (l : LinkNo) (g : HasGivenPaced S J log C i l) → g.line.line.held ≡ rest_heard (heard_on l (log ++ entries))
-  held_so i l g = held_heard S.started S.scenario S.replies out.suits.counts log entries (HasRisen faults new_faults) C stopped i l g.linked (got J i) g.items g.line g.none_held
+  held_so : (i : ℕ) (l : LinkNo) (g : HasGivenPaced S J log C i l) → g.channel.channel.held ≡ rest_heard (heard_on l (log ++ entries))
+  held_so i l g = held_heard S.started S.scenario S.replies out.suits.counts log entries (HasRisen faults new_faults) C stopped i l g.linked (got J i) g.items g.channel g.none_held
 
-  -- a message that a line gave behind those that the journal got was heard, and isn't got
+  -- a message that a channel gave behind those that the journal got was heard, and isn't got
   ungot : IsAheadPaced S J log C → IsUngot S.started S.scenario J (log ++ entries)
   ungot a = behind_ungot S.started S.scenario J (log ++ entries) a.sim a.message a.link a.linked
-      (heard_behind S.started S.scenario S.replies out.suits.counts log entries (HasRisen faults new_faults) C stopped J a.sim a.message a.link a.linked a.items a.line a.queued)
+      (heard_behind S.started S.scenario S.replies out.suits.counts log entries (HasRisen faults new_faults) C stopped J a.sim a.message a.link a.linked a.items a.channel a.queued)
 
   outcome_shown : (e : Outcome) → EndsOutcome by_run S P J log C e → ShowsOutcome S.started S.scenario P J (log ++ entries) faults new_faults e
   outcome_shown outcome.Done is = is
@@ -115,7 +115,7 @@ module _ (S : Setting) (T : Tempo) (strict : Option ℕ) (P : Plan) (J : List En
 
   link_is : (i : ℕ) (l : LinkNo) → sim_link S.started S.scenario i ≡ Some l → IsPacedLink S.started S.scenario S.replies T J moments (log ++ entries) (HasRisen faults new_faults) end i l
   link_is i l linked =
-      let t = out.lines i l linked in
+      let t = out.channels i l linked in
       record {
         items = t.items;
         run = linked_so i l linked t;
@@ -145,7 +145,7 @@ module _ (S : Setting) (T : Tempo) (strict : Option ℕ) (P : Plan) (J : List En
   whole = record {
     replies = S.replies;
     valid = out.stands.valid;
-    journal = record { sims = out.suits.sims; orderly = out.stands.orderly.0; kinds = out.kinds; links = λ i l linked. (linked_so i l linked (out.lines i l linked)).got };
+    journal = record { sims = out.suits.sims; orderly = out.stands.orderly.0; kinds = out.kinds; links = λ i l linked. (linked_so i l linked (out.channels i l linked)).got };
     eager = (out.stands.orderly, out.patient);
     within = out.stands.within;
     in_range = out.in_range;
@@ -160,7 +160,7 @@ module _ (S : Setting) (T : Tempo) (strict : Option ℕ) (P : Plan) (J : List En
     fault = out.fault;
     unfinished = out.unfinished;
     on_links = or_clock_more (IsRunLink S.started S.scenario) log entries out.on_links
-        (on_or_clock (IsRunLink S.started S.scenario) entries (on_run S.started S.scenario C.lines entries (λ i l linked. let h = (out.lines i l linked).line in (h.line, h.there, h.link)) out.no_other of_lines));
+        (on_or_clock (IsRunLink S.started S.scenario) entries (on_run S.started S.scenario C.channels entries (λ i l linked. let h = (out.channels i l linked).channel in (h.channel, h.there, h.link)) out.no_other of_channels));
   }
 
   pub whole_replies : whole.replies ≡ S.replies

@@ -13,7 +13,7 @@ use Rattle.mk_sched.specs.Cores.{CoreState}
 use Rattle.mk_run_laws.specs.Crews.{AreStopped, IsRestless}
 use Rattle.mk_run_laws.specs.Running.{SetupReplies}
 use Rattle.mk_run_links.specs.Entries.{AreOn}
-use Rattle.mk_run_links.specs.Places.{AreOpen, IsLineLink}
+use Rattle.mk_run_links.specs.Places.{AreOpen, IsChannelLink}
 use Rattle.mk_run_crew.specs.Seen.{CrewSeen, crew_of}
 use Rattle.mk_run.specs.inner.Handshakes.{Start}
 use Rattle.mk_run.specs.inner.Underway.{Setting, reply_in}
@@ -33,9 +33,9 @@ use Rattle.mk_pace.proofs.Whole.{whole, whole_replies}
 
 -- a paced run from its first turn to its stop
 pub paced_whole : (core new : CoreState) (C D : CrewSeen) (W V : WaitingSeen) (entries stops : List LogEntry) (f0 f1 f2 : ℕ) (end : PaceEnd) → f0 ≤ f1 → f1 ≤ f2 → TurnsAs (Err end) entries (HasRisen f0 f1) core C W new D V → IsOnTempo W V
-    → AreStopped stops (HasRisen f1 f2) (crew_of D) → IsRestless stops → AreOn (IsLineLink D.lines) stops → (S : Setting) (log : List LogEntry) (before : ℕ) → before ≤ f0 → GoesOn S core log C W
+    → AreStopped stops (HasRisen f1 f2) (crew_of D) → IsRestless stops → AreOn (IsChannelLink D.channels) stops → (S : Setting) (log : List LogEntry) (before : ℕ) → before ≤ f0 → GoesOn S core log C W
     → (new.plan ≡ core.plan) × (r : IsPaced S.started S.scenario (reply_in S) new.plan new.entries W.tempo W.strict V.moments (log ++ (entries ++ stops)) before f2 end) × (r.replies ≡ S.replies)
-paced_whole core new C D W V entries stops f0 f1 f2 end up later ended same stopped restless of_lines S log before low u =
+paced_whole core new C D W V entries stops f0 f1 f2 end up later ended same stopped restless of_channels S log before low u =
     let over : HasPacedOut (HasRisen f0 f1) S V.tempo V.strict new.plan new.entries V.moments (log ++ entries) (crew_of D) end = ended S log u in
     let on_tempo : HasPacedOut (HasRisen f0 f1) S W.tempo V.strict new.plan new.entries V.moments (log ++ entries) (crew_of D) end =
     subst (λ (T : Tempo). HasPacedOut (HasRisen f0 f1) S T V.strict new.plan new.entries V.moments (log ++ entries) (crew_of D) end) same.tempo over in
@@ -43,10 +43,10 @@ paced_whole core new C D W V entries stops f0 f1 f2 end up later ended same stop
     subst (λ (o : Option ℕ). HasPacedOut (HasRisen f0 f1) S W.tempo o new.plan new.entries V.moments (log ++ entries) (crew_of D) end) same.strict on_tempo in
     let by_run = λ (r : HasRisen f0 f1). risen_on before f0 f2 low (risen_later f0 f1 f2 later r) in
     let by_stop = λ (r : HasRisen f1 f2). risen_on before f1 f2 (omega (arith, low, up)) r in
-    let made = whole S W.tempo W.strict new.plan new.entries V.moments (log ++ entries) stops (crew_of D) end before f2 (HasRisen f0 f1) (HasRisen f1 f2) by_run by_stop stopping stopped restless of_lines in
+    let made = whole S W.tempo W.strict new.plan new.entries V.moments (log ++ entries) stops (crew_of D) end before f2 (HasRisen f0 f1) (HasRisen f1 f2) by_run by_stop stopping stopped restless of_channels in
     let moved = subst (λ (l : List LogEntry). (r : IsPaced S.started S.scenario (reply_in S) new.plan new.entries W.tempo W.strict V.moments l before f2 end) × (r.replies ≡ S.replies)) (append_assoc log entries stops) (
       made,
-      whole_replies S W.tempo W.strict new.plan new.entries V.moments (log ++ entries) stops (crew_of D) end before f2 (HasRisen f0 f1) (HasRisen f1 f2) by_run by_stop stopping stopped restless of_lines,
+      whole_replies S W.tempo W.strict new.plan new.entries V.moments (log ++ entries) stops (crew_of D) end before f2 (HasRisen f0 f1) (HasRisen f1 f2) by_run by_stop stopping stopped restless of_channels,
     ) in
     (stopping.suits.same ∙ sym u.suits.same, moved.0, moved.1)
 
@@ -64,7 +64,7 @@ abbrev pub new_waiting : Plan → ℕ → ℕ → Option ℕ → WaitingSeen
 new_waiting P origin factor strict = record { holds = replicate (sim_count P) []; moments = []; tempo = record { origin = origin; factor = factor }; strict = strict }
 
 -- it goes on from there
-pub goes_new : (A : Start) (C : CrewSeen) (P : Plan) (s : IsStarted A C P) (origin factor : ℕ) (strict : Option ℕ) (core : CoreState) (W : WaitingSeen) → core ≡ new_core P → W ≡ new_waiting P origin factor strict → (open_links : List LinkNo) → AreOpen C.lines open_links
+pub goes_new : (A : Start) (C : CrewSeen) (P : Plan) (s : IsStarted A C P) (origin factor : ℕ) (strict : Option ℕ) (core : CoreState) (W : WaitingSeen) → core ≡ new_core P → W ≡ new_waiting P origin factor strict → (open_links : List LinkNo) → AreOpen C.channels open_links
     → (S : Setting) × (log : List LogEntry) × GoesOn S core log C W × AreLinksOpen S open_links
 goes_new A C P s origin factor strict core W core_is waiting_is open_links all = (
   setting_at A C P s,

@@ -12,7 +12,7 @@ ghost use Rattle.mk_local.specs.Registries.{rows_in};
 ghost use Rattle.mk_plan.specs.Plans.{IsValidPlan, sim_count};
 ghost use Rattle.mk_run_laws.specs.Crews.{AreStopped, IsRestless};
 ghost use Rattle.mk_run_links.specs.Entries.{AreOn};
-ghost use Rattle.mk_run_links.specs.Places.{AreOpen, IsLineLink, without_all};
+ghost use Rattle.mk_run_links.specs.Places.{AreOpen, IsChannelLink, without_all};
 ghost use Rattle.mk_setup.specs.Ranked.{AreRanksOf};
 ghost use Rattle.mk_run_local.specs.Seen.{AreOf};
 ghost use Rattle.mk_run_crew.specs.Seen.{crew_of, within_of};
@@ -32,7 +32,7 @@ use mk_outside::{Now, Paced};
 use mk_pace_laws::{PaceEnd, PaceRan};
 use mk_pace_loop::{Waiting, drive};
 use mk_plan::Plan;
-use mk_run::{Outcome, outcome_of};
+use mk_run::Outcome;
 use mk_run_crew::Crew;
 use mk_scenario::Scenario;
 use mk_sched::Core;
@@ -78,7 +78,7 @@ pub fn paced<F: Paced, R: Wait>(
 {
     match Crew::begin(rt, alloc, scenario, ranks, fleet, kinds) {
         Ok((crew, plan)) => pace_plan(rt, alloc, plan, crew, fleet, kinds, factor, strict),
-        Err(halt) => unpaced(alloc, outcome_of(halt)),
+        Err(halt) => unpaced(alloc, Outcome::from(halt)),
     }
 }
 
@@ -97,13 +97,13 @@ fn unpaced(alloc: Global, outcome: Outcome) -> PaceRan
 
 // Stops a crew for which there is no run.
 fn stop_early<F: Paced>(alloc: Global, crew: Crew, fleet: &mut F, outcome: Outcome) -> PaceRan
-    requires open { AreOpen crew.lines (F.Fleet.open_links fleet.old) }
+    requires open { AreOpen crew.channels (F.Fleet.open_links fleet.old) }
     ensures count { F.Fleet.faults fleet.old ≤ F.Fleet.faults fleet.new }
     ensures stopped { (entries : List LogEntry)
         × Adds entries (F.Fleet.log fleet.old) (F.Fleet.log fleet.new)
         × AreStopped entries
         (HasRisen (F.Fleet.faults fleet.old) (F.Fleet.faults fleet.new)) (crew_of crew)
-        × IsRestless entries × AreOn (IsLineLink crew.lines) entries }
+        × IsRestless entries × AreOn (IsChannelLink crew.channels) entries }
     ensures same_count { F.Fleet.started fleet.new ≡ F.Fleet.started fleet.old }
     ensures closed { F.Fleet.open_links fleet.new
         ≡ without_all (links_in crew.places) (F.Fleet.open_links fleet.old) }
@@ -127,7 +127,7 @@ fn pace_plan<F: Paced, R: Wait>(
 ) -> PaceRan
     requires most { factor ≤ 86400000 }
     requires started { (A : Start) × (A.rows ≡ rows_in kinds.now) × IsStarted A crew plan }
-    requires open { AreOpen crew.lines (F.Fleet.open_links fleet.old) }
+    requires open { AreOpen crew.channels (F.Fleet.open_links fleet.old) }
     ensures count { F.Fleet.faults fleet.old ≤ F.Fleet.faults fleet.new }
     ensures ran { (entries : List LogEntry)
         × AddsRising entries (F.Fleet.log fleet.old) (F.Fleet.log fleet.new)
@@ -158,7 +158,7 @@ fn pace_from<F: Paced, R: Wait>(
     requires first { origin ≤ 10 ^ 18 }
     requires most { factor ≤ 86400000 }
     requires started { (A : Start) × (A.rows ≡ rows_in kinds.now) × IsStarted A crew plan }
-    requires open { AreOpen crew.lines (F.Fleet.open_links fleet.old) }
+    requires open { AreOpen crew.channels (F.Fleet.open_links fleet.old) }
     ensures count { F.Fleet.faults fleet.old ≤ F.Fleet.faults fleet.new }
     ensures ran { (entries : List LogEntry)
         × AddsRising entries (F.Fleet.log fleet.old) (F.Fleet.log fleet.new)

@@ -72,7 +72,7 @@ queued_are T now (item ∷ queued) waiting due early =
 module _ (started : ℕ) (S : Scenario) (replies : SetupReplies) (counts : (i : ℕ) (l : LinkNo) → sim_link started S i ≡ Some l → length (replies i) ≡ setup_count S i) (P : Plan) (T : Tempo) (J : List Entry) (before : List LogEntry)
     (same : greatest_told before ≡ last_told before) (r : IsNapOf started S replies P T J before) where
   heard_of_link : (i : ℕ) (l : LinkNo) → sim_link started S i ≡ Some l → run_messages S before i l ≡ got r.at i
-  heard_of_link i l linked = let t = r.lines i l linked in parked_heard started S replies counts P J before i l linked (got r.at i) t.queued t.line t.link t.parked t.in_step
+  heard_of_link i l linked = let t = r.channels i l linked in parked_heard started S replies counts P J before i l linked (got r.at i) t.queued t.channel t.link t.parked t.in_step
 
   left_of_link : (i : ℕ) (l : LinkNo) → sim_link started S i ≡ Some l → heard_counts started S before i ≡ Some (length (got r.at i))
   left_of_link i l linked = ap (option_map (λ (k : LinkNo). length (run_messages S before i k))) linked ∙ ap (λ (ms : List Message). Some (length ms)) (heard_of_link i l linked)
@@ -95,17 +95,17 @@ module _ (started : ℕ) (S : Scenario) (replies : SetupReplies) (counts : (i : 
 
   said_of_link : (i : ℕ) (l : LinkNo) → sim_link started S i ≡ Some l → SaysAll l before (all_frames S i (not_early T (last_told before) (sent r.at i)))
   said_of_link i l linked =
-      let t = r.lines i l linked in
+      let t = r.channels i l linked in
       let items : not_early T (last_told before) (sent r.at i) ≡ t.queued = ap (not_early T (last_told before)) t.items ∙ queued_are T (last_told before) t.queued t.waiting (due_by T (last_told before) before t.queued same t.due) t.early in
       subst (λ (l2 : List Item). SaysAll l before (all_frames S i l2)) (sym items)
-      (subst (λ (k : LinkNo). SaysAll k before (all_frames S i t.queued)) t.link (parked_said before _ _ _ t.line t.parked t.in_step))
+      (subst (λ (k : LinkNo). SaysAll k before (all_frames S i t.queued)) t.link (parked_said before _ _ _ t.channel t.parked t.in_step))
 
   pub well_at_nap : IsWellAtNap started S P T J before
   well_at_nap = record {
     has_all = λ i l linked. ap (λ (A : List Entry). got A i) nap_is ∙ sym (heard_of_link i l linked);
     nobody = subst (IsUnready P) (sym nap_is) r.nobody;
     said = λ i l linked. subst (λ (A : List Entry). SaysAll l before (all_frames S i (not_early T (last_told before) (sent A i)))) (sym nap_is) (said_of_link i l linked);
-    heard_all = λ i l linked. let t = r.lines i l linked in subst (λ (k : LinkNo). last_read k before ≡ Some (NotHeard k)) t.link (t.in_step.parked t.parked).heard_all;
+    heard_all = λ i l linked. let t = r.channels i l linked in subst (λ (k : LinkNo). last_read k before ≡ Some (NotHeard k)) t.link (t.in_step.parked t.parked).heard_all;
   }
 
 pub naps_well : NapsAreWell

@@ -15,7 +15,7 @@ use Rattle.mk_plan.specs.Journals.{sent, got, view}
 use Rattle.mk_plan.specs.Ready.{IsReady}
 use Rattle.mk_scenario.specs.declared.parts.Scenario.{Scenario}
 use Rattle.mk_run_laws.specs.Handshake.{sim_link, is_within}
-use Rattle.mk_run_laws.specs.Lines.{Line}
+use Rattle.mk_run_laws.specs.Channels.{Channel}
 use Rattle.mk_run_laws.specs.Rests.{SaysAll, all_frames, at_rest, run_messages}
 use Rattle.mk_run_laws.specs.Running.{BeginsOnLink, IsInStep, SetupReplies}
 use Rattle.mk_pace_laws.specs.Clocks.{HasTold, last_told}
@@ -71,28 +71,28 @@ AreTold T log items = (first later : List Item) (x : Tier) (inputs : List Input)
 
 -- of the journal's items to simulator i these were queued on its link, which was parked, and what
 -- waits was early
-pub record IsLineAtNap (S : Scenario) (replies : SetupReplies) (T : Tempo) (at : List Entry)
+pub record IsChannelAtNap (S : Scenario) (replies : SetupReplies) (T : Tempo) (at : List Entry)
     (before : List LogEntry) (i : ℕ) (l : LinkNo) : Type 0 where
-  pub line : Line
-  pub link : line.link ≡ l
-  pub parked : line.parked ≡ true
+  pub channel : Channel
+  pub link : channel.link ≡ l
+  pub parked : channel.parked ≡ true
   pub queued : List Item
   pub waiting : List Item
   pub items : sent at i ≡ queued ++ waiting
-  pub in_step : IsInStep S replies before i (got at i) queued line
+  pub in_step : IsInStep S replies before i (got at i) queued channel
   pub due : AreTold T before queued
   pub early : IsEarly T (last_told before) waiting
 
 -- when the fleet slept behind these entries, the journal was a beginning of J, nobody was ready,
--- and each line was parked, in step with that journal but for what waits
+-- and each channel was parked, in step with that journal but for what waits
 pub record IsNapOf (started : ℕ) (S : Scenario) (replies : SetupReplies) (P : Plan) (T : Tempo)
     (J : List Entry) (before : List LogEntry) : Type 0 where
   pub at : List Entry
   pub more : List Entry
   pub parts : J ≡ at ++ more
   pub nobody : (i : ℕ) (x : Tier) → IsReady P (view P at) i x → ⊥
-  pub lines : (i : ℕ) (l : LinkNo) → sim_link started S i ≡ Some l
-      → IsLineAtNap S replies T at before i l
+  pub channels : (i : ℕ) (l : LinkNo) → sim_link started S i ≡ Some l
+      → IsChannelAtNap S replies T at before i l
   pub next : (more ≡ []) ⊎ BeginsOnLink started S more
 
 -- at each sleep

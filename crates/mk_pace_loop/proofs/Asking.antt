@@ -20,7 +20,7 @@ use Rattle.mk_sched.specs.Cores.{CoreState, Stands}
 use Rattle.mk_sched.specs.Answers.{IsAsked}
 use Rattle.mk_run_laws.specs.Crews.{CrewState, kept_of}
 use Rattle.mk_run_laws.specs.Handshake.{is_within}
-use Rattle.mk_run_laws.specs.inner.Running.{HasLine}
+use Rattle.mk_run_laws.specs.inner.Running.{HasChannel}
 use Rattle.mk_run_laws.proofs.Stepping.{same_or_not}
 use Rattle.mk_run_crew.specs.Seen.{CrewSeen, crew_of}
 use Rattle.mk_run.specs.inner.Sendings.{EndsWithItem}
@@ -120,8 +120,8 @@ module _ (S : Setting) (T : Tempo) (strict : Option ℕ) (P : Plan) (J : List En
     holding = λ i low. (all i low).0;
     steps = λ i held begins there. steps_at i held there;
     fit = λ i low inside. (all i low).1 inside;
-    lines = λ i l linked. subst (λ (ms : List Message). HasLine S.scenario S.replies log i l ms (p.queued i) C) (sym (got_sent J s item i)) (p.lines i l linked);
-    no_line = p.no_line;
+    channels = λ i l linked. subst (λ (ms : List Message). HasChannel S.scenario S.replies log i l ms (p.queued i) C) (sym (got_sent J s item i)) (p.channels i l linked);
+    no_channel = p.no_channel;
     no_other = p.no_other;
     kept = kept_at;
     kinds = kinds_sent (reply_in S) (is_within S.scenario) P J s item p.kinds;

@@ -32,7 +32,7 @@ use Rattle.mk_pace_laws.specs.declared.end.PaceEnd.TheVariants as pace
 use Rattle.mk_pace_laws.specs.Ends.{IsBroken, QueuedOut, fault_of}
 use Rattle.mk_pace_laws.specs.Moments.{Tempo, sent_out}
 use Rattle.mk_pace_laws.proofs.SentOut.{WaitsByStep, sent_out_is}
-use Rattle.mk_pace_loop.specs.inner.PacedOut.{EndsOutcome, EndsPace, HasPacedOut, IsLastPacedLine}
+use Rattle.mk_pace_loop.specs.inner.PacedOut.{EndsOutcome, EndsPace, HasPacedOut, IsLastPacedChannel}
 use Rattle.mk_pace_loop.specs.inner.Pacing.{AreHeldItems, BeginsWithStep, IsPacing}
 use Rattle.mk_pace_loop.specs.inner.Turns.{GoesOn, IsStopping}
 use Rattle.mk_pace_loop.specs.inner.Waiting.{WaitingSeen}
@@ -63,14 +63,14 @@ module _ (S : Setting) (T : Tempo) (strict : Option ℕ) (P : Plan) (J : List En
   pub within_low : (i : ℕ) → is_within S.scenario i ≡ true → i < sim_count P
   within_low i inside = subst (λ (n : ℕ). i < n) (sym (p.suits).sims) (within_below S.scenario i inside)
 
-  last_line : (end : PaceEnd) (i : ℕ) (l : LinkNo) → sim_link S.started S.scenario i ≡ Some l → IsLastPacedLine S T J moments log C end i l
-  last_line end i l linked =
+  last_channel : (end : PaceEnd) (i : ℕ) (l : LinkNo) → sim_link S.started S.scenario i ≡ Some l → IsLastPacedChannel S T J moments log C end i l
+  last_channel end i l linked =
       let low = linked_low i l linked in
       let t = p.holding i low in
       record {
         messages = got J i;
         items = p.queued i;
-        line = p.lines i l linked;
+        channel = p.channels i l linked;
         given = ([], sym (append_nil (got J i)));
         queued = (t.waiting, t.items);
         out = subst (λ (all : List Item). QueuedOut end all (p.queued i)) (sym (sent_is i low)) (queued_itself end (p.queued i));
@@ -91,7 +91,7 @@ module _ (S : Setting) (T : Tempo) (strict : Option ℕ) (P : Plan) (J : List En
     patient = p.patient;
     in_range = p.in_range;
     kinds = p.kinds;
-    lines = last_line end;
+    channels = last_channel end;
     no_other = p.no_other;
     origin = p.origin;
     moments_are = p.moments_are;

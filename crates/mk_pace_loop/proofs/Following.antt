@@ -17,7 +17,7 @@ use Rattle.mk_frame.specs.Frames.{limit}
 use Rattle.mk_outside.specs.declared.fleet.LogEntry.{LogEntry}
 use Rattle.mk_sched.proofs.Pushed.{heads, not_empty}
 use Rattle.mk_run_laws.specs.Handshake.{is_within}
-use Rattle.mk_run_laws.specs.Lines.{Line}
+use Rattle.mk_run_laws.specs.Channels.{Channel}
 use Rattle.mk_run_laws.proofs.Stepping.{same_or_not}
 use Rattle.mk_run_links.specs.Crews.{IsLengthOf}
 use Rattle.mk_run_local.specs.Laws.{RepliesAreKinds}
@@ -106,10 +106,10 @@ module _ (begins : ℕ → Type 0) (S : Setting) (T : Tempo) (strict : Option �
     patient = p.patient;
     in_range = p.in_range;
     kinds = p.kinds;
-    lines = λ i l linked. let low : i < sim_count P = subst (λ (n : ℕ). i < n) (sym p.suits.sims) (linked_outside S.started S.scenario i l linked).1 in record {
+    channels = λ i l linked. let low : i < sim_count P = subst (λ (n : ℕ). i < n) (sym p.suits.sims) (linked_outside S.started S.scenario i l linked).1 in record {
       messages = got J i;
       items = p.queued i;
-      line = p.lines i l linked;
+      channel = p.channels i l linked;
       given = ([], sym (append_nil (got J i)));
       queued = let g = p.holding i low in (g.waiting, g.items);
       out = out i low;
@@ -132,14 +132,14 @@ module _ (begins : ℕ → Type 0) (S : Setting) (T : Tempo) (strict : Option �
   -- ---- an item that wasn't sent
 
   module _ (s : ℕ) (low : s < sim_count P) (item : Item) (rest : List Item) (next : sent J s ≡ p.queued s ++ item ∷ rest) where
-    long_among : (n : ℕ) → IsLengthOf n item s C.lines → limit < n → IsLongAmong S.started S.scenario P J s n
+    long_among : (n : ℕ) → IsLengthOf n item s C.channels → limit < n → IsLongAmong S.started S.scenario P J s n
     long_among n size beyond =
         let t = p.no_other s size.0 size.1 in
-        let g = p.lines s t.0 t.1 in
-        let same : g.line ≡ size.0 = some_same (sym g.there ∙ size.1) in
+        let g = p.channels s t.0 t.1 in
+        let same : g.channel ≡ size.0 = some_same (sym g.there ∙ size.1) in
         let a = sent_at J s (p.queued s) item rest next in
         let id_is : size.0.next ≡ id_after (first_id P s) (sent a.before s) =
-        ap (λ (w : Line). w.next) (sym same) ∙ g.in_step.next_id ∙ ap (λ (k : ℕ). id_after k (p.queued s)) (sym (p.suits.first s low)) ∙ ap (id_after (first_id P s)) (sym a.sent_before) in
+        ap (λ (w : Channel). w.next) (sym same) ∙ g.in_step.next_id ∙ ap (λ (k : ℕ). id_after k (p.queued s)) (sym (p.suits.first s low)) ∙ ap (id_after (first_id P s)) (sym a.sent_before) in
         record { before = a.before; sim = a.sim; item = item; later = a.later; is = a.parts; to = a.whose; link = t.0; linked = t.1; bytes = ap (λ (k : ℕ). length (item_text k item)) (sym id_is) ∙ sym size.2; beyond = beyond }
 
     unsent_by : (h : Halt) → ShowsUnsent h s item C → HasPacedOut ⊥ S T strict P J moments log (crew_of C) (pace.Outcome (outcome_of h))

@@ -187,7 +187,7 @@ module _ (started : ℕ) (S : Scenario) (replies : SetupReplies) (P : Plan) (T :
         more = n.more ++ later;
         parts = ap (λ (l : List Entry). l ++ later) n.parts ∙ append_assoc n.at n.more later;
         nobody = n.nobody;
-        lines = n.lines;
+        channels = n.channels;
         next = inr (go n.at n.more n.parts n.nobody n.next);
       }
     where

@@ -20,10 +20,10 @@ use Rattle.mk_sched.specs.Cores.{is_message_in_range}
 use Rattle.mk_sched.specs.Answers.{SomeReady}
 use Rattle.mk_run_laws.specs.Handshake.{is_within, sim_link}
 use Rattle.mk_run_laws.specs.Kinds.{IsKindReply, KeepsToKinds, Replies}
-use Rattle.mk_run_laws.specs.Lines.{Line}
-use Rattle.mk_run_laws.specs.Crews.{CrewState, IsHeard, IsMovedAt, given_by, kept_of, line_at}
+use Rattle.mk_run_laws.specs.Channels.{Channel}
+use Rattle.mk_run_laws.specs.Crews.{CrewState, IsHeard, IsMovedAt, given_by, kept_of, channel_at}
 use Rattle.mk_run_laws.specs.Running.{BeginsOnLink}
-use Rattle.mk_run_laws.specs.inner.Running.{HasLine}
+use Rattle.mk_run_laws.specs.inner.Running.{HasChannel}
 use Rattle.mk_run_laws.proofs.Stepping.{apart_is, same_is, same_or_not}
 use Rattle.mk_run_links.specs.Entries.{AreOfLinks, IsRunLink}
 use Rattle.mk_run_links.proofs.OnEntries.{no_clock}
@@ -42,7 +42,7 @@ use Rattle.mk_pace_laws.proofs.Timely.{timely_more, told_later}
 use Rattle.mk_pace_loop.specs.inner.Pacing.{IsPacing, held_at, replies_kept}
 use Rattle.mk_pace_loop.proofs.Grown.{moments_longer, naps_longer}
 use Rattle.mk_pace_loop.proofs.Passing.{looks_later, moments_later, naps_later, no_naps, still_none}
-use Rattle.mk_pace_loop.proofs.Queueing.{has_line_moved}
+use Rattle.mk_pace_loop.proofs.Queueing.{has_channel_moved}
 
 -- what a journal has got with one message more
 pub got_given : (J : List Entry) (s : SimNo) (m : Message) (i : ℕ) → got (J ++ Got s m ∷ []) i ≡ got J i ++ given_by s.0 m i
@@ -60,8 +60,8 @@ given_away s m i apart = ap (λ (b : Bool). if b then m ∷ [] else []) (apart_i
 not_nil : {X : Type 0} {x : X} {xs : List X} → x ∷ xs ≡ [] → ⊥
 not_nil e = cc
 
-same_lines : (i : ℕ) (C D : CrewState) → D.lines ≡ C.lines → line_at D i ≡ line_at C i
-same_lines i C D e = ap (λ (l : List (Option Line)). line_at (record { lines = l; kept = [] }) i) e
+same_channels : (i : ℕ) (C D : CrewState) → D.channels ≡ C.channels → channel_at D i ≡ channel_at C i
+same_channels i C D e = ap (λ (l : List (Option Channel)). channel_at (record { channels = l; kept = [] }) i) e
 
 -- one more message, which is its kind's
 kinds_got : (reply : Replies) (within : ℕ → Bool) (P : Plan) (J : List Entry) (s : SimNo) (m : Message) → (within s.0 ≡ true → IsKindReply reply P J s.0 m) → KeepsToKinds reply within P J → KeepsToKinds reply within P (J ++ Got s m ∷ [])
@@ -103,7 +103,7 @@ module _ (S : Setting) (T : Tempo) (strict : Option ℕ) (P : Plan) (J : List En
   taken_kept is = taken_reply S P J s.0 m (held_at holds s.0) (kept_of s.0 D.kept) (ap (λ (b : Bool). cons_option (if b then Some m else None) (kept_of s.0 D.kept)) (sym (same_is s.0)) ∙ ap (kept_of s.0) (sym is) ∙ p.kept s.0)
 
   -- where it is of a link
-  linked_out : (w : Line) → line_at C s.0 ≡ Some w → is_within S.scenario s.0 ≡ false
+  linked_out : (w : Channel) → channel_at C s.0 ≡ Some w → is_within S.scenario s.0 ≡ false
   linked_out w there = let t = p.no_other s.0 w there in (linked_outside S.started S.scenario s.0 t.0 t.1).0
 
   -- it is of a simulator of the plan
@@ -114,21 +114,21 @@ module _ (S : Setting) (T : Tempo) (strict : Option ℕ) (P : Plan) (J : List En
       in_plan low = subst (λ (n : ℕ). s.0 < n) (sym (p.suits).sims) low
 
       go : IsHeard entries s.0 m C D → s.0 < sim_count P
-      go (IsHeard.kept is lines none) = in_plan (within_below S.scenario s.0 (taken_kept is).inside)
+      go (IsHeard.kept is channels none) = in_plan (within_below S.scenario s.0 (taken_kept is).inside)
       go (IsHeard.on_link none after w there moved parked) = let t = p.no_other s.0 w there in in_plan (linked_outside S.started S.scenario s.0 t.0 t.1).1
 
   -- its numbers are in range
   pub met_fits : is_in_range m ≡ true
   met_fits = go heard
     where
-      by_line : (o q : Option Line) (w : Line) → o ≡ Some w → IsMovedAt entries (given_by s.0 m s.0) o q → is_in_range m ≡ true
-      by_line None q w e moved = absurd (none_some e)
-      by_line (Some v) None w e moved = absurd moved
-      by_line (Some v) (Some x) w e moved = taken_read _ (given_by s.0 m s.0) _ m moved.taken (given_here s.0 m)
+      by_channel : (o q : Option Channel) (w : Channel) → o ≡ Some w → IsMovedAt entries (given_by s.0 m s.0) o q → is_in_range m ≡ true
+      by_channel None q w e moved = absurd (none_some e)
+      by_channel (Some v) None w e moved = absurd moved
+      by_channel (Some v) (Some x) w e moved = taken_read _ (given_by s.0 m s.0) _ m moved.taken (given_here s.0 m)
 
       go : IsHeard entries s.0 m C D → is_in_range m ≡ true
-      go (IsHeard.kept is lines none) = success_in_range m (fit (record { sim = s.0; message = m }) D.kept is)
-      go (IsHeard.on_link none after w there moved parked) = by_line (line_at C s.0) (line_at D s.0) w there (moved s.0)
+      go (IsHeard.kept is channels none) = success_in_range m (fit (record { sim = s.0; message = m }) D.kept is)
+      go (IsHeard.on_link none after w there moved parked) = by_channel (channel_at C s.0) (channel_at D s.0) w there (moved s.0)
 
   pub met_in_range : is_message_in_range m ≡ true
   met_in_range = same_test m met_fits
@@ -138,32 +138,32 @@ module _ (S : Setting) (T : Tempo) (strict : Option ℕ) (P : Plan) (J : List En
   met_within inside = go heard
     where
       go : IsHeard entries s.0 m C D → IsFitSuccess m × (held_at holds s.0 ≡ [])
-      go (IsHeard.kept is lines none) = (fit (record { sim = s.0; message = m }) D.kept is, (taken_kept is).none_held)
+      go (IsHeard.kept is channels none) = (fit (record { sim = s.0; message = m }) D.kept is, (taken_kept is).none_held)
       go (IsHeard.on_link none after w there moved parked) = absurd (true≢false (sym inside ∙ linked_out w there))
 
-  -- the lines, once the message is an entry
-  pub met_lines : (i : ℕ) (l : LinkNo) → sim_link S.started S.scenario i ≡ Some l → HasLine S.scenario S.replies (before ++ entries) i l (got (J ++ Got s m ∷ []) i) (p.queued i) D
-  met_lines i l linked = go heard
+  -- the channels, once the message is an entry
+  pub met_channels : (i : ℕ) (l : LinkNo) → sim_link S.started S.scenario i ≡ Some l → HasChannel S.scenario S.replies (before ++ entries) i l (got (J ++ Got s m ∷ []) i) (p.queued i) D
+  met_channels i l linked = go heard
     where
-      go : IsHeard entries s.0 m C D → HasLine S.scenario S.replies (before ++ entries) i l (got (J ++ Got s m ∷ []) i) (p.queued i) D
-      go (IsHeard.kept is lines none) =
-          let g = p.lines i l linked in
+      go : IsHeard entries s.0 m C D → HasChannel S.scenario S.replies (before ++ entries) i l (got (J ++ Got s m ∷ []) i) (p.queued i) D
+      go (IsHeard.kept is channels none) =
+          let g = p.channels i l linked in
           let apart : i ≡ s.0 → ⊥ = (λ q. true≢false (sym (taken_kept is).inside ∙ ap (is_within S.scenario) (sym q) ∙ (linked_outside S.started S.scenario i l linked).0)) in
           let log_is : before ++ entries ≡ before = ap (λ (e : List LogEntry). before ++ e) none ∙ append_nil before in
           let given_is : got (J ++ Got s m ∷ []) i ≡ got J i = got_given J s m i ∙ ap (λ (l : List Message). got J i ++ l) (given_away s.0 m i apart) ∙ append_nil (got J i) in
-          subst (λ (b : List LogEntry). HasLine S.scenario S.replies b i l (got (J ++ Got s m ∷ []) i) (p.queued i) D) (sym log_is)
-          (subst (λ (ms : List Message). HasLine S.scenario S.replies before i l ms (p.queued i) D) (sym given_is)
-          (record { line = g.line; there = same_lines i C D lines ∙ g.there; link = g.link; in_step = g.in_step }))
+          subst (λ (b : List LogEntry). HasChannel S.scenario S.replies b i l (got (J ++ Got s m ∷ []) i) (p.queued i) D) (sym log_is)
+          (subst (λ (ms : List Message). HasChannel S.scenario S.replies before i l ms (p.queued i) D) (sym given_is)
+          (record { channel = g.channel; there = same_channels i C D channels ∙ g.there; link = g.link; in_step = g.in_step }))
       go (IsHeard.on_link none after w there moved parked) =
-          subst (λ (ms : List Message). HasLine S.scenario S.replies (before ++ entries) i l ms (p.queued i) D) (sym (got_given J s m i))
-          (has_line_moved S.scenario S.replies before entries i l (got J i) (given_by s.0 m i) (p.queued i) C D (p.lines i l linked) (moved i))
+          subst (λ (ms : List Message). HasChannel S.scenario S.replies (before ++ entries) i l ms (p.queued i) D) (sym (got_given J s m i))
+          (has_channel_moved S.scenario S.replies before entries i l (got J i) (given_by s.0 m i) (p.queued i) C D (p.channels i l linked) (moved i))
 
-  pub met_no_line : (i : ℕ) → is_within S.scenario i ≡ true → line_at D i ≡ None
-  met_no_line i inside = go heard
+  pub met_no_channel : (i : ℕ) → is_within S.scenario i ≡ true → channel_at D i ≡ None
+  met_no_channel i inside = go heard
     where
-      go : IsHeard entries s.0 m C D → line_at D i ≡ None
-      go (IsHeard.kept is lines none) = same_lines i C D lines ∙ p.no_line i inside
-      go (IsHeard.on_link none after w there moved parked) = still_none entries (given_by s.0 m i) (line_at C i) (line_at D i) (p.no_line i inside) (moved i)
+      go : IsHeard entries s.0 m C D → channel_at D i ≡ None
+      go (IsHeard.kept is channels none) = same_channels i C D channels ∙ p.no_channel i inside
+      go (IsHeard.on_link none after w there moved parked) = still_none entries (given_by s.0 m i) (channel_at C i) (channel_at D i) (p.no_channel i inside) (moved i)
 
   pub met_no_other : HasNoOther S D
   met_no_other = no_other_heard S entries s.0 m C D heard p.no_other
@@ -173,21 +173,21 @@ module _ (S : Setting) (T : Tempo) (strict : Option ℕ) (P : Plan) (J : List En
   met_kept_here = go heard
     where
       go : IsHeard entries s.0 m C D → kept_of s.0 D.kept ≡ []
-      go (IsHeard.kept is lines none) = (taken_kept is).none_left
+      go (IsHeard.kept is channels none) = (taken_kept is).none_left
       go (IsHeard.on_link none after w there moved parked) = ap (kept_of s.0) after
 
   pub met_kept_away : (i : ℕ) → (i ≡ s.0 → ⊥) → kept_of i D.kept ≡ kept_of i C.kept
   met_kept_away i apart = go heard
     where
       go : IsHeard entries s.0 m C D → kept_of i D.kept ≡ kept_of i C.kept
-      go (IsHeard.kept is lines none) = ap (λ (b : Bool). cons_option (if b then Some m else None) (kept_of i D.kept)) (sym (apart_is s.0 i (λ q. apart (sym q)))) ∙ ap (kept_of i) (sym is)
+      go (IsHeard.kept is channels none) = ap (λ (b : Bool). cons_option (if b then Some m else None) (kept_of i D.kept)) (sym (apart_is s.0 i (λ q. apart (sym q)))) ∙ ap (kept_of i) (sym is)
       go (IsHeard.on_link none after w there moved parked) = ap (kept_of i) (after ∙ sym none)
 
   pub met_kinds : KeepsToKinds (reply_in S) (is_within S.scenario) P (J ++ Got s m ∷ [])
   met_kinds = kinds_got (reply_in S) (is_within S.scenario) P J s m one p.kinds
     where
       go : is_within S.scenario s.0 ≡ true → IsHeard entries s.0 m C D → IsKindReply (reply_in S) P J s.0 m
-      go inside (IsHeard.kept is lines none) = (taken_kept is).is_kind
+      go inside (IsHeard.kept is channels none) = (taken_kept is).is_kind
       go inside (IsHeard.on_link none after w there moved parked) = absurd (true≢false (sym inside ∙ linked_out w there))
 
       one : is_within S.scenario s.0 ≡ true → IsKindReply (reply_in S) P J s.0 m
@@ -203,7 +203,7 @@ module _ (S : Setting) (T : Tempo) (strict : Option ℕ) (P : Plan) (J : List En
   ]
     where
       here : is_within S.scenario s.0 ≡ true → IsHeard entries s.0 m C D → length (got (J ++ Got s m ∷ []) s.0) + length (kept_of s.0 D.kept) ≡ length (filter takes_id (p.queued s.0))
-      here inside (IsHeard.kept is lines none) =
+      here inside (IsHeard.kept is channels none) =
           let counted = p.replied s.0 inside in
           let one : length (kept_of s.0 C.kept) ≡ suc (length (kept_of s.0 D.kept)) =
           ap (λ (k : List Arrival). length (kept_of s.0 k)) is ∙ ap (λ (b : Bool). length (cons_option (if b then Some m else None) (kept_of s.0 D.kept))) (same_is s.0) in
@@ -229,7 +229,7 @@ module _ (S : Setting) (T : Tempo) (strict : Option ℕ) (P : Plan) (J : List En
   met_begins linked later = go heard
     where
       go : IsHeard entries s.0 m C D → BeginsOnLink S.started S.scenario (Got s m ∷ later)
-      go (IsHeard.kept is lines none) = absurd (linked s.0 (taken_kept is).inside)
+      go (IsHeard.kept is channels none) = absurd (linked s.0 (taken_kept is).inside)
       go (IsHeard.on_link none after w there moved parked) = let t = p.no_other s.0 w there in (s, m, later, t.0, refl, t.1)
 
   pub met_naps : (later : List Entry) → AreAllLinked S.scenario → AreNaps S.started S.scenario S.replies P T (J ++ Got s m ∷ later) (before ++ entries)

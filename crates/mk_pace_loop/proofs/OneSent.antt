@@ -17,12 +17,12 @@ use Rattle.mk_outside.specs.declared.fleet.LogEntry.{LogEntry}
 use Rattle.mk_outside.specs.Logs.{said_on}
 use Rattle.mk_local.specs.Replies.{IsItemReplied}
 use Rattle.mk_local.specs.Simulators.{Simulator}
-use Rattle.mk_run_laws.specs.Crews.{kept_from, kept_of, line_at}
+use Rattle.mk_run_laws.specs.Crews.{kept_from, kept_of, channel_at}
 use Rattle.mk_run_laws.specs.Handshake.{is_within, setup_count, sim_link}
-use Rattle.mk_run_laws.specs.Lines.{Line}
+use Rattle.mk_run_laws.specs.Channels.{Channel}
 use Rattle.mk_run_laws.specs.Rests.{all_frames}
 use Rattle.mk_run_laws.specs.Running.{IsInStep}
-use Rattle.mk_run_laws.specs.inner.Running.{HasLine, awaited}
+use Rattle.mk_run_laws.specs.inner.Running.{HasChannel, awaited}
 use Rattle.mk_run_laws.proofs.Saying.{link_there}
 use Rattle.mk_run_laws.proofs.Stepping.{apart_is, same_is, same_or_not}
 use Rattle.mk_run_local.specs.Laws.{RepliesAreKinds}
@@ -42,7 +42,7 @@ use Rattle.mk_pace_laws.specs.Naps.{AreTold, IsTimely}
 use Rattle.mk_pace_laws.proofs.Timely.{timely_queued, told_queued}
 use Rattle.mk_pace_loop.specs.inner.Pacing.{AreHeldItems, IsHolding, IsOneAtMost, IsPacingBut, held_at, replies_kept}
 use Rattle.mk_pace_loop.proofs.HeldFirst.{IsFront}
-use Rattle.mk_pace_loop.proofs.Queueing.{line_sent}
+use Rattle.mk_pace_loop.proofs.Queueing.{channel_sent}
 
 -- what takes a reply takes an id
 pub replied_takes : (item : Item) → IsItemReplied item → takes_id item ≡ true
@@ -89,8 +89,8 @@ module _ (S : Setting) (T : Tempo) (strict : Option ℕ) (P : Plan) (J : List En
     replied = λ here. (one (inside_here here)).1;
     linked = λ away.
         let t = link_there S.started S.scenario s (subst (λ (n : ℕ). s < n) p.suits.sims low) (not_here_is_outside S p.queued C.sims s p.come away) in
-        let g = p.lines s t.0 t.1 in
-        (g.line, g.there, λ takes. numbered takes ∙ sym g.in_step.next_id);
+        let g = p.channels s t.0 t.1 in
+        (g.channel, g.there, λ takes. numbered takes ∙ sym g.in_step.next_id);
   }
 
   module _ (law : RepliesAreKinds) (D : CrewSeen) (so : SendsAs s item h.id C D) (new : List (List Held)) (changed : IsChanged s (h ∷ q) q holds new) where
@@ -106,41 +106,41 @@ module _ (S : Setting) (T : Tempo) (strict : Option ℕ) (P : Plan) (J : List En
     by_place : {Z : Type 0} → (is_here C s ≡ true → Z) → (is_here C s ≡ false → Z) → Z
     by_place within on_link = elim (bool_or_not (is_here C s)) [ inl here ↦ within here | inr away ↦ on_link away ]
 
-    -- ---- lines
+    -- ---- channels
 
-    lines_stay : (is_here C s ≡ true) → (i : ℕ) → line_at (crew_of D) i ≡ line_at (crew_of C) i
-    lines_stay here i = ap (λ (l : List (Option Line)). option_and_then (λ (o : Option Line). o) (slice_get l i)) (so.within here).kept.lines
+    channels_stay : (is_here C s ≡ true) → (i : ℕ) → channel_at (crew_of D) i ≡ channel_at (crew_of C) i
+    channels_stay here i = ap (λ (l : List (Option Channel)). option_and_then (λ (o : Option Channel). o) (slice_get l i)) (so.within here).kept.channels
 
-    line_same : (i : ℕ) → (i ≡ s → ⊥) → line_at (crew_of D) i ≡ line_at (crew_of C) i
-    line_same i apart = by_place (λ here. lines_stay here i) (λ away. (so.on_link away).0.others i apart)
+    channel_same : (i : ℕ) → (i ≡ s → ⊥) → channel_at (crew_of D) i ≡ channel_at (crew_of C) i
+    channel_same i apart = by_place (λ here. channels_stay here i) (λ away. (so.on_link away).0.others i apart)
 
-    line_else : (i : ℕ) (l : LinkNo) → sim_link S.started S.scenario i ≡ Some l → (i ≡ s → ⊥) → HasLine S.scenario S.replies log i l (got J i) (Y i) (crew_of D)
-    line_else i l linked apart = let g = p.lines i l linked in record {
-      line = g.line;
-      there = line_same i apart ∙ g.there;
+    channel_else : (i : ℕ) (l : LinkNo) → sim_link S.started S.scenario i ≡ Some l → (i ≡ s → ⊥) → HasChannel S.scenario S.replies log i l (got J i) (Y i) (crew_of D)
+    channel_else i l linked apart = let g = p.channels i l linked in record {
+      channel = g.channel;
+      there = channel_same i apart ∙ g.there;
       link = g.link;
-      in_step = subst (λ (xs : List Item). IsInStep S.scenario S.replies log i (got J i) xs g.line) (sym (stay i apart)) g.in_step;
+      in_step = subst (λ (xs : List Item). IsInStep S.scenario S.replies log i (got J i) xs g.channel) (sym (stay i apart)) g.in_step;
     }
 
-    line_here : (l : LinkNo) → sim_link S.started S.scenario s ≡ Some l → HasLine S.scenario S.replies log s l (got J s) (Y s) (crew_of D)
-    line_here l linked =
+    channel_here : (l : LinkNo) → sim_link S.started S.scenario s ≡ Some l → HasChannel S.scenario S.replies log s l (got J s) (Y s) (crew_of D)
+    channel_here l linked =
         let away : is_here C s ≡ false = away_outside (linked_outside S.started S.scenario s l linked).0 in
-        let g = p.lines s l linked in
-        subst (λ (xs : List Item). HasLine S.scenario S.replies log s l (got J s) xs (crew_of D)) (sym more)
-        (line_sent S.scenario S.replies log (crew_of C) (crew_of D) s l (got J s) (p.queued s) item h.id g (so.on_link away).0
-        (λ w there takes. numbered takes ∙ sym g.in_step.next_id ∙ ap (λ (v : Line). v.next) (some_same (sym g.there ∙ there))))
+        let g = p.channels s l linked in
+        subst (λ (xs : List Item). HasChannel S.scenario S.replies log s l (got J s) xs (crew_of D)) (sym more)
+        (channel_sent S.scenario S.replies log (crew_of C) (crew_of D) s l (got J s) (p.queued s) item h.id g (so.on_link away).0
+        (λ w there takes. numbered takes ∙ sym g.in_step.next_id ∙ ap (λ (v : Channel). v.next) (some_same (sym g.there ∙ there))))
 
-    lines : (i : ℕ) (l : LinkNo) → sim_link S.started S.scenario i ≡ Some l → HasLine S.scenario S.replies log i l (got J i) (Y i) (crew_of D)
-    lines i l linked = elim (same_or_not i s) [
-      | inl e ↦ subst (λ (j : ℕ). (k : LinkNo) → sim_link S.started S.scenario j ≡ Some k → HasLine S.scenario S.replies log j k (got J j) (Y j) (crew_of D)) (sym e) line_here l linked
-      | inr apart ↦ line_else i l linked apart
+    channels : (i : ℕ) (l : LinkNo) → sim_link S.started S.scenario i ≡ Some l → HasChannel S.scenario S.replies log i l (got J i) (Y i) (crew_of D)
+    channels i l linked = elim (same_or_not i s) [
+      | inl e ↦ subst (λ (j : ℕ). (k : LinkNo) → sim_link S.started S.scenario j ≡ Some k → HasChannel S.scenario S.replies log j k (got J j) (Y j) (crew_of D)) (sym e) channel_here l linked
+      | inr apart ↦ channel_else i l linked apart
     ]
 
-    no_line : (i : ℕ) → is_within S.scenario i ≡ true → line_at (crew_of D) i ≡ None
-    no_line i inside = by_place
-        (λ here. lines_stay here i)
+    no_channel : (i : ℕ) → is_within S.scenario i ≡ true → channel_at (crew_of D) i ≡ None
+    no_channel i inside = by_place
+        (λ here. channels_stay here i)
         (λ away. (so.on_link away).0.others i (λ e. true≢false (sym inside ∙ ap (is_within S.scenario) e ∙ not_here_is_outside S p.queued C.sims s p.come away)))
-        ∙ p.no_line i inside
+        ∙ p.no_channel i inside
 
     -- ---- replies that are kept
 
@@ -193,7 +193,7 @@ module _ (S : Setting) (T : Tempo) (strict : Option ℕ) (P : Plan) (J : List En
     -- ---- what is said in time
 
     said : (l : LinkNo) → sim_link S.started S.scenario s ≡ Some l → BeginsWith (all_frames S.scenario s (p.queued s)) (said_on l log)
-    said l linked = let g = p.lines s l linked in (g.line.unsent, subst (λ (k : LinkNo). all_frames S.scenario s (p.queued s) ≡ said_on k log ++ g.line.unsent) g.link (sym g.in_step.said))
+    said l linked = let g = p.channels s l linked in (g.channel.unsent, subst (λ (k : LinkNo). all_frames S.scenario s (p.queued s) ≡ said_on k log ++ g.channel.unsent) g.link (sym g.in_step.said))
 
     timely_here : (l : LinkNo) → sim_link S.started S.scenario s ≡ Some l → IsTimely T S.scenario s l (Y s) log
     timely_here l linked = subst (λ (xs : List Item). IsTimely T S.scenario s l xs log) (sym more) (timely_queued T S.scenario s l (p.queued s) item log (said l linked) (p.timely s l linked))
@@ -277,8 +277,8 @@ module _ (S : Setting) (T : Tempo) (strict : Option ℕ) (P : Plan) (J : List En
       holding = λ i below. (holds_now i below).0;
       steps = λ i r apart at. p.steps i r apart (sym (changed.others i apart) ∙ at);
       fit = λ i below inside. (holds_now i below).1 inside;
-      lines = lines;
-      no_line = no_line;
+      channels = channels;
+      no_channel = no_channel;
       no_other = no_other_after S law p.queued Y s item h.id C D more stay p.come p.only_within right so p.no_other;
       kept = kept;
       kinds = p.kinds;

@@ -17,15 +17,15 @@ use Rattle.mk_outside.specs.declared.fleet.LogEntry.TheVariants.{NotHeard, Rest,
 use Rattle.mk_outside.specs.Logs.{last_read}
 use Rattle.mk_sched.proofs.Pushed.{heads}
 use Rattle.mk_local.specs.Simulators.{Simulator}
-use Rattle.mk_run_laws.specs.Crews.{CrewState, AreMoved, IsMovedAt, IsRestless, IsUnheard, kept_of, line_at}
+use Rattle.mk_run_laws.specs.Crews.{CrewState, AreMoved, IsMovedAt, IsRestless, IsUnheard, kept_of, channel_at}
 use Rattle.mk_run_laws.specs.Handshake.{has_link, sim_link}
-use Rattle.mk_run_laws.specs.Lines.{Line}
+use Rattle.mk_run_laws.specs.Channels.{Channel}
 use Rattle.mk_run_laws.specs.Rests.{AllSetUp, IsWellInSetup}
 use Rattle.mk_run_laws.specs.Running.{SetupReplies}
-use Rattle.mk_run_laws.specs.inner.Running.{HasLine}
+use Rattle.mk_run_laws.specs.inner.Running.{HasChannel}
 use Rattle.mk_run_laws.proofs.Stepping.{first_or_second, not_empty}
 use Rattle.mk_run_links.specs.Entries.{AreOfLinks, AreOnOrOfClock, IsClockless, IsNotOfClock, IsRunLink}
-use Rattle.mk_run_links.specs.Places.{IsLineLink}
+use Rattle.mk_run_links.specs.Places.{IsChannelLink}
 use Rattle.mk_run_links.proofs.OnEntries.{no_clock, no_rests, of_run, on_or_clock, on_these, or_clock_more}
 use Rattle.mk_run.specs.inner.Underway.{Setting}
 use Rattle.mk_pace_held.specs.declared.held.Held.{Held}
@@ -35,7 +35,7 @@ use Rattle.mk_pace_laws.specs.Moments.{AreMoments, Tempo}
 use Rattle.mk_pace_laws.specs.Naps.{AreAllLinked, AreNaps, IsEarly, IsNapOf, NapsLook}
 use Rattle.mk_pace_laws.specs.Paced.{IsOrigin}
 use Rattle.mk_pace_loop.specs.inner.Pacing.{IsPacing}
-use Rattle.mk_pace_loop.proofs.Queueing.{has_line_moved, nap_moved, told_moved}
+use Rattle.mk_pace_loop.proofs.Queueing.{has_channel_moved, nap_moved, told_moved}
 use Rattle.mk_pace_laws.proofs.Ordering.{in_order_later}
 use Rattle.mk_pace_laws.proofs.Timely.{timely_more, told_later}
 
@@ -98,14 +98,14 @@ looks_later started S log entries awake looks before after is = elim (first_or_s
   | inr t ↦ absurd (awake t.0 after t.2)
 ]
 
--- ---- lines
+-- ---- channels
 
-pub still_none : (entries : List LogEntry) (given : List Message) (o p : Option Line) → o ≡ None → IsMovedAt entries given o p → p ≡ None
+pub still_none : (entries : List LogEntry) (given : List Message) (o p : Option Channel) → o ≡ None → IsMovedAt entries given o p → p ≡ None
 still_none entries given None None e moved = refl
 still_none entries given None (Some v) e moved = absurd moved
 still_none entries given (Some u) p e moved = absurd (none_some (sym e))
 
-pub was_there : (entries : List LogEntry) (given : List Message) (o p : Option Line) (v : Line) → p ≡ Some v → IsMovedAt entries given o p → (w : Line) × (o ≡ Some w)
+pub was_there : (entries : List LogEntry) (given : List Message) (o p : Option Channel) (v : Channel) → p ≡ Some v → IsMovedAt entries given o p → (w : Channel) × (o ≡ Some w)
 was_there entries given o None v e moved = absurd (none_some e)
 was_there entries given None (Some u) v e moved = absurd moved
 was_there entries given (Some w) (Some u) v e moved = (w, refl)
@@ -119,7 +119,7 @@ linked_low started S i l e = go (slice_get S.sims i) refl e
     go (Some s) is q = (get_is S.sims i s is).0
 
 module _ (S : Setting) (T : Tempo) (strict : Option ℕ) (P : Plan) (J : List Entry) (log : List LogEntry) (C : CrewState) (sims : List (Option Simulator)) (holds : List (List Held)) (moments : List Moment) (p : IsPacing S T strict P J log C sims holds moments) where
-  -- entries by which no line gives a message
+  -- entries by which no channel gives a message
   pub passes : (entries : List LogEntry) (D : CrewState) → AreMoved entries (λ i. []) C D → D.kept ≡ C.kept → ((less after : List LogEntry) → entries ≡ less ++ Rest ∷ after → ⊥) → AreOnOrOfClock (IsRunLink S.started S.scenario) entries → (AreAllLinked S.scenario → AreNaps S.started S.scenario S.replies P T J (log ++ entries)) → NapsLook S.started S.scenario (log ++ entries)
       → IsPacing S T strict P J (log ++ entries) D sims holds moments
   passes entries D moved kept restless on naps looks = record {
@@ -133,10 +133,10 @@ module _ (S : Setting) (T : Tempo) (strict : Option ℕ) (P : Plan) (J : List En
     holding = p.holding;
     steps = p.steps;
     fit = p.fit;
-    lines = λ i l linked. subst (λ (ms : List Message). HasLine S.scenario S.replies (log ++ entries) i l ms (p.queued i) D) (append_nil (got J i))
-        (has_line_moved S.scenario S.replies log entries i l (got J i) [] (p.queued i) C D (p.lines i l linked) (moved i));
-    no_line = λ i within. still_none entries [] (line_at C i) (line_at D i) (p.no_line i within) (moved i);
-    no_other = λ i w there. let o = was_there entries [] (line_at C i) (line_at D i) w there (moved i) in p.no_other i o.0 o.1;
+    channels = λ i l linked. subst (λ (ms : List Message). HasChannel S.scenario S.replies (log ++ entries) i l ms (p.queued i) D) (append_nil (got J i))
+        (has_channel_moved S.scenario S.replies log entries i l (got J i) [] (p.queued i) C D (p.channels i l linked) (moved i));
+    no_channel = λ i within. still_none entries [] (channel_at C i) (channel_at D i) (p.no_channel i within) (moved i);
+    no_other = λ i w there. let o = was_there entries [] (channel_at C i) (channel_at D i) w there (moved i) in p.no_other i o.0 o.1;
     kept = λ s. ap (kept_of s) kept ∙ p.kept s;
     kinds = p.kinds;
     come = p.come;
@@ -163,26 +163,26 @@ module _ (S : Setting) (T : Tempo) (strict : Option ℕ) (P : Plan) (J : List En
   reads n = passes_awake (Told n ∷ []) C (told_moved n C) refl (λ less after is. alone (Told n) Rest less after (λ e. cc) is) (tt, tt) (λ less after is. alone (Told n) Nap less after (λ e. cc) is)
 
   -- the links are looked at, and nothing is heard
-  pub looks_around : (entries : List LogEntry) (D : CrewState) → IsUnheard entries C D → AreOfLinks (IsLineLink C.lines) entries → IsPacing S T strict P J (log ++ entries) D sims holds moments
-  looks_around entries D u of_links = passes_awake entries D u.moved u.kept (λ less after is. no_rests (IsLineLink C.lines) entries of_links less after is)
-      (on_or_clock (IsRunLink S.started S.scenario) entries (on_these (IsRunLink S.started S.scenario) entries (of_run S.started S.scenario C.lines entries (λ i l linked. let g = p.lines i l linked in (g.line, g.there, g.link)) p.no_other of_links)))
-      (λ less after is. no_naps entries less after (no_clock (IsLineLink C.lines) entries of_links) is)
+  pub looks_around : (entries : List LogEntry) (D : CrewState) → IsUnheard entries C D → AreOfLinks (IsChannelLink C.channels) entries → IsPacing S T strict P J (log ++ entries) D sims holds moments
+  looks_around entries D u of_links = passes_awake entries D u.moved u.kept (λ less after is. no_rests (IsChannelLink C.channels) entries of_links less after is)
+      (on_or_clock (IsRunLink S.started S.scenario) entries (on_these (IsRunLink S.started S.scenario) entries (of_run S.started S.scenario C.channels entries (λ i l linked. let g = p.channels i l linked in (g.channel, g.there, g.link)) p.no_other of_links)))
+      (λ less after is. no_naps entries less after (no_clock (IsChannelLink C.channels) entries of_links) is)
 
-  -- where all lines are parked, nobody is ready, and what waits is early, a nap may be taken
-  pub nap_here : ((i : ℕ) (w : Line) → line_at C i ≡ Some w → w.parked ≡ true) → ((i : ℕ) (x : Tier) → IsReady P (view P J) i x → ⊥) → ((i : ℕ) (low : i < sim_count P) → IsEarly T (last_told log) (p.holding i low).waiting)
+  -- where all channels are parked, nobody is ready, and what waits is early, a nap may be taken
+  pub nap_here : ((i : ℕ) (w : Channel) → channel_at C i ≡ Some w → w.parked ≡ true) → ((i : ℕ) (x : Tier) → IsReady P (view P J) i x → ⊥) → ((i : ℕ) (low : i < sim_count P) → IsEarly T (last_told log) (p.holding i low).waiting)
       → IsNapOf S.started S.scenario S.replies P T J log
   nap_here parked nobody early = record {
     at = J;
     more = [];
     parts = sym (append_nil J);
     nobody = nobody;
-    lines = λ i l linked.
-        let h = p.lines i l linked in
+    channels = λ i l linked.
+        let h = p.channels i l linked in
         let low : i < sim_count P = subst (λ (n : ℕ). i < n) (sym (p.suits).sims) (linked_low S.started S.scenario i l linked) in
         record {
-          line = h.line;
+          channel = h.channel;
           link = h.link;
-          parked = parked i h.line h.there;
+          parked = parked i h.channel h.there;
           queued = p.queued i;
           waiting = (p.holding i low).waiting;
           items = (p.holding i low).items;

@@ -17,7 +17,7 @@ use Rattle.mk_sched.specs.Cores.{Stands}
 use Rattle.mk_sched.specs.Answers.{SomeReady}
 use Rattle.mk_run_laws.specs.Handshake.{is_within}
 use Rattle.mk_run_laws.specs.Crews.{CrewState, IsHeard, kept_of}
-use Rattle.mk_run_laws.specs.inner.Running.{HasLine}
+use Rattle.mk_run_laws.specs.inner.Running.{HasChannel}
 use Rattle.mk_run_laws.proofs.Stepping.{after_message, item_leaves_open, same_or_not}
 use Rattle.mk_run_links.specs.Entries.{AreOfLinks, IsRunLink}
 use Rattle.mk_run_links.proofs.OnEntries.{no_rests}
@@ -34,7 +34,7 @@ use Rattle.mk_pace_laws.specs.Moments.{Tempo}
 use Rattle.mk_pace_laws.specs.Naps.{AreNaps}
 use Rattle.mk_pace_loop.specs.inner.Pacing.{AreHeldItems, BeginsWithStep, DueAs, IsHolding, IsOneAtMost, IsPacing, IsPacingFor, held_at, replies_kept}
 use Rattle.mk_pace_loop.proofs.Grown.{begins_push, get_last, held_longer, held_push, kept_got, kept_sent, moments_longer, none_pushed, none_shut, none_waits, one_moved, open_got, open_sent}
-use Rattle.mk_pace_loop.proofs.Meeting.{met_fits, met_kept_away, met_kept_here, met_kinds, met_lines, met_looks, met_moments, met_naps, met_no_line, met_no_other, met_replied, met_timely, met_told, met_within}
+use Rattle.mk_pace_loop.proofs.Meeting.{met_fits, met_kept_away, met_kept_here, met_kinds, met_channels, met_looks, met_moments, met_naps, met_no_channel, met_no_other, met_replied, met_timely, met_told, met_within}
 use Rattle.mk_pace_loop.proofs.Passing.{on_later, origin_later, setup_later}
 
 module _ (S : Setting) (T : Tempo) (strict : Option ℕ) (P : Plan) (J : List Entry) (before entries : List LogEntry) (C D : CrewState) (sims : List (Option Simulator)) (holds : List (List Held)) (moments : List Moment) (p : IsPacing S T strict P J before C sims holds moments)
@@ -84,8 +84,8 @@ module _ (S : Setting) (T : Tempo) (strict : Option ℕ) (P : Plan) (J : List En
     holding = still_held;
     steps = p.steps;
     fit = still_fit;
-    lines = met_lines S T strict P J before entries C D sims holds moments p s m nobody of_links fit heard;
-    no_line = met_no_line S T strict P J before entries C D sims holds moments p s m nobody of_links fit heard;
+    channels = met_channels S T strict P J before entries C D sims holds moments p s m nobody of_links fit heard;
+    no_channel = met_no_channel S T strict P J before entries C D sims holds moments p s m nobody of_links fit heard;
     no_other = met_no_other S T strict P J before entries C D sims holds moments p s m nobody of_links fit heard;
     kept = kept_at;
     kinds = met_kinds S T strict P J before entries C D sims holds moments p s m nobody of_links fit heard;
@@ -190,9 +190,9 @@ module _ (S : Setting) (T : Tempo) (strict : Option ℕ) (P : Plan) (J : List En
       holding = λ i low. (all i low).0;
       steps = steps_at;
       fit = λ i low inside. (all i low).1 inside;
-      lines = λ i l linked. subst (λ (ms : List Message). HasLine S.scenario S.replies (before ++ entries) i l ms (p.queued i) D) (sym (got_sent K s item i))
-          (met_lines S T strict P J before entries C D sims holds moments p s m nobody of_links fit heard i l linked);
-      no_line = met_no_line S T strict P J before entries C D sims holds moments p s m nobody of_links fit heard;
+      channels = λ i l linked. subst (λ (ms : List Message). HasChannel S.scenario S.replies (before ++ entries) i l ms (p.queued i) D) (sym (got_sent K s item i))
+          (met_channels S T strict P J before entries C D sims holds moments p s m nobody of_links fit heard i l linked);
+      no_channel = met_no_channel S T strict P J before entries C D sims holds moments p s m nobody of_links fit heard;
       no_other = met_no_other S T strict P J before entries C D sims holds moments p s m nobody of_links fit heard;
       kept = kept_at;
       kinds = kinds_sent (reply_in S) (is_within S.scenario) P K s item (met_kinds S T strict P J before entries C D sims holds moments p s m nobody of_links fit heard);

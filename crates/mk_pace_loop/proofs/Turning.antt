@@ -19,9 +19,9 @@ use Rattle.mk_local.specs.Simulators.{Simulator}
 use Rattle.mk_sched.specs.Cores.{CoreState, is_message_in_range}
 use Rattle.mk_run_laws.specs.Crews.{IsHeard}
 use Rattle.mk_run_laws.specs.Handshake.{sim_link}
-use Rattle.mk_run_laws.specs.Lines.{Line}
+use Rattle.mk_run_laws.specs.Channels.{Channel}
 use Rattle.mk_run_links.specs.Entries.{AreOfLinks, IsClockless, IsNotOfClock}
-use Rattle.mk_run_links.specs.Places.{AreOpen, IsLineLink}
+use Rattle.mk_run_links.specs.Places.{AreOpen, IsChannelLink}
 use Rattle.mk_run_links.proofs.OnEntries.{no_clock, of_run}
 use Rattle.mk_run_local.specs.Calls.{IsFitSuccess}
 use Rattle.mk_run_crew.specs.declared.halt.Halt.{Halt}
@@ -84,7 +84,7 @@ stopping_by some all S core log C W end more e = record {
   patient = e.patient;
   in_range = e.in_range;
   kinds = e.kinds;
-  lines = e.lines;
+  channels = e.channels;
   no_other = e.no_other;
   origin = e.origin;
   moments_are = e.moments_are;
@@ -100,15 +100,15 @@ stopping_by some all S core log C W end more e = record {
 
 -- ---- links are open
 
-pub are_open : (S : Setting) (core : CoreState) (log : List LogEntry) (C : CrewSeen) (W : WaitingSeen) (open_links : List LinkNo) → GoesOn S core log C W → AreLinksOpen S open_links → AreOpen C.lines open_links
+pub are_open : (S : Setting) (core : CoreState) (log : List LogEntry) (C : CrewSeen) (W : WaitingSeen) (open_links : List LinkNo) → GoesOn S core log C W → AreLinksOpen S open_links → AreOpen C.channels open_links
 are_open S core log C W open_links u links i w there =
     let t = u.no_other i w there in
-    let g = u.lines i t.0 t.1 in
-    subst (λ (l : LinkNo). IsIn l open_links) (sym (ap (λ (v : Line). v.link) (some_same (sym there ∙ g.there)) ∙ g.link)) (links i t.0 t.1)
+    let g = u.channels i t.0 t.1 in
+    subst (λ (l : LinkNo). IsIn l open_links) (sym (ap (λ (v : Channel). v.link) (some_same (sym there ∙ g.there)) ∙ g.link)) (links i t.0 t.1)
 
 -- ---- a message was heard
 
-pub met_it : (S : Setting) (core : CoreState) (log entries : List LogEntry) (C D : CrewSeen) (W : WaitingSeen) (s : SimNo) (m : Message) → GoesOn S core log C W → Waits core → IsHeard entries s.0 m (crew_of C) (crew_of D) → AreOfLinks (IsLineLink C.lines) entries → D.sims ≡ C.sims
+pub met_it : (S : Setting) (core : CoreState) (log entries : List LogEntry) (C D : CrewSeen) (W : WaitingSeen) (s : SimNo) (m : Message) → GoesOn S core log C W → Waits core → IsHeard entries s.0 m (crew_of C) (crew_of D) → AreOfLinks (IsChannelLink C.channels) entries → D.sims ≡ C.sims
     → ((k : Arrival) (more : List Arrival) → C.kept ≡ k ∷ more → IsFitSuccess m) → IsPast S core (log ++ entries) s m D W
 met_it S core log entries C D W s m u waits h of_links sims fit = record {
   before = log;
@@ -119,7 +119,7 @@ met_it S core log entries C D W s m u waits h of_links sims fit = record {
   opened = waits.1;
   nobody = waits.0;
   heard = h;
-  of_links = of_run S.started S.scenario C.lines entries (λ i l linked. let g = u.lines i l linked in (g.line, g.there, g.link)) u.no_other of_links;
+  of_links = of_run S.started S.scenario C.channels entries (λ i l linked. let g = u.channels i l linked in (g.channel, g.there, g.link)) u.no_other of_links;
   fit = fit;
 }
 
@@ -130,13 +130,13 @@ pub met_form : (S : Setting) (core : CoreState) (log : List LogEntry) (s : SimNo
 met_form S core log s m D W h = met_in_range S W.tempo W.strict core.plan core.entries h.before h.entries h.crew (crew_of D) D.sims W.holds W.moments h.pacing s m h.nobody h.of_links h.fit h.heard
 
 -- the core was given it
-pub heard_attends : (risen : Type 0) (told : ℕ) (core new : CoreState) (entries : List LogEntry) (C D E : CrewSeen) (W V : WaitingSeen) (s : SimNo) (m : Message) (r : Result (Unit {0}) Outcome) → Waits core → IsHeard entries s.0 m (crew_of C) (crew_of D) → AreOfLinks (IsLineLink C.lines) entries → D.sims ≡ C.sims
+pub heard_attends : (risen : Type 0) (told : ℕ) (core new : CoreState) (entries : List LogEntry) (C D E : CrewSeen) (W V : WaitingSeen) (s : SimNo) (m : Message) (r : Result (Unit {0}) Outcome) → Waits core → IsHeard entries s.0 m (crew_of C) (crew_of D) → AreOfLinks (IsChannelLink C.channels) entries → D.sims ≡ C.sims
     → ((k : Arrival) (more : List Arrival) → C.kept ≡ k ∷ more → IsFitSuccess m) → TakesAs r s m core D W new E V → AttendsAs r told entries risen core C W new E V
 heard_attends risen told core new entries C D E W V s m (Ok done) waits h of_links sims fit t = (t.0, λ S log u just. t.1 S (log ++ entries) (met_it S core log entries C D W s m u waits h of_links sims fit))
 heard_attends risen told core new entries C D E W V s m (Err end) waits h of_links sims fit t = λ S log u just. stopping_by ⊥ risen S new (log ++ entries) E V (pace.Outcome end) (λ e. absurd e) (t S (log ++ entries) (met_it S core log entries C D W s m u waits h of_links sims fit))
 
 -- nothing was
-pub unheard_attends : (risen : Type 0) (told : ℕ) (core : CoreState) (entries : List LogEntry) (C D : CrewSeen) (W : WaitingSeen) (h : Halt) → Waits core → HearsNothing h entries C D → AreOfLinks (IsLineLink C.lines) entries → D.sims ≡ C.sims → (h ≡ halt.Fleet → risen)
+pub unheard_attends : (risen : Type 0) (told : ℕ) (core : CoreState) (entries : List LogEntry) (C D : CrewSeen) (W : WaitingSeen) (h : Halt) → Waits core → HearsNothing h entries C D → AreOfLinks (IsChannelLink C.channels) entries → D.sims ≡ C.sims → (h ≡ halt.Fleet → risen)
     → AttendsAs (Err (outcome_of h)) told entries risen core C W core D W
 unheard_attends risen told core entries C D W h waits un of_links sims cause = λ S log u just. unheard_ends S core log entries C D W risen u waits sims (unheard_on S core log entries C D W risen u waits sims un.unheard of_links) h un cause
 
@@ -188,11 +188,11 @@ module _ (risen : Type 0) (told : ℕ) (core : CoreState) (entries : List LogEnt
       early_at : (i : ℕ) (low : i < sim_count core.plan) → IsEarly W.tempo (last_told (log ++ entries)) (q.holding i low).waiting
       early_at i low =
           let t = q.holding i low in
-          subst (λ (n : ℕ). IsEarly W.tempo n t.waiting) (sym (told_last told log entries just (no_clock (IsLineLink C.lines) entries tried.1)))
+          subst (λ (n : ℕ). IsEarly W.tempo n t.waiting) (sym (told_last told log entries just (no_clock (IsChannelLink C.channels) entries tried.1)))
           (early_items core.plan W.tempo core.entries i told (q.queued i) t.held t.waiting t.are (q.steps i t.held tt t.there) (λ f is. early i t.held f t.there is))
 
       found : (i : ℕ) (l : LinkNo) → sim_link S.started S.scenario i ≡ Some l → last_read l (log ++ entries) ≡ Some (NotHeard l)
-      found i l linked = let g = q.lines i l linked in subst (λ (k : LinkNo). last_read k (log ++ entries) ≡ Some (NotHeard k)) g.link (g.in_step.parked (tried.2 i g.line g.there).0).heard_all
+      found i l linked = let g = q.channels i l linked in subst (λ (k : LinkNo). last_read k (log ++ entries) ≡ Some (NotHeard k)) g.link (g.in_step.parked (tried.2 i g.channel g.there).0).heard_all
 
   pub napped : (rose : Type 0) (more : List LogEntry) (r : Result (Unit {0}) Outcome) → (rose → risen) → NapsAs r more rose → AttendsAs r told (entries ++ more) risen core C W core D W
   napped rose more (Ok done) up nap = (going, λ S log u just. subst (λ (l : List LogEntry). GoesOn S core l D W) (append_assoc log entries (Nap ∷ []) ∙ ap (λ (n : List LogEntry). log ++ (entries ++ n)) (sym nap)) (naps_on S log u just))

@@ -19,7 +19,7 @@ use Rattle.mk_sched.specs.Answers.{IsFaulty, IsOutOfMemory, IsUnanswered, IsUnta
 use Rattle.mk_run_laws.specs.Crews.{IsHeard}
 use Rattle.mk_run_laws.specs.Handshake.{is_within, sim_link}
 use Rattle.mk_run_laws.specs.Kinds.{KeepsToKinds}
-use Rattle.mk_run_laws.specs.inner.Running.{HasLine}
+use Rattle.mk_run_laws.specs.inner.Running.{HasChannel}
 use Rattle.mk_run_links.specs.Entries.{IsRunLink}
 use Rattle.mk_run_links.proofs.OnEntries.{no_rests}
 use Rattle.mk_run_crew.specs.Seen.{CrewSeen, crew_of}
@@ -34,13 +34,13 @@ use Rattle.mk_pace_laws.specs.declared.end.PaceEnd.TheVariants as pace
 use Rattle.mk_pace_laws.specs.Ends.{QueuedOut}
 use Rattle.mk_pace_laws.specs.Moments.{AreMoments, before_step, moments_of, sent_out}
 use Rattle.mk_pace_laws.specs.Naps.{AreAllLinked, AreNaps}
-use Rattle.mk_pace_loop.specs.inner.PacedOut.{EndsOutcome, HasPacedOut, IsAheadPaced, IsLastPacedLine}
+use Rattle.mk_pace_loop.specs.inner.PacedOut.{EndsOutcome, HasPacedOut, IsAheadPaced, IsLastPacedChannel}
 use Rattle.mk_pace_loop.specs.inner.Pacing.{IsPacing}
 use Rattle.mk_pace_loop.specs.inner.Turns.{IsPast, IsStopping}
 use Rattle.mk_pace_loop.specs.inner.Waiting.{WaitingSeen}
 use Rattle.mk_run.proofs.Endings.{limit_unnamed}
 use Rattle.mk_pace_loop.proofs.Ending.{linked_low, queued_itself, sent_is, within_low}
-use Rattle.mk_pace_loop.proofs.Meeting.{got_given, given_here, met_fits, met_kinds, met_lines, met_looks, met_moments, met_naps, met_naps_before, met_no_other, met_replied, met_timely, met_told, taken_kept}
+use Rattle.mk_pace_loop.proofs.Meeting.{got_given, given_here, met_fits, met_kinds, met_channels, met_looks, met_moments, met_naps, met_naps_before, met_no_other, met_replied, met_timely, met_told, taken_kept}
 use Rattle.mk_pace_loop.proofs.Passing.{moments_later, on_later, origin_later, setup_later}
 
 module _ (S : Setting) (core : CoreState) (log : List LogEntry) (s : SimNo) (m : Message) (D : CrewSeen) (W : WaitingSeen) (h : IsPast S core log s m D W) where
@@ -59,8 +59,8 @@ module _ (S : Setting) (core : CoreState) (log : List LogEntry) (s : SimNo) (m :
   p : IsPacing S W.tempo W.strict core.plan core.entries h.before h.crew D.sims W.holds W.moments
   p = h.pacing
 
-  lines_now : (i : ℕ) (l : LinkNo) → sim_link S.started S.scenario i ≡ Some l → HasLine S.scenario S.replies L i l (got K i) (p.queued i) (crew_of D)
-  lines_now = met_lines S W.tempo W.strict P J h.before h.entries h.crew (crew_of D) D.sims W.holds W.moments p s m h.nobody h.of_links h.fit h.heard
+  channels_now : (i : ℕ) (l : LinkNo) → sim_link S.started S.scenario i ≡ Some l → HasChannel S.scenario S.replies L i l (got K i) (p.queued i) (crew_of D)
+  channels_now = met_channels S W.tempo W.strict P J h.before h.entries h.crew (crew_of D) D.sims W.holds W.moments p s m h.nobody h.of_links h.fit h.heard
 
   -- it is left, where the journal doesn't get it
   met_left : IsAheadPaced S J L (crew_of D) ⊎ IsOpenWithin S.scenario P J
@@ -70,7 +70,7 @@ module _ (S : Setting) (core : CoreState) (log : List LogEntry) (s : SimNo) (m :
       opens o some none = true≢false (sym some ∙ ap (λ (q : Option OpenTurn). is_some q) none)
 
       go : IsHeard h.entries s.0 m h.crew (crew_of D) → IsAheadPaced S J L (crew_of D) ⊎ IsOpenWithin S.scenario P J
-      go (IsHeard.kept is lines none) =
+      go (IsHeard.kept is channels none) =
           let t = taken_kept S W.tempo W.strict P J h.before h.entries h.crew (crew_of D) D.sims W.holds W.moments p s m h.nobody h.of_links h.fit h.heard is in
           inr (record { sim = s.0; within = t.inside; opened = opens ((view P J).open_at s.0) t.opened })
       go (IsHeard.on_link none after w there moved parked) =
@@ -83,7 +83,7 @@ module _ (S : Setting) (core : CoreState) (log : List LogEntry) (s : SimNo) (m :
             linked = t.1;
             items = p.queued s.0;
             queued = (w.waiting, w.items);
-            line = subst (λ (ms : List Message). HasLine S.scenario S.replies L s.0 t.0 ms (p.queued s.0) (crew_of D)) (got_given J s m s.0 ∙ ap (λ (l : List Message). got J s.0 ++ l) (given_here s.0 m)) (lines_now s.0 t.0 t.1);
+            channel = subst (λ (ms : List Message). HasChannel S.scenario S.replies L s.0 t.0 ms (p.queued s.0) (crew_of D)) (got_given J s m s.0 ∙ ap (λ (l : List Message). got J s.0 ++ l) (given_here s.0 m)) (channels_now s.0 t.0 t.1);
           })
 
   -- the run ends with this journal, which has sent what it had sent before
@@ -91,14 +91,14 @@ module _ (S : Setting) (core : CoreState) (log : List LogEntry) (s : SimNo) (m :
     out_is : (i : ℕ) → i < sim_count P → sent_out N W.moments i ≡ p.queued i
     out_is i low = ap (before_step (length (moments_of i W.moments))) (same i) ∙ sent_is S W.tempo W.strict P J h.before h.crew D.sims W.holds W.moments p i low
 
-    last_line : (i : ℕ) (l : LinkNo) → sim_link S.started S.scenario i ≡ Some l → IsLastPacedLine S W.tempo N W.moments L (crew_of D) (pace.Outcome end) i l
-    last_line i l linked =
+    last_channel : (i : ℕ) (l : LinkNo) → sim_link S.started S.scenario i ≡ Some l → IsLastPacedChannel S W.tempo N W.moments L (crew_of D) (pace.Outcome end) i l
+    last_channel i l linked =
         let low = linked_low S W.tempo W.strict P J h.before h.crew D.sims W.holds W.moments p i l linked in
         let t = p.holding i low in
         record {
           messages = got K i;
           items = p.queued i;
-          line = lines_now i l linked;
+          channel = channels_now i l linked;
           given = given i;
           queued = (t.waiting, same i ∙ t.items);
           out = subst (λ (all : List Item). QueuedOut (pace.Outcome end) all (p.queued i)) (sym (out_is i low)) (queued_itself (pace.Outcome end) (p.queued i));
@@ -122,7 +122,7 @@ module _ (S : Setting) (core : CoreState) (log : List LogEntry) (s : SimNo) (m :
       patient = patient;
       in_range = in_range;
       kinds = kinds;
-      lines = last_line;
+      channels = last_channel;
       no_other = met_no_other S W.tempo W.strict P J h.before h.entries h.crew (crew_of D) D.sims W.holds W.moments p s m h.nobody h.of_links h.fit h.heard;
       origin = origin_later S.started S.scenario h.before h.entries W.tempo.origin p.origin;
       moments_are = moments;

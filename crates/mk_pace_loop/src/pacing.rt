@@ -23,7 +23,7 @@ use mk_outside::{Now, Paced, Slept};
 use mk_pace_held::Held;
 use mk_pace_laws::PaceEnd;
 use mk_plan::{Entry, Message};
-use mk_run::{Outcome, outcome_of, send_last};
+use mk_run::{Outcome, send_last};
 use mk_run_crew::Crew;
 use mk_run_local::replies_are_kinds;
 use mk_sched::{Core, Next, Taken};
@@ -175,7 +175,7 @@ fn attend<F: Paced>(
     requires known { AreOf (rows_in kinds.now) (within_of crew.old) }
     requires waits { Waits core.old }
     requires early { AreEarly told waiting.old.holds }
-    requires open { AreOpen crew.old.lines (F.Fleet.open_links fleet.old) }
+    requires open { AreOpen crew.old.channels (F.Fleet.open_links fleet.old) }
     requires underway { (S : Setting) × (log : List LogEntry)
         × GoesOn S core.old log crew.old waiting.old }
     ensures count { F.Fleet.faults fleet.old ≤ F.Fleet.faults fleet.new }
@@ -192,7 +192,7 @@ fn attend<F: Paced>(
     match crew.try_hear(fleet) {
         Ok(Some((sim, message))) => take(core, crew, kinds, waiting, sim, message),
         Ok(None) => nap(waiting, fleet, told),
-        Err(halt) => Err(outcome_of(halt)),
+        Err(halt) => Err(Outcome::from(halt)),
     }
 }
 

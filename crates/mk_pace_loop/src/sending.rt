@@ -22,7 +22,7 @@ use mk_local::Registry;
 use mk_pace_held::{First, Held};
 use mk_pace_laws::{Moment, PaceEnd};
 use mk_plan::{Entry, Item};
-use mk_run::{Outcome, outcome_of};
+use mk_run::Outcome;
 use mk_run_crew::Crew;
 use mk_run_local::replies_are_kinds;
 use mk_sched::Core;
@@ -61,7 +61,7 @@ fn send_held(
     let item = item_at(core.journal().entries.as_slice(), held.place);
     match crew.send(kinds, sim, item, held.id) {
         Ok(()) => Ok(()),
-        Err(halt) => Err(outcome_of(halt)),
+        Err(halt) => Err(Outcome::from(halt)),
     }
 }
 

@@ -7,9 +7,9 @@ use Rattle.mk_plan.specs.Plans.{IsValidPlan}
 use Rattle.mk_plan.specs.Journals.{arrivals, got, view}
 use Rattle.mk_plan.specs.Orderly.{IsEager}
 use Rattle.mk_plan.specs.Ready.{IsDone}
-use Rattle.mk_order.proofs.Settled.{done_is_end, replay_is_one}
+use Rattle.mk_order.proofs.SameEnd.{done_is_end, replay_is_one}
 use Rattle.mk_run_laws.proofs.Following.{all_done}
-use Rattle.mk_run.proofs.LinesStopped.{begins_itself}
+use Rattle.mk_run.proofs.ChannelsStopped.{begins_itself}
 use Rattle.mk_resume.specs.Laws.{AreAlike, RunsAndResumedRunsAreAlike}
 
 alike : (P : Plan) → IsValidPlan P → (J K : List Entry) → IsEager P J → IsEager P K → length J ≤ P.entries → length K ≤ P.entries → IsDone P (view P J) → IsDone P (view P K) → AreAlike P J K

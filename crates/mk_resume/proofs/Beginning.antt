@@ -11,7 +11,7 @@ use Rattle.mk_record_read.specs.Seen.{came}
 use Rattle.mk_record_read.specs.Steps.{IsKnown}
 use Rattle.mk_record_restored.specs.Restored.{IsOnward}
 use Rattle.mk_sched.specs.Cores.{CoreState}
-use Rattle.mk_run_laws.specs.Lines.{Line}
+use Rattle.mk_run_laws.specs.Channels.{Channel}
 use Rattle.mk_run_links.specs.Places.{AreOpen}
 use Rattle.mk_run_crew.specs.Seen.{CrewSeen, crew_of}
 use Rattle.mk_run.specs.inner.Handshakes.{Start}
@@ -36,12 +36,12 @@ begins_fresh A C P s saved core on known =
       over = none_yet (saved_of core.entries) A.started A.scenario s.begun.replies core.plan core.entries A.log (crew_of C) s.begun.begun;
     }
 
-pub open_fresh : (A : Start) (C : CrewSeen) (P : Plan) (s : IsStarted A C P) (open_links : List LinkNo) → AreOpen C.lines open_links → AreLinksOpen (setting_at A C P s) open_links
+pub open_fresh : (A : Start) (C : CrewSeen) (P : Plan) (s : IsStarted A C P) (open_links : List LinkNo) → AreOpen C.channels open_links → AreLinksOpen (setting_at A C P s) open_links
 open_fresh A C P s open_links open_ = links_open A.started A.scenario A.ranks A.rows A.log C P s.begun open_links open_
 
 -- the links of a crew that is to be stopped are open still
-pub stopping_open : (risen : Type 0) (T : Setting) (first : List Entry) (core : CoreState) (log : List LogEntry) (C : CrewSeen) (end : ResumeEnd) (open_links : List LinkNo) → IsStopping risen T first core log C end → AreLinksOpen T open_links → AreOpen C.lines open_links
+pub stopping_open : (risen : Type 0) (T : Setting) (first : List Entry) (core : CoreState) (log : List LogEntry) (C : CrewSeen) (end : ResumeEnd) (open_links : List LinkNo) → IsStopping risen T first core log C end → AreLinksOpen T open_links → AreOpen C.channels open_links
 stopping_open risen T first core log C end open_links u links i w there =
     let t = u.1.no_other i w there in
-    let g = (u.1.lines i t.0 t.1).line in
-    subst (λ (l : LinkNo). IsIn l open_links) (sym (ap (λ (v : Line). v.link) (some_same (sym there ∙ g.there)) ∙ g.link)) (links i t.0 t.1)
+    let g = (u.1.channels i t.0 t.1).channel in
+    subst (λ (l : LinkNo). IsIn l open_links) (sym (ap (λ (v : Channel). v.link) (some_same (sym there ∙ g.there)) ∙ g.link)) (links i t.0 t.1)

@@ -23,7 +23,7 @@ use Rattle.mk_run.specs.declared.outcome.Outcome.TheVariants as outcome
 use Rattle.mk_resume_links.specs.Rests.{Counts}
 use Rattle.mk_resume_loop.specs.declared.ending.ResumeEnd.{ResumeEnd}
 use Rattle.mk_resume_loop.specs.declared.ending.ResumeEnd.TheVariants as ends
-use Rattle.mk_resume.specs.Resumed.{HasNotBegun, HasRefused, HasResumed, IsDiffering, IsLeft, IsResumed, ResumesAs, ShownBy}
+use Rattle.mk_resume.specs.Resumed.{HasNotBegun, HasRefused, HasResumed, IsDiffering, SomeUntaken, IsResumed, ResumesAs, ShownBy}
 
 never_risen : HasRisen 0 0 → ⊥
 never_risen (inl less) = absurd (omega (arith, less))
@@ -34,7 +34,7 @@ module _ (S : Scenario) (all : is_wholly_within S ≡ true) (started faults : �
   never : (n i : ℕ) (l : LinkNo) → sim_link n S i ≡ Some l → ⊥
   never n i l linked = never_linked n S all i l linked
 
-  left : (J : List Entry) (heard : Counts) (log : List LogEntry) → IsLeft 0 S J heard log → IsLeft started S J heard []
+  left : (J : List Entry) (heard : Counts) (log : List LogEntry) → SomeUntaken 0 S J heard log → SomeUntaken started S J heard []
   left J heard log (inl ungot) = absurd (never 0 ungot.sim ungot.link ungot.linked)
   left J heard log (inr awaited) = inr awaited
 

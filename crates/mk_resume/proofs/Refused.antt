@@ -23,11 +23,11 @@ use Rattle.mk_run_laws.proofs.Clauses.{handshake_says}
 use Rattle.mk_run_laws.proofs.Ending.{link_ended}
 use Rattle.mk_run_laws.proofs.Stepping.{first_or_second}
 use Rattle.mk_run_links.specs.Entries.{AreOn, IsRunLink}
-use Rattle.mk_run_links.specs.Places.{IsLineLink}
+use Rattle.mk_run_links.specs.Places.{IsChannelLink}
 use Rattle.mk_run_links.proofs.OnEntries.{on_more, on_run}
 use Rattle.mk_run_crew.specs.Seen.{CrewSeen, crew_of}
 use Rattle.mk_run.proofs.Beginning.{run_begins}
-use Rattle.mk_run.proofs.LinesStopped.{stopped_by}
+use Rattle.mk_run.proofs.ChannelsStopped.{stopped_by}
 use Rattle.mk_run.proofs.Turning.{risen_on}
 use Rattle.mk_resume_loop.specs.declared.ending.ResumeEnd.{ResumeEnd}
 use Rattle.mk_resume.specs.Resumed.{HasFaultySaved, HasRefused, ResumesAs}
@@ -35,14 +35,14 @@ use Rattle.mk_run.specs.inner.Handshakes.{Start}
 use Rattle.mk_resume.specs.inner.Going.{GoesOnAs, IsStarted, PlanResumesAs, RefusesAs}
 use Rattle.mk_resume.proofs.Beginning.{begins_fresh, setting_at}
 
-module _ (A : Start) (C : CrewSeen) (P : Plan) (s : IsStarted A C P) (stops : List LogEntry) (some risen : Type 0) (rises : some → risen) (stop : AreStopped stops some (crew_of C)) (restless : IsRestless stops) (of_lines : AreOn (IsLineLink C.lines) stops) where
+module _ (A : Start) (C : CrewSeen) (P : Plan) (s : IsStarted A C P) (stops : List LogEntry) (some risen : Type 0) (rises : some → risen) (stop : AreStopped stops some (crew_of C)) (restless : IsRestless stops) (of_channels : AreOn (IsChannelLink C.channels) stops) where
   stopped : AreStopped stops risen (crew_of C)
   stopped = stopped_by stops some risen (crew_of C) rises stop
 
   -- each link is that of a run that was stopped where it began
   link_over : (i : ℕ) (l : LinkNo) → sim_link A.started A.scenario i ≡ Some l → IsLinkOfRun A.scenario s.begun.replies [] (A.log ++ stops) risen i l []
   link_over i l linked = link_ended A.started A.scenario s.begun.replies s.begun.counts [] A.log stops risen (crew_of C) stopped i l linked [] []
-      ((run_begins A.started A.scenario A.ranks A.rows A.log C P s.begun s.prepared).running.lines i l linked) ([], refl) ([], refl)
+      ((run_begins A.started A.scenario A.ranks A.rows A.log C P s.begun s.prepared).running.channels i l linked) ([], refl) ([], refl)
 
   pub has_refused : HasRefused A.started A.scenario A.ranks A.rows P (A.log ++ stops) risen
   has_refused = record {
@@ -54,14 +54,14 @@ module _ (A : Start) (C : CrewSeen) (P : Plan) (s : IsStarted A C P) (stops : Li
     told = s.begun.told;
     valid = s.begun.valid;
     sims = s.begun.sims;
-    says = λ reply i l linked. let t = s.begun.begun.lines i l linked in
+    says = λ reply i l linked. let t = s.begun.begun.channels i l linked in
         handshake_says A.started A.scenario reply A.log stops risen i l (setup_requests A.scenario) [] (sym (append_nil (setup_requests A.scenario))) (s.begun.replies i) t.0 t.2 t.3 (stopped i t.0 t.1);
     whole = λ i l linked. (link_over i l linked).whole;
     rests = λ before after is. elim (first_or_second A.log stops before after Rest is) [
       | inl t ↦ (s.begun.rests before t.0 t.1, s.begun.begun.setting_up before t.0 t.1)
       | inr t ↦ absurd (restless t.0 after t.2)
     ];
-    on_links = on_more (IsRunLink A.started A.scenario) A.log stops s.begun.on_links (on_run A.started A.scenario C.lines stops (λ i l linked. let t = s.begun.begun.lines i l linked in (t.0, t.1, t.2)) s.begun.back of_lines);
+    on_links = on_more (IsRunLink A.started A.scenario) A.log stops s.begun.on_links (on_run A.started A.scenario C.channels stops (λ i l linked. let t = s.begun.begun.channels i l linked in (t.0, t.1, t.2)) s.begun.back of_channels);
   }
 
 -- what a call comes to whose record wasn't taken
@@ -72,9 +72,9 @@ refuses A P saved log f0 f1 (Some Q) None end h r = absurd r
 refuses A P saved log f0 f1 None (Some J) end h r = absurd r
 refuses A P saved log f0 f1 None None end h r = inl (P, r, h)
 
-pub plan_refuses : (P : Plan) (saved : Saved) (C : CrewSeen) (stops : List LogEntry) (f0 f1 : ℕ) (Q : Option Plan) (J : Option Journal) (end : ResumeEnd) → RefusesAs P saved Q J end → AreStopped stops (HasRisen f0 f1) (crew_of C) → IsRestless stops → AreOn (IsLineLink C.lines) stops
+pub plan_refuses : (P : Plan) (saved : Saved) (C : CrewSeen) (stops : List LogEntry) (f0 f1 : ℕ) (Q : Option Plan) (J : Option Journal) (end : ResumeEnd) → RefusesAs P saved Q J end → AreStopped stops (HasRisen f0 f1) (crew_of C) → IsRestless stops → AreOn (IsChannelLink C.channels) stops
     → PlanResumesAs P saved C stops f0 f1 false Q J end
-plan_refuses P saved C stops f0 f1 Q J end r stop restless of_lines A before low s = refuses A P saved (A.log ++ stops) before f1 Q J end (has_refused A C P s stops (HasRisen f0 f1) (HasRisen before f1) (λ e. risen_on before f0 f1 low e) stop restless of_lines) r
+plan_refuses P saved C stops f0 f1 Q J end r stop restless of_channels A before low s = refuses A P saved (A.log ++ stops) before f1 Q J end (has_refused A C P s stops (HasRisen f0 f1) (HasRisen before f1) (λ e. risen_on before f0 f1 low e) stop restless of_channels) r
 
 -- and of one whose record was taken
 pub plan_goes_on : (P : Plan) (saved : Saved) (C : CrewSeen) (core : CoreState) (entries : List LogEntry) (f0 f2 : ℕ) (Q : Option Plan) (J : Option Journal) (end : ResumeEnd) → IsFirstOther P saved.plan None → IsOnward P (map came saved.arrivals) saved.asks core → All (IsKnown saved.plan) (map came saved.arrivals)

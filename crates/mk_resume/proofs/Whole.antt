@@ -23,13 +23,13 @@ use Rattle.mk_run_laws.specs.Handshake.{sim_link}
 use Rattle.mk_run_laws.specs.Crews.{CrewState, AreStopped, IsRestless}
 use Rattle.mk_run_laws.specs.Rests.{run_messages}
 use Rattle.mk_run_laws.specs.Hearing.{rest_heard}
-use Rattle.mk_run_laws.specs.inner.Running.{HasLine}
+use Rattle.mk_run_laws.specs.inner.Running.{HasChannel}
 use Rattle.mk_run.specs.declared.outcome.Outcome.TheVariants as outcome
 use Rattle.mk_run.specs.inner.Underway.{Setting, reply_in}
-use Rattle.mk_run.proofs.LinesStopped.{all_heard, begins_itself, behind_ungot, heard_behind, held_heard, stopped_by}
+use Rattle.mk_run.proofs.ChannelsStopped.{all_heard, begins_itself, behind_ungot, heard_behind, held_heard, stopped_by}
 use Rattle.mk_run.proofs.Linked.{linked_outside}
 use Rattle.mk_run_links.specs.Entries.{AreOn, IsRunLink}
-use Rattle.mk_run_links.specs.Places.{IsLineLink}
+use Rattle.mk_run_links.specs.Places.{IsChannelLink}
 use Rattle.mk_run_links.proofs.OnEntries.{on_more, on_run}
 use Rattle.mk_run.proofs.Whole.{setup_rests_more}
 use Rattle.mk_resume_walk.specs.Talks.{free_items, up_to}
@@ -41,35 +41,35 @@ use Rattle.mk_resume_links.proofs.Rested.{rests_well}
 use Rattle.mk_resume_links.proofs.Waiting.{end_stopped}
 use Rattle.mk_resume_loop.specs.declared.ending.ResumeEnd.{ResumeEnd}
 use Rattle.mk_resume_loop.specs.declared.ending.ResumeEnd.TheVariants as ends
-use Rattle.mk_resume_loop.specs.inner.Ending.{DiffersNow, EndsBy, HasEnded, HasGiven, IsAhead, IsLastLine, IsLeftNow}
+use Rattle.mk_resume_loop.specs.inner.Ending.{DiffersNow, EndsBy, HasEnded, HasGiven, IsAhead, IsLastChannel, IsLeftNow}
 use Rattle.mk_resume_loop.specs.inner.Underway.{saved_of}
-use Rattle.mk_resume.specs.Resumed.{IsDiffering, IsLeft, IsResumed, ShownBy}
+use Rattle.mk_resume.specs.Resumed.{IsDiffering, SomeUntaken, IsResumed, ShownBy}
 
 module _ (T : Setting) (P : Plan) (first J : List Entry) (heard : Counts) (log entries : List LogEntry) (C : CrewState) (end : ResumeEnd) (faults new_faults : ℕ) (by_run by_stop : Type 0)
-    (risen : by_run → HasRisen faults new_faults) (rises : by_stop → HasRisen faults new_faults) (ended : HasEnded by_run T P first J heard log C end) (stop : AreStopped entries by_stop C) (restless : IsRestless entries) (of_lines : AreOn (IsLineLink C.lines) entries) where
+    (risen : by_run → HasRisen faults new_faults) (rises : by_stop → HasRisen faults new_faults) (ended : HasEnded by_run T P first J heard log C end) (stop : AreStopped entries by_stop C) (restless : IsRestless entries) (of_channels : AreOn (IsChannelLink C.channels) entries) where
   stopped : AreStopped entries (HasRisen faults new_faults) C
   stopped = stopped_by entries by_stop (HasRisen faults new_faults) C rises stop
 
-  linked_so : (i : ℕ) (l : LinkNo) (linked : sim_link T.started T.scenario i ≡ Some l) (t : IsLastLine T J heard log C end i l) → IsLinkOfResumed T.scenario T.replies J (log ++ entries) (HasRisen faults new_faults) i l (heard i) t.items
-  linked_so i l linked t = resumed_link T.started T.scenario T.replies ended.suits.counts J log entries (HasRisen faults new_faults) C stopped i l linked (heard i) t.messages t.items t.line t.given t.queued
+  linked_so : (i : ℕ) (l : LinkNo) (linked : sim_link T.started T.scenario i ≡ Some l) (t : IsLastChannel T J heard log C end i l) → IsLinkOfResumed T.scenario T.replies J (log ++ entries) (HasRisen faults new_faults) i l (heard i) t.items
+  linked_so i l linked t = resumed_link T.started T.scenario T.replies ended.suits.counts J log entries (HasRisen faults new_faults) C stopped i l linked (heard i) t.messages t.items t.channel t.given t.queued
 
-  -- all messages of a line that holds no further one were taken, and behind them is what is held
+  -- all messages of a channel that holds no further one were taken, and behind them is what is held
   all_taken : (i : ℕ) (l : LinkNo) (g : HasGiven T J heard log C i l) → repeated J i (heard i) ≡ run_messages T.scenario (log ++ entries) i l
-  all_taken i l g = all_heard T.started T.scenario T.replies ended.suits.counts log entries (HasRisen faults new_faults) C stopped i l g.linked (repeated J i (heard i)) (free_items J i (heard i)) g.line g.none_held
+  all_taken i l g = all_heard T.started T.scenario T.replies ended.suits.counts log entries (HasRisen faults new_faults) C stopped i l g.linked (repeated J i (heard i)) (free_items J i (heard i)) g.channel g.none_held
 
-  held_so : (i : ℕ) (l : LinkNo) (g : HasGiven T J heard log C i l) → g.line.line.held ≡ rest_heard (heard_on l (log ++ entries))
-  held_so i l g = held_heard T.started T.scenario T.replies ended.suits.counts log entries (HasRisen faults new_faults) C stopped i l g.linked (repeated J i (heard i)) (free_items J i (heard i)) g.line g.none_held
+  held_so : (i : ℕ) (l : LinkNo) (g : HasGiven T J heard log C i l) → g.channel.channel.held ≡ rest_heard (heard_on l (log ++ entries))
+  held_so i l g = held_heard T.started T.scenario T.replies ended.suits.counts log entries (HasRisen faults new_faults) C stopped i l g.linked (repeated J i (heard i)) (free_items J i (heard i)) g.channel g.none_held
 
-  -- a message that a line gave behind those that were sent again was heard behind them
+  -- a message that a channel gave behind those that were sent again was heard behind them
   ahead_heard : (s : SimNo) (m : Message) (a : IsAhead T J heard log C s.0 m) → BeginsWith (run_messages T.scenario (log ++ entries) s.0 a.link) (repeated J s.0 (heard s.0) ++ m ∷ [])
   ahead_heard s m a = subst (λ (ms : List Message). BeginsWith (run_messages T.scenario (log ++ entries) s.0 a.link) (ms ++ m ∷ [])) so_far
       (heard_behind T.started T.scenario T.replies ended.suits.counts log entries (HasRisen faults new_faults) C stopped (up_to s.0 (heard s.0) J) s m a.link a.linked (free_items J s.0 (heard s.0))
-      (subst (λ (ms : List Message). HasLine T.scenario T.replies log s.0 a.link (ms ++ m ∷ []) (free_items J s.0 (heard s.0)) C) (sym so_far) a.line) (begins_itself (free_items J s.0 (heard s.0))))
+      (subst (λ (ms : List Message). HasChannel T.scenario T.replies log s.0 a.link (ms ++ m ∷ []) (free_items J s.0 (heard s.0)) C) (sym so_far) a.channel) (begins_itself (free_items J s.0 (heard s.0))))
     where
       so_far : got (up_to s.0 (heard s.0) J) s.0 ≡ repeated J s.0 (heard s.0)
       so_far = up_to_got s.0 (heard s.0) J
 
-  left : IsLeftNow T J heard log C → IsLeft T.started T.scenario J heard (log ++ entries)
+  left : IsLeftNow T J heard log C → SomeUntaken T.started T.scenario J heard (log ++ entries)
   left (s, caught, inl (m, a)) =
       let all : repeated J s (heard s) ≡ got J s = ap (λ (n : ℕ). take n (got J s)) caught ∙ take-length (got J s) in
       inl (behind_ungot T.started T.scenario J (log ++ entries) (record { 0 = s }) m a.link a.linked
@@ -125,11 +125,11 @@ module _ (T : Setting) (P : Plan) (first J : List Entry) (heard : Counts) (log e
     few = λ i. let e = ended.counts i in omega (arith, e);
     caught = λ i low. let e = ended.counts i in omega (arith, e, low);
     kinds = ended.kinds;
-    links = λ i l linked. let t = ended.lines i l linked in (t.items, linked_so i l linked t, t.queued_all);
+    links = λ i l linked. let t = ended.channels i l linked in (t.items, linked_so i l linked t, t.queued_all);
     rests = rests_well (saved_of first) T.started T.scenario T.replies ended.suits.counts P J (log ++ entries) (end_stopped (saved_of first) T.started T.scenario T.replies P J log entries restless ended.rests);
     setup_rests = setup_rests_more T.started T.scenario log entries restless ended.log_right.setup_rests;
     on_links = on_more (IsRunLink T.started T.scenario) log entries ended.log_right.on_links
-        (on_run T.started T.scenario C.lines entries (λ i l linked. let h = (ended.lines i l linked).line in (h.line, h.there, h.link)) ended.no_other of_lines);
+        (on_run T.started T.scenario C.channels entries (λ i l linked. let h = (ended.channels i l linked).channel in (h.channel, h.there, h.link)) ended.no_other of_channels);
     shown = shown end ended.ends;
     unfinished = ended.unfinished;
   }

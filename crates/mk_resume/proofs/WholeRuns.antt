@@ -11,7 +11,7 @@ use Rattle.mk_record_restored.specs.Restored.{IsRestored}
 use Rattle.mk_sched.specs.Cores.{CoreState}
 use Rattle.mk_run_laws.specs.Crews.{AreStopped, IsRestless}
 use Rattle.mk_run_links.specs.Entries.{AreOn}
-use Rattle.mk_run_links.specs.Places.{IsLineLink}
+use Rattle.mk_run_links.specs.Places.{IsChannelLink}
 use Rattle.mk_run_crew.specs.Seen.{CrewSeen, crew_of}
 use Rattle.mk_run.specs.inner.Underway.{Setting, reply_in}
 use Rattle.mk_run.proofs.Turning.{risen_on, risen_later}
@@ -22,19 +22,19 @@ use Rattle.mk_resume.specs.inner.Going.{CatchesUpAs, IsFresh}
 use Rattle.mk_resume.proofs.Whole.{whole, whole_replies}
 
 -- a resumed run from the record's messages to its stop
-pub resumed_whole : (core new : CoreState) (C D : CrewSeen) (entries stops : List LogEntry) (f0 f1 f2 : ℕ) (end : ResumeEnd) → f0 ≤ f1 → f1 ≤ f2 → CatchesUpAs entries (HasRisen f0 f1) core C new D end → AreStopped stops (HasRisen f1 f2) (crew_of D) → IsRestless stops → AreOn (IsLineLink D.lines) stops
+pub resumed_whole : (core new : CoreState) (C D : CrewSeen) (entries stops : List LogEntry) (f0 f1 f2 : ℕ) (end : ResumeEnd) → f0 ≤ f1 → f1 ≤ f2 → CatchesUpAs entries (HasRisen f0 f1) core C new D end → AreStopped stops (HasRisen f1 f2) (crew_of D) → IsRestless stops → AreOn (IsChannelLink D.channels) stops
     → (saved : Saved) → IsRestored core.plan (map came saved.arrivals) core.entries → IsOther (map came saved.arrivals) saved.asks core.entries None → (T : Setting) (log : List LogEntry) (before : ℕ) → before ≤ f0 → IsFresh T core log C
     → (new.plan ≡ core.plan) × (r : IsResumed T.started T.scenario (reply_in T) new.plan saved new.entries (log ++ (entries ++ stops)) before f2 end) × (r.replies ≡ T.replies)
-resumed_whole core new C D entries stops f0 f1 f2 end up later ended stopped restless of_lines saved restored same T log before low u =
+resumed_whole core new C D entries stops f0 f1 f2 end up later ended stopped restless of_channels saved restored same T log before low u =
     let stopping : IsStopping (HasRisen f0 f1) T core.entries new (log ++ entries) D end = ended T log u in
     let plans : new.plan ≡ core.plan = stopping.1.suits.same ∙ sym u.resuming.suits.same in
     let there : IsRestored new.plan (map came saved.arrivals) core.entries = subst (λ (X : Plan). IsRestored X (map came saved.arrivals) core.entries) (sym plans) restored in
     let made = whole T new.plan core.entries new.entries stopping.0 (log ++ entries) stops (crew_of D) end before f2 (HasRisen f0 f1) (HasRisen f1 f2)
-    (λ r. risen_on before f0 f2 low (risen_later f0 f1 f2 later r)) (λ r. risen_on before f1 f2 (omega (arith, low, up)) r) stopping.1 stopped restless of_lines saved there same in
+    (λ r. risen_on before f0 f2 low (risen_later f0 f1 f2 later r)) (λ r. risen_on before f1 f2 (omega (arith, low, up)) r) stopping.1 stopped restless of_channels saved there same in
     let moved = subst (λ (l : List LogEntry). (r : IsResumed T.started T.scenario (reply_in T) new.plan saved new.entries l before f2 end) × (r.replies ≡ T.replies)) (append_assoc log entries stops) (
       made,
       whole_replies T new.plan core.entries new.entries stopping.0 (log ++ entries) stops (crew_of D) end before f2 (HasRisen f0 f1) (HasRisen f1 f2)
-          (λ r. risen_on before f0 f2 low (risen_later f0 f1 f2 later r)) (λ r. risen_on before f1 f2 (omega (arith, low, up)) r) stopping.1 stopped restless of_lines saved there same,
+          (λ r. risen_on before f0 f2 low (risen_later f0 f1 f2 later r)) (λ r. risen_on before f1 f2 (omega (arith, low, up)) r) stopping.1 stopped restless of_channels saved there same,
     ) in
     (plans, moved.0, moved.1)
 

@@ -42,7 +42,7 @@ use Rattle.mk_resume_links.specs.Rests.{Counts}
 use Rattle.mk_resume_loop.specs.declared.ending.ResumeEnd.{ResumeEnd}
 use Rattle.mk_resume_loop.specs.declared.ending.ResumeEnd.TheVariants as ends
 use Rattle.mk_resume_loop.specs.Resumed.{IsLongFree, QueuedAllAt}
-use Rattle.mk_resume.specs.Resumed.{HasNotBegun, IsDiffering, IsLeft, IsResumed, ResumesAs}
+use Rattle.mk_resume.specs.Resumed.{HasNotBegun, IsDiffering, SomeUntaken, IsResumed, ResumesAs}
 
 -- what is said on a simulator's link: its handshake, the first of the items that were free to it,
 -- and a stop, no payload being longer than a frame's may be; all of it, but where a write took
@@ -108,7 +108,7 @@ pub record IsFaultless (started : ℕ) (S : Scenario) (reply : Replies) (P : Pla
     (faults new_faults : ℕ) : Type 0 where
   pub no_fault : (view P J).fault ≡ None
   pub roomy : length J ≡ P.entries
-      → IsSome (view P J).owed ⊎ (SomeReady P J ⊎ IsLeft started S J heard log) → ⊥
+      → IsSome (view P J).owed ⊎ (SomeReady P J ⊎ SomeUntaken started S J heard log) → ⊥
   pub repeated : (sim : SimNo) (place : ℕ) (kept other : Message)
       → IsDiffering started S reply first J heard log sim place kept other → ⊥
   pub counts : HasRisen faults new_faults → ⊥

@@ -66,8 +66,8 @@ pub record IsAwaitedWithin (S : Scenario) (J : List Entry) (heard : Counts) : Ty
 
 -- a message came that the journal hasn't got: one of a link behind all that the journal has of it,
 -- or a reply that is awaited within the program
-abbrev pub IsLeft : ℕ → Scenario → List Entry → Counts → List LogEntry → Type 0
-IsLeft started S J heard log = IsUngot started S J log ⊎ IsAwaitedWithin S J heard
+abbrev pub SomeUntaken : ℕ → Scenario → List Entry → Counts → List LogEntry → Type 0
+SomeUntaken started S J heard log = IsUngot started S J log ⊎ IsAwaitedWithin S J heard
 
 -- message `place` of the simulator, from 0, isn't the saved one, which the journal has there: it
 -- was heard on its link behind those that it had sent again, or is its kind's reply
@@ -91,7 +91,7 @@ ShownBy started S reply P first J heard log faults new_faults (ends.Outcome outc
 ShownBy started S reply P first J heard log faults new_faults (ends.Outcome (outcome.Setup f)) = ⊥
 ShownBy started S reply P first J heard log faults new_faults
     (ends.Outcome (outcome.Core f)) = IsLastFaulty P J f
-    ⊎ IsFull P J f (IsLeft started S J heard log)
+    ⊎ IsFull P J f (SomeUntaken started S J heard log)
 ShownBy started S reply P first J heard log faults new_faults
     (ends.Outcome outcome.Fleet) = HasRisen faults new_faults
 ShownBy started S reply P first J heard log faults new_faults

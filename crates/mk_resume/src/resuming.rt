@@ -31,7 +31,7 @@ use mk_outside::Fleet;
 use mk_plan::{Journal, Plan};
 use mk_record_read::Saved;
 use mk_resume_loop::{Behind, ResumeEnd, begin, drive};
-use mk_run::outcome_of;
+use mk_run::Outcome;
 use mk_run_crew::{Crew, is_wholly_within};
 use mk_scenario::Scenario;
 use mk_sched::Core;
@@ -117,7 +117,7 @@ pub fn resume_over<F: Fleet, R: Wait>(
 {
     match Crew::begin(rt, alloc, scenario, ranks, fleet, kinds) {
         Ok((crew, plan)) => resume_plan(rt, alloc, plan, saved, crew, fleet, kinds),
-        Err(halt) => nothing_left(ResumeEnd::Outcome(outcome_of(halt))),
+        Err(halt) => nothing_left(ResumeEnd::Outcome(Outcome::from(halt))),
     }
 }
 
@@ -133,7 +133,7 @@ fn resume_plan<F: Fleet, R: Wait>(
 ) -> ResumeRan
     requires known { All (IsKnown saved.plan) (map came saved.arrivals) }
     requires started { (A : Start) × (A.rows ≡ rows_in kinds.now) × IsStarted A crew plan }
-    requires open { AreOpen crew.lines (F.open_links fleet.old) }
+    requires open { AreOpen crew.channels (F.open_links fleet.old) }
     ensures count { F.faults fleet.old ≤ F.faults fleet.new }
     ensures ran { (entries : List LogEntry) × Adds entries (F.log fleet.old) (F.log fleet.new)
         × PlanResumesAs plan saved crew entries (F.faults fleet.old)

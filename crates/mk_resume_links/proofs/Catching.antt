@@ -16,9 +16,9 @@ use Rattle.mk_plan.specs.Sequential.{takes_id}
 use Rattle.mk_scenario.specs.declared.parts.Scenario.{Scenario}
 use Rattle.mk_outside.specs.declared.fleet.LogEntry.{LogEntry}
 use Rattle.mk_run_laws.specs.Handshake.{is_within, sim_link}
-use Rattle.mk_run_laws.specs.Lines.{Line}
+use Rattle.mk_run_laws.specs.Channels.{Channel}
 use Rattle.mk_run_laws.specs.Kinds.{Replies}
-use Rattle.mk_run_laws.specs.Crews.{CrewState, line_at, kept_of, given_by, AreMoved, AreParkedAtRests, IsSentOnLink, IsSentWithin, IsUnheard}
+use Rattle.mk_run_laws.specs.Crews.{CrewState, channel_at, kept_of, given_by, AreMoved, AreParkedAtRests, IsSentOnLink, IsSentWithin, IsUnheard}
 use Rattle.mk_run_laws.specs.Running.{SetupReplies, IsBegun}
 use Rattle.mk_run_laws.proofs.Stepping.{apart_is, same_is, same_or_not}
 use Rattle.mk_resume_walk.specs.Talks.{free_items}
@@ -75,9 +75,9 @@ module _ (saved : Counts) (started : ℕ) (S : Scenario) (replies : SetupReplies
       at_least : (n : ℕ) → n ≡ max n 0
       at_least n = omega arith
 
-  -- an item is queued on a line
+  -- an item is queued on a channel
   pub catching_queued : (X Y : ℕ → List Item) (A : ℕ → List Message) (J : List Entry) (heard : Counts) (log : List LogEntry) (C D : CrewState) (s : ℕ) (item : Item) (id : ℕ) (l : LinkNo) → With X A J heard log C
-      → sim_link started S s ≡ Some l → IsSentOnLink s item id C D → ((w : Line) → line_at C s ≡ Some w → takes_id item ≡ true → id ≡ w.next)
+      → sim_link started S s ≡ Some l → IsSentOnLink s item id C D → ((w : Channel) → channel_at C s ≡ Some w → takes_id item ≡ true → id ≡ w.next)
       → Y s ≡ X s ++ item ∷ [] → ((i : ℕ) → (i ≡ s → ⊥) → Y i ≡ X i) → With Y A J heard log D
   catching_queued X Y A J heard log C D s item id l c linked sent_so right more others = record {
     counts = c.counts;
@@ -229,10 +229,10 @@ module _ (saved : Counts) (started : ℕ) (S : Scenario) (replies : SetupReplies
 
   -- a reply is one that its simulator has to send again
   pub again_within : (J : List Entry) (heard : Counts) (log entries : List LogEntry) (C D : CrewState) (s : ℕ) (m : Message) → IsCatching saved started S replies reply P J heard log C
-      → C.kept ≡ record { sim = s; message = m } ∷ D.kept → D.lines ≡ C.lines → entries ≡ [] → slice_get (got J s) (heard s) ≡ Some m
+      → C.kept ≡ record { sim = s; message = m } ∷ D.kept → D.channels ≡ C.channels → entries ≡ [] → slice_get (got J s) (heard s) ≡ Some m
       → With (λ i. free_items J i (heard i)) (λ i. kept_of i D.kept) J (one_more heard s) (log ++ entries) D × RestsOver saved started S replies P J (log ++ entries) × WasAwaited S reply J heard s m D.kept
-  again_within J heard log entries C D s m c is lines none there =
-      let t = taken_kept started S replies (λ i. repeated J i (heard i)) (λ i. free_items J i (heard i)) (awaited S reply J heard) log entries C D s m c.touch is lines none in
+  again_within J heard log entries C D s m c is channels none there =
+      let t = taken_kept started S replies (λ i. repeated J i (heard i)) (λ i. free_items J i (heard i)) (awaited S reply J heard) log entries C D s m c.touch is channels none in
       let was = was_awaited J heard s m D.kept t.1 in
       let over = rests_taken J heard log entries C D s m c.rests is none in (
         record {
@@ -248,10 +248,10 @@ module _ (saved : Counts) (started : ℕ) (S : Scenario) (replies : SetupReplies
 
   -- a reply of a simulator that had caught up is the journal's next entry
   pub new_within : (J : List Entry) (heard : Counts) (log entries : List LogEntry) (C D : CrewState) (s : SimNo) (m : Message) → IsCatching saved started S replies reply P J heard log C
-      → C.kept ≡ record { sim = s.0; message = m } ∷ D.kept → D.lines ≡ C.lines → entries ≡ [] → heard s.0 ≡ length (got J s.0)
+      → C.kept ≡ record { sim = s.0; message = m } ∷ D.kept → D.channels ≡ C.channels → entries ≡ [] → heard s.0 ≡ length (got J s.0)
       → With (λ i. free_items J i (heard i)) (λ i. kept_of i D.kept) (J ++ Got s m ∷ []) (one_more heard s.0) (log ++ entries) D × RestsOver saved started S replies P (J ++ Got s m ∷ []) (log ++ entries) × WasAwaited S reply J heard s.0 m D.kept
-  new_within J heard log entries C D s m c is lines none caught =
-      let t = taken_kept started S replies (λ i. repeated J i (heard i)) (λ i. free_items J i (heard i)) (awaited S reply J heard) log entries C D s.0 m c.touch is lines none in
+  new_within J heard log entries C D s m c is channels none caught =
+      let t = taken_kept started S replies (λ i. repeated J i (heard i)) (λ i. free_items J i (heard i)) (awaited S reply J heard) log entries C D s.0 m c.touch is channels none in
       let was = was_awaited J heard s.0 m D.kept t.1 in
       let over = over_longer saved started S replies P J (Got s m) (log ++ entries) (rests_taken J heard log entries C D s.0 m c.rests is none) in (
         record {
@@ -273,8 +273,8 @@ module _ (saved : Counts) (started : ℕ) (S : Scenario) (replies : SetupReplies
 
   -- a reply was taken, and the run ends by it
   pub apart_within : (J : List Entry) (heard : Counts) (log entries : List LogEntry) (C D : CrewState) (s : ℕ) (m : Message) → IsCatching saved started S replies reply P J heard log C
-      → C.kept ≡ record { sim = s; message = m } ∷ D.kept → D.lines ≡ C.lines → entries ≡ []
+      → C.kept ≡ record { sim = s; message = m } ∷ D.kept → D.channels ≡ C.channels → entries ≡ []
       → IsInTouch (λ i. repeated J i (heard i)) (λ i. free_items J i (heard i)) (λ i. kept_of i D.kept) started S replies (log ++ entries) D × RestsOver saved started S replies P J (log ++ entries) × WasAwaited S reply J heard s m D.kept
-  apart_within J heard log entries C D s m c is lines none =
-      let t = taken_kept started S replies (λ i. repeated J i (heard i)) (λ i. free_items J i (heard i)) (awaited S reply J heard) log entries C D s m c.touch is lines none in
+  apart_within J heard log entries C D s m c is channels none =
+      let t = taken_kept started S replies (λ i. repeated J i (heard i)) (λ i. free_items J i (heard i)) (awaited S reply J heard) log entries C D s m c.touch is channels none in
       (t.0, rests_taken J heard log entries C D s m c.rests is none, was_awaited J heard s m D.kept t.1)

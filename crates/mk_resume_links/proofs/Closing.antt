@@ -16,9 +16,9 @@ use Rattle.mk_plan.specs.Sequential.{takes_id}
 use Rattle.mk_scenario.specs.declared.parts.Scenario.{Scenario}
 use Rattle.mk_outside.specs.declared.fleet.LogEntry.{LogEntry}
 use Rattle.mk_run_laws.specs.Handshake.{is_within, sim_link}
-use Rattle.mk_run_laws.specs.Lines.{Line}
+use Rattle.mk_run_laws.specs.Channels.{Channel}
 use Rattle.mk_run_laws.specs.Kinds.{Replies}
-use Rattle.mk_run_laws.specs.Crews.{CrewState, line_at, kept_of, given_by, IsSentOnLink, IsSentWithin}
+use Rattle.mk_run_laws.specs.Crews.{CrewState, channel_at, kept_of, given_by, IsSentOnLink, IsSentWithin}
 use Rattle.mk_run_laws.specs.Running.{SetupReplies}
 use Rattle.mk_run_laws.proofs.Stepping.{same_or_not}
 use Rattle.mk_resume_walk.specs.Talks.{free_items}
@@ -102,7 +102,7 @@ module _ (saved : Counts) (started : ℕ) (S : Scenario) (replies : SetupReplies
 
   -- its simulator has a link and has caught up: the item is queued
   pub asked_on_link : (J : List Entry) (heard : Counts) (log : List LogEntry) (C D : CrewState) (s : SimNo) (item : Item) (x : Tier) (id : ℕ) (l : LinkNo) → Catching J heard log C → IsReady P (view P J) s.0 x → length (got J s.0) ≤ heard s.0
-      → sim_link started S s.0 ≡ Some l → IsSentOnLink s.0 item id C D → ((w : Line) → line_at C s.0 ≡ Some w → takes_id item ≡ true → id ≡ w.next) → Catching (J ++ Sent s item ∷ []) heard log D
+      → sim_link started S s.0 ≡ Some l → IsSentOnLink s.0 item id C D → ((w : Channel) → channel_at C s.0 ≡ Some w → takes_id item ≡ true → id ≡ w.next) → Catching (J ++ Sent s item ∷ []) heard log D
   asked_on_link J heard log C D s item x id l c ready caught linked sent_so right =
       let over = catching_ready saved started S replies reply P (λ i. free_items J i (heard i)) (awaited S reply J heard) J heard log C s.0 x c ready in
       let longer = catching_sent saved started S replies reply P (λ i. free_items J i (heard i)) (awaited S reply J heard) J heard log C s item c over in
@@ -169,7 +169,7 @@ module _ (saved : Counts) (started : ℕ) (S : Scenario) (replies : SetupReplies
 
   -- of a link, and the item that it is answered with was queued
   pub new_answered : (J : List Entry) (heard : Counts) (log : List LogEntry) (C D : CrewState) (s : SimNo) (m : Message) (item : Item) (id : ℕ) (l : LinkNo) → With (λ i. free_items J i (heard i)) (awaited S reply J heard) (J ++ Got s m ∷ []) (one_more heard s.0) log C
-      → RestsOver saved started S replies P (J ++ Got s m ∷ []) log → sim_link started S s.0 ≡ Some l → heard s.0 ≡ length (got J s.0) → IsSentOnLink s.0 item id C D → ((w : Line) → line_at C s.0 ≡ Some w → takes_id item ≡ true → id ≡ w.next)
+      → RestsOver saved started S replies P (J ++ Got s m ∷ []) log → sim_link started S s.0 ≡ Some l → heard s.0 ≡ length (got J s.0) → IsSentOnLink s.0 item id C D → ((w : Channel) → channel_at C s.0 ≡ Some w → takes_id item ≡ true → id ≡ w.next)
       → Catching ((J ++ Got s m ∷ []) ++ Sent s item ∷ []) (one_more heard s.0) log D
   new_answered J heard log C D s m item id l c over linked caught sent_so right =
       let K : List Entry = J ++ Got s m ∷ [] in

@@ -31,7 +31,7 @@ begins_take (suc n) (x ∷ xs) = let t = begins_take n xs in (t.0, ap (λ (l : L
 module _ (saved : Counts) (started : ℕ) (S : Scenario) (replies : SetupReplies) (counts : (i : ℕ) (l : LinkNo) → sim_link started S i ≡ Some l → length (replies i) ≡ setup_count S i) (P : Plan) (J : List Entry) (before : List LogEntry) where
   module _ (r : IsRestOf saved started S replies P J before) (next : (r.more ≡ []) ⊎ BeginsOnLink started S r.more) where
     heard_of_link : (i : ℕ) (l : LinkNo) → sim_link started S i ≡ Some l → run_messages S before i l ≡ repeated r.at i (r.heard i)
-    heard_of_link i l linked = let t = r.line i l linked in parked_heard started S replies counts P J before i l linked (repeated r.at i (r.heard i)) (free_items r.at i (r.heard i)) t.0 t.1 t.2 t.3
+    heard_of_link i l linked = let t = r.channel i l linked in parked_heard started S replies counts P J before i l linked (repeated r.at i (r.heard i)) (free_items r.at i (r.heard i)) t.0 t.1 t.2 t.3
 
     -- as many were heard as were sent in this call
     heard_count : (i : ℕ) (l : LinkNo) → sim_link started S i ≡ Some l → length (run_messages S before i l) ≡ r.heard i
@@ -62,11 +62,11 @@ module _ (saved : Counts) (started : ℕ) (S : Scenario) (replies : SetupReplies
       has_all = λ i l linked. subst (λ (A : List Entry). BeginsWith (got A i) (run_messages S before i l)) (sym rest_is) (subst (BeginsWith (got r.at i)) (sym (heard_of_link i l linked)) (begins_take (r.heard i) (got r.at i)));
       nobody = λ i x ready. r.nobody i x (subst (λ (A : List Entry). IsReady P (view P A) i x) rest_is ready);
       replied = λ i inside. subst (λ (A : List Entry). (view P A).open_at i ≡ None) (sym rest_is) (r.replied i inside);
-      said = λ i l linked. let t = r.line i l linked in
+      said = λ i l linked. let t = r.channel i l linked in
           subst (λ (A : List Entry). SaysAll l before (all_frames S i (free_items A i (length (run_messages S before i l))))) (sym rest_is)
           (subst (λ (n : ℕ). SaysAll l before (all_frames S i (free_items r.at i n))) (sym (heard_count i l linked))
           (subst (λ (k : LinkNo). SaysAll k before (all_frames S i (free_items r.at i (r.heard i)))) t.1 (parked_said before (replies i ++ repeated r.at i (r.heard i)) _ _ t.0 t.2 t.3)));
-      heard_all = λ i l linked. let t = r.line i l linked in subst (λ (k : LinkNo). last_read k before ≡ Some (NotHeard k)) t.1 (t.3.parked t.2).heard_all;
+      heard_all = λ i l linked. let t = r.channel i l linked in subst (λ (k : LinkNo). last_read k before ≡ Some (NotHeard k)) t.1 (t.3.parked t.2).heard_all;
     }
 
 -- so each rest of a resumed run is one

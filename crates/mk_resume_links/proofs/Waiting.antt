@@ -16,10 +16,10 @@ use Rattle.mk_outside.specs.declared.fleet.LogEntry.{LogEntry}
 use Rattle.mk_outside.specs.declared.fleet.LogEntry.TheVariants.{Rest}
 use Rattle.mk_run_laws.specs.Handshake.{sim_link, setup_count, setup_payloads}
 use Rattle.mk_run_laws.specs.Payloads.{item_payloads}
-use Rattle.mk_run_laws.specs.Lines.{IsLineAt}
+use Rattle.mk_run_laws.specs.Channels.{IsChannelAt}
 use Rattle.mk_run_laws.specs.Crews.{CrewState, AreParkedAtRests, IsRestless}
 use Rattle.mk_run_laws.specs.Running.{SetupReplies, BeginsOnLink, IsBegun}
-use Rattle.mk_run_laws.proofs.Moving.{line_moved}
+use Rattle.mk_run_laws.proofs.Moving.{channel_moved}
 use Rattle.mk_run_laws.proofs.Stepping.{first_or_second}
 use Rattle.mk_resume_walk.specs.Talks.{free_items}
 use Rattle.mk_resume_links.specs.Rests.{Counts, repeated}
@@ -38,7 +38,7 @@ module _ (saved : Counts) (started : ℕ) (S : Scenario) (replies : SetupReplies
     replied = r.replied;
     heard = r.heard;
     counts = r.counts;
-    line = r.line;
+    channel = r.channel;
   }
 
   begins_longer : (more : List Entry) (e : Entry) → BeginsOnLink started S more → BeginsOnLink started S (more ++ e ∷ [])
@@ -76,7 +76,7 @@ module _ (saved : Counts) (started : ℕ) (S : Scenario) (replies : SetupReplies
 
   -- ---- the log goes on
 
-  -- lines that were moved to a rest are in step with the journal
+  -- channels that were moved to a rest are in step with the journal
   abbrev parked_rest : (J : List Entry) (heard : Counts) (A : ℕ → List Message) (log entries : List LogEntry) (C : CrewState) → IsInTouch (λ i. repeated J i (heard i)) (λ i. free_items J i (heard i)) A started S replies log C
       → ((i : ℕ) (l : LinkNo) → sim_link started S i ≡ Some l → length (got J i) ≡ max (saved i) (heard i)) → IsResting S P J → AreParkedAtRests entries C
       → (before after : List LogEntry) → entries ≡ before ++ Rest ∷ after → IsRestOf saved started S replies P J (log ++ before)
@@ -88,12 +88,12 @@ module _ (saved : Counts) (started : ℕ) (S : Scenario) (replies : SetupReplies
     replied = resting.1;
     heard = heard;
     counts = counts;
-    line = λ i l linked. let h = touch.lines i l linked in let t = parked before after is i h.line h.there in (
+    channel = λ i l linked. let h = touch.channels i l linked in let t = parked before after is i h.channel h.there in (
       t.0,
       t.1.link ∙ h.link,
       t.2,
-      subst (λ (ms : List Message). IsLineAt (log ++ before) ms (setup_payloads S i ++ item_payloads (setup_count S i) (free_items J i (heard i))) (id_after (setup_count S i) (free_items J i (heard i))) t.0) (append_nil (replies i ++ repeated J i (heard i)))
-          (line_moved log before (replies i ++ repeated J i (heard i)) [] (setup_payloads S i ++ item_payloads (setup_count S i) (free_items J i (heard i))) (id_after (setup_count S i) (free_items J i (heard i))) h.line t.0 h.in_step t.1),
+      subst (λ (ms : List Message). IsChannelAt (log ++ before) ms (setup_payloads S i ++ item_payloads (setup_count S i) (free_items J i (heard i))) (id_after (setup_count S i) (free_items J i (heard i))) t.0) (append_nil (replies i ++ repeated J i (heard i)))
+          (channel_moved log before (replies i ++ repeated J i (heard i)) [] (setup_payloads S i ++ item_payloads (setup_count S i) (free_items J i (heard i))) (id_after (setup_count S i) (free_items J i (heard i))) h.channel t.0 h.in_step t.1),
     );
   }
 

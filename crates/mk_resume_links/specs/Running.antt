@@ -10,7 +10,7 @@ use Rattle.mk_scenario.specs.declared.parts.Scenario.{Scenario}
 use Rattle.mk_outside.specs.declared.fleet.LogEntry.{LogEntry}
 use Rattle.mk_outside.specs.declared.fleet.LogEntry.TheVariants.{Rest}
 use Rattle.mk_run_laws.specs.Handshake.{is_within, sim_link}
-use Rattle.mk_run_laws.specs.Lines.{Line}
+use Rattle.mk_run_laws.specs.Channels.{Channel}
 use Rattle.mk_run_laws.specs.Rests.{AllSetUp}
 use Rattle.mk_run_laws.specs.Running.{SetupReplies, IsInStep, BeginsOnLink}
 use Rattle.mk_resume_walk.specs.Talks.{free_items}
@@ -18,7 +18,7 @@ use Rattle.mk_resume_links.specs.Rests.{Counts, repeated}
 
 -- when the fleet rested behind these entries, the journal was a beginning of J, nobody was ready,
 -- no request was open within the program, each simulator had sent so many messages in this call,
--- and each line was parked, in step with what was free then
+-- and each channel was parked, in step with what was free then
 pub record IsRestOf (saved : Counts) (started : ℕ) (S : Scenario) (replies : SetupReplies)
     (P : Plan) (J : List Entry) (before : List LogEntry) : Type 0 where
   pub at : List Entry
@@ -29,7 +29,7 @@ pub record IsRestOf (saved : Counts) (started : ℕ) (S : Scenario) (replies : S
   pub heard : Counts
   pub counts : (i : ℕ) (l : LinkNo) → sim_link started S i ≡ Some l
       → length (got at i) ≡ max (saved i) (heard i)
-  pub line : (i : ℕ) (l : LinkNo) → sim_link started S i ≡ Some l → (w : Line) × (w.link ≡ l)
+  pub channel : (i : ℕ) (l : LinkNo) → sim_link started S i ≡ Some l → (w : Channel) × (w.link ≡ l)
       × (w.parked ≡ true)
       × IsInStep S replies before i (repeated at i (heard i)) (free_items at i (heard i)) w
 

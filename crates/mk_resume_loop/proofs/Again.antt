@@ -54,8 +54,8 @@ module _ (T : Setting) (P : Plan) (first J : List Entry) (heard : Counts) (log :
   repeated_goes is = go h.met
     where
       go : IsHeard h.entries s.0 m h.crew D → IsRepeated T P first J heard log s.0 D sims
-      go (IsHeard.kept at lines none) =
-          let t = again_within (saved_of first) T.started T.scenario T.replies (reply_in T) P J heard h.before h.entries h.crew D s.0 m u.catching at lines none is in record {
+      go (IsHeard.kept at channels none) =
+          let t = again_within (saved_of first) T.started T.scenario T.replies (reply_in T) P J heard h.before h.entries h.crew D s.0 m u.catching at channels none is in record {
             resuming = with_catching (subst (λ (l : List LogEntry). IsCatchingWith (λ i. free_items J i (heard i)) (λ i. kept_of i D.kept) (saved_of first) T.started T.scenario T.replies (reply_in T) P J (one_more heard s.0) l D) (sym h.parts) t.0);
             none = t.2.none;
             others = t.2.others;

@@ -82,8 +82,8 @@ module _ (T : Setting) (core new : CoreState) (first : List Entry) (heard : Coun
   catching = go h.met
     where
       go : IsHeard h.entries s.0 m h.crew (crew_of C) → IsCatchingWith free kept (saved_of first) T.started T.scenario T.replies (reply_in T) core.plan after next (h.before ++ h.entries) (crew_of C)
-      go (IsHeard.kept at lines none) =
-          let t = new_within (saved_of first) T.started T.scenario T.replies (reply_in T) core.plan core.entries heard h.before h.entries h.crew (crew_of C) s m v.catching at lines none caught in
+      go (IsHeard.kept at channels none) =
+          let t = new_within (saved_of first) T.started T.scenario T.replies (reply_in T) core.plan core.entries heard h.before h.entries h.crew (crew_of C) s m v.catching at channels none caught in
           (catching_sent (saved_of first) T.started T.scenario T.replies (reply_in T) core.plan free kept before next (h.before ++ h.entries) (crew_of C) s a.item t.0 t.1).0
       go (IsHeard.on_link none late w there moved parked) =
           let k = met_back T core.plan first core.entries heard log s m (crew_of C) C.sims h w there in

@@ -19,8 +19,8 @@ use Rattle.mk_sched.specs.Cores.{CoreState, Stands}
 use Rattle.mk_sched.specs.Answers.{IsAsked, open_id}
 use Rattle.mk_local.specs.Replies.{IsItemReplied}
 use Rattle.mk_run_laws.specs.Handshake.{setup_count, sim_link}
-use Rattle.mk_run_laws.specs.Lines.{Line}
-use Rattle.mk_run_laws.specs.Crews.{line_at}
+use Rattle.mk_run_laws.specs.Channels.{Channel}
+use Rattle.mk_run_laws.specs.Crews.{channel_at}
 use Rattle.mk_run_laws.proofs.Saying.{link_there}
 use Rattle.mk_run_laws.proofs.Stepping.{same_or_not}
 use Rattle.mk_run_local.specs.Laws.{RepliesAreKinds}
@@ -134,8 +134,8 @@ module _ (T : Setting) (old new : CoreState) (first : List Entry) (heard : Count
     pub asked_linked : is_here C s.0 ≡ false → HasNext (Step a.at a.inputs a.advance) (id_after (first_id P s.0) (sent J s.0)) s.0 C
     asked_linked away =
         let t = link_there T.started T.scenario s.0 (subst (λ (n : ℕ). s.0 < n) u.suits.sims asked_low) (not_here_is_outside T (λ i. free_items J i (heard i)) C.sims s.0 u.come away) in
-        let h = u.catching.touch.lines s.0 t.0 t.1 in
-        (h.line, h.there, λ takes. numbered ∙ sym h.in_step.next_id)
+        let h = u.catching.touch.channels s.0 t.0 t.1 in
+        (h.channel, h.there, λ takes. numbered ∙ sym h.in_step.next_id)
 
     -- and once it was sent the run goes on
     module _ (law : RepliesAreKinds) (D : CrewSeen) (id : ℕ) (opened : open_id new s.0 ≡ Some id) (so : SendsAs s.0 (Step a.at a.inputs a.advance) id C D) where
@@ -153,14 +153,14 @@ module _ (T : Setting) (old new : CoreState) (first : List Entry) (heard : Count
         | inl here ↦ let t = kept_so T law (λ i. free_items J i (heard i)) (λ i. free_items K i (heard i)) s.0 item id C D more stay u.come u.only_within (λ h. right) so here in
             asked_within (saved_of first) T.started T.scenario T.replies (reply_in T) P J heard log (crew_of C) (crew_of D) s item a.at u.catching ready few
             all_free t.0 t.1
-        | inr away ↦ let q = so.on_link away in let t = u.no_other s.0 q.0.line q.0.there in
+        | inr away ↦ let q = so.on_link away in let t = u.no_other s.0 q.0.channel q.0.there in
             asked_on_link (saved_of first) T.started T.scenario T.replies (reply_in T) P J heard log (crew_of C) (crew_of D) s item a.at id t.0 u.catching ready few t.1 q.0 (λ w there takes. next w there t.0 t.1)
       ]
         where
-          next : (w : Line) → line_at (crew_of C) s.0 ≡ Some w → (l : LinkNo) → sim_link T.started T.scenario s.0 ≡ Some l → id ≡ w.next
+          next : (w : Channel) → channel_at (crew_of C) s.0 ≡ Some w → (l : LinkNo) → sim_link T.started T.scenario s.0 ≡ Some l → id ≡ w.next
           next w there l linked =
-              let h = u.catching.touch.lines s.0 l linked in
-              right ∙ sym h.in_step.next_id ∙ ap (λ (v : Line). v.next) (some_same (sym h.there ∙ there))
+              let h = u.catching.touch.channels s.0 l linked in
+              right ∙ sym h.in_step.next_id ∙ ap (λ (v : Channel). v.next) (some_same (sym h.there ∙ there))
 
       pub asked_goes : IsResuming T new.plan first new.entries heard log (crew_of D) D.sims
       asked_goes = subst (λ (c : CoreState). IsResuming T c.plan first c.entries heard log (crew_of D) D.sims) (sym a.moved) (record {

@@ -22,15 +22,15 @@ use Rattle.mk_sched.specs.Answers.{SomeReady, IsOutOfMemory, IsFaulty, IsUntaken
 use Rattle.mk_local.specs.Simulators.{Simulator}
 use Rattle.mk_run_laws.specs.Hearing.{first_message}
 use Rattle.mk_run_laws.specs.Handshake.{sim_link, is_within}
-use Rattle.mk_run_laws.specs.Lines.{Line}
-use Rattle.mk_run_laws.specs.Crews.{CrewState, line_at, kept_of, given_by, IsHeard, IsUnheard}
-use Rattle.mk_run_laws.specs.inner.Running.{HasLine}
+use Rattle.mk_run_laws.specs.Channels.{Channel}
+use Rattle.mk_run_laws.specs.Crews.{CrewState, channel_at, kept_of, given_by, IsHeard, IsUnheard}
+use Rattle.mk_run_laws.specs.inner.Running.{HasChannel}
 use Rattle.mk_run_laws.proofs.Taking.{unfinished_none, long_none, none_first, garbled_none}
 use Rattle.mk_run_links.specs.declared.answers.LinkHalt.{LinkHalt}
 use Rattle.mk_run_links.specs.declared.answers.LinkHalt.TheVariants as link_halt
 use Rattle.mk_run_links.specs.Entries.{AreOn}
 use Rattle.mk_run_links.specs.Halts.{ShowsHalt}
-use Rattle.mk_run_links.specs.Places.{IsLineLink}
+use Rattle.mk_run_links.specs.Places.{IsChannelLink}
 use Rattle.mk_run_links.proofs.OnEntries.{on_run}
 use Rattle.mk_run_crew.specs.Seen.{CrewSeen, crew_of}
 use Rattle.mk_run_crew.specs.Calls.{halt_of}
@@ -54,7 +54,7 @@ use Rattle.mk_resume_links.proofs.Waiting.{over_so_far, so_far_end}
 use Rattle.mk_resume_loop.specs.declared.ending.ResumeEnd.{ResumeEnd}
 use Rattle.mk_resume_loop.specs.declared.ending.ResumeEnd.TheVariants as ends
 use Rattle.mk_resume_loop.specs.Resumed.{IsCutOff, QueuedAllAt}
-use Rattle.mk_resume_loop.specs.inner.Ending.{EndsBy, HasEnded, HasGiven, IsAhead, IsLastLine, IsLeftNow, IsUnfinished, IsWaiting}
+use Rattle.mk_resume_loop.specs.inner.Ending.{EndsBy, HasEnded, HasGiven, IsAhead, IsLastChannel, IsLeftNow, SomeToCome, IsWaiting}
 use Rattle.mk_resume_loop.specs.inner.Underway.{IsMet, IsResuming, saved_of}
 use Rattle.mk_resume_loop.proofs.Asked.{longer_begins}
 use Rattle.mk_resume_loop.proofs.Resting.{resting}
@@ -65,14 +65,14 @@ early_of : (g s n : ℕ) → g ≡ max s n → n < g → n < s
 early_of g s n is low = omega (arith, is, low)
 
 module _ (T : Setting) (first : List Entry) where
-  -- lines in step with the journal
-  lines_in_step : (end : ResumeEnd) → ((items : List Item) → QueuedAllAt end items items) → (J : List Entry) (heard : Counts) (log : List LogEntry) (C : CrewState)
-      → ((i : ℕ) (l : LinkNo) → sim_link T.started T.scenario i ≡ Some l → HasLine T.scenario T.replies log i l (repeated J i (heard i)) (free_items J i (heard i)) C)
-      → (i : ℕ) (l : LinkNo) → sim_link T.started T.scenario i ≡ Some l → IsLastLine T J heard log C end i l
-  lines_in_step end all J heard log C lines i l linked = record {
+  -- channels in step with the journal
+  channels_in_step : (end : ResumeEnd) → ((items : List Item) → QueuedAllAt end items items) → (J : List Entry) (heard : Counts) (log : List LogEntry) (C : CrewState)
+      → ((i : ℕ) (l : LinkNo) → sim_link T.started T.scenario i ≡ Some l → HasChannel T.scenario T.replies log i l (repeated J i (heard i)) (free_items J i (heard i)) C)
+      → (i : ℕ) (l : LinkNo) → sim_link T.started T.scenario i ≡ Some l → IsLastChannel T J heard log C end i l
+  channels_in_step end all J heard log C channels i l linked = record {
     messages = repeated J i (heard i);
     items = free_items J i (heard i);
-    line = lines i l linked;
+    channel = channels i l linked;
     given = ([], sym (append_nil (repeated J i (heard i))));
     queued = ([], sym (append_nil (free_items J i (heard i))));
     queued_all = all (free_items J i (heard i));
@@ -89,7 +89,7 @@ module _ (T : Setting) (first : List Entry) where
     in_range = u.in_range;
     counts = u.catching.counts;
     kinds = u.catching.kinds;
-    lines = lines_in_step (ends.Outcome o) (queued_itself o) J heard log C u.catching.touch.lines;
+    channels = channels_in_step (ends.Outcome o) (queued_itself o) J heard log C u.catching.touch.channels;
     no_other = u.no_other;
     rests = so_far_end (saved_of first) T.started T.scenario T.replies P J log C.kept u.catching.rests;
     log_right = u.log_right;
@@ -135,8 +135,8 @@ module _ (T : Setting) (first : List Entry) where
     left = go h.met
       where
         go : IsHeard h.entries s.0 m h.crew D → HasLeft
-        go (IsHeard.kept is lines none) =
-            let t = apart_within (saved_of first) T.started T.scenario T.replies (reply_in T) P J heard h.before h.entries h.crew D s.0 m u.catching is lines none in record {
+        go (IsHeard.kept is channels none) =
+            let t = apart_within (saved_of first) T.started T.scenario T.replies (reply_in T) P J heard h.before h.entries h.crew D s.0 m u.catching is channels none in record {
               touch = subst (λ (k : List LogEntry). IsInTouch (λ i. repeated J i (heard i) ++ given_by s.0 m i) (λ i. free_items J i (heard i)) (λ i. kept_of i D.kept) T.started T.scenario T.replies k D) (sym h.parts)
                   (seen_as T.started T.scenario T.replies (λ i. repeated J i (heard i)) (λ i. repeated J i (heard i) ++ given_by s.0 m i) (λ i. free_items J i (heard i)) (λ i. free_items J i (heard i)) (λ i. kept_of i D.kept) (λ i. kept_of i D.kept) (h.before ++ h.entries) D t.0
                   (λ i l linked. repeated_away J s.0 m i (heard i) (λ q. true≢false (sym t.2.inside ∙ ap (is_within T.scenario) (sym q) ∙ linked_out T.started T.scenario T.replies i l linked))) (λ i l linked. refl) (λ i. refl));
@@ -157,7 +157,7 @@ module _ (T : Setting) (first : List Entry) where
     ahead l linked = record {
       link = l;
       linked = linked;
-      line = subst (λ (ms : List Message). HasLine T.scenario T.replies log s.0 l ms (free_items J s.0 (heard s.0)) D) (ap (λ (ms : List Message). repeated J s.0 (heard s.0) ++ ms) (given_here s.0 m)) (left.touch.lines s.0 l linked);
+      channel = subst (λ (ms : List Message). HasChannel T.scenario T.replies log s.0 l ms (free_items J s.0 (heard s.0)) D) (ap (λ (ms : List Message). repeated J s.0 (heard s.0) ++ ms) (given_here s.0 m)) (left.touch.channels s.0 l linked);
     }
 
     -- it is left, where its simulator had caught up
@@ -174,10 +174,10 @@ module _ (T : Setting) (first : List Entry) where
       in_range = u.in_range;
       counts = u.catching.counts;
       kinds = u.catching.kinds;
-      lines = λ i l linked. record {
+      channels = λ i l linked. record {
         messages = repeated J i (heard i) ++ given_by s.0 m i;
         items = free_items J i (heard i);
-        line = left.touch.lines i l linked;
+        channel = left.touch.channels i l linked;
         given = (given_by s.0 m i, refl);
         queued = ([], sym (append_nil (free_items J i (heard i))));
         queued_all = all (free_items J i (heard i));
@@ -219,7 +219,7 @@ module _ (T : Setting) (first : List Entry) where
         in_range = range_got J s m u.in_range (met_fits T P first J heard log s m D sims h);
         counts = taken.counts;
         kinds = taken.kinds;
-        lines = lines_in_step (ends.Outcome o) (queued_itself o) K next log D taken.touch.lines;
+        channels = channels_in_step (ends.Outcome o) (queued_itself o) K next log D taken.touch.channels;
         no_other = met_no_other T P first J heard log s m D sims h;
         rests = so_far_end (saved_of first) T.started T.scenario T.replies P K log D.kept taken.rests;
         log_right = met_log_right T P first J heard log s m D sims h;
@@ -252,39 +252,39 @@ module _ (T : Setting) (first : List Entry) where
 
   -- ---- nothing was heard
 
-  module _ (risen : Type 0) (P : Plan) (J : List Entry) (heard : Counts) (log entries : List LogEntry) (C D : CrewSeen) (u : IsResuming T P first J heard log (crew_of C) C.sims) (nobody : SomeReady P J → ⊥) (unfinished : IsUnfinished P J heard) (un : IsUnheard entries (crew_of C) (crew_of D)) where
+  module _ (risen : Type 0) (P : Plan) (J : List Entry) (heard : Counts) (log entries : List LogEntry) (C D : CrewSeen) (u : IsResuming T P first J heard log (crew_of C) C.sims) (nobody : SomeReady P J → ⊥) (unfinished : SomeToCome P J heard) (un : IsUnheard entries (crew_of C) (crew_of D)) where
     waited : IsCatchingWith (λ i. free_items J i (heard i)) (awaited T.scenario (reply_in T) J heard) (saved_of first) T.started T.scenario T.replies (reply_in T) P J heard (log ++ entries) (crew_of D)
     waited = catching_unheard (saved_of first) T.started T.scenario T.replies (reply_in T) P (awaited T.scenario (reply_in T) J heard) J heard log entries (crew_of C) (crew_of D) u.catching (resting T P first J heard log (crew_of C) C.sims u nobody un.none_kept) un
 
     no_other_now : HasNoOther T (crew_of D)
     no_other_now = no_other_moved T entries (λ i. []) (crew_of C) (crew_of D) un.moved u.no_other
 
-    given_now : (i : ℕ) (w : Line) → line_at (crew_of D) i ≡ Some w → first_message w.held ≡ None → (l : LinkNo) × (g : HasGiven T J heard (log ++ entries) (crew_of D) i l) × (g.line.line ≡ w)
+    given_now : (i : ℕ) (w : Channel) → channel_at (crew_of D) i ≡ Some w → first_message w.held ≡ None → (l : LinkNo) × (g : HasGiven T J heard (log ++ entries) (crew_of D) i l) × (g.channel.channel ≡ w)
     given_now i w there none =
         let t = no_other_now i w there in
-        let g = waited.touch.lines i t.0 t.1 in
-        let same : g.line ≡ w = some_same (sym g.there ∙ there) in
-        (t.0, record { linked = t.1; line = g; none_held = ap (λ (v : Line). first_message v.held) same ∙ none }, same)
+        let g = waited.touch.channels i t.0 t.1 in
+        let same : g.channel ≡ w = some_same (sym g.there ∙ there) in
+        (t.0, record { linked = t.1; channel = g; none_held = ap (λ (v : Channel). first_message v.held) same ∙ none }, same)
 
-    by_link : (why : LinkHalt) → (why ≡ link_halt.Fleet → risen) → ShowsHalt why entries D.lines → EndsBy risen T P first J heard (log ++ entries) (crew_of D) (ends.Outcome (outcome_of (halt_of why)))
+    by_link : (why : LinkHalt) → (why ≡ link_halt.Fleet → risen) → ShowsHalt why entries D.channels → EndsBy risen T P first J heard (log ++ entries) (crew_of D) (ends.Outcome (outcome_of (halt_of why)))
     by_link link_halt.Fleet cause shown = cause refl
     by_link (link_halt.Gone sim) cause shown =
         let w = shown.0 in
         let t = given_now sim.0 w shown.1 (none_first w.held (unfinished_none w.held shown.2.0)) in
-        let l_is : w.link ≡ t.0 = ap (λ (v : Line). v.link) (sym t.2) ∙ t.1.line.link in
+        let l_is : w.link ≡ t.0 = ap (λ (v : Channel). v.link) (sym t.2) ∙ t.1.channel.link in
         (t.0, t.1, in_back (Ended t.0) log entries (subst (λ (l : LinkNo). IsIn (Ended l) entries) l_is (last_is_in (is_read w.link) entries (Ended w.link) shown.2.1)))
     by_link (link_halt.Garbled sim test) cause shown =
         let w = shown.0 in
         let b = shown.2 in
         let t = given_now sim.0 w shown.1 (garbled_none w.held b.0 b.1 test b.3 b.2) in
-        (t.0, t.1, subst (λ (v : Line). BeginsGarbled v.held test) (sym t.2) b)
+        (t.0, t.1, subst (λ (v : Channel). BeginsGarbled v.held test) (sym t.2) b)
     by_link (link_halt.LongFrame sim n) cause shown =
         let w = shown.0 in
         let t = given_now sim.0 w shown.1 (none_first w.held (long_none w.held n shown.2)) in
-        (t.0, t.1, subst (λ (v : Line). IsTooLong n v.held) (sym t.2) shown.2)
+        (t.0, t.1, subst (λ (v : Channel). IsTooLong n v.held) (sym t.2) shown.2)
     by_link link_halt.Mem cause shown = tt
 
-    pub unheard_ends : (why : LinkHalt) → (why ≡ link_halt.Fleet → risen) → ShowsHalt why entries D.lines → AreOn (IsLineLink C.lines) entries → HasEnded risen T P first J heard (log ++ entries) (crew_of D) (ends.Outcome (outcome_of (halt_of why)))
+    pub unheard_ends : (why : LinkHalt) → (why ≡ link_halt.Fleet → risen) → ShowsHalt why entries D.channels → AreOn (IsChannelLink C.channels) entries → HasEnded risen T P first J heard (log ++ entries) (crew_of D) (ends.Outcome (outcome_of (halt_of why)))
     unheard_ends why cause shown on_links = record {
       suits = u.suits;
       stands = u.stands;
@@ -293,11 +293,11 @@ module _ (T : Setting) (first : List Entry) where
       in_range = u.in_range;
       counts = u.catching.counts;
       kinds = u.catching.kinds;
-      lines = lines_in_step (ends.Outcome (outcome_of (halt_of why))) (queued_itself (outcome_of (halt_of why))) J heard (log ++ entries) (crew_of D) waited.touch.lines;
+      channels = channels_in_step (ends.Outcome (outcome_of (halt_of why))) (queued_itself (outcome_of (halt_of why))) J heard (log ++ entries) (crew_of D) waited.touch.channels;
       no_other = no_other_now;
       rests = so_far_end (saved_of first) T.started T.scenario T.replies P J (log ++ entries) D.kept waited.rests;
       log_right = log_right_on T (λ i. repeated J i (heard i)) (λ i. free_items J i (heard i)) (awaited T.scenario (reply_in T) J heard) P log entries (crew_of C) u.suits u.catching.touch u.log_right
-          (on_run T.started T.scenario C.lines entries (λ i l linked. let g = u.catching.touch.lines i l linked in (g.line, g.there, g.link)) u.no_other on_links);
+          (on_run T.started T.scenario C.channels entries (λ i l linked. let g = u.catching.touch.channels i l linked in (g.channel, g.there, g.link)) u.no_other on_links);
       ends = by_link why cause shown;
       unfinished = λ broken. (nobody, unfinished);
     }

@@ -16,8 +16,8 @@ use Rattle.mk_sched.specs.Cores.{is_message_in_range}
 use Rattle.mk_local.specs.Simulators.{Simulator}
 use Rattle.mk_run_laws.specs.Hearing.{messages_heard}
 use Rattle.mk_run_laws.specs.Handshake.{setup_count, sim_link, is_within}
-use Rattle.mk_run_laws.specs.Lines.{Line}
-use Rattle.mk_run_laws.specs.Crews.{CrewState, line_at, given_by, IsMovedAt, IsHeard}
+use Rattle.mk_run_laws.specs.Channels.{Channel}
+use Rattle.mk_run_laws.specs.Crews.{CrewState, channel_at, given_by, IsMovedAt, IsHeard}
 use Rattle.mk_run_laws.specs.Rests.{AllSetUp}
 use Rattle.mk_run_laws.proofs.Moving.{heard_more}
 use Rattle.mk_run_laws.proofs.Stepping.{first_or_second, same_is}
@@ -42,13 +42,13 @@ use Rattle.mk_resume_loop.specs.inner.Underway.{IsMet, IsResuming, saved_of}
 module _ (T : Setting) (messages : ℕ → List Message) (items : ℕ → List Item) (awaits : ℕ → List Message) where
   all_set_up : (P : Plan) (log : List LogEntry) (C : CrewState) → Suits T P → IsInTouch messages items awaits T.started T.scenario T.replies log C → (less : List LogEntry) → AllSetUp T.started T.scenario (log ++ less)
   all_set_up P log C suits touch less i l linked =
-      let h = touch.lines i l linked in
+      let h = touch.channels i l linked in
       let ms : List Message = T.replies i ++ messages i in
-      let t = takes_on (heard_on h.line.link log) ms h.line.held (heard_on h.line.link less) h.in_step.heard in
-      let heard : messages_heard (heard_on l (log ++ less)) ≡ ms ++ messages_heard (h.line.held ++ heard_on h.line.link less) =
-      ap (λ (k : LinkNo). messages_heard (heard_on k (log ++ less))) (sym h.link) ∙ ap messages_heard (heard_more h.line.link log less)
-      ∙ taken_heard (heard_on h.line.link log ++ heard_on h.line.link less) ms (h.line.held ++ heard_on h.line.link less) t in
-      let a : length (messages_heard (heard_on l (log ++ less))) ≡ length ms + length (messages_heard (h.line.held ++ heard_on h.line.link less)) = ap length heard ∙ length-append ms (messages_heard (h.line.held ++ heard_on h.line.link less)) in
+      let t = takes_on (heard_on h.channel.link log) ms h.channel.held (heard_on h.channel.link less) h.in_step.heard in
+      let heard : messages_heard (heard_on l (log ++ less)) ≡ ms ++ messages_heard (h.channel.held ++ heard_on h.channel.link less) =
+      ap (λ (k : LinkNo). messages_heard (heard_on k (log ++ less))) (sym h.link) ∙ ap messages_heard (heard_more h.channel.link log less)
+      ∙ taken_heard (heard_on h.channel.link log ++ heard_on h.channel.link less) ms (h.channel.held ++ heard_on h.channel.link less) t in
+      let a : length (messages_heard (heard_on l (log ++ less))) ≡ length ms + length (messages_heard (h.channel.held ++ heard_on h.channel.link less)) = ap length heard ∙ length-append ms (messages_heard (h.channel.held ++ heard_on h.channel.link less)) in
       let b : length ms ≡ length (T.replies i) + length (messages i) = length-append (T.replies i) (messages i) in
       let c : length (T.replies i) ≡ setup_count T.scenario i = suits.counts i l linked in
       omega (arith, a, b, c)
@@ -70,10 +70,10 @@ module _ (T : Setting) (P : Plan) (first J : List Entry) (heard : Counts) (log :
   u = h.resuming
 
   -- a kept reply was awaited
-  pub met_kept : h.crew.kept ≡ record { sim = s.0; message = m } ∷ D.kept → D.lines ≡ h.crew.lines → h.entries ≡ [] → WasAwaited T.scenario (reply_in T) J heard s.0 m D.kept
-  met_kept is lines none = (apart_within (saved_of first) T.started T.scenario T.replies (reply_in T) P J heard h.before h.entries h.crew D s.0 m u.catching is lines none).2
+  pub met_kept : h.crew.kept ≡ record { sim = s.0; message = m } ∷ D.kept → D.channels ≡ h.crew.channels → h.entries ≡ [] → WasAwaited T.scenario (reply_in T) J heard s.0 m D.kept
+  met_kept is channels none = (apart_within (saved_of first) T.started T.scenario T.replies (reply_in T) P J heard h.before h.entries h.crew D s.0 m u.catching is channels none).2
 
-  pub met_back : (w : Line) → line_at h.crew s.0 ≡ Some w → (l : LinkNo) × (sim_link T.started T.scenario s.0 ≡ Some l)
+  pub met_back : (w : Channel) → channel_at h.crew s.0 ≡ Some w → (l : LinkNo) × (sim_link T.started T.scenario s.0 ≡ Some l)
   met_back w there = u.no_other s.0 w there
 
   -- it is of a simulator of the plan
@@ -84,21 +84,21 @@ module _ (T : Setting) (P : Plan) (first J : List Entry) (heard : Counts) (log :
       in_plan low = subst (λ (n : ℕ). s.0 < n) (sym u.suits.sims) low
 
       go : IsHeard h.entries s.0 m h.crew D → s.0 < sim_count P
-      go (IsHeard.kept is lines none) = in_plan (within_below T.scenario s.0 (met_kept is lines none).inside)
+      go (IsHeard.kept is channels none) = in_plan (within_below T.scenario s.0 (met_kept is channels none).inside)
       go (IsHeard.on_link none after w there moved parked) = let t = met_back w there in in_plan (linked_outside T.started T.scenario s.0 t.0 t.1).1
 
   -- its numbers are in range
   pub met_fits : is_in_range m ≡ true
   met_fits = go h.met
     where
-      by_line : (o p : Option Line) (w : Line) → o ≡ Some w → IsMovedAt h.entries (given_by s.0 m s.0) o p → is_in_range m ≡ true
-      by_line None p w e moved = absurd (none_some e)
-      by_line (Some v) None w e moved = absurd moved
-      by_line (Some v) (Some x) w e moved = taken_read _ (given_by s.0 m s.0) _ m moved.taken (ap (λ (b : Bool). if b then m ∷ [] else []) (same_is s.0))
+      by_channel : (o p : Option Channel) (w : Channel) → o ≡ Some w → IsMovedAt h.entries (given_by s.0 m s.0) o p → is_in_range m ≡ true
+      by_channel None p w e moved = absurd (none_some e)
+      by_channel (Some v) None w e moved = absurd moved
+      by_channel (Some v) (Some x) w e moved = taken_read _ (given_by s.0 m s.0) _ m moved.taken (ap (λ (b : Bool). if b then m ∷ [] else []) (same_is s.0))
 
       go : IsHeard h.entries s.0 m h.crew D → is_in_range m ≡ true
-      go (IsHeard.kept is lines none) = success_in_range m (h.fit (record { sim = s.0; message = m }) D.kept is)
-      go (IsHeard.on_link none after w there moved parked) = by_line (line_at h.crew s.0) (line_at D s.0) w there (moved s.0)
+      go (IsHeard.kept is channels none) = success_in_range m (h.fit (record { sim = s.0; message = m }) D.kept is)
+      go (IsHeard.on_link none after w there moved parked) = by_channel (channel_at h.crew s.0) (channel_at D s.0) w there (moved s.0)
 
   pub met_in_range : is_message_in_range m ≡ true
   met_in_range = same_test m met_fits
@@ -108,8 +108,8 @@ module _ (T : Setting) (P : Plan) (first J : List Entry) (heard : Counts) (log :
   met_success inside = go h.met
     where
       go : IsHeard h.entries s.0 m h.crew D → IsFitSuccess m
-      go (IsHeard.kept is lines none) = h.fit (record { sim = s.0; message = m }) D.kept is
-      go (IsHeard.on_link none after w there moved parked) = absurd (none_some (sym (u.catching.touch.no_line s.0 inside) ∙ there))
+      go (IsHeard.kept is channels none) = h.fit (record { sim = s.0; message = m }) D.kept is
+      go (IsHeard.on_link none after w there moved parked) = absurd (none_some (sym (u.catching.touch.no_channel s.0 inside) ∙ there))
 
   pub met_no_other : HasNoOther T D
   met_no_other = no_other_heard T h.entries s.0 m h.crew D h.met u.no_other

@@ -16,7 +16,7 @@ pub mod Repeating
 pub mod Replied
 pub mod Resent
 pub mod Resting
-pub mod Settling
+pub mod AskingAll
 pub mod Standing
 pub mod Turned
 pub mod Turning

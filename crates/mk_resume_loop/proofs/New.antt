@@ -23,8 +23,8 @@ use Rattle.mk_sched.specs.Answers.{IsAnswered, IsQuiet, open_id, with_message}
 use Rattle.mk_local.specs.Replies.{IsItemReplied}
 use Rattle.mk_local.specs.Simulators.{Simulator}
 use Rattle.mk_run_laws.specs.Handshake.{is_within, setup_count, sim_link}
-use Rattle.mk_run_laws.specs.Lines.{Line}
-use Rattle.mk_run_laws.specs.Crews.{CrewState, IsHeard, IsSentWithin, kept_of, line_at}
+use Rattle.mk_run_laws.specs.Channels.{Channel}
+use Rattle.mk_run_laws.specs.Crews.{CrewState, IsHeard, IsSentWithin, kept_of, channel_at}
 use Rattle.mk_run_laws.proofs.Saying.{link_there}
 use Rattle.mk_run_laws.proofs.Stepping.{same_or_not}
 use Rattle.mk_run_local.specs.Laws.{RepliesAreKinds}
@@ -94,8 +94,8 @@ module _ (T : Setting) (P : Plan) (first J : List Entry) (heard : Counts) (log :
   quiet_catching = subst (λ (l : List LogEntry). IsCatching (saved_of first) T.started T.scenario T.replies (reply_in T) P K next l D) (sym h.parts) (go h.met)
     where
       go : IsHeard h.entries s.0 m h.crew D → IsCatching (saved_of first) T.started T.scenario T.replies (reply_in T) P K next (h.before ++ h.entries) D
-      go (IsHeard.kept at lines none) =
-          let t = new_within (saved_of first) T.started T.scenario T.replies (reply_in T) P J heard h.before h.entries h.crew D s m u.catching at lines none caught in
+      go (IsHeard.kept at channels none) =
+          let t = new_within (saved_of first) T.started T.scenario T.replies (reply_in T) P J heard h.before h.entries h.crew D s m u.catching at channels none caught in
           kept_quiet (saved_of first) T.started T.scenario T.replies (reply_in T) P J K heard (h.before ++ h.entries) D s.0 m t.0 t.2 free_others free_here (was_last t.2)
       go (IsHeard.on_link none after w there moved parked) =
           let k = met_back T P first J heard log s m D sims h w there in
@@ -177,22 +177,22 @@ module _ (T : Setting) (core new : CoreState) (first : List Entry) (heard : Coun
   answered_replied here = subst IsItemReplied (sym (owed_within here)) tt
 
   -- what the message left on its link
-  line_now : (l : LinkNo) → sim_link T.started T.scenario s.0 ≡ Some l → (w : Line) × (line_at (crew_of C) s.0 ≡ Some w) × (w.next ≡ id_after (setup_count T.scenario s.0) (free s.0))
-  line_now l linked = go h.met
+  channel_now : (l : LinkNo) → sim_link T.started T.scenario s.0 ≡ Some l → (w : Channel) × (channel_at (crew_of C) s.0 ≡ Some w) × (w.next ≡ id_after (setup_count T.scenario s.0) (free s.0))
+  channel_now l linked = go h.met
     where
-      go : IsHeard h.entries s.0 m h.crew (crew_of C) → (w : Line) × (line_at (crew_of C) s.0 ≡ Some w) × (w.next ≡ id_after (setup_count T.scenario s.0) (free s.0))
-      go (IsHeard.kept at lines none) =
-          let t = new_within (saved_of first) T.started T.scenario T.replies (reply_in T) core.plan core.entries heard h.before h.entries h.crew (crew_of C) s m v.catching at lines none caught in
+      go : IsHeard h.entries s.0 m h.crew (crew_of C) → (w : Channel) × (channel_at (crew_of C) s.0 ≡ Some w) × (w.next ≡ id_after (setup_count T.scenario s.0) (free s.0))
+      go (IsHeard.kept at channels none) =
+          let t = new_within (saved_of first) T.started T.scenario T.replies (reply_in T) core.plan core.entries heard h.before h.entries h.crew (crew_of C) s m v.catching at channels none caught in
           absurd (true≢false (sym t.2.inside ∙ linked_out T.started T.scenario T.replies s.0 l linked))
       go (IsHeard.on_link none late w there moved parked) =
           let t = new_on_link (saved_of first) T.started T.scenario T.replies (reply_in T) core.plan (awaited T.scenario (reply_in T) core.entries heard) core.entries heard h.before h.entries h.crew (crew_of C) s m l v.catching (resting T core.plan first core.entries heard h.before h.crew C.sims v h.nobody none) linked none late moved parked caught in
-          let g = t.0.touch.lines s.0 l linked in
-          (g.line, g.there, g.in_step.next_id)
+          let g = t.0.touch.channels s.0 l linked in
+          (g.channel, g.there, g.in_step.next_id)
 
   pub answered_linked : (id : ℕ) → open_id new s.0 ≡ Some id → is_here C s.0 ≡ false → HasNext a.item id s.0 C
   answered_linked id opened away =
       let t = link_there T.started T.scenario s.0 (subst (λ (n : ℕ). s.0 < n) v.suits.sims low) (not_here_is_outside T free C.sims s.0 v.come away) in
-      let g = line_now t.0 t.1 in
+      let g = channel_now t.0 t.1 in
       (g.0, g.1, λ takes. numbered id opened takes ∙ sym g.2)
 
   -- and once it was sent the run goes on
@@ -216,8 +216,8 @@ module _ (T : Setting) (core new : CoreState) (first : List Entry) (heard : Coun
     catching : IsCatching (saved_of first) T.started T.scenario T.replies (reply_in T) core.plan after (one_more heard s.0) (h.before ++ h.entries) (crew_of D)
     catching = go h.met
       where
-        next_id : (l : LinkNo) → sim_link T.started T.scenario s.0 ≡ Some l → (w : Line) → line_at (crew_of C) s.0 ≡ Some w → takes_id a.item ≡ true → id ≡ w.next
-        next_id l linked w there takes = let g = line_now l linked in numbered id opened takes ∙ sym g.2 ∙ ap (λ (x : Line). x.next) (some_same (sym g.1 ∙ there))
+        next_id : (l : LinkNo) → sim_link T.started T.scenario s.0 ≡ Some l → (w : Channel) → channel_at (crew_of C) s.0 ≡ Some w → takes_id a.item ≡ true → id ≡ w.next
+        next_id l linked w there takes = let g = channel_now l linked in numbered id opened takes ∙ sym g.2 ∙ ap (λ (x : Channel). x.next) (some_same (sym g.1 ∙ there))
 
         inside_kept : is_within T.scenario s.0 ≡ true → IsSentWithin s.0 (reply_in T s.0 (map bare (free_items after s.0 (heard s.0 + 1)))) (crew_of C) (crew_of D)
         inside_kept inside = elim (bool_or_not (is_here C s.0)) [
@@ -226,8 +226,8 @@ module _ (T : Setting) (core new : CoreState) (first : List Entry) (heard : Coun
         ]
 
         go : IsHeard h.entries s.0 m h.crew (crew_of C) → IsCatching (saved_of first) T.started T.scenario T.replies (reply_in T) core.plan after (one_more heard s.0) (h.before ++ h.entries) (crew_of D)
-        go (IsHeard.kept at lines none) =
-            let t = new_within (saved_of first) T.started T.scenario T.replies (reply_in T) core.plan core.entries heard h.before h.entries h.crew (crew_of C) s m v.catching at lines none caught in
+        go (IsHeard.kept at channels none) =
+            let t = new_within (saved_of first) T.started T.scenario T.replies (reply_in T) core.plan core.entries heard h.before h.entries h.crew (crew_of C) s m v.catching at channels none caught in
             let l = catching_sent (saved_of first) T.started T.scenario T.replies (reply_in T) core.plan free (λ i. kept_of i C.kept) before (one_more heard s.0) (h.before ++ h.entries) (crew_of C) s a.item t.0 t.1 in
             kept_answered (saved_of first) T.started T.scenario T.replies (reply_in T) core.plan core.entries after heard (h.before ++ h.entries) (crew_of C) (crew_of D) s.0 m a.item l.0 l.1 t.2 others here_more
             (was_last T core.plan first core.entries heard log s m (crew_of C) C.sims h caught t.2) (inside_kept t.2.inside)

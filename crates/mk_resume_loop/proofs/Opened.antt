@@ -17,7 +17,7 @@ use Rattle.mk_resume_walk.proofs.Alternating.{balanced, unanswered}
 use Rattle.mk_resume_walk.proofs.Fronts.{free_alternate}
 use Rattle.mk_resume_walk.proofs.UpTo.{free_all}
 use Rattle.mk_resume_links.specs.Rests.{Counts}
-use Rattle.mk_resume_loop.specs.inner.Ending.{IsUnfinished}
+use Rattle.mk_resume_loop.specs.inner.Ending.{SomeToCome}
 use Rattle.mk_resume_loop.specs.inner.Underway.{IsResuming}
 use Rattle.mk_resume_loop.proofs.Passing.{awaited_one}
 use Rattle.mk_resume_loop.proofs.Standing.{few_or_more}
@@ -53,15 +53,15 @@ module _ (T : Setting) (P : Plan) (first J : List Entry) (heard : Counts) (log :
       few : heard i ≤ length (got J i)
       few = few_of (length (got J i)) (length (got first i)) (heard i) (u.catching.counts i)
 
-  pub can_hear : IsUnfinished P J heard → CanHear C
+  pub can_hear : SomeToCome P J heard → CanHear C
   can_hear unfinished none = elim unfinished [ inl t ↦ by_sim t.0 t.1.0 (open_waits t.0 t.1.1) | inr t ↦ by_sim t.0 t.1 (behind_waits t.0 t.2) ]
     where
       not_nil : {X : Type 0} {x : X} → [] ≡ x ∷ [] → ⊥
       not_nil e = cc
 
-      by_sim : (i : ℕ) → i < sim_count P → heard i < length (free_items J i (heard i)) → (i : ℕ) × IsLinked i C.lines
+      by_sim : (i : ℕ) → i < sim_count P → heard i < length (free_items J i (heard i)) → (i : ℕ) × IsLinked i C.channels
       by_sim i low more = go (is_within T.scenario i) refl
         where
-          go : (b : Bool) → is_within T.scenario i ≡ b → (i : ℕ) × IsLinked i C.lines
+          go : (b : Bool) → is_within T.scenario i ≡ b → (i : ℕ) × IsLinked i C.channels
           go true inside = absurd (not_nil (ap (kept_of i) (sym none) ∙ u.catching.touch.kept i ∙ awaited_one T.scenario (reply_in T) J heard i inside more))
-          go false outside = let t = link_there T.started T.scenario i (subst (λ (n : ℕ). i < n) u.suits.sims low) outside in let g = u.catching.touch.lines i t.0 t.1 in (i, (g.line, g.there))
+          go false outside = let t = link_there T.started T.scenario i (subst (λ (n : ℕ). i < n) u.suits.sims low) outside in let g = u.catching.touch.channels i t.0 t.1 in (i, (g.channel, g.there))

@@ -88,10 +88,10 @@ module _ (core : CoreState) (C : CrewSeen) (s : SimNo) (gone id : ℕ) (low : s.
     in_range = d.resuming.in_range;
     counts = d.resuming.catching.counts;
     kinds = d.resuming.catching.kinds;
-    lines = λ i l linked. record {
+    channels = λ i l linked. record {
       messages = repeated core.entries i (R.heard i);
       items = R.queued i;
-      line = d.resuming.catching.touch.lines i l linked;
+      channel = d.resuming.catching.touch.channels i l linked;
       given = ([], sym (append_nil (repeated core.entries i (R.heard i))));
       queued = d.passing.firsts i;
       queued_all = tt;

@@ -14,9 +14,9 @@ use Rattle.mk_outside.specs.declared.fleet.LogEntry.{LogEntry}
 use Rattle.mk_scenario.specs.declared.parts.Scenario.{Scenario}
 use Rattle.mk_local.specs.Simulators.{Simulator}
 use Rattle.mk_run_laws.specs.Handshake.{is_within, setup_count, sim_link}
-use Rattle.mk_run_laws.specs.Lines.{Line}
+use Rattle.mk_run_laws.specs.Channels.{Channel}
 use Rattle.mk_run_laws.specs.Kinds.{Replies}
-use Rattle.mk_run_laws.specs.Crews.{CrewState, line_at, given_by}
+use Rattle.mk_run_laws.specs.Crews.{CrewState, channel_at, given_by}
 use Rattle.mk_run_laws.proofs.Saying.{link_there}
 use Rattle.mk_run_laws.proofs.Stepping.{same_or_not}
 use Rattle.mk_run_local.specs.Laws.{HasCome, RepliesAreKinds}
@@ -102,8 +102,8 @@ module _ (T : Setting) (P : Plan) (first J : List Entry) (heard : Counts) (X : �
   pub passing_linked : (item : Item) (id : ℕ) → s < sim_count P → (takes_id item ≡ true → id ≡ id_after (setup_count T.scenario s) (X s)) → is_here C s ≡ false → HasNext item id s C
   passing_linked item id low right away =
       let t = link_there T.started T.scenario s (subst (λ (n : ℕ). s < n) u.suits.sims low) (not_here_is_outside T X C.sims s u.come away) in
-      let h = u.catching.touch.lines s t.0 t.1 in
-      (h.line, h.there, λ takes. right takes ∙ sym h.in_step.next_id)
+      let h = u.catching.touch.channels s t.0 t.1 in
+      (h.channel, h.there, λ takes. right takes ∙ sym h.in_step.next_id)
 
   -- an item more is, and it was sent
   module _ (law : RepliesAreKinds) (item : Item) (id : ℕ) (D : CrewSeen) (right : takes_id item ≡ true → id ≡ id_after (setup_count T.scenario s) (X s)) (takes : is_here C s ≡ true → takes_id item ≡ true) (so : SendsAs s item id C D) (is : free ≡ X s ++ item ∷ []) where
@@ -144,16 +144,16 @@ module _ (T : Setting) (P : Plan) (first J : List Entry) (heard : Counts) (X : �
         outside : is_here C s ≡ false → IsCatchingWith Y B (saved_of first) T.started T.scenario T.replies (reply_in T) P J heard log (crew_of D)
         outside away =
             let q = so.on_link away in
-            let t = u.no_other s q.0.line q.0.there in
+            let t = u.no_other s q.0.channel q.0.there in
             seen (saved_of first) T.started T.scenario T.replies (reply_in T) P Y Y A B J heard log (crew_of D)
             (catching_queued (saved_of first) T.started T.scenario T.replies (reply_in T) P X Y A J heard log (crew_of C) (crew_of D) s item id t.0 u.catching t.1 q.0 (λ w there takes_one. next w there takes_one t.0 t.1) more stay)
             (λ i l linked. refl)
             (put_same A s awaits (p.none ∙ sym (awaited_outside T.scenario (reply_in T) J heard s (linked_out T.started T.scenario T.replies s t.0 t.1))))
           where
-            next : (w : Line) → line_at (crew_of C) s ≡ Some w → takes_id item ≡ true → (l : LinkNo) → sim_link T.started T.scenario s ≡ Some l → id ≡ w.next
+            next : (w : Channel) → channel_at (crew_of C) s ≡ Some w → takes_id item ≡ true → (l : LinkNo) → sim_link T.started T.scenario s ≡ Some l → id ≡ w.next
             next w there takes_one l linked =
-                let h = u.catching.touch.lines s l linked in
-                right takes_one ∙ sym h.in_step.next_id ∙ ap (λ (v : Line). v.next) (some_same (sym h.there ∙ there))
+                let h = u.catching.touch.channels s l linked in
+                right takes_one ∙ sym h.in_step.next_id ∙ ap (λ (v : Channel). v.next) (some_same (sym h.there ∙ there))
 
     pub passed_sent : IsPassed X A T P first J heard log s D
     passed_sent = record {

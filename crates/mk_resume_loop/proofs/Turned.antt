@@ -13,10 +13,10 @@ use Rattle.mk_outside.specs.declared.fleet.LogEntry.{LogEntry}
 use Rattle.mk_outside.specs.Logs.{Adds}
 use Rattle.mk_outside.proofs.OnLogs.{adds_none, adds_more}
 use Rattle.mk_sched.specs.Cores.{CoreState}
-use Rattle.mk_run_laws.specs.Lines.{Line}
+use Rattle.mk_run_laws.specs.Channels.{Channel}
 use Rattle.mk_run_laws.specs.Crews.{IsHeard}
 use Rattle.mk_run_links.specs.Entries.{AreOn}
-use Rattle.mk_run_links.specs.Places.{AreOpen, IsLineLink}
+use Rattle.mk_run_links.specs.Places.{AreOpen, IsChannelLink}
 use Rattle.mk_run_local.specs.Calls.{IsFitSuccess}
 use Rattle.mk_run_crew.specs.declared.halt.Halt.{Halt}
 use Rattle.mk_run_crew.specs.declared.halt.Halt.TheVariants as halt
@@ -32,11 +32,11 @@ use Rattle.mk_resume_links.proofs.Catching.{one_more}
 use Rattle.mk_resume_loop.specs.declared.behind.Standing.{Standing}
 use Rattle.mk_resume_loop.specs.declared.ending.ResumeEnd.{ResumeEnd}
 use Rattle.mk_resume_loop.specs.declared.ending.ResumeEnd.TheVariants as ends
-use Rattle.mk_resume_loop.specs.inner.Ending.{EndsBy, IsUnfinished}
+use Rattle.mk_resume_loop.specs.inner.Ending.{EndsBy, SomeToCome}
 use Rattle.mk_resume_loop.specs.declared.ending.Pause.{Pause}
 use Rattle.mk_resume_loop.specs.declared.ending.Pause.TheVariants as pause
 use Rattle.mk_resume_loop.specs.inner.Standings.{HasNobody, HasSomebody}
-use Rattle.mk_resume_loop.specs.inner.Turns.{GoesOn, IsPausing, IsStopping, SettlesAs, TakesAs, TurnsAs, Waits}
+use Rattle.mk_resume_loop.specs.inner.Turns.{GoesOn, IsPausing, IsStopping, AsksAllAs, TakesAs, TurnsAs, Waits}
 use Rattle.mk_resume_loop.specs.inner.Underway.{BehindSeen}
 use Rattle.mk_resume_loop.proofs.Endings.{done_ends, unheard_ends}
 use Rattle.mk_resume_loop.proofs.Opened.{can_hear}
@@ -68,7 +68,7 @@ stopping_by some all T first core log C end more (heard, e) = (
     in_range = e.in_range;
     counts = e.counts;
     kinds = e.kinds;
-    lines = e.lines;
+    channels = e.channels;
     no_other = e.no_other;
     rests = e.rests;
     log_right = e.log_right;
@@ -79,7 +79,7 @@ stopping_by some all T first core log C end more (heard, e) = (
 
 -- ---- what is waited for
 
-pub unfinished_by : (T : Setting) (first : List Entry) (heard : Counts) (core : CoreState) (log : List LogEntry) (C : CrewSeen) (B : BehindSeen) → GoesOn T first heard core log C B → Waits core B → IsUnfinished core.plan core.entries heard
+pub unfinished_by : (T : Setting) (first : List Entry) (heard : Counts) (core : CoreState) (log : List LogEntry) (C : CrewSeen) (B : BehindSeen) → GoesOn T first heard core log C B → Waits core B → SomeToCome core.plan core.entries heard
 unfinished_by T first heard core log C B u waits = elim waits.1 [
   | inl opened ↦ inl opened
   | inr t ↦ inr (t.0, subst (λ (n : ℕ). t.0 < n) u.1.sims (slice_get_within B.sims t.0 (Some t.1) t.2), next_behind core.entries t.0 (heard t.0) t.1.place (u.1.each t.0 (Some t.1) t.2).0)
@@ -88,42 +88,42 @@ unfinished_by T first heard core log C B u waits = elim waits.1 [
 pub may_hear : (T : Setting) (first : List Entry) (heard : Counts) (core : CoreState) (log : List LogEntry) (C : CrewSeen) (B : BehindSeen) → GoesOn T first heard core log C B → Waits core B → CanHear C
 may_hear T first heard core log C B u waits = can_hear T core.plan first core.entries heard log C u.0 (unfinished_by T first heard core log C B u waits)
 
-pub are_open : (T : Setting) (first : List Entry) (heard : Counts) (core : CoreState) (log : List LogEntry) (C : CrewSeen) (B : BehindSeen) (open_links : List LinkNo) → GoesOn T first heard core log C B → AreLinksOpen T open_links → AreOpen C.lines open_links
+pub are_open : (T : Setting) (first : List Entry) (heard : Counts) (core : CoreState) (log : List LogEntry) (C : CrewSeen) (B : BehindSeen) (open_links : List LinkNo) → GoesOn T first heard core log C B → AreLinksOpen T open_links → AreOpen C.channels open_links
 are_open T first heard core log C B open_links u links i w there =
     let t = u.0.no_other i w there in
-    let g = u.0.catching.touch.lines i t.0 t.1 in
-    subst (λ (l : LinkNo). IsIn l open_links) (sym (ap (λ (v : Line). v.link) (some_same (sym there ∙ g.there)) ∙ g.link)) (links i t.0 t.1)
+    let g = u.0.catching.touch.channels i t.0 t.1 in
+    subst (λ (l : LinkNo). IsIn l open_links) (sym (ap (λ (v : Channel). v.link) (some_same (sym there ∙ g.there)) ∙ g.link)) (links i t.0 t.1)
 
 -- nothing was heard
-pub stopped_unheard : (T : Setting) (first : List Entry) (heard : Counts) (core : CoreState) (log entries : List LogEntry) (C D : CrewSeen) (B : BehindSeen) (h : Halt) (risen : Type 0) → GoesOn T first heard core log C B → Waits core B → HearsNothing h entries C D → AreOn (IsLineLink C.lines) entries → (h ≡ halt.Fleet → risen)
+pub stopped_unheard : (T : Setting) (first : List Entry) (heard : Counts) (core : CoreState) (log entries : List LogEntry) (C D : CrewSeen) (B : BehindSeen) (h : Halt) (risen : Type 0) → GoesOn T first heard core log C B → Waits core B → HearsNothing h entries C D → AreOn (IsChannelLink C.channels) entries → (h ≡ halt.Fleet → risen)
     → IsStopping risen T first core (log ++ entries) D (ends.Outcome (outcome_of h))
 stopped_unheard T first heard core log entries C D B h risen u waits un on_links cause = subst (λ (g : Halt). IsStopping risen T first core (log ++ entries) D (ends.Outcome (outcome_of g))) (sym un.is)
     (heard, unheard_ends T first risen core.plan core.entries heard log entries C D u.0 waits.0 (unfinished_by T first heard core log C B u waits) un.unheard un.why (λ e. cause (un.is ∙ ap halt_of e)) un.shown on_links)
 
 -- a message was, and was taken
-pub heard_turn : (risen : Type 0) (core new : CoreState) (entries : List LogEntry) (C D E : CrewSeen) (B F : BehindSeen) (s : SimNo) (m : Message) (r : Result (Unit {0}) ResumeEnd) → Waits core B → IsHeard entries s.0 m (crew_of C) (crew_of D) → AreOn (IsLineLink C.lines) entries → D.sims ≡ C.sims
+pub heard_turn : (risen : Type 0) (core new : CoreState) (entries : List LogEntry) (C D E : CrewSeen) (B F : BehindSeen) (s : SimNo) (m : Message) (r : Result (Unit {0}) ResumeEnd) → Waits core B → IsHeard entries s.0 m (crew_of C) (crew_of D) → AreOn (IsChannelLink C.channels) entries → D.sims ≡ C.sims
     → ((k : Arrival) (more : List Arrival) → C.kept ≡ k ∷ more → IsFitSuccess m) → TakesAs r s m core D B new E F → TurnsAs r entries risen core C B new E F
 heard_turn risen core new entries C D E B F s m (Ok done) waits h on_links sims fit t = (t.0, λ T first heard log u. (one_more heard s.0, t.1 T first heard (log ++ entries) (past_it T core first heard log entries C D B s m u waits.0 h on_links sims fit)))
 heard_turn risen core new entries C D E B F s m (Err end) waits h on_links sims fit t = λ T first heard log u. stopping_by ⊥ risen T first new (log ++ entries) E end (λ e. absurd e) (t T first heard (log ++ entries) (past_it T core first heard log entries C D B s m u waits.0 h on_links sims fit))
 
 -- whoever was ready was asked before
-pub settled_turn : (risen : Type 0) (old mid new : CoreState) (entries : List LogEntry) (C D E : CrewSeen) (B F : BehindSeen) (r : Result (Unit {0}) ResumeEnd)
+pub asked_turn : (risen : Type 0) (old mid new : CoreState) (entries : List LogEntry) (C D E : CrewSeen) (B F : BehindSeen) (r : Result (Unit {0}) ResumeEnd)
     → ((T : Setting) (first : List Entry) (heard : Counts) (log : List LogEntry) → GoesOn T first heard old log C B → GoesOn T first heard mid log D B) → TurnsAs r entries risen mid D B new E F → TurnsAs r entries risen old C B new E F
-settled_turn risen old mid new entries C D E B F (Ok done) goes t = (t.0, λ T first heard log u. t.1 T first heard log (goes T first heard log u))
-settled_turn risen old mid new entries C D E B F (Err end) goes t = λ T first heard log u. t T first heard log (goes T first heard log u)
+asked_turn risen old mid new entries C D E B F (Ok done) goes t = (t.0, λ T first heard log u. t.1 T first heard log (goes T first heard log u))
+asked_turn risen old mid new entries C D E B F (Err end) goes t = λ T first heard log u. t T first heard log (goes T first heard log u)
 
 -- the run ended while whoever was ready was asked
-pub settled_end : (risen : Type 0) (old new : CoreState) (C D : CrewSeen) (B F : BehindSeen) (end : ResumeEnd) → ((T : Setting) (first : List Entry) (heard : Counts) (log : List LogEntry) → GoesOn T first heard old log C B → IsStopping ⊥ T first new log D end) → TurnsAs (Err end) [] risen old C B new D F
-settled_end risen old new C D B F end stops = λ T first heard log u. subst (λ (l : List LogEntry). IsStopping risen T first new l D end) (sym (append_nil log)) (stopping_by ⊥ risen T first new log D end (λ e. absurd e) (stops T first heard log u))
+pub asked_end : (risen : Type 0) (old new : CoreState) (C D : CrewSeen) (B F : BehindSeen) (end : ResumeEnd) → ((T : Setting) (first : List Entry) (heard : Counts) (log : List LogEntry) → GoesOn T first heard old log C B → IsStopping ⊥ T first new log D end) → TurnsAs (Err end) [] risen old C B new D F
+asked_end risen old new C D B F end stops = λ T first heard log u. subst (λ (l : List LogEntry). IsStopping risen T first new l D end) (sym (append_nil log)) (stopping_by ⊥ risen T first new log D end (λ e. absurd e) (stops T first heard log u))
 
 -- ---- nobody is ready
 
 -- nothing is left to do, and nobody is behind
-pub all_over : (old new : CoreState) (C D : CrewSeen) (B : BehindSeen) (p : Pause) → SettlesAs (Ok p) old C new D B → p ≡ pause.Over → HasNobody B → (T : Setting) (first : List Entry) (heard : Counts) (log : List LogEntry) → GoesOn T first heard old log C B
+pub all_over : (old new : CoreState) (C D : CrewSeen) (B : BehindSeen) (p : Pause) → AsksAllAs (Ok p) old C new D B → p ≡ pause.Over → HasNobody B → (T : Setting) (first : List Entry) (heard : Counts) (log : List LogEntry) → GoesOn T first heard old log C B
     → IsStopping ⊥ T first new log D (ends.Outcome outcome.Done)
-all_over old new C D B p settles is nobody T first heard log before =
-    let u : GoesOn T first heard new log D B = settles.3 T first heard log before in
-    (heard, done_ends T first ⊥ new.plan new.entries heard log (crew_of D) D.sims u.0 (subst (λ (q : Pause). IsPausing q new) is settles.2, caught u))
+all_over old new C D B p asks is nobody T first heard log before =
+    let u : GoesOn T first heard new log D B = asks.3 T first heard log before in
+    (heard, done_ends T first ⊥ new.plan new.entries heard log (crew_of D) D.sims u.0 (subst (λ (q : Pause). IsPausing q new) is asks.2, caught u))
   where
     caught : GoesOn T first heard new log D B → (i : ℕ) → i < sim_count new.plan → heard i ≡ length (got new.entries i)
     caught u i low =
@@ -131,9 +131,9 @@ all_over old new C D B p settles is nobody T first heard log before =
         u.1.each i None (there.1 ∙ ap (λ (o : Option Standing). Some o) (nobody i there.0 there.1))
 
 -- something is to come
-pub waits_so : (old new : CoreState) (C D : CrewSeen) (B : BehindSeen) (p : Pause) → SettlesAs (Ok p) old C new D B → (p ≡ pause.Waiting) ⊎ HasSomebody B → Waits new B
-waits_so old new C D B p settles (inl is) = (settles.1, inl (subst (λ (q : Pause). IsPausing q new) is settles.2))
-waits_so old new C D B p settles (inr somebody) = (settles.1, inr somebody)
+pub waits_so : (old new : CoreState) (C D : CrewSeen) (B : BehindSeen) (p : Pause) → AsksAllAs (Ok p) old C new D B → (p ≡ pause.Waiting) ⊎ HasSomebody B → Waits new B
+waits_so old new C D B p asks (inl is) = (asks.1, inl (subst (λ (q : Pause). IsPausing q new) is asks.2))
+waits_so old new C D B p asks (inr somebody) = (asks.1, inr somebody)
 
 -- ---- turns one after another
 

@@ -19,7 +19,7 @@ use Rattle.mk_run_local.specs.Laws.{RepliesAreKinds}
 use Rattle.mk_run_crew.specs.Calls.{SendsAs}
 use Rattle.mk_run_crew.specs.Seen.{CrewSeen, crew_of}
 use Rattle.mk_run_links.specs.Entries.{AreOn}
-use Rattle.mk_run_links.specs.Places.{IsLineLink}
+use Rattle.mk_run_links.specs.Places.{IsChannelLink}
 use Rattle.mk_run_links.proofs.OnEntries.{on_run}
 use Rattle.mk_run.specs.inner.Underway.{Setting}
 use Rattle.mk_run.specs.inner.Sendings.{CanSend, EndsWithItem}
@@ -96,7 +96,7 @@ over_on T old new first heard log C B o u = subst (λ (c : CoreState). GoesOn T 
 
 -- ---- a message was heard
 
-pub past_it : (T : Setting) (core : CoreState) (first : List Entry) (heard : Counts) (log entries : List LogEntry) (C D : CrewSeen) (B : BehindSeen) (s : SimNo) (m : Message) → GoesOn T first heard core log C B → (SomeReady core.plan core.entries → ⊥) → IsHeard entries s.0 m (crew_of C) (crew_of D) → AreOn (IsLineLink C.lines) entries → D.sims ≡ C.sims
+pub past_it : (T : Setting) (core : CoreState) (first : List Entry) (heard : Counts) (log entries : List LogEntry) (C D : CrewSeen) (B : BehindSeen) (s : SimNo) (m : Message) → GoesOn T first heard core log C B → (SomeReady core.plan core.entries → ⊥) → IsHeard entries s.0 m (crew_of C) (crew_of D) → AreOn (IsChannelLink C.channels) entries → D.sims ≡ C.sims
     → ((k : Arrival) (more : List Arrival) → C.kept ≡ k ∷ more → IsFitSuccess m) → IsPast T first heard core (log ++ entries) s m D B
 past_it T core first heard log entries C D B s m u nobody h on_links sims fit = (
   record {
@@ -108,7 +108,7 @@ past_it T core first heard log entries C D B s m u nobody h on_links sims fit = 
     nobody = nobody;
     met = h;
     fit = fit;
-    on_links = on_run T.started T.scenario C.lines entries (λ i l linked. let g = u.0.catching.touch.lines i l linked in (g.line, g.there, g.link)) u.0.no_other on_links;
+    on_links = on_run T.started T.scenario C.channels entries (λ i l linked. let g = u.0.catching.touch.channels i l linked in (g.channel, g.there, g.link)) u.0.no_other on_links;
   },
   u.1,
 )

@@ -13,7 +13,7 @@ use Rattle.mk_message.specs.Written.{item_text}
 use Rattle.mk_frame.specs.Frames.{limit}
 use Rattle.mk_outside.specs.declared.fleet.LogEntry.{LogEntry}
 use Rattle.mk_local.specs.Simulators.{Simulator}
-use Rattle.mk_run_laws.specs.Lines.{Line}
+use Rattle.mk_run_laws.specs.Channels.{Channel}
 use Rattle.mk_run_links.specs.Crews.{IsLengthOf}
 use Rattle.mk_run_crew.specs.declared.halt.Halt.{Halt}
 use Rattle.mk_run_crew.specs.declared.halt.Halt.TheVariants as halt
@@ -32,12 +32,12 @@ use Rattle.mk_resume_loop.specs.inner.Underway.{IsResumingWith, saved_of}
 -- these items were queued, those that are free go on with this one
 module _ (risen : Type 0) (X : ℕ → List Item) (A : ℕ → List Message) (T : Setting) (P : Plan) (first J : List Entry) (heard : Counts) (log : List LogEntry) (C : CrewSeen) (sims : List (Option Simulator)) (s : SimNo) (item : Item) (later : List Item) (low : s.0 < sim_count P)
     (u : IsResumingWith X A T P first J heard log (crew_of C) sims) (firsts : (i : ℕ) → BeginsWith (free_items J i (heard i)) (X i)) (next : free_items J s.0 (heard s.0) ≡ X s.0 ++ item ∷ later) where
-  long_free : (n : ℕ) → IsLengthOf n item s.0 C.lines → limit < n → IsLongFree T.started T.scenario P J heard s.0 n
+  long_free : (n : ℕ) → IsLengthOf n item s.0 C.channels → limit < n → IsLongFree T.started T.scenario P J heard s.0 n
   long_free n size beyond =
       let t = u.no_other s.0 size.0 size.1 in
-      let g = u.catching.touch.lines s.0 t.0 t.1 in
-      let same : g.line ≡ size.0 = some_same (sym g.there ∙ size.1) in
-      let id_is : size.0.next ≡ id_after (first_id P s.0) (X s.0) = ap (λ (w : Line). w.next) (sym same) ∙ g.in_step.next_id ∙ ap (λ (k : ℕ). id_after k (X s.0)) (sym (u.suits.first s.0 low)) in
+      let g = u.catching.touch.channels s.0 t.0 t.1 in
+      let same : g.channel ≡ size.0 = some_same (sym g.there ∙ size.1) in
+      let id_is : size.0.next ≡ id_after (first_id P s.0) (X s.0) = ap (λ (w : Channel). w.next) (sym same) ∙ g.in_step.next_id ∙ ap (λ (k : ℕ). id_after k (X s.0)) (sym (u.suits.first s.0 low)) in
       record {
         link = t.0;
         linked = t.1;
@@ -68,10 +68,10 @@ module _ (risen : Type 0) (X : ℕ → List Item) (A : ℕ → List Message) (T 
     in_range = u.in_range;
     counts = u.catching.counts;
     kinds = u.catching.kinds;
-    lines = λ i l linked. record {
+    channels = λ i l linked. record {
       messages = repeated J i (heard i);
       items = X i;
-      line = u.catching.touch.lines i l linked;
+      channel = u.catching.touch.channels i l linked;
       given = ([], sym (append_nil (repeated J i (heard i))));
       queued = firsts i;
       queued_all = (by_halt h shown).0 i;

@@ -15,7 +15,7 @@ ghost use Rattle.mk_run.specs.inner.Underway.{Setting};
 ghost use Rattle.mk_run.specs.inner.Turns.{AreLinksOpen, GrowsBy, IsStill};
 ghost use Rattle.mk_resume_links.specs.Rests.{Counts};
 ghost use Rattle.mk_resume_loop.specs.declared.behind.Standing.{Standing};
-ghost use Rattle.mk_resume_loop.specs.inner.Turns.{GoesOn, IsPast, SettlesAs, TakesAs, TurnsAs, Waits};
+ghost use Rattle.mk_resume_loop.specs.inner.Turns.{GoesOn, IsPast, AsksAllAs, TakesAs, TurnsAs, Waits};
 ghost use Rattle.mk_resume_loop.specs.declared.ending.ResumeEnd.TheVariants as ends;
 ghost use Rattle.mk_resume_loop.specs.declared.ending.Pause.TheVariants as pauses;
 ghost use Rattle.mk_resume_loop.specs.inner.Comparisons.{IsApart};
@@ -36,7 +36,7 @@ use mk_local::Registry;
 use mk_outside::Fleet;
 use mk_plan::{Entry, Message};
 use mk_record_compare::same_message;
-use mk_run::{Outcome, outcome_of, send_last};
+use mk_run::{Outcome, send_last};
 use mk_run_crew::Crew;
 use mk_run_local::replies_are_kinds;
 use mk_sched::{Core, Next, Taken};
@@ -44,7 +44,7 @@ use std::alloc::Global;
 use std::sync::Wait;
 
 // Asks whoever is ready, until nobody is. One that is behind gets its Step when it comes to it.
-fn settle(
+fn ask_all(
     core: &mut Core,
     crew: &mut Crew,
     kinds: &Registry,
@@ -54,7 +54,7 @@ fn settle(
     requires known { AreOf (rows_in kinds.now) (within_of crew.old) }
     requires underway { (T : Setting) × (first : List Entry) × (heard : Counts)
         × (log : List LogEntry) × GoesOn T first heard core.old log crew.old behind.now }
-    ensures settled { SettlesAs result core.old crew.old core.new crew.new behind.now }
+    ensures asked_all { AsksAllAs result core.old crew.old core.new crew.new behind.now }
     ensures still { IsStill crew.old crew.new }
     ensures same_halt { crew.new.halt ≡ crew.old.halt }
 {
@@ -258,7 +258,7 @@ fn hear<F: Fleet, R: Wait>(
     requires unhalted { crew.old.halt ≡ None }
     requires known { AreOf (rows_in kinds.now) (within_of crew.old) }
     requires waits { Waits core.old behind.old }
-    requires open { AreOpen crew.old.lines (F.open_links fleet.old) }
+    requires open { AreOpen crew.old.channels (F.open_links fleet.old) }
     requires underway { (T : Setting) × (first : List Entry) × (heard : Counts)
         × (log : List LogEntry) × GoesOn T first heard core.old log crew.old behind.old }
     ensures count { F.faults fleet.old ≤ F.faults fleet.new }
@@ -272,7 +272,7 @@ fn hear<F: Fleet, R: Wait>(
 {
     match crew.hear(rt, fleet) {
         Ok((sim, message)) => accept(alloc, core, crew, kinds, behind, sim, message),
-        Err(halt) => Err(ResumeEnd::Outcome(outcome_of(halt))),
+        Err(halt) => Err(ResumeEnd::Outcome(Outcome::from(halt))),
     }
 }
 
@@ -313,7 +313,7 @@ fn turn<F: Fleet, R: Wait>(
     ensures still { IsStill crew.old crew.new }
     ensures unhalted { OnOk result (crew.new.halt ≡ None) }
 {
-    let pause = settle(core, crew, kinds, behind)?;
+    let pause = ask_all(core, crew, kinds, behind)?;
     if is_over(&pause, behind) {
         return Err(ResumeEnd::Outcome(Outcome::Done));
     }

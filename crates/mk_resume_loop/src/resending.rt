@@ -20,7 +20,7 @@ use crate::ending::ResumeEnd;
 use mk_base::SimNo;
 use mk_local::Registry;
 use mk_plan::{Entry, Item};
-use mk_run::outcome_of;
+use mk_run::Outcome;
 use mk_run_crew::Crew;
 use mk_run_local::replies_are_kinds;
 use mk_sched::Core;
@@ -105,7 +105,7 @@ pub fn go_on(
                 behind.set(sim, standing_at(later, gone + 1, id_behind(item, id)));
                 Ok(())
             }
-            Err(halt) => Err(ResumeEnd::Outcome(outcome_of(halt))),
+            Err(halt) => Err(ResumeEnd::Outcome(Outcome::from(halt))),
         },
     }
 }

@@ -7,7 +7,7 @@ use Rattle.mk_plan.specs.declared.Plan.{Plan}
 use Rattle.mk_plan.specs.declared.Journal.{Journal}
 use Rattle.mk_outside.specs.Counts.{HasRisen}
 use Rattle.mk_run_links.specs.Entries.{AreOn, IsRunLink}
-use Rattle.mk_run_links.specs.Places.{AreOpen, IsLineLink}
+use Rattle.mk_run_links.specs.Places.{AreOpen, IsChannelLink}
 use Rattle.mk_run_links.proofs.OnEntries.{on_more, on_or_clock, on_run}
 use Rattle.mk_setup.specs.Handshakes.{IsMade}
 use Rattle.mk_run_laws.specs.Running.{SetupReplies}
@@ -74,25 +74,25 @@ module _ (started : ℕ) (S : Scenario) (ranks : List ℕ) (rows : List Turn) (l
   }
 
   -- or there is no memory for it: the whole handshake was said, and then a stop
-  pub run_halts : (entries : List LogEntry) (some risen : Type 0) → (some → risen) → AreStopped entries some (crew_of C) → IsRestless entries → AreOn (IsLineLink C.lines) entries → HasHalted started S ranks rows (log ++ entries) risen halt.Mem
-  run_halts entries some risen on stopped restless of_lines = record {
+  pub run_halts : (entries : List LogEntry) (some risen : Type 0) → (some → risen) → AreStopped entries some (crew_of C) → IsRestless entries → AreOn (IsChannelLink C.channels) entries → HasHalted started S ranks rows (log ++ entries) risen halt.Mem
+  run_halts entries some risen on stopped restless of_channels = record {
     queued = setup_requests S;
     later = [];
     parts = sym (append_nil (setup_requests S));
-    says = λ reply i l linked. let t = b.begun.lines i l linked in
+    says = λ reply i l linked. let t = b.begun.channels i l linked in
         handshake_says started S reply log entries some i l (setup_requests S) [] (sym (append_nil (setup_requests S))) (b.replies i) t.0 t.2 t.3 (stopped i t.0 t.1);
-    whole = λ apart i l linked. let t = b.begun.lines i l linked in
+    whole = λ apart i l linked. let t = b.begun.channels i l linked in
         all_said S log entries some risen i l (setup_requests S) [] (sym (append_nil (setup_requests S))) (b.replies i) t.0 t.2 t.3 (stopped i t.0 t.1) on;
     rests = λ before after is. elim (first_or_second log entries before after Rest is) [
       | inl t ↦ (b.rests before t.0 t.1, b.begun.setting_up before t.0 t.1)
       | inr t ↦ absurd (restless t.0 after t.2)
     ];
     cause = tt;
-    on_links = on_or_clock (IsRunLink started S) (log ++ entries) (on_more (IsRunLink started S) log entries b.on_links (on_run started S C.lines entries (λ i l linked. let t = b.begun.lines i l linked in (t.0, t.1, t.2)) b.back of_lines));
+    on_links = on_or_clock (IsRunLink started S) (log ++ entries) (on_more (IsRunLink started S) log entries b.on_links (on_run started S C.channels entries (λ i l linked. let t = b.begun.channels i l linked in (t.0, t.1, t.2)) b.back of_channels));
   }
 
-  pub links_open : (open_links : List LinkNo) → AreOpen C.lines open_links → AreLinksOpen setting_of open_links
-  links_open open_links all i l linked = let t = b.begun.lines i l linked in subst (λ (k : LinkNo). IsIn k open_links) t.2 (all i t.0 t.1)
+  pub links_open : (open_links : List LinkNo) → AreOpen C.channels open_links → AreLinksOpen setting_of open_links
+  links_open open_links all i l linked = let t = b.begun.channels i l linked in subst (λ (k : LinkNo). IsIn k open_links) t.2 (all i t.0 t.1)
 
   run_first : (Q : Plan) → Q ≡ P → (i : ℕ) → i < sim_count Q → first_id Q i ≡ setup_count S i
   run_first Q same i low = ap (λ (X : Plan). first_id X i) same ∙ b.first i (subst (λ (n : ℕ). i < n) b.sims (subst (λ (X : Plan). i < sim_count X) same low))

@@ -27,11 +27,11 @@ use Rattle.mk_sched.specs.Answers.{SomeReady, SomeOpen, IsOver, IsOutOfMemory, I
 use Rattle.mk_run_laws.specs.Hearing.{first_message}
 use Rattle.mk_run_laws.specs.Handshake.{setup_count, setup_payloads, sim_link, is_within}
 use Rattle.mk_run_laws.specs.Payloads.{item_payloads}
-use Rattle.mk_run_laws.specs.Lines.{Line, IsLineAt, IsMoved}
-use Rattle.mk_run_laws.specs.Crews.{CrewState, line_at, IsMovedAt, IsHeard, IsUnheard}
+use Rattle.mk_run_laws.specs.Channels.{Channel, IsChannelAt, IsMoved}
+use Rattle.mk_run_laws.specs.Crews.{CrewState, channel_at, IsMovedAt, IsHeard, IsUnheard}
 use Rattle.mk_run_laws.specs.Running.{RestsEnd}
-use Rattle.mk_run_laws.specs.inner.Running.{HasLine, IsRunningWith}
-use Rattle.mk_run_laws.proofs.Moving.{line_moved}
+use Rattle.mk_run_laws.specs.inner.Running.{HasChannel, IsRunningWith}
+use Rattle.mk_run_laws.proofs.Moving.{channel_moved}
 use Rattle.mk_run_laws.proofs.Stepping.{over_ends, rests_at_end}
 use Rattle.mk_run_laws.proofs.Taking.{unfinished_none, long_none, none_first, garbled_none}
 use Rattle.mk_run_links.specs.declared.answers.LinkHalt.{LinkHalt}
@@ -39,7 +39,7 @@ use Rattle.mk_run_links.specs.declared.answers.LinkHalt.TheVariants as link_halt
 use Rattle.mk_run_links.specs.Crews.{IsLengthOf}
 use Rattle.mk_run_links.specs.Entries.{AreOn}
 use Rattle.mk_run_links.specs.Halts.{ShowsHalt}
-use Rattle.mk_run_links.specs.Places.{IsLineLink}
+use Rattle.mk_run_links.specs.Places.{IsChannelLink}
 use Rattle.mk_run_links.proofs.OnEntries.{on_run}
 use Rattle.mk_run_crew.specs.declared.halt.Halt.{Halt}
 use Rattle.mk_run_crew.specs.declared.halt.Halt.TheVariants as halt
@@ -49,7 +49,7 @@ use Rattle.mk_run.specs.declared.outcome.Outcome.{Outcome}
 use Rattle.mk_run.specs.declared.outcome.Outcome.TheVariants as outcome
 use Rattle.mk_run.specs.Ends.{AreInRange, QueuedAll, IsAwaiting, IsBrokenOff, IsLongItem, fault_named}
 use Rattle.mk_sched.specs.inner.Patient.{IsPatient}
-use Rattle.mk_run.specs.inner.Underway.{Setting, reply_in, Suits, HasNoOther, IsLogRight, IsUnderway, HasHeard, IsLastLine, HasGiven, EndsBy, HasEnded}
+use Rattle.mk_run.specs.inner.Underway.{Setting, reply_in, Suits, HasNoOther, IsLogRight, IsUnderway, HasHeard, IsLastChannel, HasGiven, EndsBy, HasEnded}
 use Rattle.mk_run.specs.Outcomes.{outcome_of}
 use Rattle.mk_run.specs.inner.Sendings.{IsUnsent}
 use Rattle.mk_run.proofs.Going.{log_right_on}
@@ -57,7 +57,7 @@ use Rattle.mk_run.proofs.Hearing.{heard_fits, heard_left, heard_running, heard_n
 use Rattle.mk_run.proofs.Linked.{no_other_moved}
 use Rattle.mk_sched.proofs.Pushed.{fault_after_sent, patient_sent, patient_got}
 use Rattle.mk_run.proofs.Pushed.{kinds_sent, range_sent, range_got, sent_front, got_front, got_sent, sent_got, rests_longer}
-use Rattle.mk_run.proofs.LinesStopped.{begins_itself}
+use Rattle.mk_run.proofs.ChannelsStopped.{begins_itself}
 
 pub queued_itself : (end : Outcome) (items : List Item) → QueuedAll end items items
 queued_itself outcome.Done items = refl
@@ -95,13 +95,13 @@ last_is_in test (x ∷ entries) e is = go (λ q. last_is_in test entries e q) (l
     go further None there false q = absurd (none_some q)
 
 module _ (T : Setting) where
-  -- lines in step with the journal
-  lines_in_step : (end : Outcome) (J : List Entry) (log : List LogEntry) (C : CrewState) → ((i : ℕ) (l : LinkNo) → sim_link T.started T.scenario i ≡ Some l → HasLine T.scenario T.replies log i l (got J i) (sent J i) C)
-      → (i : ℕ) (l : LinkNo) → sim_link T.started T.scenario i ≡ Some l → IsLastLine T J log C end i l
-  lines_in_step end J log C lines i l linked = record {
+  -- channels in step with the journal
+  channels_in_step : (end : Outcome) (J : List Entry) (log : List LogEntry) (C : CrewState) → ((i : ℕ) (l : LinkNo) → sim_link T.started T.scenario i ≡ Some l → HasChannel T.scenario T.replies log i l (got J i) (sent J i) C)
+      → (i : ℕ) (l : LinkNo) → sim_link T.started T.scenario i ≡ Some l → IsLastChannel T J log C end i l
+  channels_in_step end J log C channels i l linked = record {
     messages = got J i;
     items = sent J i;
-    line = lines i l linked;
+    channel = channels i l linked;
     given = begins_itself (got J i);
     queued = begins_itself (sent J i);
     queued_all = queued_itself end (sent J i);
@@ -115,7 +115,7 @@ module _ (T : Setting) where
     patient = u.patient;
     in_range = u.in_range;
     kinds = u.running.kinds;
-    lines = lines_in_step end J log C u.running.lines;
+    channels = channels_in_step end J log C u.running.channels;
     no_other = u.no_other;
     rests = over_ends T.started T.scenario T.replies (reply_in T) P J log u.running.rests;
     log_right = u.log_right;
@@ -149,12 +149,12 @@ module _ (T : Setting) where
 
   module _ (risen : Type 0) (awaits : ℕ → List Message) (P : Plan) (K : List Entry) (log : List LogEntry) (C : CrewSeen) (s : SimNo) (item : Item) (suits : Suits T P) (low : s.0 < sim_count P) (stands : Stands P (K ++ Sent s item ∷ [])) (patient : IsPatient P K) (fits : AreInRange K) (fine : (view P K).fault ≡ None)
       (run : IsRunningWith awaits T.started T.scenario T.replies (reply_in T) P K log (crew_of C)) (no_other : HasNoOther T (crew_of C)) (right : IsLogRight T log) where
-    long_item : (n : ℕ) → IsLengthOf n item s.0 C.lines → limit < n → IsLongItem T.started T.scenario P (K ++ Sent s item ∷ []) s.0 n
+    long_item : (n : ℕ) → IsLengthOf n item s.0 C.channels → limit < n → IsLongItem T.started T.scenario P (K ++ Sent s item ∷ []) s.0 n
     long_item n size beyond =
         let t = no_other s.0 size.0 size.1 in
-        let g = run.lines s.0 t.0 t.1 in
-        let same : g.line ≡ size.0 = some_same (sym g.there ∙ size.1) in
-        let next : size.0.next ≡ id_after (first_id P s.0) (sent K s.0) = ap (λ (w : Line). w.next) (sym same) ∙ g.in_step.next_id ∙ ap (λ (k : ℕ). id_after k (sent K s.0)) (sym (suits.first s.0 low)) in
+        let g = run.channels s.0 t.0 t.1 in
+        let same : g.channel ≡ size.0 = some_same (sym g.there ∙ size.1) in
+        let next : size.0.next ≡ id_after (first_id P s.0) (sent K s.0) = ap (λ (w : Channel). w.next) (sym same) ∙ g.in_step.next_id ∙ ap (λ (k : ℕ). id_after k (sent K s.0)) (sym (suits.first s.0 low)) in
         record {
           before = K;
           sim = s;
@@ -184,10 +184,10 @@ module _ (T : Setting) where
       patient = patient_sent P K s item patient;
       in_range = range_sent K s item fits;
       kinds = kinds_sent (reply_in T) (is_within T.scenario) P K s item run.kinds;
-      lines = λ i l linked. record {
+      channels = λ i l linked. record {
         messages = got K i;
         items = sent K i;
-        line = run.lines i l linked;
+        channel = run.channels i l linked;
         given = ([], sym (got_sent K s item i) ∙ sym (append_nil (got (K ++ Sent s item ∷ []) i)));
         queued = sent_front K (Sent s item) i;
         queued_all = (by_halt why.0 why.2).0 i;
@@ -210,7 +210,7 @@ module _ (T : Setting) where
     rests_before = subst (RestsEnd T.started T.scenario T.replies core.plan core.entries) (sym h.parts) (go h.heard)
       where
         go : IsHeard h.entries s.0 m h.crew D → RestsEnd T.started T.scenario T.replies core.plan core.entries (h.before ++ h.entries)
-        go (IsHeard.kept is lines none) = subst (RestsEnd T.started T.scenario T.replies core.plan core.entries) (sym (append_nil h.before) ∙ ap (λ (e : List LogEntry). h.before ++ e) (sym none))
+        go (IsHeard.kept is channels none) = subst (RestsEnd T.started T.scenario T.replies core.plan core.entries) (sym (append_nil h.before) ∙ ap (λ (e : List LogEntry). h.before ++ e) (sym none))
             (over_ends T.started T.scenario T.replies (reply_in T) core.plan core.entries h.before u.running.rests)
         go (IsHeard.on_link none after w there moved parked) = rests_at_end T.started T.scenario T.replies (reply_in T) core.plan core.entries h.before h.entries h.crew u.running (λ i x ready. h.nobody (i, x, ready)) none parked
 
@@ -222,10 +222,10 @@ module _ (T : Setting) where
       patient = u.patient;
       in_range = u.in_range;
       kinds = u.running.kinds;
-      lines = λ i l linked. record {
+      channels = λ i l linked. record {
         messages = got (core.entries ++ Got s m ∷ []) i;
         items = sent (core.entries ++ Got s m ∷ []) i;
-        line = (heard_running T core.plan core.entries log s m D sims h).lines i l linked;
+        channel = (heard_running T core.plan core.entries log s m D sims h).channels i l linked;
         given = got_front core.entries (Got s m) i;
         queued = ([], sym (sent_got core.entries s m i) ∙ sym (append_nil (sent (core.entries ++ Got s m ∷ []) i)));
         queued_all = subst (QueuedAll end (sent core.entries i)) (sym (sent_got core.entries s m i)) (queued_itself end (sent core.entries i));
@@ -246,7 +246,7 @@ module _ (T : Setting) where
       patient = patient_got core.plan core.entries s m u.patient h.nobody;
       in_range = range_got core.entries s m u.in_range (heard_fits T core.plan core.entries log s m D sims h);
       kinds = (heard_running T core.plan core.entries log s m D sims h).kinds;
-      lines = lines_in_step end (core.entries ++ Got s m ∷ []) log D (heard_running T core.plan core.entries log s m D sims h).lines;
+      channels = channels_in_step end (core.entries ++ Got s m ∷ []) log D (heard_running T core.plan core.entries log s m D sims h).channels;
       no_other = heard_no_other T core.plan core.entries log s m D sims h;
       rests = over_ends T.started T.scenario T.replies (reply_in T) core.plan (core.entries ++ Got s m ∷ []) log (heard_running T core.plan core.entries log s m D sims h).rests;
       log_right = heard_log_right T core.plan core.entries log s m D sims h;
@@ -271,62 +271,62 @@ module _ (T : Setting) where
   -- ---- nothing was heard
 
   module _ (risen : Type 0) (P : Plan) (J : List Entry) (log entries : List LogEntry) (C D : CrewSeen) (u : IsUnderway T P J log (crew_of C) C.sims) (nobody : SomeReady P J → ⊥) (opened : SomeOpen P J) (un : IsUnheard entries (crew_of C) (crew_of D)) where
-    still_there : (o p : Option Line) (w : Line) → o ≡ Some w → IsMovedAt entries [] o p → (v : Line) × (p ≡ Some v) × IsMoved entries [] w v
+    still_there : (o p : Option Channel) (w : Channel) → o ≡ Some w → IsMovedAt entries [] o p → (v : Channel) × (p ≡ Some v) × IsMoved entries [] w v
     still_there None p w e moved = absurd (none_some e)
     still_there (Some x) None w e moved = absurd moved
-    still_there (Some x) (Some v) w e moved = (v, refl, subst (λ (y : Line). IsMoved entries [] y v) (some_same e) moved)
+    still_there (Some x) (Some v) w e moved = (v, refl, subst (λ (y : Channel). IsMoved entries [] y v) (some_same e) moved)
 
-    line_now : (i : ℕ) (l : LinkNo) → sim_link T.started T.scenario i ≡ Some l → HasLine T.scenario T.replies (log ++ entries) i l (got J i) (sent J i) (crew_of D)
-    line_now i l linked =
-        let g = u.running.lines i l linked in
-        let t = still_there (line_at (crew_of C) i) (line_at (crew_of D) i) g.line g.there (un.moved i) in
+    channel_now : (i : ℕ) (l : LinkNo) → sim_link T.started T.scenario i ≡ Some l → HasChannel T.scenario T.replies (log ++ entries) i l (got J i) (sent J i) (crew_of D)
+    channel_now i l linked =
+        let g = u.running.channels i l linked in
+        let t = still_there (channel_at (crew_of C) i) (channel_at (crew_of D) i) g.channel g.there (un.moved i) in
         record {
-          line = t.0;
+          channel = t.0;
           there = t.1;
           link = t.2.link ∙ g.link;
-          in_step = subst (λ (ms : List Message). IsLineAt (log ++ entries) ms (setup_payloads T.scenario i ++ item_payloads (setup_count T.scenario i) (sent J i)) (id_after (setup_count T.scenario i) (sent J i)) t.0) (append_nil (T.replies i ++ got J i))
-              (line_moved log entries (T.replies i ++ got J i) [] (setup_payloads T.scenario i ++ item_payloads (setup_count T.scenario i) (sent J i)) (id_after (setup_count T.scenario i) (sent J i)) g.line t.0 g.in_step t.2);
+          in_step = subst (λ (ms : List Message). IsChannelAt (log ++ entries) ms (setup_payloads T.scenario i ++ item_payloads (setup_count T.scenario i) (sent J i)) (id_after (setup_count T.scenario i) (sent J i)) t.0) (append_nil (T.replies i ++ got J i))
+              (channel_moved log entries (T.replies i ++ got J i) [] (setup_payloads T.scenario i ++ item_payloads (setup_count T.scenario i) (sent J i)) (id_after (setup_count T.scenario i) (sent J i)) g.channel t.0 g.in_step t.2);
         }
 
     no_other_now : HasNoOther T (crew_of D)
     no_other_now = no_other_moved T entries (λ i. []) (crew_of C) (crew_of D) un.moved u.no_other
 
-    given_now : (i : ℕ) (w : Line) → line_at (crew_of D) i ≡ Some w → first_message w.held ≡ None → (l : LinkNo) × (g : HasGiven T J (log ++ entries) (crew_of D) i l) × (g.line.line ≡ w)
+    given_now : (i : ℕ) (w : Channel) → channel_at (crew_of D) i ≡ Some w → first_message w.held ≡ None → (l : LinkNo) × (g : HasGiven T J (log ++ entries) (crew_of D) i l) × (g.channel.channel ≡ w)
     given_now i w there none =
         let t = no_other_now i w there in
-        let g = line_now i t.0 t.1 in
-        let same : g.line ≡ w = some_same (sym g.there ∙ there) in
-        (t.0, record { linked = t.1; line = g; none_held = ap (λ (v : Line). first_message v.held) same ∙ none }, same)
+        let g = channel_now i t.0 t.1 in
+        let same : g.channel ≡ w = some_same (sym g.there ∙ there) in
+        (t.0, record { linked = t.1; channel = g; none_held = ap (λ (v : Channel). first_message v.held) same ∙ none }, same)
 
-    by_link : (why : LinkHalt) → (why ≡ link_halt.Fleet → risen) → ShowsHalt why entries D.lines → EndsBy risen T P J (log ++ entries) (crew_of D) (outcome_of (halt_of why))
+    by_link : (why : LinkHalt) → (why ≡ link_halt.Fleet → risen) → ShowsHalt why entries D.channels → EndsBy risen T P J (log ++ entries) (crew_of D) (outcome_of (halt_of why))
     by_link link_halt.Fleet cause shown = cause refl
     by_link (link_halt.Gone sim) cause shown =
         let w = shown.0 in
         let t = given_now sim.0 w shown.1 (none_first w.held (unfinished_none w.held shown.2.0)) in
-        let l_is : w.link ≡ t.0 = ap (λ (v : Line). v.link) (sym t.2) ∙ t.1.line.link in
+        let l_is : w.link ≡ t.0 = ap (λ (v : Channel). v.link) (sym t.2) ∙ t.1.channel.link in
         (t.0, t.1, in_back (Ended t.0) log entries (subst (λ (l : LinkNo). IsIn (Ended l) entries) l_is (last_is_in (is_read w.link) entries (Ended w.link) shown.2.1)))
     by_link (link_halt.Garbled sim test) cause shown =
         let w = shown.0 in
         let b = shown.2 in
         let t = given_now sim.0 w shown.1 (garbled_none w.held b.0 b.1 test b.3 b.2) in
-        (t.0, t.1, subst (λ (v : Line). BeginsGarbled v.held test) (sym t.2) b)
+        (t.0, t.1, subst (λ (v : Channel). BeginsGarbled v.held test) (sym t.2) b)
     by_link (link_halt.LongFrame sim n) cause shown =
         let w = shown.0 in
         let t = given_now sim.0 w shown.1 (none_first w.held (long_none w.held n shown.2)) in
-        (t.0, t.1, subst (λ (v : Line). IsTooLong n v.held) (sym t.2) shown.2)
+        (t.0, t.1, subst (λ (v : Channel). IsTooLong n v.held) (sym t.2) shown.2)
     by_link link_halt.Mem cause shown = tt
 
-    pub unheard_ends : (why : LinkHalt) → (why ≡ link_halt.Fleet → risen) → ShowsHalt why entries D.lines → AreOn (IsLineLink C.lines) entries → HasEnded risen T P J (log ++ entries) (crew_of D) (outcome_of (halt_of why))
+    pub unheard_ends : (why : LinkHalt) → (why ≡ link_halt.Fleet → risen) → ShowsHalt why entries D.channels → AreOn (IsChannelLink C.channels) entries → HasEnded risen T P J (log ++ entries) (crew_of D) (outcome_of (halt_of why))
     unheard_ends why cause shown on_links = record {
       suits = u.suits;
       stands = u.stands;
       patient = u.patient;
       in_range = u.in_range;
       kinds = u.running.kinds;
-      lines = lines_in_step (outcome_of (halt_of why)) J (log ++ entries) (crew_of D) line_now;
+      channels = channels_in_step (outcome_of (halt_of why)) J (log ++ entries) (crew_of D) channel_now;
       no_other = no_other_now;
       rests = rests_at_end T.started T.scenario T.replies (reply_in T) P J log entries (crew_of C) u.running (λ i x ready. nobody (i, x, ready)) un.none_kept un.parked;
-      log_right = log_right_on T P J log entries (crew_of C) u.suits u.running u.log_right (on_run T.started T.scenario C.lines entries (λ i l linked. let h = u.running.lines i l linked in (h.line, h.there, h.link)) u.no_other on_links);
+      log_right = log_right_on T P J log entries (crew_of C) u.suits u.running u.log_right (on_run T.started T.scenario C.channels entries (λ i l linked. let h = u.running.channels i l linked in (h.channel, h.there, h.link)) u.no_other on_links);
       ends = by_link why cause shown;
       fault = u.no_fault ∙ sym (none_named (halt_of why));
       unfinished = λ broken. (opened, nobody);

@@ -71,13 +71,13 @@ module _ (T : Setting) where
 
   pub all_set_up : (P : Plan) (J : List Entry) (log : List LogEntry) (C : CrewState) → Suits T P → IsRunning T.started T.scenario T.replies (reply_in T) P J log C → (less : List LogEntry) → AllSetUp T.started T.scenario (log ++ less)
   all_set_up P J log C suits run less i l linked =
-      let h = run.lines i l linked in
+      let h = run.channels i l linked in
       let ms : List Message = T.replies i ++ got J i in
-      let t = takes_on (heard_on h.line.link log) ms h.line.held (heard_on h.line.link less) h.in_step.heard in
-      let heard : messages_heard (heard_on l (log ++ less)) ≡ ms ++ messages_heard (h.line.held ++ heard_on h.line.link less) =
-      ap (λ (k : LinkNo). messages_heard (heard_on k (log ++ less))) (sym h.link) ∙ ap messages_heard (heard_more h.line.link log less)
-      ∙ taken_heard (heard_on h.line.link log ++ heard_on h.line.link less) ms (h.line.held ++ heard_on h.line.link less) t in
-      let a : length (messages_heard (heard_on l (log ++ less))) ≡ length ms + length (messages_heard (h.line.held ++ heard_on h.line.link less)) = ap length heard ∙ length-append ms (messages_heard (h.line.held ++ heard_on h.line.link less)) in
+      let t = takes_on (heard_on h.channel.link log) ms h.channel.held (heard_on h.channel.link less) h.in_step.heard in
+      let heard : messages_heard (heard_on l (log ++ less)) ≡ ms ++ messages_heard (h.channel.held ++ heard_on h.channel.link less) =
+      ap (λ (k : LinkNo). messages_heard (heard_on k (log ++ less))) (sym h.link) ∙ ap messages_heard (heard_more h.channel.link log less)
+      ∙ taken_heard (heard_on h.channel.link log ++ heard_on h.channel.link less) ms (h.channel.held ++ heard_on h.channel.link less) t in
+      let a : length (messages_heard (heard_on l (log ++ less))) ≡ length ms + length (messages_heard (h.channel.held ++ heard_on h.channel.link less)) = ap length heard ∙ length-append ms (messages_heard (h.channel.held ++ heard_on h.channel.link less)) in
       let b : length ms ≡ length (T.replies i) + length (got J i) = length-append (T.replies i) (got J i) in
       let c : length (T.replies i) ≡ setup_count T.scenario i = suits.counts i l linked in
       omega (arith, a, b, c)
@@ -119,8 +119,8 @@ module _ (T : Setting) where
     pub asked_linked : is_here C s.0 ≡ false → HasNext (Step a.at a.inputs a.advance) (id_after (first_id old.plan s.0) (sent old.entries s.0)) s.0 C
     asked_linked away =
         let t = link_there T.started T.scenario s.0 (subst (λ (n : ℕ). s.0 < n) u.suits.sims asked_low) (not_here_is_outside old.entries C.sims s.0 u.come away) in
-        let h = u.running.lines s.0 t.0 t.1 in
-        (h.line, h.there, λ takes. numbered ∙ sym h.in_step.next_id)
+        let h = u.running.channels s.0 t.0 t.1 in
+        (h.channel, h.there, λ takes. numbered ∙ sym h.in_step.next_id)
 
     -- and once it was sent the run goes on
     module _ (law : RepliesAreKinds) (D : CrewSeen) (id : ℕ) (opened : open_id new s.0 ≡ Some id) (so : SendsAs s.0 (Step a.at a.inputs a.advance) id C D) where
@@ -132,7 +132,7 @@ module _ (T : Setting) where
         | inl here ↦ let t = kept_so law old.entries s item id C D u.come u.only_within (λ h. right) so here in
             asked_inside T.started T.scenario T.replies (reply_in T) old new log (crew_of C) (crew_of D) s u.stands u.running a t.0
             (subst (λ (c : CoreState). IsSentWithin s.0 (reply_in T s.0 (map bare (sent c.entries s.0))) (crew_of C) (crew_of D)) (sym a.moved) t.1)
-        | inr away ↦ let q = so.on_link away in let t = u.no_other s.0 q.0.line q.0.there in
+        | inr away ↦ let q = so.on_link away in let t = u.no_other s.0 q.0.channel q.0.there in
             asked_link T.started T.scenario T.replies (reply_in T) old new log (crew_of C) (crew_of D) s id t.0 u.stands u.running a t.1 (u.suits.first s.0 asked_low) opened q.0
       ]
 

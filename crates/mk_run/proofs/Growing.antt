@@ -64,7 +64,7 @@ unsent_linked core s C end can why i n is = go t.0 (sym t.1 ∙ is) t.2
     t : IsUnsent end s.0 can.0 C
     t = why can.0 can.1 can.2
 
-    go : (h : Halt) → outcome_of h ≡ outcome.LongItem i n → ShowsUnsent h s.0 can.0 C → IsLinked i.0 C.lines
+    go : (h : Halt) → outcome_of h ≡ outcome.LongItem i n → ShowsUnsent h s.0 can.0 C → IsLinked i.0 C.channels
     go (halt.Setup f) e shown = absurd shown
     go halt.Fleet e shown = absurd shown
     go (halt.Gone j) e shown = absurd shown
@@ -73,7 +73,7 @@ unsent_linked core s C end can why i n is = go t.0 (sym t.1 ∙ is) t.2
     go (halt.LongItem j k) e shown =
         let linked = can.3.linked shown.1 in
         let same : j ≡ i = cc in
-        subst (λ (k : SimNo). IsLinked k.0 C.lines) same (subst (λ (k : ℕ). IsLinked k C.lines) (sym shown.0) (linked.0, linked.1))
+        subst (λ (k : SimNo). IsLinked k.0 C.channels) same (subst (λ (k : ℕ). IsLinked k C.channels) (sym shown.0) (linked.0, linked.1))
     go halt.Mem e shown = cc
 
 -- one after the other

@@ -27,9 +27,9 @@ use Rattle.mk_local.specs.Replies.{IsItemReplied}
 use Rattle.mk_local.specs.Simulators.{Simulator}
 use Rattle.mk_run_laws.specs.Hearing.{Takes}
 use Rattle.mk_run_laws.specs.Handshake.{setup_count, sim_link, is_within}
-use Rattle.mk_run_laws.specs.Lines.{Line}
+use Rattle.mk_run_laws.specs.Channels.{Channel}
 use Rattle.mk_run_laws.specs.Kinds.{Replies}
-use Rattle.mk_run_laws.specs.Crews.{CrewState, line_at, kept_of, given_by, IsMovedAt, IsHeard, IsSentWithin}
+use Rattle.mk_run_laws.specs.Crews.{CrewState, channel_at, kept_of, given_by, IsMovedAt, IsHeard, IsSentWithin}
 use Rattle.mk_run_laws.specs.inner.Running.{awaited, IsRunning, IsRunningWith}
 use Rattle.mk_run_laws.proofs.Saying.{link_there}
 use Rattle.mk_run_laws.proofs.Stepping.{same_is, but, heard}
@@ -61,7 +61,7 @@ kept_awaited S reply P J s m kept more is front = by_cases (is_within S s) (is_s
     by_cases true false e f h = absurd (apart h)
     by_cases false b e f h = absurd (apart h)
 
--- the one message that was taken off a line was read from a payload
+-- the one message that was taken off a channel was read from a payload
 pub taken_read : (held : List ℕ) (ms : List Message) (left : List ℕ) (m : Message) → Takes held ms left → ms ≡ m ∷ [] → is_in_range m ≡ true
 taken_read held ms left m (Takes.none _) e = absurd (apart e)
   where
@@ -84,21 +84,21 @@ module _ (T : Setting) (P : Plan) (J : List Entry) (log : List LogEntry) (s : Si
       in_plan low = subst (λ (n : ℕ). s.0 < n) (sym u.suits.sims) low
 
       go : IsHeard h.entries s.0 m h.crew D → s.0 < sim_count P
-      go (IsHeard.kept is lines none) = in_plan (within_below T.scenario s.0 (kept_awaited T.scenario (reply_in T) P J s.0 m h.crew.kept D.kept (u.running.kept s.0) is).0)
+      go (IsHeard.kept is channels none) = in_plan (within_below T.scenario s.0 (kept_awaited T.scenario (reply_in T) P J s.0 m h.crew.kept D.kept (u.running.kept s.0) is).0)
       go (IsHeard.on_link none after w there moved parked) = let t = u.no_other s.0 w there in in_plan (linked_outside T.started T.scenario s.0 t.0 t.1).1
 
   -- its numbers are in range
   pub heard_fits : is_in_range m ≡ true
   heard_fits = go h.heard
     where
-      by_line : (o p : Option Line) (w : Line) → o ≡ Some w → IsMovedAt h.entries (given_by s.0 m s.0) o p → is_in_range m ≡ true
-      by_line None p w e moved = absurd (none_some e)
-      by_line (Some v) None w e moved = absurd moved
-      by_line (Some v) (Some x) w e moved = taken_read _ (given_by s.0 m s.0) _ m moved.taken (ap (λ (b : Bool). if b then m ∷ [] else []) (same_is s.0))
+      by_channel : (o p : Option Channel) (w : Channel) → o ≡ Some w → IsMovedAt h.entries (given_by s.0 m s.0) o p → is_in_range m ≡ true
+      by_channel None p w e moved = absurd (none_some e)
+      by_channel (Some v) None w e moved = absurd moved
+      by_channel (Some v) (Some x) w e moved = taken_read _ (given_by s.0 m s.0) _ m moved.taken (ap (λ (b : Bool). if b then m ∷ [] else []) (same_is s.0))
 
       go : IsHeard h.entries s.0 m h.crew D → is_in_range m ≡ true
-      go (IsHeard.kept is lines none) = success_in_range m (h.fit (record { sim = s.0; message = m }) D.kept is)
-      go (IsHeard.on_link none after w there moved parked) = by_line (line_at h.crew s.0) (line_at D s.0) w there (moved s.0)
+      go (IsHeard.kept is channels none) = success_in_range m (h.fit (record { sim = s.0; message = m }) D.kept is)
+      go (IsHeard.on_link none after w there moved parked) = by_channel (channel_at h.crew s.0) (channel_at D s.0) w there (moved s.0)
 
   pub heard_in_range : is_message_in_range m ≡ true
   heard_in_range = same_test m heard_fits
@@ -108,10 +108,10 @@ module _ (T : Setting) (P : Plan) (J : List Entry) (log : List LogEntry) (s : Si
   heard_success inside = go h.heard
     where
       go : IsHeard h.entries s.0 m h.crew D → IsFitSuccess m
-      go (IsHeard.kept is lines none) = h.fit (record { sim = s.0; message = m }) D.kept is
-      go (IsHeard.on_link none after w there moved parked) = absurd (none_some (sym (u.running.no_line s.0 inside) ∙ there))
+      go (IsHeard.kept is channels none) = h.fit (record { sim = s.0; message = m }) D.kept is
+      go (IsHeard.on_link none after w there moved parked) = absurd (none_some (sym (u.running.no_channel s.0 inside) ∙ there))
 
-  back : (w : Line) → line_at h.crew s.0 ≡ Some w → (l : LinkNo) × (sim_link T.started T.scenario s.0 ≡ Some l)
+  back : (w : Channel) → channel_at h.crew s.0 ≡ Some w → (l : LinkNo) × (sim_link T.started T.scenario s.0 ≡ Some l)
   back w there = u.no_other s.0 w there
 
   -- crew and journal, once the message is an entry
@@ -124,12 +124,12 @@ module _ (T : Setting) (P : Plan) (J : List Entry) (log : List LogEntry) (s : Si
   heard_left = go h.heard
     where
       go : IsHeard h.entries s.0 m h.crew D → IsAhead T J log D ⊎ IsOpenWithin T.scenario P J
-      go (IsHeard.kept is lines none) =
+      go (IsHeard.kept is channels none) =
           let t = kept_awaited T.scenario (reply_in T) P J s.0 m h.crew.kept D.kept (u.running.kept s.0) is in
           inr (record { sim = s.0; within = t.0; opened = λ shut. true≢false (sym t.1 ∙ ap (λ (o : Option OpenTurn). is_some o) shut) })
       go (IsHeard.on_link none after w there moved parked) =
           let t = back w there in
-          inl (record { sim = s; message = m; link = t.0; linked = t.1; line = heard_running.lines s.0 t.0 t.1 })
+          inl (record { sim = s; message = m; link = t.0; linked = t.1; channel = heard_running.channels s.0 t.0 t.1 })
 
   pub heard_no_other : HasNoOther T D
   heard_no_other = no_other_heard T h.entries s.0 m h.crew D h.heard u.no_other
@@ -200,8 +200,8 @@ module _ (T : Setting) (core new : CoreState) (log : List LogEntry) (s : SimNo) 
   pub answered_linked : (id : ℕ) → open_id new s.0 ≡ Some id → is_here C s.0 ≡ false → HasNext a.item id s.0 C
   answered_linked id opened away =
       let t = link_there T.started T.scenario s.0 (subst (λ (n : ℕ). s.0 < n) v.suits.sims low) (not_here_is_outside T core.entries C.sims s.0 v.come away) in
-      let g = (heard_running T core.plan core.entries log s m (crew_of C) C.sims h).lines s.0 t.0 t.1 in
-      (g.line, g.there, λ takes. numbered id opened takes ∙ sym g.in_step.next_id)
+      let g = (heard_running T core.plan core.entries log s m (crew_of C) C.sims h).channels s.0 t.0 t.1 in
+      (g.channel, g.there, λ takes. numbered id opened takes ∙ sym g.in_step.next_id)
 
   -- and once it was sent the run goes on
   module _ (law : RepliesAreKinds) (D : CrewSeen) (id : ℕ) (opened : open_id new s.0 ≡ Some id) (so : SendsAs s.0 a.item id C D) where
@@ -213,7 +213,7 @@ module _ (T : Setting) (core new : CoreState) (log : List LogEntry) (s : SimNo) 
       | inl here ↦ let t = kept_so T law (core.entries ++ Got s m ∷ []) s a.item id C D come v.only_within right so here in
           taken_inside T.started T.scenario T.replies (reply_in T) core new h.before h.entries h.crew (crew_of C) (crew_of D) s m v.stands v.running h.nobody h.heard (λ w there. v.no_other s.0 w there) a t.0
           (subst (λ (c : CoreState). IsSentWithin s.0 (reply_in T s.0 (map bare (sent c.entries s.0))) (crew_of C) (crew_of D)) (sym a.moved) t.1)
-      | inr away ↦ let q = so.on_link away in let t = heard_no_other T core.plan core.entries log s m (crew_of C) C.sims h s.0 q.0.line q.0.there in
+      | inr away ↦ let q = so.on_link away in let t = heard_no_other T core.plan core.entries log s m (crew_of C) C.sims h s.0 q.0.channel q.0.there in
           taken_on_link T.started T.scenario T.replies (reply_in T) core new h.before h.entries h.crew (crew_of C) (crew_of D) s m id t.0 v.stands standing v.running h.nobody h.heard (λ w there. v.no_other s.0 w there) a t.1 (v.suits.first s.0 low) opened q.0
     ]
 

@@ -1,4 +1,4 @@
--- An item was sent by the crew: what that keeps of the simulators within the program and of the lines.
+-- An item was sent by the crew: what that keeps of the simulators within the program and of the channels.
 use Rattle.std.proofs.Common.{◌≡◌, ◌⊎◌, inl, inr, ℕ, Bool, true, false, List, [], ◌∷◌, ◌++◌, map, Option, Some, is_some, refl, sym, ap, ◌∙◌, subst, true≢false}
 use Rattle.mk_base.proofs.Lists.{some_same}
 use Rattle.mk_plan.specs.declared.Item.{Item}
@@ -78,7 +78,7 @@ module _ (T : Setting) (law : RepliesAreKinds) (X Y : ℕ → List Item) (s : �
     only_inside i outside = others i (λ q. true≢false (sym inside ∙ ap (is_within T.scenario) (sym q) ∙ outside)) ∙ only i outside
 
     no_other_inside : HasNoOther T (crew_of C) → HasNoOther T (crew_of D)
-    no_other_inside = no_other_same T (crew_of C) (crew_of D) (so.within here).kept.lines
+    no_other_inside = no_other_same T (crew_of C) (crew_of D) (so.within here).kept.channels
 
   -- where it went to a link, the simulators within the program stand
   module _ (away : is_here C s ≡ false) where

@@ -9,7 +9,7 @@ pub mod InRange
 pub mod Inside
 pub mod ItemSent
 pub mod LimitFaults
-pub mod LinesStopped
+pub mod ChannelsStopped
 pub mod Linked
 pub mod Linkless
 pub mod LoopSteps

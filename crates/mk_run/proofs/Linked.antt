@@ -1,4 +1,4 @@
--- Which simulators have a line, and which are within the program.
+-- Which simulators have a channel, and which are within the program.
 use Rattle.std.proofs.Common.{◌≡◌, ℕ, ◌+◌, ◌<◌, Bool, true, false, not, List, [], ◌∷◌, ◌++◌, length, take, filter, Option, Some, None, option_map, option_and_then, unwrap_or, slice_get, slice_set, refl, sym, ap, ◌∙◌, subst, inl, inr, true≢false, if◌then◌else◌}
 use Rattle.std.specs.List.{cons_option}
 use Rattle.std.proofs.lemmas.Option.{slice_get_within}
@@ -16,8 +16,8 @@ use Rattle.mk_scenario.specs.declared.parts.Scenario.{Scenario}
 use Rattle.mk_outside.specs.declared.fleet.LogEntry.{LogEntry}
 use Rattle.mk_local.specs.Simulators.{Simulator}
 use Rattle.mk_run_laws.specs.Handshake.{is_local, has_link, is_within, sim_link}
-use Rattle.mk_run_laws.specs.Lines.{Line}
-use Rattle.mk_run_laws.specs.Crews.{CrewState, line_at, IsMovedAt, AreMoved, IsHeard, IsSentOnLink}
+use Rattle.mk_run_laws.specs.Channels.{Channel}
+use Rattle.mk_run_laws.specs.Crews.{CrewState, channel_at, IsMovedAt, AreMoved, IsHeard, IsSentOnLink}
 use Rattle.mk_run_laws.proofs.Stepping.{same_or_not, apart_is, same_is}
 use Rattle.mk_run.specs.inner.Underway.{Setting, HasNoOther, local_at}
 
@@ -47,26 +47,26 @@ sent_away J s item i n = sent_push J (Sent s item) i ∙ ap (λ (b : Bool). sent
 pub sent_here : (J : List Entry) (s : SimNo) (item : Item) → sent (J ++ Sent s item ∷ []) s.0 ≡ sent J s.0 ++ item ∷ []
 sent_here J s item = sent_push J (Sent s item) s.0 ∙ ap (λ (b : Bool). sent J s.0 ++ cons_option (if b then Some item else None) []) (same_is s.0)
 
--- ---- lines stay those of simulators with a link
+-- ---- channels stay those of simulators with a link
 
-line_was : (entries : List LogEntry) (given : List Message) (o : Option Line) (v : Line) → IsMovedAt entries given o (Some v) → (w : Line) × (o ≡ Some w)
-line_was entries given None v moved = absurd moved
-line_was entries given (Some w) v moved = (w, refl)
+channel_was : (entries : List LogEntry) (given : List Message) (o : Option Channel) (v : Channel) → IsMovedAt entries given o (Some v) → (w : Channel) × (o ≡ Some w)
+channel_was entries given None v moved = absurd moved
+channel_was entries given (Some w) v moved = (w, refl)
 
 pub no_other_moved : (T : Setting) (entries : List LogEntry) (given : ℕ → List Message) (C D : CrewState) → AreMoved entries given C D → HasNoOther T C → HasNoOther T D
-no_other_moved T entries given C D moved none i w there = let t = line_was entries (given i) (line_at C i) w (subst (IsMovedAt entries (given i) (line_at C i)) there (moved i)) in none i t.0 t.1
+no_other_moved T entries given C D moved none i w there = let t = channel_was entries (given i) (channel_at C i) w (subst (IsMovedAt entries (given i) (channel_at C i)) there (moved i)) in none i t.0 t.1
 
-pub no_other_same : (T : Setting) (C D : CrewState) → D.lines ≡ C.lines → HasNoOther T C → HasNoOther T D
-no_other_same T C D same none i w there = none i w (sym (ap (λ (l : List (Option Line)). option_and_then (λ (o : Option Line). o) (slice_get l i)) same) ∙ there)
+pub no_other_same : (T : Setting) (C D : CrewState) → D.channels ≡ C.channels → HasNoOther T C → HasNoOther T D
+no_other_same T C D same none i w there = none i w (sym (ap (λ (l : List (Option Channel)). option_and_then (λ (o : Option Channel). o) (slice_get l i)) same) ∙ there)
 
 pub no_other_sent : (T : Setting) (C D : CrewState) (s : ℕ) (item : Item) (id : ℕ) → IsSentOnLink s item id C D → HasNoOther T C → HasNoOther T D
 no_other_sent T C D s item id so none i w there = elim (same_or_not i s) [
-  | inl q ↦ none i so.line (ap (line_at C) q ∙ so.there)
+  | inl q ↦ none i so.channel (ap (channel_at C) q ∙ so.there)
   | inr apart ↦ none i w (sym (so.others i apart) ∙ there)
 ]
 
 pub no_other_heard : (T : Setting) (entries : List LogEntry) (s : ℕ) (m : Message) (C D : CrewState) → IsHeard entries s m C D → HasNoOther T C → HasNoOther T D
-no_other_heard T entries s m C D (IsHeard.kept is lines none) others = no_other_same T C D lines others
+no_other_heard T entries s m C D (IsHeard.kept is channels none) others = no_other_same T C D channels others
 no_other_heard T entries s m C D (IsHeard.on_link none after w there moved parked) others = no_other_moved T entries (_) C D moved others
 
 -- ---- places in a list that is set at one

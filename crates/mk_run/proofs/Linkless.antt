@@ -4,7 +4,7 @@ use Rattle.mk_base.proofs.Lists.{append_nil, none_some}
 use Rattle.mk_plan.specs.declared.Plan.{Plan}
 use Rattle.mk_outside.specs.Counts.{HasRisen}
 use Rattle.mk_outside.specs.declared.fleet.LogEntry.{LogEntry}
-use Rattle.mk_run_laws.specs.Lines.{Line}
+use Rattle.mk_run_laws.specs.Channels.{Channel}
 use Rattle.mk_sched.specs.Cores.{CoreState}
 use Rattle.mk_run_links.specs.Places.{at}
 use Rattle.mk_run_crew.specs.declared.halt.Halt.{Halt}
@@ -22,20 +22,20 @@ use Rattle.mk_run.proofs.Turning.{may_hear, stopping_by}
 use Rattle.mk_run.proofs.WholeRuns.{new_core, run_whole}
 
 module _ (T : Setting) (all : is_wholly_within T.scenario ≡ true) where
-  no_line : (lines : List (Option Line)) → ((i : ℕ) (w : Line) → at lines i ≡ Some w → ⊥) → (i : ℕ) → at lines i ≡ None
-  no_line lines never i = go (at lines i) refl
+  no_channel : (channels : List (Option Channel)) → ((i : ℕ) (w : Channel) → at channels i ≡ Some w → ⊥) → (i : ℕ) → at channels i ≡ None
+  no_channel channels never i = go (at channels i) refl
     where
-      go : (o : Option Line) → at lines i ≡ o → o ≡ None
+      go : (o : Option Channel) → at channels i ≡ o → o ≡ None
       go None e = refl
       go (Some w) e = absurd (never i w e)
 
-  -- the crew has no lines
-  pub linkless : (core : CoreState) (log : List LogEntry) (C : CrewSeen) → GoesOn T core log C → (i : ℕ) → at C.lines i ≡ None
-  linkless core log C u = no_line C.lines (λ i w there. let t = u.no_other i w there in never_linked T.started T.scenario all i t.0 t.1)
+  -- the crew has no channels
+  pub linkless : (core : CoreState) (log : List LogEntry) (C : CrewSeen) → GoesOn T core log C → (i : ℕ) → at C.channels i ≡ None
+  linkless core log C u = no_channel C.channels (λ i w there. let t = u.no_other i w there in never_linked T.started T.scenario all i t.0 t.1)
 
   -- nor has it at the end
-  pub linkless_end : (core : CoreState) (log : List LogEntry) (C : CrewSeen) (end : Outcome) → IsStopping ⊥ T core log C end → (i : ℕ) → at C.lines i ≡ None
-  linkless_end core log C end u = no_line C.lines (λ i w there. let t = u.no_other i w there in never_linked T.started T.scenario all i t.0 t.1)
+  pub linkless_end : (core : CoreState) (log : List LogEntry) (C : CrewSeen) (end : Outcome) → IsStopping ⊥ T core log C end → (i : ℕ) → at C.channels i ≡ None
+  linkless_end core log C end u = no_channel C.channels (λ i w there. let t = u.no_other i w there in never_linked T.started T.scenario all i t.0 t.1)
 
   -- where a request is open, a reply is kept
   pub kept_there : (core : CoreState) (log : List LogEntry) (C : CrewSeen) → GoesOn T core log C → Waits core → C.kept ≡ [] → ⊥
@@ -59,7 +59,7 @@ module _ (T : Setting) (all : is_wholly_within T.scenario ≡ true) where
       go outcome.Mem is long = tt
 
 -- a run from its first turn to its end
-pub run_within : (P : Plan) (old core : CoreState) (C D : CrewSeen) (faults : ℕ) (end : Outcome) → old ≡ new_core P → TurnsAs (Err end) [] ⊥ old C core D → ((i : ℕ) → at D.lines i ≡ None)
+pub run_within : (P : Plan) (old core : CoreState) (C D : CrewSeen) (faults : ℕ) (end : Outcome) → old ≡ new_core P → TurnsAs (Err end) [] ⊥ old C core D → ((i : ℕ) → at D.channels i ≡ None)
     → (T : Setting) (log : List LogEntry) (before : ℕ) → before ≤ faults → IsUnderway T P [] log (crew_of C) C.sims
     → (core.plan ≡ P) × (r : IsRun T.started T.scenario (reply_in T) core.plan core.entries (log ++ []) before faults end) × (r.replies ≡ T.replies)
 run_within P old core C D faults end is ends none = run_whole P old core C D [] [] faults faults faults end is (omega arith) (omega arith)

@@ -31,9 +31,9 @@ use Rattle.mk_sched.specs.Answers.{SomeReady, SomeOpen, IsAsked, IsQuiet, IsAnsw
 use Rattle.mk_order.proofs.Seen.{reached_sound, same_self, open_after_is}
 use Rattle.mk_order.proofs.Pushing.{view_push}
 use Rattle.mk_run_laws.specs.Handshake.{setup_count, sim_link, is_within}
-use Rattle.mk_run_laws.specs.Lines.{Line}
+use Rattle.mk_run_laws.specs.Channels.{Channel}
 use Rattle.mk_run_laws.specs.Kinds.{Replies}
-use Rattle.mk_run_laws.specs.Crews.{CrewState, line_at, kept_of, IsHeard, IsSentOnLink, IsSentWithin}
+use Rattle.mk_run_laws.specs.Crews.{CrewState, channel_at, kept_of, IsHeard, IsSentOnLink, IsSentWithin}
 use Rattle.mk_run_laws.specs.Running.{SetupReplies}
 use Rattle.mk_run_laws.specs.inner.Running.{IsRunningWith, IsRunning, awaited}
 use Rattle.mk_run_laws.proofs.Stepping.{but, heard, asked_on_link, asked_within, heard_quiet, answered_on_link, answered_within, after_message}
@@ -191,12 +191,12 @@ module _ (started : ℕ) (S : Scenario) (replies : SetupReplies) (reply : Replie
       item : Item
       item = Step a.at a.inputs a.advance
 
-      right : (w : Line) → line_at C s.0 ≡ Some w → id ≡ w.next
+      right : (w : Channel) → channel_at C s.0 ≡ Some w → id ≡ w.next
       right w there =
           let one : id ≡ id_after (first_id P s.0) (sent J s.0) = asked_id old new s id stands a open_there in
-          let h = run.lines s.0 l linked in
-          let same : h.line ≡ w = some_same (sym h.there ∙ there) in
-          one ∙ ap (λ (n : ℕ). id_after n (sent J s.0)) first ∙ sym h.in_step.next_id ∙ ap (λ (v : Line). v.next) same
+          let h = run.channels s.0 l linked in
+          let same : h.channel ≡ w = some_same (sym h.there ∙ there) in
+          one ∙ ap (λ (n : ℕ). id_after n (sent J s.0)) first ∙ sym h.in_step.next_id ∙ ap (λ (v : Channel). v.next) same
 
   -- the core asked simulator s within the program, and its reply was kept
   pub asked_inside : (old new : CoreState) (log : List LogEntry) (C D : CrewState) (s : SimNo) → Stands old.plan old.entries → IsRunning started S replies reply old.plan old.entries log C → (a : IsAsked old s new)
@@ -209,14 +209,14 @@ module _ (started : ℕ) (S : Scenario) (replies : SetupReplies) (reply : Replie
 
   -- nobody was ready, a message was heard, and the core took it without an answer
   pub taken_quietly : (core new : CoreState) (log entries : List LogEntry) (C D : CrewState) (s : SimNo) (m : Message) → Stands core.plan core.entries → IsRunning started S replies reply core.plan core.entries log C → (SomeReady core.plan core.entries → ⊥)
-      → IsHeard entries s.0 m C D → ((w : Line) → line_at C s.0 ≡ Some w → (l : LinkNo) × (sim_link started S s.0 ≡ Some l)) → IsQuiet core s m new → IsRunning started S replies reply new.plan new.entries (log ++ entries) D
+      → IsHeard entries s.0 m C D → ((w : Channel) → channel_at C s.0 ≡ Some w → (l : LinkNo) × (sim_link started S s.0 ≡ Some l)) → IsQuiet core s m new → IsRunning started S replies reply new.plan new.entries (log ++ entries) D
   taken_quietly core new log entries C D s m stands run nobody h back q =
       subst (λ (c : CoreState). IsRunning started S replies reply c.plan c.entries (log ++ entries) D) (sym q.moved)
       (heard_quiet started S replies reply core.plan core.entries log entries C D s m run (λ i x r. nobody (i, x, r)) h back (none_owed core.plan core.entries stands q.room.room) q.no_fault q.none_owed)
 
   -- the core answered it, and the answer was queued with the id that is open
   pub taken_on_link : (core new : CoreState) (log entries : List LogEntry) (C D E : CrewState) (s : SimNo) (m : Message) (id : ℕ) (l : LinkNo) → Stands core.plan core.entries → IsOrderlySoFar IsReady IsAdvance core.plan (with_message core s m) → IsRunning started S replies reply core.plan core.entries log C
-      → (SomeReady core.plan core.entries → ⊥) → IsHeard entries s.0 m C D → ((w : Line) → line_at C s.0 ≡ Some w → (l : LinkNo) × (sim_link started S s.0 ≡ Some l)) → (a : IsAnswered core s m new)
+      → (SomeReady core.plan core.entries → ⊥) → IsHeard entries s.0 m C D → ((w : Channel) → channel_at C s.0 ≡ Some w → (l : LinkNo) × (sim_link started S s.0 ≡ Some l)) → (a : IsAnswered core s m new)
       → sim_link started S s.0 ≡ Some l → first_id core.plan s.0 ≡ setup_count S s.0 → open_id new s.0 ≡ Some id → IsSentOnLink s.0 a.item id D E → IsRunning started S replies reply new.plan new.entries (log ++ entries) E
   taken_on_link core new log entries C D E s m id l stands standing run nobody h back a linked first open_there sent_so =
       subst (λ (c : CoreState). IsRunning started S replies reply c.plan c.entries (log ++ entries) E) (sym a.moved)
@@ -234,15 +234,15 @@ module _ (started : ℕ) (S : Scenario) (replies : SetupReplies) (reply : Replie
       mid : IsRunningWith (but started S replies reply P s.0 (awaited S reply P J)) started S replies reply P K (log ++ entries) D
       mid = heard started S replies reply P J log entries C D s m run (λ i x r. nobody (i, x, r)) h back
 
-      right : (w : Line) → line_at D s.0 ≡ Some w → takes_id a.item ≡ true → id ≡ w.next
+      right : (w : Channel) → channel_at D s.0 ≡ Some w → takes_id a.item ≡ true → id ≡ w.next
       right w there takes =
-          let hl = mid.lines s.0 l linked in
-          let same : hl.line ≡ w = some_same (sym hl.there ∙ there) in
-          answered_id core new s m id stands standing a open_there takes ∙ ap (λ (n : ℕ). id_after n (sent K s.0)) first ∙ sym hl.in_step.next_id ∙ ap (λ (v : Line). v.next) same
+          let hl = mid.channels s.0 l linked in
+          let same : hl.channel ≡ w = some_same (sym hl.there ∙ there) in
+          answered_id core new s m id stands standing a open_there takes ∙ ap (λ (n : ℕ). id_after n (sent K s.0)) first ∙ sym hl.in_step.next_id ∙ ap (λ (v : Channel). v.next) same
 
   -- or its reply was kept
   pub taken_inside : (core new : CoreState) (log entries : List LogEntry) (C D E : CrewState) (s : SimNo) (m : Message) → Stands core.plan core.entries → IsRunning started S replies reply core.plan core.entries log C
-      → (SomeReady core.plan core.entries → ⊥) → IsHeard entries s.0 m C D → ((w : Line) → line_at C s.0 ≡ Some w → (l : LinkNo) × (sim_link started S s.0 ≡ Some l)) → (a : IsAnswered core s m new)
+      → (SomeReady core.plan core.entries → ⊥) → IsHeard entries s.0 m C D → ((w : Channel) → channel_at C s.0 ≡ Some w → (l : LinkNo) × (sim_link started S s.0 ≡ Some l)) → (a : IsAnswered core s m new)
       → is_within S s.0 ≡ true → IsSentWithin s.0 (reply s.0 (map bare (sent new.entries s.0))) D E → IsRunning started S replies reply new.plan new.entries (log ++ entries) E
   taken_inside core new log entries C D E s m stands run nobody h back a inside sent_so =
       subst (λ (c : CoreState). IsRunning started S replies reply c.plan c.entries (log ++ entries) E) (sym a.moved)

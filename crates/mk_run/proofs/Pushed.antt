@@ -73,6 +73,6 @@ rests_longer started S replies P J e log rests before after is up =
     let t = rests before after is up in
     let r = t.0 in
     let b = t.1 in (
-      record { at = r.at; more = r.more ++ e ∷ []; parts = ap (λ (l : List Entry). l ++ e ∷ []) r.parts ∙ append_assoc r.at r.more (e ∷ []); nobody = r.nobody; replied = r.replied; line = r.line },
+      record { at = r.at; more = r.more ++ e ∷ []; parts = ap (λ (l : List Entry). l ++ e ∷ []) r.parts ∙ append_assoc r.at r.more (e ∷ []); nobody = r.nobody; replied = r.replied; channel = r.channel },
       inr (b.0, b.1, b.2 ++ e ∷ [], b.3, ap (λ (k : List Entry). k ++ e ∷ []) b.4, b.5),
     )

@@ -18,10 +18,10 @@ use Rattle.mk_outside.specs.Logs.{Adds}
 use Rattle.mk_outside.proofs.OnLogs.{adds_none, adds_more}
 use Rattle.mk_sched.specs.Cores.{CoreState, Stands}
 use Rattle.mk_sched.specs.Answers.{SomeOpen, IsAsked, IsWaiting, IsAnswered}
-use Rattle.mk_run_laws.specs.Lines.{Line}
+use Rattle.mk_run_laws.specs.Channels.{Channel}
 use Rattle.mk_run_laws.specs.Crews.{IsHeard}
 use Rattle.mk_run_links.specs.Entries.{AreOn}
-use Rattle.mk_run_links.specs.Places.{AreOpen, IsLineLink}
+use Rattle.mk_run_links.specs.Places.{AreOpen, IsChannelLink}
 use Rattle.mk_run_links.proofs.OnEntries.{on_run}
 use Rattle.mk_run_local.specs.Calls.{IsFitSuccess}
 use Rattle.mk_run_local.specs.Laws.{RepliesAreKinds}
@@ -87,27 +87,27 @@ waits_so old new w = subst Waits (sym w.same) (w.nobody, w.waiting)
 
 -- ---- links are open, and something can be heard
 
-pub are_open : (T : Setting) (core : CoreState) (log : List LogEntry) (C : CrewSeen) (open_links : List LinkNo) → GoesOn T core log C → AreLinksOpen T open_links → AreOpen C.lines open_links
+pub are_open : (T : Setting) (core : CoreState) (log : List LogEntry) (C : CrewSeen) (open_links : List LinkNo) → GoesOn T core log C → AreLinksOpen T open_links → AreOpen C.channels open_links
 are_open T core log C open_links u links i w there =
     let t = u.no_other i w there in
-    let g = u.running.lines i t.0 t.1 in
-    subst (λ (l : LinkNo). IsIn l open_links) (sym (ap (λ (v : Line). v.link) (some_same (sym there ∙ g.there)) ∙ g.link)) (links i t.0 t.1)
+    let g = u.running.channels i t.0 t.1 in
+    subst (λ (l : LinkNo). IsIn l open_links) (sym (ap (λ (v : Channel). v.link) (some_same (sym there ∙ g.there)) ∙ g.link)) (links i t.0 t.1)
 
-pub ended_open : (risen : Type 0) (T : Setting) (core : CoreState) (log : List LogEntry) (C : CrewSeen) (end : Outcome) (open_links : List LinkNo) → IsStopping risen T core log C end → AreLinksOpen T open_links → AreOpen C.lines open_links
+pub ended_open : (risen : Type 0) (T : Setting) (core : CoreState) (log : List LogEntry) (C : CrewSeen) (end : Outcome) (open_links : List LinkNo) → IsStopping risen T core log C end → AreLinksOpen T open_links → AreOpen C.channels open_links
 ended_open risen T core log C end open_links u links i w there =
     let t = u.no_other i w there in
-    let g = (u.lines i t.0 t.1).line in
-    subst (λ (l : LinkNo). IsIn l open_links) (sym (ap (λ (v : Line). v.link) (some_same (sym there ∙ g.there)) ∙ g.link)) (links i t.0 t.1)
+    let g = (u.channels i t.0 t.1).channel in
+    subst (λ (l : LinkNo). IsIn l open_links) (sym (ap (λ (v : Channel). v.link) (some_same (sym there ∙ g.there)) ∙ g.link)) (links i t.0 t.1)
 
 pub may_hear : (T : Setting) (core : CoreState) (log : List LogEntry) (C : CrewSeen) → GoesOn T core log C → SomeOpen core.plan core.entries → CanHear C
 may_hear T core log C u opened none = elim (can_hear T.started T.scenario T.replies (reply_in T) core.plan core.entries log (crew_of C) u.suits.sims u.running opened) [
   | inl kept ↦ absurd (kept none)
-  | inr t ↦ let g = u.running.lines t.0 t.1 t.2 in (t.0, (g.line, g.there))
+  | inr t ↦ let g = u.running.channels t.0 t.1 t.2 in (t.0, (g.channel, g.there))
 ]
 
 -- ---- a message was heard
 
-pub past_it : (T : Setting) (core : CoreState) (log entries : List LogEntry) (C D : CrewSeen) (s : SimNo) (m : Message) → GoesOn T core log C → Waits core → IsHeard entries s.0 m (crew_of C) (crew_of D) → AreOn (IsLineLink C.lines) entries → D.sims ≡ C.sims
+pub past_it : (T : Setting) (core : CoreState) (log entries : List LogEntry) (C D : CrewSeen) (s : SimNo) (m : Message) → GoesOn T core log C → Waits core → IsHeard entries s.0 m (crew_of C) (crew_of D) → AreOn (IsChannelLink C.channels) entries → D.sims ≡ C.sims
     → ((k : Arrival) (more : List Arrival) → C.kept ≡ k ∷ more → IsFitSuccess m) → IsPast T core (log ++ entries) s m D
 past_it T core log entries C D s m u waits h on_links sims fit = record {
   before = log;
@@ -119,11 +119,11 @@ past_it T core log entries C D s m u waits h on_links sims fit = record {
   nobody = waits.0;
   heard = h;
   fit = fit;
-  on_links = on_run T.started T.scenario C.lines entries (λ i l linked. let g = u.running.lines i l linked in (g.line, g.there, g.link)) u.no_other on_links;
+  on_links = on_run T.started T.scenario C.channels entries (λ i l linked. let g = u.running.channels i l linked in (g.channel, g.there, g.link)) u.no_other on_links;
 }
 
 -- nothing was
-pub stopped_unheard : (T : Setting) (core : CoreState) (log entries : List LogEntry) (C D : CrewSeen) (h : Halt) (risen : Type 0) → GoesOn T core log C → Waits core → HearsNothing h entries C D → AreOn (IsLineLink C.lines) entries → (h ≡ halt.Fleet → risen)
+pub stopped_unheard : (T : Setting) (core : CoreState) (log entries : List LogEntry) (C D : CrewSeen) (h : Halt) (risen : Type 0) → GoesOn T core log C → Waits core → HearsNothing h entries C D → AreOn (IsChannelLink C.channels) entries → (h ≡ halt.Fleet → risen)
     → IsStopping risen T core (log ++ entries) D (outcome_of h)
 stopped_unheard T core log entries C D h risen u waits un on_links cause = subst (λ (g : Halt). IsStopping risen T core (log ++ entries) D (outcome_of g)) (sym un.is)
     (unheard_ends T risen core.plan core.entries log entries C D u waits.0 waits.1 un.unheard un.why (λ e. cause (un.is ∙ ap halt_of e)) un.shown on_links)
@@ -140,7 +140,7 @@ stopping_by some all T core log C end more e = record {
   patient = e.patient;
   in_range = e.in_range;
   kinds = e.kinds;
-  lines = e.lines;
+  channels = e.channels;
   no_other = e.no_other;
   rests = e.rests;
   log_right = e.log_right;
@@ -189,19 +189,19 @@ answered_so core new s m C D (Err end) a stands law sent unsent same = λ T log 
 -- ---- a turn
 
 -- the core was given the message that was heard
-pub heard_turn : (risen : Type 0) (core new : CoreState) (entries : List LogEntry) (C D E : CrewSeen) (s : SimNo) (m : Message) (r : Result (Unit {0}) Outcome) → Waits core → IsHeard entries s.0 m (crew_of C) (crew_of D) → AreOn (IsLineLink C.lines) entries → D.sims ≡ C.sims
+pub heard_turn : (risen : Type 0) (core new : CoreState) (entries : List LogEntry) (C D E : CrewSeen) (s : SimNo) (m : Message) (r : Result (Unit {0}) Outcome) → Waits core → IsHeard entries s.0 m (crew_of C) (crew_of D) → AreOn (IsChannelLink C.channels) entries → D.sims ≡ C.sims
     → ((k : Arrival) (more : List Arrival) → C.kept ≡ k ∷ more → IsFitSuccess m) → TakesAs r s m core D new E → TurnsAs r entries risen core C new E
 heard_turn risen core new entries C D E s m (Ok done) waits h on_links sims fit t = (t.0, λ T log u. t.1 T (log ++ entries) (past_it T core log entries C D s m u waits h on_links sims fit))
 heard_turn risen core new entries C D E s m (Err end) waits h on_links sims fit t = λ T log u. stopping_by ⊥ risen T new (log ++ entries) E end (λ e. absurd e) (t T (log ++ entries) (past_it T core log entries C D s m u waits h on_links sims fit))
 
 -- whoever was ready was asked before
-pub settled_turn : (risen : Type 0) (old mid new : CoreState) (entries : List LogEntry) (C D E : CrewSeen) (r : Result (Unit {0}) Outcome) → ((T : Setting) (log : List LogEntry) → GoesOn T old log C → GoesOn T mid log D) → TurnsAs r entries risen mid D new E → TurnsAs r entries risen old C new E
-settled_turn risen old mid new entries C D E (Ok done) goes t = (t.0, λ T log u. t.1 T log (goes T log u))
-settled_turn risen old mid new entries C D E (Err end) goes t = λ T log u. t T log (goes T log u)
+pub asked_turn : (risen : Type 0) (old mid new : CoreState) (entries : List LogEntry) (C D E : CrewSeen) (r : Result (Unit {0}) Outcome) → ((T : Setting) (log : List LogEntry) → GoesOn T old log C → GoesOn T mid log D) → TurnsAs r entries risen mid D new E → TurnsAs r entries risen old C new E
+asked_turn risen old mid new entries C D E (Ok done) goes t = (t.0, λ T log u. t.1 T log (goes T log u))
+asked_turn risen old mid new entries C D E (Err end) goes t = λ T log u. t T log (goes T log u)
 
 -- the run ended while whoever was ready was asked
-pub settled_end : (risen : Type 0) (old new : CoreState) (C D : CrewSeen) (end : Outcome) → ((T : Setting) (log : List LogEntry) → GoesOn T old log C → IsStopping ⊥ T new log D end) → TurnsAs (Err end) [] risen old C new D
-settled_end risen old new C D end ends = λ T log u. subst (λ (l : List LogEntry). IsStopping risen T new l D end) (sym (append_nil log)) (stopping_by ⊥ risen T new log D end (λ e. absurd e) (ends T log u))
+pub asked_end : (risen : Type 0) (old new : CoreState) (C D : CrewSeen) (end : Outcome) → ((T : Setting) (log : List LogEntry) → GoesOn T old log C → IsStopping ⊥ T new log D end) → TurnsAs (Err end) [] risen old C new D
+asked_end risen old new C D end ends = λ T log u. subst (λ (l : List LogEntry). IsStopping risen T new l D end) (sym (append_nil log)) (stopping_by ⊥ risen T new log D end (λ e. absurd e) (ends T log u))
 
 -- ---- turns one after another
 

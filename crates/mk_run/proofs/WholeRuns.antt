@@ -7,7 +7,7 @@ use Rattle.mk_outside.specs.Counts.{HasRisen}
 use Rattle.mk_outside.specs.declared.fleet.LogEntry.{LogEntry}
 use Rattle.mk_sched.specs.Cores.{CoreState}
 use Rattle.mk_run_links.specs.Entries.{AreOn}
-use Rattle.mk_run_links.specs.Places.{AreOpen, IsLineLink}
+use Rattle.mk_run_links.specs.Places.{AreOpen, IsChannelLink}
 use Rattle.mk_run_laws.specs.Crews.{AreStopped, IsRestless}
 use Rattle.mk_run_crew.specs.Seen.{CrewSeen, crew_of}
 use Rattle.mk_run.specs.declared.outcome.Outcome.{Outcome}
@@ -21,22 +21,22 @@ use Rattle.mk_run.proofs.Whole.{whole, whole_replies}
 abbrev pub new_core : Plan → CoreState
 new_core P = record { plan = P; entries = []; ended = None }
 
-pub open_first : (T : Setting) (P : Plan) (log : List LogEntry) (C : CrewSeen) (open_links : List LinkNo) → IsUnderway T P [] log (crew_of C) C.sims → AreLinksOpen T open_links → AreOpen C.lines open_links
+pub open_first : (T : Setting) (P : Plan) (log : List LogEntry) (C : CrewSeen) (open_links : List LinkNo) → IsUnderway T P [] log (crew_of C) C.sims → AreLinksOpen T open_links → AreOpen C.channels open_links
 open_first T P log C open_links u links = are_open T (new_core P) log C open_links u links
 
 -- a run from its first turn to its stop
 pub run_whole : (P : Plan) (old core : CoreState) (C D : CrewSeen) (entries stops : List LogEntry) (f0 f1 f2 : ℕ) (end : Outcome) → old ≡ new_core P → f0 ≤ f1 → f1 ≤ f2 → TurnsAs (Err end) entries (HasRisen f0 f1) old C core D
-    → AreStopped stops (HasRisen f1 f2) (crew_of D) → IsRestless stops → AreOn (IsLineLink D.lines) stops
+    → AreStopped stops (HasRisen f1 f2) (crew_of D) → IsRestless stops → AreOn (IsChannelLink D.channels) stops
     → (T : Setting) (log : List LogEntry) (before : ℕ) → before ≤ f0 → IsUnderway T P [] log (crew_of C) C.sims
     → (core.plan ≡ P) × (r : IsRun T.started T.scenario (reply_in T) core.plan core.entries (log ++ (entries ++ stops)) before f2 end) × (r.replies ≡ T.replies)
-run_whole P old core C D entries stops f0 f1 f2 end is up later ends stopped restless of_lines T log before low u =
+run_whole P old core C D entries stops f0 f1 f2 end is up later ends stopped restless of_channels T log before low u =
     let stopping : IsStopping (HasRisen f0 f1) T core (log ++ entries) D end = ends T log (subst (λ (k : CoreState). GoesOn T k log C) (sym is) u) in
     let made = whole T core.plan core.entries (log ++ entries) stops (crew_of D) end before f2 (HasRisen f0 f1) (HasRisen f1 f2) (λ r. risen_on before f0 f2 low (risen_later f0 f1 f2 later r)) (λ r. risen_on before f1 f2 (omega (arith, low, up)) r)
-    stopping stopped restless of_lines in
+    stopping stopped restless of_channels in
     let moved = subst (λ (l : List LogEntry). (r : IsRun T.started T.scenario (reply_in T) core.plan core.entries l before f2 end) × (r.replies ≡ T.replies)) (append_assoc log entries stops) (
       made,
       whole_replies T core.plan core.entries (log ++ entries) stops
-          (crew_of D) end before f2 (HasRisen f0 f1) (HasRisen f1 f2) (λ r. risen_on before f0 f2 low (risen_later f0 f1 f2 later r)) (λ r. risen_on before f1 f2 (omega (arith, low, up)) r) stopping stopped restless of_lines,
+          (crew_of D) end before f2 (HasRisen f0 f1) (HasRisen f1 f2) (λ r. risen_on before f0 f2 low (risen_later f0 f1 f2 later r)) (λ r. risen_on before f1 f2 (omega (arith, low, up)) r) stopping stopped restless of_channels,
     ) in
     (stopping.suits.same ∙ sym u.suits.same, moved.0, moved.1)
 

@@ -8,9 +8,9 @@ ghost use Rattle.mk_run_links.specs.Places.{AreOpen};
 ghost use Rattle.mk_run_local.specs.Seen.{AreOf};
 ghost use Rattle.mk_run_crew.specs.Seen.{within_of};
 ghost use Rattle.mk_run.specs.inner.Underway.{Setting};
-ghost use Rattle.mk_run.specs.inner.Turns.{AreLinksOpen, GoesOn, GrowsBy, IsLinkedIfLong, IsLonger, IsNoShorter, IsPast, IsStill, SettlesAs, TakesAs, TurnsAs, Waits};
+ghost use Rattle.mk_run.specs.inner.Turns.{AreLinksOpen, GoesOn, GrowsBy, IsLinkedIfLong, IsLonger, IsNoShorter, IsPast, IsStill, AsksAllAs, TakesAs, TurnsAs, Waits};
 
-use crate::outcome::{Outcome, outcome_of};
+use crate::outcome::Outcome;
 use crate::sending::send_last;
 use mk_base::SimNo;
 use mk_local::Registry;
@@ -22,11 +22,11 @@ use mk_sched::{Core, Next, Taken};
 use std::sync::Wait;
 
 // Asks whoever is ready, until nobody is.
-pub fn settle(core: &mut Core, crew: &mut Crew, kinds: &Registry) -> Result<(), Outcome>
+pub fn ask_all(core: &mut Core, crew: &mut Crew, kinds: &Registry) -> Result<(), Outcome>
     requires going { core.old.ended ≡ None }
     requires known { AreOf (rows_in kinds.now) (within_of crew.old) }
     requires underway { (T : Setting) × (log : List LogEntry) × GoesOn T core.old log crew.old }
-    ensures settled { SettlesAs result core.old crew.old core.new crew.new }
+    ensures asked_all { AsksAllAs result core.old crew.old core.new crew.new }
     ensures grown { IsNoShorter core.old core.new }
     ensures long { IfErr result (IsLinkedIfLong crew.new) }
     ensures still { IsStill crew.old crew.new }
@@ -83,7 +83,7 @@ fn hear<F: Fleet, R: Wait>(
     requires unhalted { crew.old.halt ≡ None }
     requires known { AreOf (rows_in kinds.now) (within_of crew.old) }
     requires waits { Waits core.old }
-    requires open { AreOpen crew.old.lines (F.open_links fleet.old) }
+    requires open { AreOpen crew.old.channels (F.open_links fleet.old) }
     requires underway { (T : Setting) × (log : List LogEntry) × GoesOn T core.old log crew.old }
     ensures count { F.faults fleet.old ≤ F.faults fleet.new }
     ensures same_count { F.started fleet.new ≡ F.started fleet.old }
@@ -95,7 +95,7 @@ fn hear<F: Fleet, R: Wait>(
 {
     match crew.hear(rt, fleet) {
         Ok((sim, message)) => take(core, crew, kinds, sim, message),
-        Err(halt) => Err(outcome_of(halt)),
+        Err(halt) => Err(Outcome::from(halt)),
     }
 }
 
@@ -120,7 +120,7 @@ fn turn<F: Fleet, R: Wait>(
     ensures still { IsStill crew.old crew.new }
     ensures unhalted { OnOk result (crew.new.halt ≡ None) }
 {
-    settle(core, crew, kinds)?;
+    ask_all(core, crew, kinds)?;
     hear(rt, core, crew, fleet, kinds)
 }
 

@@ -10,7 +10,7 @@ mod sending;
 mod wholly;
 
 pub use laws::{kinds_fit, runs_are_right, runs_complete, within_runs_end};
-pub use outcome::{Outcome, Ran, outcome_of};
+pub use outcome::{Outcome, Ran};
 pub use running::run;
 pub use sending::send_last;
 pub use wholly::run_local;

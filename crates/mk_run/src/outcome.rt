@@ -1,6 +1,5 @@
 // How a run ends, and what it comes to.
 ghost use Rattle.std.specs.Prelude.{◌≡◌};
-ghost use Rattle.mk_run.specs.Outcomes.{outcome_of};
 
 use mk_base::{Mem, SimNo};
 use mk_plan::{Journal, Plan};
@@ -40,18 +39,22 @@ impl From<Mem> for Outcome {
     }
 }
 
-/// The outcome that a halt of the crew is.
-pub fn outcome_of(halt: Halt) -> Outcome
-    ensures { result ≡ outcome_of halt }
-{
-    match halt {
-        Halt::Setup(fault) => Outcome::Setup(fault),
-        Halt::Fleet => Outcome::Fleet,
-        Halt::Gone(sim) => Outcome::Gone(sim),
-        Halt::Garbled(sim, test) => Outcome::Garbled(sim, test),
-        Halt::LongFrame(sim, n) => Outcome::LongFrame(sim, n),
-        Halt::LongItem(sim, n) => Outcome::LongItem(sim, n),
-        Halt::Mem => Outcome::Mem,
+// The outcome that a halt of the crew is.
+impl From<Halt> for Outcome {
+    ghost use Rattle.mk_run.specs.Outcomes.{outcome_of};
+
+    ghost from_gives = { λ halt e. e ≡ outcome_of halt };
+
+    fn from(halt: Halt) -> Outcome {
+        match halt {
+            Halt::Setup(fault) => Outcome::Setup(fault),
+            Halt::Fleet => Outcome::Fleet,
+            Halt::Gone(sim) => Outcome::Gone(sim),
+            Halt::Garbled(sim, test) => Outcome::Garbled(sim, test),
+            Halt::LongFrame(sim, n) => Outcome::LongFrame(sim, n),
+            Halt::LongItem(sim, n) => Outcome::LongItem(sim, n),
+            Halt::Mem => Outcome::Mem,
+        }
     }
 }
 

@@ -20,7 +20,7 @@ ghost use Rattle.mk_run.specs.inner.Underway.{IsUnderway, Setting};
 ghost use Rattle.mk_run.specs.inner.Turns.{AreLinksOpen, PlanRunsAs};
 
 use crate::driving::drive;
-use crate::outcome::{Outcome, Ran, outcome_of};
+use crate::outcome::{Outcome, Ran};
 use crate::wholly::run_local;
 use mk_base::List;
 use mk_local::Registry;
@@ -67,7 +67,7 @@ pub fn run<F: Fleet, R: Wait>(
     match Crew::begin(rt, alloc, scenario, ranks, fleet, kinds) {
         Ok((crew, plan)) => run_plan(rt, alloc, plan, crew, fleet, kinds),
         Err(halt) => Ran {
-            outcome: outcome_of(halt),
+            outcome: Outcome::from(halt),
             plan: None,
             journal: None,
         },

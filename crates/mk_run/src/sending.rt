@@ -9,7 +9,7 @@ ghost use Rattle.mk_run_crew.specs.Calls.{SendsAs};
 ghost use Rattle.mk_run_crew.specs.Seen.{within_of};
 ghost use Rattle.mk_run.specs.inner.Sendings.{CanSend, EndsWithItem, IsUnsent};
 
-use crate::outcome::{Outcome, outcome_of};
+use crate::outcome::Outcome;
 use mk_base::SimNo;
 use mk_local::Registry;
 use mk_plan::Entry;
@@ -41,6 +41,6 @@ pub fn send_last(core: &Core, crew: &mut Crew, kinds: &Registry, sim: SimNo) -> 
     };
     match crew.send(kinds, sim, item, id) {
         Ok(()) => Ok(()),
-        Err(halt) => Err(outcome_of(halt)),
+        Err(halt) => Err(Outcome::from(halt)),
     }
 }

@@ -14,8 +14,8 @@ ghost use Rattle.mk_run.specs.Ran.{RunsAs};
 ghost use Rattle.mk_run.specs.inner.Underway.{IsUnderway, Setting};
 ghost use Rattle.mk_run.specs.inner.Turns.{GoesOn, IsLinkedIfLong, IsLonger, IsStill, PlanRunsAs, TurnsAs, Waits};
 
-use crate::driving::{settle, take};
-use crate::outcome::{Outcome, Ran, outcome_of};
+use crate::driving::{ask_all, take};
+use crate::outcome::{Outcome, Ran};
 use mk_base::List;
 use mk_local::Registry;
 use mk_plan::Plan;
@@ -53,7 +53,7 @@ fn turn_within(core: &mut Core, crew: &mut Crew, kinds: &Registry) -> Result<(),
     ensures long { IfErr result (IsLinkedIfLong crew.new) }
     ensures still { IsStill crew.old crew.new }
 {
-    settle(core, crew, kinds)?;
+    ask_all(core, crew, kinds)?;
     take_next(core, crew, kinds)
 }
 
@@ -121,7 +121,7 @@ pub fn run_local(alloc: Global, scenario: Scenario, ranks: List<u32>, kinds: &Re
     match Crew::begin_within(alloc, scenario, ranks, kinds) {
         Ok((crew, plan)) => run_plan_within(alloc, plan, crew, kinds),
         Err(halt) => Ran {
-            outcome: outcome_of(halt),
+            outcome: Outcome::from(halt),
             plan: None,
             journal: None,
         },

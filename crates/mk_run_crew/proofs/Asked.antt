@@ -8,11 +8,11 @@ use Rattle.mk_plan.specs.declared.Call.{Call}
 use Rattle.mk_plan.specs.declared.Message.{Message}
 use Rattle.mk_session.specs.declared.answers.QueueFault.{QueueFault}
 use Rattle.mk_session.specs.declared.answers.QueueFault.TheVariants as queue_fault
-use Rattle.mk_run_laws.specs.Lines.{Line, queued}
+use Rattle.mk_run_laws.specs.Channels.{Channel, queued}
 use Rattle.mk_run_laws.specs.Payloads.{IsFramed}
 use Rattle.mk_run_laws.specs.Crews.{IsHeard}
 use Rattle.mk_run_links.specs.Entries.{AreOn}
-use Rattle.mk_run_links.specs.Places.{IsLineLink, IsSet, Lines, at, crew}
+use Rattle.mk_run_links.specs.Places.{IsChannelLink, IsSet, Channels, at, crew}
 use Rattle.mk_local.specs.declared.turn.Turn.{Turn}
 use Rattle.mk_run_local.specs.Calls.{IsCalled}
 use Rattle.mk_run_local.specs.Seen.{AreOf}
@@ -27,7 +27,7 @@ call_unqueued sim (queue_fault.TooLong n) call id payload text size beyond = inr
 call_unqueued sim queue_fault.Mem call id payload text size beyond = inl refl
 
 -- they took it
-pub call_queued : (i : ℕ) (call : Call) (id next : ℕ) (payload : List ℕ) (L M : Lines) → payload ≡ call_text id call → next ≡ id + 1 → ((w : Line) × IsSet i w (queued payload next w) L M) → (w : Line) × IsSet i w (queued (call_text id call) (id + 1) w) L M
+pub call_queued : (i : ℕ) (call : Call) (id next : ℕ) (payload : List ℕ) (L M : Channels) → payload ≡ call_text id call → next ≡ id + 1 → ((w : Channel) × IsSet i w (queued payload next w) L M) → (w : Channel) × IsSet i w (queued (call_text id call) (id + 1) w) L M
 call_queued i call id next payload L M text more set = (set.0, subst (λ (n : ℕ). IsSet i set.0 (queued (call_text id call) n set.0) L M) more (subst (λ (p : List ℕ). IsSet i set.0 (queued p next set.0) L M) text set.1))
 
 -- so it wasn't made
@@ -40,13 +40,13 @@ asked_not h i call id C D away same (inr l) = inl (record {
 })
 
 -- the request was queued, and then this was heard
-pub asked_on_link : (i : ℕ) (call : Call) (id : ℕ) (from : ℕ) (m : Message) (entries : List LogEntry) (V C D : CrewSeen) (mid : Lines) → V ≡ C → is_here C i ≡ false → ((w : Line) × IsSet i w (queued (call_text id call) (id + 1) w) V.lines mid) → IsFramed (call_text id call)
-    → IsHeard entries from m (crew mid) (crew D.lines) → D.sims ≡ V.sims → D.kept ≡ V.kept → D.halt ≡ None → AreOn (IsLineLink mid) entries → AsksOnLink i call id from m entries C D
+pub asked_on_link : (i : ℕ) (call : Call) (id : ℕ) (from : ℕ) (m : Message) (entries : List LogEntry) (V C D : CrewSeen) (mid : Channels) → V ≡ C → is_here C i ≡ false → ((w : Channel) × IsSet i w (queued (call_text id call) (id + 1) w) V.channels mid) → IsFramed (call_text id call)
+    → IsHeard entries from m (crew mid) (crew D.channels) → D.sims ≡ V.sims → D.kept ≡ V.kept → D.halt ≡ None → AreOn (IsChannelLink mid) entries → AsksOnLink i call id from m entries C D
 asked_on_link i call id from m entries V C D mid same away set one heard sims kept going on_links = record {
   away = away;
   mid = mid;
-  line = set.0;
-  set = subst (λ (X : CrewSeen). IsSet i set.0 (queued (call_text id call) (id + 1) set.0) X.lines mid) same set.1;
+  channel = set.0;
+  set = subst (λ (X : CrewSeen). IsSet i set.0 (queued (call_text id call) (id + 1) set.0) X.channels mid) same set.1;
   framed = one;
   heard = heard;
   sims = sims ∙ ap (λ (X : CrewSeen). X.sims) same;
@@ -57,6 +57,6 @@ asked_on_link i call id from m entries V C D mid same away set one heard sims ke
 
 -- a simulator within the program answered
 pub asked_within : (i : ℕ) (call : Call) (id : ℕ) (m : Message) (V C D : CrewSeen) → V ≡ C → is_here V i ≡ true → IsCalled (within_of V) i id call m (within_of D) → ((rows : List Turn) → AreOf rows (within_of V) → AreOf rows (within_of D))
-    → D.lines ≡ V.lines → D.halt ≡ V.halt → AsksWithin i call id i m [] C D
-asked_within i call id m V C D same here called known lines halt =
-    subst (λ (X : CrewSeen). AsksWithin i call id i m [] X D) same (record { here = here; same_sim = refl; quiet = refl; called = called; known = known; lines = lines; halt = halt })
+    → D.channels ≡ V.channels → D.halt ≡ V.halt → AsksWithin i call id i m [] C D
+asked_within i call id m V C D same here called known channels halt =
+    subst (λ (X : CrewSeen). AsksWithin i call id i m [] X D) same (record { here = here; same_sim = refl; quiet = refl; called = called; known = known; channels = channels; halt = halt })

@@ -18,7 +18,7 @@ use Rattle.mk_local.specs.declared.turn.Turn.{Turn}
 use Rattle.mk_local.specs.Calls.{after_call}
 use Rattle.mk_local.specs.Simulators.{Simulator}
 use Rattle.mk_session.specs.Fronts.{BeginsGarbled}
-use Rattle.mk_run_laws.specs.Lines.{Line}
+use Rattle.mk_run_laws.specs.Channels.{Channel}
 use Rattle.mk_run_laws.specs.Crews.{CrewState, AreStopped, IsRestless}
 use Rattle.mk_run_laws.specs.Handshake.{Request, setup_requests, call_to, setup_count, sim_link, is_within}
 use Rattle.mk_run_laws.specs.Hearing.{messages_heard, rest_heard}
@@ -31,7 +31,7 @@ use Rattle.mk_run_laws.proofs.Moving.{heard_at_stop}
 use Rattle.mk_run_laws.proofs.Stepping.{first_or_second, not_empty}
 use Rattle.mk_setup.specs.Handshakes.{IsMade}
 use Rattle.mk_run_links.specs.Entries.{AreOn, IsRunLink}
-use Rattle.mk_run_links.specs.Places.{IsLineLink, at, crew}
+use Rattle.mk_run_links.specs.Places.{IsChannelLink, at, crew}
 use Rattle.mk_run_links.proofs.OnEntries.{on_more, on_or_clock, on_run}
 use Rattle.mk_run_links.proofs.OnStops.{framed_is}
 use Rattle.mk_run_local.specs.Made.{first_at, made}
@@ -58,8 +58,8 @@ module _ (started : ℕ) (S : Scenario) (ranks : List ℕ) (rows : List Turn) wh
     replies = a.replies;
     told = a.told;
     counts = λ i l e. (a.between).counts i l e ∙ ap (λ (rs : List Request). length (filter_map (call_to i) rs)) whole;
-    begun = subst (λ (D : CrewState). IsBegun started S a.replies log D) (ap (λ (ks : List Arrival). let D : CrewState = record { lines = C.lines; kept = ks } in D) (sym a.kept))
-        (greeted started S a.replies log (crew C.lines) (setup_requests S) over no_line refl);
+    begun = subst (λ (D : CrewState). IsBegun started S a.replies log D) (ap (λ (ks : List Arrival). let D : CrewState = record { channels = C.channels; kept = ks } in D) (sym a.kept))
+        (greeted started S a.replies log (crew C.channels) (setup_requests S) over no_channel refl);
     rests = λ before after is. ((a.between).rests before after is).0;
     valid = valid;
     sims = sims;
@@ -75,14 +75,14 @@ module _ (started : ℕ) (S : Scenario) (ranks : List ℕ) (rows : List Turn) wh
       whole : take (length answers) (setup_requests S) ≡ setup_requests S
       whole = ap (λ (n : ℕ). take n (setup_requests S)) m.all ∙ all_taken (setup_requests S)
 
-      over : IsBetween started S a.replies log (crew C.lines) (setup_requests S) []
-      over = subst (λ (rs : List Request). IsBetween started S a.replies log (crew C.lines) rs []) whole
-          (subst (λ (rs : List Request). IsBetween started S a.replies log (crew C.lines) (take (length answers) (setup_requests S)) rs) (ap (λ (n : ℕ). drop n (setup_requests S)) m.all ∙ none_dropped (setup_requests S)) a.between)
+      over : IsBetween started S a.replies log (crew C.channels) (setup_requests S) []
+      over = subst (λ (rs : List Request). IsBetween started S a.replies log (crew C.channels) rs []) whole
+          (subst (λ (rs : List Request). IsBetween started S a.replies log (crew C.channels) (take (length answers) (setup_requests S)) rs) (ap (λ (n : ℕ). drop n (setup_requests S)) m.all ∙ none_dropped (setup_requests S)) a.between)
 
-      no_line : (i : ℕ) → is_within S i ≡ true → at C.lines i ≡ None
-      no_line i within = go (at C.lines i) refl
+      no_channel : (i : ℕ) → is_within S i ≡ true → at C.channels i ≡ None
+      no_channel i within = go (at C.channels i) refl
         where
-          go : (o : Option Line) → at C.lines i ≡ o → o ≡ None
+          go : (o : Option Channel) → at C.channels i ≡ o → o ≡ None
           go None e = refl
           go (Some w) e = let b = a.back i w e in absurd (true≢false (sym within ∙ (linked_away rows started S i b.0 b.1).1))
 
@@ -107,31 +107,31 @@ module _ (started : ℕ) (S : Scenario) (ranks : List ℕ) (rows : List Turn) wh
   cause_later log stop risen later_risen queued later halt.Mem same on c = tt
 
   -- the entries of the stop are on the run's links
-  pub halted_on : (log stop : List LogEntry) (risen : Type 0) (h : Halt) (C : CrewSeen) → IsHalting started S ranks rows log risen h C → AreOn (IsLineLink C.lines) stop → AreOn (IsRunLink started S) (log ++ stop)
-  halted_on log stop risen h C g of_lines = on_more (IsRunLink started S) log stop g.on_links (on_run started S C.lines stop (λ i l e. let t = g.lines i l e in (t.1, t.2, t.3)) g.back of_lines)
+  pub halted_on : (log stop : List LogEntry) (risen : Type 0) (h : Halt) (C : CrewSeen) → IsHalting started S ranks rows log risen h C → AreOn (IsChannelLink C.channels) stop → AreOn (IsRunLink started S) (log ++ stop)
+  halted_on log stop risen h C g of_channels = on_more (IsRunLink started S) log stop g.on_links (on_run started S C.channels stop (λ i l e. let t = g.channels i l e in (t.1, t.2, t.3)) g.back of_channels)
 
   -- the stop of a crew whose handshake has ended early
-  pub halted : (log stop : List LogEntry) (risen later_risen : Type 0) (h : Halt) (C : CrewSeen) → IsHalting started S ranks rows log risen h C → AreStopped stop later_risen (crew_of C) → IsRestless stop → AreOn (IsLineLink C.lines) stop → (risen → later_risen)
+  pub halted : (log stop : List LogEntry) (risen later_risen : Type 0) (h : Halt) (C : CrewSeen) → IsHalting started S ranks rows log risen h C → AreStopped stop later_risen (crew_of C) → IsRestless stop → AreOn (IsChannelLink C.channels) stop → (risen → later_risen)
       → HasHalted started S ranks rows (log ++ stop) later_risen h
-  halted log stop risen later_risen h C g stopped restless of_lines on = record {
+  halted log stop risen later_risen h C g stopped restless of_channels on = record {
     queued = g.queued;
     later = g.later;
     parts = g.parts;
-    says = λ reply i l e. let t = g.lines i l e in handshake_says started S reply log stop later_risen i l g.queued g.later g.parts t.0 t.1 t.3 t.4 (stopped i t.1 t.2);
-    whole = λ some i l e. let t = g.lines i l e in all_said S log stop later_risen later_risen i l g.queued g.later g.parts t.0 t.1 t.3 t.4 (stopped i t.1 t.2) (λ rose. rose);
+    says = λ reply i l e. let t = g.channels i l e in handshake_says started S reply log stop later_risen i l g.queued g.later g.parts t.0 t.1 t.3 t.4 (stopped i t.1 t.2);
+    whole = λ some i l e. let t = g.channels i l e in all_said S log stop later_risen later_risen i l g.queued g.later g.parts t.0 t.1 t.3 t.4 (stopped i t.1 t.2) (λ rose. rose);
     rests = λ before after is. elim (first_or_second log stop before after Rest is) [
       | inl t ↦ g.rests before t.0 t.1
       | inr t ↦ absurd (restless t.0 after t.2)
     ];
-    on_links = on_or_clock (IsRunLink started S) (log ++ stop) (halted_on log stop risen h C g of_lines);
+    on_links = on_or_clock (IsRunLink started S) (log ++ stop) (halted_on log stop risen h C g of_channels);
     cause = cause_later log stop risen later_risen g.queued g.later h
-        (λ i l e. let t = g.lines i l e in subst (λ (k : LinkNo). heard_on k (log ++ stop) ≡ heard_on k log) t.3 (heard_at_stop log stop later_risen t.1 (stopped i t.1 t.2))) on g.cause;
+        (λ i l e. let t = g.channels i l e in subst (λ (k : LinkNo). heard_on k (log ++ stop) ≡ heard_on k log) t.3 (heard_at_stop log stop later_risen t.1 (stopped i t.1 t.2))) on g.cause;
   }
 
   first_stop : IsFramed (call_text 0 Stop)
   first_stop = framed_is 0 (decimal 0) refl (let e = length-decimal-le_succ 0 (omega arith) in omega (arith, e))
 
-  -- before any line is there nothing is said
+  -- before any channel is there nothing is said
   pub halted_silently : (risen : Type 0) (h : Halt) → (h ≡ halt.Mem) ⊎ ((h ≡ halt.Fleet) × risen) → HasHalted started S ranks rows [] risen h
   halted_silently risen h why = record {
     queued = [];

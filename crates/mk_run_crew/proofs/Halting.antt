@@ -1,4 +1,4 @@
--- A handshake that ends early: what is on the lines then, and what shows why.
+-- A handshake that ends early: what is on the channels then, and what shows why.
 use Rattle.std.proofs.Common.{◌≡◌, ℕ, zero, suc, ◌+◌, ◌==◌, ◌<◌, Bool, true, false, List, [], ◌∷◌, ◌++◌, length, take, drop, map, filter_map, Option, Some, None, slice_get, option_map, refl, sym, ap, ◌∙◌, subst, ◌⊎◌, inl, inr, append_assoc, true≢false, if◌then◌else◌}
 use Rattle.std.specs.Prelude.{option_to_list}
 use Rattle.std.specs.List.{cons_option}
@@ -16,14 +16,14 @@ use Rattle.mk_plan.specs.Journals.{Arrival}
 use Rattle.mk_scenario.specs.declared.parts.Scenario.{Scenario}
 use Rattle.mk_local.specs.declared.turn.Turn.{Turn}
 use Rattle.mk_session.specs.Fronts.{BeginsGarbled}
-use Rattle.mk_run_laws.specs.Lines.{Line, IsLineAt, IsMoved, queued}
+use Rattle.mk_run_laws.specs.Channels.{Channel, IsChannelAt, IsMoved, queued}
 use Rattle.mk_run_laws.specs.Crews.{AreMoved, AreParkedAtRests, given_by, kept_of, kept_from}
 use Rattle.mk_run_laws.specs.Handshake.{Request, setup_requests, call_to, call_payloads, sim_link, is_within}
 use Rattle.mk_run_laws.specs.Hearing.{messages_heard, rest_heard, first_message}
 use Rattle.mk_run_laws.specs.Rests.{AllSetUp, IsWellInSetup}
 use Rattle.mk_run_laws.specs.Running.{SetupReplies}
 use Rattle.mk_run_laws.specs.inner.Running.{IsBetween, IsSettingUp}
-use Rattle.mk_run_laws.proofs.Moving.{line_moved}
+use Rattle.mk_run_laws.proofs.Moving.{channel_moved}
 use Rattle.mk_run_laws.proofs.SettingUp.{well_in_setup, not_set_up}
 use Rattle.mk_run_laws.proofs.Stepping.{first_or_second, apart_is}
 use Rattle.mk_run_laws.proofs.Taking.{taken_heard, taken_rest, none_heard, garbled_none, long_none, none_first}
@@ -34,7 +34,7 @@ use Rattle.mk_setup.specs.Requests.{id_before}
 use Rattle.mk_run_links.specs.declared.answers.LinkHalt.{LinkHalt}
 use Rattle.mk_run_links.specs.declared.answers.LinkHalt.TheVariants as link_halt
 use Rattle.mk_run_links.specs.Halts.{ShowsHalt}
-use Rattle.mk_run_links.specs.Places.{Lines, at, crew}
+use Rattle.mk_run_links.specs.Places.{Channels, at, crew}
 use Rattle.mk_run_crew.specs.declared.halt.Halt.{Halt}
 use Rattle.mk_run_crew.specs.declared.halt.Halt.TheVariants as halt
 use Rattle.mk_run_crew.specs.Answers.{answers_to, AreHeard, AreKindAnswers, IsKindAnswer}
@@ -47,15 +47,15 @@ use Rattle.mk_run_crew.proofs.Placing.{moved_there, moved_back, set_back}
 use Rattle.mk_run_crew.proofs.Requests.{answers_pushed, cut_at, kinds_pushed}
 use Rattle.mk_run_crew.proofs.Simulators.{linked_away}
 
--- ---- a line's messages are the first that were heard
+-- ---- a channel's messages are the first that were heard
 
-pub line_heard : (log : List LogEntry) (ms : List Message) (payloads : List (List ℕ)) (next : ℕ) (w : Line) (l : LinkNo) → w.link ≡ l → IsLineAt log ms payloads next w → BeginsWith (messages_heard (heard_on l log)) ms
-line_heard log ms payloads next w l same at =
+pub channel_heard : (log : List LogEntry) (ms : List Message) (payloads : List (List ℕ)) (next : ℕ) (w : Channel) (l : LinkNo) → w.link ≡ l → IsChannelAt log ms payloads next w → BeginsWith (messages_heard (heard_on l log)) ms
+channel_heard log ms payloads next w l same at =
     subst (λ (k : LinkNo). BeginsWith (messages_heard (heard_on k log)) ms) same (messages_heard w.held, taken_heard (heard_on w.link log) ms w.held at.heard)
 
 -- what is held is behind them, where no message is held
-pub line_rest : (log : List LogEntry) (ms : List Message) (payloads : List (List ℕ)) (next : ℕ) (w : Line) (l : LinkNo) → w.link ≡ l → IsLineAt log ms payloads next w → first_message w.held ≡ None → rest_heard (heard_on l log) ≡ w.held
-line_rest log ms payloads next w l same at none = ap (λ (k : LinkNo). rest_heard (heard_on k log)) (sym same) ∙ taken_rest (heard_on w.link log) ms w.held at.heard ∙ (none_heard w.held none).1
+pub channel_rest : (log : List LogEntry) (ms : List Message) (payloads : List (List ℕ)) (next : ℕ) (w : Channel) (l : LinkNo) → w.link ≡ l → IsChannelAt log ms payloads next w → first_message w.held ≡ None → rest_heard (heard_on l log) ≡ w.held
+channel_rest log ms payloads next w l same at none = ap (λ (k : LinkNo). rest_heard (heard_on k log)) (sym same) ∙ taken_rest (heard_on w.link log) ms w.held at.heard ∙ (none_heard w.held none).1
 
 here_is : (b : Bool) (x e : LogEntry) → (if b then Some x else None) ≡ Some e → e ≡ x
 here_is true x e q = sym (some_same q)
@@ -68,9 +68,9 @@ last_in test (x ∷ xs) e is = elim (last_that test xs) as (λ o. last_that test
   | Some y ↦ λ q r. inr (last_in test xs e (q ∙ r))
 ] refl is
 
--- the line of each link has come so far, these requests having been queued
-abbrev pub AreAt : ℕ → Scenario → List LogEntry → List Request → Lines → Type 0
-AreAt started S log queued L = (i : ℕ) (l : LinkNo) → sim_link started S i ≡ Some l → (ms : List Message) × (w : Line) × (at L i ≡ Some w) × (w.link ≡ l) × IsLineAt log ms (call_payloads 0 (filter_map (call_to i) queued)) (count_to i queued) w
+-- the channel of each link has come so far, these requests having been queued
+abbrev pub AreAt : ℕ → Scenario → List LogEntry → List Request → Channels → Type 0
+AreAt started S log queued L = (i : ℕ) (l : LinkNo) → sim_link started S i ≡ Some l → (ms : List Message) × (w : Channel) × (at L i ≡ Some w) × (w.link ≡ l) × IsChannelAt log ms (call_payloads 0 (filter_map (call_to i) queued)) (count_to i queued) w
 
 -- where the fleet rested, what was asked by then had been said, and not all had set up
 abbrev pub RestRight : ℕ → Scenario → List LogEntry → Type 0
@@ -79,8 +79,8 @@ RestRight started S log = (before after : List LogEntry) → log ≡ before ++ R
 module _ (started : ℕ) (S : Scenario) (ranks : List ℕ) (rows : List Turn) where
   -- ---- between two requests
 
-  lines_at : (replies : SetupReplies) (log : List LogEntry) (L : Lines) (done later : List Request) → IsBetween started S replies log (crew L) done later → AreAt started S log done L
-  lines_at replies log L done later b i l e = let t = b.lines i l e in (replies i, t.0, t.1, t.2, t.3)
+  channels_at : (replies : SetupReplies) (log : List LogEntry) (L : Channels) (done later : List Request) → IsBetween started S replies log (crew L) done later → AreAt started S log done L
+  channels_at replies log L done later b i l e = let t = b.channels i l e in (replies i, t.0, t.1, t.2, t.3)
 
   pub between_halts : (log : List LogEntry) (risen : Type 0) (h : Halt) (answers : List Message) (C : CrewSeen) → IsAnswered started S rows log answers C
       → ShowsCause started S ranks rows log risen (take (length answers) (setup_requests S)) (drop (length answers) (setup_requests S)) h → IsHalting started S ranks rows log risen h C
@@ -88,7 +88,7 @@ module _ (started : ℕ) (S : Scenario) (ranks : List ℕ) (rows : List Turn) wh
     queued = take (length answers) (setup_requests S);
     later = drop (length answers) (setup_requests S);
     parts = (a.between).parts;
-    lines = lines_at a.replies log C.lines (take (length answers) (setup_requests S)) (drop (length answers) (setup_requests S)) a.between;
+    channels = channels_at a.replies log C.channels (take (length answers) (setup_requests S)) (drop (length answers) (setup_requests S)) a.between;
     rests = (a.between).rests;
     cause = cause;
     back = a.back;
@@ -107,8 +107,8 @@ module _ (started : ℕ) (S : Scenario) (ranks : List ℕ) (rows : List Turn) wh
   -- the answers so far were heard
   pub heard_so_far : (log : List LogEntry) (answers : List Message) (C : CrewSeen) → IsAnswered started S rows log answers C → AreHeard started S rows log answers None
   heard_so_far log answers C a = record {
-    links = λ i l e. let t = (a.between).lines i l e in subst (BeginsWith (messages_heard (heard_on l log))) (a.told i l e ∙ sym (append_nil (answers_to i (setup_requests S) answers)))
-        (line_heard log (a.replies i) _ _ t.0 l t.2 t.3);
+    links = λ i l e. let t = (a.between).channels i l e in subst (BeginsWith (messages_heard (heard_on l log))) (a.told i l e ∙ sym (append_nil (answers_to i (setup_requests S) answers)))
+        (channel_heard log (a.replies i) _ _ t.0 l t.2 t.3);
     kinds = subst (AreKindAnswers rows S) (sym (append_nil answers)) a.kinds;
   }
 
@@ -140,15 +140,15 @@ module _ (started : ℕ) (S : Scenario) (ranks : List ℕ) (rows : List Turn) wh
   -- ---- behind a request on a link
 
   -- after a call that gave these messages
-  pub moved_at : (replies : SetupReplies) (log entries : List LogEntry) (given : ℕ → List Message) (M N : Lines) (done : List Request) (now : Request) (later : List Request) → IsSettingUp started S replies log (crew M) done now later → AreMoved entries given (crew M) (crew N)
+  pub moved_at : (replies : SetupReplies) (log entries : List LogEntry) (given : ℕ → List Message) (M N : Channels) (done : List Request) (now : Request) (later : List Request) → IsSettingUp started S replies log (crew M) done now later → AreMoved entries given (crew M) (crew N)
       → (i : ℕ) (l : LinkNo) → sim_link started S i ≡ Some l
-      → (w : Line) × (at N i ≡ Some w) × (w.link ≡ l) × IsLineAt (log ++ entries) (replies i ++ given i) (call_payloads 0 (filter_map (call_to i) (done ++ now ∷ []))) (count_to i (done ++ now ∷ [])) w
+      → (w : Channel) × (at N i ≡ Some w) × (w.link ≡ l) × IsChannelAt (log ++ entries) (replies i ++ given i) (call_payloads 0 (filter_map (call_to i) (done ++ now ∷ []))) (count_to i (done ++ now ∷ [])) w
   moved_at replies log entries given M N done now later up moved i l e =
-      let t = up.lines i l e in
+      let t = up.channels i l e in
       let v = moved_there entries (given i) (at M i) (at N i) t.0 t.1 (moved i) in
-      (v.0, v.1, v.2.link ∙ t.2, line_moved log entries (replies i) (given i) (call_payloads 0 (filter_map (call_to i) (done ++ now ∷ []))) (count_to i (done ++ now ∷ [])) t.0 v.0 t.3 v.2)
+      (v.0, v.1, v.2.link ∙ t.2, channel_moved log entries (replies i) (given i) (call_payloads 0 (filter_map (call_to i) (done ++ now ∷ []))) (count_to i (done ++ now ∷ [])) t.0 v.0 t.3 v.2)
 
-  rests_on : (replies : SetupReplies) (log entries : List LogEntry) (M : Lines) (done : List Request) (now : Request) (later : List Request) → IsSettingUp started S replies log (crew M) done now later → RestRight started S log → AreParkedAtRests entries (crew M) → RestRight started S (log ++ entries)
+  rests_on : (replies : SetupReplies) (log entries : List LogEntry) (M : Channels) (done : List Request) (now : Request) (later : List Request) → IsSettingUp started S replies log (crew M) done now later → RestRight started S log → AreParkedAtRests entries (crew M) → RestRight started S (log ++ entries)
   rests_on replies log entries M done now later up rests parked before after is = elim (first_or_second log entries before after Rest is) [
     | inl t ↦ rests before t.0 t.1
     | inr t ↦ subst (λ (b : List LogEntry). IsWellInSetup started S b × (AllSetUp started S b → ⊥)) (sym t.1)
@@ -156,29 +156,29 @@ module _ (started : ℕ) (S : Scenario) (ranks : List ℕ) (rows : List Turn) wh
   ]
 
   -- what the links show is the cause
-  link_causes : (log entries : List LogEntry) (risen : Type 0) (queued later : List Request) (N : Lines) (why : LinkHalt) → ShowsHalt why entries N → AreAt started S (log ++ entries) queued N → ((i : ℕ) (w : Line) → at N i ≡ Some w → (l : LinkNo) × (sim_link started S i ≡ Some l))
+  link_causes : (log entries : List LogEntry) (risen : Type 0) (queued later : List Request) (N : Channels) (why : LinkHalt) → ShowsHalt why entries N → AreAt started S (log ++ entries) queued N → ((i : ℕ) (w : Channel) → at N i ≡ Some w → (l : LinkNo) × (sim_link started S i ≡ Some l))
       → (why ≡ link_halt.Fleet → risen) → ShowsCause started S ranks rows (log ++ entries) risen queued later (halt_of why)
   link_causes log entries risen queued later N link_halt.Fleet shown at_log back rose = rose refl
   link_causes log entries risen queued later N (link_halt.Gone sim) shown at_log back rose =
       let b = back sim.0 shown.0 shown.1 in
       let t = at_log sim.0 b.0 b.1 in
       let same : shown.0 ≡ t.1 = some_same (sym shown.1 ∙ t.2) in
-      let link : (shown.0).link ≡ b.0 = ap (λ (x : Line). x.link) same ∙ t.3 in
+      let link : (shown.0).link ≡ b.0 = ap (λ (x : Channel). x.link) same ∙ t.3 in
       (b.0, b.1, subst (λ (k : LinkNo). IsIn (Ended k) (log ++ entries)) link (in_back (Ended (shown.0).link) log entries (last_in (is_read (shown.0).link) entries (Ended (shown.0).link) (shown.2).1)))
   link_causes log entries risen queued later N (link_halt.Garbled sim test) shown at_log back rose =
       let b = back sim.0 shown.0 shown.1 in
       let t = at_log sim.0 b.0 b.1 in
       let same : shown.0 ≡ t.1 = some_same (sym shown.1 ∙ t.2) in
-      let begins : BeginsGarbled (t.1).held test = subst (λ (x : Line). BeginsGarbled x.held test) same shown.2 in
+      let begins : BeginsGarbled (t.1).held test = subst (λ (x : Channel). BeginsGarbled x.held test) same shown.2 in
       let none : first_message (t.1).held ≡ None = garbled_none (t.1).held begins.0 begins.1 test begins.3 begins.2 in
-      (b.0, b.1, subst (λ (x : List ℕ). BeginsGarbled x test) (sym (line_rest (log ++ entries) t.0 _ _ t.1 b.0 t.3 t.4 none)) begins)
+      (b.0, b.1, subst (λ (x : List ℕ). BeginsGarbled x test) (sym (channel_rest (log ++ entries) t.0 _ _ t.1 b.0 t.3 t.4 none)) begins)
   link_causes log entries risen queued later N (link_halt.LongFrame sim n) shown at_log back rose =
       let b = back sim.0 shown.0 shown.1 in
       let t = at_log sim.0 b.0 b.1 in
       let same : shown.0 ≡ t.1 = some_same (sym shown.1 ∙ t.2) in
-      let long : IsTooLong n (t.1).held = subst (λ (x : Line). IsTooLong n x.held) same shown.2 in
+      let long : IsTooLong n (t.1).held = subst (λ (x : Channel). IsTooLong n x.held) same shown.2 in
       let none : first_message (t.1).held ≡ None = none_first (t.1).held (long_none (t.1).held n long) in
-      (b.0, b.1, subst (λ (x : List ℕ). IsTooLong n x) (sym (line_rest (log ++ entries) t.0 _ _ t.1 b.0 t.3 t.4 none)) long)
+      (b.0, b.1, subst (λ (x : List ℕ). IsTooLong n x) (sym (channel_rest (log ++ entries) t.0 _ _ t.1 b.0 t.3 t.4 none)) long)
   link_causes log entries risen queued later N link_halt.Mem shown at_log back rose = tt
 
   -- the request was queued, and nothing was heard
@@ -188,12 +188,12 @@ module _ (started : ℕ) (S : Scenario) (ranks : List ℕ) (rows : List Turn) wh
     queued = done ++ r ∷ [];
     later = later;
     parts = up.parts ∙ sym (append_assoc done (r ∷ []) later);
-    lines = at_log;
+    channels = at_log;
     rests = rests_on a.replies log entries v.mid done r later up (a.between).rests (v.unheard).parked;
     cause = subst (ShowsCause started S ranks rows (log ++ entries) risen (done ++ r ∷ []) later) (sym v.is)
-        (link_causes log entries risen (done ++ r ∷ []) later D.lines v.why v.shown at_log back (λ q. rose (v.is ∙ ap halt_of q)));
+        (link_causes log entries risen (done ++ r ∷ []) later D.channels v.why v.shown at_log back (λ q. rose (v.is ∙ ap halt_of q)));
     back = back;
-    on_links = asked_on started S rows log entries a.replies (take (length answers) (setup_requests S)) (drop (length answers) (setup_requests S)) C v.mid r.sim v.line _ a.on_links a.between a.back v.set refl v.on_links;
+    on_links = asked_on started S rows log entries a.replies (take (length answers) (setup_requests S)) (drop (length answers) (setup_requests S)) C v.mid r.sim v.channel _ a.on_links a.between a.back v.set refl v.on_links;
   }
     where
       done : List Request
@@ -203,13 +203,13 @@ module _ (started : ℕ) (S : Scenario) (ranks : List ℕ) (rows : List Turn) wh
       later = drop (suc (length answers)) (setup_requests S)
 
       up : IsSettingUp started S a.replies log (crew v.mid) done r later
-      up = set_up_so started S rows a.replies log answers C.lines v.mid r id l v.line a.between asked numbered linked v.set v.framed
+      up = set_up_so started S rows a.replies log answers C.channels v.mid r id l v.channel a.between asked numbered linked v.set v.framed
 
-      at_log : AreAt started S (log ++ entries) (done ++ r ∷ []) D.lines
-      at_log i k e = let t = moved_at a.replies log entries (λ i. []) v.mid D.lines done r later up (v.unheard).moved i k e in (a.replies i ++ [], t.0, t.1, t.2, t.3)
+      at_log : AreAt started S (log ++ entries) (done ++ r ∷ []) D.channels
+      at_log i k e = let t = moved_at a.replies log entries (λ i. []) v.mid D.channels done r later up (v.unheard).moved i k e in (a.replies i ++ [], t.0, t.1, t.2, t.3)
 
-      back : (i : ℕ) (w : Line) → at D.lines i ≡ Some w → (k : LinkNo) × (sim_link started S i ≡ Some k)
-      back i w e = let b = moved_back entries [] (at v.mid i) (at D.lines i) w e ((v.unheard).moved i) in let c = set_back r.sim v.line _ C.lines v.mid v.set refl i b.0 b.1 in a.back i c.0 c.1
+      back : (i : ℕ) (w : Channel) → at D.channels i ≡ Some w → (k : LinkNo) × (sim_link started S i ≡ Some k)
+      back i w e = let b = moved_back entries [] (at v.mid i) (at D.channels i) w e ((v.unheard).moved i) in let c = set_back r.sim v.channel _ C.channels v.mid v.set refl i b.0 b.1 in a.back i c.0 c.1
 
   -- ---- a message that isn't taken
 
@@ -224,21 +224,21 @@ module _ (started : ℕ) (S : Scenario) (ranks : List ℕ) (rows : List Turn) wh
     queued = done ++ r ∷ [];
     later = later;
     parts = up.parts ∙ sym (append_assoc done (r ∷ []) later);
-    lines = λ i k q. let t = line i k q in (a.replies i ++ given_by from m i, t.0, t.1, t.2, t.3);
+    channels = λ i k q. let t = channel i k q in (a.replies i ++ given_by from m i, t.0, t.1, t.2, t.3);
     rests = rests_on a.replies log entries v.mid done r later up (a.between).rests moved.1;
     cause = fault_causes (log ++ entries) risen (done ++ r ∷ []) later e (λ some. record {
       answers = answers;
       last = Some (record { sim = from; message = m });
       faulty = faulty some;
       heard = record {
-        links = λ i k q. let t = line i k q in subst (BeginsWith (messages_heard (heard_on k (log ++ entries))))
+        links = λ i k q. let t = channel i k q in subst (BeginsWith (messages_heard (heard_on k (log ++ entries))))
             (ap (λ (ms : List Message). ms ++ given_by from m i) (a.told i k q) ∙ ap (λ (ms : List Message). answers_to i (setup_requests S) answers ++ ms) (last_given from m i))
-            (line_heard (log ++ entries) (a.replies i ++ given_by from m i) _ _ t.0 k t.2 t.3);
+            (channel_heard (log ++ entries) (a.replies i ++ given_by from m i) _ _ t.0 k t.2 t.3);
         kinds = kinds_pushed rows S answers r m a.kinds asked (λ w. absurd (true≢false (sym w ∙ (linked_away rows started S r.sim l linked).1)));
       };
     });
     back = back;
-    on_links = asked_on started S rows log entries a.replies (take (length answers) (setup_requests S)) (drop (length answers) (setup_requests S)) C v.mid r.sim v.line _ a.on_links a.between a.back v.set refl v.on_links;
+    on_links = asked_on started S rows log entries a.replies (take (length answers) (setup_requests S)) (drop (length answers) (setup_requests S)) C v.mid r.sim v.channel _ a.on_links a.between a.back v.set refl v.on_links;
   }
     where
       done : List Request
@@ -248,17 +248,17 @@ module _ (started : ℕ) (S : Scenario) (ranks : List ℕ) (rows : List Turn) wh
       later = drop (suc (length answers)) (setup_requests S)
 
       up : IsSettingUp started S a.replies log (crew v.mid) done r later
-      up = set_up_so started S rows a.replies log answers C.lines v.mid r id l v.line a.between asked numbered linked v.set v.framed
+      up = set_up_so started S rows a.replies log answers C.channels v.mid r id l v.channel a.between asked numbered linked v.set v.framed
 
-      moved : AreMoved entries (given_by from m) (crew v.mid) (crew D.lines) × AreParkedAtRests entries (crew v.mid)
-      moved = heard_moved started S rows entries from m v.mid D.lines v.heard
+      moved : AreMoved entries (given_by from m) (crew v.mid) (crew D.channels) × AreParkedAtRests entries (crew v.mid)
+      moved = heard_moved started S rows entries from m v.mid D.channels v.heard
 
-      line : (i : ℕ) (k : LinkNo) → sim_link started S i ≡ Some k
-          → (w : Line) × (at D.lines i ≡ Some w) × (w.link ≡ k) × IsLineAt (log ++ entries) (a.replies i ++ given_by from m i) (call_payloads 0 (filter_map (call_to i) (done ++ r ∷ []))) (count_to i (done ++ r ∷ [])) w
-      line = moved_at a.replies log entries (given_by from m) v.mid D.lines done r later up moved.0
+      channel : (i : ℕ) (k : LinkNo) → sim_link started S i ≡ Some k
+          → (w : Channel) × (at D.channels i ≡ Some w) × (w.link ≡ k) × IsChannelAt (log ++ entries) (a.replies i ++ given_by from m i) (call_payloads 0 (filter_map (call_to i) (done ++ r ∷ []))) (count_to i (done ++ r ∷ [])) w
+      channel = moved_at a.replies log entries (given_by from m) v.mid D.channels done r later up moved.0
 
-      back : (i : ℕ) (w : Line) → at D.lines i ≡ Some w → (k : LinkNo) × (sim_link started S i ≡ Some k)
-      back i w q = let b = moved_back entries (given_by from m i) (at v.mid i) (at D.lines i) w q (moved.0 i) in let c = set_back r.sim v.line _ C.lines v.mid v.set refl i b.0 b.1 in a.back i c.0 c.1
+      back : (i : ℕ) (w : Channel) → at D.channels i ≡ Some w → (k : LinkNo) × (sim_link started S i ≡ Some k)
+      back i w q = let b = moved_back entries (given_by from m i) (at v.mid i) (at D.channels i) w q (moved.0 i) in let c = set_back r.sim v.channel _ C.channels v.mid v.set refl i b.0 b.1 in a.back i c.0 c.1
 
   -- it came of a simulator within the program
   pub refused_within : (log entries : List LogEntry) (risen : Type 0) (answers : List Message) (C D : CrewSeen) (r : Request) (id from : ℕ) (m : Message) (e : SetupFault) → IsAnswered started S rows log answers C → slice_get (setup_requests S) (length answers) ≡ Some r
@@ -273,8 +273,8 @@ module _ (started : ℕ) (S : Scenario) (ranks : List ℕ) (rows : List Turn) wh
 
       links : (i : ℕ) (l : LinkNo) → sim_link started S i ≡ Some l → BeginsWith (messages_heard (heard_on l (log ++ entries))) (answers_to i (setup_requests S) answers ++ kept_of i (record { sim = from; message = m } ∷ []))
       links i l q =
-          let t = (b.between).lines i l q in
+          let t = (b.between).channels i l q in
           subst (BeginsWith (messages_heard (heard_on l (log ++ entries))))
           (b.told i l q ∙ answers_pushed i (setup_requests S) answers r m asked
           ∙ ap (λ (s : ℕ). answers_to i (setup_requests S) answers ++ given_by s m i) (sym v.same_sim) ∙ ap (λ (ms : List Message). answers_to i (setup_requests S) answers ++ ms) (last_given from m i))
-          (line_heard (log ++ entries) (b.replies i) _ _ t.0 l t.2 t.3)
+          (channel_heard (log ++ entries) (b.replies i) _ _ t.0 l t.2 t.3)

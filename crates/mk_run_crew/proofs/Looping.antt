@@ -18,17 +18,17 @@ use Rattle.mk_local.specs.declared.turn.Turn.{Turn}
 use Rattle.mk_local.specs.Calls.{after_call, IsCallReplied}
 use Rattle.mk_local.specs.Kinds.{name_of}
 use Rattle.mk_local.specs.Simulators.{Simulator}
-use Rattle.mk_run_laws.specs.Lines.{Line}
+use Rattle.mk_run_laws.specs.Channels.{Channel}
 use Rattle.mk_run_laws.specs.Handshake.{Request, setup_requests, setup_count, call_to, sim_link}
 use Rattle.mk_setup.specs.declared.fault.SetupFault.{SetupFault}
 use Rattle.mk_setup.specs.declared.fault.SetupFault.TheVariants as fault
-use Rattle.mk_setup.specs.Answers.{IsReady, IsRefused, IsRequested, IsUnready}
+use Rattle.mk_setup.specs.Answers.{IsReady, IsRefused, IsRequested, GivesNoRequest}
 use Rattle.mk_setup.specs.Handshakes.{IsFaultyAfter, IsMade, IsReached, begun}
 use Rattle.mk_setup.specs.Laws.{IsOfReplies, RepliesMake}
 use Rattle.mk_setup.specs.Replies.{after_reply, arrival}
 use Rattle.mk_setup.specs.Requests.{id_before, request_of}
 use Rattle.mk_setup.specs.Seen.{SetupState}
-use Rattle.mk_run_links.specs.Places.{AreOpen, Lines, at}
+use Rattle.mk_run_links.specs.Places.{AreOpen, Channels, at}
 use Rattle.mk_run_local.specs.Made.{first_at}
 use Rattle.mk_run_local.specs.Seen.{sim_at}
 use Rattle.mk_run_crew.specs.declared.halt.Halt.{Halt}
@@ -44,10 +44,10 @@ use Rattle.mk_run_crew.proofs.Placing.{adds_no_more, new_was}
 use Rattle.mk_run_crew.proofs.Requests.{are_replied}
 use Rattle.mk_run_crew.proofs.Simulators.{else_linked, placed_link}
 
--- the lines of a new crew are of open links
-pub new_open : (started : ℕ) (rows : List Turn) (S : Scenario) (open_links : List LinkNo) (C : CrewSeen) → IsNewCrew started rows S open_links C → AreOpen C.lines open_links
+-- the channels of a new crew are of open links
+pub new_open : (started : ℕ) (rows : List Turn) (S : Scenario) (open_links : List LinkNo) (C : CrewSeen) → IsNewCrew started rows S open_links C → AreOpen C.channels open_links
 new_open started rows S open_links C n i w e =
-    let put = ap (λ (ps : List (Option LinkNo)). slice_get ps i) (sym n.places) ∙ new_was C.places i w (ap (λ (L : Lines). at L i) (sym n.lines) ∙ e) in
+    let put = ap (λ (ps : List (Option LinkNo)). slice_get ps i) (sym n.places) ∙ new_was C.places i w (ap (λ (L : Channels). at L i) (sym n.channels) ∙ e) in
     n.are_open i w.link (placed_link started S i w.link put)
 
 module _ (started : ℕ) (S : Scenario) (ranks : List ℕ) (rows : List Turn) (laws : RepliesMake) where
@@ -72,7 +72,7 @@ module _ (started : ℕ) (S : Scenario) (ranks : List ℕ) (rows : List Turn) (l
       )
 
   -- the next request can't be made
-  pub stops : (old new : Option (List LogEntry)) (risen : Type 0) (C : CrewSeen) (U V : SetupState) (e : SetupFault) → GoesSoFar started S ranks rows old new C U → IsUnready U e V
+  pub stops : (old new : Option (List LogEntry)) (risen : Type 0) (C : CrewSeen) (U V : SetupState) (e : SetupFault) → GoesSoFar started S ranks rows old new C U → GivesNoRequest U e V
       → (entries : List LogEntry) × Adds entries old new × IsHalting started S ranks rows entries risen (setup_halt e) C
   stops old new risen C U V e g unready = (
     g.entries,
@@ -108,9 +108,9 @@ module _ (started : ℕ) (S : Scenario) (ranks : List ℕ) (rows : List Turn) (l
     next_linked prepared away = else_linked rows started S prepared sim.0 (subst (λ (X : Scenario). sim.0 < length X.sims) known.scenario q.there)
         (unfirst (first_at rows S sim.0) (filter_map (call_to sim.0) (take (length g.answers) (setup_requests S))) (ap is_some (sym ((g.answered).sims sim.0)) ∙ away))
 
-    -- and a line
-    pub next_line : IsPrepared S (map name_of rows) → is_here C sim.0 ≡ false → (w : Line) × (at C.lines sim.0 ≡ Some w)
-    next_line prepared away = let l = next_linked prepared away in let t = ((g.answered).between).lines sim.0 l.0 l.1 in (t.0, t.1)
+    -- and a channel
+    pub next_channel : IsPrepared S (map name_of rows) → is_here C sim.0 ≡ false → (w : Channel) × (at C.channels sim.0 ≡ Some w)
+    next_channel prepared away = let l = next_linked prepared away in let t = ((g.answered).between).channels sim.0 l.0 l.1 in (t.0, t.1)
 
     -- it was answered
     pub goes_on : (new : Option (List LogEntry)) (entries : List LogEntry) (D : CrewSeen) (V : SetupState) → IsPrepared S (map name_of rows) → Adds entries mid new → Answers sim.0 call id entries C D W V → D.places ≡ C.places → GoesSoFar started S ranks rows old new D V
@@ -160,7 +160,7 @@ module _ (started : ℕ) (S : Scenario) (ranks : List ℕ) (rows : List Turn) (l
 
   module _ (old mid : Option (List LogEntry)) (C : CrewSeen) (U : SetupState) (g : GoesSoFar started S ranks rows old mid C U) (prepared : IsPrepared S (map name_of rows)) where
     pub can_ask : CanAsk C U
-    can_ask sim call id V q = (next_replied old mid C U V sim call id g q, next_line old mid C U V sim call id g q prepared)
+    can_ask sim call id V q = (next_replied old mid C U V sim call id g q, next_channel old mid C U V sim call id g q prepared)
 
     -- it was made
     pub steps_on : (new : Option (List LogEntry)) (entries : List LogEntry) (D : CrewSeen) (V : SetupState) → Adds entries mid new → IsStepped entries C D U V → D.places ≡ C.places → GoesSoFar started S ranks rows old new D V

@@ -1,4 +1,4 @@
--- The places of a crew's links, and the lines there.
+-- The places of a crew's links, and the channels there.
 use Rattle.std.proofs.Common.{◌≡◌, ℕ, ◌+◌, ◌≤◌, ◌<◌, Bool, true, false, List, [], ◌∷◌, ◌++◌, map, Option, Some, None, slice_get, option_map, option_and_then, refl, sym, ap, ◌∙◌, subst, inl, inr, arith, zero, suc}
 use Rattle.std.specs.Prelude.{option_to_list}
 use Rattle.mk_base.specs.declared.LinkNo.{LinkNo}
@@ -10,57 +10,57 @@ use Rattle.mk_outside.specs.Logs.{Adds}
 use Rattle.mk_outside.proofs.OnLogs.{adds_more}
 use Rattle.mk_plan.specs.declared.Message.{Message}
 use Rattle.mk_launch.specs.Starts.{links_in}
-use Rattle.mk_run_laws.specs.Lines.{Line, IsMoved, IsStopped}
-use Rattle.mk_run_laws.specs.Crews.{CrewState, line_at, IsMovedAt, AreMoved, AreStopped, IsRestless}
+use Rattle.mk_run_laws.specs.Channels.{Channel, IsMoved, IsStopped}
+use Rattle.mk_run_laws.specs.Crews.{CrewState, channel_at, IsMovedAt, AreMoved, AreStopped, IsRestless}
 use Rattle.mk_run_laws.proofs.Stepping.{same_or_not}
-use Rattle.mk_run_links.specs.Places.{AreDistinct, AreOpen, IsSet, Lines, at, crew, new_line, new_lines}
+use Rattle.mk_run_links.specs.Places.{AreDistinct, AreOpen, IsSet, Channels, at, crew, new_channel, new_channels}
 use Rattle.mk_run_crew.specs.inner.Placed.{IsPlaced}
 
--- ---- lines that move
+-- ---- channels that move
 
-pub moved_there : (entries : List LogEntry) (given : List Message) (o p : Option Line) (w : Line) → o ≡ Some w → IsMovedAt entries given o p → (v : Line) × (p ≡ Some v) × IsMoved entries given w v
+pub moved_there : (entries : List LogEntry) (given : List Message) (o p : Option Channel) (w : Channel) → o ≡ Some w → IsMovedAt entries given o p → (v : Channel) × (p ≡ Some v) × IsMoved entries given w v
 moved_there entries given None p w e moved = absurd (none_some e)
 moved_there entries given (Some u) None w e moved = absurd moved
-moved_there entries given (Some u) (Some v) w e moved = (v, refl, subst (λ (x : Line). IsMoved entries given x v) (some_same e) moved)
+moved_there entries given (Some u) (Some v) w e moved = (v, refl, subst (λ (x : Channel). IsMoved entries given x v) (some_same e) moved)
 
-pub moved_back : (entries : List LogEntry) (given : List Message) (o p : Option Line) (v : Line) → p ≡ Some v → IsMovedAt entries given o p → (w : Line) × (o ≡ Some w) × (v.link ≡ w.link)
+pub moved_back : (entries : List LogEntry) (given : List Message) (o p : Option Channel) (v : Channel) → p ≡ Some v → IsMovedAt entries given o p → (w : Channel) × (o ≡ Some w) × (v.link ≡ w.link)
 moved_back entries given o None v e moved = absurd (none_some e)
 moved_back entries given None (Some u) v e moved = absurd moved
-moved_back entries given (Some w) (Some u) v e moved = (w, refl, ap (λ (x : Line). x.link) (sym (some_same e)) ∙ moved.link)
+moved_back entries given (Some w) (Some u) v e moved = (w, refl, ap (λ (x : Channel). x.link) (sym (some_same e)) ∙ moved.link)
 
--- a line that was set has the link of before
-pub set_there : (s : ℕ) (w v : Line) (L M : Lines) → IsSet s w v L M → v.link ≡ w.link → (i : ℕ) (u : Line) → at L i ≡ Some u → (x : Line) × (at M i ≡ Some x) × (x.link ≡ u.link)
+-- a channel that was set has the link of before
+pub set_there : (s : ℕ) (w v : Channel) (L M : Channels) → IsSet s w v L M → v.link ≡ w.link → (i : ℕ) (u : Channel) → at L i ≡ Some u → (x : Channel) × (at M i ≡ Some x) × (x.link ≡ u.link)
 set_there s w v L M set same i u e = elim (same_or_not i s) [
-  | inl q ↦ (v, ap (at M) q ∙ set.here, same ∙ ap (λ (x : Line). x.link) (some_same (sym set.there ∙ ap (at L) (sym q) ∙ e)))
+  | inl q ↦ (v, ap (at M) q ∙ set.here, same ∙ ap (λ (x : Channel). x.link) (some_same (sym set.there ∙ ap (at L) (sym q) ∙ e)))
   | inr apart ↦ (u, set.others i apart ∙ e, refl)
 ]
 
-pub set_back : (s : ℕ) (w v : Line) (L M : Lines) → IsSet s w v L M → v.link ≡ w.link → (i : ℕ) (u : Line) → at M i ≡ Some u → (x : Line) × (at L i ≡ Some x) × (u.link ≡ x.link)
+pub set_back : (s : ℕ) (w v : Channel) (L M : Channels) → IsSet s w v L M → v.link ≡ w.link → (i : ℕ) (u : Channel) → at M i ≡ Some u → (x : Channel) × (at L i ≡ Some x) × (u.link ≡ x.link)
 set_back s w v L M set same i u e = elim (same_or_not i s) [
-  | inl q ↦ (w, ap (at L) q ∙ set.there, ap (λ (x : Line). x.link) (some_same (sym e ∙ ap (at M) q ∙ set.here)) ∙ same)
+  | inl q ↦ (w, ap (at L) q ∙ set.there, ap (λ (x : Channel). x.link) (some_same (sym e ∙ ap (at M) q ∙ set.here)) ∙ same)
   | inr apart ↦ (u, sym (set.others i apart) ∙ e, refl)
 ]
 
 -- ---- the places stay
 
-placed_as : (places : List (Option LinkNo)) (L M : Lines) → ((i : ℕ) (u : Line) → at L i ≡ Some u → (x : Line) × (at M i ≡ Some x) × (x.link ≡ u.link)) → IsPlaced places L → IsPlaced places M
+placed_as : (places : List (Option LinkNo)) (L M : Channels) → ((i : ℕ) (u : Channel) → at L i ≡ Some u → (x : Channel) × (at M i ≡ Some x) × (x.link ≡ u.link)) → IsPlaced places L → IsPlaced places M
 placed_as places L M on p = record {
   distinct = p.distinct;
-  line = λ i l e. let w = p.line i l e in let v = on i w.0 w.1 in (v.0, v.1, v.2 ∙ w.2);
+  channel = λ i l e. let w = p.channel i l e in let v = on i w.0 w.1 in (v.0, v.1, v.2 ∙ w.2);
 }
 
-pub placed_set : (places : List (Option LinkNo)) (s : ℕ) (w v : Line) (L M : Lines) → IsSet s w v L M → v.link ≡ w.link → IsPlaced places L → IsPlaced places M
+pub placed_set : (places : List (Option LinkNo)) (s : ℕ) (w v : Channel) (L M : Channels) → IsSet s w v L M → v.link ≡ w.link → IsPlaced places L → IsPlaced places M
 placed_set places s w v L M set same = placed_as places L M (set_there s w v L M set same)
 
-pub placed_moved : (places : List (Option LinkNo)) (entries : List LogEntry) (given : ℕ → List Message) (L M : Lines) → AreMoved entries given (crew L) (crew M) → IsPlaced places L → IsPlaced places M
+pub placed_moved : (places : List (Option LinkNo)) (entries : List LogEntry) (given : ℕ → List Message) (L M : Channels) → AreMoved entries given (crew L) (crew M) → IsPlaced places L → IsPlaced places M
 placed_moved places entries given L M moved = placed_as places L M (λ i u e. let t = moved_there entries (given i) (at L i) (at M i) u e (moved i) in (t.0, t.1, t.2.link))
 
 -- ---- open links
 
-pub open_set : (s : ℕ) (w v : Line) (L M : Lines) (open_links : List LinkNo) → IsSet s w v L M → v.link ≡ w.link → AreOpen L open_links → AreOpen M open_links
+pub open_set : (s : ℕ) (w v : Channel) (L M : Channels) (open_links : List LinkNo) → IsSet s w v L M → v.link ≡ w.link → AreOpen L open_links → AreOpen M open_links
 open_set s w v L M open_links set same all i u e = let b = set_back s w v L M set same i u e in subst (λ (k : LinkNo). IsIn k open_links) (sym b.2) (all i b.0 b.1)
 
-pub open_moved : (entries : List LogEntry) (given : ℕ → List Message) (L M : Lines) (open_links : List LinkNo) → AreMoved entries given (crew L) (crew M) → AreOpen L open_links → AreOpen M open_links
+pub open_moved : (entries : List LogEntry) (given : ℕ → List Message) (L M : Channels) (open_links : List LinkNo) → AreMoved entries given (crew L) (crew M) → AreOpen L open_links → AreOpen M open_links
 open_moved entries given L M open_links moved all i u e =
     let b = moved_back entries (given i) (at L i) (at M i) u e (moved i) in subst (λ (k : LinkNo). IsIn k open_links) (sym b.2) (all i b.0 b.1)
 
@@ -69,32 +69,32 @@ only l None h = absurd h
 only l (Some m) (inl e) = ap Some (sym e)
 only l (Some m) (inr h) = absurd h
 
--- the links that have a place are open where the lines' are
-pub places_open : (places : List (Option LinkNo)) (L : Lines) (open_links : List LinkNo) → IsPlaced places L → AreOpen L open_links → Each (λ (link : LinkNo). IsIn link open_links) (links_in places)
+-- the links that have a place are open where the channels' are
+pub places_open : (places : List (Option LinkNo)) (L : Channels) (open_links : List LinkNo) → IsPlaced places L → AreOpen L open_links → Each (λ (link : LinkNo). IsIn link open_links) (links_in places)
 places_open places L open_links p all = each_in (λ (link : LinkNo). IsIn link open_links) (links_in places) (λ l there.
     let o = in_flat_map option_to_list l places there in
     let i = in_at o.0 places o.1 in
-    let w = p.line i.0 l (i.1 ∙ ap Some (only l o.0 o.2)) in
+    let w = p.channel i.0 l (i.1 ∙ ap Some (only l o.0 o.2)) in
     subst (λ (k : LinkNo). IsIn k open_links) w.2 (all i.0 w.0 w.1))
 
--- ---- lines that begin
+-- ---- channels that begin
 
 get_map : {X Y : Type 0} (f : X → Y) (xs : List X) (i : ℕ) → slice_get (map f xs) i ≡ option_map f (slice_get xs i)
 get_map f [] i = refl
 get_map f (x ∷ xs) zero = refl
 get_map f (x ∷ xs) (suc i) = get_map f xs i
 
-pub new_at : (links : List (Option LinkNo)) (i : ℕ) (l : LinkNo) → slice_get links i ≡ Some (Some l) → at (new_lines links) i ≡ Some (new_line l)
-new_at links i l e = ap (option_and_then (λ (o : Option Line). o)) (get_map (option_map new_line) links i ∙ ap (option_map (option_map new_line)) e)
+pub new_at : (links : List (Option LinkNo)) (i : ℕ) (l : LinkNo) → slice_get links i ≡ Some (Some l) → at (new_channels links) i ≡ Some (new_channel l)
+new_at links i l e = ap (option_and_then (λ (o : Option Channel). o)) (get_map (option_map new_channel) links i ∙ ap (option_map (option_map new_channel)) e)
 
-pub new_was : (links : List (Option LinkNo)) (i : ℕ) (v : Line) → at (new_lines links) i ≡ Some v → slice_get links i ≡ Some (Some v.link)
+pub new_was : (links : List (Option LinkNo)) (i : ℕ) (v : Channel) → at (new_channels links) i ≡ Some v → slice_get links i ≡ Some (Some v.link)
 new_was [] i v e = absurd (none_some e)
 new_was (None ∷ links) zero v e = absurd (none_some e)
-new_was (Some l ∷ links) zero v e = ap (λ (o : Option Line). Some (option_map (λ (w : Line). w.link) o)) e
+new_was (Some l ∷ links) zero v e = ap (λ (o : Option Channel). Some (option_map (λ (w : Channel). w.link) o)) e
 new_was (p ∷ links) (suc i) v e = new_was links i v e
 
-pub new_placed : (links : List (Option LinkNo)) → AreDistinct links → IsPlaced links (new_lines links)
-new_placed links distinct = record { distinct = distinct; line = λ i l e. (new_line l, new_at links i l e, refl) }
+pub new_placed : (links : List (Option LinkNo)) → AreDistinct links → IsPlaced links (new_channels links)
+new_placed links distinct = record { distinct = distinct; channel = λ i l e. (new_channel l, new_at links i l e, refl) }
 
 -- ---- a count that rises
 

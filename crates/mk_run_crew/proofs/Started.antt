@@ -96,7 +96,7 @@ few_started Mem sims old new put all = elim all.2 [
       (omega (arith, count), omega (arith, count, few, less))
 ]
 
--- before any line is there
+-- before any channel is there
 pub fewer_started : (S : Scenario) (h : Halt) (risen : Type 0) (old new : ℕ) → (h ≡ halt.Mem) ⊎ ((h ≡ halt.Fleet) × risen) → (old ≤ new) × (new ≤ old + length S.sims) → StartsLinks S old new (IsOfStart h [])
 fewer_started S h risen old new why count = record { some = count.0; most = count.1; all = λ none. absurd (none (refl, elim why [ inl q ↦ inr q | inr t ↦ inl t.0 ])) }
 

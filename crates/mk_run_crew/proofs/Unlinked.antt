@@ -21,18 +21,18 @@ use Rattle.mk_launch.specs.Starts.{link_count, links_in, place_of, places}
 use Rattle.mk_local.specs.declared.turn.Turn.{Turn}
 use Rattle.mk_local.specs.Calls.{IsCallReplied}
 use Rattle.mk_local.specs.Kinds.{name_of}
-use Rattle.mk_run_laws.specs.Lines.{Line}
-use Rattle.mk_run_laws.specs.Crews.{AreStopped, IsRestless, line_at}
+use Rattle.mk_run_laws.specs.Channels.{Channel}
+use Rattle.mk_run_laws.specs.Crews.{AreStopped, IsRestless, channel_at}
 use Rattle.mk_run_laws.specs.Handshake.{has_link, is_local, is_within, setup_requests, sim_link}
 use Rattle.mk_run_laws.proofs.Stepping.{not_empty}
 use Rattle.mk_setup.specs.declared.fault.SetupFault.{SetupFault}
 use Rattle.mk_setup.specs.declared.fault.SetupFault.TheVariants as fault
-use Rattle.mk_setup.specs.Answers.{IsReady, IsRequested, IsUnready}
+use Rattle.mk_setup.specs.Answers.{IsReady, IsRequested, GivesNoRequest}
 use Rattle.mk_setup.specs.Handshakes.{begun}
 use Rattle.mk_setup.specs.Laws.{IsOfReplies, RepliesMake}
 use Rattle.mk_setup.specs.Replies.{arrival}
 use Rattle.mk_setup.specs.Seen.{SetupState}
-use Rattle.mk_run_links.specs.Places.{Lines, at, new_lines}
+use Rattle.mk_run_links.specs.Places.{Channels, at, new_channels}
 use Rattle.mk_run_crew.specs.declared.halt.Halt.{Halt}
 use Rattle.mk_run_crew.specs.inner.Asking.{Answers, AnswersNot, CanAskWithin, GoesSoFar, IsHalting, IsNewCrew, IsStepped, StepsNot, StepsTo, setup_halt}
 use Rattle.mk_run_crew.specs.Begun.{HasBegun}
@@ -96,19 +96,19 @@ within_low S all i low = here_in S.sims i all low
 pub unplaced : (started : ℕ) (S : Scenario) → is_wholly_within S ≡ true → no_links S.sims ≡ places started S.sims
 unplaced started S all = placed_in started S.sims all
 
--- they have no lines
-pub lineless : (sims : List SimPart) (i : ℕ) → at (new_lines (no_links sims)) i ≡ None
-lineless [] i = refl
-lineless (s ∷ sims) zero = refl
-lineless (s ∷ sims) (suc i) = lineless sims i
+-- they have no channels
+pub no_channels : (sims : List SimPart) (i : ℕ) → at (new_channels (no_links sims)) i ≡ None
+no_channels [] i = refl
+no_channels (s ∷ sims) zero = refl
+no_channels (s ∷ sims) (suc i) = no_channels sims i
 
 -- nor links
 pub linkless_places : (sims : List SimPart) → links_in (no_links sims) ≡ []
 linkless_places [] = refl
 linkless_places (s ∷ sims) = linkless_places sims
 
--- a crew without lines says nothing when it is stopped
-pub silently : (risen : Type 0) (C : CrewSeen) → ((i : ℕ) → at C.lines i ≡ None) → AreStopped [] risen (crew_of C)
+-- a crew without channels says nothing when it is stopped
+pub silently : (risen : Type 0) (C : CrewSeen) → ((i : ℕ) → at C.channels i ≡ None) → AreStopped [] risen (crew_of C)
 silently risen C none i w there = absurd (none_some (sym (none i) ∙ there))
 
 pub restless : IsRestless []
@@ -144,7 +144,7 @@ module _ (S : Scenario) (ranks : List ℕ) (rows : List Turn) (laws : RepliesMak
       let t = ends started S ranks rows laws (Some []) (Some []) C U V P (g started) ready in
       subst (λ (log : List LogEntry). HasBegun started S ranks rows log C P) (nothing_added t.0 t.1) t.2
 
-  pub stops_within : (C : CrewSeen) (U V : SetupState) (e : SetupFault) → GoesWithin S ranks rows C U → IsUnready U e V → (started : ℕ) → IsHalting started S ranks rows [] ⊥ (setup_halt e) C
+  pub stops_within : (C : CrewSeen) (U V : SetupState) (e : SetupFault) → GoesWithin S ranks rows C U → GivesNoRequest U e V → (started : ℕ) → IsHalting started S ranks rows [] ⊥ (setup_halt e) C
   stops_within C U V e g unready started =
       let t = stops started S ranks rows laws (Some []) (Some []) ⊥ C U V e (g started) unready in
       subst (λ (log : List LogEntry). IsHalting started S ranks rows log ⊥ (setup_halt e) C) (nothing_added t.0 t.1) t.2
@@ -211,5 +211,5 @@ module _ (S : Scenario) (ranks : List ℕ) (rows : List Turn) (laws : RepliesMak
 -- ---- what is left behind it
 
 -- the handshake ended early
-pub halted_within : (started : ℕ) (S : Scenario) (ranks : List ℕ) (rows : List Turn) (faults new_faults : ℕ) (h : Halt) (C : CrewSeen) → ((i : ℕ) → at C.lines i ≡ None) → IsHalting started S ranks rows [] ⊥ h C → HasHalted started S ranks rows [] (HasRisen faults new_faults) h
+pub halted_within : (started : ℕ) (S : Scenario) (ranks : List ℕ) (rows : List Turn) (faults new_faults : ℕ) (h : Halt) (C : CrewSeen) → ((i : ℕ) → at C.channels i ≡ None) → IsHalting started S ranks rows [] ⊥ h C → HasHalted started S ranks rows [] (HasRisen faults new_faults) h
 halted_within started S ranks rows faults new_faults h C none g = halted started S ranks rows [] [] ⊥ (HasRisen faults new_faults) h C g (silently (HasRisen faults new_faults) C none) restless tt (λ e. absurd e)

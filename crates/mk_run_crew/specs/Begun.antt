@@ -9,8 +9,8 @@ use Rattle.mk_plan.specs.Plans.{IsValidPlan, first_id, sim_count}
 use Rattle.mk_scenario.specs.declared.parts.Scenario.{Scenario}
 use Rattle.mk_launch.specs.Starts.{places}
 use Rattle.mk_local.specs.declared.turn.Turn.{Turn}
-use Rattle.mk_run_laws.specs.Lines.{Line}
-use Rattle.mk_run_laws.specs.Crews.{line_at}
+use Rattle.mk_run_laws.specs.Channels.{Channel}
+use Rattle.mk_run_laws.specs.Crews.{channel_at}
 use Rattle.mk_run_laws.specs.Handshake.{setup_requests, setup_count, sim_link}
 use Rattle.mk_run_laws.specs.Rests.{IsWellInSetup}
 use Rattle.mk_run_laws.specs.Running.{SetupReplies, IsBegun}
@@ -43,7 +43,7 @@ pub record HasBegun (started : ℕ) (S : Scenario) (ranks : List ℕ) (rows : Li
   pub first : (i : ℕ) → i < length S.sims → first_id P i ≡ setup_count S i
   pub within : (i : ℕ) → sim_at (within_of C) i ≡ setups.made rows S i
   pub known : AreOf rows (within_of C)
-  pub back : (i : ℕ) (w : Line) → line_at (crew_of C) i ≡ Some w → (l : LinkNo)
+  pub back : (i : ℕ) (w : Channel) → channel_at (crew_of C) i ≡ Some w → (l : LinkNo)
       × (sim_link started S i ≡ Some l)
   pub places : C.places ≡ places started S.sims
   pub halt : C.halt ≡ None

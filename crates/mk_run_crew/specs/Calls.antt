@@ -8,22 +8,22 @@ use Rattle.mk_plan.specs.declared.Message.{Message}
 use Rattle.mk_plan.specs.Sequential.{takes_id}
 use Rattle.mk_local.specs.Replies.{item_reply, after_item}
 use Rattle.mk_local.specs.Simulators.{Simulator}
-use Rattle.mk_run_laws.specs.Lines.{Line}
-use Rattle.mk_run_laws.specs.Crews.{line_at, IsSentOnLink, IsSentWithin, IsHeard, IsUnheard}
+use Rattle.mk_run_laws.specs.Channels.{Channel}
+use Rattle.mk_run_laws.specs.Crews.{channel_at, IsSentOnLink, IsSentWithin, IsHeard, IsUnheard}
 use Rattle.mk_run_links.specs.declared.answers.LinkHalt.{LinkHalt}
 use Rattle.mk_run_links.specs.declared.answers.LinkHalt.TheVariants as link_halt
 use Rattle.mk_run_links.specs.Crews.{ArePending, IsLengthOf}
 use Rattle.mk_run_links.specs.Entries.{AreOfLinks}
 use Rattle.mk_run_links.specs.Halts.{ShowsHalt}
-use Rattle.mk_run_links.specs.Places.{IsLineLink, IsLinked}
+use Rattle.mk_run_links.specs.Places.{IsChannelLink, IsLinked}
 use Rattle.mk_run_local.specs.Seen.{sim_at}
 use Rattle.mk_run_crew.specs.declared.halt.Halt.{Halt}
 use Rattle.mk_run_crew.specs.declared.halt.Halt.TheVariants as halt
 use Rattle.mk_run_crew.specs.Seen.{CrewSeen, crew_of, within_of, is_here}
 
--- simulator i has a link, and the id is the next one of its line where the item takes one
+-- simulator i has a link, and the id is the next one of its channel where the item takes one
 abbrev pub HasNext : Item → ℕ → ℕ → CrewSeen → Type 0
-HasNext item id i C = (w : Line) × (line_at (crew_of C) i ≡ Some w)
+HasNext item id i C = (w : Channel) × (channel_at (crew_of C) i ≡ Some w)
     × (takes_id item ≡ true → id ≡ w.next)
 
 -- the reply of simulator s, within the program, to the item is kept, and that simulator has come on
@@ -44,7 +44,7 @@ pub record SendsAs (s : ℕ) (item : Item) (id : ℕ) (old new : CrewSeen) : Typ
 
 -- the payload of the item to simulator s is allowed, where it has a link
 abbrev pub IsAllowed : ℕ → Item → CrewSeen → Type 0
-IsAllowed s item C = is_here C s ≡ false → (n : ℕ) × IsLengthOf n item s C.lines × (n ≤ limit)
+IsAllowed s item C = is_here C s ≡ false → (n : ℕ) × IsLengthOf n item s C.channels × (n ≤ limit)
 
 -- why an item wasn't sent: the payload of so many bytes to this simulator's link is more than a
 -- frame may have, or memory was wanting
@@ -55,12 +55,12 @@ ShowsUnsent (halt.Gone sim) s item C = ⊥
 ShowsUnsent (halt.Garbled sim test) s item C = ⊥
 ShowsUnsent (halt.LongFrame sim n) s item C = ⊥
 ShowsUnsent (halt.LongItem sim n) s item C = (sim.0 ≡ s) × (is_here C s ≡ false)
-    × IsLengthOf n item s C.lines × (limit < n)
+    × IsLengthOf n item s C.channels × (limit < n)
 ShowsUnsent halt.Mem s item C = ⊤
 
 -- a reply is kept, or there is a link
 abbrev pub CanHear : CrewSeen → Type 0
-CanHear C = C.kept ≡ [] → (i : ℕ) × IsLinked i C.lines
+CanHear C = C.kept ≡ [] → (i : ℕ) × IsLinked i C.channels
 
 -- the halt that the links' halt is
 abbrev pub halt_of : LinkHalt → Halt
@@ -75,24 +75,24 @@ pub record HearsNothing (h : Halt) (entries : List LogEntry) (old new : CrewSeen
   pub why : LinkHalt
   pub is : h ≡ halt_of why
   pub unheard : IsUnheard entries (crew_of old) (crew_of new)
-  pub shown : ShowsHalt why entries new.lines
+  pub shown : ShowsHalt why entries new.channels
 
 -- a message was heard; or nothing was
 abbrev pub HearsAs : Result (SimNo × Message) Halt → List LogEntry → CrewSeen → CrewSeen → Type 0
 HearsAs (Ok p) entries old new = IsHeard entries p.0.0 p.1 (crew_of old) (crew_of new)
 HearsAs (Err h) entries old new = HearsNothing h entries old new
 
--- by reads and writes on the lines' links alone a message was heard; or nothing was, for this
+-- by reads and writes on the channels' links alone a message was heard; or nothing was, for this
 -- cause; or no reply was kept, and each link was looked at, on which nothing had come and all is
 -- said or the last write took nothing
 abbrev pub TriesAs : Result (Option (SimNo × Message)) Halt → List LogEntry → CrewSeen → CrewSeen
     → Type 0
 TriesAs (Ok (Some p)) entries old new = IsHeard entries p.0.0 p.1 (crew_of old) (crew_of new)
-    × AreOfLinks (IsLineLink old.lines) entries
+    × AreOfLinks (IsChannelLink old.channels) entries
 TriesAs (Ok None) entries old new = IsUnheard entries (crew_of old) (crew_of new)
-    × AreOfLinks (IsLineLink old.lines) entries × ArePending entries new.lines
+    × AreOfLinks (IsChannelLink old.channels) entries × ArePending entries new.channels
 TriesAs (Err h) entries old new = HearsNothing h entries old new
-    × AreOfLinks (IsLineLink old.lines) entries
+    × AreOfLinks (IsChannelLink old.channels) entries
 
 -- the halt of the links that is answered again after this one: each but want of memory
 abbrev pub lasting_halt : Halt → Option LinkHalt

@@ -5,21 +5,21 @@ use Rattle.mk_plan.specs.Journals.{Arrival}
 use Rattle.mk_local.specs.Simulators.{Simulator}
 use Rattle.mk_run_laws.specs.Crews.{CrewState}
 use Rattle.mk_run_links.specs.declared.answers.LinkHalt.{LinkHalt}
-use Rattle.mk_run_links.specs.Places.{Lines}
+use Rattle.mk_run_links.specs.Places.{Channels}
 use Rattle.mk_run_local.specs.Seen.{WithinState, sim_at}
 
--- the places of its links, their lines, the simulators within the program, the replies of theirs
+-- the places of its links, their channels, the simulators within the program, the replies of theirs
 -- that are kept, and the halt that it answers again
 pub record CrewSeen : Type 0 where
   pub places : List (Option LinkNo)
-  pub lines : Lines
+  pub channels : Channels
   pub sims : List (Option Simulator)
   pub kept : List Arrival
   pub halt : Option LinkHalt
 
--- its lines and the replies that are kept
+-- its channels and the replies that are kept
 abbrev pub crew_of : CrewSeen → CrewState
-crew_of C = record { lines = C.lines; kept = C.kept }
+crew_of C = record { channels = C.channels; kept = C.kept }
 
 -- its simulators within the program
 abbrev pub within_of : CrewSeen → WithinState

@@ -12,10 +12,10 @@ ghost use Rattle.mk_launch.specs.Starts as starts;
 ghost use Rattle.mk_local.specs.Calls.{IsCallReplied};
 ghost use Rattle.mk_local.specs.Kinds.{name_of};
 ghost use Rattle.mk_local.specs.Registries.{rows_in};
-ghost use Rattle.mk_run_laws.specs.Lines.{Line, queued};
+ghost use Rattle.mk_run_laws.specs.Channels.{Channel, queued};
 ghost use Rattle.mk_run_laws.specs.Payloads.{IsFramed};
 ghost use Rattle.mk_run_links.specs.Entries.{IsClockless};
-ghost use Rattle.mk_run_links.specs.Places.{AreOpen, AreDistinct, IsLinked, IsSet, at, new_lines, without_all};
+ghost use Rattle.mk_run_links.specs.Places.{AreOpen, AreDistinct, IsLinked, IsSet, at, new_channels, without_all};
 ghost use Rattle.mk_setup.specs.Handshakes.{begun};
 ghost use Rattle.mk_setup.specs.Ranked.{AreRanksOf};
 ghost use Rattle.mk_run_local.specs.Seen.{AreOf, new_within};
@@ -28,7 +28,7 @@ ghost use Rattle.mk_run_crew.specs.Seen.{is_here};
 ghost use Rattle.mk_run_crew.specs.declared.halt.Halt.TheVariants as halts;
 
 use crate::crew::{Crew, unsent};
-use crate::halt::{Halt, halt_of};
+use crate::halt::Halt;
 use mk_base::{LinkNo, List, Mem, SimNo};
 use mk_launch::{StartFault, start_all};
 use mk_local::Registry;
@@ -93,7 +93,7 @@ fn start<F: Fleet>(
     }
 }
 
-// The lines of links at these places, and the simulators within the program, before any request.
+// The channels of links at these places, and the simulators within the program, before any request.
 fn make_links(
     alloc: Global,
     scenario: &Scenario,
@@ -104,7 +104,7 @@ fn make_links(
     requires few { length places.now < 2 ^ 32 }
     requires distinct { AreDistinct places.now }
     ensures links { IfOk result (λ r. r.0
-        ≡ record { lines = new_lines places.now; halt = None }) }
+        ≡ record { channels = new_channels places.now; halt = None }) }
     ensures within { IfOk result (λ r. r.1 ≡ new_within (rows_in kinds.now) scenario.now) }
     ensures known { IfOk result (λ r. AreOf (rows_in kinds.now) r.1) }
 {
@@ -126,7 +126,7 @@ pub fn new_crew(
     requires prepared { IsPrepared scenario (map name_of (rows_in kinds.now)) }
     requires placed { (started : ℕ) × (places ≡ starts.places started scenario.sims) }
     ensures places { IfOk result (λ r. r.0.places ≡ places) }
-    ensures lines { IfOk result (λ r. r.0.lines ≡ new_lines places) }
+    ensures channels { IfOk result (λ r. r.0.channels ≡ new_channels places) }
     ensures new { IfOk result (λ r. (started : ℕ) → (old open_links : List LinkNo)
         → places ≡ starts.places started scenario.sims → open_links ≡ old ++ links_in places
         → IsNewCrew started (rows_in kinds.now) r.1.scenario open_links r.0) }
@@ -158,11 +158,11 @@ fn queue_call(
     call: &Call,
     id: u64,
 ) -> Result<(), Halt>
-    requires linked { IsLinked sim.0 links.old.lines }
+    requires linked { IsLinked sim.0 links.old.channels }
     requires range { is_call_in_range call.now ≡ true }
-    ensures ok { OnOk result ((w : Line)
-        × IsSet sim.0 w (queued (call_text id call.now) (id + 1) w) links.old.lines
-        links.new.lines) }
+    ensures ok { OnOk result ((w : Channel)
+        × IsSet sim.0 w (queued (call_text id call.now) (id + 1) w) links.old.channels
+        links.new.channels) }
     ensures framed { OnOk result (IsFramed (call_text id call.now)) }
     ensures why { IfErr result (λ h. IsUnqueued h sim.0 call.now id) }
     ensures err { OnErr result (links.new ≡ links.old) }
@@ -192,8 +192,8 @@ impl Crew {
         id: u64,
     ) -> Result<(SimNo, Message), Halt>
         requires away { is_here self.old sim.0 ≡ false }
-        requires linked { (w : Line) × (at self.old.lines sim.0 ≡ Some w) }
-        requires open { AreOpen self.old.lines (F.open_links fleet.old) }
+        requires linked { (w : Channel) × (at self.old.channels sim.0 ≡ Some w) }
+        requires open { AreOpen self.old.channels (F.open_links fleet.old) }
         requires range { is_call_in_range call.now ≡ true }
         requires going { self.old.halt ≡ None }
         ensures count { F.faults fleet.old ≤ F.faults fleet.new }
@@ -202,7 +202,7 @@ impl Crew {
         ensures same_count { F.started fleet.new ≡ F.started fleet.old }
         ensures same_links { F.open_links fleet.new ≡ F.open_links fleet.old }
         ensures same_places { self.new.places ≡ self.old.places }
-        ensures open { AreOpen self.new.lines (F.open_links fleet.new) }
+        ensures open { AreOpen self.new.channels (F.open_links fleet.new) }
         ensures ok { IfOk result (λ r. (entries : List LogEntry)
             × Adds entries (F.log fleet.old) (F.log fleet.new)
             × AsksOnLink sim.0 call.now id r.0.0 r.1 entries self.old self.new) }
@@ -215,7 +215,7 @@ impl Crew {
         }
         match self.links.hear(rt, self.alloc, fleet) {
             Ok(heard) => Ok(heard),
-            Err(why) => Err(halt_of(why)),
+            Err(why) => Err(Halt::from(why)),
         }
     }
 
@@ -229,9 +229,9 @@ impl Crew {
         call: &Call,
         id: u64,
     ) -> Result<(SimNo, Message), Halt>
-        requires linked { is_here self.old sim.0 ≡ false → (w : Line)
-            × (at self.old.lines sim.0 ≡ Some w) }
-        requires open { AreOpen self.old.lines (F.open_links fleet.old) }
+        requires linked { is_here self.old sim.0 ≡ false → (w : Channel)
+            × (at self.old.channels sim.0 ≡ Some w) }
+        requires open { AreOpen self.old.channels (F.open_links fleet.old) }
         requires replied { IsCallReplied call.now }
         requires range { is_call_in_range call.now ≡ true }
         requires going { self.old.halt ≡ None }
@@ -241,7 +241,7 @@ impl Crew {
         ensures same_count { F.started fleet.new ≡ F.started fleet.old }
         ensures same_links { F.open_links fleet.new ≡ F.open_links fleet.old }
         ensures same_places { self.new.places ≡ self.old.places }
-        ensures open { AreOpen self.new.lines (F.open_links fleet.new) }
+        ensures open { AreOpen self.new.channels (F.open_links fleet.new) }
         ensures ok { IfOk result (λ r. (entries : List LogEntry)
             × Adds entries (F.log fleet.old) (F.log fleet.new)
             × Asks sim.0 call.now id r.0.0 r.1 entries self.old self.new) }
@@ -267,9 +267,9 @@ impl Crew {
         call: &Call,
         id: u64,
     ) -> Result<(), Halt>
-        requires linked { is_here self.old sim.0 ≡ false → (w : Line)
-            × (at self.old.lines sim.0 ≡ Some w) }
-        requires open { AreOpen self.old.lines (F.open_links fleet.old) }
+        requires linked { is_here self.old sim.0 ≡ false → (w : Channel)
+            × (at self.old.channels sim.0 ≡ Some w) }
+        requires open { AreOpen self.old.channels (F.open_links fleet.old) }
         requires replied { IsCallReplied call.now }
         requires range { is_call_in_range call.now ≡ true }
         requires going { self.old.halt ≡ None }
@@ -277,7 +277,7 @@ impl Crew {
         ensures same_count { F.started fleet.new ≡ F.started fleet.old }
         ensures same_links { F.open_links fleet.new ≡ F.open_links fleet.old }
         ensures same_places { self.new.places ≡ self.old.places }
-        ensures open { AreOpen self.new.lines (F.open_links fleet.new) }
+        ensures open { AreOpen self.new.channels (F.open_links fleet.new) }
         ensures ok { OnOk result ((entries : List LogEntry)
             × Adds entries (F.log fleet.old) (F.log fleet.new)
             × Answers sim.0 call.now id entries self.old self.new setup.old setup.new) }
@@ -301,7 +301,7 @@ impl Crew {
         fleet: &mut F,
         setup: &mut Setup,
     ) -> Result<Option<Plan>, Halt>
-        requires open { AreOpen self.old.lines (F.open_links fleet.old) }
+        requires open { AreOpen self.old.channels (F.open_links fleet.old) }
         requires going { self.old.halt ≡ None }
         requires resting { setup.old.asked ≡ false }
         requires next { CanAsk self.old setup.old }
@@ -309,7 +309,7 @@ impl Crew {
         ensures same_count { F.started fleet.new ≡ F.started fleet.old }
         ensures same_links { F.open_links fleet.new ≡ F.open_links fleet.old }
         ensures same_places { self.new.places ≡ self.old.places }
-        ensures open { AreOpen self.new.lines (F.open_links fleet.new) }
+        ensures open { AreOpen self.new.channels (F.open_links fleet.new) }
         ensures ok { IfOk result (λ plan. (entries : List LogEntry)
             × Adds entries (F.log fleet.old) (F.log fleet.new)
             × StepsTo plan entries self.old self.new setup.old setup.new) }
@@ -349,7 +349,7 @@ impl Crew {
         ensures same_count { F.started fleet.new ≡ F.started fleet.old }
         ensures same_links { F.open_links fleet.new ≡ F.open_links fleet.old }
         ensures same_places { self.new.places ≡ self.old.places }
-        ensures open { AreOpen self.new.lines (F.open_links fleet.new) }
+        ensures open { AreOpen self.new.channels (F.open_links fleet.new) }
         ensures ok { IfOk result (λ P. (started : ℕ)
             → IsNewCrew started (rows_in kinds.now) setup.old.scenario
             (F.open_links fleet.old) self.old
@@ -391,7 +391,7 @@ impl Crew {
         ensures same_count { F.started fleet.new ≡ F.started fleet.old }
         ensures same_links { OnOk result (F.open_links fleet.new ≡ F.open_links fleet.old) }
         ensures same_places { IfOk result (λ r. r.0.places ≡ self.places) }
-        ensures open { IfOk result (λ r. AreOpen r.0.lines (F.open_links fleet.new)) }
+        ensures open { IfOk result (λ r. AreOpen r.0.channels (F.open_links fleet.new)) }
         ensures ok { IfOk result (λ r. (started : ℕ)
             → IsNewCrew started (rows_in kinds.now) setup.scenario (F.open_links fleet.old) self
             → (entries : List LogEntry) × Adds entries (F.log fleet.old) (F.log fleet.new)
@@ -422,7 +422,7 @@ impl Crew {
     /// Starts the simulators of a prepared scenario with these ranks, and makes the handshake with each: `init`, `create` for
     /// each group, `setup_done`. The plan is made of their replies.
     ///
-    /// At a halt each link that was started has been stopped, if its line was there, and closed.
+    /// At a halt each link that was started has been stopped, if its channel was there, and closed.
     pub fn begin<F: Fleet, R: Wait>(
         rt: &R,
         alloc: Global,
@@ -444,7 +444,7 @@ impl Crew {
         ensures others { IfOk result
             (λ r. AreNumbered (F.started fleet.old) (F.open_links fleet.old)
             → without_all (links_in r.0.places) (F.open_links fleet.new) ≡ F.open_links fleet.old) }
-        ensures open { IfOk result (λ r. AreOpen r.0.lines (F.open_links fleet.new)) }
+        ensures open { IfOk result (λ r. AreOpen r.0.channels (F.open_links fleet.new)) }
         ensures halted { IfErr result (λ h. (entries : List LogEntry)
             × Adds entries (F.log fleet.old) (F.log fleet.new)
             × HasHalted (F.started fleet.old) scenario ranks (rows_in kinds.now) entries

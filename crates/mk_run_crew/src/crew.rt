@@ -10,7 +10,7 @@ ghost use Rattle.mk_local.specs.Replies.{IsItemReplied};
 ghost use Rattle.mk_run_laws.specs.Crews.{AreStopped, IsHeard, IsRestless};
 ghost use Rattle.mk_run_links.specs.declared.answers.LinkHalt.{LinkHalt};
 ghost use Rattle.mk_run_links.specs.Entries.{AreOn};
-ghost use Rattle.mk_run_links.specs.Places.{AreOpen, IsLineLink, without_all};
+ghost use Rattle.mk_run_links.specs.Places.{AreOpen, IsChannelLink, without_all};
 ghost use Rattle.mk_plan.specs.Journals.{Arrival};
 ghost use Rattle.mk_run_local.specs.Calls.{IsFitSuccess};
 ghost use Rattle.mk_run_local.specs.Seen.{AreOf};
@@ -18,7 +18,7 @@ ghost use Rattle.mk_run_crew.specs.Calls.{CanHear, HasNext, HearsAs, IsAllowed, 
 ghost use Rattle.mk_run_crew.specs.inner.Calls.{unsent};
 ghost use Rattle.mk_run_crew.specs.Seen.{crew_of, is_here, within_of};
 
-use crate::halt::{Halt, halt_of};
+use crate::halt::Halt;
 use mk_base::{LinkNo, List, SimNo};
 use mk_local::Registry;
 use mk_outside::Fleet;
@@ -52,13 +52,13 @@ impl Model for Crew {
 
     ghost view = { λ a. record {
       places = a.places;
-      lines = a.links.lines;
+      channels = a.links.channels;
       sims = a.within.sims;
       kept = a.within.kept;
       halt = a.links.halt;
     } };
 
-    ghost invariant = { λ a. IsPlaced a.places a.links.lines };
+    ghost invariant = { λ a. IsPlaced a.places a.links.channels };
 }
 
 // The links' refusal of an item.
@@ -115,7 +115,7 @@ impl Crew {
         rt: &R,
         fleet: &mut F,
     ) -> Result<(SimNo, Message), Halt>
-        requires open { AreOpen self.old.lines (F.open_links fleet.old) }
+        requires open { AreOpen self.old.channels (F.open_links fleet.old) }
         requires some { CanHear self.old }
         ensures count { F.faults fleet.old ≤ F.faults fleet.new }
         ensures cause { self.old.halt ≡ None → result ≡ Err Halt.Fleet
@@ -134,24 +134,24 @@ impl Crew {
         ensures heard { self.old.halt ≡ None → (entries : List LogEntry)
             × Adds entries (F.log fleet.old) (F.log fleet.new)
             × HearsAs result entries self.old self.new
-            × AreOn (IsLineLink self.old.lines) entries }
+            × AreOn (IsChannelLink self.old.channels) entries }
     {
         if let Some(why) = self.links.halt() {
-            return Err(halt_of(why));
+            return Err(Halt::from(why));
         }
         if let Some(heard) = self.within.take() {
             return Ok(heard);
         }
         match self.links.hear(rt, self.alloc, fleet) {
             Ok(heard) => Ok(heard),
-            Err(why) => Err(halt_of(why)),
+            Err(why) => Err(Halt::from(why)),
         }
     }
 
     /// Gives a message as `hear` does, but waits for nobody: `None` only where no reply is kept of a simulator within the program,
     /// nothing has come on any link, and each link has said all, or takes no more for now. A halt is answered again as by `hear`.
     pub fn try_hear<F: Fleet>(&mut self, fleet: &mut F) -> Result<Option<(SimNo, Message)>, Halt>
-        requires { AreOpen self.old.lines (F.open_links fleet.old) }
+        requires { AreOpen self.old.channels (F.open_links fleet.old) }
         ensures count { F.faults fleet.old ≤ F.faults fleet.new }
         ensures cause { self.old.halt ≡ None → result ≡ Err Halt.Fleet
             → HasRisen (F.faults fleet.old) (F.faults fleet.new) }
@@ -171,14 +171,14 @@ impl Crew {
             × TriesAs result entries self.old self.new }
     {
         if let Some(why) = self.links.halt() {
-            return Err(halt_of(why));
+            return Err(Halt::from(why));
         }
         if let Some(heard) = self.within.take() {
             return Ok(Some(heard));
         }
         match self.links.try_hear(fleet) {
             Ok(heard) => Ok(heard),
-            Err(why) => Err(halt_of(why)),
+            Err(why) => Err(Halt::from(why)),
         }
     }
 
@@ -189,7 +189,7 @@ impl Crew {
             × (self.new ≡ self.old))
             (λ r. IsHeard [] r.0.0 r.1 (crew_of self.old) (crew_of self.new)) }
         ensures fit { IfSome result (λ r. IsFitSuccess r.1) }
-        ensures same_lines { self.new.lines ≡ self.old.lines }
+        ensures same_channels { self.new.channels ≡ self.old.channels }
         ensures same_places { self.new.places ≡ self.old.places }
         ensures same_sims { self.new.sims ≡ self.old.sims }
         ensures same_halt { self.new.halt ≡ self.old.halt }
@@ -202,7 +202,7 @@ impl Crew {
     /// Says what is unsent and then a stop on each link, until all is said or a write takes nothing, and closes the links. It
     /// takes no memory, and may wait for others.
     pub fn stop<F: Fleet>(self, fleet: &mut F)
-        requires { AreOpen self.lines (F.open_links fleet.old) }
+        requires { AreOpen self.channels (F.open_links fleet.old) }
         ensures count { F.faults fleet.old ≤ F.faults fleet.new }
         ensures same_count { F.started fleet.new ≡ F.started fleet.old }
         ensures closed { F.open_links fleet.new
@@ -210,7 +210,7 @@ impl Crew {
         ensures stopped { (entries : List LogEntry)
             × Adds entries (F.log fleet.old) (F.log fleet.new)
             × AreStopped entries (HasRisen (F.faults fleet.old) (F.faults fleet.new)) (crew_of self)
-            × IsRestless entries × AreOn (IsLineLink self.lines) entries }
+            × IsRestless entries × AreOn (IsChannelLink self.channels) entries }
     {
         self.links.stop(fleet);
         close_all(self.places.as_slice(), fleet);

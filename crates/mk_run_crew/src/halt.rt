@@ -1,6 +1,5 @@
 // Why a crew doesn't go on.
 ghost use Rattle.std.specs.Prelude.{◌≡◌};
-ghost use Rattle.mk_run_crew.specs.Calls.{halt_of};
 
 use mk_base::{Mem, SimNo};
 use mk_run_links::LinkHalt;
@@ -35,14 +34,18 @@ impl From<Mem> for Halt {
 }
 
 // The halt that the links' halt is.
-pub fn halt_of(why: LinkHalt) -> Halt
-    ensures { result ≡ halt_of why }
-{
-    match why {
-        LinkHalt::Fleet => Halt::Fleet,
-        LinkHalt::Gone(sim) => Halt::Gone(sim),
-        LinkHalt::Garbled(sim, test) => Halt::Garbled(sim, test),
-        LinkHalt::LongFrame(sim, n) => Halt::LongFrame(sim, n),
-        LinkHalt::Mem => Halt::Mem,
+impl From<LinkHalt> for Halt {
+    ghost use Rattle.mk_run_crew.specs.Calls.{halt_of};
+
+    ghost from_gives = { λ why h. h ≡ halt_of why };
+
+    fn from(why: LinkHalt) -> Halt {
+        match why {
+            LinkHalt::Fleet => Halt::Fleet,
+            LinkHalt::Gone(sim) => Halt::Gone(sim),
+            LinkHalt::Garbled(sim, test) => Halt::Garbled(sim, test),
+            LinkHalt::LongFrame(sim, n) => Halt::LongFrame(sim, n),
+            LinkHalt::Mem => Halt::Mem,
+        }
     }
 }

@@ -74,7 +74,7 @@ impl Crew {
         ensures ok { IfOk result (λ r. Asks sim.0 call.now id r.0.0 r.1 [] self.old self.new) }
         ensures err { IfErr result (λ h. (h ≡ halts.Mem)
             × AsksFail h sim.0 call.now id [] self.old self.new) }
-        ensures same_lines { self.new.lines ≡ self.old.lines }
+        ensures same_channels { self.new.channels ≡ self.old.channels }
         ensures same_places { self.new.places ≡ self.old.places }
     {
         let message = self.within.answer_call(kinds, sim, call, id)?;
@@ -97,7 +97,7 @@ impl Crew {
         ensures err { IfErr result
             (λ h. AnswersNot ⊥ h sim.0 call.now id [] self.old self.new setup.old) }
         ensures cause { IfErr result IsWithinHalt }
-        ensures same_lines { self.new.lines ≡ self.old.lines }
+        ensures same_channels { self.new.channels ≡ self.old.channels }
         ensures same_places { self.new.places ≡ self.old.places }
     {
         let (from, message) = self.ask_within(kinds, sim, call, id)?;
@@ -114,7 +114,7 @@ impl Crew {
         ensures ok { IfOk result (λ plan. StepsTo plan [] self.old self.new setup.old setup.new) }
         ensures err { IfErr result (λ h. StepsNot ⊥ h [] self.old self.new setup.old) }
         ensures cause { IfErr result IsWithinHalt }
-        ensures same_lines { self.new.lines ≡ self.old.lines }
+        ensures same_channels { self.new.channels ≡ self.old.channels }
         ensures same_places { self.new.places ≡ self.old.places }
     {
         match setup.next() {
@@ -144,7 +144,7 @@ impl Crew {
             → IsHalting started setup.old.scenario setup.old.ranks
             (rows_in kinds.now) [] ⊥ h self.new) }
         ensures cause { IfErr result IsWithinHalt }
-        ensures same_lines { self.new.lines ≡ self.old.lines }
+        ensures same_channels { self.new.channels ≡ self.old.channels }
         ensures same_places { self.new.places ≡ self.old.places }
     {
         replies_make();
@@ -164,10 +164,10 @@ impl Crew {
         requires wholly { is_wholly_within setup.scenario ≡ true }
         requires new { (started : ℕ)
             → IsNewCrew started (rows_in kinds.now) setup.scenario [] self }
-        requires linkless { (i : ℕ) → at self.lines i ≡ None }
+        requires linkless { (i : ℕ) → at self.channels i ≡ None }
         ensures begun { IfOk result (λ r. (started : ℕ)
             → HasBegun started setup.scenario setup.ranks (rows_in kinds.now) [] r.0 r.1) }
-        ensures linkless { IfOk result (λ r. (i : ℕ) → at r.0.lines i ≡ None) }
+        ensures linkless { IfOk result (λ r. (i : ℕ) → at r.0.channels i ≡ None) }
         ensures halted { IfErr result (λ h. (started faults new_faults : ℕ)
             → HasHalted started setup.scenario setup.ranks (rows_in kinds.now) []
             (HasRisen faults new_faults) h) }
@@ -204,7 +204,7 @@ impl Crew {
         requires wholly { is_wholly_within scenario ≡ true }
         ensures begun { IfOk result (λ r. (started : ℕ)
             → HasBegun started scenario ranks (rows_in kinds.now) [] r.0 r.1) }
-        ensures linkless { IfOk result (λ r. (i : ℕ) → at r.0.lines i ≡ None) }
+        ensures linkless { IfOk result (λ r. (i : ℕ) → at r.0.channels i ≡ None) }
         ensures halted { IfErr result (λ h. (started faults new_faults : ℕ)
             → HasHalted started scenario ranks (rows_in kinds.now) []
             (HasRisen faults new_faults) h) }

@@ -19,7 +19,7 @@ use Rattle.mk_run_laws.specs.Hearing.{first_message}
 use Rattle.mk_run_laws.specs.Kinds.{KeepsToKinds}
 use Rattle.mk_run_laws.specs.Rests.{AllSetUp, IsWellInSetup}
 use Rattle.mk_run_links.specs.Entries.{AreOnOrOfClock, IsRunLink}
-use Rattle.mk_run_laws.specs.inner.Running.{HasLine}
+use Rattle.mk_run_laws.specs.inner.Running.{HasChannel}
 use Rattle.mk_run.specs.declared.outcome.Outcome.{Outcome}
 use Rattle.mk_run.specs.Ends.{AreInRange, IsAwaiting, IsFull, IsOpenWithin}
 use Rattle.mk_sched.specs.inner.Patient.{IsPatient}
@@ -33,28 +33,29 @@ use Rattle.mk_pace_laws.specs.Moments.{AreMoments, Tempo, sent_out}
 use Rattle.mk_pace_laws.specs.Naps.{AreAllLinked, AreNaps, AreTold, IsTimely, NapsLook}
 use Rattle.mk_pace_laws.specs.Paced.{IsOrigin}
 
--- a line at the end: the messages that it gave go on from those of the journal, and the items
+-- a channel at the end: the messages that it gave go on from those of the journal, and the items
 -- queued on it are those that were sent out, the moment of each Step among them having been told
-pub record IsLastPacedLine (S : Setting) (T : Tempo) (J : List Entry) (moments : List Moment)
+pub record IsLastPacedChannel (S : Setting) (T : Tempo) (J : List Entry) (moments : List Moment)
     (log : List LogEntry) (C : CrewState) (end : PaceEnd) (i : ℕ) (l : LinkNo) : Type 0 where
   pub messages : List Message
   pub items : List Item
-  pub line : HasLine S.scenario S.replies log i l messages items C
+  pub channel : HasChannel S.scenario S.replies log i l messages items C
   pub given : BeginsWith messages (got J i)
   pub queued : BeginsWith (sent J i) items
   pub out : QueuedOut end (sent_out J moments i) items
   pub told : AreTold T log items
   pub timely : IsTimely T S.scenario i l items log
 
--- the line of simulator i gave all messages that the journal got, and holds no further one
+-- the channel of simulator i gave all messages that the journal got, and holds no further one
 pub record HasGivenPaced (S : Setting) (J : List Entry) (log : List LogEntry) (C : CrewState)
     (i : ℕ) (l : LinkNo) : Type 0 where
   pub linked : sim_link S.started S.scenario i ≡ Some l
   pub items : List Item
-  pub line : HasLine S.scenario S.replies log i l (got J i) items C
-  pub none_held : first_message line.line.held ≡ None
+  pub channel : HasChannel S.scenario S.replies log i l (got J i) items C
+  pub none_held : first_message channel.channel.held ≡ None
 
--- a message was heard on a link that the journal hasn't got: the line gave it behind those that the
+-- a message was heard on a link that the journal hasn't got: the channel gave it behind those that
+-- the
 -- journal got, and the items queued on it are the first of the journal's
 pub record IsAheadPaced (S : Setting) (J : List Entry) (log : List LogEntry)
     (C : CrewState) : Type 0 where
@@ -63,7 +64,7 @@ pub record IsAheadPaced (S : Setting) (J : List Entry) (log : List LogEntry)
   pub link : LinkNo
   pub linked : sim_link S.started S.scenario sim.0 ≡ Some link
   pub items : List Item
-  pub line : HasLine S.scenario S.replies log sim.0 link (got J sim.0 ++ message ∷ []) items C
+  pub channel : HasChannel S.scenario S.replies log sim.0 link (got J sim.0 ++ message ∷ []) items C
   pub queued : BeginsWith (sent J sim.0) items
 
 -- what an outcome shows before the crew is stopped
@@ -71,7 +72,7 @@ abbrev pub EndsOutcome : Type 0 → Setting → Plan → List Entry → List Log
     → Type 0
 EndsOutcome risen S P J log C = EndsAs risen (IsDone P (view P J))
     (λ f. IsFull P J f (IsAheadPaced S J log C ⊎ IsOpenWithin S.scenario P J))
-    (HasGivenPaced S J log C) (λ i l g. g.line.line.held)
+    (HasGivenPaced S J log C) (λ i l g. g.channel.channel.held)
     (IsLongAmong S.started S.scenario P J) P J log
 
 abbrev pub EndsPace : Type 0 → Setting → Plan → Tempo → Option ℕ → List Entry → List Moment
@@ -89,8 +90,8 @@ pub record HasPacedOut (risen : Type 0) (S : Setting) (T : Tempo) (strict : Opti
   pub patient : IsPatient P J
   pub in_range : AreInRange J
   pub kinds : KeepsToKinds (reply_in S) (is_within S.scenario) P J
-  pub lines : (i : ℕ) (l : LinkNo) → sim_link S.started S.scenario i ≡ Some l
-      → IsLastPacedLine S T J moments log C end i l
+  pub channels : (i : ℕ) (l : LinkNo) → sim_link S.started S.scenario i ≡ Some l
+      → IsLastPacedChannel S T J moments log C end i l
   pub no_other : HasNoOther S C
   pub origin : IsOrigin S.started S.scenario log T.origin
   pub moments_are : AreMoments T strict J log moments

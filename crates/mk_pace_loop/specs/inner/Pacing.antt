@@ -16,12 +16,12 @@ use Rattle.mk_outside.specs.declared.fleet.LogEntry.{LogEntry}
 use Rattle.mk_outside.specs.declared.fleet.LogEntry.TheVariants.{Rest}
 use Rattle.mk_pace_held.specs.declared.held.Due.{Due}
 use Rattle.mk_pace_held.specs.declared.held.Held.{Held}
-use Rattle.mk_run_laws.specs.Crews.{CrewState, line_at, kept_of}
+use Rattle.mk_run_laws.specs.Crews.{CrewState, channel_at, kept_of}
 use Rattle.mk_run_laws.specs.Handshake.{is_within, sim_link}
 use Rattle.mk_run_laws.specs.Kinds.{KeepsToKinds}
 use Rattle.mk_run_laws.specs.Rests.{AllSetUp, IsWellInSetup}
 use Rattle.mk_run_links.specs.Entries.{AreOnOrOfClock, IsRunLink}
-use Rattle.mk_run_laws.specs.inner.Running.{HasLine, awaited}
+use Rattle.mk_run_laws.specs.inner.Running.{HasChannel, awaited}
 use Rattle.mk_local.specs.Replies.{IsItemReplied}
 use Rattle.mk_local.specs.Simulators.{Simulator}
 use Rattle.mk_sched.specs.Cores.{Stands}
@@ -106,9 +106,9 @@ pub record IsPacingFor (begins : ℕ → Type 0) (S : Setting) (T : Tempo) (stri
   pub steps : (s : ℕ) (h : List Held) → begins s → slice_get holds s ≡ Some h → BeginsWithStep h
   pub fit : (s : ℕ) (low : s < sim_count P) → is_within S.scenario s ≡ true
       → IsOneAtMost P J s (holding s low).waiting
-  pub lines : (i : ℕ) (l : LinkNo) → sim_link S.started S.scenario i ≡ Some l
-      → HasLine S.scenario S.replies log i l (got J i) (queued i) C
-  pub no_line : (i : ℕ) → is_within S.scenario i ≡ true → line_at C i ≡ None
+  pub channels : (i : ℕ) (l : LinkNo) → sim_link S.started S.scenario i ≡ Some l
+      → HasChannel S.scenario S.replies log i l (got J i) (queued i) C
+  pub no_channel : (i : ℕ) → is_within S.scenario i ≡ true → channel_at C i ≡ None
   pub no_other : HasNoOther S C
   pub kept : (s : ℕ) → kept_of s C.kept ≡ replies_kept S P J s (held_at holds s)
   pub kinds : KeepsToKinds (reply_in S) (is_within S.scenario) P J

@@ -12,21 +12,21 @@ use Rattle.mk_outside.specs.declared.fleet.LogEntry.TheVariants.{Rest}
 use Rattle.mk_run_laws.specs.Handshake.{sim_link, is_within}
 use Rattle.mk_run_laws.specs.Kinds.{Replies}
 use Rattle.mk_run_laws.specs.Rests.{AllSetUp}
-use Rattle.mk_run_laws.specs.Crews.{CrewState, line_at, kept_of}
+use Rattle.mk_run_laws.specs.Crews.{CrewState, channel_at, kept_of}
 use Rattle.mk_run_laws.specs.Running.{SetupReplies, BeginsOnLink}
-use Rattle.mk_run_laws.specs.inner.Running.{HasLine, IsUnready}
+use Rattle.mk_run_laws.specs.inner.Running.{HasChannel, IsUnready}
 use Rattle.mk_resume_walk.specs.Talks.{free_items}
 use Rattle.mk_resume_links.specs.Rests.{Counts}
 use Rattle.mk_resume_links.specs.Running.{IsRestOf}
 
--- over the log each line gave its setup replies and these messages, and its handshake and these
+-- over the log each channel gave its setup replies and these messages, and its handshake and these
 -- items were queued on it; and these replies are kept
 pub record IsInTouch (messages : ℕ → List Message) (items : ℕ → List Item)
     (awaits : ℕ → List Message) (started : ℕ) (S : Scenario) (replies : SetupReplies)
     (log : List LogEntry) (C : CrewState) : Type 0 where
-  pub lines : (i : ℕ) (l : LinkNo) → sim_link started S i ≡ Some l
-      → HasLine S replies log i l (messages i) (items i) C
-  pub no_line : (i : ℕ) → is_within S i ≡ true → line_at C i ≡ None
+  pub channels : (i : ℕ) (l : LinkNo) → sim_link started S i ≡ Some l
+      → HasChannel S replies log i l (messages i) (items i) C
+  pub no_channel : (i : ℕ) → is_within S i ≡ true → channel_at C i ≡ None
   pub kept : (i : ℕ) → kept_of i C.kept ≡ awaits i
 
 -- the messages that the simulators within the program have sent again are their kinds': each is the

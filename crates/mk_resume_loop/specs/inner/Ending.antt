@@ -16,7 +16,7 @@ use Rattle.mk_sched.specs.Answers.{SomeOpen, SomeReady}
 use Rattle.mk_run_laws.specs.Hearing.{first_message}
 use Rattle.mk_run_laws.specs.Handshake.{is_within, sim_link}
 use Rattle.mk_run_laws.specs.Crews.{CrewState}
-use Rattle.mk_run_laws.specs.inner.Running.{HasLine}
+use Rattle.mk_run_laws.specs.inner.Running.{HasChannel}
 use Rattle.mk_run.specs.Ends.{AreInRange}
 use Rattle.mk_sched.specs.inner.Patient.{IsPatient}
 use Rattle.mk_run.specs.inner.Shown.{EndsAs}
@@ -30,31 +30,32 @@ use Rattle.mk_resume_loop.specs.declared.ending.ResumeEnd.TheVariants as ends
 use Rattle.mk_resume_loop.specs.Resumed.{IsCutOff, IsFull, IsLongFree, QueuedAllAt}
 use Rattle.mk_resume_loop.specs.inner.Underway.{saved_of}
 
--- a line at the end: the messages that it gave go on from those that were sent again, and the items
+-- a channel at the end: the messages that it gave go on from those that were sent again, and the
+-- items
 -- queued on it are the first of those that are free
-pub record IsLastLine (T : Setting) (J : List Entry) (heard : Counts) (log : List LogEntry)
+pub record IsLastChannel (T : Setting) (J : List Entry) (heard : Counts) (log : List LogEntry)
     (C : CrewState) (end : ResumeEnd) (i : ℕ) (l : LinkNo) : Type 0 where
   pub messages : List Message
   pub items : List Item
-  pub line : HasLine T.scenario T.replies log i l messages items C
+  pub channel : HasChannel T.scenario T.replies log i l messages items C
   pub given : BeginsWith messages (repeated J i (heard i))
   pub queued : BeginsWith (free_items J i (heard i)) items
   pub queued_all : QueuedAllAt end (free_items J i (heard i)) items
 
--- the line of simulator i gave all messages that were sent again, and holds no further one
+-- the channel of simulator i gave all messages that were sent again, and holds no further one
 pub record HasGiven (T : Setting) (J : List Entry) (heard : Counts) (log : List LogEntry)
     (C : CrewState) (i : ℕ) (l : LinkNo) : Type 0 where
   pub linked : sim_link T.started T.scenario i ≡ Some l
-  pub line : HasLine T.scenario T.replies log i l (repeated J i (heard i))
+  pub channel : HasChannel T.scenario T.replies log i l (repeated J i (heard i))
       (free_items J i (heard i)) C
-  pub none_held : first_message line.line.held ≡ None
+  pub none_held : first_message channel.channel.held ≡ None
 
--- the line of a simulator gave this message behind those that were sent again
+-- the channel of a simulator gave this message behind those that were sent again
 pub record IsAhead (T : Setting) (J : List Entry) (heard : Counts) (log : List LogEntry)
     (C : CrewState) (s : ℕ) (m : Message) : Type 0 where
   pub link : LinkNo
   pub linked : sim_link T.started T.scenario s ≡ Some link
-  pub line : HasLine T.scenario T.replies log s link (repeated J s (heard s) ++ m ∷ [])
+  pub channel : HasChannel T.scenario T.replies log s link (repeated J s (heard s) ++ m ∷ [])
       (free_items J s (heard s)) C
 
 -- the reply of a simulator within the program is awaited: an item that is free isn't answered
@@ -83,20 +84,20 @@ abbrev pub EndsBy : Type 0 → Setting → Plan → List Entry → List Entry �
 EndsBy risen T P first J heard log C (ends.Outcome end) = EndsAs risen
     (IsDone P (view P J) × ((i : ℕ) → i < sim_count P → heard i ≡ length (got J i)))
     (λ f. IsFull P J f (IsLeftNow T J heard log C)) (HasGiven T J heard log C)
-    (λ i l g. g.line.line.held) (IsLongFree T.started T.scenario P J heard) P J log end
+    (λ i l g. g.channel.channel.held) (IsLongFree T.started T.scenario P J heard) P J log end
 EndsBy risen T P first J heard log C (ends.OtherPlan n) = ⊥
 EndsBy risen T P first J heard log C (ends.OtherEntry n) = ⊥
 EndsBy risen T P first J heard log C (ends.Differs s place saved other) = DiffersNow T first J heard
     log C s place saved other
 
 -- something is to come: a request is open, or a simulator is behind
-abbrev pub IsUnfinished : Plan → List Entry → Counts → Type 0
-IsUnfinished P J heard = SomeOpen P J
+abbrev pub SomeToCome : Plan → List Entry → Counts → Type 0
+SomeToCome P J heard = SomeOpen P J
     ⊎ ((i : ℕ) × (i < sim_count P) × (heard i < length (got J i)))
 
 -- the run was broken off: nobody is ready, and something is to come
 abbrev pub IsWaiting : Plan → List Entry → Counts → Type 0
-IsWaiting P J heard = (SomeReady P J → ⊥) × IsUnfinished P J heard
+IsWaiting P J heard = (SomeReady P J → ⊥) × SomeToCome P J heard
 
 -- the run has come to its end, and its crew is still to be stopped
 pub record HasEnded (risen : Type 0) (T : Setting) (P : Plan) (first J : List Entry)
@@ -108,8 +109,8 @@ pub record HasEnded (risen : Type 0) (T : Setting) (P : Plan) (first J : List En
   pub in_range : AreInRange J
   pub counts : (i : ℕ) → length (got J i) ≡ max (saved_of first i) (heard i)
   pub kinds : RepeatsByKind (reply_in T) (is_within T.scenario) J heard
-  pub lines : (i : ℕ) (l : LinkNo) → sim_link T.started T.scenario i ≡ Some l
-      → IsLastLine T J heard log C end i l
+  pub channels : (i : ℕ) (l : LinkNo) → sim_link T.started T.scenario i ≡ Some l
+      → IsLastChannel T J heard log C end i l
   pub no_other : HasNoOther T C
   pub rests : RestsEnd (saved_of first) T.started T.scenario T.replies P J log
   pub log_right : IsLogRight T log

@@ -101,13 +101,13 @@ IsPausing pause.Waiting core = SomeOpen core.plan core.entries
 IsPausing pause.Over core = IsDone core.plan (view core.plan core.entries)
 
 -- whoever was ready was asked; or the run came to an end
-abbrev pub SettlesAs : Result Pause ResumeEnd → CoreState → CrewSeen → CoreState → CrewSeen
+abbrev pub AsksAllAs : Result Pause ResumeEnd → CoreState → CrewSeen → CoreState → CrewSeen
     → BehindSeen → Type 0
-SettlesAs (Ok p) old C new D B = (new.ended ≡ None)
+AsksAllAs (Ok p) old C new D B = (new.ended ≡ None)
     × (SomeReady new.plan new.entries → ⊥) × IsPausing p new
     × ((T : Setting) (first : List Entry) (heard : Counts) (log : List LogEntry)
     → GoesOn T first heard old log C B → GoesOn T first heard new log D B)
-SettlesAs (Err end) old C new D B = (T : Setting) (first : List Entry) (heard : Counts)
+AsksAllAs (Err end) old C new D B = (T : Setting) (first : List Entry) (heard : Counts)
     (log : List LogEntry) → GoesOn T first heard old log C B → IsStopping ⊥ T first new log D end
 
 -- the core took the message of a simulator that had caught up, or it was one that its simulator had

@@ -15,7 +15,7 @@ use Rattle.mk_sched.specs.Answers.{SomeReady, SomeOpen}
 use Rattle.mk_run_laws.specs.Handshake.{sim_link}
 use Rattle.mk_run_laws.specs.Crews.{AreStopped, IsRestless}
 use Rattle.mk_run_links.specs.Entries.{AreOn}
-use Rattle.mk_run_links.specs.Places.{IsLineLink, IsLinked}
+use Rattle.mk_run_links.specs.Places.{IsChannelLink, IsLinked}
 use Rattle.mk_run_local.specs.Seen.{AreOf}
 use Rattle.mk_run_crew.specs.Seen.{CrewSeen, crew_of, within_of}
 use Rattle.mk_run.specs.declared.outcome.Outcome.{Outcome}
@@ -68,14 +68,14 @@ pub record IsLonger (old new : CoreState) : Type 0 where
 
 -- where an item was too long, it was one for a link
 abbrev pub IsLinkedIfLong : CrewSeen → Outcome → Type 0
-IsLinkedIfLong C end = (i : SimNo) (n : ℕ) → end ≡ outcome.LongItem i n → IsLinked i.0 C.lines
+IsLinkedIfLong C end = (i : SimNo) (n : ℕ) → end ≡ outcome.LongItem i n → IsLinked i.0 C.channels
 
 -- whoever was ready was asked, and now a message is waited for; or the run came to an outcome
-abbrev pub SettlesAs : Result (Unit {0}) Outcome → CoreState → CrewSeen → CoreState → CrewSeen
+abbrev pub AsksAllAs : Result (Unit {0}) Outcome → CoreState → CrewSeen → CoreState → CrewSeen
     → Type 0
-SettlesAs (Ok done) old C new D = (new.ended ≡ None) × Waits new
+AsksAllAs (Ok done) old C new D = (new.ended ≡ None) × Waits new
     × ((T : Setting) (log : List LogEntry) → GoesOn T old log C → GoesOn T new log D)
-SettlesAs (Err end) old C new D = (T : Setting) (log : List LogEntry) → GoesOn T old log C
+AsksAllAs (Err end) old C new D = (T : Setting) (log : List LogEntry) → GoesOn T old log C
     → IsStopping ⊥ T new log D end
 
 -- the core took the message that was heard, and what it owed was sent; or the run came to an
@@ -108,4 +108,4 @@ PlanRunsAs plan C entries faults new_faults (Some P) None end = ⊥
 PlanRunsAs plan C entries faults new_faults None (Some J) end = ⊥
 PlanRunsAs plan C entries faults new_faults None None end = (end ≡ outcome.Mem)
     × AreStopped entries (HasRisen faults new_faults) (crew_of C) × IsRestless entries
-    × AreOn (IsLineLink C.lines) entries
+    × AreOn (IsChannelLink C.channels) entries

@@ -20,11 +20,11 @@ use Rattle.mk_local.specs.declared.turn.Turn.{Turn}
 use Rattle.mk_local.specs.Simulators.{Simulator}
 use Rattle.mk_run_laws.specs.Hearing.{first_message}
 use Rattle.mk_run_laws.specs.Handshake.{setup_count, sim_link, is_within}
-use Rattle.mk_run_laws.specs.Lines.{Line}
+use Rattle.mk_run_laws.specs.Channels.{Channel}
 use Rattle.mk_run_laws.specs.Kinds.{Replies, KeepsToKinds}
-use Rattle.mk_run_laws.specs.Crews.{CrewState, line_at, IsHeard}
+use Rattle.mk_run_laws.specs.Crews.{CrewState, channel_at, IsHeard}
 use Rattle.mk_run_laws.specs.Running.{SetupReplies, RestsEnd}
-use Rattle.mk_run_laws.specs.inner.Running.{HasLine, IsRunning}
+use Rattle.mk_run_laws.specs.inner.Running.{HasChannel, IsRunning}
 use Rattle.mk_run_links.specs.Entries.{AreOn, IsRunLink}
 use Rattle.mk_run_local.specs.Calls.{IsFitSuccess}
 use Rattle.mk_run_local.specs.Laws.{HasCome}
@@ -55,9 +55,9 @@ pub record Suits (T : Setting) (P : Plan) : Type 0 where
   pub counts : (i : ℕ) (l : LinkNo) → sim_link T.started T.scenario i ≡ Some l
       → length (T.replies i) ≡ setup_count T.scenario i
 
--- each line is that of a simulator with a link
+-- each channel is that of a simulator with a link
 abbrev pub HasNoOther : Setting → CrewState → Type 0
-HasNoOther T C = (i : ℕ) (w : Line) → line_at C i ≡ Some w → (l : LinkNo)
+HasNoOther T C = (i : ℕ) (w : Channel) → channel_at C i ≡ Some w → (l : LinkNo)
     × (sim_link T.started T.scenario i ≡ Some l)
 
 -- simulator i, if it is within the program
@@ -115,25 +115,26 @@ pub record HasHeard (T : Setting) (P : Plan) (J : List Entry) (log : List LogEnt
   pub fit : (k : Arrival) (more : List Arrival) → crew.kept ≡ k ∷ more → IsFitSuccess m
   pub on_links : AreOn (IsRunLink T.started T.scenario) entries
 
--- a line at the end: the messages that it gave go on from those of the journal, and the items
+-- a channel at the end: the messages that it gave go on from those of the journal, and the items
 -- queued on it are the first of the journal's
-pub record IsLastLine (T : Setting) (J : List Entry) (log : List LogEntry) (C : CrewState)
+pub record IsLastChannel (T : Setting) (J : List Entry) (log : List LogEntry) (C : CrewState)
     (end : Outcome) (i : ℕ) (l : LinkNo) : Type 0 where
   pub messages : List Message
   pub items : List Item
-  pub line : HasLine T.scenario T.replies log i l messages items C
+  pub channel : HasChannel T.scenario T.replies log i l messages items C
   pub given : BeginsWith messages (got J i)
   pub queued : BeginsWith (sent J i) items
   pub queued_all : QueuedAll end (sent J i) items
 
--- the line of simulator i gave all messages that the journal got, and holds no further one
+-- the channel of simulator i gave all messages that the journal got, and holds no further one
 pub record HasGiven (T : Setting) (J : List Entry) (log : List LogEntry) (C : CrewState) (i : ℕ)
     (l : LinkNo) : Type 0 where
   pub linked : sim_link T.started T.scenario i ≡ Some l
-  pub line : HasLine T.scenario T.replies log i l (got J i) (sent J i) C
-  pub none_held : first_message line.line.held ≡ None
+  pub channel : HasChannel T.scenario T.replies log i l (got J i) (sent J i) C
+  pub none_held : first_message channel.channel.held ≡ None
 
--- a message was heard on a link that the journal hasn't got: the line gave it behind those that the
+-- a message was heard on a link that the journal hasn't got: the channel gave it behind those that
+-- the
 -- journal got
 pub record IsAhead (T : Setting) (J : List Entry) (log : List LogEntry)
     (C : CrewState) : Type 0 where
@@ -141,7 +142,8 @@ pub record IsAhead (T : Setting) (J : List Entry) (log : List LogEntry)
   pub message : Message
   pub link : LinkNo
   pub linked : sim_link T.started T.scenario sim.0 ≡ Some link
-  pub line : HasLine T.scenario T.replies log sim.0 link (got (J ++ Got sim message ∷ []) sim.0)
+  pub channel : HasChannel T.scenario T.replies log sim.0 link
+      (got (J ++ Got sim message ∷ []) sim.0)
       (sent (J ++ Got sim message ∷ []) sim.0) C
 
 -- what the outcome shows before the run is stopped
@@ -149,7 +151,7 @@ abbrev pub EndsBy : Type 0 → Setting → Plan → List Entry → List LogEntry
     → Type 0
 EndsBy risen T P J log C = EndsAs risen (IsDone P (view P J))
     (λ f. IsFull P J f (IsAhead T J log C ⊎ IsOpenWithin T.scenario P J)) (HasGiven T J log C)
-    (λ i l g. g.line.line.held) (IsLongItem T.started T.scenario P J) P J log
+    (λ i l g. g.channel.channel.held) (IsLongItem T.started T.scenario P J) P J log
 
 -- the run has come to its outcome, and its crew is still to be stopped
 pub record HasEnded (risen : Type 0) (T : Setting) (P : Plan) (J : List Entry) (log : List LogEntry)
@@ -159,8 +161,8 @@ pub record HasEnded (risen : Type 0) (T : Setting) (P : Plan) (J : List Entry) (
   pub patient : IsPatient P J
   pub in_range : AreInRange J
   pub kinds : KeepsToKinds (reply_in T) (is_within T.scenario) P J
-  pub lines : (i : ℕ) (l : LinkNo) → sim_link T.started T.scenario i ≡ Some l
-      → IsLastLine T J log C end i l
+  pub channels : (i : ℕ) (l : LinkNo) → sim_link T.started T.scenario i ≡ Some l
+      → IsLastChannel T J log C end i l
   pub no_other : HasNoOther T C
   pub rests : RestsEnd T.started T.scenario T.replies P J log
   pub log_right : IsLogRight T log

@@ -15,7 +15,7 @@ use Rattle.mk_scenario.specs.declared.parts.Scenario.{Scenario}
 use Rattle.mk_launch.specs.Starts.{places}
 use Rattle.mk_local.specs.declared.turn.Turn.{Turn}
 use Rattle.mk_local.specs.Calls.{IsCallReplied}
-use Rattle.mk_run_laws.specs.Lines.{Line, IsLineAt, queued}
+use Rattle.mk_run_laws.specs.Channels.{Channel, IsChannelAt, queued}
 use Rattle.mk_run_laws.specs.Crews.{IsHeard, IsUnheard}
 use Rattle.mk_run_laws.specs.Handshake.{Request, setup_requests, call_to, call_payloads, sim_link}
 use Rattle.mk_run_laws.specs.Payloads.{IsFramed}
@@ -24,14 +24,14 @@ use Rattle.mk_run_laws.specs.Running.{SetupReplies}
 use Rattle.mk_run_laws.specs.inner.Running.{IsBetween}
 use Rattle.mk_setup.specs.declared.fault.SetupFault.{SetupFault}
 use Rattle.mk_setup.specs.declared.fault.SetupFault.TheVariants as fault
-use Rattle.mk_setup.specs.Answers.{IsReady, IsRefused, IsRequested, IsUnready}
+use Rattle.mk_setup.specs.Answers.{IsReady, IsRefused, IsRequested, GivesNoRequest}
 use Rattle.mk_setup.specs.Handshakes.{IsReached}
 use Rattle.mk_setup.specs.Replies.{after_reply, arrival}
 use Rattle.mk_setup.specs.Seen.{SetupState}
 use Rattle.mk_run_links.specs.declared.answers.LinkHalt.{LinkHalt}
 use Rattle.mk_run_links.specs.Entries.{AreOn, IsRunLink}
 use Rattle.mk_run_links.specs.Halts.{ShowsHalt}
-use Rattle.mk_run_links.specs.Places.{IsLineLink, IsSet, Lines, at, crew, new_lines}
+use Rattle.mk_run_links.specs.Places.{IsChannelLink, IsSet, Channels, at, crew, new_channels}
 use Rattle.mk_run_local.specs.Calls.{IsCalled}
 use Rattle.mk_run_local.specs.Seen.{AreOf, new_within, sim_at}
 use Rattle.mk_run_crew.specs.declared.halt.Halt.{Halt}
@@ -49,23 +49,23 @@ pub record AsksWithin (i : ℕ) (call : Call) (id from : ℕ) (m : Message) (ent
   pub quiet : entries ≡ []
   pub called : IsCalled (within_of old) i id call m (within_of new)
   pub known : (rows : List Turn) → AreOf rows (within_of old) → AreOf rows (within_of new)
-  pub lines : new.lines ≡ old.lines
+  pub channels : new.channels ≡ old.channels
   pub halt : new.halt ≡ old.halt
 
--- the request, whose payload a frame may have, was queued on the line of simulator i, and this
+-- the request, whose payload a frame may have, was queued on the channel of simulator i, and this
 -- message was heard of a link
 pub record AsksOnLink (i : ℕ) (call : Call) (id from : ℕ) (m : Message) (entries : List LogEntry)
     (old new : CrewSeen) : Type 0 where
   pub away : is_here old i ≡ false
-  pub mid : Lines
-  pub line : Line
-  pub set : IsSet i line (queued (call_text id call) (id + 1) line) old.lines mid
+  pub mid : Channels
+  pub channel : Channel
+  pub set : IsSet i channel (queued (call_text id call) (id + 1) channel) old.channels mid
   pub framed : IsFramed (call_text id call)
-  pub heard : IsHeard entries from m (crew mid) (crew new.lines)
+  pub heard : IsHeard entries from m (crew mid) (crew new.channels)
   pub sims : new.sims ≡ old.sims
   pub kept : new.kept ≡ old.kept
   pub halt : new.halt ≡ None
-  pub on_links : AreOn (IsLineLink mid) entries
+  pub on_links : AreOn (IsChannelLink mid) entries
 
 -- the answer to a request, or another message in its place
 abbrev pub Asks : ℕ → Call → ℕ → ℕ → Message → List LogEntry → CrewSeen → CrewSeen → Type 0
@@ -106,15 +106,15 @@ pub record AsksNot (h : Halt) (i : ℕ) (call : Call) (id : ℕ) (entries : List
 pub record AsksInVain (h : Halt) (i : ℕ) (call : Call) (id : ℕ) (entries : List LogEntry)
     (old new : CrewSeen) : Type 0 where
   pub away : is_here old i ≡ false
-  pub mid : Lines
-  pub line : Line
-  pub set : IsSet i line (queued (call_text id call) (id + 1) line) old.lines mid
+  pub mid : Channels
+  pub channel : Channel
+  pub set : IsSet i channel (queued (call_text id call) (id + 1) channel) old.channels mid
   pub framed : IsFramed (call_text id call)
   pub why : LinkHalt
   pub is : h ≡ halt_of why
-  pub unheard : IsUnheard entries (crew mid) (crew new.lines)
-  pub shown : ShowsHalt why entries new.lines
-  pub on_links : AreOn (IsLineLink mid) entries
+  pub unheard : IsUnheard entries (crew mid) (crew new.channels)
+  pub shown : ShowsHalt why entries new.channels
+  pub on_links : AreOn (IsChannelLink mid) entries
 
 abbrev pub AsksFail : Halt → ℕ → Call → ℕ → List LogEntry → CrewSeen → CrewSeen → Type 0
 AsksFail h i call id entries old new = AsksNot h i call id entries old new
@@ -154,12 +154,13 @@ abbrev pub AnswersNot : Type 0 → Halt → ℕ → Call → ℕ → List LogEnt
 AnswersNot risen h i call id entries old new U = (AsksFail h i call id entries old new
     × (h ≡ halt.Fleet → risen)) ⊎ IsNotTaken h i call id entries old new U
 
--- what the setup asks for next can be asked: it gets a reply, and its simulator has a line, unless
+-- what the setup asks for next can be asked: it gets a reply, and its simulator has a channel,
+-- unless
 -- it is within the program
 abbrev pub CanAsk : CrewSeen → SetupState → Type 0
 CanAsk C U = (sim : SimNo) (call : Call) (id : ℕ) (V : SetupState) → IsRequested U sim call id V
     → IsCallReplied call
-    × (is_here C sim.0 ≡ false → (w : Line) × (at C.lines sim.0 ≡ Some w))
+    × (is_here C sim.0 ≡ false → (w : Channel) × (at C.channels sim.0 ≡ Some w))
 
 -- it gets a reply of a simulator within the program
 abbrev pub CanAskWithin : CrewSeen → SetupState → Type 0
@@ -200,18 +201,18 @@ pub record IsUnmade (h : Halt) (entries : List LogEntry) (old new : CrewSeen)
   pub quiet : entries ≡ []
   pub same : new ≡ old
   pub state : SetupState
-  pub unready : IsUnready U fault state
+  pub unready : GivesNoRequest U fault state
 
 abbrev pub StepsNot : Type 0 → Halt → List LogEntry → CrewSeen → CrewSeen → SetupState → Type 0
 StepsNot risen h entries old new U = IsStuck risen h entries old new U
     ⊎ IsUnmade h entries old new U
 
 -- a crew before its first request: the links, so many having been started before, are open, and
--- their lines are new; and no simulator within the program has been asked
+-- their channels are new; and no simulator within the program has been asked
 pub record IsNewCrew (started : ℕ) (rows : List Turn) (S : Scenario) (open_links : List LinkNo)
     (C : CrewSeen) : Type 0 where
   pub places : C.places ≡ places started S.sims
-  pub lines : C.lines ≡ new_lines C.places
+  pub channels : C.channels ≡ new_channels C.places
   pub within : within_of C ≡ new_within rows S
   pub known : AreOf rows (within_of C)
   pub halt : C.halt ≡ None
@@ -221,14 +222,14 @@ pub record IsNewCrew (started : ℕ) (rows : List Turn) (S : Scenario) (open_lin
 pub record IsAnswered (started : ℕ) (S : Scenario) (rows : List Turn) (log : List LogEntry)
     (answers : List Message) (C : CrewSeen) : Type 0 where
   pub replies : SetupReplies
-  pub between : IsBetween started S replies log (crew C.lines)
+  pub between : IsBetween started S replies log (crew C.channels)
       (take (length answers) (setup_requests S)) (drop (length answers) (setup_requests S))
   pub told : (i : ℕ) (l : LinkNo) → sim_link started S i ≡ Some l
       → replies i ≡ answers_to i (setup_requests S) answers
   pub kinds : AreKindAnswers rows S answers
   pub sims : (i : ℕ) → sim_at (within_of C) i ≡ sim_after rows S (length answers) i
   pub known : AreOf rows (within_of C)
-  pub back : (i : ℕ) (w : Line) → at C.lines i ≡ Some w → (l : LinkNo)
+  pub back : (i : ℕ) (w : Channel) → at C.channels i ≡ Some w → (l : LinkNo)
       × (sim_link started S i ≡ Some l)
   pub kept : C.kept ≡ []
   pub halt : C.halt ≡ None
@@ -252,10 +253,10 @@ pub record IsHalting (started : ℕ) (S : Scenario) (ranks : List ℕ) (rows : L
   pub queued : List Request
   pub later : List Request
   pub parts : setup_requests S ≡ queued ++ later
-  pub lines : (i : ℕ) (l : LinkNo) → sim_link started S i ≡ Some l
-      → (ms : List Message) × (w : Line) × (at C.lines i ≡ Some w) × (w.link ≡ l)
-      × IsLineAt log ms (call_payloads 0 (filter_map (call_to i) queued)) (count_to i queued) w
-  pub back : (i : ℕ) (w : Line) → at C.lines i ≡ Some w → (l : LinkNo)
+  pub channels : (i : ℕ) (l : LinkNo) → sim_link started S i ≡ Some l
+      → (ms : List Message) × (w : Channel) × (at C.channels i ≡ Some w) × (w.link ≡ l)
+      × IsChannelAt log ms (call_payloads 0 (filter_map (call_to i) queued)) (count_to i queued) w
+  pub back : (i : ℕ) (w : Channel) → at C.channels i ≡ Some w → (l : LinkNo)
       × (sim_link started S i ≡ Some l)
   pub rests : (before after : List LogEntry) → log ≡ before ++ Rest ∷ after
       → IsWellInSetup started S before × (AllSetUp started S before → ⊥)

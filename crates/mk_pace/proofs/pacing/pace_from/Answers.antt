@@ -2,7 +2,7 @@ use Rattle.std.proofs.Common.{List, subst}
 use Rattle.mk_local.specs.declared.turn.Turn.{Turn}
 use Rattle.mk_run_local.specs.Seen.{AreOf}
 use Rattle.mk_run_crew.specs.Seen.{within_of}
-use Rattle.mk_run_links.specs.Places.{IsLineLink}
+use Rattle.mk_run_links.specs.Places.{IsChannelLink}
 use Rattle.mk_run_links.proofs.OnEntries.{on_no_clock}
 use Rattle.mk_pace.proofs.Early.{no_memory}
 use Rattle.mk_pace.proofs.Telling.{rising_clockless}
@@ -37,6 +37,6 @@ pub returns-in-Err-clause-ran : goal.returns-in-Err-clause-ran
 returns-in-Err-clause-ran g c =
     let s = c.stop_early.ensures.stopped in (
       s.0,
-      rising_clockless s.0 _ _ s.1 (on_no_clock (IsLineLink c.args.crew.lines) s.0 s.4),
+      rising_clockless s.0 _ _ s.1 (on_no_clock (IsChannelLink c.args.crew.channels) s.0 s.4),
       no_memory c.args.plan c.args.crew c.args.origin c.args.factor c.args.strict s.0 (g.F.Fleet.faults c.args.fleet.now) (g.F.Fleet.faults c.stop_early.new.fleet) c.stop_early.result s.2 s.3 s.4 c.stop_early.ensures.ran,
     )

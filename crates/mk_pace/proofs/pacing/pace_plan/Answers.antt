@@ -1,7 +1,7 @@
 use Rattle.std.proofs.Common.{[], ◌∷◌, arith, refl}
 use Rattle.mk_outside.specs.declared.fleet.LogEntry.TheVariants.{Told}
 use Rattle.mk_outside.specs.declared.paced.Now.TheVariants.{At, Failed}
-use Rattle.mk_run_links.specs.Places.{IsLineLink}
+use Rattle.mk_run_links.specs.Places.{IsChannelLink}
 use Rattle.mk_run_links.proofs.OnEntries.{on_no_clock}
 use Rattle.mk_run.proofs.Turning.{risen_later}
 use Rattle.mk_pace.proofs.Early.{clock_failed}
@@ -20,7 +20,7 @@ pub returns-in-Failed-clause-ran : goal.returns-in-Failed-clause-ran
 returns-in-Failed-clause-ran g c =
     let s = c.stop_early.ensures.stopped in (
       s.0,
-      rising_more [] s.0 _ _ _ (rising_now Failed _ _ c.in-Failed.ensures.logged c.in-Failed.ensures.rising) (rising_clockless s.0 _ _ s.1 (on_no_clock (IsLineLink c.args.crew.lines) s.0 s.4)),
+      rising_more [] s.0 _ _ _ (rising_now Failed _ _ c.in-Failed.ensures.logged c.in-Failed.ensures.rising) (rising_clockless s.0 _ _ s.1 (on_no_clock (IsChannelLink c.args.crew.channels) s.0 s.4)),
       clock_failed c.args.plan c.args.crew c.args.factor c.args.strict s.0 (g.F.Fleet.faults c.args.fleet.now) (g.F.Fleet.faults c.stop_early.new.fleet) _ c.stop_early.result
           (risen_later (g.F.Fleet.faults c.args.fleet.now) (g.F.Fleet.faults c.now.new.self) (g.F.Fleet.faults c.stop_early.new.fleet) c.stop_early.ensures.count (c.in-Failed.ensures.cause refl)) s.2 s.3 s.4 c.stop_early.ensures.ran,
     )

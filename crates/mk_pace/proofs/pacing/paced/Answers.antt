@@ -36,7 +36,7 @@ returns-in-Err-clause-ran g c =
       h.0,
       h.1,
       rises h.0 _ _ (rising_clockless h.0 _ _ h.1 h.3),
-      begun_not (g.F.Fleet.started c.args.fleet.now) c.args.scenario c.args.ranks (rows_in c.args.kinds.now) c.args.factor c.args.strict h.0 (g.F.Fleet.faults c.args.fleet.now) (g.F.Fleet.faults c.begin.new.fleet) c.in-Err.halt c.outcome_of.result c.unpaced.result h.2 h.3 c.outcome_of.ensures c.unpaced.ensures,
+      begun_not (g.F.Fleet.started c.args.fleet.now) c.args.scenario c.args.ranks (rows_in c.args.kinds.now) c.args.factor c.args.strict h.0 (g.F.Fleet.faults c.args.fleet.now) (g.F.Fleet.faults c.begin.new.fleet) c.in-Err.halt c.from.result c.unpaced.result h.2 h.3 c.from.ensures c.unpaced.ensures,
       rw c.unpaced.ensures (started_unless c.args.scenario _ _ (IsOfStart c.in-Err.halt h.0) _
-          (λ t. (c.outcome_of.result, refl, (refl, t.0, elim t.1 [ inl e ↦ inl (c.outcome_of.ensures ∙ ap outcome_of e) | inr e ↦ inr (c.outcome_of.ensures ∙ ap outcome_of e) ]))) h.4),
+          (λ t. (c.from.result, refl, (refl, t.0, elim t.1 [ inl e ↦ inl (c.from.ensures ∙ ap outcome_of e) | inr e ↦ inr (c.from.ensures ∙ ap outcome_of e) ]))) h.4),
     )

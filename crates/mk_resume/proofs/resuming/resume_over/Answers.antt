@@ -30,7 +30,7 @@ returns-in-Err-clause-ran g c =
     rw c.nothing_left.ensures (
       h.0,
       h.1,
-      inr (c.outcome_of.result, refl, record { halt = c.in-Err.halt; is = c.outcome_of.ensures; halted = h.2 }),
+      inr (c.from.result, refl, record { halt = c.in-Err.halt; is = c.from.ensures; halted = h.2 }),
       started_unless c.args.scenario _ _ (IsOfStart c.in-Err.halt h.0) _
-          (λ t. (c.outcome_of.result, refl, (refl, t.0, elim t.1 [ inl e ↦ inl (c.outcome_of.ensures ∙ ap outcome_of e) | inr e ↦ inr (c.outcome_of.ensures ∙ ap outcome_of e) ]))) h.4,
+          (λ t. (c.from.result, refl, (refl, t.0, elim t.1 [ inl e ↦ inl (c.from.ensures ∙ ap outcome_of e) | inr e ↦ inr (c.from.ensures ∙ ap outcome_of e) ]))) h.4,
     )

@@ -1,5 +1,5 @@
 use Rattle.std.proofs.Common.{Some, ap, ◌∙◌}
-use Rattle.mk_resume_loop.proofs.Settling.{asks_later, asks_now}
+use Rattle.mk_resume_loop.proofs.AskingAll.{asks_later, asks_now}
 use Rattle.mk_resume_loop.proofs.catching.ask.Goals as goal
 
 pub returns-in-Some-clause-asked : goal.returns-in-Some-clause-asked

@@ -42,7 +42,7 @@ returns-in-Err-clause-turned g c =
     let h = c.in-Err.ensures.heard c.requires.unhalted in (
       h.0,
       h.1,
-      (λ T first heard log u. subst (λ (o : Outcome). IsStopping (HasRisen (g.F.Fleet.faults c.args.fleet.now) (g.F.Fleet.faults c.hear.new.fleet)) T first c.args.core.now (log ++ h.0) c.hear.new.self (ends.Outcome o)) (sym c.outcome_of.ensures)
+      (λ T first heard log u. subst (λ (o : Outcome). IsStopping (HasRisen (g.F.Fleet.faults c.args.fleet.now) (g.F.Fleet.faults c.hear.new.fleet)) T first c.args.core.now (log ++ h.0) c.hear.new.self (ends.Outcome o)) (sym c.from.ensures)
           (stopped_unheard T first heard c.args.core.now log h.0 c.args.crew.now c.hear.new.self c.args.behind.now c.in-Err.halt (HasRisen (g.F.Fleet.faults c.args.fleet.now) (g.F.Fleet.faults c.hear.new.fleet)) u c.requires.waits h.2 h.3
           (λ e. c.in-Err.ensures.cause c.requires.unhalted (ap Err e)))),
     )

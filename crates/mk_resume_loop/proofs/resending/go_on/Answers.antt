@@ -121,7 +121,7 @@ returns-in-Err-clause-passed g c =
     let same = c.as_slice-entries.ensures ∙ c.journal.ensures.same in
     let h = grown c.args.core.now c.args.behind.now c.grow.new.self c.requires.sized c.as_slice-entries.result.now same c.in_ok-grow.ensures.sims c.in_ok-grow.ensures.own c.in_ok-grow.ensures.grown in
     let t = c.in-Some.ensures.item in
-    subst (λ (o : Outcome). PassesAs (Err (ends.Outcome o)) c.args.core.now c.args.sim.0 c.args.gone c.args.id c.args.crew.now c.send.new.self c.grow.new.self) (sym c.outcome_of.ensures)
+    subst (λ (o : Outcome). PassesAs (Err (ends.Outcome o)) c.args.core.now c.args.sim.0 c.args.gone c.args.id c.args.crew.now c.send.new.self c.grow.new.self) (sym c.from.ensures)
     (subst (λ (D : CrewSeen). PassesAs (Err (ends.Outcome (outcome_of c.in-Err.halt))) c.args.core.now c.args.sim.0 c.args.gone c.args.id c.args.crew.now D c.grow.new.self) (sym c.in-Err.ensures.err)
     (passes_not c.args.core.now c.args.crew.now c.args.sim c.args.gone c.args.id c.requires.there t.0 t.1 c.in-Some.item.now
     (λ from counted. subst (IsFirstOwn c.args.core.now.entries c.args.sim.0 from) t.2 (c.next-next.ensures c.args.core.now.entries from h.indexed counted))

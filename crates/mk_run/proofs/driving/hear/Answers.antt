@@ -39,7 +39,7 @@ returns-in-Err-clause-turned g c =
     let h = c.in-Err.ensures.heard c.requires.unhalted in (
       h.0,
       h.1,
-      (λ T log u. subst (IsStopping (HasRisen (g.F.Fleet.faults c.args.fleet.now) (g.F.Fleet.faults c.hear.new.fleet)) T c.args.core.now (log ++ h.0) c.hear.new.self) (sym c.outcome_of.ensures)
+      (λ T log u. subst (IsStopping (HasRisen (g.F.Fleet.faults c.args.fleet.now) (g.F.Fleet.faults c.hear.new.fleet)) T c.args.core.now (log ++ h.0) c.hear.new.self) (sym c.from.ensures)
           (stopped_unheard T c.args.core.now log h.0 c.args.crew.now c.hear.new.self c.in-Err.halt (HasRisen (g.F.Fleet.faults c.args.fleet.now) (g.F.Fleet.faults c.hear.new.fleet)) u c.requires.waits h.2 h.3
           (λ e. c.in-Err.ensures.cause c.requires.unhalted (ap Err e)))),
     )

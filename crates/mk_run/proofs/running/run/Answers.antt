@@ -33,8 +33,8 @@ returns-in-Err-clause-ran g c =
     let h = c.in-Err.ensures.halted in (
       h.0,
       h.1,
-      record { halt = c.in-Err.halt; is = c.outcome_of.ensures; halted = h.2 },
-      started_unless c.args.scenario _ _ (IsOfStart c.in-Err.halt h.0) _ (λ t. (refl, t.0, elim t.1 [ inl e ↦ inl (c.outcome_of.ensures ∙ ap outcome_of e) | inr e ↦ inr (c.outcome_of.ensures ∙ ap outcome_of e) ])) h.4,
+      record { halt = c.in-Err.halt; is = c.from.ensures; halted = h.2 },
+      started_unless c.args.scenario _ _ (IsOfStart c.in-Err.halt h.0) _ (λ t. (refl, t.0, elim t.1 [ inl e ↦ inl (c.from.ensures ∙ ap outcome_of e) | inr e ↦ inr (c.from.ensures ∙ ap outcome_of e) ])) h.4,
     )
 
 -- where all simulators are within the program

@@ -19,10 +19,10 @@ returns-in-Ok-clause-ran g c started faults =
     c.run_plan_within.result.outcome (c.run_plan_within.ensures.ran faults)
 
 pub returns-in-Err-clause-ran : goal.returns-in-Err-clause-ran
-returns-in-Err-clause-ran g c started faults = record { halt = c.in-Err.halt; is = c.outcome_of.ensures; halted = c.in-Err.ensures.halted started faults faults }
+returns-in-Err-clause-ran g c started faults = record { halt = c.in-Err.halt; is = c.from.ensures; halted = c.in-Err.ensures.halted started faults faults }
 
 pub returns-in-Err-clause-within : goal.returns-in-Err-clause-within
-returns-in-Err-clause-within g c = subst IsWithinOutcome (sym c.outcome_of.ensures) (within_halts c.in-Err.halt c.in-Err.ensures.cause)
+returns-in-Err-clause-within g c = subst IsWithinOutcome (sym c.from.ensures) (within_halts c.in-Err.halt c.in-Err.ensures.cause)
 
 pub run_plan_within-requires-clause-valid : goal.run_plan_within-requires-clause-valid
 run_plan_within-requires-clause-valid g c = (c.in-Ok.ensures.begun 0).valid

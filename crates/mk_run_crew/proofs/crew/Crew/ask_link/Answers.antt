@@ -8,7 +8,7 @@ use Rattle.mk_run_crew.proofs.crew.Crew.ask_link.Goals as goal
 
 pub returns-in-Err-clause-err : goal.returns-in-Err-clause-err
 returns-in-Err-clause-err g c =
-    let crew : Seen → CrewSeen = λ s. record { places = c.self.inside.places; lines = s.lines; sims = (c.self.inside.within).sims; kept = (c.self.inside.within).kept; halt = s.halt } in (
+    let crew : Seen → CrewSeen = λ s. record { places = c.self.inside.places; channels = s.channels; sims = (c.self.inside.within).sims; kept = (c.self.inside.within).kept; halt = s.halt } in (
       [],
       adds_none _,
       asked_not c.in-Err.halt c.args.sim.0 c.args.call.now c.args.id c.args.self.now _ c.requires.away (ap crew c.in-Err.ensures.err ∙ c.self.view_is) c.in-Err.ensures.why,
@@ -23,7 +23,7 @@ returns-clause-ok g c =
           rw w.result-is (
             h.0,
             h.1,
-            asked_on_link c.args.sim.0 c.args.call.now c.args.id (w.in-Ok.heard).0.0 (w.in-Ok.heard).1 h.0 _ c.args.self.now _ c.queue_call.new.links.lines c.self.view_is c.requires.away c.in_default.ensures.ok c.in_default.ensures.framed h.2 refl refl (w.in-Ok.ensures.lasts going) h.3,
+            asked_on_link c.args.sim.0 c.args.call.now c.args.id (w.in-Ok.heard).0.0 (w.in-Ok.heard).1 h.0 _ c.args.self.now _ c.queue_call.new.links.channels c.self.view_is c.requires.away c.in_default.ensures.ok c.in_default.ensures.framed h.2 refl refl (w.in-Ok.ensures.lasts going) h.3,
           )
       | in-Err-hear w ↦ rw w.result-is tt
     ]

@@ -3,11 +3,11 @@ use Rattle.mk_launch.specs.Starts.{links_in}
 use Rattle.mk_local.specs.Registries.{rows_in}
 use Rattle.mk_outside.specs.Counts.{HasRisen}
 use Rattle.mk_setup.specs.Seen.{SetupState}
-use Rattle.mk_run_links.specs.Places.{Lines, at, new_lines}
+use Rattle.mk_run_links.specs.Places.{Channels, at, new_channels}
 use Rattle.mk_run_crew.specs.Begun.{HasBegun}
 use Rattle.mk_run_crew.specs.Halted.{HasHalted}
 use Rattle.mk_run_crew.proofs.Ending.{halted_silently}
-use Rattle.mk_run_crew.proofs.Unlinked.{lineless, linkless_places, unplaced}
+use Rattle.mk_run_crew.proofs.Unlinked.{no_channels, linkless_places, unplaced}
 use Rattle.mk_run_crew.proofs.crew.Crew.begin_within.Goals as goal
 
 pub new_crew-requires-clause-placed : goal.new_crew-requires-clause-placed
@@ -17,7 +17,7 @@ pub shake_within-requires-clause-new : goal.shake_within-requires-clause-new
 shake_within-requires-clause-new g c started = c.in-Ok-new_crew.ensures.new started [] [] (c.in-Ok.ensures ∙ unplaced started c.args.scenario c.requires.wholly) (sym (ap links_in c.in-Ok.ensures ∙ linkless_places c.args.scenario.sims))
 
 pub shake_within-requires-clause-linkless : goal.shake_within-requires-clause-linkless
-shake_within-requires-clause-linkless g c i = ap (λ (L : Lines). at L i) (c.in-Ok-new_crew.ensures.lines ∙ ap new_lines c.in-Ok.ensures) ∙ lineless c.args.scenario.sims i
+shake_within-requires-clause-linkless g c i = ap (λ (L : Channels). at L i) (c.in-Ok-new_crew.ensures.channels ∙ ap new_channels c.in-Ok.ensures) ∙ no_channels c.args.scenario.sims i
 
 pub returns-in-Err-clause-halted : goal.returns-in-Err-clause-halted
 returns-in-Err-clause-halted g c started faults new_faults = halted_silently started c.args.scenario c.args.ranks (rows_in c.args.kinds.now) _ _ (inl refl)

@@ -11,7 +11,7 @@ invariant-loop g l = record {
   same_count : g.F.Fleet.started l.fleet ≡ g.F.Fleet.started l.fn.fleet;
   same_links : g.F.Fleet.open_links l.fleet ≡ g.F.Fleet.open_links l.fn.fleet;
   same_places : (l.self).places ≡ (l.fn.self).places;
-  are_open : AreOpen (l.self).lines (g.F.Fleet.open_links l.fleet);
+  are_open : AreOpen (l.self).channels (g.F.Fleet.open_links l.fleet);
   so_far : (started : ℕ) → IsNewCrew started (rows_in l.kinds) (l.fn.setup).scenario (g.F.Fleet.open_links l.fn.fleet) l.fn.self
       → GoesSoFar started (l.fn.setup).scenario (l.fn.setup).ranks (rows_in l.kinds) (g.F.Fleet.log l.fn.fleet) (g.F.Fleet.log l.fleet) l.self l.setup;
 }

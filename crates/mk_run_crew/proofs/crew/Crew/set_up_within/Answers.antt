@@ -7,7 +7,7 @@ use Rattle.mk_run_crew.proofs.crew.Crew.set_up_within.Goals as goal
 
 pub asking-init : goal.asking-init
 asking-init g c = record {
-  same_lines = refl;
+  same_channels = refl;
   same_places = refl;
   so_far = starts_within c.args.setup.now.scenario c.args.setup.now.ranks (rows_in c.args.kinds.now) c.replies_make.ensures c.args.self.now c.args.setup.now c.requires.new c.requires.begun;
 }
@@ -26,7 +26,7 @@ returns-in-Ok-Some-clause-ok g c started =
 
 pub asking-preserved : goal.asking-preserved
 asking-preserved g c = record {
-  same_lines = c.in-Ok-None.ensures.same_lines ∙ c.asking.invariant.same_lines;
+  same_channels = c.in-Ok-None.ensures.same_channels ∙ c.asking.invariant.same_channels;
   same_places = c.in-Ok-None.ensures.same_places ∙ c.asking.invariant.same_places;
   so_far =
       steps_on_within c.args.setup.now.scenario c.args.setup.now.ranks (rows_in c.args.kinds.now) c.replies_make.ensures c.asking.self c.asking.setup c.asking.invariant.so_far c.requires.prepared c.step_within.new.self c.step_within.new.setup

@@ -7,7 +7,7 @@ use Rattle.mk_run_crew.proofs.crew.Crew.set_up_within.Given as goal
 -- the requests so far were answered
 abbrev pub invariant-asking : goal.invariant-asking
 invariant-asking g l = record {
-  same_lines : (l.self).lines ≡ (l.fn.self).lines;
+  same_channels : (l.self).channels ≡ (l.fn.self).channels;
   same_places : (l.self).places ≡ (l.fn.self).places;
   so_far : GoesWithin (l.fn.setup).scenario (l.fn.setup).ranks (rows_in l.kinds) l.self l.setup;
 }

@@ -5,7 +5,7 @@ use Rattle.mk_run_local.specs.Seen.{AreOf}
 use Rattle.mk_run_crew.specs.Seen.{within_of}
 use Rattle.mk_run.specs.inner.Underway.{Setting}
 use Rattle.mk_run.specs.inner.Turns.{GoesOn, IsNoShorter, IsStill}
-use Rattle.mk_run.proofs.driving.settle.Given as goal
+use Rattle.mk_run.proofs.driving.ask_all.Given as goal
 
 -- whoever was asked so far was sent a Step
 abbrev pub invariant-asking : goal.invariant-asking

@@ -1,4 +1,4 @@
--- Whoever was ready was asked: what the calls of a resumed run's settling come to.
+-- Whoever was ready was asked: what the calls of a resumed run's asking come to.
 use Rattle.std.proofs.Common.{◌≡◌, inl, inr, ℕ, ◌<◌, ◌≤◌, List, [], ◌∷◌, ◌++◌, length, slice_get, Option, Some, None, Result, Ok, Err, OnOk, OnErr, IfErr, refl, sym, ap, ◌∙◌, subst, arith}
 use Rattle.mk_base.specs.declared.SimNo.{SimNo}
 use Rattle.mk_base.specs.Lists.{BeginsWith}
@@ -10,7 +10,7 @@ use Rattle.mk_plan.specs.declared.Entry.{Entry}
 use Rattle.mk_plan.specs.declared.Entry.TheVariants.{Sent}
 use Rattle.mk_plan.specs.Journals.{got, view}
 use Rattle.mk_plan.specs.Ready.{IsDone}
-use Rattle.mk_order.proofs.Settled.{done_is_quiet}
+use Rattle.mk_order.proofs.SameEnd.{done_is_quiet}
 use Rattle.mk_outside.specs.declared.fleet.LogEntry.{LogEntry}
 use Rattle.mk_sched.specs.Cores.{CoreState, Stands}
 use Rattle.mk_sched.specs.Answers.{SomeOpen, SomeReady, IsAsked, IsOver, IsWaiting}

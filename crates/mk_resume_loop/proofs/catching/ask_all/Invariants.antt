@@ -8,7 +8,7 @@ use Rattle.mk_run.specs.inner.Underway.{Setting}
 use Rattle.mk_run.specs.inner.Turns.{IsStill}
 use Rattle.mk_resume_links.specs.Rests.{Counts}
 use Rattle.mk_resume_loop.specs.inner.Turns.{GoesOn}
-use Rattle.mk_resume_loop.proofs.catching.settle.Given as goal
+use Rattle.mk_resume_loop.proofs.catching.ask_all.Given as goal
 
 -- whoever was asked so far and has caught up was sent a Step
 abbrev pub invariant-asking : goal.invariant-asking

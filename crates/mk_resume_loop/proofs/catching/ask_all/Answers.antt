@@ -7,16 +7,16 @@ use Rattle.mk_sched.specs.Cores.{CoreState}
 use Rattle.mk_sched.specs.Answers.{NextOf, IsAsked, IsWaiting, IsOver}
 use Rattle.mk_resume_loop.specs.declared.ending.Pause.{Pause}
 use Rattle.mk_resume_loop.specs.declared.ending.ResumeEnd.{ResumeEnd}
-use Rattle.mk_resume_loop.specs.inner.Turns.{SettlesAs}
+use Rattle.mk_resume_loop.specs.inner.Turns.{AsksAllAs}
 use Rattle.mk_resume_loop.proofs.Endings.{full_ends, mem_ends}
 use Rattle.mk_resume_loop.proofs.Turning.{asked_there, can_ask, over_on, waiting_on}
-use Rattle.mk_resume_loop.proofs.Settling.{asked_not, asked_so, over_so, waits_so}
-use Rattle.mk_resume_loop.proofs.catching.settle.Goals as goal
+use Rattle.mk_resume_loop.proofs.AskingAll.{asked_not, asked_so, over_so, waits_so}
+use Rattle.mk_resume_loop.proofs.catching.ask_all.Goals as goal
 
-pub returns-in_err-sim-clause-settled : goal.returns-in_err-sim-clause-settled
-returns-in_err-sim-clause-settled g c =
+pub returns-in_err-sim-clause-asked_all : goal.returns-in_err-sim-clause-asked_all
+returns-in_err-sim-clause-asked_all g c =
     let e = err_from_is_err_and c.from_residual.result c.from_residual.ensures.1 in
-    subst (λ (r : Result Pause ResumeEnd). SettlesAs r c.args.core.now c.args.crew.now c.next.new.self c.asking.crew c.args.behind.now) (sym (e.1 ∙ ap (λ (end : ResumeEnd). Err end) e.2))
+    subst (λ (r : Result Pause ResumeEnd). AsksAllAs r c.args.core.now c.args.crew.now c.next.new.self c.asking.crew c.args.behind.now) (sym (e.1 ∙ ap (λ (end : ResumeEnd). Err end) e.2))
     (λ T first heard log u. (heard, mem_ends T first ⊥ c.asking.core c.next.new.self heard log _ _ (c.asking.invariant.goes T first heard log u).0 c.in_err-sim.ensures.err))
 
 pub ask-requires-clause-there : goal.ask-requires-clause-there
@@ -50,16 +50,16 @@ asking-preserved g c =
       goes = λ T first heard log u. asked_so T c.asking.core c.next.new.self first heard log c.asking.crew c.args.behind.now c.in-Ask.sim (so_far.goes T first heard log u) c.next.ensures.stands a c.replies_are_kinds.ensures c.ask.new.crew sent.asked;
     }
 
-pub returns-in_err-ask-in-Ask-clause-settled : goal.returns-in_err-ask-in-Ask-clause-settled
-returns-in_err-ask-in-Ask-clause-settled g c =
+pub returns-in_err-ask-in-Ask-clause-asked_all : goal.returns-in_err-ask-in-Ask-clause-asked_all
+returns-in_err-ask-in-Ask-clause-asked_all g c =
     let a : IsAsked c.asking.core c.in-Ask.sim c.next.new.self = subst (λ (n : Next). NextOf c.asking.core n c.next.new.self) c.in-Ask.is c.in_ok-sim.ensures.ok in
     let e = err_from_is_err_and c.from_residual-in_err-ask-in-Ask.result c.from_residual-in_err-ask-in-Ask.ensures.1 in
     let unsent = c.in_err-ask-in-Ask.ensures in
-    subst (λ (r : Result Pause ResumeEnd). SettlesAs r c.args.core.now c.args.crew.now c.next.new.self c.ask.new.crew c.args.behind.now) (sym (e.1 ∙ ap (λ (end : ResumeEnd). Err end) e.2))
+    subst (λ (r : Result Pause ResumeEnd). AsksAllAs r c.args.core.now c.args.crew.now c.next.new.self c.ask.new.crew c.args.behind.now) (sym (e.1 ∙ ap (λ (end : ResumeEnd). Err end) e.2))
     (λ T first heard log u. asked_not T c.asking.core c.next.new.self first heard log c.asking.crew c.args.behind.now c.in-Ask.sim (c.asking.invariant.goes T first heard log u) c.next.ensures.stands a c.ask.new.crew c.in_err-ask-in-Ask.field-0.0 unsent.asked)
 
-pub returns-in-Wait-clause-settled : goal.returns-in-Wait-clause-settled
-returns-in-Wait-clause-settled g c =
+pub returns-in-Wait-clause-asked_all : goal.returns-in-Wait-clause-asked_all
+returns-in-Wait-clause-asked_all g c =
     let w : IsWaiting c.asking.core c.next.new.self = subst (λ (n : Next). NextOf c.asking.core n c.next.new.self) c.in-Wait.is c.in_ok-sim.ensures.ok in
     let so = waits_so c.asking.core c.next.new.self w in (
       ap (λ (k : CoreState). k.ended) w.same ∙ c.asking.invariant.going,
@@ -68,8 +68,8 @@ returns-in-Wait-clause-settled g c =
       (λ T first heard log u. waiting_on T c.asking.core c.next.new.self first heard log c.asking.crew c.args.behind.now w (c.asking.invariant.goes T first heard log u)),
     )
 
-pub returns-in-Done-clause-settled : goal.returns-in-Done-clause-settled
-returns-in-Done-clause-settled g c =
+pub returns-in-Done-clause-asked_all : goal.returns-in-Done-clause-asked_all
+returns-in-Done-clause-asked_all g c =
     let o : IsOver c.asking.core c.next.new.self = subst (λ (n : Next). NextOf c.asking.core n c.next.new.self) c.in-Done.is c.in_ok-sim.ensures.ok in
     let so = over_so c.asking.core c.next.new.self o in (
       ap (λ (k : CoreState). k.ended) o.same ∙ c.asking.invariant.going,
@@ -78,6 +78,6 @@ returns-in-Done-clause-settled g c =
       (λ T first heard log u. over_on T c.asking.core c.next.new.self first heard log c.asking.crew c.args.behind.now o (c.asking.invariant.goes T first heard log u)),
     )
 
-pub returns-in-Fault-clause-settled : goal.returns-in-Fault-clause-settled
-returns-in-Fault-clause-settled g c = λ T first heard log u.
+pub returns-in-Fault-clause-asked_all : goal.returns-in-Fault-clause-asked_all
+returns-in-Fault-clause-asked_all g c = λ T first heard log u.
     (heard, full_ends T first ⊥ c.asking.core c.next.new.self c.in-Fault.fault heard log _ _ c.asking.invariant.going (c.asking.invariant.goes T first heard log u).0 (subst (λ (n : Next). NextOf c.asking.core n c.next.new.self) c.in-Fault.is c.in_ok-sim.ensures.ok))

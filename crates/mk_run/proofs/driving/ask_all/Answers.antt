@@ -6,16 +6,16 @@ use Rattle.mk_sched.specs.Cores.{CoreState}
 use Rattle.mk_sched.specs.Answers.{NextOf, IsAsked, IsWaiting, IsOver}
 use Rattle.mk_run_crew.specs.Seen.{CrewSeen}
 use Rattle.mk_run.specs.declared.outcome.Outcome.{Outcome}
-use Rattle.mk_run.specs.inner.Turns.{IsLinkedIfLong, IsStopping, SettlesAs}
+use Rattle.mk_run.specs.inner.Turns.{IsLinkedIfLong, IsStopping, AsksAllAs}
 use Rattle.mk_run.proofs.Endings.{done_ends, full_ends, mem_ends}
 use Rattle.mk_run.proofs.Turning.{can_ask, asked_there, asked_on, asked_not, waiting_on, waits_so}
 use Rattle.mk_run.proofs.Growing.{asked_more, unsent_linked}
-use Rattle.mk_run.proofs.driving.settle.Goals as goal
+use Rattle.mk_run.proofs.driving.ask_all.Goals as goal
 
-pub returns-in_err-sim-clause-settled : goal.returns-in_err-sim-clause-settled
-returns-in_err-sim-clause-settled g c =
+pub returns-in_err-sim-clause-asked_all : goal.returns-in_err-sim-clause-asked_all
+returns-in_err-sim-clause-asked_all g c =
     let e = err_from_is_err_and c.from_residual.result c.from_residual.ensures.1 in
-    subst (λ (r : Result (Unit {0}) Outcome). SettlesAs r c.args.core.now c.args.crew.now c.next.new.self c.asking.crew) (sym (e.1 ∙ ap (λ (end : Outcome). Err end) e.2))
+    subst (λ (r : Result (Unit {0}) Outcome). AsksAllAs r c.args.core.now c.args.crew.now c.next.new.self c.asking.crew) (sym (e.1 ∙ ap (λ (end : Outcome). Err end) e.2))
     (λ T log u. mem_ends T ⊥ c.asking.core c.next.new.self log _ _ (c.asking.invariant.goes T log u) c.in_err-sim.ensures.err)
 
 pub send_last-requires-clause-there : goal.send_last-requires-clause-there
@@ -44,30 +44,30 @@ asking-preserved g c =
       goes = λ T log u. asked_on T c.asking.core c.next.new.self log c.asking.crew c.in-Ask.sim (so_far.goes T log u) c.next.ensures.stands a c.replies_are_kinds.ensures c.send_last.new.crew sent.sent;
     }
 
-pub returns-in_err-send_last-in-Ask-clause-settled : goal.returns-in_err-send_last-in-Ask-clause-settled
-returns-in_err-send_last-in-Ask-clause-settled g c =
+pub returns-in_err-send_last-in-Ask-clause-asked_all : goal.returns-in_err-send_last-in-Ask-clause-asked_all
+returns-in_err-send_last-in-Ask-clause-asked_all g c =
     let a : IsAsked c.asking.core c.in-Ask.sim c.next.new.self = subst (λ (n : Next). NextOf c.asking.core n c.next.new.self) c.in-Ask.is c.in_ok-sim.ensures.ok in
     let e = err_from_is_err_and c.from_residual-in_err-send_last-in-Ask.result c.from_residual-in_err-send_last-in-Ask.ensures.1 in
     let unsent = c.in_err-send_last-in-Ask.ensures in
-    subst (λ (r : Result (Unit {0}) Outcome). SettlesAs r c.args.core.now c.args.crew.now c.next.new.self c.send_last.new.crew) (sym (e.1 ∙ ap (λ (end : Outcome). Err end) e.2))
+    subst (λ (r : Result (Unit {0}) Outcome). AsksAllAs r c.args.core.now c.args.crew.now c.next.new.self c.send_last.new.crew) (sym (e.1 ∙ ap (λ (end : Outcome). Err end) e.2))
     (λ T log u. subst (λ (D : CrewSeen). IsStopping ⊥ T c.next.new.self log D c.in_err-send_last-in-Ask.field-0.0) (sym unsent.err)
     (asked_not T c.asking.core c.next.new.self log c.asking.crew c.in-Ask.sim (c.asking.invariant.goes T log u) c.next.ensures.stands a c.in_err-send_last-in-Ask.field-0.0 unsent.unsent))
 
-pub returns-in-Wait-clause-settled : goal.returns-in-Wait-clause-settled
-returns-in-Wait-clause-settled g c =
+pub returns-in-Wait-clause-asked_all : goal.returns-in-Wait-clause-asked_all
+returns-in-Wait-clause-asked_all g c =
     let w : IsWaiting c.asking.core c.next.new.self = subst (λ (n : Next). NextOf c.asking.core n c.next.new.self) c.in-Wait.is c.in_ok-sim.ensures.ok in (
       ap (λ (k : CoreState). k.ended) w.same ∙ c.asking.invariant.going,
       waits_so c.asking.core c.next.new.self w,
       (λ T log u. waiting_on T c.asking.core c.next.new.self log c.asking.crew w (c.asking.invariant.goes T log u)),
     )
 
-pub returns-in-Done-clause-settled : goal.returns-in-Done-clause-settled
-returns-in-Done-clause-settled g c =
+pub returns-in-Done-clause-asked_all : goal.returns-in-Done-clause-asked_all
+returns-in-Done-clause-asked_all g c =
     let o : IsOver c.asking.core c.next.new.self = subst (λ (n : Next). NextOf c.asking.core n c.next.new.self) c.in-Done.is c.in_ok-sim.ensures.ok in
     λ T log u. done_ends T ⊥ c.asking.core c.next.new.self log _ _ (c.asking.invariant.goes T log u) o
 
-pub returns-in-Fault-clause-settled : goal.returns-in-Fault-clause-settled
-returns-in-Fault-clause-settled g c = λ T log u. full_ends T ⊥ c.asking.core c.next.new.self c.in-Fault.fault log _ _ c.asking.invariant.going (c.asking.invariant.goes T log u) (subst (λ (n : Next). NextOf c.asking.core n c.next.new.self) c.in-Fault.is c.in_ok-sim.ensures.ok)
+pub returns-in-Fault-clause-asked_all : goal.returns-in-Fault-clause-asked_all
+returns-in-Fault-clause-asked_all g c = λ T log u. full_ends T ⊥ c.asking.core c.next.new.self c.in-Fault.fault log _ _ c.asking.invariant.going (c.asking.invariant.goes T log u) (subst (λ (n : Next). NextOf c.asking.core n c.next.new.self) c.in-Fault.is c.in_ok-sim.ensures.ok)
 
 pub returns-in_err-send_last-in-Ask-clause-grown : goal.returns-in_err-send_last-in-Ask-clause-grown
 returns-in_err-send_last-in-Ask-clause-grown g c =
