@@ -13,13 +13,13 @@ use Rattle.mosaikrun_endings.specs.declared.ending.Ending.{Ending}
 use Rattle.mosaikrun_endings.specs.declared.ending.Ending.TheVariants as endings
 use Rattle.mosaikrun_sayings.specs.Sayings.{ids_of}
 use Rattle.mosaikrun_run.specs.declared.sayings.Form.TheVariants.{Report}
-use Rattle.mosaikrun_run.specs.Outcomes.{IsReadAgain, IsUnready, Outside}
-use Rattle.mosaikrun_run.specs.Records.{IsSettled, IsStepSaid}
+use Rattle.mosaikrun_run.specs.Outcomes.{IsReadAgain, IsUnrunnableScenario, Outside}
+use Rattle.mosaikrun_run.specs.Records.{EndsOfItself, IsStepSaid}
 use Rattle.mosaikrun_run.specs.Sayings.{halt_ending}
 use Rattle.mosaikrun_run.proofs.Recording.{unready_not, unrun_not}
 use Rattle.mosaikrun_paced.specs.Laws.{PacedRecordsAreThere}
 use Rattle.mosaikrun_paced.specs.Outcomes.{IsPacedScenario, IsUnpaced}
-use Rattle.mosaikrun_paced.specs.Records.{HasPaceRecord, IsLateEnding, IsPaceSettled}
+use Rattle.mosaikrun_paced.specs.Records.{HasPaceRecord, IsLateEnding, EndsOfItselfPaced}
 
 -- a fleet with which nothing was done didn't sleep
 pub awake_none : (log : List LogEntry) → log ≡ [] → IsAwake log
@@ -47,25 +47,25 @@ halt_in_time ids (halt.LongFrame sim n) late = let wrong = late.is in cc
 halt_in_time ids (halt.LongItem sim n) late = let wrong = late.is in cc
 halt_in_time ids halt.Mem late = let wrong = late.is in cc
 
--- that an ending is settled in a paced run means that it is in a run, or that a Step was too late
-settled_or_late : (text : Result (List ℕ) Ending) (e : Ending) → text ≡ Err e → (IsLateEnding e → ⊥) → IsPaceSettled text → IsSettled text
-settled_or_late text e is not settled = elim (subst (λ (t : Result (List ℕ) Ending). IsPaceSettled t) is settled) [
-  | inl fault ↦ subst (λ (t : Result (List ℕ) Ending). IsSettled t) (sym is) fault
+-- that an ending is of_itself in a paced run means that it is in a run, or that a Step was too late
+of_itself_or_late : (text : Result (List ℕ) Ending) (e : Ending) → text ≡ Err e → (IsLateEnding e → ⊥) → EndsOfItselfPaced text → EndsOfItself text
+of_itself_or_late text e is not of_itself = elim (subst (λ (t : Result (List ℕ) Ending). EndsOfItselfPaced t) is of_itself) [
+  | inl fault ↦ subst (λ (t : Result (List ℕ) Ending). EndsOfItself t) (sym is) fault
   | inr late ↦ absurd (not late)
 ]
 
 module _ (O : Outside) (factor : ℕ) (strict : Option ℕ) (S : Scenario) (text : Result (List ℕ) Ending) (kept : Option (List ℕ)) where
   abbrev Due : Type 0
-  Due = IsPaceSettled text ⊎ (IsStepSaid O.started S O.log ⊎ (IsAwake O.log → ⊥))
+  Due = EndsOfItselfPaced text ⊎ (IsStepSaid O.started S O.log ⊎ (IsAwake O.log → ⊥))
 
-  not_unready : IsUnready O S text kept → Due → ⊥
-  not_unready u (inl settled) = unready_not O Report S text kept u (inl (settled_or_late text u.ending u.is (unrunnable_in_time (map name_of O.kinds) S u.ending u.cause) settled))
+  not_unready : IsUnrunnableScenario O S text kept → Due → ⊥
+  not_unready u (inl of_itself) = unready_not O Report S text kept u (inl (of_itself_or_late text u.ending u.is (unrunnable_in_time (map name_of O.kinds) S u.ending u.cause) of_itself))
   not_unready u (inr (inl said)) = unready_not O Report S text kept u (inr said)
   not_unready u (inr (inr slept)) = slept (awake_none O.log u.idle.quiet)
 
   not_unpaced : IsUnpaced O S text kept → (text ≡ Err endings.Mem → ⊥) → Due → ⊥
-  not_unpaced u not (inl settled) = elim u.unrun.said [
-    | inl same ↦ unrun_not O Report S text kept u.unrun not (inl (settled_or_late text (halt_ending (ids_of S) u.unrun.halt) same (halt_in_time (ids_of S) u.unrun.halt) settled))
+  not_unpaced u not (inl of_itself) = elim u.unrun.said [
+    | inl same ↦ unrun_not O Report S text kept u.unrun not (inl (of_itself_or_late text (halt_ending (ids_of S) u.unrun.halt) same (halt_in_time (ids_of S) u.unrun.halt) of_itself))
     | inr mem ↦ not mem
   ]
   not_unpaced u not (inr (inl said)) = unrun_not O Report S text kept u.unrun not (inr said)

@@ -14,7 +14,7 @@ use Rattle.mosaikrun_run.specs.declared.sayings.Form.TheVariants.{Report}
 use Rattle.mosaikrun_run.specs.Outcomes.{IsPlayed, Outside}
 use Rattle.mosaikrun_run.specs.Records.{IsStepSaid}
 use Rattle.mosaikrun_paced.specs.Outcomes.{IsPacedRun, IsPacedScenario}
-use Rattle.mosaikrun_paced.specs.Records.{HasPaceRecord, IsPaceSettled}
+use Rattle.mosaikrun_paced.specs.Records.{HasPaceRecord, EndsOfItselfPaced}
 
 -- the report of a paced run is that of what sequential execution of its plan sends each simulator, over
 -- all messages that the links have brought and whatever may still come, those of simulators within
@@ -46,7 +46,7 @@ pub record PacedRecordsAreThere : Type 0 where
   pub there : (O : Outside) (factor : ℕ) (strict : Option ℕ) (S : Scenario)
       (text : Result (List ℕ) Ending) (kept : Option (List ℕ))
       → IsPacedScenario O factor strict true S text kept → (text ≡ Err Mem → ⊥)
-      → IsPaceSettled text ⊎ (IsStepSaid O.started S O.log ⊎ (IsAwake O.log → ⊥))
+      → EndsOfItselfPaced text ⊎ (IsStepSaid O.started S O.log ⊎ (IsAwake O.log → ⊥))
       → HasPaceRecord O factor strict S text kept
   pub only : (O : Outside) (factor : ℕ) (strict : Option ℕ) (S : Scenario)
       (text : Result (List ℕ) Ending) (kept : Option (List ℕ))

@@ -13,7 +13,7 @@ use Rattle.mk_pace_laws.specs.Paced.{HasPaced, IsAwake}
 use Rattle.mosaikrun_check.specs.Runnable.{IsRunnable}
 use Rattle.mosaikrun_endings.specs.declared.ending.Ending.{Ending}
 use Rattle.mosaikrun_endings.specs.declared.ending.Ending.TheVariants as endings
-use Rattle.mosaikrun_run.specs.Outcomes.{IsNoScenario, IsReadAgain, IsSaid, IsUnready, IsUnrun, Outside}
+use Rattle.mosaikrun_run.specs.Outcomes.{IsNoScenario, IsReadAgain, IsSaid, IsUnrunnableScenario, IsUnrun, Outside}
 use Rattle.mosaikrun_run.specs.Sayings.{record_of}
 use Rattle.mosaikrun_sayings.specs.Sayings.{ids_of}
 use Rattle.mosaikrun_paced.specs.Sayings.{pace_saying}
@@ -47,7 +47,7 @@ pub record IsPacedRun (O : Outside) (factor : ℕ) (strict : Option ℕ) (wanted
 -- what comes of a scenario: it can't be run, it wasn't, or it was
 abbrev pub IsPacedScenario : Outside → ℕ → Option ℕ → Bool → Scenario → Result (List ℕ) Ending
     → Option (List ℕ) → Type 0
-IsPacedScenario O factor strict wanted S text kept = IsUnready O S text kept
+IsPacedScenario O factor strict wanted S text kept = IsUnrunnableScenario O S text kept
     ⊎ (IsUnpaced O S text kept ⊎ IsPacedRun O factor strict wanted S text kept)
 
 -- the bytes are a scenario, which is well-formed, and this comes of it

@@ -23,9 +23,9 @@ pub record IsLateEnding (e : Ending) : Type 0 where
   pub is : e ≡ Late sim time late allowed
 
 -- all is done, the run met a fault, or a Step was too late
-abbrev pub IsPaceSettled : {V : Type 0} → Result V Ending → Type 0
-IsPaceSettled (Ok value) = ⊤
-IsPaceSettled (Err e) = IsRunFault e ⊎ IsLateEnding e
+abbrev pub EndsOfItselfPaced : {V : Type 0} → Result V Ending → Type 0
+EndsOfItselfPaced (Ok value) = ⊤
+EndsOfItselfPaced (Err e) = IsRunFault e ⊎ IsLateEnding e
 
 -- there is a record, which is that of the plan and the journal of a paced run, and says these where it
 -- is read again; and what was said of this same run, of its end, is its report, or why there is none

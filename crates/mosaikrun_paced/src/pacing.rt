@@ -52,10 +52,10 @@ pub fn paced_ran<F: Paced, R: Wait>(
         × (IsSome (F.log fleet.new) → IsRising entries) }
     ensures text { IfOk result.text (λ text. HoldsOver F.log F.started F.faults (rows_in kinds.now)
         fleet.old fleet.new (λ O. IsPacedOutcome O factor strict is_recorded bytes.now
-        (Ok text.items) (option_map (λ r. r.items) result.record))) }
+        (Ok text.items) (option_map (λ r. r.items) result.record_text))) }
     ensures none { IfErr result.text (λ e. HoldsOver F.log F.started F.faults (rows_in kinds.now)
         fleet.old fleet.new (λ O. IsPacedOutcome O factor strict is_recorded bytes.now (Err e)
-        (option_map (λ r. r.items) result.record))) }
+        (option_map (λ r. r.items) result.record_text))) }
 {
     match scenario_of(alloc, bytes) {
         Ok(scenario) => {
@@ -96,10 +96,10 @@ fn play<F: Paced, R: Wait>(
         × (IsSome (F.log fleet.new) → IsRising entries) }
     ensures text { IfOk result.text (λ text. HoldsOver F.log F.started F.faults (rows_in kinds.now)
         fleet.old fleet.new (λ O. IsPacedScenario O factor strict is_recorded scenario
-        (Ok text.items) (option_map (λ r. r.items) result.record))) }
+        (Ok text.items) (option_map (λ r. r.items) result.record_text))) }
     ensures none { IfErr result.text (λ e. HoldsOver F.log F.started F.faults (rows_in kinds.now)
         fleet.old fleet.new (λ O. IsPacedScenario O factor strict is_recorded scenario (Err e)
-        (option_map (λ r. r.items) result.record))) }
+        (option_map (λ r. r.items) result.record_text))) }
 {
     match accept(alloc, kinds, &scenario) {
         Ok(accepted) => pace(
@@ -142,10 +142,10 @@ fn pace<F: Paced, R: Wait>(
         × (IsSome (F.log fleet.new) → IsRising entries) }
     ensures text { IfOk result.text (λ text. HoldsOver F.log F.started F.faults (rows_in kinds.now)
         fleet.old fleet.new (λ O. IsPacedScenario O factor strict is_recorded scenario
-        (Ok text.items) (option_map (λ r. r.items) result.record))) }
+        (Ok text.items) (option_map (λ r. r.items) result.record_text))) }
     ensures none { IfErr result.text (λ e. HoldsOver F.log F.started F.faults (rows_in kinds.now)
         fleet.old fleet.new (λ O. IsPacedScenario O factor strict is_recorded scenario (Err e)
-        (option_map (λ r. r.items) result.record))) }
+        (option_map (λ r. r.items) result.record_text))) }
 {
     let Accepted { ranks, ids } = accepted;
     let PaceRan {
@@ -175,10 +175,10 @@ fn tell(
         (λ text. IsSaid (pace_saying ids.now plan.now journal.now.entries end) (Ok text.items)) }
     ensures none { IfErr result.text
         (λ e. IsSaid (pace_saying ids.now plan.now journal.now.entries end) (Err e)) }
-    ensures recorded { (option_map (λ r. r.items) result.record
+    ensures recorded { (option_map (λ r. r.items) result.record_text
         ≡ record_of is_recorded plan.now journal.now.entries)
-        ⊎ ((result.record ≡ None) × (result.text ≡ Err endings.Mem)) }
-    ensures again { IfSome result.record
+        ⊎ ((result.record_text ≡ None) × (result.text ≡ Err endings.Mem)) }
+    ensures again { IfSome result.record_text
         (λ r. IsReadAgain plan.now journal.now.entries r.items) }
 {
     let text = saying_at(alloc, ids, end, plan, journal);

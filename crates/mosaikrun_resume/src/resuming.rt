@@ -95,10 +95,10 @@ pub fn resumed<F: Fleet, R: Wait>(
     ensures within { is_wholly_within study.scenario ≡ true → fleet.new ≡ fleet.old }
     ensures text { IfOk result.text (λ text. HoldsOver F.log F.started F.faults (rows_in kinds.now)
         fleet.old fleet.new (λ O. IsStudyOutcome O is_recorded study.scenario study.ranks bytes.now
-        (Ok text.items) (option_map (λ r. r.items) result.record))) }
+        (Ok text.items) (option_map (λ r. r.items) result.record_text))) }
     ensures none { IfErr result.text (λ e. HoldsOver F.log F.started F.faults (rows_in kinds.now)
         fleet.old fleet.new (λ O. IsStudyOutcome O is_recorded study.scenario study.ranks bytes.now
-        (Err e) (option_map (λ r. r.items) result.record))) }
+        (Err e) (option_map (λ r. r.items) result.record_text))) }
 {
     match saved_of(alloc, bytes) {
         Ok(saved) => go_on(rt, alloc, kinds, study, saved, fleet, is_recorded),
@@ -126,10 +126,10 @@ fn go_on<F: Fleet, R: Wait>(
     ensures within { is_wholly_within study.scenario ≡ true → fleet.new ≡ fleet.old }
     ensures text { IfOk result.text (λ text. HoldsOver F.log F.started F.faults (rows_in kinds.now)
         fleet.old fleet.new (λ O. IsSavedOutcome O is_recorded study.scenario study.ranks saved
-        (Ok text.items) (option_map (λ r. r.items) result.record))) }
+        (Ok text.items) (option_map (λ r. r.items) result.record_text))) }
     ensures none { IfErr result.text (λ e. HoldsOver F.log F.started F.faults (rows_in kinds.now)
         fleet.old fleet.new (λ O. IsSavedOutcome O is_recorded study.scenario study.ranks saved
-        (Err e) (option_map (λ r. r.items) result.record))) }
+        (Err e) (option_map (λ r. r.items) result.record_text))) }
 {
     let Study {
         scenario,
@@ -166,12 +166,12 @@ fn tell(
         (λ text. IsSaid (resume_saying ids.now plan.now journal.now.entries end) (Ok text.items)) }
     ensures none { IfErr result.text
         (λ e. IsSaid (resume_saying ids.now plan.now journal.now.entries end) (Err e)) }
-    ensures recorded { taken ≡ true → (option_map (λ r. r.items) result.record
+    ensures recorded { taken ≡ true → (option_map (λ r. r.items) result.record_text
         ≡ record_of is_recorded plan.now journal.now.entries)
-        ⊎ ((result.record ≡ None) × (result.text ≡ Err ends.Mem)) }
-    ensures again { IfSome result.record
+        ⊎ ((result.record_text ≡ None) × (result.text ≡ Err ends.Mem)) }
+    ensures again { IfSome result.record_text
         (λ r. IsReadAgain plan.now journal.now.entries r.items) }
-    ensures unrecorded { taken ≡ false → result.record ≡ None }
+    ensures unrecorded { taken ≡ false → result.record_text ≡ None }
 {
     if taken {
         tell_recorded(alloc, ids, end, plan, journal, is_recorded)
@@ -194,10 +194,10 @@ fn tell_recorded(
         (λ text. IsSaid (resume_saying ids.now plan.now journal.now.entries end) (Ok text.items)) }
     ensures none { IfErr result.text
         (λ e. IsSaid (resume_saying ids.now plan.now journal.now.entries end) (Err e)) }
-    ensures recorded { (option_map (λ r. r.items) result.record
+    ensures recorded { (option_map (λ r. r.items) result.record_text
         ≡ record_of is_recorded plan.now journal.now.entries)
-        ⊎ ((result.record ≡ None) × (result.text ≡ Err ends.Mem)) }
-    ensures again { IfSome result.record
+        ⊎ ((result.record_text ≡ None) × (result.text ≡ Err ends.Mem)) }
+    ensures again { IfSome result.record_text
         (λ r. IsReadAgain plan.now journal.now.entries r.items) }
 {
     let text = saying_at(alloc, ids, end, plan, journal);
@@ -216,10 +216,10 @@ fn tell_refused(
         (λ text. IsSaid (resume_saying ids.now plan.now journal.now.entries end) (Ok text.items)) }
     ensures none { IfErr result.text
         (λ e. IsSaid (resume_saying ids.now plan.now journal.now.entries end) (Err e)) }
-    ensures unrecorded { result.record ≡ None }
+    ensures unrecorded { result.record_text ≡ None }
 {
     Told {
         text: saying_at(alloc, ids, end, plan, journal),
-        record: None,
+        record_text: None,
     }
 }

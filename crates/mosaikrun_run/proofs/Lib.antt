@@ -1,3 +1,4 @@
+mod Halting
 mod OneText
 pub mod Recording
 pub mod Reporting

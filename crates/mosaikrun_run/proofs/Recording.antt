@@ -28,8 +28,8 @@ use Rattle.mosaikrun_endings.specs.declared.ending.Ending.TheVariants as ends
 use Rattle.mosaikrun_sayings.specs.Sayings.{ids_of}
 use Rattle.mosaikrun_run.specs.declared.sayings.Form.{Form}
 use Rattle.mosaikrun_run.specs.Laws.{RecordsAreThere}
-use Rattle.mosaikrun_run.specs.Outcomes.{IsReadAgain, IsScenarioOutcome, IsUnready, IsUnrun, Outside}
-use Rattle.mosaikrun_run.specs.Records.{HasRecord, IsRunFault, IsSettled, IsStepSaid}
+use Rattle.mosaikrun_run.specs.Outcomes.{IsReadAgain, IsScenarioOutcome, IsUnrunnableScenario, IsUnrun, Outside}
+use Rattle.mosaikrun_run.specs.Records.{HasRecord, IsRunFault, EndsOfItself, IsStepSaid}
 use Rattle.mosaikrun_run.specs.Sayings.{halt_ending}
 use Rattle.mosaikrun_run.proofs.StepFrames.{IsCallText, frames_there, step_unsaid}
 
@@ -60,35 +60,35 @@ halted_said started S ranks rows log risen h halted said =
 -- ---- what has no journal has no fault of a run
 
 unrunnable_not : (kinds : List (List ℕ)) (S : Scenario) (e : Ending) → IsUnrunnable kinds S e → IsRunFault e → ⊥
-unrunnable_not kinds S e (inl mem) settled = subst IsRunFault mem settled
-unrunnable_not kinds S e (inr (inl circle)) settled = subst IsRunFault circle.is settled
-unrunnable_not kinds S e (inr (inr unprepared)) settled = subst IsRunFault unprepared.unbegun.is settled
+unrunnable_not kinds S e (inl mem) of_itself = subst IsRunFault mem of_itself
+unrunnable_not kinds S e (inr (inl circle)) of_itself = subst IsRunFault circle.is of_itself
+unrunnable_not kinds S e (inr (inr unprepared)) of_itself = subst IsRunFault unprepared.unbegun.is of_itself
 
 halt_not : (ids : List (List ℕ)) (h : Halt) → IsRunFault (halt_ending ids h) → ⊥
-halt_not ids (halt.Setup (fault.Meta sim e)) settled = settled
-halt_not ids (halt.Setup (fault.Create sim e)) settled = settled
-halt_not ids (halt.Setup (fault.Connect e)) settled = settled
-halt_not ids (halt.Setup (fault.Unasked sim)) settled = settled
-halt_not ids (halt.Setup (fault.Failed sim text)) settled = settled
-halt_not ids (halt.Setup fault.Mem) settled = settled
-halt_not ids halt.Fleet settled = settled
-halt_not ids (halt.Gone sim) settled = settled
-halt_not ids (halt.Garbled sim test) settled = settled
-halt_not ids (halt.LongFrame sim n) settled = settled
-halt_not ids (halt.LongItem sim n) settled = settled
-halt_not ids halt.Mem settled = settled
+halt_not ids (halt.Setup (fault.Meta sim e)) of_itself = of_itself
+halt_not ids (halt.Setup (fault.Create sim e)) of_itself = of_itself
+halt_not ids (halt.Setup (fault.Connect e)) of_itself = of_itself
+halt_not ids (halt.Setup (fault.Unasked sim)) of_itself = of_itself
+halt_not ids (halt.Setup (fault.Failed sim text)) of_itself = of_itself
+halt_not ids (halt.Setup fault.Mem) of_itself = of_itself
+halt_not ids halt.Fleet of_itself = of_itself
+halt_not ids (halt.Gone sim) of_itself = of_itself
+halt_not ids (halt.Garbled sim test) of_itself = of_itself
+halt_not ids (halt.LongFrame sim n) of_itself = of_itself
+halt_not ids (halt.LongItem sim n) of_itself = of_itself
+halt_not ids halt.Mem of_itself = of_itself
 
 module _ (O : Outside) (form : Form) (S : Scenario) (text : Result (List ℕ) Ending) (kept : Option (List ℕ)) where
-  pub unready_not : IsUnready O S text kept → IsSettled text ⊎ IsStepSaid O.started S O.log → ⊥
-  unready_not u (inl settled) = unrunnable_not (map name_of O.kinds) S u.ending u.cause (subst (λ (t : Result (List ℕ) Ending). IsSettled t) u.is settled)
+  pub unready_not : IsUnrunnableScenario O S text kept → EndsOfItself text ⊎ IsStepSaid O.started S O.log → ⊥
+  unready_not u (inl of_itself) = unrunnable_not (map name_of O.kinds) S u.ending u.cause (subst (λ (t : Result (List ℕ) Ending). EndsOfItself t) u.is of_itself)
   unready_not u (inr said) = nothing_said O.started S O.log u.idle.quiet said
 
-  pub unrun_not : IsUnrun O S text kept → (text ≡ Err ends.Mem → ⊥) → IsSettled text ⊎ IsStepSaid O.started S O.log → ⊥
-  unrun_not u not (inl settled) = elim u.said [ inl same ↦ halt_not (ids_of S) u.halt (subst (λ (t : Result (List ℕ) Ending). IsSettled t) same settled) | inr mem ↦ not mem ]
+  pub unrun_not : IsUnrun O S text kept → (text ≡ Err ends.Mem → ⊥) → EndsOfItself text ⊎ IsStepSaid O.started S O.log → ⊥
+  unrun_not u not (inl of_itself) = elim u.said [ inl same ↦ halt_not (ids_of S) u.halt (subst (λ (t : Result (List ℕ) Ending). EndsOfItself t) same of_itself) | inr mem ↦ not mem ]
   unrun_not u not (inr said) = halted_said O.started S u.ranks O.kinds O.log (HasRisen O.faults O.new_faults) u.halt u.halted said
 
   -- of each run there is a record, but for want of memory
-  there : IsScenarioOutcome O form true S text kept → (text ≡ Err ends.Mem → ⊥) → IsSettled text ⊎ IsStepSaid O.started S O.log → HasRecord O form S text kept
+  there : IsScenarioOutcome O form true S text kept → (text ≡ Err ends.Mem → ⊥) → EndsOfItself text ⊎ IsStepSaid O.started S O.log → HasRecord O form S text kept
   there (inl unready) not due = absurd (unready_not unready due)
   there (inr (inl unrun)) not due = absurd (unrun_not unrun not due)
   there (inr (inr p)) not due = elim p.recorded [

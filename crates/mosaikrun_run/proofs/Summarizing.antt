@@ -10,7 +10,7 @@ use Rattle.mk_plan.specs.declared.Item.{Item}
 use Rattle.mk_plan.specs.declared.Item.TheVariants.{Step, GetData, Answer, Refuse}
 use Rattle.mk_plan.specs.Plans.{sim_count}
 use Rattle.mk_plan.specs.Journals.{bare}
-use Rattle.mk_plan.specs.Report.{steps_in, summary, inputs_of, values_in, counts, last_line, last_stepped}
+use Rattle.mk_plan.specs.Report.{steps_in, summary, inputs_of, values_sent, counts, last_line, last_stepped}
 use Rattle.mk_record_report.proofs.Bare.{joined_numbered, line_bare, map_numbered, steps_bare}
 
 -- the inputs stay
@@ -69,18 +69,18 @@ last_bare P one other same =
 pub summary_bare : (P : Plan) (one other : ℕ → List Item) → ((i : ℕ) → i < sim_count P → map bare (one i) ≡ other i) → summary P one ≡ summary P other
 summary_bare P one other same =
     let steps : (i : ℕ) → i < sim_count P → length (steps_in (one i)) ≡ length (steps_in (other i)) = λ i within. sym (steps_bare (one i)) ∙ ap (λ (items : List Item). length (steps_in items)) (same i within) in
-    let values : (i : ℕ) → i < sim_count P → values_in (one i) ≡ values_in (other i) = λ i within. sym (ap (λ (ins : List Input). length ins) (inputs_bare (one i))) ∙ ap (λ (items : List Item). values_in items) (same i within) in
+    let values : (i : ℕ) → i < sim_count P → values_sent (one i) ≡ values_sent (other i) = λ i within. sym (ap (λ (ins : List Input). length ins) (inputs_bare (one i))) ∙ ap (λ (items : List Item). values_sent items) (same i within) in
     let sims : List (ℕ × PlanSim) = enumerate_from 0 P.sims in
-    let line : (ℕ → List Item) → ℕ × PlanSim → List ℕ = λ items s. s.1.id ++ counts (length (steps_in (items s.0))) (values_in (items s.0)) in
+    let line : (ℕ → List Item) → ℕ × PlanSim → List ℕ = λ items s. s.1.id ++ counts (length (steps_in (items s.0))) (values_sent (items s.0)) in
     let step_sum : (ℕ → List Item) → List ℕ = λ items. map (λ (s : ℕ × PlanSim). length (steps_in (items s.0))) sims in
-    let value_sum : (ℕ → List Item) → List ℕ = λ items. map (λ (s : ℕ × PlanSim). values_in (items s.0)) sims in
+    let value_sum : (ℕ → List Item) → List ℕ = λ items. map (λ (s : ℕ × PlanSim). values_sent (items s.0)) sims in
     let last : (ℕ → List Item) → List ℕ = λ items. last_line (last_stepped (map (λ (s : ℕ × PlanSim). items s.0) sims) []) in
     ap (λ (lines : List ℕ). lines ++ codes "total" ++ counts (sum (step_sum one)) (sum (value_sum one)) ++ last one)
     (joined_numbered (line one) (line other) 0 P.sims (λ k x low high.
-    ap (λ n. x.id ++ counts n (values_in (one k))) (steps k (omega (arith, high)))
+    ap (λ n. x.id ++ counts n (values_sent (one k))) (steps k (omega (arith, high)))
     ∙ ap (λ n. x.id ++ counts (length (steps_in (other k))) n) (values k (omega (arith, high)))))
     ∙ ap (λ (ns : List ℕ). flat_map (line other) sims ++ codes "total" ++ counts (sum ns) (sum (value_sum one)) ++ last one)
     (map_numbered (λ s. length (steps_in (one s.0))) (λ s. length (steps_in (other s.0))) 0 P.sims (λ k x low high. steps k (omega (arith, high))))
     ∙ ap (λ (ns : List ℕ). flat_map (line other) sims ++ codes "total" ++ counts (sum (step_sum other)) (sum ns) ++ last one)
-    (map_numbered (λ s. values_in (one s.0)) (λ s. values_in (other s.0)) 0 P.sims (λ k x low high. values k (omega (arith, high))))
+    (map_numbered (λ s. values_sent (one s.0)) (λ s. values_sent (other s.0)) 0 P.sims (λ k x low high. values k (omega (arith, high))))
     ∙ ap (λ (tail : List ℕ). flat_map (line other) sims ++ codes "total" ++ counts (sum (step_sum other)) (sum (value_sum other)) ++ tail) (last_bare P one other same)

@@ -14,7 +14,7 @@ use Rattle.mosaikrun_endings.specs.declared.ending.Ending.{Ending}
 use Rattle.mosaikrun_endings.specs.declared.ending.Ending.TheVariants.{Mem}
 use Rattle.mosaikrun_run.specs.declared.sayings.Form.{Form}
 use Rattle.mosaikrun_run.specs.Outcomes.{IsPlayed, IsRunOutcome, IsScenarioOutcome, Outside}
-use Rattle.mosaikrun_run.specs.Records.{HasRecord, IsSettled, IsStepSaid}
+use Rattle.mosaikrun_run.specs.Records.{HasRecord, EndsOfItself, IsStepSaid}
 use Rattle.mosaikrun_run.specs.Sayings.{text_of}
 
 -- the report of a run, or its summary, is that of what sequential execution of its plan sends each
@@ -45,7 +45,7 @@ AlikeIsOneText = (O Q : Outside) (form : Form) (wanted also : Bool) (S : Scenari
 pub record RecordsAreThere : Type 0 where
   pub there : (O : Outside) (form : Form) (S : Scenario) (text : Result (List ℕ) Ending)
       (kept : Option (List ℕ)) → IsScenarioOutcome O form true S text kept → (text ≡ Err Mem → ⊥)
-      → IsSettled text ⊎ IsStepSaid O.started S O.log → HasRecord O form S text kept
+      → EndsOfItself text ⊎ IsStepSaid O.started S O.log → HasRecord O form S text kept
   pub only : (O : Outside) (form : Form) (S : Scenario) (text : Result (List ℕ) Ending)
       (kept : Option (List ℕ)) → IsScenarioOutcome O form true S text kept → (kept ≡ None)
       ⊎ HasRecord O form S text kept

@@ -65,7 +65,7 @@ abbrev pub IsSaid : Result (List ℕ) Ending → Result (List ℕ) Ending → Ty
 IsSaid wanted text = (text ≡ wanted) ⊎ (text ≡ Err ends.Mem)
 
 -- the scenario can't be run, and nothing was done
-pub record IsUnready (O : Outside) (S : Scenario) (text : Result (List ℕ) Ending)
+pub record IsUnrunnableScenario (O : Outside) (S : Scenario) (text : Result (List ℕ) Ending)
     (record_ : Option (List ℕ)) : Type 0 where
   pub ending : Ending
   pub is : text ≡ Err ending
@@ -107,7 +107,7 @@ pub record IsPlayed (O : Outside) (form : Form) (wanted : Bool) (S : Scenario)
 -- text or why there is none, and the record
 abbrev pub IsScenarioOutcome : Outside → Form → Bool → Scenario → Result (List ℕ) Ending
     → Option (List ℕ) → Type 0
-IsScenarioOutcome O form wanted S text record_ = IsUnready O S text record_
+IsScenarioOutcome O form wanted S text record_ = IsUnrunnableScenario O S text record_
     ⊎ (IsUnrun O S text record_ ⊎ IsPlayed O form wanted S text record_)
 
 -- the bytes are no scenario, and nothing was done

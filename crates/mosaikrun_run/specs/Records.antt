@@ -70,9 +70,9 @@ IsRunFault (ends.LongItem sim length) = ⊥
 IsRunFault ends.Mem = ⊥
 
 -- all is done, or the run met such a fault
-abbrev pub IsSettled : {V : Type 0} → Result V Ending → Type 0
-IsSettled (Ok value) = ⊤
-IsSettled (Err e) = IsRunFault e
+abbrev pub EndsOfItself : {V : Type 0} → Result V Ending → Type 0
+EndsOfItself (Ok value) = ⊤
+EndsOfItself (Err e) = IsRunFault e
 
 -- there is a record, which is that of the plan and the journal of a run, and says these where it is
 -- read again; and what was said of this same run, of its outcome, is its text in this form, or why

@@ -39,17 +39,17 @@ text_of Report P items = report P items
 text_of Summary P items = summary P items
 
 -- what is said of a run with this plan and journal: its text in this form where all is done, or why
--- there is none
+-- there is none: a fault of the core, or what is said of a halt
 abbrev pub saying_of : Form → List (List ℕ) → Plan → List Entry → Outcome → Result (List ℕ) Ending
 saying_of form ids P J outcome.Done = Ok (text_of form P (sent J))
-saying_of form ids P J (outcome.Setup e) = Err (setup_ending ids e)
 saying_of form ids P J (outcome.Core e) = Err (stop_of P J e)
-saying_of form ids P J outcome.Fleet = Err ends.Fleet
-saying_of form ids P J (outcome.Gone sim) = Err (ends.Link (id_in ids sim) Closed)
-saying_of form ids P J (outcome.Garbled sim test) = Err (ends.Link (id_in ids sim) (Garbled test))
-saying_of form ids P J (outcome.LongFrame sim n) = Err (ends.Link (id_in ids sim) (LongFrame n))
-saying_of form ids P J (outcome.LongItem sim n) = Err (ends.LongItem (id_in ids sim) n)
-saying_of form ids P J outcome.Mem = Err ends.Mem
+saying_of form ids P J (outcome.Setup e) = Err (halt_ending ids (halt.Setup e))
+saying_of form ids P J outcome.Fleet = Err (halt_ending ids halt.Fleet)
+saying_of form ids P J (outcome.Gone sim) = Err (halt_ending ids (halt.Gone sim))
+saying_of form ids P J (outcome.Garbled sim test) = Err (halt_ending ids (halt.Garbled sim test))
+saying_of form ids P J (outcome.LongFrame sim n) = Err (halt_ending ids (halt.LongFrame sim n))
+saying_of form ids P J (outcome.LongItem sim n) = Err (halt_ending ids (halt.LongItem sim n))
+saying_of form ids P J outcome.Mem = Err (halt_ending ids halt.Mem)
 
 -- the record of the plan and the journal, where one is wanted
 abbrev pub record_of : Bool → Plan → List Entry → Option (List ℕ)

@@ -35,18 +35,18 @@ use std::sync::Wait;
 #[derive(Drop)]
 pub struct Told {
     pub text: Result<Vec<u8>, Ending>,
-    pub record: Option<Vec<u8>>,
+    pub record_text: Option<Vec<u8>>,
 }
 
 impl Told {
     /// A run that has no text, since it ended so, and nothing to record.
     pub fn unrecorded(ending: Ending) -> Told
         ensures text { result.text ≡ Err ending }
-        ensures record { result.record ≡ None }
+        ensures no_record { result.record_text ≡ None }
     {
         Told {
             text: Err(ending),
-            record: None,
+            record_text: None,
         }
     }
 
@@ -60,14 +60,14 @@ impl Told {
     ) -> Told
         requires { list_all is_writable journal.now.entries ≡ true }
         ensures text { (result.text ≡ text) ⊎ (result.text ≡ Err ends.Mem) }
-        ensures recorded { (option_map (λ r. r.items) result.record
+        ensures recorded { (option_map (λ r. r.items) result.record_text
             ≡ record_of is_recorded plan.now journal.now.entries)
-            ⊎ ((result.record ≡ None) × (result.text ≡ Err ends.Mem)) }
-        ensures again { IfSome result.record
+            ⊎ ((result.record_text ≡ None) × (result.text ≡ Err ends.Mem)) }
+        ensures again { IfSome result.record_text
             (λ r. IsReadAgain plan.now journal.now.entries r.items) }
     {
         match record_of(alloc, plan, journal, is_recorded) {
-            Ok(record) => Told { text, record },
+            Ok(record_text) => Told { text, record_text },
             Err(_) => Told::unrecorded(Ending::Mem),
         }
     }
@@ -91,10 +91,10 @@ pub fn ran<F: Fleet, R: Wait>(
         → fleet.new ≡ fleet.old }
     ensures text { IfOk result.text (λ text. HoldsOver F.log F.started F.faults (rows_in kinds.now)
         fleet.old fleet.new (λ O. IsRunOutcome O is_recorded bytes.now (Ok text.items)
-        (option_map (λ r. r.items) result.record))) }
+        (option_map (λ r. r.items) result.record_text))) }
     ensures none { IfErr result.text (λ e. HoldsOver F.log F.started F.faults (rows_in kinds.now)
         fleet.old fleet.new (λ O. IsRunOutcome O is_recorded bytes.now (Err e)
-        (option_map (λ r. r.items) result.record))) }
+        (option_map (λ r. r.items) result.record_text))) }
 {
     match scenario_of(alloc, bytes) {
         Ok(scenario) => played(rt, alloc, kinds, scenario, fleet, Form::Report, is_recorded),
@@ -121,10 +121,10 @@ pub fn played<F: Fleet, R: Wait>(
     ensures within { is_wholly_within scenario ≡ true → fleet.new ≡ fleet.old }
     ensures text { IfOk result.text (λ text. HoldsOver F.log F.started F.faults (rows_in kinds.now)
         fleet.old fleet.new (λ O. IsScenarioOutcome O form is_recorded scenario (Ok text.items)
-        (option_map (λ r. r.items) result.record))) }
+        (option_map (λ r. r.items) result.record_text))) }
     ensures none { IfErr result.text (λ e. HoldsOver F.log F.started F.faults (rows_in kinds.now)
         fleet.old fleet.new (λ O. IsScenarioOutcome O form is_recorded scenario (Err e)
-        (option_map (λ r. r.items) result.record))) }
+        (option_map (λ r. r.items) result.record_text))) }
 {
     match accept(alloc, kinds, &scenario) {
         Ok(accepted) => play(
@@ -183,10 +183,10 @@ fn play<F: Fleet, R: Wait>(
     ensures within { is_wholly_within scenario ≡ true → fleet.new ≡ fleet.old }
     ensures text { IfOk result.text (λ text. HoldsOver F.log F.started F.faults (rows_in kinds.now)
         fleet.old fleet.new (λ O. IsScenarioOutcome O form is_recorded scenario (Ok text.items)
-        (option_map (λ r. r.items) result.record))) }
+        (option_map (λ r. r.items) result.record_text))) }
     ensures none { IfErr result.text (λ e. HoldsOver F.log F.started F.faults (rows_in kinds.now)
         fleet.old fleet.new (λ O. IsScenarioOutcome O form is_recorded scenario (Err e)
-        (option_map (λ r. r.items) result.record))) }
+        (option_map (λ r. r.items) result.record_text))) }
 {
     let Accepted { ranks, ids } = accepted;
     let Ran {
@@ -231,10 +231,10 @@ fn tell(
         (Ok text.items)) }
     ensures none { IfErr result.text
         (λ e. IsSaid (saying_of form ids.now plan.now journal.now.entries outcome) (Err e)) }
-    ensures recorded { (option_map (λ r. r.items) result.record
+    ensures recorded { (option_map (λ r. r.items) result.record_text
         ≡ record_of is_recorded plan.now journal.now.entries)
-        ⊎ ((result.record ≡ None) × (result.text ≡ Err ends.Mem)) }
-    ensures again { IfSome result.record
+        ⊎ ((result.record_text ≡ None) × (result.text ≡ Err ends.Mem)) }
+    ensures again { IfSome result.record_text
         (λ r. IsReadAgain plan.now journal.now.entries r.items) }
 {
     let text = saying(alloc, form, ids, outcome, plan, journal);

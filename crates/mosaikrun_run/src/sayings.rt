@@ -88,16 +88,6 @@ pub fn saying(
     match outcome {
         Outcome::Done => Ok(text_of(alloc, form, plan, journal)?),
         Outcome::Core(fault) => Err(stopped(alloc, plan, journal, fault)?),
-        Outcome::Setup(fault) => Err(setup_ending(alloc, ids, fault)?),
-        Outcome::Fleet => Err(Ending::Fleet),
-        Outcome::Gone(sim) => Err(link_ending(alloc, ids, sim, LinkFault::Closed)?),
-        Outcome::Garbled(sim, test) => {
-            Err(link_ending(alloc, ids, sim, LinkFault::Garbled(test))?)
-        }
-        Outcome::LongFrame(sim, n) => {
-            Err(link_ending(alloc, ids, sim, LinkFault::LongFrame(n))?)
-        }
-        Outcome::LongItem(sim, n) => Err(long_ending(alloc, ids, sim, n)?),
-        Outcome::Mem => Err(Ending::Mem),
+        halt => Err(halt_ending(alloc, ids, halt)?),
     }
 }

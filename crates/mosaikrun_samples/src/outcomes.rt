@@ -17,7 +17,7 @@ pub struct Outcome {
 /// What this comes to that a run told.
 pub fn outcome_of(alloc: Global, told: &Told) -> Result<Outcome, Mem> {
     let text = text_of(alloc, &told.text)?;
-    let record = record_of(alloc, &told.record)?;
+    let record = record_of(alloc, &told.record_text)?;
     Ok(Outcome { text, record })
 }
 

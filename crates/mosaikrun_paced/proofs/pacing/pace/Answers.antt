@@ -32,9 +32,9 @@ returns-in-Some-Some-clause-text g c =
     (λ text is said. (
       r.0,
       r.1,
-      paced O c.args.scenario c.args.accepted.ranks c.args.factor c.args.strict h.moments h.end c.args.is_recorded c.requires.runnable c.args.accepted.ids c.requires.ids (Ok text.items) (option_map (λ v. v.items) c.tell.result.record) h.plan h.journal P J c.in-Some-Some.is-0 c.in-Some-Some.is-1 r.3 said
-          (made_with_text (λ v. v.items) (record_of c.args.is_recorded P J.entries) c.tell.result.record c.tell.result.text text is c.tell.ensures.recorded (Ok text.items))
-          (if_mapped (λ v. v.items) (IsReadAgain P J.entries) c.tell.result.record c.tell.ensures.again),
+      paced O c.args.scenario c.args.accepted.ranks c.args.factor c.args.strict h.moments h.end c.args.is_recorded c.requires.runnable c.args.accepted.ids c.requires.ids (Ok text.items) (option_map (λ v. v.items) c.tell.result.record_text) h.plan h.journal P J c.in-Some-Some.is-0 c.in-Some-Some.is-1 r.3 said
+          (made_with_text (λ v. v.items) (record_of c.args.is_recorded P J.entries) c.tell.result.record_text c.tell.result.text text is c.tell.ensures.recorded (Ok text.items))
+          (if_mapped (λ v. v.items) (IsReadAgain P J.entries) c.tell.result.record_text c.tell.ensures.again),
     ))
     c.tell.ensures.text
 
@@ -49,9 +49,9 @@ returns-in-Some-Some-clause-none g c =
     (λ e is said. (
       r.0,
       r.1,
-      paced O c.args.scenario c.args.accepted.ranks c.args.factor c.args.strict h.moments h.end c.args.is_recorded c.requires.runnable c.args.accepted.ids c.requires.ids (Err e) (option_map (λ v. v.items) c.tell.result.record) h.plan h.journal P J c.in-Some-Some.is-0 c.in-Some-Some.is-1 r.3 said
-          (made_with_ending (λ v. v.items) (record_of c.args.is_recorded P J.entries) c.tell.result.record c.tell.result.text e is c.tell.ensures.recorded (Err e) refl)
-          (if_mapped (λ v. v.items) (IsReadAgain P J.entries) c.tell.result.record c.tell.ensures.again),
+      paced O c.args.scenario c.args.accepted.ranks c.args.factor c.args.strict h.moments h.end c.args.is_recorded c.requires.runnable c.args.accepted.ids c.requires.ids (Err e) (option_map (λ v. v.items) c.tell.result.record_text) h.plan h.journal P J c.in-Some-Some.is-0 c.in-Some-Some.is-1 r.3 said
+          (made_with_ending (λ v. v.items) (record_of c.args.is_recorded P J.entries) c.tell.result.record_text c.tell.result.text e is c.tell.ensures.recorded (Err e) refl)
+          (if_mapped (λ v. v.items) (IsReadAgain P J.entries) c.tell.result.record_text c.tell.ensures.again),
     ))
     c.tell.ensures.none
 
@@ -60,7 +60,7 @@ returns-in-None-None-clause-none g c =
     let r = c.paced-end.ensures.ran in
     let O = outside g.F.Fleet.started g.F.Fleet.faults (rows_in c.args.kinds.now) c.args.fleet.now c.paced-end.new.fleet r.0 in
     let h = c.paced-end.result in
-    rw (c.unrecorded.ensures.text, c.unrecorded.ensures.record)
+    rw (c.unrecorded.ensures.text, c.unrecorded.ensures.no_record)
     (r.0, r.1, unpaced O c.args.scenario c.args.accepted.ranks c.args.factor c.args.strict h.moments h.end c.args.is_recorded c.requires.runnable c.args.accepted.ids c.requires.ids (Err c.unpaced.result) None h.plan h.journal c.in-None-None.is-0 c.in-None-None.is-1 r.3 c.unpaced.ensures refl)
 
 pub returns-in-Some-Some-clause-rising : goal.returns-in-Some-Some-clause-rising

@@ -32,9 +32,9 @@ returns-in-Some-Some-clause-text g c =
     (λ text is said. (
       r.0,
       r.1,
-      some O c.args.study.scenario c.args.study.ranks c.args.saved h.end h.taken h.plan h.journal r.2 c.args.is_recorded c.requires.runnable c.args.study.ids c.requires.ids (Ok text.items) (option_map (λ v. v.items) c.tell.result.record) P J c.in-Some-Some.is-0 c.in-Some-Some.is-1 said
-          (λ taken. made_with_text (λ v. v.items) (record_of c.args.is_recorded P J.entries) c.tell.result.record c.tell.result.text text is (c.tell.ensures.recorded taken) (Ok text.items))
-          (if_mapped (λ v. v.items) (IsReadAgain P J.entries) c.tell.result.record c.tell.ensures.again) (λ not. ap (option_map (λ v. v.items)) (c.tell.ensures.unrecorded not)),
+      some O c.args.study.scenario c.args.study.ranks c.args.saved h.end h.taken h.plan h.journal r.2 c.args.is_recorded c.requires.runnable c.args.study.ids c.requires.ids (Ok text.items) (option_map (λ v. v.items) c.tell.result.record_text) P J c.in-Some-Some.is-0 c.in-Some-Some.is-1 said
+          (λ taken. made_with_text (λ v. v.items) (record_of c.args.is_recorded P J.entries) c.tell.result.record_text c.tell.result.text text is (c.tell.ensures.recorded taken) (Ok text.items))
+          (if_mapped (λ v. v.items) (IsReadAgain P J.entries) c.tell.result.record_text c.tell.ensures.again) (λ not. ap (option_map (λ v. v.items)) (c.tell.ensures.unrecorded not)),
     ))
     c.tell.ensures.text
 
@@ -49,9 +49,9 @@ returns-in-Some-Some-clause-none g c =
     (λ e is said. (
       r.0,
       r.1,
-      some O c.args.study.scenario c.args.study.ranks c.args.saved h.end h.taken h.plan h.journal r.2 c.args.is_recorded c.requires.runnable c.args.study.ids c.requires.ids (Err e) (option_map (λ v. v.items) c.tell.result.record) P J c.in-Some-Some.is-0 c.in-Some-Some.is-1 said
-          (λ taken. made_with_ending (λ v. v.items) (record_of c.args.is_recorded P J.entries) c.tell.result.record c.tell.result.text e is (c.tell.ensures.recorded taken) (Err e) refl)
-          (if_mapped (λ v. v.items) (IsReadAgain P J.entries) c.tell.result.record c.tell.ensures.again) (λ not. ap (option_map (λ v. v.items)) (c.tell.ensures.unrecorded not)),
+      some O c.args.study.scenario c.args.study.ranks c.args.saved h.end h.taken h.plan h.journal r.2 c.args.is_recorded c.requires.runnable c.args.study.ids c.requires.ids (Err e) (option_map (λ v. v.items) c.tell.result.record_text) P J c.in-Some-Some.is-0 c.in-Some-Some.is-1 said
+          (λ taken. made_with_ending (λ v. v.items) (record_of c.args.is_recorded P J.entries) c.tell.result.record_text c.tell.result.text e is (c.tell.ensures.recorded taken) (Err e) refl)
+          (if_mapped (λ v. v.items) (IsReadAgain P J.entries) c.tell.result.record_text c.tell.ensures.again) (λ not. ap (option_map (λ v. v.items)) (c.tell.ensures.unrecorded not)),
     ))
     c.tell.ensures.none
 
@@ -60,5 +60,5 @@ returns-in-None-None-clause-none g c =
     let r = c.resume-end.ensures.ran in
     let O = outside g.F.Fleet.started g.F.Fleet.faults (rows_in c.args.kinds.now) c.args.fleet.now c.resume-end.new.fleet r.0 in
     let h = c.resume-end.result in
-    rw (c.unrecorded.ensures.text, c.unrecorded.ensures.record)
+    rw (c.unrecorded.ensures.text, c.unrecorded.ensures.no_record)
     (r.0, r.1, refused O c.args.study.scenario c.args.study.ranks c.args.saved h.end h.taken h.plan h.journal r.2 c.args.is_recorded c.requires.runnable c.args.study.ids c.requires.ids (Err c.refusal.result) None c.in-None-None.is-0 c.in-None-None.is-1 c.refusal.ensures.halted c.refusal.ensures.refused refl)

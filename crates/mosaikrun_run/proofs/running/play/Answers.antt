@@ -21,9 +21,9 @@ returns-in-Some-Some-clause-text g c =
       r.0,
       r.1,
       played O c.args.scenario c.args.accepted.ranks c.run-outcome.result.outcome c.args.form c.args.is_recorded c.requires.runnable c.run-outcome.result.plan c.run-outcome.result.journal c.in-Some-Some.plan c.in-Some-Some.journal c.in-Some-Some.is-0 c.in-Some-Some.is-1 r.2
-          c.args.accepted.ids c.requires.ids (Ok text.items) (option_map (λ v. v.items) c.tell.result.record) said
-          (made_with_text (λ v. v.items) (record_of c.args.is_recorded c.in-Some-Some.plan c.in-Some-Some.journal.entries) c.tell.result.record c.tell.result.text text is c.tell.ensures.recorded (Ok text.items))
-          (if_mapped (λ v. v.items) (IsReadAgain c.in-Some-Some.plan c.in-Some-Some.journal.entries) c.tell.result.record c.tell.ensures.again),
+          c.args.accepted.ids c.requires.ids (Ok text.items) (option_map (λ v. v.items) c.tell.result.record_text) said
+          (made_with_text (λ v. v.items) (record_of c.args.is_recorded c.in-Some-Some.plan c.in-Some-Some.journal.entries) c.tell.result.record_text c.tell.result.text text is c.tell.ensures.recorded (Ok text.items))
+          (if_mapped (λ v. v.items) (IsReadAgain c.in-Some-Some.plan c.in-Some-Some.journal.entries) c.tell.result.record_text c.tell.ensures.again),
     ))
     c.tell.ensures.text
 
@@ -36,9 +36,9 @@ returns-in-Some-Some-clause-none g c =
       r.0,
       r.1,
       played O c.args.scenario c.args.accepted.ranks c.run-outcome.result.outcome c.args.form c.args.is_recorded c.requires.runnable c.run-outcome.result.plan c.run-outcome.result.journal c.in-Some-Some.plan c.in-Some-Some.journal c.in-Some-Some.is-0 c.in-Some-Some.is-1 r.2
-          c.args.accepted.ids c.requires.ids (Err e) (option_map (λ v. v.items) c.tell.result.record) said
-          (made_with_ending (λ v. v.items) (record_of c.args.is_recorded c.in-Some-Some.plan c.in-Some-Some.journal.entries) c.tell.result.record c.tell.result.text e is c.tell.ensures.recorded (Err e) refl)
-          (if_mapped (λ v. v.items) (IsReadAgain c.in-Some-Some.plan c.in-Some-Some.journal.entries) c.tell.result.record c.tell.ensures.again),
+          c.args.accepted.ids c.requires.ids (Err e) (option_map (λ v. v.items) c.tell.result.record_text) said
+          (made_with_ending (λ v. v.items) (record_of c.args.is_recorded c.in-Some-Some.plan c.in-Some-Some.journal.entries) c.tell.result.record_text c.tell.result.text e is c.tell.ensures.recorded (Err e) refl)
+          (if_mapped (λ v. v.items) (IsReadAgain c.in-Some-Some.plan c.in-Some-Some.journal.entries) c.tell.result.record_text c.tell.ensures.again),
     ))
     c.tell.ensures.none
 
@@ -46,7 +46,7 @@ pub returns-in-None-None-clause-none : goal.returns-in-None-None-clause-none
 returns-in-None-None-clause-none g c =
     let r = c.run-outcome.ensures.ran in
     let O = outside g.F.Fleet.started g.F.Fleet.faults (rows_in c.args.kinds.now) c.args.fleet.now c.run-outcome.new.fleet r.0 in
-    rw (c.unrecorded.ensures.text, c.unrecorded.ensures.record)
+    rw (c.unrecorded.ensures.text, c.unrecorded.ensures.no_record)
     (r.0, r.1, unplayed O c.args.scenario c.args.accepted.ranks c.run-outcome.result.outcome c.args.form c.args.is_recorded c.requires.runnable c.run-outcome.result.plan c.run-outcome.result.journal c.in-None-None.is-0 c.in-None-None.is-1 r.2 c.args.accepted.ids c.requires.ids (Err c.unrun.result) None c.unrun.ensures refl)
 
 -- where all simulators are within the program the fleet is as before

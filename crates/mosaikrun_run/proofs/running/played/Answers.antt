@@ -8,4 +8,4 @@ use Rattle.mosaikrun_run.proofs.running.played.Goals as goal
 pub returns-in-Err-clause-none : goal.returns-in-Err-clause-none
 returns-in-Err-clause-none g c =
     let O = outside g.F.Fleet.started g.F.Fleet.faults (rows_in c.args.kinds.now) c.args.fleet.now c.args.fleet.now [] in
-    rw (c.unrecorded.ensures.text, c.unrecorded.ensures.record) ([], adds_none _, unready O c.args.form c.args.is_recorded c.args.scenario c.in-Err.ending _ _ refl refl refl refl c.in-Err.ensures.unready)
+    rw (c.unrecorded.ensures.text, c.unrecorded.ensures.no_record) ([], adds_none _, unready O c.args.form c.args.is_recorded c.args.scenario c.in-Err.ending _ _ refl refl refl refl c.in-Err.ensures.unready)

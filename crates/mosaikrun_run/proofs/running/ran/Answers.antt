@@ -7,14 +7,14 @@ use Rattle.mosaikrun_run.proofs.running.ran.Goals as goal
 
 pub returns-in-Ok-clause-text : goal.returns-in-Ok-clause-text
 returns-in-Ok-clause-text g c =
-    let kept = option_map (λ v. v.items) c.played.result.record in
+    let kept = option_map (λ v. v.items) c.played.result.record_text in
     if_ok c.played.result.text
     (λ text is h. (h.0, h.1, of_bytes (outside g.F.Fleet.started g.F.Fleet.faults (rows_in c.args.kinds.now) c.args.fleet.now c.played.new.fleet h.0) c.args.is_recorded c.args.bytes.now c.in-Ok.scenario (Ok text.items) kept c.in-Ok.ensures.read c.in-Ok.ensures.wellformed h.2))
     c.played.ensures.text
 
 pub returns-in-Ok-clause-none : goal.returns-in-Ok-clause-none
 returns-in-Ok-clause-none g c =
-    let kept = option_map (λ v. v.items) c.played.result.record in
+    let kept = option_map (λ v. v.items) c.played.result.record_text in
     if_err c.played.result.text
     (λ e is h. (h.0, h.1, of_bytes (outside g.F.Fleet.started g.F.Fleet.faults (rows_in c.args.kinds.now) c.args.fleet.now c.played.new.fleet h.0) c.args.is_recorded c.args.bytes.now c.in-Ok.scenario (Err e) kept c.in-Ok.ensures.read c.in-Ok.ensures.wellformed h.2))
     c.played.ensures.none
@@ -22,7 +22,7 @@ returns-in-Ok-clause-none g c =
 pub returns-in-Err-clause-none : goal.returns-in-Err-clause-none
 returns-in-Err-clause-none g c =
     let O = outside g.F.Fleet.started g.F.Fleet.faults (rows_in c.args.kinds.now) c.args.fleet.now c.args.fleet.now [] in
-    rw (c.unrecorded.ensures.text, c.unrecorded.ensures.record) ([], adds_none _, no_scenario O c.args.is_recorded c.args.bytes.now c.in-Err.ending _ _ refl refl refl refl c.in-Err.ensures.unread)
+    rw (c.unrecorded.ensures.text, c.unrecorded.ensures.no_record) ([], adds_none _, no_scenario O c.args.is_recorded c.args.bytes.now c.in-Err.ending _ _ refl refl refl refl c.in-Err.ensures.unread)
 
 -- where all simulators are within the program the fleet is as before
 pub returns-in-Ok-clause-within : goal.returns-in-Ok-clause-within
