@@ -6,7 +6,7 @@ use Rattle.mk_base.proofs.Lists.{none_some, some_same}
 use Rattle.mk_plan.specs.declared.Plan.{Plan}
 use Rattle.mk_plan.specs.Asks.{AskAnswer, Answered, Refused, Lookup, Request, answer, answer_request, content_text, sets_in, is_function, request_of, knows, permits, unknown_name, no_pair}
 use Rattle.mk_async.specs.Asked.{asked_in, refusal_in}
-use Rattle.mk_async.specs.inner.Asked.{IsRequest}
+use Rattle.mk_async.specs.inner.Asked.{IsAskedRequest}
 use Rattle.mk_async.specs.inner.Judged.{tested}
 use Rattle.mk_async.specs.inner.Known.{knows_asked, permits_asked}
 use Rattle.mk_async.specs.declared.request.Asked.{Asked}
@@ -21,8 +21,8 @@ tested_last true false content e = refl
 tested_last false p content e = refl
 
 -- a request that was read is there
-pub read_there : (name : List ℕ) (args : List Json) (named : Json) (read : Option Asked) (asked : Asked) → IsRequest read (request_of name args named) → read ≡ Some asked → IsSome (asked_in asked)
-read_there name args named read asked is so = let request = subst (λ (o : Option Asked). IsRequest o (request_of name args named)) so is in subst (λ (o : Option Request). IsSome o) (sym request.0) request.1
+pub read_there : (name : List ℕ) (args : List Json) (named : Json) (read : Option Asked) (asked : Asked) → IsAskedRequest read (request_of name args named) → read ≡ Some asked → IsSome (asked_in asked)
+read_there name args named read asked is so = let request = subst (λ (o : Option Asked). IsAskedRequest o (request_of name args named)) so is in subst (λ (o : Option Request). IsSome o) (sym request.0) request.1
 
 -- the tests of a request that is there, by those of what is asked for
 module _ (P : Plan) (s : ℕ) where
@@ -70,7 +70,7 @@ module _ (P : Plan) (look : Lookup) (s : ℕ) where
       (λ i. first_of (b.0 i) (b.1 i)) ∙ tested_last (knows P s r) (permits P s r) (Answered (content_text P look r) (sets_in P r)) refl
 
   pub judged_so : (name : List ℕ) (args : List Json) (named : Json) (b : Bool) (read : Option Asked) (asked : Asked) (n : Option ℕ) → b ≡ true → b ≡ is_function name
-      → IsRequest read (request_of name args named) → read ≡ Some asked → n ≡ tested P s asked → n ≡ refusal_in (answer P look s name args named)
+      → IsAskedRequest read (request_of name args named) → read ≡ Some asked → n ≡ tested P s asked → n ≡ refusal_in (answer P look s name args named)
   judged_so name args named b read asked n e f is so tests = let function : is_function name ≡ true = sym f ∙ e in
-      let request = subst (λ (o : Option Asked). IsRequest o (request_of name args named)) so is in
+      let request = subst (λ (o : Option Asked). IsAskedRequest o (request_of name args named)) so is in
       tests ∙ last_two asked (request_of name args named) request.0 request.1 ∙ ap (λ t. refusal_in (cond (not t) (Refused 1) (answer_request P look s (request_of name args named)))) (sym function)

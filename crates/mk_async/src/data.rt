@@ -7,7 +7,7 @@ ghost use Rattle.mk_plan.specs.Asks.{content_text, gives_attr, knows};
 ghost use Rattle.mk_plan.specs.Deliveries.{Supply};
 ghost use Rattle.mk_plan.specs.Inputs.{value_at};
 ghost use Rattle.mk_plan_names.specs.Names.{AreNamesOf};
-ghost use Rattle.mk_buffers.specs.Standing.{Stands, least_mark};
+ghost use Rattle.mk_buffers.specs.Standing.{StandFor, least_mark};
 ghost use Rattle.mk_async.specs.Asked.{get_in};
 ghost use Rattle.mk_async.specs.inner.Content.{listed, member_text, put_attr, put_named, values_by, values_of, want_text, wants_text, IsNamed, AreNamed, IsContent, AreContents};
 ghost use Rattle.mk_async.specs.Forms.{is_such};
@@ -34,9 +34,9 @@ pub fn data_content(
 ) -> Result<Datum, Mem>
     requires names { AreNamesOf plan.now names.now }
     requires known { (s : ℕ) × (option_map (knows plan.now s) (get_in wants.now) ≡ Some true) }
-    requires stands { (S : Supply) × Stands plan.now buffers.now S }
+    requires stands { (S : Supply) × StandFor plan.now buffers.now S }
     requires late { 0 < length wants.now → IsUpTo (least_mark buffers.now) at }
-    ensures { (S : Supply) → Stands plan.now buffers.now S
+    ensures { (S : Supply) → StandFor plan.now buffers.now S
         → IfOk result (λ text. option_map (content_text plan.now (value_at S at)) (get_in wants.now)
         ≡ Some text) }
 {
@@ -58,10 +58,10 @@ fn put_wants(
     requires names { AreNamesOf plan.now names.now }
     requires known { knows_wants plan.now wants.now ≡ true }
     requires late { 0 < length wants.now → IsUpTo (least_mark buffers.now) at }
-    ensures written { (S : Supply) → Stands plan.now buffers.now S
+    ensures written { (S : Supply) → StandFor plan.now buffers.now S
         → OnOk result (text.new.items ≡ text.old.items
         ++ wants_text plan.now (value_at S at) wants.now) }
-    ensures content { (S : Supply) → Stands plan.now buffers.now S
+    ensures content { (S : Supply) → StandFor plan.now buffers.now S
         → OnOk result (AreContents plan.now (value_at S at) wants.now) }
 {
     match wants {
@@ -89,10 +89,10 @@ fn put_more_wants(
     requires names { AreNamesOf plan.now names.now }
     requires known { knows_wants plan.now wants.now ≡ true }
     requires late { IsUpTo (least_mark buffers.now) at }
-    ensures written { (S : Supply) → Stands plan.now buffers.now S
+    ensures written { (S : Supply) → StandFor plan.now buffers.now S
         → OnOk result (text.new.items ≡ text.old.items
         ++ flat_map (λ m. codes "," ++ want_text plan.now (value_at S at) m) wants.now) }
-    ensures content { (S : Supply) → Stands plan.now buffers.now S
+    ensures content { (S : Supply) → StandFor plan.now buffers.now S
         → OnOk result (AreContents plan.now (value_at S at) wants.now) }
 {
     for want in wants {
@@ -116,10 +116,10 @@ fn put_want(
     requires names { AreNamesOf plan.now names.now }
     requires known { knows_want plan.now id.now tree.now ≡ true }
     requires late { IsUpTo (least_mark buffers.now) at }
-    ensures written { (S : Supply) → Stands plan.now buffers.now S
+    ensures written { (S : Supply) → StandFor plan.now buffers.now S
         → OnOk result (text.new.items ≡ text.old.items
         ++ want_text plan.now (value_at S at) (id.now, tree.now)) }
-    ensures content { (S : Supply) → Stands plan.now buffers.now S
+    ensures content { (S : Supply) → StandFor plan.now buffers.now S
         → OnOk result (IsContent id.now (values_of plan.now (value_at S at) id.now tree.now)) }
 {
     let values = values_of(alloc, plan, names, buffers, at, id, tree)?;
@@ -143,7 +143,7 @@ fn values_of(
     requires names { AreNamesOf plan.now names.now }
     requires known { knows_want plan.now id.now tree.now ≡ true }
     requires late { IsUpTo (least_mark buffers.now) at }
-    ensures { (S : Supply) → Stands plan.now buffers.now S
+    ensures { (S : Supply) → StandFor plan.now buffers.now S
         → IfOk result (λ values. values ≡ values_of plan.now (value_at S at) id.now tree.now) }
 {
     match entity_of(plan, names, id) {
@@ -163,7 +163,7 @@ fn listed(
 ) -> Result<Members<Datum>, Mem>
     requires given { is_such (gives_each plan.now entity) (items_in tree.now) ≡ true }
     requires late { IsUpTo (least_mark buffers.now) at }
-    ensures { (S : Supply) → Stands plan.now buffers.now S
+    ensures { (S : Supply) → StandFor plan.now buffers.now S
         → IfOk result (λ values. values ≡ listed (value_at S at) entity (items_in tree.now)) }
 {
     match tree.as_list() {
@@ -182,7 +182,7 @@ fn values_by(
 ) -> Result<Members<Datum>, Mem>
     requires given { gives_each plan.now entity attrs.now ≡ true }
     requires late { IsUpTo (least_mark buffers.now) at }
-    ensures { (S : Supply) → Stands plan.now buffers.now S
+    ensures { (S : Supply) → StandFor plan.now buffers.now S
         → IfOk result (λ values. values ≡ values_by (value_at S at) entity attrs.now) }
 {
     let mut values = Members::new(alloc);
@@ -203,7 +203,7 @@ fn put_attr(
 ) -> Result<(), Mem>
     requires given { is_such (gives_attr plan.now entity) (text_in attr.now) ≡ true }
     requires late { IsUpTo (least_mark buffers.now) at }
-    ensures { (S : Supply) → Stands plan.now buffers.now S
+    ensures { (S : Supply) → StandFor plan.now buffers.now S
         → OnOk result (values.new ≡ put_attr (value_at S at) entity values.old attr.now) }
 {
     match attr.as_text() {
@@ -222,7 +222,7 @@ fn put_value(
 ) -> Result<(), Mem>
     requires given { gives_attr plan.now entity attr.now ≡ true }
     requires late { IsUpTo (least_mark buffers.now) at }
-    ensures { (S : Supply) → Stands plan.now buffers.now S
+    ensures { (S : Supply) → StandFor plan.now buffers.now S
         → OnOk result (values.new ≡ put_named (value_at S at) entity values.old (Some attr.now)) }
 {
     match buffers.value_at(entity, attr, at) {

@@ -2,9 +2,9 @@
 ghost use Rattle.std.specs.Prelude.{◌≡◌, true, is_some, option_map};
 ghost use Rattle.std.specs.List.{list_all};
 ghost use Rattle.mk_base.specs.Trees.{text_in, is_datum, is_in_range};
-ghost use Rattle.mk_plan.specs.Asks.{argument, form, is_function, is_get, is_related, is_set, request_of};
+ghost use Rattle.mk_plan.specs.Asks.{argument, form, is_function, is_get, is_related, is_set_data, request_of};
 ghost use Rattle.mk_async.specs.Asked.{get_in};
-ghost use Rattle.mk_async.specs.inner.Asked.{HasRange, IsRequest};
+ghost use Rattle.mk_async.specs.inner.Asked.{HasRange, IsAskedRequest};
 ghost use Rattle.mk_async.specs.Forms.{are_texts, each_passes, is_destinations, is_texts, is_values};
 ghost use Rattle.mk_async.specs.inner.Forms.{get_form, only, related_form, set_form, set_of, texts_form, texts_of};
 
@@ -30,7 +30,7 @@ fn is_get(name: &Text) -> bool
 
 // Whether it is the function that sets data.
 fn is_set(name: &Text) -> bool
-    ensures { result ≡ is_set name.now }
+    ensures { result ≡ is_set_data name.now }
 {
     name.as_str() == "set_data"
 }
@@ -44,7 +44,7 @@ fn is_related(name: &Text) -> bool
 
 // The request that the arguments are; `None` exactly where they haven't the form of the function.
 pub fn request_of<'a>(name: &Text, args: &'a List<Json>, named: &Json) -> Option<Asked<'a>>
-    ensures request { IsRequest result (request_of name.now args.now named.now) }
+    ensures request { IsAskedRequest result (request_of name.now args.now named.now) }
     ensures range { list_all is_in_range args.now ≡ true → HasRange result }
 {
     match argument(args, named) {
@@ -65,7 +65,7 @@ fn argument<'a>(args: &'a List<Json>, named: &Json) -> Option<&'a Json>
 
 // The request that the argument is, by the function.
 fn form<'a>(name: &Text, tree: &'a Json) -> Option<Asked<'a>>
-    ensures request { IsRequest result (form name.now tree.now) }
+    ensures request { IsAskedRequest result (form name.now tree.now) }
     ensures range { is_in_range tree.now ≡ true → HasRange result }
 {
     if is_get(name) {
@@ -89,7 +89,7 @@ fn only(args: &List<Json>) -> Option<&Json>
 
 // A request to get data, if the argument has its form.
 fn get_form(tree: &Json) -> Option<Asked>
-    ensures request { IsRequest result (get_form tree.now) }
+    ensures request { IsAskedRequest result (get_form tree.now) }
     ensures range { HasRange result }
 {
     match tree.as_object() {
@@ -100,7 +100,7 @@ fn get_form(tree: &Json) -> Option<Asked>
 
 // The same, of an object's members.
 fn get_of(wants: &Members<Json>) -> Option<Asked>
-    ensures request { IsRequest result (get_in wants.now) }
+    ensures request { IsAskedRequest result (get_in wants.now) }
     ensures range { HasRange result }
 {
     if are_wants(wants) {
@@ -112,7 +112,7 @@ fn get_of(wants: &Members<Json>) -> Option<Asked>
 
 // A request to set data, if the argument has its form.
 fn set_form(tree: &Json) -> Option<Asked>
-    ensures request { IsRequest result (set_form tree.now) }
+    ensures request { IsAskedRequest result (set_form tree.now) }
     ensures range { is_in_range tree.now ≡ true → HasRange result }
 {
     match tree.as_object() {
@@ -123,7 +123,7 @@ fn set_form(tree: &Json) -> Option<Asked>
 
 // The same, of an object's members.
 fn set_of(sources: &Members<Json>) -> Option<Asked>
-    ensures request { IsRequest result (set_of sources.now) }
+    ensures request { IsAskedRequest result (set_of sources.now) }
     ensures range { each_passes is_in_range sources.now ≡ true → HasRange result }
 {
     if are_sources(sources) {
@@ -135,7 +135,7 @@ fn set_of(sources: &Members<Json>) -> Option<Asked>
 
 // A request for related entities, if the argument has its form.
 fn related_form(tree: &Json) -> Option<Asked>
-    ensures request { IsRequest result (related_form tree.now) }
+    ensures request { IsAskedRequest result (related_form tree.now) }
     ensures range { HasRange result }
 {
     match tree.as_text() {
@@ -146,7 +146,7 @@ fn related_form(tree: &Json) -> Option<Asked>
 
 // A request for the entities that are related to each of a list.
 fn texts_form(tree: &Json) -> Option<Asked>
-    ensures request { IsRequest result (texts_form tree.now) }
+    ensures request { IsAskedRequest result (texts_form tree.now) }
     ensures range { HasRange result }
 {
     match tree.as_list() {
@@ -157,7 +157,7 @@ fn texts_form(tree: &Json) -> Option<Asked>
 
 // The same, of a list's items.
 fn texts_of(texts: &List<Json>) -> Option<Asked>
-    ensures request { IsRequest result (texts_of texts.now) }
+    ensures request { IsAskedRequest result (texts_of texts.now) }
     ensures range { HasRange result }
 {
     if are_texts(texts) {

@@ -11,5 +11,5 @@ abbrev pub number_of : List ℕ → ℕ
 number_of digits = fold (λ n d. n * 10 + (d - 48)) 0 digits
 
 -- a number within 64 bits
-abbrev pub IsShort : ℤ → Type 0
-IsShort n = (negsuc 9223372036854775807 ≤ℤ n) × (n ≤ℤ pos 9223372036854775807)
+abbrev pub FitsIn64 : ℤ → Type 0
+FitsIn64 n = (negsuc 9223372036854775807 ≤ℤ n) × (n ≤ℤ pos 9223372036854775807)

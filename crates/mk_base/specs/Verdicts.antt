@@ -11,12 +11,12 @@ no_text fault None next = next
 no_text fault (Some text) next = Err (fault text)
 
 -- one item before the others, unless there is a fault among these
-abbrev pub before : {A E : Type 0} → A → Result (List A) E → Result (List A) E
-before x (Ok xs) = Ok (x ∷ xs)
-before x (Err fault) = Err fault
+abbrev pub put_first : {A E : Type 0} → A → Result (List A) E → Result (List A) E
+put_first x (Ok xs) = Ok (x ∷ xs)
+put_first x (Err fault) = Err fault
 
 -- what the items give, or the first fault among them
 abbrev pub all_well : {A E : Type 0} → List (Result A E) → Result (List A) E
 all_well [] = Ok []
 all_well (Err fault ∷ more) = Err fault
-all_well (Ok x ∷ more) = before x (all_well more)
+all_well (Ok x ∷ more) = put_first x (all_well more)

@@ -16,7 +16,7 @@ use Rattle.mk_blame.specs.declared.verdict.Verdict.{Verdict}
 use Rattle.mk_blame.specs.declared.verdict.Verdict.TheVariants as verdicts
 use Rattle.mk_blame.specs.Talks.{talk, messages, last_step}
 use Rattle.mk_blame.specs.Verdicts.{IsBlamed, IsBlamedBy, AreInOrder, AreBlamed, IsVerdict}
-use Rattle.mk_blame.specs.inner.Parted.{AreAlike, JudgedOf, IsJudged}
+use Rattle.mk_blame.specs.inner.Parted.{MessagesAlike, JudgedOf, IsJudged}
 use Rattle.mk_blame.proofs.Parts.{same_alike, one_part}
 use Rattle.mk_blame.proofs.Talking.{talk_is}
 
@@ -51,7 +51,7 @@ module _ (J K : List Entry) where
       same = λ e j low. elim (below j i low) [ inl less ↦ before.same e j less | inr is ↦ subst (λ (n : ℕ). talk J n ≡ talk K n) (sym is) h.0 ];
       differ = λ e. let t = before.differ e in (t.0, (let low = t.1 in omega (arith, low)), t.2);
       each = λ b inside. let t = before.each b inside in ((let low = t.0 in omega (arith, low)), t.1);
-      alike = λ j low. elim (below j i low) [ inl less ↦ before.alike j less | inr is ↦ inl (subst (λ (n : ℕ). AreAlike (talk J n) (talk K n)) (sym is) (same_alike (talk J i) (talk K i) h.0)) ];
+      alike = λ j low. elim (below j i low) [ inl less ↦ before.alike j less | inr is ↦ inl (subst (λ (n : ℕ). MessagesAlike (talk J n) (talk K n)) (sym is) (same_alike (talk J i) (talk K i) h.0)) ];
       in_order = before.in_order;
     })
 
@@ -62,7 +62,7 @@ module _ (J K : List Entry) where
         same = λ e. absurd (true≢false (sym e));
         differ = λ e. (i, omega arith, h.0);
         each = λ b inside. let t = before.each b inside in ((let low = t.0 in omega (arith, low)), t.1);
-        alike = λ j low. elim (below j i low) [ inl less ↦ before.alike j less | inr is ↦ inl (subst (λ (n : ℕ). AreAlike (talk J n) (talk K n)) (sym is) none.1) ];
+        alike = λ j low. elim (below j i low) [ inl less ↦ before.alike j less | inr is ↦ inl (subst (λ (n : ℕ). MessagesAlike (talk J n) (talk K n)) (sym is) none.1) ];
         in_order = before.in_order;
       })
       | inr (b, is, at, blamed) ↦ subst (IsJudged J K (i + 1) false) (sym is) (record {
@@ -94,7 +94,7 @@ module _ (J K : List Entry) where
 
 -- somebody is to blame where some talks differ, by what holds of two finished runs
 module _ (P : Plan) (valid : IsValidPlan P) (J K : List Entry) (o : IsOrderly P J) (f : IsFinished P J) (p : IsOrderly P K) (g : IsFinished P K) where
-  alike_runs : ((i : ℕ) → i < sim_count P → AreAlike (talk J i) (talk K i)) → (i : ℕ) → i < sim_count P → talk J i ≡ talk K i
+  alike_runs : ((i : ℕ) → i < sim_count P → MessagesAlike (talk J i) (talk K i)) → (i : ℕ) → i < sim_count P → talk J i ≡ talk K i
   alike_runs alike i low =
       talk_is P valid J o f i low
       ∙ same_runs P valid (got J) (got K) (λ j h. (f j h).ended) (λ j h. (g j h).ended)

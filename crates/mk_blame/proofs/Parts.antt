@@ -11,7 +11,7 @@ use Rattle.mk_base.specs.declared.tier.Tier.{Tier}
 use Rattle.mk_blame.specs.Talks.{message_in, messages, last_step, step_after, PartByMessages}
 use Rattle.mk_blame.specs.declared.verdict.Blamed.{Blamed}
 use Rattle.mk_blame.specs.Verdicts.{IsBlamedBy}
-use Rattle.mk_blame.specs.inner.Parted.{PartAt, OneEnds, AreAlike, IsBegun, is_message}
+use Rattle.mk_blame.specs.inner.Parted.{PartAt, OneEnds, MessagesAlike, BeginsWithStep, is_message}
 
 pub heard_same : (m n : Message) → Heard m ≡ Heard n → m ≡ n
 heard_same m n e = cc
@@ -43,7 +43,7 @@ ends_alike [] w more u v x m n e f = absurd (none_there w (Heard n) v f)
 ends_alike (z ∷ ys) [] more u v x m n e f = heard_same m n (sym (heads z (Heard m) (ys ++ x ∷ more) u e) ∙ heads z (Heard n) ys v f)
 ends_alike (z ∷ ys) (z' ∷ w) more u v x m n e f = ends_alike ys w more u v x m n (tails z z' (ys ++ x ∷ more) (w ++ Heard m ∷ u) e) (tails z z' ys (w ++ Heard n ∷ v) f)
 
-pub one_ends_alike : (xs ys : List Said) → OneEnds xs ys → AreAlike xs ys
+pub one_ends_alike : (xs ys : List Said) → OneEnds xs ys → MessagesAlike xs ys
 one_ends_alike xs ys (x, more, inl is) w u v m n e f = ends_alike ys w more u v x m n (sym is ∙ e) f
 one_ends_alike xs ys (x, more, inr is) w u v m n e f = sym (ends_alike xs w more v u x n m (sym is ∙ f) e)
 
@@ -59,11 +59,11 @@ equal_alike : (w u v : List Said) (m n : Message) → w ++ Heard m ∷ u ≡ w +
 equal_alike [] u v m n e = heard_same m n (heads (Heard m) (Heard n) u v e)
 equal_alike (z ∷ w) u v m n e = equal_alike w u v m n (tails z z (w ++ Heard m ∷ u) (w ++ Heard n ∷ v) e)
 
-pub same_alike : (xs ys : List Said) → xs ≡ ys → AreAlike xs ys
+pub same_alike : (xs ys : List Said) → xs ≡ ys → MessagesAlike xs ys
 same_alike xs ys same w u v m n e f = equal_alike w u v m n (sym e ∙ same ∙ f)
 
 -- where two lists part at two things of which not both are messages
-pub part_alike : (xs ys : List Said) (number place : ℕ) (at : Option Tier) (p : PartAt xs ys number place at) → ((m n : Message) → p.one ≡ Heard m → p.other ≡ Heard n → ⊥) → AreAlike xs ys
+pub part_alike : (xs ys : List Said) (number place : ℕ) (at : Option Tier) (p : PartAt xs ys number place at) → ((m n : Message) → p.one ≡ Heard m → p.other ≡ Heard n → ⊥) → MessagesAlike xs ys
 part_alike xs ys number place at p none w u v m n e f = elim (same_place p.before w p.more p.more_other u v p.one p.other m n (sym p.first ∙ e) (sym p.second ∙ f) p.differ) [
   | inl same ↦ same
   | inr t ↦ absurd (none m n t.1 t.2)
@@ -100,7 +100,7 @@ steps_stay [] at = (at, refl)
 steps_stay (x ∷ xs) at = let t = step_stays x at in let u = steps_stay xs t.0 in (u.0, ap (λ (o : Option Tier). fold step_after o xs) t.1 ∙ u.1)
 
 -- before a message there is a Step, where the talk begins with one
-pub step_before : (xs w u : List Said) (m : Message) → IsBegun xs → xs ≡ w ++ Heard m ∷ u → (y : Tier) × (last_step w ≡ Some y)
+pub step_before : (xs w u : List Said) (m : Message) → BeginsWithStep xs → xs ≡ w ++ Heard m ∷ u → (y : Tier) × (last_step w ≡ Some y)
 step_before xs [] u m begun is = absurd (none_some ((begun (Heard m) u is).1))
 step_before xs (x ∷ w) u m begun is = let t = begun x (w ++ Heard m ∷ u) is in let r = steps_stay w t.0 in (r.0, ap (λ (o : Option Tier). fold step_after o w) t.1 ∙ r.1)
 
@@ -235,7 +235,7 @@ module _ (xs ys : List Said) (number place : ℕ) (at : Option Tier) (p : PartAt
   }
 
   -- a message has a Step before it
-  pub never_first : IsBegun xs → (m : Message) → p.one ≡ Heard m → at ≡ None → ⊥
+  pub never_first : BeginsWithStep xs → (m : Message) → p.one ≡ Heard m → at ≡ None → ⊥
   never_first begun m one none =
       let t = step_before xs p.before p.more m begun (p.first ∙ ap (λ (x : Said). p.before ++ x ∷ p.more) one) in
       none_some (sym none ∙ p.at_is ∙ t.1)

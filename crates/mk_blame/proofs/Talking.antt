@@ -34,7 +34,7 @@ use Rattle.mk_order.proofs.Theory.{parts, laws}
 use Rattle.mk_order.proofs.Agreeing.{goes_on}
 use Rattle.mk_order.proofs.SequentialLaws.{act_is}
 use Rattle.mk_blame.specs.Talks.{said, is_with, talk, message_in, messages, step_after}
-use Rattle.mk_blame.specs.inner.Parted.{IsBegun}
+use Rattle.mk_blame.specs.inner.Parted.{BeginsWithStep}
 
 same_or_not : (i s : ℕ) → (i ≡ s) ⊎ (i ≡ s → ⊥)
 same_or_not i s = elim (i == s) as (λ b. (i == s) ≡ b → (i ≡ s) ⊎ (i ≡ s → ⊥)) [ true ↦ λ e. inl (eqb-true i s e) | false ↦ λ e. inr (λ q. true≢false (sym (eq-eqb i s q) ∙ e)) ] refl
@@ -229,7 +229,7 @@ module _ (P : Plan) (valid : IsValidPlan P) (R : Messages) (i : ℕ) where
   messages_said : messages (run_talk P R i) ≡ messages_in (sequential P R i)
   messages_said = messages_in_acts (sequential P R i) [] refl
 
-  first_is_step : (acts : List Act) → sequential P R i ≡ acts → IsBegun (talk_of acts)
+  first_is_step : (acts : List Act) → sequential P R i ≡ acts → BeginsWithStep (talk_of acts)
   first_is_step [] is x more e = absurd (none_there x more e)
     where
       none_there : (x : Said) (more : List Said) → [] ≡ x ∷ more → ⊥
@@ -264,5 +264,5 @@ module _ (P : Plan) (valid : IsValidPlan P) (J : List Entry) (orderly : IsOrderl
       (sym (filter_map_append message_in S d) ∙ sym (ap messages begins.1) ∙ messages_of_talk J i ∙ sym (finished i low).used ∙ sym (messages_said P valid (got J) i) ∙ ap messages in_run.1 ∙ filter_map_append message_in S t) in
       begins.1 ∙ ap (λ (l : List Said). S ++ l) (only_messages d none_d ∙ ap (map Heard) same ∙ sym (only_messages t none_t)) ∙ sym in_run.1
 
-  pub begun : IsBegun (talk J i)
-  begun = subst IsBegun (sym talk_is) (first_is_step P valid (got J) i (sequential P (got J) i) refl)
+  pub begun : BeginsWithStep (talk J i)
+  begun = subst BeginsWithStep (sym talk_is) (first_is_step P valid (got J) i (sequential P (got J) i) refl)

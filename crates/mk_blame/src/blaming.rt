@@ -8,7 +8,7 @@ ghost use Rattle.mk_plan.specs.Agreement.{IsFinished};
 ghost use Rattle.mk_blame.specs.declared.verdict.Verdict.{Verdict};
 ghost use Rattle.mk_blame.specs.Talks.{said};
 ghost use Rattle.mk_blame.specs.Verdicts.{IsVerdict};
-ghost use Rattle.mk_blame.specs.inner.Parted.{IsBegun, JudgedOf};
+ghost use Rattle.mk_blame.specs.inner.Parted.{BeginsWithStep, JudgedOf};
 
 use crate::parting::{Parting, compared};
 use crate::talks::talks_of;
@@ -61,7 +61,7 @@ fn judge(
     other: &[&Entry],
     blamed: &mut List<Blamed>,
 ) -> Result<bool, Mem>
-    requires { IsBegun (map (λ e. said e.now) talk.now) }
+    requires { BeginsWithStep (map (λ e. said e.now) talk.now) }
     ensures { IfOk result
         (λ equal. JudgedOf (map (λ e. said e.now) talk.now)
         (map (λ e. said e.now) other.now) sim blamed.old equal blamed.new) }

@@ -18,11 +18,11 @@ use Rattle.mk_buffers.specs.declared.buffers.Buffers.{Buffers}
 use Rattle.mk_buffers.specs.Bounds.{same_source, sources, comes_late, is_late, late_of, most_kept}
 use Rattle.mk_buffers.specs.Held.{is_key, kept_in}
 use Rattle.mk_buffers.specs.Logs.{is_settled}
-use Rattle.mk_buffers.specs.Standing.{Stands}
+use Rattle.mk_buffers.specs.Standing.{StandFor}
 use Rattle.mk_buffers.proofs.Ascending.{and_is}
 use Rattle.mk_buffers.proofs.Collecting.{key_of}
 use Rattle.mk_buffers.proofs.Fitting.{AreApart, fitting, sum_ones}
-use Rattle.mk_buffers.proofs.Settling.{implied}
+use Rattle.mk_buffers.proofs.Keeping.{implied}
 use Rattle.mk_buffers.proofs.Standing.{eq_from, same_from, both_from}
 
 sum_le : {X : Type 0} (f g : X → ℕ) (xs : List X) → ((x : X) → IsIn x xs → f x ≤ g x) → sum_by f xs ≤ sum_by g xs
@@ -86,7 +86,7 @@ late_if P mark e attr vias x delays h = go (up_to x mark) refl
         (passes_some (λ (c : Conn). (c.from == e) && same_text c.from_attr attr && comes_late P mark x c) c.0 P.conns c.1
         (and_is ((c.0.from == e) && same_text c.0.from_attr attr) (comes_late P mark x c.0) (and_is (c.0.from == e) (same_text c.0.from_attr attr) (same_from c.0.from e (sym c.2)) ((bytes_eq-Decides c.0.from_attr attr).1 (sym c.3))) late))
 
-module _ (P : Plan) (b : Buffers) (S : Supply) (st : Stands P b S) where
+module _ (P : Plan) (b : Buffers) (S : Supply) (st : StandFor P b S) where
   abbrev late_at : ℕ → List ℕ → ℕ
   late_at e attr = length (filter (λ t. is_late P b.marks.least e attr t.at) (S.outputs e attr))
 

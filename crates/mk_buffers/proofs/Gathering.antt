@@ -34,8 +34,8 @@ use Rattle.mk_buffers.specs.declared.sets.Slot.{Slot}
 use Rattle.mk_buffers.specs.Slots.{AnswerGifts}
 use Rattle.mk_buffers.specs.inner.Slots.{set_inputs}
 use Rattle.mk_buffers.proofs.Slots.{as_input, last_set, last_given}
-use Rattle.mk_buffers.specs.Standing.{AreInlets, AreGifts, Stands, mark_of, given, value_for}
-use Rattle.mk_buffers.specs.inner.Standing.{IsBegun, HasGathered}
+use Rattle.mk_buffers.specs.Standing.{AreInlets, AreGifts, StandFor, mark_of, given, value_for}
+use Rattle.mk_buffers.specs.inner.Standing.{IsAfterStart, HasGathered}
 use Rattle.mk_buffers.proofs.Putting.{inputs_total}
 use Rattle.mk_buffers.proofs.Picking.{given_same}
 
@@ -161,7 +161,7 @@ module _ (b : Buffers) (p : Option Tier) (x : Tier) where
     | Some v ↦ (given_after i v is sorted.0, given_sorted is sorted.1)
   ]
 
-module _ (P : Plan) (b : Buffers) (S : Supply) (s : ℕ) (l : List Inlet) (p : Option Tier) (x : Tier) (st : Stands P b S) (are : AreInlets P b s l) (from : (c : Conn) → IsIn c (connections_to P s) → IsUpTo b.marks.least x) (begun : (i : Inlet) → IsIn i l → IsBegun b i x) where
+module _ (P : Plan) (b : Buffers) (S : Supply) (s : ℕ) (l : List Inlet) (p : Option Tier) (x : Tier) (st : StandFor P b S) (are : AreInlets P b s l) (from : (c : Conn) → IsIn c (connections_to P s) → IsUpTo b.marks.least x) (begun : (i : Inlet) → IsIn i l → IsAfterStart b i x) where
   abbrev of_conn : Conn → List Input
   of_conn c = option_to_list (option_map (connection_input P c) (pick P S c p x))
 
@@ -196,11 +196,11 @@ module _ (P : Plan) (b : Buffers) (S : Supply) (s : ℕ) (l : List Inlet) (p : O
       ∙ sym (assemble_given P S all (record { by_source = gifts.by_source; sourced = gifts.sourced }) s p x (λ c. pick P S c p x))
 
 -- one inlet after the other
-pub gathered_more : (b : Buffers) (l : List Inlet) (n : ℕ) (i : Inlet) (p : Option Tier) (x : Tier) (done new : List Input) → n < length l → i ≡ get_or l n i → HasGathered b (take n l) p x done → (new ≡ done ++ given b i p x) × IsBegun b i x → HasGathered b (take (n + 1) l) p x new
+pub gathered_more : (b : Buffers) (l : List Inlet) (n : ℕ) (i : Inlet) (p : Option Tier) (x : Tier) (done new : List Input) → n < length l → i ≡ get_or l n i → HasGathered b (take n l) p x done → (new ≡ done ++ given b i p x) × IsAfterStart b i x → HasGathered b (take (n + 1) l) p x new
 gathered_more b l n i p x done new below is so more = record {
   inputs = more.0 ∙ ap (λ (d : List Input). d ++ given b i p x) so.inputs ∙ ap (λ (d : List Input). flat_map (λ j. given b j p x) (take n l) ++ d) (sym (append_nil (given b i p x)))
       ∙ sym (flat_map_append (λ j. given b j p x) (take n l) (i ∷ [])) ∙ ap (flat_map (λ j. given b j p x)) (sym whole);
-  begun = λ j m. elim (in_either j (take n l) (i ∷ []) (subst (IsIn j) whole m)) [ inl r ↦ so.begun j r | inr r ↦ elim r [ inl q ↦ subst (λ (k : Inlet). IsBegun b k x) (sym q) more.1 | inr t ↦ absurd t ] ];
+  begun = λ j m. elim (in_either j (take n l) (i ∷ []) (subst (IsIn j) whole m)) [ inl r ↦ so.begun j r | inr r ↦ elim r [ inl q ↦ subst (λ (k : Inlet). IsAfterStart b k x) (sym q) more.1 | inr t ↦ absurd t ] ];
 }
   where
     whole : take (n + 1) l ≡ take n l ++ i ∷ []
@@ -210,7 +210,7 @@ pub gathered_whole : (b : Buffers) (l m : List Inlet) (n : ℕ) (p : Option Tier
 gathered_whole b l m n p x ins all is so = subst (λ (k : List Inlet). HasGathered b k p x ins) (take_all n m all ∙ is) so
 
 -- a simulator with connections asks, so the least mark is up to its own
-pub from_mark : (P : Plan) (b : Buffers) (S : Supply) (s : ℕ) (x : Tier) → Stands P b S → s < length P.sims → IsUpTo (mark_of b s) x → (c : Conn) → IsIn c (connections_to P s) → IsUpTo b.marks.least x
+pub from_mark : (P : Plan) (b : Buffers) (S : Supply) (s : ℕ) (x : Tier) → StandFor P b S → s < length P.sims → IsUpTo (mark_of b s) x → (c : Conn) → IsIn c (connections_to P s) → IsUpTo b.marks.least x
 from_mark P b S s x st low up c m =
     let k = in_filter (λ (c : Conn). owner P c.to == s) c P.conns m in
     let asks : asks_of P s ≡ true = ap (λ (t : Bool). t || list_any (λ p. p.to.0 == s) P.asyncs) (passes_some (λ c. owner P c.to == s) c P.conns k.0 k.1) in

@@ -17,7 +17,7 @@ use Rattle.mk_plan.specs.Plans.{full_id, IsValidPlan}
 use Rattle.mk_buffers.specs.declared.sets.Slot.{Slot}
 use Rattle.mk_buffers.specs.Slots.{AnswerGifts}
 use Rattle.mk_buffers.specs.Held.{has_key, with_gift}
-use Rattle.mk_buffers.specs.Standing.{Stands, HasValueTexts, AreGifts, IsSourced, mark_of}
+use Rattle.mk_buffers.specs.Standing.{StandFor, HasValueTexts, AreGifts, IsSourced, mark_of}
 use Rattle.mk_buffers.specs.inner.Standing.{HasSet, TargetOf}
 use Rattle.mk_buffers.specs.Marking.{Marked, IsLeastMark}
 use Rattle.mk_buffers.proofs.Marking.{apart_or_same}
@@ -62,7 +62,7 @@ module _ (P : Plan) (S : Supply) (e : ℕ) (g : Gift) (src : IsSourced P e g.giv
       go f h false m = texts.gifts f h m
 
   -- a set value for the simulator
-  pub stands_set : (b n : Buffers) (s : ℕ) (eid : List ℕ) → s ≡ owner P g.given.entity → eid ≡ eid_of P g.given.entity → HasSet s eid g b n → Stands P b S → Stands P n (with_gift S e g)
+  pub stands_set : (b n : Buffers) (s : ℕ) (eid : List ℕ) → s ≡ owner P g.given.entity → eid ≡ eid_of P g.given.entity → HasSet s eid g b n → StandFor P b S → StandFor P n (with_gift S e g)
   stands_set b n s eid own named d st = record {
     of_plan = of_same P b n (λ i o at. (o, sym (λ k. slice_get (d.outlets k).items i) ∙ at, refl, refl)) (λ f a i k. has_key (d.outlets k).items f a i) (λ i o at. (o, (λ k. slice_get (d.outlets k).items i) ∙ at, refl, refl, refl))
         d.inlets d.homes d.feeds (ap length d.sets ∙ length_set b.sets.items s d.after) (λ k. length (d.marks k).marks) (λ k. (d.marks k).asks) (subst IsLeastMark (sym d.marks) st.of_plan.least) d.until (subst (λ v. HasShape P v.items) (sym d.outlets) st.of_plan.shape) (same_tight P b n (λ k. (d.outlets k).items) d.feeds d.next_marks d.until d.marks st.of_plan.tight) st.of_plan;
@@ -85,7 +85,7 @@ module _ (P : Plan) (S : Supply) (e : ℕ) (g : Gift) (src : IsSourced P e g.giv
       ]
 
   -- a set value for nobody
-  pub stands_past : (b : Buffers) → TargetOf b g.given.entity None → Stands P b S → Stands P b (with_gift S e g)
+  pub stands_past : (b : Buffers) → TargetOf b g.given.entity None → StandFor P b S → StandFor P b (with_gift S e g)
   stands_past b none st = record {
     of_plan = st.of_plan;
     texts = texts_more st.texts;
@@ -101,7 +101,7 @@ module _ (P : Plan) (S : Supply) (e : ℕ) (g : Gift) (src : IsSourced P e g.giv
       ]
 
   -- a set value for the simulator of its entity
-  pub stands_target : (b n : Buffers) (t : Target) → TargetOf b g.given.entity (Some t) → HasSet t.sim t.eid g b n → Stands P b S → Stands P n (with_gift S e g)
+  pub stands_target : (b n : Buffers) (t : Target) → TargetOf b g.given.entity (Some t) → HasSet t.sim t.eid g b n → StandFor P b S → StandFor P n (with_gift S e g)
   stands_target b n t is d st =
       let low : g.given.entity < length P.entities = let l = (get_is b.homes.items g.given.entity is.0 is.1).0 in omega (arith, l, st.of_plan.home_count) in
       let h = st.of_plan.homes g.given.entity low in

@@ -2,7 +2,7 @@ pub mod FullIds
 pub mod Putting
 pub mod Latest
 pub mod Ascending
-pub mod Settling
+pub mod Keeping
 pub mod Fitting
 pub mod Sparing
 pub mod Marking

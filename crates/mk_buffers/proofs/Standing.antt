@@ -28,7 +28,7 @@ use Rattle.mk_buffers.specs.Held.{with_output, is_key, has_key}
 use Rattle.mk_buffers.specs.inner.Held.{IsThinned, AreThinned}
 use Rattle.mk_plan.specs.declared.Conn.{Conn}
 use Rattle.mk_buffers.specs.declared.inlets.Inlet.{Inlet}
-use Rattle.mk_buffers.specs.Standing.{IsInlet, IsOf, IsNew, Stands, HasKey, LacksKey, HasValueTexts, IsOutletFor, IsUnchanged, HasRaised, IsTight, next_of, mark_of}
+use Rattle.mk_buffers.specs.Standing.{IsInlet, IsOfPlan, IsNew, StandFor, HasKey, LacksKey, HasValueTexts, IsOutletFor, IsUnchanged, HasRaised, IsTight, next_of, mark_of}
 use Rattle.mk_buffers.specs.inner.Standing.{Delivers, HasThinned}
 use Rattle.mk_buffers.specs.Marking.{Marked, AreAsking, IsLeastMark, greater, asks_of}
 use Rattle.mk_buffers.specs.inner.Marking.{Raised}
@@ -40,7 +40,7 @@ use Rattle.mk_buffers.proofs.Marking.{apart_or_same, get_some}
 use Rattle.mk_buffers.proofs.Answering.{answers_trans, answers_later}
 use Rattle.mk_buffers.proofs.Ascending.{answers_self}
 use Rattle.mk_buffers.proofs.Lasts.{same_self, same_later}
-use Rattle.mk_buffers.proofs.Settling.{among_self, among_trans, among_more}
+use Rattle.mk_buffers.proofs.Keeping.{among_self, among_trans, among_more}
 use Rattle.mk_buffers.proofs.Tight.{swept_same, swept_at, swept_less, shape_same, sum_set}
 
 module _ (until : ℤ) (mark : Tier) where
@@ -109,7 +109,7 @@ module _ (until : ℤ) (mark : Tier) where
 -- the tables stay those of the plan, where each place keeps its key
 pub of_same : (P : Plan) (b n : Buffers) → ((i : ℕ) (o : Outlet) → slice_get n.outlets.items i ≡ Some o → (p : Outlet) × (slice_get b.outlets.items i ≡ Some p) × (o.entity ≡ p.entity) × (o.attr ≡ p.attr))
     → ((e : ℕ) (attr : List ℕ) (i : ℕ) → has_key n.outlets.items e attr i ≡ has_key b.outlets.items e attr i) → ((i : ℕ) (p : Outlet) → slice_get b.outlets.items i ≡ Some p → (o : Outlet) × (slice_get n.outlets.items i ≡ Some o) × (o.entity ≡ p.entity) × (o.attr ≡ p.attr) × (o.vias.items ≡ p.vias.items))
-    → n.inlets ≡ b.inlets → n.homes ≡ b.homes → n.feeds ≡ b.feeds → length n.sets.items ≡ length b.sets.items → length n.marks.marks ≡ length b.marks.marks → n.marks.asks ≡ b.marks.asks → IsLeastMark n.marks → n.until ≡ b.until → HasShape P n.outlets.items → IsTight n → IsOf P b → IsOf P n
+    → n.inlets ≡ b.inlets → n.homes ≡ b.homes → n.feeds ≡ b.feeds → length n.sets.items ≡ length b.sets.items → length n.marks.marks ≡ length b.marks.marks → n.marks.asks ≡ b.marks.asks → IsLeastMark n.marks → n.until ≡ b.until → HasShape P n.outlets.items → IsTight n → IsOfPlan P b → IsOfPlan P n
 of_same P b n back keys on ins homes feeds sets marks asks exact ends shape tight of = record {
   shape = shape;
   tight = tight;
@@ -167,7 +167,7 @@ of_same P b n back keys on ins homes feeds sets marks asks exact ends shape tigh
       delay = subst (IsIn c.via) (sym q.4) f.delay;
     }
 
-pub stands_thinned : (P : Plan) (b n : Buffers) (S : Supply) (mark : Tier) → AreThinned b.until mark b.outlets.items n.outlets.items → n.inlets ≡ b.inlets → n.homes ≡ b.homes → n.feeds ≡ b.feeds → n.sets ≡ b.sets → length n.marks.marks ≡ length b.marks.marks → n.marks.asks ≡ b.marks.asks → IsLeastMark n.marks → ((s : ℕ) → s < length b.marks.marks → IsUpTo (mark_of b s) (mark_of n s)) → n.until ≡ b.until → IsUpTo b.marks.least mark → n.marks.least ≡ mark → IsTight n → Stands P b S → Stands P n S
+pub stands_thinned : (P : Plan) (b n : Buffers) (S : Supply) (mark : Tier) → AreThinned b.until mark b.outlets.items n.outlets.items → n.inlets ≡ b.inlets → n.homes ≡ b.homes → n.feeds ≡ b.feeds → n.sets ≡ b.sets → length n.marks.marks ≡ length b.marks.marks → n.marks.asks ≡ b.marks.asks → IsLeastMark n.marks → ((s : ℕ) → s < length b.marks.marks → IsUpTo (mark_of b s) (mark_of n s)) → n.until ≡ b.until → IsUpTo b.marks.least mark → n.marks.least ≡ mark → IsTight n → StandFor P b S → StandFor P n S
 stands_thinned P b n S mark thin ins homes feeds sets marks asks exact rises ends up now tight s = record {
   texts = s.texts;
   among = λ i o at. let old = thinned_at b.until mark b.outlets.items n.outlets.items i o thin at in
@@ -237,7 +237,7 @@ both_from false b h = absurd (true≢false (sym h))
 pub key_is : (e : ℕ) (attr : List ℕ) (o : Outlet) → is_key e attr o ≡ true → (o.entity ≡ e) × (o.attr ≡ attr)
 key_is e attr o h = let parts = both_from (o.entity == e) (same_text o.attr attr) h in (eq_from o.entity e parts.0, (bytes_eq-Decides o.attr attr).0 parts.1)
 
-pub value_found : (P : Plan) (b : Buffers) (S : Supply) (e : ℕ) (attr : List ℕ) (x : Tier) (i : ℕ) (o : Outlet) → Stands P b S → has_key b.outlets.items e attr i ≡ true → o ≡ get_or b.outlets.items i o → IsUpTo b.marks.least x
+pub value_found : (P : Plan) (b : Buffers) (S : Supply) (e : ℕ) (attr : List ℕ) (x : Tier) (i : ℕ) (o : Outlet) → StandFor P b S → has_key b.outlets.items e attr i ≡ true → o ≡ get_or b.outlets.items i o → IsUpTo b.marks.least x
     → option_map (λ t. t.value) (latest (by x o.log)) ≡ value_at S x e attr
 value_found P b S e attr x i o s key is from =
     let there = key_there b.outlets.items e attr i key in
@@ -246,11 +246,11 @@ value_found P b S e attr x i o s key is from =
     let own = key_is e attr o (subst (λ (p : Outlet). is_key e attr p ≡ true) same there.2) in
     ap (option_map (λ (t : Timed). t.value)) ((s.outputs i o at).made x from ∙ (λ k. latest (by x (S.outputs (own.0 k) (own.1 k)))))
 
-pub none_lacks : (P : Plan) (b : Buffers) (S : Supply) (e : ℕ) (attr : List ℕ) → Stands P b S → LacksKey b e attr → gives_attr P e attr ≡ true → ⊥
+pub none_lacks : (P : Plan) (b : Buffers) (S : Supply) (e : ℕ) (attr : List ℕ) → StandFor P b S → LacksKey b e attr → gives_attr P e attr ≡ true → ⊥
 none_lacks P b S e attr s lacks given = let f = s.of_plan.found e attr given in true≢false (sym f.key ∙ lacks f.home f.at_home f.place f.first f.end)
 
 -- one more output
-module _ (P : Plan) (b n : Buffers) (S : Supply) (e : ℕ) (attr : List ℕ) (i : ℕ) (t : Timed) (s : Stands P b S) (key : has_key b.outlets.items e attr i ≡ true) (text : IsValueText t.value) (d : Delivers b n i t) where
+module _ (P : Plan) (b n : Buffers) (S : Supply) (e : ℕ) (attr : List ℕ) (i : ℕ) (t : Timed) (s : StandFor P b S) (key : has_key b.outlets.items e attr i ≡ true) (text : IsValueText t.value) (d : Delivers b n i t) where
   at_it : slice_get n.outlets.items i ≡ Some d.after
   at_it = ap (λ (os : List Outlet). slice_get os i) d.outlets ∙ set_here b.outlets.items i d.after d.before d.at_place
 
@@ -366,7 +366,7 @@ module _ (P : Plan) (b n : Buffers) (S : Supply) (e : ℕ) (attr : List ℕ) (i 
           (d.stays (let l = (s.of_plan.tight.looked i d.before d.at_place).noted in omega (arith, l, d.taken.sim)))
       stays_of j o is (inr apart) = λ m above due. s.of_plan.tight.stays j o (sym (at_other j apart) ∙ is) m above (d.earlier o.sim m due)
 
-  pub stands_delivered : Stands P n (with_output S e attr t)
+  pub stands_delivered : StandFor P n (with_output S e attr t)
   stands_delivered = record {
     of_plan = of_same P b n back keys on d.inlets d.homes d.feeds (λ k. length (d.sets k).items) (λ k. length (d.marks k).marks) (λ k. (d.marks k).asks) (subst IsLeastMark (sym d.marks) s.of_plan.least) d.until
         (shape_same P b.outlets.items n.outlets.items shapes (ap (sum_by (λ (o : Outlet). length o.vias.items)) d.outlets ∙ sum_set (λ (o : Outlet). length o.vias.items) b.outlets.items i d.before d.after d.at_place (ap length d.taken.vias)) s.of_plan.shape)
@@ -382,7 +382,7 @@ module _ (P : Plan) (b n : Buffers) (S : Supply) (e : ℕ) (attr : List ℕ) (i 
   }
 
 -- new buffers stand for a supply of nothing
-pub stands_new : (P : Plan) (b : Buffers) (S : Supply) → IsNew P b → ((e : ℕ) (attr : List ℕ) → S.outputs e attr ≡ []) → ((e : ℕ) → S.gifts e ≡ []) → Stands P b S
+pub stands_new : (P : Plan) (b : Buffers) (S : Supply) → IsNew P b → ((e : ℕ) (attr : List ℕ) → S.outputs e attr ≡ []) → ((e : ℕ) → S.gifts e ≡ []) → StandFor P b S
 stands_new P b S new none nothing = record {
   of_plan = new.of_plan;
   texts = record {
@@ -442,7 +442,7 @@ same_tight P b n outs feeds next ends marks t = let count : length n.feeds.items
     (swept_less n b.marks.least (length b.feeds.items) (length n.feeds.items) (omega (arith, count)) (swept_same b n b.marks.least (length b.feeds.items) outs feeds next ends t))
 
 -- what hasn't changed stands for what it stood for
-pub stands_unchanged : (P : Plan) (b n : Buffers) (S : Supply) → Stands P b S → IsUnchanged b n → Stands P n S
+pub stands_unchanged : (P : Plan) (b n : Buffers) (S : Supply) → StandFor P b S → IsUnchanged b n → StandFor P n S
 stands_unchanged P b n S st u = record {
   of_plan = of_same P b n (λ i o at. (o, sym (λ k. slice_get (u.outlets k) i) ∙ at, refl, refl)) (λ e attr i k. has_key (u.outlets k) e attr i) (λ i p at. (p, (λ k. slice_get (u.outlets k) i) ∙ at, refl, refl, refl))
       u.inlets u.homes u.feeds (λ k. length (u.sets k)) (λ k. length (u.marks k).marks) (λ k. (u.marks k).asks) (subst IsLeastMark (sym u.marks) st.of_plan.least) u.until (subst (HasShape P) (sym u.outlets) st.of_plan.shape) (same_tight P b n (λ k. u.outlets k) u.feeds u.next_marks u.until u.marks st.of_plan.tight) st.of_plan;
@@ -454,12 +454,12 @@ stands_unchanged P b n S st u = record {
 }
 
 -- the least mark
-pub least_low : (P : Plan) (b : Buffers) (S : Supply) (s : ℕ) → Stands P b S → s < length P.sims → asks_of P s ≡ true → IsUpTo b.marks.least (mark_of b s)
+pub least_low : (P : Plan) (b : Buffers) (S : Supply) (s : ℕ) → StandFor P b S → s < length P.sims → asks_of P s ≡ true → IsUpTo b.marks.least (mark_of b s)
 least_low P b S s st low asks =
     let mark = below_get b.marks.marks s (omega (arith, low, st.of_plan.sizes.marks)) in
     subst (IsUpTo b.marks.least) (sym (ap (λ (o : Option Tier). unwrap_or o (moment (pos 0))) mark.1)) (st.of_plan.least.low s mark.0 (st.of_plan.asking.each s low ∙ ap Some asks) mark.1)
 
-pub least_held : (P : Plan) (b : Buffers) (S : Supply) (s : ℕ) → Stands P b S → s < length P.sims → asks_of P s ≡ true → (r : ℕ) × (asks_of P r ≡ true) × (mark_of b r ≡ b.marks.least)
+pub least_held : (P : Plan) (b : Buffers) (S : Supply) (s : ℕ) → StandFor P b S → s < length P.sims → asks_of P s ≡ true → (r : ℕ) × (asks_of P r ≡ true) × (mark_of b r ≡ b.marks.least)
 least_held P b S s st low asks =
     let h = st.of_plan.least.held s (st.of_plan.asking.each s low ∙ ap Some asks) in
     let there : h.0 < length P.sims = let l = (get_is b.marks.asks h.0 true h.1).0 in omega (arith, l, st.of_plan.asking.count) in

@@ -170,7 +170,7 @@ abbrev pub IsTight : Buffers → Type 0
 IsTight b = IsSwept b.marks.least (length b.feeds.items) b
 
 -- the tables are those of the plan
-pub record IsOf (P : Plan) (b : Buffers) : Type 0 where
+pub record IsOfPlan (P : Plan) (b : Buffers) : Type 0 where
   pub valid : IsValidPlan P
   pub homes : (e : ℕ) → e < length P.entities → HasHome P b e
   pub home_count : length b.homes.items ≡ length P.entities
@@ -190,8 +190,8 @@ pub record IsOf (P : Plan) (b : Buffers) : Type 0 where
 
 -- what the buffers keep is among this supply, and they answer as it, at every question for a value
 -- from the least mark on, and at every question for the inputs of a simulator from its mark on
-pub record Stands (P : Plan) (b : Buffers) (S : Supply) : Type 0 where
-  pub of_plan : IsOf P b
+pub record StandFor (P : Plan) (b : Buffers) (S : Supply) : Type 0 where
+  pub of_plan : IsOfPlan P b
   pub texts : HasValueTexts S
   pub gifts : (all : List Gift) × AreGifts P S all × HoldsGifts P b all
   pub outputs : (i : ℕ) (o : Outlet) → slice_get b.outlets.items i ≡ Some o
@@ -225,7 +225,7 @@ given b i p x = option_to_list (option_map (input_of i) (value_for b i p x))
 
 -- the tables are those of the plan, and nothing has come
 pub record IsNew (P : Plan) (b : Buffers) : Type 0 where
-  pub of_plan : IsOf P b
+  pub of_plan : IsOfPlan P b
   pub unset : IsUnset b
   pub empty : (i : ℕ) (o : Outlet) → slice_get b.outlets.items i ≡ Some o → o.log ≡ []
   pub starts : (s : ℕ) → mark_of b s ≡ moment (pos 0)

@@ -46,7 +46,7 @@ pub struct Buffers {
 }
 
 impl Buffers {
-    ghost use Rattle.mk_buffers.specs.Standing.{HasKey, LacksKey, Stands, least_mark, outputs_held, IsNew, IsOf, IsOutletFor};
+    ghost use Rattle.mk_buffers.specs.Standing.{HasKey, LacksKey, StandFor, least_mark, outputs_held, IsNew, IsOfPlan, IsOutletFor};
 
     /// Buffers of a plan before anything was added.
     pub fn new(alloc: Global, plan: &Plan) -> Result<Buffers, Mem>
@@ -99,7 +99,7 @@ impl Buffers {
         ensures sets { result ≤ length self.now.sets.items }
         ensures marks { result ≤ length self.now.marks.marks }
         ensures feeds { result ≤ length self.now.feeds.items }
-        ensures whole { (P : Plan) → IsOf P self.now → result ≡ length P.sims }
+        ensures whole { (P : Plan) → IsOfPlan P self.now → result ≡ length P.sims }
     {
         let tables = self.inlets.len().min(self.sets.len());
         tables.min(self.marks.len()).min(self.feeds.len())
@@ -107,7 +107,7 @@ impl Buffers {
 
     /// Where the outlets of a simulator begin: its wanted attributes have one each, in their order.
     pub fn first_outlet(&self, sim: SimNo) -> usize
-        ensures { (P : Plan) (S : Supply) → Stands P self.now S → sim.0 < length P.sims
+        ensures { (P : Plan) (S : Supply) → StandFor P self.now S → sim.0 < length P.sims
             → (i : ℕ) (w : Want) → slice_get (wanted P sim.0) i ≡ Some w
             → IsOutletFor P self.now sim.0 w (result + i) }
     {
@@ -133,7 +133,7 @@ impl Buffers {
     /// later than the least mark.
     pub fn kept(&self) -> usize
         ensures count { result ≡ min (outputs_held self.now) 18446744073709551615 }
-        ensures few { (P : Plan) (S : Supply) → Stands P self.now S
+        ensures few { (P : Plan) (S : Supply) → StandFor P self.now S
             → result ≤ most_kept P S (least_mark self.now) }
     {
         self.held()

@@ -11,7 +11,7 @@ use crate::forgetting::least_of;
 use mk_base::{Datum, Mem, Text, Tier};
 
 impl Buffers {
-    ghost use Rattle.mk_buffers.specs.Standing.{HasKey, Stands, HasSameMarks, IsUnchanged};
+    ghost use Rattle.mk_buffers.specs.Standing.{HasKey, StandFor, HasSameMarks, IsUnchanged};
     ghost use Rattle.mk_buffers.specs.inner.Standing.{Delivers, IsNoted, HasNoted};
 
     /// Adds an output of an entity's attribute that some connection takes, made at `at`: the text of a value.
@@ -19,9 +19,9 @@ impl Buffers {
         requires early { pos 0 ≤ℤ at.time }
         requires late { at.time ≤ℤ pos 1000000000000000000 }
         requires low { at.tier ≤ 1000000 }
-        ensures ok { (P : Plan) (S : Supply) → Stands P self.old S
+        ensures ok { (P : Plan) (S : Supply) → StandFor P self.old S
             → gives_attr P entity attr.now ≡ true → IsValueText value
-            → OnOk result (Stands P self.new
+            → OnOk result (StandFor P self.new
             (with_output S entity attr.now (record { at = at; value = value }))) }
         ensures err { OnErr result (IsUnchanged self.old self.new) }
         ensures marks { HasSameMarks self.old self.new }
@@ -37,9 +37,9 @@ impl Buffers {
         requires early { pos 0 ≤ℤ at.time }
         requires late { at.time ≤ℤ pos 1000000000000000000 }
         requires low { at.tier ≤ 1000000 }
-        ensures ok { (P : Plan) (S : Supply) (entity : ℕ) (attr : List ℕ) → Stands P self.old S
+        ensures ok { (P : Plan) (S : Supply) (entity : ℕ) (attr : List ℕ) → StandFor P self.old S
             → HasKey self.old entity attr outlet → IsValueText value
-            → OnOk result (Stands P self.new
+            → OnOk result (StandFor P self.new
             (with_output S entity attr (record { at = at; value = value }))) }
         ensures err { OnErr result (IsUnchanged self.old self.new) }
         ensures marks { HasSameMarks self.old self.new }

@@ -11,13 +11,13 @@ use crate::outlets::Part;
 use mk_base::{SimNo, Tier};
 
 impl Buffers {
-    ghost use Rattle.mk_buffers.specs.Standing.{Stands, HasRaised, IsSwept, next_of};
+    ghost use Rattle.mk_buffers.specs.Standing.{StandFor, HasRaised, IsSwept, next_of};
     ghost use Rattle.mk_buffers.specs.inner.Standing.{IsNoted, HasThinned, IsPartSwept, IsSweptAt, IsLookedAgain};
 
     /// Tells that `sim` will ask nothing before `at`; takes no memory.
     pub fn forget_before(&mut self, sim: SimNo, at: Tier)
-        ensures stands { (P : Plan) (S : Supply) → Stands P self.old S → Stands P self.new S }
-        ensures marks { (P : Plan) (S : Supply) → Stands P self.old S → sim.0 < length P.sims
+        ensures stands { (P : Plan) (S : Supply) → StandFor P self.old S → StandFor P self.new S }
+        ensures marks { (P : Plan) (S : Supply) → StandFor P self.old S → sim.0 < length P.sims
             → HasRaised sim.0 at self.old self.new }
     {
         if (sim.0 as usize) < self.sims() {
@@ -28,7 +28,7 @@ impl Buffers {
     // Makes the mark of `sim` the greater of it and `at`, and gives up what no question from there on can reach.
     fn raise(&mut self, sim: SimNo, at: Tier)
         requires { sim.0 < length self.old.marks.marks }
-        ensures stands { (P : Plan) (S : Supply) → Stands P self.old S → Stands P self.new S }
+        ensures stands { (P : Plan) (S : Supply) → StandFor P self.old S → StandFor P self.new S }
         ensures marks { (rose : _) × Raised sim.0 at rose self.old.marks self.new.marks }
     {
         if self.marks.raise(sim.0 as usize, at) {

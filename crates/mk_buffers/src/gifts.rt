@@ -18,13 +18,13 @@ struct Target {
 }
 
 impl Buffers {
-    ghost use Rattle.mk_buffers.specs.Standing.{Stands, IsSourced, HasSameMarks, IsUnchanged};
+    ghost use Rattle.mk_buffers.specs.Standing.{StandFor, IsSourced, HasSameMarks, IsUnchanged};
     ghost use Rattle.mk_buffers.specs.inner.Standing.{HasSet, TargetOf};
 
     /// Adds a set value that is delivered at `at`: the text of a value, under the full id of an entity.
     pub fn give(&mut self, at: Tier, set: SetValue) -> Result<(), Mem>
-        ensures ok { (P : Plan) (S : Supply) (e : ℕ) → Stands P self.old S → IsSourced P e set
-            → OnOk result (Stands P self.new (with_gift S e (record { at = at; given = set }))) }
+        ensures ok { (P : Plan) (S : Supply) (e : ℕ) → StandFor P self.old S → IsSourced P e set
+            → OnOk result (StandFor P self.new (with_gift S e (record { at = at; given = set }))) }
         ensures err { OnErr result (IsUnchanged self.old self.new) }
         ensures marks { HasSameMarks self.old self.new }
     {

@@ -81,7 +81,7 @@ impl Marks {
         }
         self.marks[sim] = at;
         if sim == self.holder {
-            settle(
+            raise_least(
                 self.marks.as_slice(),
                 self.asks.as_slice(),
                 &mut self.least,
@@ -94,7 +94,7 @@ impl Marks {
 }
 
 // Makes the least mark that of the simulators that ask; whether it rose.
-fn settle(marks: &[Tier], asks: &[bool], least: &mut Tier, holder: &mut usize) -> bool
+fn raise_least(marks: &[Tier], asks: &[bool], least: &mut Tier, holder: &mut usize) -> bool
     requires counts { length marks.now ≡ length asks.now }
     requires low { IsLow marks.now asks.now least.old }
     ensures low { IsLow marks.now asks.now least.new }

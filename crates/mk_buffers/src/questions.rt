@@ -18,8 +18,8 @@ use mk_base::{Datum, List, Mem, SimNo, Text, Tier};
 use mk_plan::Input;
 
 impl Buffers {
-    ghost use Rattle.mk_buffers.specs.Standing.{Stands, mark_of, least_mark, given, value_for, last_for};
-    ghost use Rattle.mk_buffers.specs.inner.Standing.{HasGathered, IsBegun};
+    ghost use Rattle.mk_buffers.specs.Standing.{StandFor, mark_of, least_mark, given, value_for, last_for};
+    ghost use Rattle.mk_buffers.specs.inner.Standing.{HasGathered, IsAfterStart};
 
     /// The inputs of a step of `sim` at `at`, where its step before was at `previous`: sorted by eid, attribute and source.
     pub fn inputs_at(
@@ -28,7 +28,7 @@ impl Buffers {
         previous: Option<Tier>,
         at: Tier,
     ) -> Result<List<Input>, Mem>
-        ensures { (P : Plan) (S : Supply) → Stands P self.now S → sim.0 < length P.sims
+        ensures { (P : Plan) (S : Supply) → StandFor P self.now S → sim.0 < length P.sims
             → IsUpTo (mark_of self.now sim.0) at
             → IfOk result (λ ins. ins ≡ inputs P S sim.0 previous at) }
     {
@@ -64,7 +64,7 @@ impl Buffers {
         inputs: &mut List<Input>,
     ) -> Result<(), Mem>
         ensures { OnOk result ((inputs.new ≡ inputs.old ++ given self.now inlet.now previous at)
-            × IsBegun self.now inlet.now at) }
+            × IsAfterStart self.now inlet.now at) }
     {
         if let Some(value) = self.value_for(inlet, previous, at) {
             inputs.push(input_of(inlet, value)?)?;
@@ -74,10 +74,10 @@ impl Buffers {
 
     /// The value of an entity's attribute that was made last up to `at`; takes no memory.
     pub fn value_at(&self, entity: u32, attr: &Text, at: Tier) -> Option<&Datum>
-        ensures value { (P : Plan) (S : Supply) → Stands P self.now S
+        ensures value { (P : Plan) (S : Supply) → StandFor P self.now S
             → gives_attr P entity attr.now ≡ true → IsUpTo (least_mark self.now) at
             → option_map (λ v. v.now) result ≡ value_at S at entity attr.now }
-        ensures text { (P : Plan) (S : Supply) → Stands P self.now S
+        ensures text { (P : Plan) (S : Supply) → StandFor P self.now S
             → gives_attr P entity attr.now ≡ true → IsUpTo (least_mark self.now) at
             → IfSome result (λ v. IsValueText v.now) }
     {
@@ -95,7 +95,7 @@ impl Buffers {
         at: Tier,
     ) -> Option<&'a Datum>
         ensures value { option_map (λ v. v.now) result ≡ value_for self.now inlet.now previous at }
-        ensures begun { IsBegun self.now inlet.now at }
+        ensures begun { IsAfterStart self.now inlet.now at }
     {
         match self.last_for(inlet, at) {
             Some(made) => since(inlet, previous, made),

@@ -14,7 +14,7 @@ use Rattle.mk_meta.specs.declared.meta.Meta.{Meta}
 use Rattle.mk_entities.specs.declared.entities.EntityInfo.{EntityInfo}
 use Rattle.mk_entities.specs.Creation.{number_of}
 use Rattle.mk_entities.specs.Sound.{AreSound, IsSound}
-use Rattle.mk_entities.specs.Tied.{IsFound}
+use Rattle.mk_entities.specs.Tied.{AreFirst}
 use Rattle.mk_scenario.specs.declared.parts.Scenario.{Scenario}
 use Rattle.mk_scenario.specs.declared.parts.SimPart.{SimPart}
 use Rattle.mk_scenario.specs.Wellformed.{IsWellformed}
@@ -70,7 +70,7 @@ module _ (S : Scenario) (ranks : List ℕ) (metas : List Meta) (es : List Entity
       let each = subst (λ (s : SimPart). Each (λ (b : ℕ). b ≢ dot) s.id) from.1 (sims_without_dots S wellformed i t.0 from.0) in
       subst (λ (id : List ℕ). All (λ (b : ℕ). b ≢ dot) id) (sym (ap (λ (s : PlanSim). s.id) t.2)) (each_all (λ (b : ℕ). b ≢ dot) t.0.id each))
 
-  pub names_made : IsFound es → AreSound es → HasDistinctNames P
+  pub names_made : AreFirst es → AreSound es → HasDistinctNames P
   names_made found sound = record {
     sims = sims_apart;
     no_dots = no_dots;

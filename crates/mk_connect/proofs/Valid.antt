@@ -8,7 +8,7 @@ use Rattle.mk_meta.specs.declared.meta.Meta.{Meta}
 use Rattle.mk_entities.specs.declared.entities.EntityInfo.{EntityInfo}
 use Rattle.mk_entities.specs.Creation.{most_entities}
 use Rattle.mk_entities.specs.Sound.{AreSound}
-use Rattle.mk_entities.specs.Tied.{IsFound}
+use Rattle.mk_entities.specs.Tied.{AreFirst}
 use Rattle.mk_scenario.specs.declared.parts.Scenario.{Scenario}
 use Rattle.mk_scenario.specs.Wellformed.{IsWellformed}
 use Rattle.mk_connect.specs.ByPlace.{by_place}
@@ -27,7 +27,7 @@ use Rattle.mk_connect.proofs.Sound.{conns_sound}
 use Rattle.mk_connect.proofs.Validity.{initials, one_each, sources, targets}
 
 module _ (S : Scenario) (ranks : List ℕ) (metas : List Meta) (es : List EntityInfo) (first_ids : List ℕ) (conns : List Conn) (wellformed : IsWellformed S) (made : conns_made S.sims (models_of metas) es S.blocks ≡ Ok conns) where
-  valid : length es ≤ most_entities → IsFound es → AreSound es → IsComplete S ranks metas es first_ids → IsValidPlan (plan_with S ranks metas es first_ids conns)
+  valid : length es ≤ most_entities → AreFirst es → AreSound es → IsComplete S ranks metas es first_ids → IsValidPlan (plan_with S ranks metas es first_ids conns)
   valid few found proper known =
       let sound = conns_sound S.sims (models_of metas) es S.blocks conns made in
       record {
@@ -45,7 +45,7 @@ module _ (S : Scenario) (ranks : List ℕ) (metas : List Meta) (es : List Entity
 -- a plan of these parts is valid
 pub valid_plan : (S : Scenario) (ranks : List ℕ) (metas : List Meta) (es : List EntityInfo) (first_ids : List ℕ) (models : List SimModel) (entities : List PlanEntity) (conns : List Conn) (Q : Plan)
     → IsWellformed S → models ≡ models_of metas → conns_made S.sims models es S.blocks ≡ Ok conns → entities ≡ by_place (plan_entity models (length es) (pairs_of es S.blocks)) 0 es → Q ≡ plan_of S ranks metas first_ids models entities conns
-    → length es ≤ most_entities → IsFound es → AreSound es → IsComplete S ranks metas es first_ids → IsValidPlan Q
+    → length es ≤ most_entities → AreFirst es → AreSound es → IsComplete S ranks metas es first_ids → IsValidPlan Q
 valid_plan S ranks metas es first_ids models entities conns Q well are made listed is few found proper known =
     let so : conns_made S.sims (models_of metas) es S.blocks ≡ Ok conns = ap (λ ms. conns_made S.sims ms es S.blocks) (sym are) ∙ made in
     let own : entities ≡ by_place (plan_entity (models_of metas) (length es) (pairs_of es S.blocks)) 0 es = listed ∙ ap (λ ms. by_place (plan_entity ms (length es) (pairs_of es S.blocks)) 0 es) are in

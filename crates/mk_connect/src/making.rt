@@ -3,7 +3,7 @@ ghost use Rattle.std.specs.Prelude.{◌≡◌, ◌≤◌, Ok, length, IfOk, IfEr
 ghost use Rattle.mk_plan.specs.Plans.{HasInitialValues, HasOneConnectionEach, IsValidPlan};
 ghost use Rattle.mk_entities.specs.Creation.{most_entities};
 ghost use Rattle.mk_entities.specs.Sound.{AreSound};
-ghost use Rattle.mk_entities.specs.Tied.{IsFound};
+ghost use Rattle.mk_entities.specs.Tied.{AreFirst};
 ghost use Rattle.mk_scenario.specs.Wellformed.{IsWellformed};
 ghost use Rattle.mk_base.specs.Lists.{Each};
 ghost use Rattle.mk_connect.specs.ByPlace.{by_place};
@@ -99,7 +99,7 @@ fn connected_parts(
 
     // What is sure of all entities.
     ensures few { length entities.now ≤ most_entities }
-    ensures distinct { IsFound entities.now }
+    ensures distinct { AreFirst entities.now }
     ensures sound { AreSound entities.now }
 {
     let all = entities.as_slice();

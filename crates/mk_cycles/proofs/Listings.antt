@@ -6,17 +6,17 @@ use Rattle.std.proofs.lemmas.List.{get_or_past, get_or-set_same, get_or-set_othe
 use Rattle.std.proofs.lemmas.List.Sums.{sum_by-set, count_by-le-length, length-filter}
 use Rattle.mk_base.proofs.Lists.{some_same, none_some, in_front, in_back, in_either, at_in}
 use Rattle.mk_base.specs.Lists.{IsIn}
-use Rattle.mk_cycles.specs.inner.Listing.{IsMarked}
+use Rattle.mk_cycles.specs.inner.Listing.{MarksListed}
 
 -- a marked number is below the count
-pub below : (marks : List Bool) (order : List ℕ) (s : ℕ) → IsMarked marks order → IsIn s order → s < length marks
+pub below : (marks : List Bool) (order : List ℕ) (s : ℕ) → MarksListed marks order → IsIn s order → s < length marks
 below marks order s m here = elim (cases_lt s (length marks)) [
   | inl under ↦ under
   | inr past ↦ absurd (false≢true (sym (get_or_past marks s false past) ∙ m.marked s here))
 ]
 
 -- a number that is not listed is not marked
-pub unmarked : (marks : List Bool) (order : List ℕ) (s : ℕ) → IsMarked marks order → (IsIn s order → ⊥) → get_or marks s false ≡ false
+pub unmarked : (marks : List Bool) (order : List ℕ) (s : ℕ) → MarksListed marks order → (IsIn s order → ⊥) → get_or marks s false ≡ false
 unmarked marks order s m new = elim (get_or marks s false) as (λ b. get_or marks s false ≡ b → b ≡ false) [
   | true ↦ λ e. absurd (new (m.listed s e))
   | false ↦ λ e. refl
@@ -31,7 +31,7 @@ count-set marks s under off =
     omega (arith, step, none)
 
 -- there is room for one more
-pub room : (marks : List Bool) (order : List ℕ) (s : ℕ) → IsMarked marks order → s < length marks → (IsIn s order → ⊥) → length order < length marks
+pub room : (marks : List Bool) (order : List ℕ) (s : ℕ) → MarksListed marks order → s < length marks → (IsIn s order → ⊥) → length order < length marks
 room marks order s m under new =
     omega (arith, count-set marks s under (unmarked marks order s m new), m.counted, count_by-le-length (λ (b : Bool). b) (set marks s true), length-set marks s true)
 
@@ -46,7 +46,7 @@ get_push (z ∷ xs) y (suc i) x e = elim (get_push xs y i x e) [
 ]
 
 -- one more is listed and marked
-pub pushed : (marks : List Bool) (order : List ℕ) (s : ℕ) → IsMarked marks order → s < length marks → (IsIn s order → ⊥) → IsMarked (set marks s true) (order ++ s ∷ [])
+pub pushed : (marks : List Bool) (order : List ℕ) (s : ℕ) → MarksListed marks order → s < length marks → (IsIn s order → ⊥) → MarksListed (set marks s true) (order ++ s ∷ [])
 pushed marks order s m under new = record {
   listed = λ t on. elim (cases_eq t s) [
     | inl same ↦ in_back t order (s ∷ []) (inl same)
@@ -80,5 +80,5 @@ all_marked (true ∷ marks) on = let rest = all_marked marks (λ k h. on (suc k)
 all_marked (false ∷ marks) on = absurd (false≢true (on zero (omega arith)))
 
 -- where all are marked, as many are listed as there are
-pub all_listed : (marks : List Bool) (order : List ℕ) → IsMarked marks order → ((k : ℕ) → k < length marks → get_or marks k false ≡ true) → length order ≡ length marks
+pub all_listed : (marks : List Bool) (order : List ℕ) → MarksListed marks order → ((k : ℕ) → k < length marks → get_or marks k false ≡ true) → length order ≡ length marks
 all_listed marks order m on = sym m.counted ∙ sym (length-filter (λ (b : Bool). b) marks) ∙ all_marked marks on

@@ -4,12 +4,12 @@ use Rattle.std.specs.List.{slice_get}
 use Rattle.std.proofs.lemmas.Option.{get_or_from_slice_get, slice_get-get_or, slice_get_within}
 use Rattle.mk_base.proofs.Lists.{some_same, in_either, in_at, at_in, each_in, in_each}
 use Rattle.mk_base.specs.Lists.{Each, IsIn}
-use Rattle.mk_cycles.specs.Cycles.{IsLeft, IsBack, IsReached, at_least, further, IsLoop}
+use Rattle.mk_cycles.specs.Cycles.{IsUnplaced, IsBack, IsGoneBackTo, at_least, further, IsLoop}
 use Rattle.mk_cycles.specs.Edges.{IsChain}
 use Rattle.mk_cycles.proofs.Chains.{in_reverse, in_take, in_drop, get_take, get_drop, split_at, chain_split, turned_is, chain_turned_back}
 
 -- whoever is reached is left
-pub reached_left : (before : ℕ → ℕ → Bool) (n : ℕ) (order : List ℕ) (s : ℕ) → IsReached before n order s → IsLeft n order s
+pub reached_left : (before : ℕ → ℕ → Bool) (n : ℕ) (order : List ℕ) (s : ℕ) → IsGoneBackTo before n order s → IsUnplaced n order s
 reached_left before n order _ (at_least s left least) = left
 reached_left before n order _ (further s p reached back) = back.0
 
@@ -74,7 +74,7 @@ apart_drop k path apart i j s at_i at_j =
 
 -- what going back came round to is the loop
 pub looped : (before : ℕ → ℕ → Bool) (n : ℕ) (order path around walk : List ℕ) (k again i : ℕ) → IsApart path
-    → Each (λ s. IsReached before n order s) path → IsChain (λ s p. IsBack before n order s p) (path ++ again ∷ []) → slice_get path k ≡ Some again → around ≡ drop k path
+    → Each (λ s. IsGoneBackTo before n order s) path → IsChain (λ s p. IsBack before n order s p) (path ++ again ∷ []) → slice_get path k ≡ Some again → around ≡ drop k path
     → i < length around → ((j : ℕ) → j < length around → slice_index around i ≤ slice_index around j) → walk ≡ reverse (drop (suc i) around ++ take (suc i) around)
     → IsLoop before n order walk
 looped before n order path around walk k again i apart reached chain is part under least turning =
@@ -86,15 +86,15 @@ looped before n order path around walk k again i apart reached chain is part und
     let closed : IsChain R (around ++ again ∷ []) = subst (λ (r : List ℕ). IsChain R (r ++ again ∷ [])) (sym part) (chain_drop R k again path is chain) in
     let start : slice_get around 0 ≡ Some again = subst (λ (r : List ℕ). slice_get r 0 ≡ Some again) (sym part) (get_first k again path is) in
     let loop : IsLoop before n order (m ∷ reverse (drop (suc i) around ++ take i around)) =
-    (in_each (λ s. IsReached before n order s) m path reached on_path, least_first i m around places m_is least, chain_turned_back R i m again around m_is start closed) in
+    (in_each (λ s. IsGoneBackTo before n order s) m path reached on_path, least_first i m around places m_is least, chain_turned_back R i m again around m_is start closed) in
     subst (λ (r : List ℕ). IsLoop before n order r) (sym (turning ∙ turned_is i m around m_is)) loop
 
 -- the numbers of the walk are small
-pub walk_small : (before : ℕ → ℕ → Bool) (n : ℕ) (order path around walk : List ℕ) (k i : ℕ) → n < 2 ^ 32 → Each (λ s. IsReached before n order s) path → around ≡ drop k path
+pub walk_small : (before : ℕ → ℕ → Bool) (n : ℕ) (order path around walk : List ℕ) (k i : ℕ) → n < 2 ^ 32 → Each (λ s. IsGoneBackTo before n order s) path → around ≡ drop k path
     → walk ≡ reverse (drop (suc i) around ++ take (suc i) around) → Each (λ s. s < 2 ^ 32) walk
 walk_small before n order path around walk k i small reached part turning =
     each_in (λ s. s < 2 ^ 32) walk (λ s here.
     let on_loop : IsIn s around = in_turned s i around (subst (λ (r : List ℕ). IsIn s r) turning here) in
     let on_path : IsIn s path = in_drop s k path (subst (λ (r : List ℕ). IsIn s r) part on_loop) in
-    let left = reached_left before n order s (in_each (λ s. IsReached before n order s) s path reached on_path) in
+    let left = reached_left before n order s (in_each (λ s. IsGoneBackTo before n order s) s path reached on_path) in
     omega (arith, left.0))

@@ -1,7 +1,7 @@
 // The way back from what has no rank, until it closes: the cycle.
 ghost use Rattle.std.specs.Prelude.{◌≡◌, ℕ, suc, ◌<◌, ◌≤◌, ◌^◌, ◌++◌, ◌∷◌, [], length, reverse, take, drop, slice_get, slice_index, Some, IfOk};
 ghost use Rattle.mk_base.specs.Lists.{Each, IsIn};
-ghost use Rattle.mk_cycles.specs.Cycles.{IsBack, IsLeft, IsLoop, IsReached};
+ghost use Rattle.mk_cycles.specs.Cycles.{IsBack, IsUnplaced, IsLoop, IsGoneBackTo};
 ghost use Rattle.mk_cycles.specs.Edges.{IsChain};
 ghost use Rattle.mk_cycles.specs.Orders.{MayFollow};
 ghost use Rattle.mk_cycles.specs.Outcomes.{numbers};
@@ -15,7 +15,7 @@ use std::alloc::Global;
 // The least-numbered simulator left that leads to this one, which is left.
 fn back(table: &Table, placed: &Listed, sim: usize) -> usize
     requires count { placed.now.count ≡ table.now.sims }
-    requires left { IsLeft table.now.sims placed.now.order sim }
+    requires left { IsUnplaced table.now.sims placed.now.order sim }
     requires stuck { MayFollow (leads table.now) table.now.sims placed.now.order sim → ⊥ }
     ensures { IsBack (leads table.now) table.now.sims placed.now.order sim result }
 {
@@ -65,12 +65,12 @@ fn trail(
 ) -> Result<(Listed, usize), Mem>
     requires count { placed.now.count ≡ table.now.sims }
     requires stuck { (s : ℕ) → MayFollow (leads table.now) table.now.sims placed.now.order s → ⊥ }
-    requires left { IsLeft table.now.sims placed.now.order start }
-    requires least { (t : ℕ) → IsLeft table.now.sims placed.now.order t → start ≤ t }
+    requires left { IsUnplaced table.now.sims placed.now.order start }
+    requires least { (t : ℕ) → IsUnplaced table.now.sims placed.now.order t → start ≤ t }
     ensures again { IfOk result (λ trail. IsIn trail.1 trail.0.order) }
     ensures reached { IfOk result
         (λ trail. Each (λ s.
-        IsReached (leads table.now) table.now.sims placed.now.order s) trail.0.order) }
+        IsGoneBackTo (leads table.now) table.now.sims placed.now.order s) trail.0.order) }
     ensures chain { IfOk result
         (λ trail. IsChain (λ s p. IsBack (leads table.now) table.now.sims placed.now.order s p)
         (trail.0.order ++ trail.1 ∷ [])) }
@@ -119,8 +119,8 @@ pub fn cycle(
     requires count { placed.now.count ≡ table.now.sims }
     requires small { table.now.sims < 2 ^ 32 }
     requires stuck { (s : ℕ) → MayFollow (leads table.now) table.now.sims placed.now.order s → ⊥ }
-    requires left { IsLeft table.now.sims placed.now.order start }
-    requires least { (t : ℕ) → IsLeft table.now.sims placed.now.order t → start ≤ t }
+    requires left { IsUnplaced table.now.sims placed.now.order start }
+    requires least { (t : ℕ) → IsUnplaced table.now.sims placed.now.order t → start ≤ t }
     ensures { IfOk result
         (λ walk. IsLoop (leads table.now) table.now.sims placed.now.order (numbers walk)) }
 {

@@ -1,7 +1,7 @@
 // Numbers in the order in which they were listed, each at most once.
 ghost use Rattle.std.specs.Prelude.{◌≡◌, ℕ, ◌<◌, ◌≤◌, ◌↔◌, ◌++◌, ◌∷◌, [], length, slice_get, Some, IsTrue, IfOk, OnOk, OnErr, MatchOption};
 ghost use Rattle.mk_base.specs.Lists.{IsIn};
-ghost use Rattle.mk_cycles.specs.Cycles.{IsLeft};
+ghost use Rattle.mk_cycles.specs.Cycles.{IsUnplaced};
 
 use mk_base::Mem;
 use std::alloc::Global;
@@ -16,13 +16,13 @@ pub struct Listed {
 
 impl Model for Listed {
     ghost use Rattle.std.specs.Prelude.{length};
-    ghost use Rattle.mk_cycles.specs.inner.Listing.{Listing, IsMarked};
+    ghost use Rattle.mk_cycles.specs.inner.Listing.{Listing, MarksListed};
 
     ghost Value = { Listing };
 
     ghost view = { λ a. record { count = length a.marks.items; order = a.order.items } };
 
-    ghost invariant = { λ a. IsMarked a.marks.items a.order.items };
+    ghost invariant = { λ a. MarksListed a.marks.items a.order.items };
 }
 
 impl Listed {
@@ -75,9 +75,9 @@ impl Listed {
     // The least number that is not listed.
     pub fn first_left(&self) -> Option<usize>
         ensures left { MatchOption result ((s : ℕ) → s < self.now.count
-            → IsIn s self.now.order) (λ s. IsLeft self.now.count self.now.order s) }
+            → IsIn s self.now.order) (λ s. IsUnplaced self.now.count self.now.order s) }
         ensures first { MatchOption result (length self.now.order ≡ self.now.count) (λ s. (t : ℕ)
-            → IsLeft self.now.count self.now.order t → s ≤ t) }
+            → IsUnplaced self.now.count self.now.order t → s ≤ t) }
     {
         for number in 0..self.marks.len() {
             if !self.marks[number] {

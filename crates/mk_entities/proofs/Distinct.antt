@@ -11,9 +11,9 @@ use Rattle.mk_entities.specs.declared.described.Described.{Described}
 use Rattle.mk_entities.specs.declared.entities.EntityInfo.{EntityInfo}
 use Rattle.mk_entities.specs.declared.fault.CreateFault.{CreateFault}
 use Rattle.mk_entities.specs.declared.fault.CreateFault.TheVariants.{NoEid, TwiceEid, OfType, TooMany}
-use Rattle.mk_entities.specs.Creation.{entity_fault, first_there, found, has_type, held, is_named, most_entities, number_of}
+use Rattle.mk_entities.specs.Creation.{entity_fault, first_there, after_text, has_type, held, is_named, most_entities, number_of}
 use Rattle.mk_entities.specs.inner.Making.{fault_at, first_fault, named_from, number_in}
-use Rattle.mk_entities.specs.Tied.{IsFound}
+use Rattle.mk_entities.specs.Tied.{AreFirst}
 use Rattle.mk_entities.specs.inner.Tied.{numbered}
 use Rattle.mk_entities.proofs.Adding.{numbered_append, numbered_own, own}
 use Rattle.mk_entities.proofs.Lookups.{number_is, place_first, place_later}
@@ -41,7 +41,7 @@ missing (Some n) fault next none = cc
 new_eid : (number : List ℕ → Option ℕ) (count : ℕ) (model : List ℕ) (meta : Meta) (n : ℕ) (e : Described) → entity_fault number count model meta n e ≡ None → number (unwrap_or e.eid []) ≡ None
 new_eid number count model meta n e none = at e.eid none
   where
-    at : (eid : Option (List ℕ)) → found (NoEid n) eid (λ t. held (TwiceEid t) (not (is_some (number t))) (held (OfType t) (has_type model meta e) (held (TooMany (most_entities + 1)) (nat_lt count most_entities) None))) ≡ None → number (unwrap_or eid []) ≡ None
+    at : (eid : Option (List ℕ)) → after_text (NoEid n) eid (λ t. held (TwiceEid t) (not (is_some (number t))) (held (OfType t) (has_type model meta e) (held (TooMany (most_entities + 1)) (nat_lt count most_entities) None))) ≡ None → number (unwrap_or eid []) ≡ None
     at None none = cc
     at (Some t) none = missing (number t) (TwiceEid t) (held (OfType t) (has_type model meta e) (held (TooMany (most_entities + 1)) (nat_lt count most_entities) None)) none
 
@@ -100,7 +100,7 @@ same_itself [] = refl
 same_itself (x ∷ a) = let h : nat_eq x x ≡ true = grind arith in rw h (same_itself a)
 
 module _ (old : List EntityInfo) (sim : SimNo) (model : List ℕ) (meta : Meta) (es : List Described) (make : Described → EntityInfo)
-    (own_sim : (e : Described) → (make e).sim ≡ sim) (own_eid : (e : Described) → (make e).eid ≡ unwrap_or e.eid []) (found_old : IsFound old)
+    (own_sim : (e : Described) → (make e).sim ≡ sim) (own_eid : (e : Described) → (make e).eid ≡ unwrap_or e.eid []) (found_old : AreFirst old)
     (passed : first_fault (numbered sim.0 0 old) (length old) model meta es ≡ None) where
   so_far : (n : ℕ) (text : List ℕ) → number_of (old ++ map make (take n es)) sim text ≡ number_in (numbered sim.0 0 old ++ named_from (length old) (take n es)) text
   so_far n text = sym (number_is sim (old ++ map make (take n es)) text)
@@ -133,7 +133,7 @@ module _ (old : List EntityInfo) (sim : SimNo) (model : List ℕ) (meta : Meta) 
       let all : length (old ++ front) ≡ length old + n = omega (arith, length-append old front, long, length-take n es) in
       ap (position (is_named sim (unwrap_or e.eid []))) split ∙ there_next (is_named sim (unwrap_or e.eid [])) (old ++ front) rest (make e) (not_before n e is) (own_passes e) ∙ ap Some all
 
-  pub still_found : IsFound (old ++ map make es)
+  pub still_found : AreFirst (old ++ map make es)
   still_found i x is = at (get_split old (map make es) i x is)
     where
       made : (n : ℕ) → i ≡ length old + n → (e : Described) → slice_get es n ≡ Some e → make e ≡ x → number_of (old ++ map make es) x.sim x.eid ≡ Some i

@@ -9,7 +9,7 @@ use Rattle.mk_entities.specs.declared.described.Described.{Described}
 use Rattle.mk_entities.specs.declared.entities.EntityInfo.{EntityInfo}
 use Rattle.mk_entities.specs.declared.fault.CreateFault.{CreateFault}
 use Rattle.mk_entities.specs.Creation.{added, drafts, first_entity_fault, first_there, most_entities, number_of, rel_fault, unless, with_entities}
-use Rattle.mk_entities.specs.Tied.{IsFound}
+use Rattle.mk_entities.specs.Tied.{AreFirst}
 use Rattle.mk_entities.specs.inner.Tied.{IsTied, names_at, numbered}
 use Rattle.mk_entities.proofs.Adding.{numbered_append, numbered_other, same_fault}
 use Rattle.mk_entities.specs.Sound.{AreSound}
@@ -34,8 +34,8 @@ module _ (old new : List EntityInfo) (sim : SimNo) (group : ℕ) (model : List �
       ∙ ap (λ l. numbered s 0 old ++ l) (numbered_other sim make (λ e. refl) (λ e. refl) s (0 + length old) es other)
       ∙ append_nil (numbered s 0 old)
 
-  found_again : IsFound old → IsFound new
-  found_again found = subst IsFound passed.1 (still_found old sim model meta es make (λ e. refl) (λ e. refl) found (same_fault old sim group model meta es ∙ passed.0))
+  found_again : AreFirst old → AreFirst new
+  found_again found = subst AreFirst passed.1 (still_found old sim model meta es make (λ e. refl) (λ e. refl) found (same_fault old sim group model meta es ∙ passed.0))
 
   -- each new entity has what it must have
   sound_again : AreSound old → Each IsNamed es → AreSound new
@@ -64,9 +64,9 @@ tied_again r old new names grown sim group model meta es now tied same room ok e
   numbers = λ s. at s (same_or_other s sim.0);
 }
   where
-    found : (r : Result (Unit {0}) CreateFault) → OnOk r (with_entities old sim group model meta es ≡ Ok new) → IfErr r (λ e. new ≡ old) → IsFound new
+    found : (r : Result (Unit {0}) CreateFault) → OnOk r (with_entities old sim group model meta es ≡ Ok new) → IfErr r (λ e. new ≡ old) → AreFirst new
     found (Ok u) ok err = found_again old new sim group model meta es ok tied.distinct
-    found (Err e) ok err = subst IsFound (sym err) tied.distinct
+    found (Err e) ok err = subst AreFirst (sym err) tied.distinct
 
     sound : (r : Result (Unit {0}) CreateFault) → OnOk r (with_entities old sim group model meta es ≡ Ok new) → IfErr r (λ e. new ≡ old) → AreSound new
     sound (Ok u) ok err = sound_again old new sim group model meta es ok tied.sound named

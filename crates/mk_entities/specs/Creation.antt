@@ -36,10 +36,10 @@ abbrev pub held : CreateFault → Bool → Option CreateFault → Option CreateF
 held fault holds next = if holds then next else Some fault
 
 -- what follows a test that finds a text, and the fault where it finds none
-abbrev pub found : CreateFault → Option (List ℕ) → (List ℕ → Option CreateFault)
+abbrev pub after_text : CreateFault → Option (List ℕ) → (List ℕ → Option CreateFault)
     → Option CreateFault
-found fault None next = Some fault
-found fault (Some text) next = next text
+after_text fault None next = Some fault
+after_text fault (Some text) next = next text
 
 -- what follows where there is no fault
 abbrev pub unless : {B : Type 0} → Option CreateFault → Result B CreateFault → Result B CreateFault
@@ -61,7 +61,7 @@ has_type model meta entity = unwrap_or
 abbrev pub entity_fault : (List ℕ → Option ℕ) → ℕ → List ℕ → Meta → ℕ → Described
     → Option CreateFault
 entity_fault number count model meta n entity =
-    found (NoEid n) entity.eid (λ eid.
+    after_text (NoEid n) entity.eid (λ eid.
     held (TwiceEid eid) (not (is_some (number eid))) (
     held (OfType eid) (has_type model meta entity) (
     held (TooMany (most_entities + 1)) (nat_lt count most_entities)

@@ -4,6 +4,6 @@ use Rattle.mk_entities.specs.declared.entities.EntityInfo.{EntityInfo}
 use Rattle.mk_entities.specs.Creation.{number_of}
 
 -- each entity is the first of its simulator with its eid
-abbrev pub IsFound : List EntityInfo → Type 0
-IsFound entities = (i : ℕ) (entity : EntityInfo) → slice_get entities i ≡ Some entity
+abbrev pub AreFirst : List EntityInfo → Type 0
+AreFirst entities = (i : ℕ) (entity : EntityInfo) → slice_get entities i ≡ Some entity
     → number_of entities entity.sim entity.eid ≡ Some i

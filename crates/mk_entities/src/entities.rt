@@ -3,7 +3,7 @@ ghost use Rattle.std.specs.Prelude.{◌≡◌, ◌<◌, ◌≤◌, [], Some, Ok,
 ghost use Rattle.mk_base.specs.Lists.{BeginsWith};
 ghost use Rattle.mk_entities.specs.Creation.{entities_added, most_entities, number_of};
 ghost use Rattle.mk_entities.specs.Sound.{AreSound};
-ghost use Rattle.mk_entities.specs.Tied.{IsFound};
+ghost use Rattle.mk_entities.specs.Tied.{AreFirst};
 
 use crate::described::families;
 use crate::fault::CreateFault;
@@ -113,7 +113,7 @@ impl Entities {
     pub fn as_slice(&self) -> &[EntityInfo]
         ensures same { result.now ≡ self.now }
         ensures few { length self.now ≤ most_entities }
-        ensures distinct { IsFound self.now }
+        ensures distinct { AreFirst self.now }
         ensures sound { AreSound self.now }
     {
         self.kept.as_slice()

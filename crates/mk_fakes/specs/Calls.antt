@@ -18,14 +18,14 @@ use Rattle.mk_fakes.specs.Scripts.{coming, is_awake}
 use Rattle.mk_fakes.specs.Telling.{Biting, Wiring}
 
 -- what a read into so many bytes finds, where this comes
-abbrev pub found : Option (List ℕ) → ℕ → ReadLink
-found None size = read.NotYet
-found (Some []) size = read.Closed
-found (Some (b ∷ bs)) size = read.Got (min (length (b ∷ bs)) size)
+abbrev pub read_of : Option (List ℕ) → ℕ → ReadLink
+read_of None size = read.NotYet
+read_of (Some []) size = read.Closed
+read_of (Some (b ∷ bs)) size = read.Got (min (length (b ∷ bs)) size)
 
 -- what a read of the link finds
 abbrev pub hears : Wiring → LinkNo → ℕ → ReadLink
-hears w link size = found (coming w link) size
+hears w link size = read_of (coming w link) size
 
 -- the bytes that come on a link, if any do
 abbrev pub bytes_on : Wiring → LinkNo → List ℕ

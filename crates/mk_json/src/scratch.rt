@@ -19,6 +19,7 @@ pub struct Scratch {
 }
 
 impl Scratch {
+    /// A room for readings, in which no name is kept yet. It takes no memory.
     pub fn new(alloc: Global) -> Scratch {
         Scratch {
             parser: json::Scratch::new(alloc),

@@ -11,7 +11,7 @@ use Rattle.mk_base.specs.Lists.{Each}
 use Rattle.mk_launch.specs.declared.faults.LaunchFault.{LaunchFault}
 use Rattle.mk_launch.specs.declared.faults.LaunchFault.TheVariants.{BadPlace}
 use Rattle.mk_launch.specs.declared.marks.Front.TheVariants as front
-use Rattle.mk_launch.specs.Marks.{Mark, before, mark_of, marks}
+use Rattle.mk_launch.specs.Marks.{Mark, put_first, mark_of, marks}
 use Rattle.mk_launch.specs.Marks.Sign.{Byte, Address}
 use Rattle.mk_launch.specs.Marks.Mark.{Space, Quote, Plain}
 use Rattle.mk_launch.specs.inner.Steps.{front_of}
@@ -73,24 +73,24 @@ some_bytes c = omega (arith, length-encode c, (len_utf8_bounds c).0)
 
 -- what comes of the first mark
 abbrev first : ℕ → List ℕ → Option (Mark × ℕ) → Result (List Mark) LaunchFault
-first i more m = option_map_or (λ (m : Mark × ℕ). before m.0 (marks (i + 1) (m.1 - 1) more)) m (Err (BadPlace i))
+first i more m = option_map_or (λ (m : Mark × ℕ). put_first m.0 (marks (i + 1) (m.1 - 1) more)) m (Err (BadPlace i))
 
 abbrev place : List ℕ → Option (Mark × ℕ)
 place text = cond (starts_with nat_eq text (codes "%(addr)s")) (Some (Plain Address, 8)) (cond (starts_with nat_eq text (codes "%%")) (Some (Plain (Byte 37), 2)) None)
 
 -- the first mark, where it is a byte that stands for itself, a space or a quotation mark
-pub byte_first : (i b : ℕ) (more : List ℕ) → (b == 37) ≡ false → marks i 0 (b ∷ more) ≡ before (mark_of i b) (marks (i + 1) 0 more)
+pub byte_first : (i b : ℕ) (more : List ℕ) → (b == 37) ≡ false → marks i 0 (b ∷ more) ≡ put_first (mark_of i b) (marks (i + 1) 0 more)
 byte_first i b more other = ap (λ (t : Bool). first i more (cond t (place (b ∷ more)) (Some (mark_of i b, 1)))) other
 
-pub plain_first : (i b : ℕ) (more : List ℕ) → IsPlain b → marks i 0 (b ∷ more) ≡ before (Plain (Byte b)) (marks (i + 1) 0 more)
-plain_first i b more plain = byte_first i b more plain.percent ∙ ap (λ m. before m (marks (i + 1) 0 more)) (ap (λ (t : Bool). cond t Space (cond ((b == 34) || (b == 39)) (Quote b i) (Plain (Byte b)))) plain.space ∙ ap (λ (t : Bool). cond t (Quote b i) (Plain (Byte b))) plain.quote)
+pub plain_first : (i b : ℕ) (more : List ℕ) → IsPlain b → marks i 0 (b ∷ more) ≡ put_first (Plain (Byte b)) (marks (i + 1) 0 more)
+plain_first i b more plain = byte_first i b more plain.percent ∙ ap (λ m. put_first m (marks (i + 1) 0 more)) (ap (λ (t : Bool). cond t Space (cond ((b == 34) || (b == 39)) (Quote b i) (Plain (Byte b)))) plain.space ∙ ap (λ (t : Bool). cond t (Quote b i) (Plain (Byte b))) plain.quote)
 
 -- the places
-pub address_first : (i : ℕ) (after : List ℕ) → marks i 0 (codes "%(addr)s" ++ after) ≡ before (Plain Address) (marks (i + 8) 0 after)
-address_first i after = let far : i + 1 + 1 + 1 + 1 + 1 + 1 + 1 + 1 ≡ i + 8 = omega arith in ap (λ j. before (Plain Address) (marks j 0 after)) far
+pub address_first : (i : ℕ) (after : List ℕ) → marks i 0 (codes "%(addr)s" ++ after) ≡ put_first (Plain Address) (marks (i + 8) 0 after)
+address_first i after = let far : i + 1 + 1 + 1 + 1 + 1 + 1 + 1 + 1 ≡ i + 8 = omega arith in ap (λ j. put_first (Plain Address) (marks j 0 after)) far
 
-pub percent_first : (i : ℕ) (after : List ℕ) → marks i 0 (codes "%%" ++ after) ≡ before (Plain (Byte 37)) (marks (i + 2) 0 after)
-percent_first i after = let far : i + 1 + 1 ≡ i + 2 = omega arith in ap (λ j. before (Plain (Byte 37)) (marks j 0 after)) far
+pub percent_first : (i : ℕ) (after : List ℕ) → marks i 0 (codes "%%" ++ after) ≡ put_first (Plain (Byte 37)) (marks (i + 2) 0 after)
+percent_first i after = let far : i + 1 + 1 ≡ i + 2 = omega arith in ap (λ j. put_first (Plain (Byte 37)) (marks j 0 after)) far
 
 -- a text that doesn't begin so
 lacks : (p text : List ℕ) → ((v : List ℕ) → text ≡ p ++ v → ⊥) → starts_with nat_eq text p ≡ false

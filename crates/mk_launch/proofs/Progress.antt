@@ -10,7 +10,7 @@ use Rattle.mk_launch.specs.declared.faults.LaunchFault.{LaunchFault}
 use Rattle.mk_launch.specs.declared.faults.LaunchFault.TheVariants.{BadPlace}
 use Rattle.mk_launch.specs.declared.marks.Front.{Front}
 use Rattle.mk_launch.specs.declared.marks.Front.TheVariants as front
-use Rattle.mk_launch.specs.Marks.{Mark, before, marks}
+use Rattle.mk_launch.specs.Marks.{Mark, put_first, marks}
 use Rattle.mk_launch.specs.Marks.Sign.{Byte}
 use Rattle.mk_launch.specs.Marks.Mark.{Space, Quote, Plain}
 use Rattle.mk_launch.specs.inner.Reading.{Reading}
@@ -19,14 +19,14 @@ use Rattle.mk_launch.proofs.Finishing.{Texts, finish, space_ends, space_stays, b
 use Rattle.mk_launch.proofs.Bytes.{IsPlain, letters_are_plain, some_bytes, byte_first, plain_first, address_first, percent_first, stray_first}
 
 -- a space
-space_read : (s : Reading) (R : Result (List Mark) LaunchFault) (p : Option (ℕ × ℕ)) → s.part ≡ p → finish s (before Space R) ≡ finish (after_space p s) R
+space_read : (s : Reading) (R : Result (List Mark) LaunchFault) (p : Option (ℕ × ℕ)) → s.part ≡ p → finish s (put_first Space R) ≡ finish (after_space p s) R
 space_read s R None e = space_ends s R e
 space_read s R (Some p) e = space_stays s p R e ∙ ap (λ t. finish (with_letters t s) R) (sym (encode_ascii 32 (omega arith)))
 
 -- a quotation mark
-quote_read : (s : Reading) (q i : ℕ) (R : Result (List Mark) LaunchFault) (p : Option (ℕ × ℕ)) → q < 128 → s.part ≡ p → finish s (before (Quote q i) R) ≡ finish (after_quote q i p s) R
+quote_read : (s : Reading) (q i : ℕ) (R : Result (List Mark) LaunchFault) (p : Option (ℕ × ℕ)) → q < 128 → s.part ≡ p → finish s (put_first (Quote q i) R) ≡ finish (after_quote q i p s) R
 quote_read s q i R None ascii e = quote_opens s q i R e
-quote_read s q i R (Some p) ascii e = elim (p.0 == q) as (λ t. (p.0 == q) ≡ t → finish s (before (Quote q i) R) ≡ finish (cond t (record s { part = None }) (with_letters (encode_utf8 q) s)) R) [
+quote_read s q i R (Some p) ascii e = elim (p.0 == q) as (λ t. (p.0 == q) ≡ t → finish s (put_first (Quote q i) R) ≡ finish (cond t (record s { part = None }) (with_letters (encode_utf8 q) s)) R) [
   | true ↦ λ same. quote_ends s p q i R e same
   | false ↦ λ apart. quote_stays s p q i R e apart ∙ ap (λ t. finish (with_letters t s) R) (sym (encode_ascii q ascii))
 ] refl
@@ -37,10 +37,10 @@ quote_is_ascii q e = elim (q == 34) as (λ t. (q == 34) ≡ t → (t || (q == 39
   | false ↦ λ isnt h. let same : q ≡ 39 = grind (arith, nat_tests) in (omega (arith, same), grind (arith, nat_tests), grind (arith, nat_tests))
 ] refl e
 
-quote_first : (i q : ℕ) (more : List ℕ) → ((q == 34) || (q == 39)) ≡ true → marks i 0 (q ∷ more) ≡ before (Quote q i) (marks (i + 1) 0 more)
+quote_first : (i q : ℕ) (more : List ℕ) → ((q == 34) || (q == 39)) ≡ true → marks i 0 (q ∷ more) ≡ put_first (Quote q i) (marks (i + 1) 0 more)
 quote_first i q more e =
     let is = quote_is_ascii q e in
-    byte_first i q more is.2 ∙ ap (λ m. before m (marks (i + 1) 0 more)) (ap (λ (t : Bool). cond t Space (cond ((q == 34) || (q == 39)) (Quote q i) (Plain (Byte q)))) is.1 ∙ ap (λ (t : Bool). cond t (Quote q i) (Plain (Byte q))) e)
+    byte_first i q more is.2 ∙ ap (λ m. put_first m (marks (i + 1) 0 more)) (ap (λ (t : Bool). cond t Space (cond ((q == 34) || (q == 39)) (Quote q i) (Plain (Byte q)))) is.1 ∙ ap (λ (t : Bool). cond t (Quote q i) (Plain (Byte q))) e)
 
 -- bytes of a word that goes on
 abbrev going : Reading → List ℕ → Reading

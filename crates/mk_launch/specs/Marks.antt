@@ -32,14 +32,14 @@ mark_at i b more =
     else Some (mark_of i b, 1)
 
 -- an item before the others, if there are others
-abbrev pub before : {X : Type 0} → X → Result (List X) LaunchFault → Result (List X) LaunchFault
-before x (Ok xs) = Ok (x ∷ xs)
-before x (Err fault) = Err fault
+abbrev pub put_first : {X : Type 0} → X → Result (List X) LaunchFault → Result (List X) LaunchFault
+put_first x (Ok xs) = Ok (x ∷ xs)
+put_first x (Err fault) = Err fault
 
 -- the marks of a text that begins at byte i, its first bytes, so many, being of a mark that was
 -- read before; or the first per cent sign that is none
 abbrev pub marks : ℕ → ℕ → List ℕ → Result (List Mark) LaunchFault
 marks i passed [] = Ok []
 marks i zero (b ∷ more) = option_map_or (λ (m : Mark
-    × ℕ). before m.0 (marks (i + 1) (m.1 - 1) more)) (mark_at i b more) (Err (BadPlace i))
+    × ℕ). put_first m.0 (marks (i + 1) (m.1 - 1) more)) (mark_at i b more) (Err (BadPlace i))
 marks i (suc passed) (b ∷ more) = marks (i + 1) passed more

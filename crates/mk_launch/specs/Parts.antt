@@ -2,7 +2,7 @@
 use Rattle.std.specs.Prelude.{ℕ, ◌==◌, List, [], ◌∷◌, Option, Some, None, Result, Ok, Err, if◌then◌else◌}
 use Rattle.mk_launch.specs.declared.faults.LaunchFault.{LaunchFault}
 use Rattle.mk_launch.specs.declared.faults.LaunchFault.TheVariants.{BadQuote}
-use Rattle.mk_launch.specs.Marks.{Sign, Mark, before}
+use Rattle.mk_launch.specs.Marks.{Sign, Mark, put_first}
 use Rattle.mk_launch.specs.Marks.Sign.{Byte}
 use Rattle.mk_launch.specs.Marks.Mark.{Space, Quote, Plain}
 
@@ -22,12 +22,13 @@ of_word signs = Some signs
 -- its byte, or none outside of parts; or the mark of a part that doesn't end
 abbrev pub pieces : Option (ℕ × ℕ) → List Mark → Result (List Piece) LaunchFault
 pieces None [] = Ok []
-pieces None (Space ∷ marks) = before gap (pieces None marks)
-pieces None (Quote q i ∷ marks) = before (of_word []) (pieces (Some (q, i)) marks)
-pieces None (Plain sign ∷ marks) = before (of_word (sign ∷ [])) (pieces None marks)
+pieces None (Space ∷ marks) = put_first gap (pieces None marks)
+pieces None (Quote q i ∷ marks) = put_first (of_word []) (pieces (Some (q, i)) marks)
+pieces None (Plain sign ∷ marks) = put_first (of_word (sign ∷ [])) (pieces None marks)
 pieces (Some (q, i)) [] = Err (BadQuote i)
-pieces (Some (q, i)) (Space ∷ marks) = before (of_word (Byte 32 ∷ [])) (pieces (Some (q, i)) marks)
+pieces (Some (q, i)) (Space ∷ marks) = put_first (of_word (Byte 32 ∷ []))
+    (pieces (Some (q, i)) marks)
 pieces (Some (q, i)) (Quote r j ∷ marks) = if q == r then pieces None marks
-    else before (of_word (Byte r ∷ [])) (pieces (Some (q, i)) marks)
-pieces (Some (q, i)) (Plain sign ∷ marks) = before (of_word (sign ∷ []))
+    else put_first (of_word (Byte r ∷ [])) (pieces (Some (q, i)) marks)
+pieces (Some (q, i)) (Plain sign ∷ marks) = put_first (of_word (sign ∷ []))
     (pieces (Some (q, i)) marks)

@@ -14,13 +14,13 @@ abbrev pub is_numeral : List ℕ → Bool
 is_numeral ds = nat_lt 0 (length ds) && all_ascii_digits ds
 
 -- a number within 64 bits
-abbrev pub is_within : ℤ → Bool
-is_within n = int_le (negsuc 9223372036854775807) n && int_le n (pos 9223372036854775807)
+abbrev pub fits_in_64 : ℤ → Bool
+fits_in_64 n = int_le (negsuc 9223372036854775807) n && int_le n (pos 9223372036854775807)
 
 -- the number that the text of a value writes, or 0 where it writes no whole number within 64 bits
 abbrev pub number_in : List ℕ → ℤ
 number_in text = if is_numeral (without_leading_sign text)
-    && is_within (signed_digits_value 10 text) then signed_digits_value 10 text else pos 0
+    && fits_in_64 (signed_digits_value 10 text) then signed_digits_value 10 text else pos 0
 
 -- the kind takes inputs at the attribute
 abbrev pub takes : Turn → List ℕ → Bool

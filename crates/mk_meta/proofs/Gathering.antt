@@ -4,7 +4,7 @@ use Rattle.std.proofs.Math.Seq.{drop-cons}
 use Rattle.std.proofs.lemmas.List.{take_more, take-append-drop, map-append}
 use Rattle.std.specs.Prelude.{option_map}
 use Rattle.mk_base.specs.Lists.{all_there}
-use Rattle.mk_base.specs.Verdicts.{before, all_well}
+use Rattle.mk_base.specs.Verdicts.{put_first, all_well}
 use Rattle.mk_meta.specs.declared.fault.MetaFault.{MetaFault}
 
 swapped : {X : Type 0} (x y : X) (r : Option (List X)) → option_map (λ ys. y ∷ ys) (option_map (λ ys. ys ++ x ∷ []) r) ≡ option_map (λ ys. ys ++ x ∷ []) (option_map (λ ys. y ∷ ys) r)
@@ -26,20 +26,20 @@ abbrev after : {X : Type 0} → X → Result (List X) MetaFault → Result (List
 after x (Ok xs) = Ok (xs ++ x ∷ [])
 after x (Err fault) = Err fault
 
-well_swapped : {X : Type 0} (x y : X) (r : Result (List X) MetaFault) → before y (after x r) ≡ after x (before y r)
+well_swapped : {X : Type 0} (x y : X) (r : Result (List X) MetaFault) → put_first y (after x r) ≡ after x (put_first y r)
 well_swapped x y (Ok ys) = refl
 well_swapped x y (Err e) = refl
 
 well_push : {X : Type 0} (os : List (Result X MetaFault)) (x : X) → all_well (os ++ Ok x ∷ []) ≡ after x (all_well os)
 well_push [] x = refl
 well_push (Err e ∷ os) x = refl
-well_push (Ok o ∷ os) x = ap (before o) (well_push os x) ∙ well_swapped x o (all_well os)
+well_push (Ok o ∷ os) x = ap (put_first o) (well_push os x) ∙ well_swapped x o (all_well os)
 
 well_fault : {X : Type 0} (os ps : List (Result X MetaFault)) (xs : List X) (e : MetaFault) → all_well os ≡ Ok xs → all_well (os ++ Err e ∷ ps) ≡ Err e
 well_fault [] ps xs e well = refl
 well_fault (Err f ∷ os) ps xs e well = cc
-well_fault (Ok o ∷ os) ps xs e well = elim (all_well os) as (λ r. all_well os ≡ r → before o r ≡ Ok xs → before o (all_well (os ++ Err e ∷ ps)) ≡ Err e) [
-  | Ok ys ↦ λ is h. ap (before o) (well_fault os ps ys e is)
+well_fault (Ok o ∷ os) ps xs e well = elim (all_well os) as (λ r. all_well os ≡ r → put_first o r ≡ Ok xs → put_first o (all_well (os ++ Err e ∷ ps)) ≡ Err e) [
+  | Ok ys ↦ λ is h. ap (put_first o) (well_fault os ps ys e is)
   | Err f ↦ λ is h. cc
 ] refl well
 

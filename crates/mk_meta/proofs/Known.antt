@@ -7,18 +7,18 @@ use Rattle.mk_base.specs.declared.SimKind.TheVariants.{TimeBased, EventBased, Hy
 use Rattle.mk_base.specs.declared.json.Json.{Json}
 use Rattle.mk_base.specs.Lists.{Each, is_among}
 use Rattle.mk_base.specs.Trees.{bool_in, is_object, member, texts_in}
-use Rattle.mk_base.specs.Verdicts.{held, no_text, before, all_well}
+use Rattle.mk_base.specs.Verdicts.{held, no_text, put_first, all_well}
 use Rattle.mk_meta.specs.declared.meta.ModelMeta.{ModelMeta}
 use Rattle.mk_meta.specs.declared.fault.MetaFault.{MetaFault}
 use Rattle.mk_meta.specs.declared.fault.MetaFault.TheVariants.{Model, TriggerUnknown}
-use Rattle.mk_meta.specs.Metadata.{HasKnownAttrs, first_unknown, found, hybrid_texts, is_hybrid, model_in, unless_missing, with_known}
+use Rattle.mk_meta.specs.Metadata.{HasKnownAttrs, first_unknown, after_found, hybrid_texts, is_hybrid, model_in, unless_missing, with_known}
 
 ok_same : {X : Type 0} (r : Result X MetaFault) (x y : X) → r ≡ Ok x → r ≡ Ok y → x ≡ y
 ok_same r x y is also = cc
 
 module _ {A B : Type 0} where
   -- what follows a test that found something
-  found_is : (fault : MetaFault) (o : Option A) (next : A → Result B MetaFault) (y : B) → found fault o next ≡ Ok y → (x : A) × (o ≡ Some x) × (next x ≡ Ok y)
+  found_is : (fault : MetaFault) (o : Option A) (next : A → Result B MetaFault) (y : B) → after_found fault o next ≡ Ok y → (x : A) × (o ≡ Some x) × (next x ≡ Ok y)
   found_is fault None next y is = cc
   found_is fault (Some x) next y is = (x, refl, is)
 
@@ -79,6 +79,6 @@ all_known kind (m ∷ ms) models is = at (model_in kind m) refl is (all_known ki
     at (Err fault) here is more = cc
     at (Ok x) here is more = behind (all_well (map (model_in kind) ms)) refl is
       where
-        behind : (r : Result (List ModelMeta) MetaFault) → all_well (map (model_in kind) ms) ≡ r → before x r ≡ Ok models → Each (HasKnownAttrs kind) models
+        behind : (r : Result (List ModelMeta) MetaFault) → all_well (map (model_in kind) ms) ≡ r → put_first x r ≡ Ok models → Each (HasKnownAttrs kind) models
         behind (Err fault) rest is = cc
         behind (Ok xs) rest is = subst (Each (HasKnownAttrs kind)) (ok_same (Ok (x ∷ xs)) (x ∷ xs) models refl is) (model_known kind m x here, more xs rest)

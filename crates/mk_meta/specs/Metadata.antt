@@ -15,10 +15,10 @@ use Rattle.mk_meta.specs.declared.fault.MetaFault.{MetaFault}
 use Rattle.mk_meta.specs.declared.fault.MetaFault.TheVariants.{NoVersion, Version, BadType, NoModels, Model, TriggerUnknown}
 
 -- what follows a test that finds something, and the fault where it finds nothing
-abbrev pub found : {A B : Type 0} → MetaFault → Option A → (A → Result B MetaFault)
+abbrev pub after_found : {A B : Type 0} → MetaFault → Option A → (A → Result B MetaFault)
     → Result B MetaFault
-found fault None next = Err fault
-found fault (Some x) next = next x
+after_found fault None next = Err fault
+after_found fault (Some x) next = next x
 
 -- what is read of a member, or what stands for it where it is missing
 abbrev pub unless_missing : {A : Type 0} → A → (Json → Option A) → Option Json → Option A
@@ -84,16 +84,18 @@ with_known model =
 abbrev pub model_in : SimKind → List ℕ × Json → Result ModelMeta MetaFault
 model_in kind m =
     held (Model m.0 []) (is_object m.1) (
-    found (Model m.0 (codes "public")) (option_and_then bool_in (member (codes "public") m.1))
+    after_found (Model m.0 (codes "public")) (option_and_then bool_in (member (codes "public") m.1))
     (λ public.
-    found (Model m.0 (codes "params")) (option_and_then texts_in (member (codes "params") m.1))
+    after_found (Model m.0 (codes "params"))
+    (option_and_then texts_in (member (codes "params") m.1))
     (λ params.
-    found (Model m.0 (codes "attrs")) (option_and_then texts_in (member (codes "attrs") m.1))
+    after_found (Model m.0 (codes "attrs")) (option_and_then texts_in (member (codes "attrs") m.1))
     (λ attrs.
-    found (Model m.0 (codes "any_inputs"))
+    after_found (Model m.0 (codes "any_inputs"))
     (unless_missing false bool_in (member (codes "any_inputs") m.1)) (λ any.
-    found (Model m.0 (codes "trigger")) (hybrid_texts kind (codes "trigger") m.1) (λ trigger.
-    found (Model m.0 (codes "non-persistent")) (hybrid_texts kind (codes "non-persistent") m.1)
+    after_found (Model m.0 (codes "trigger")) (hybrid_texts kind (codes "trigger") m.1) (λ trigger.
+    after_found (Model m.0 (codes "non-persistent"))
+    (hybrid_texts kind (codes "non-persistent") m.1)
     (λ events.
     with_known (record {
       name = m.0;
@@ -127,8 +129,8 @@ pub record HasKnownAttrs (kind : SimKind) (model : ModelMeta) : Type 0 where
 -- the tests of a reply: a version that is 3, a type, models, and each model in byte order
 abbrev pub meta_in : Json → Result Meta MetaFault
 meta_in reply =
-    found NoVersion (version_in reply) (λ version.
+    after_found NoVersion (version_in reply) (λ version.
     held (Version version) (is_version_three version) (
-    found (BadType (type_text reply)) (kind_in reply) (λ kind.
-    found NoModels (models_in reply) (λ models.
+    after_found (BadType (type_text reply)) (kind_in reply) (λ kind.
+    after_found NoModels (models_in reply) (λ models.
     with_models kind (all_well (map (model_in kind) models))))))

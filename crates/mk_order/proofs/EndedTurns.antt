@@ -18,7 +18,7 @@ use Rattle.mk_plan.specs.Plans.{owner, sim_count, IsValidPlan}
 use Rattle.mk_plan.specs.Turns.{wrong, next_place}
 use Rattle.mk_plan.specs.Acts.{Act, made, next_time, output}
 use Rattle.mk_plan.specs.Deliveries.{supply, triggers}
-use Rattle.mk_plan.specs.Due.{is_within, first_times, own_times}
+use Rattle.mk_plan.specs.Due.{is_in_run, first_times, own_times}
 use Rattle.mk_plan.specs.Inputs.{is_since}
 use Rattle.mk_plan.specs.Sequential.{grown, last_time}
 use Rattle.mk_plan.specs.Journals.{OpenTurn, View, view, note, note_right, note_got, place_at, ended_turn, loop_fault}
@@ -68,14 +68,14 @@ module _ (P : Plan) (s : ℕ) (f : Act) where
   not_early j y c late b = true≢false (sym b.early ∙ ap (λ (x : Tier). int_lt x.time P.until) b.is ∙ late)
 
   -- a next time within the run is one for which s is due
-  pub next_by : (n : ℤ) → s < sim_count P → next_time f ≡ Some n → is_within P (moment n) ≡ true → IsNextOf P s f (moment n)
+  pub next_by : (n : ℤ) → s < sim_count P → next_time f ≡ Some n → is_in_run P (moment n) ≡ true → IsNextOf P s f (moment n)
   next_by n low is within = let t = below_get P.sims s low in record { sim = t.0; at = t.1; within = within; time = n; next = is; is = refl }
 
   pub not_next : next_time f ≡ None → (y : Tier) → IsNextOf P s f y → ⊥
   not_next none y k = none_some (sym none ∙ k.next)
 
-  pub not_within : (n : ℤ) → next_time f ≡ Some n → is_within P (moment n) ≡ false → (y : Tier) → IsNextOf P s f y → ⊥
-  not_within n is out y k = true≢false (sym k.within ∙ ap (is_within P) (k.is ∙ ap moment (some_same (sym k.next ∙ is))) ∙ out)
+  pub not_within : (n : ℤ) → next_time f ≡ Some n → is_in_run P (moment n) ≡ false → (y : Tier) → IsNextOf P s f y → ⊥
+  not_within n is out y k = true≢false (sym k.within ∙ ap (is_in_run P) (k.is ∙ ap moment (some_same (sym k.next ∙ is))) ∙ out)
 
 -- ---- at a journal
 

@@ -17,7 +17,7 @@ use Rattle.mk_plan.specs.declared.Cause.{Cause}
 use Rattle.mk_plan.specs.Plans.{owner, sim_count}
 use Rattle.mk_plan.specs.Acts.{Act, Family, made, output}
 use Rattle.mk_plan.specs.Deliveries.{Timed, supply, outputs_of, gifts_of, triggers, triggering_to}
-use Rattle.mk_plan.specs.Due.{is_within, is_due}
+use Rattle.mk_plan.specs.Due.{is_in_run, is_due}
 use Rattle.mk_plan.specs.Sequential.{grown, last_time}
 use Rattle.mk_plan.specs.Journals.{OpenTurn, View, with_open, open_after, begun, told_more, note_sent, ended_turn, note_right, note_got}
 use Rattle.mk_plan.specs.Ready.{pending, start, step_at, last_step, IsReady}
@@ -151,8 +151,8 @@ module _ (P : Plan) (s : ℕ) (f : Act) where
       is_to k x b = let t = in_filter (λ (c : Conn). c.triggering && (owner P c.to == k)) c P.conns b.to in eqb-true (owner P c.to) k (and_both c.triggering (owner P c.to == k) t.1).1
 
   -- what an act within the limit brings is within the run and the loop limit
-  pub brought_within : IsInLimit P s f → (j : ℕ) (y : Tier) (c : Conn) → Brings j y c → is_within P y ≡ true
-  brought_within kept j y c b = ap (is_within P) b.is ∙ trigger_in_limit P f c j b.value (subst (λ (i : ℕ). IsInLimit P i f) (sym b.from) kept) b.to b.given (ap (λ (x : Tier). int_lt x.time P.until) (sym b.is) ∙ b.early)
+  pub brought_within : IsInLimit P s f → (j : ℕ) (y : Tier) (c : Conn) → Brings j y c → is_in_run P y ≡ true
+  brought_within kept j y c b = ap (is_in_run P) b.is ∙ trigger_in_limit P f c j b.value (subst (λ (i : ℕ). IsInLimit P i f) (sym b.from) kept) b.to b.given (ap (λ (x : Tier). int_lt x.time P.until) (sym b.is) ∙ b.early)
 
   module _ (A : Family) where
     -- what triggers after one more act of s: what did before, and what the act brings

@@ -19,7 +19,7 @@ use Rattle.mk_plan.specs.declared.Cause.{Cause}
 use Rattle.mk_plan.specs.Turns.{wrong, next_place}
 use Rattle.mk_plan.specs.Acts.{Act, output_time, made, output}
 use Rattle.mk_plan.specs.Deliveries.{Timed, supply, outputs_of, deliveries, triggers, triggering_to}
-use Rattle.mk_plan.specs.Due.{is_within}
+use Rattle.mk_plan.specs.Due.{is_in_run}
 use Rattle.mk_plan.specs.Sequential.{grown, no_acts}
 use Rattle.mk_plan.specs.Journals.{OpenTurn, Owed, View, Fault, LoopLimit, empty_view, with_open, place_at, told_more, note_sent, beyond, loop_fault, ended_turn, note_right, note_got, note, view}
 use Rattle.mk_plan.specs.Ready.{IsReady}
@@ -74,7 +74,7 @@ module _ (P : Plan) where
 
   -- what an act in the limit triggers is in the limit
   pub trigger_in_limit : (a : Act) (c : Conn) (s : ℕ) (w : List ℕ) → IsInLimit (owner P c.from) a → IsIn c (triggering_to P s) → output P a c.from c.from_attr ≡ Some w
-      → int_lt (delayed (made a) c.via).time P.until ≡ true → is_within P (delayed (made a) c.via) ≡ true
+      → int_lt (delayed (made a) c.via).time P.until ≡ true → is_in_run P (delayed (made a) c.via) ≡ true
   trigger_in_limit a c s w kept m gives early = both_and _ _ early (le-leb (delayed (made a) c.via).tier P.loops low)
     where
       j : ℕ
@@ -178,11 +178,11 @@ module _ (Ready : Plan → View → ℕ → Tier → Type 0) (Advance : Plan →
   view_kept J orderly = kept_from empty_view J (record { opened = λ i T e. absurd (none_some e); acts = λ e i. tt }) (record { turn = λ o e. absurd (none_some e); later = λ o e. absurd (none_some e) }) orderly
 
   -- while there is no fault each trigger is within the run and the loop limit
-  pub triggers_within : (J : List Entry) → IsOrderlySoFar Ready Advance P J → (view P J).fault ≡ None → (s : ℕ) (d : Tier) → IsIn d (triggers P (supply P (view P J).acts) s) → is_within P d ≡ true
+  pub triggers_within : (J : List Entry) → IsOrderlySoFar Ready Advance P J → (view P J).fault ≡ None → (s : ℕ) (d : Tier) → IsIn d (triggers P (supply P (view P J).acts) s) → is_in_run P d ≡ true
   triggers_within J orderly fine s d m =
       let t = in_triggers P (view P J).acts s d m in
       let c : Conn = t.0 in
       let a : Act = t.2.0 in
       let kept : IsInLimit P (owner P c.from) a = in_each (IsInLimit P (owner P c.from)) a ((view P J).acts (owner P c.from)) ((view_kept J orderly).acts fine (owner P c.from)) t.2.1 in
       let early : int_lt d.time P.until ≡ true = triggers_early P (view P J).acts s d m in
-      subst (λ (x : Tier). is_within P x ≡ true) (sym t.2.2.2) (trigger_in_limit P a c s t.2.2.0 kept t.1 t.2.2.1 (ap (λ (x : Tier). int_lt x.time P.until) (sym t.2.2.2) ∙ early))
+      subst (λ (x : Tier). is_in_run P x ≡ true) (sym t.2.2.2) (trigger_in_limit P a c s t.2.2.0 kept t.1 t.2.2.1 (ap (λ (x : Tier). int_lt x.time P.until) (sym t.2.2.2) ∙ early))

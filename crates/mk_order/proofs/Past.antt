@@ -5,7 +5,7 @@ use Rattle.mk_order_any.proofs.Marks.{nothing_late_is_missed, new_dues_are_later
 use Rattle.mk_order_any.proofs.Invariant.{invariant_holds}
 use Rattle.mk_base.specs.Lists.{Each}
 use Rattle.mk_plan.specs.Acts.{Act}
-use Rattle.mk_plan.specs.Due.{is_within, is_due}
+use Rattle.mk_plan.specs.Due.{is_in_run, is_due}
 use Rattle.mk_plan.specs.Plans.{sim_count, IsValidPlan}
 use Rattle.mk_plan.specs.Ready.{pending, start, step_at, last_step, IsReady}
 use Rattle.mk_order.proofs.Reasons.{pending_due}
@@ -53,5 +53,5 @@ module _ (Ready : Plan → View → ℕ → Tier → Type 0) (Advance : Plan →
   pub view_ended : (i : ℕ) → Each (λ (a : Act). a.ended ≡ true) ((view P J).acts i)
   view_ended i = (invariant_holds (parts P) (laws P valid) (seen P (view P J)) (reached Ready Advance P truly J orderly)).shape.whole_acts i
 
-  pub pending_within : (s : ℕ) (x : Tier) → pending P (view P J).acts s ≡ Some x → (pos 0 ≤ℤ x.time) × (is_within P x ≡ true) × (s < sim_count P)
+  pub pending_within : (s : ℕ) (x : Tier) → pending P (view P J).acts s ≡ Some x → (pos 0 ≤ℤ x.time) × (is_in_run P x ≡ true) × (s < sim_count P)
   pending_within s x is = due_not_negative P valid (view P J).acts s x view_right (pending_due P (view P J).acts s x is)

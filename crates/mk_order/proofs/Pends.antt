@@ -17,7 +17,7 @@ use Rattle.mk_plan.specs.declared.Place.{Place}
 use Rattle.mk_plan.specs.Plans.{sim_count}
 use Rattle.mk_plan.specs.Acts.{Act}
 use Rattle.mk_plan.specs.Deliveries.{supply, triggers}
-use Rattle.mk_plan.specs.Due.{is_within, first_times, is_due}
+use Rattle.mk_plan.specs.Due.{is_in_run, first_times, is_due}
 use Rattle.mk_plan.specs.Inputs.{is_since}
 use Rattle.mk_plan.specs.Sequential.{grown, no_acts, last_time}
 use Rattle.mk_plan.specs.Journals.{OpenTurn, View, empty_view, note_sent, note_right}
@@ -261,7 +261,7 @@ module _ (P : Plan) where
 
     pub record IsBegunAt (done : List Tier) (y : Tier) : Type 0 where
       pub there : IsIn y done
-      pub within : is_within P y ≡ true
+      pub within : is_in_run P y ≡ true
 
     pub record IsNever (y : Tier) : Type 0 where
       pub none : ⊥
@@ -272,16 +272,16 @@ module _ (P : Plan) where
     pub first_none : PendsFirst [] []
     first_none = record { only = λ y a. absurd a.there; all = λ y a. absurd a.there; flags = λ y a. absurd a.there; flagged = λ y a b. absurd a.there }
 
-    pub first_added : (done : List Tier) (x : Tier) (q r : List X) → is_within P x ≡ true → IsAdded time flag false x q r → PendsFirst done q → PendsFirst (done ++ x ∷ []) r
+    pub first_added : (done : List Tier) (x : Tier) (q r : List X) → is_in_run P x ≡ true → IsAdded time flag false x q r → PendsFirst done q → PendsFirst (done ++ x ∷ []) r
     first_added done x q r within added h = holds_added time flag (IsBegunAt done) IsNever (IsBegunAt (done ++ x ∷ [])) IsNever false x
         (λ y a. record { there = in_front y done (x ∷ []) a.there; within = a.within }) (record { there = in_back x done (x ∷ []) (inl refl); within = within })
         (λ y a. elim (in_either y done (x ∷ []) a.there) [ inl o ↦ inl (record { there = o; within = a.within }) | inr (inl e) ↦ inr e | inr (inr z) ↦ absurd z ])
         (λ y b. b) (λ e. absurd (true≢false (sym e))) (λ y a b. absurd b.none) q r added h
 
-    pub first_skipped : (done : List Tier) (x : Tier) (q : List X) → is_within P x ≡ false → PendsFirst done q → PendsFirst (done ++ x ∷ []) q
+    pub first_skipped : (done : List Tier) (x : Tier) (q : List X) → is_in_run P x ≡ false → PendsFirst done q → PendsFirst (done ++ x ∷ []) q
     first_skipped done x q out h = holds_as time flag (IsBegunAt done) IsNever (IsBegunAt (done ++ x ∷ [])) IsNever
         (λ y a. record { there = in_front y done (x ∷ []) a.there; within = a.within })
-        (λ y a. elim (in_either y done (x ∷ []) a.there) [ inl o ↦ record { there = o; within = a.within } | inr (inl e) ↦ absurd (true≢false (sym a.within ∙ ap (is_within P) e ∙ out)) | inr (inr z) ↦ absurd z ])
+        (λ y a. elim (in_either y done (x ∷ []) a.there) [ inl o ↦ record { there = o; within = a.within } | inr (inl e) ↦ absurd (true≢false (sym a.within ∙ ap (is_in_run P) e ∙ out)) | inr (inr z) ↦ absurd z ])
         (λ y _ b. b) (λ y _ b. b) q h
 
     pub pends_first : (i : ℕ) (sim : PlanSim) (q : List X) → slice_get P.sims i ≡ Some sim → PendsFirst (first_times sim) q → Pends empty_view i q

@@ -20,7 +20,7 @@ use Rattle.mk_plan.specs.declared.Place.TheVariants.{Stepping}
 use Rattle.mk_plan.specs.declared.Cause.TheVariants.{Wrong, Failed}
 use Rattle.mk_plan.specs.Turns.{unasked, not_a_time, no_next, not_later, first_cause, wrong_next, is_number, is_wrong, next_place}
 use Rattle.mk_plan.specs.Acts.{Act, Family, content_of, next_time, output_time, made}
-use Rattle.mk_plan.specs.Due.{is_within, first_times, is_due}
+use Rattle.mk_plan.specs.Due.{is_in_run, first_times, is_due}
 use Rattle.mk_plan.specs.Sequential.{used, act, rest, Visit, visits, at_tier}
 use Rattle.mk_base.proofs.Lists.{in_either, in_map, in_each, all_at, all_in, get_is}
 use Rattle.mk_plan.specs.Walks.{link}
@@ -100,7 +100,7 @@ module _ (P : Plan) (valid : IsValidPlan P) where
       start false (inl q) = rw q (grind (arith, ints))
       start false (inr n) = absurd n
 
-  pub due_not_negative : (A : Family) (s : ℕ) (x : Tier) → ((i : ℕ) → Each IsRight (A i)) → is_due P A s x ≡ true → (pos 0 ≤ℤ x.time) × (is_within P x ≡ true) × (s < sim_count P)
+  pub due_not_negative : (A : Family) (s : ℕ) (x : Tier) → ((i : ℕ) → Each IsRight (A i)) → is_due P A s x ≡ true → (pos 0 ≤ℤ x.time) × (is_in_run P x ≡ true) × (s < sim_count P)
   due_not_negative A s x right h = elim (due_why P A s x h) [
     | inl r ↦ (first_not_negative s x r.sim r.at r.first, r.within, (get_is P.sims s r.sim r.at).0)
     | inr (inl t) ↦ let r = t.2 in let a : IsRight t.0 = in_each IsRight t.0 (A s) (right s) t.1 in let l : t.0.at.time <ℤ r.time = a.next r.time r.next in let z : pos 0 ≤ℤ t.0.at.time = a.time in

@@ -101,7 +101,7 @@ impl Desk {
     }
 
     /// Waits until no child is awaited any more. It is an error where one is late, or has failed.
-    pub fn settle<R: Clock, P: OpenProcess + Drop>(
+    pub fn await_children<R: Clock, P: OpenProcess + Drop>(
         &mut self,
         rt: &R,
         sockets: &mut [Option<Socket<P>>],

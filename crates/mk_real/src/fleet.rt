@@ -123,7 +123,7 @@ fn set_desk<R: Net>(host: &Host<R>, desk: &mut Option<Desk>) -> io::Result<()> {
 
 // Waits for the children that were started, before a port is connected to: one of them may listen
 // there.
-fn settle<R: Clock, P: OpenProcess + Drop>(
+fn await_children<R: Clock, P: OpenProcess + Drop>(
     rt: &R,
     desk: &mut Option<Desk>,
     sockets: &mut [Option<Socket<P>>],
@@ -134,7 +134,7 @@ fn settle<R: Clock, P: OpenProcess + Drop>(
     };
     match start {
         Start::Command(_) => Ok(()),
-        Start::Connect(_) => desk.settle(rt, sockets),
+        Start::Connect(_) => desk.await_children(rt, sockets),
     }
 }
 
@@ -222,13 +222,13 @@ fn find_ready<R: Clock, P: OpenProcess + Drop>(
 
 impl<R: Net + Processes + Clock> MioFleet<R> {
     // Waits for the children that this start needs; false where one of them is late, or has failed.
-    fn settle(&mut self, start: &Start) -> bool
+    fn await_children(&mut self, start: &Start) -> bool
         ensures same_faults { self.new.faults ≡ self.old.faults }
         ensures same_count { length self.new.sockets.items ≡ length self.old.sockets.items }
         ensures same_links { self.new.links.items ≡ self.old.links.items }
     {
         let sockets = self.sockets.as_mut_slice();
-        settle(&self.host.rt, &mut self.desk, sockets, start).is_ok()
+        await_children(&self.host.rt, &mut self.desk, sockets, start).is_ok()
     }
 
     // Starts a link.
@@ -290,7 +290,7 @@ impl<R: Net + Processes + Clock> Fleet for MioFleet<R> {
     }
 
     fn start(&mut self, start: &Start) -> Started {
-        if !self.settle(start) {
+        if !self.await_children(start) {
             self.faults = self.faults.saturating_add(1);
             return Started::Failed;
         }

@@ -37,7 +37,7 @@ use Rattle.mk_record_read.specs.declared.saved.Asked.{Asked}
 use Rattle.mk_record_read.specs.Fields.{misformed, is_between, is_below, way_in, via_of, initial_in, wholes_in}
 use Rattle.mk_record_read.specs.Lines as lines
 use Rattle.mk_record_read.specs.Lines.{with_run, with_sim, with_model, with_entity, with_conn, with_async}
-use Rattle.mk_record_read.specs.Reading.{State, Step, Going, Ended, Bad, invalid, is_feed, line_step, kind_step, part_step, plan_step, planned, with_part, place, may_stand, ends_plan, items_read, reading_from, start}
+use Rattle.mk_record_read.specs.Reading.{State, Step, Going, Ended, Bad, invalid, is_feed, line_step, kind_step, part_step, plan_step, planned, with_part, place, may_stand, ends_plan, items_read, reading_from, before_lines}
 use Rattle.mk_record_read.specs.Texts.{via_text, bool_text, initial_text, run_line, sim_line, model_line, entity_line, conn_line, async_line}
 use Rattle.mk_record_read.proofs.Splitting.{reads_on}
 use Rattle.mk_record_laws.specs.Again.{model_is_text, conn_is_text}

@@ -11,7 +11,7 @@ use Rattle.mk_plan.specs.declared.Item.TheVariants.{Step, GetData, Answer, Refus
 use Rattle.mk_plan.specs.declared.Entry.{Entry}
 use Rattle.mk_plan.specs.declared.Entry.TheVariants.{Sent, Got}
 use Rattle.mk_plan.specs.Plans.{IsValidPlan, sim_count}
-use Rattle.mk_plan.specs.Due.{is_within}
+use Rattle.mk_plan.specs.Due.{is_in_run}
 use Rattle.mk_plan.specs.Report.{is_step}
 use Rattle.mk_plan.specs.Journals.{View, Owed, view, note}
 use Rattle.mk_plan.specs.Ready.{IsReady}

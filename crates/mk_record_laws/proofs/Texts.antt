@@ -29,7 +29,7 @@ use Rattle.mk_record_read.specs.declared.kinds.LineKind.TheVariants.{Head, Run, 
 use Rattle.mk_record_read.specs.declared.saved.Asked.{Asked}
 use Rattle.mk_record_read.specs.Fields.{misformed, out_of_limits, limited, is_below, wholes_in, initial_in, way_in, via_of}
 use Rattle.mk_record_read.specs.Lines.{with_run, run_fits, with_sim, sim_fits, with_model, with_entity, entity_fits, with_way, with_conn, with_async, arrival_in, asked_in}
-use Rattle.mk_record_read.specs.Reading.{State, start, Step, Going, Ended, Bad, Reading, Said, Faulty, planned, arrived, asked, items_read, end_step, with_part, is_second, steps_in, plan_step, head_step, part_step, kind_step, known_step, line_step, kind_of_word, word_of, rest_of, ends_plan, may_stand, invalid, closed, overlong, reading_from, reading, is_feed, is_number, miscounted}
+use Rattle.mk_record_read.specs.Reading.{State, before_lines, Step, Going, Ended, Bad, Reading, Said, Faulty, planned, arrived, asked, items_read, end_step, with_part, is_second, steps_in, plan_step, head_step, part_step, kind_step, known_step, line_step, kind_of_word, word_of, rest_of, ends_plan, may_stand, invalid, closed, overlong, reading_from, reading, is_feed, is_number, miscounted}
 use Rattle.std.specs.Fmt.{decimal}
 use Rattle.mk_record_laws.specs.Again.{HasTexts, is_sayable, model_is_text, conn_is_text}
 use Rattle.mk_record_laws.proofs.Trees.{IsSoundField, read_sound, items_are, text_utf8, texts_utf8}
@@ -307,4 +307,4 @@ reading_gives S line (piece ∷ next ∷ pieces) made = by (line_step S piece) (
 
 -- what a record says is made of texts
 pub said_well : (bytes : List ℕ) (P : Plan) (A : List Arrival) (steps : Option (List Asked)) → reading bytes ≡ Said P A steps → IsSaidWell P A
-said_well bytes P A steps e = subst Gives e (reading_gives start 1 (slice_split is_feed bytes) (record { texts = record { sims = refl; models = refl; entities = refl; conns = refl; initials = tt }; messages = tt }))
+said_well bytes P A steps e = subst Gives e (reading_gives before_lines 1 (slice_split is_feed bytes) (record { texts = record { sims = refl; models = refl; entities = refl; conns = refl; initials = tt }; messages = tt }))

@@ -21,7 +21,7 @@ use Rattle.mk_plan_check.specs.Tests.{first_bad}
 use Rattle.mk_plan_check.proofs.Meaning.{is_valid, from_well_formed}
 use Rattle.mk_record_read.specs.declared.saved.Asked.{Asked}
 use Rattle.mk_record_read.specs.Entries.{RecordEntry, entries_of}
-use Rattle.mk_record_read.specs.Reading.{State, Said, is_feed, reading, reading_from, start}
+use Rattle.mk_record_read.specs.Reading.{State, Said, is_feed, reading, reading_from, before_lines}
 use Rattle.mk_record_read.specs.Texts.{record_text, plan_text, run_line, sim_line, model_line, entity_line, conn_line, async_line, entry_line}
 use Rattle.mk_record_read.proofs.Splitting.{reads_end}
 use Rattle.mk_record_laws.specs.Again.{IsRecordable, model_is_text, conn_is_text, steps_of, steps_after}
@@ -140,9 +140,9 @@ sims_read P (s ∷ ss) some fits =
     let r = reads_parts SimFits sim_line (with_sims P) 3 (omega arith) (λ last done x a b f. sim_read P last done x (stands last 3 a b) f) ss (s ∷ []) 3 (omega arith) (omega arith) fits.1 in
     (r.0, r.1, r.2, joined (state 2 (with_sims P []) [] []) (state 3 (with_sims P (s ∷ [])) [] []) (state r.0 (with_sims P (s ∷ ss)) [] []) (sim_line s) (flat_map sim_line ss) (sim_read P 2 [] s refl fits.0) r.3)
 
-plan_read : (P : Plan) (J : List Entry) → IsRecordable P J → Tested P → (l : ℕ) × (3 ≤ l) × (l ≤ 8) × Reads start (plan_text P) (state l P [] [])
+plan_read : (P : Plan) (J : List Entry) → IsRecordable P J → Tested P → (l : ℕ) × (3 ≤ l) × (l ≤ 8) × Reads before_lines (plan_text P) (state l P [] [])
 plan_read P J ok t =
-    let head : Reads start (codes "mosaikrun 2\n") (state 1 no_plan [] []) = a_line start (state 1 no_plan [] []) (codes "mosaikrun 2") refl refl in
+    let head : Reads before_lines (codes "mosaikrun 2\n") (state 1 no_plan [] []) = a_line before_lines (state 1 no_plan [] []) (codes "mosaikrun 2") refl refl in
     let run : Reads (state 1 no_plan [] []) (run_line P) (state 2 (begun P) [] []) = run_read P t.until t.loops.0 t.loops.1 t.entries.0 t.entries.1 in
     let sims = sims_read P P.sims t.some (sims_fit P.sims t.sims ok.texts.sims) in
     let models = reads_parts (ModelFits (length P.sims)) model_line (with_models P) 4 (omega arith) (λ last done x a b f. model_read P t.few last done x a b f) P.models [] sims.0 sims.1 (let h = sims.2 in omega arith) (models_fit (length P.sims) P.models t.models ok.texts.models) in
@@ -167,12 +167,12 @@ plan_read P J ok t =
       asyncs.0,
       asyncs.1,
       (let h = asyncs.2 in omega arith),
-      joined start S6 S7 t6 (flat_map async_line P.asyncs)
-          (joined start S5 S6 t5 (flat_map conn_line P.conns)
-          (joined start S4 S5 t4 (flat_map entity_line P.entities)
-          (joined start S3 S4 t3 (flat_map model_line P.models)
-          (joined start S2 S3 t2 (flat_map sim_line P.sims)
-          (joined start S1 S2 t1 (run_line P) head run) sims.3) models.3) entities.3) conns.3) asyncs.3,
+      joined before_lines S6 S7 t6 (flat_map async_line P.asyncs)
+          (joined before_lines S5 S6 t5 (flat_map conn_line P.conns)
+          (joined before_lines S4 S5 t4 (flat_map entity_line P.entities)
+          (joined before_lines S3 S4 t3 (flat_map model_line P.models)
+          (joined before_lines S2 S3 t2 (flat_map sim_line P.sims)
+          (joined before_lines S1 S2 t1 (run_line P) head run) sims.3) models.3) entities.3) conns.3) asyncs.3,
     )
 
 -- ---- the whole
@@ -194,11 +194,11 @@ read_again P J ok =
     let S : State = state plan.0 P [] [] in
     let U : State = state entries.0 P (said es) (steps_after 0 es) in
     let text : List ℕ = plan_text P ++ flat_map entry_line es in
-    let whole : Reads start text U = joined start S U (plan_text P) (flat_map entry_line es) plan.3 entries.3 in
+    let whole : Reads before_lines text U = joined before_lines S U (plan_text P) (flat_map entry_line es) plan.3 entries.3 in
     let number : List ℕ = decimal (length es) in
     let end : List ℕ = codes "end " ++ number in
     let last = whole 1 ((end ++ codes "\n") ++ []) in
-    ap (λ l. reading_from start 1 (slice_split is_feed l)) (behind text (codes "end ") number (codes "\n"))
+    ap (λ l. reading_from before_lines 1 (slice_split is_feed l)) (behind text (codes "end ") number (codes "\n"))
     ∙ last.1
     ∙ ap (reading_from U last.0) (cut_line end [] (clean-append (codes "end ") number refl (clean-decimal (length es) ok.count)))
     ∙ reads_end U last.0 end [] (end_read P valid entries.0 (said es) (steps_after 0 es) (length es) entries.1 entries.2 (counted 0 es)) refl

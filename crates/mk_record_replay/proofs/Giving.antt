@@ -14,7 +14,7 @@ use Rattle.mk_plan.specs.declared.Message.{Message}
 use Rattle.mk_plan.specs.declared.Entry.{Entry}
 use Rattle.mk_plan.specs.declared.Entry.TheVariants.{Sent}
 use Rattle.mk_plan.specs.Plans.{sim_count}
-use Rattle.mk_plan.specs.Due.{is_within, first_times, own_times}
+use Rattle.mk_plan.specs.Due.{is_in_run, first_times, own_times}
 use Rattle.mk_plan.specs.Deliveries.{supply, triggers}
 use Rattle.mk_plan.specs.Inputs.{is_since}
 use Rattle.mk_plan.specs.Sequential.{Messages, last_time, run_items}
@@ -29,10 +29,10 @@ use Rattle.mk_sched.specs.Cores.{CoreState, Stands}
 use Rattle.mk_sched.specs.Answers.{NextOf, ArriveOf, IsAsked, IsWaiting, IsOver, IsQuiet, IsAnswered, IsLastFaulty, WasFaulty, SomeReady, SomeOpen, with_message}
 use Rattle.mk_record_replay.specs.declared.replaying.ReplayEnd.{ReplayEnd}
 use Rattle.mk_record_replay.specs.declared.replaying.ReplayEnd.TheVariants.{Done, Core, Short}
-use Rattle.mk_record_replay.specs.Replays.{messages_from, IsReplay, IsTooLong}
-use Rattle.mk_record_replay.specs.Runs.{CanArrive, IsRun}
+use Rattle.mk_record_replay.specs.Replays.{messages_from, IsReplay, IsFull}
+use Rattle.mk_record_replay.specs.Runs.{CanArrive, HasReplayed}
 use Rattle.mk_sched.specs.inner.Patient.{IsPatient}
-use Rattle.mk_record_replay.specs.inner.Loops.{IsOnWay, GoesOn, IsUnready, IsSettled, IsStopped, GivenBy}
+use Rattle.mk_record_replay.specs.inner.Loops.{IsOnWay, GoesOn, IsUnready, HasAskedAll, IsCutShort, GivenBy}
 use Rattle.mk_sched.proofs.Pushed.{patient_got}
 use Rattle.mk_record_replay.proofs.Pushing.{given_of, given_got, on_way_sent, on_way_got, arrivals_after_got, arrivals_after_sent, got_is}
 use Rattle.mk_record_replay.proofs.Counting.{some_are_open}
@@ -62,15 +62,15 @@ asked_fills old new s a stands = let longer : length new.entries ≡ length old.
 goes_on_same : (first old new : CoreState) → GoesOn first old → new ≡ old → GoesOn first new
 goes_on_same first old new g same = subst (λ (c : CoreState). GoesOn first c) (sym same) g
 
-pub settled_waiting : (first old new : CoreState) → GoesOn first old → IsWaiting old new → Stands new.plan new.entries → IsSettled first next.Wait new
-settled_waiting first old new g w stands = record {
+pub asked_waiting : (first old new : CoreState) → GoesOn first old → IsWaiting old new → Stands new.plan new.entries → HasAskedAll first next.Wait new
+asked_waiting first old new g w stands = record {
   goes = goes_on_same first old new g w.same;
   stands = stands;
   by = subst (λ (c : CoreState). (c.ended ≡ None) × IsUnready c × SomeOpen c.plan c.entries) (sym w.same) (w.going, w.nobody, w.waiting);
 }
 
-pub settled_over : (first old new : CoreState) → GoesOn first old → IsOver old new → Stands new.plan new.entries → IsSettled first next.Done new
-settled_over first old new g o stands = record {
+pub asked_over : (first old new : CoreState) → GoesOn first old → IsOver old new → Stands new.plan new.entries → HasAskedAll first next.Done new
+asked_over first old new g o stands = record {
   goes = goes_on_same first old new g o.same;
   stands = stands;
   by = subst (λ (c : CoreState). (c.ended ≡ None) × IsDone c.plan (view c.plan c.entries) × IsFinished c.plan c.entries) (sym o.same) (o.going, o.done, o.finished);
@@ -79,9 +79,9 @@ settled_over first old new g o stands = record {
 not_before : {X : Type 0} (old new : CoreState) (f : CoreFault) → old.ended ≡ None → WasFaulty old f new → X
 not_before old new f going was = absurd (none_some (sym going ∙ was.0))
 
-pub settled_full : (first old new : CoreState) (f : CoreFault) → GoesOn first old → old.ended ≡ None → NextOf old (next.Fault f) new → Stands new.plan new.entries → IsSettled first (next.Fault f) new
-settled_full first old new f g going (inl was) stands = not_before old new f going was
-settled_full first old new f g going (inr full) stands = record {
+pub asked_full : (first old new : CoreState) (f : CoreFault) → GoesOn first old → old.ended ≡ None → NextOf old (next.Fault f) new → Stands new.plan new.entries → HasAskedAll first (next.Fault f) new
+asked_full first old new f g going (inl was) stands = not_before old new f going was
+asked_full first old new f g going (inr full) stands = record {
   goes = record { plan = ap (λ (c : CoreState). c.plan) full.ended ∙ g.plan; more = g.more; longer = ap (λ (c : CoreState). c.entries) full.ended ∙ g.longer; sent_only = g.sent_only; on_way = λ A h. subst (λ (c : CoreState). IsOnWay first.plan A c.entries) (sym full.ended) (g.on_way A h) };
   stands = stands;
   by = subst (λ (c : CoreState). (f ≡ TooLong c.plan.entries) × (length c.entries ≡ c.plan.entries) × SomeReady c.plan c.entries) (sym full.ended) (full.named, full.full, full.ready);
@@ -90,7 +90,7 @@ settled_full first old new f g going (inr full) stands = record {
 -- ---- nobody is ready where nothing is pending
 
 ready_is_there : (P : Plan) (V : View) (s : ℕ) (x : Tier) → pending P V.acts s ≡ Some x → s < sim_count P
-ready_is_there P V s x e = elim (slice_get P.sims s) as (λ o. slice_get P.sims s ≡ o → least (filter (is_since (last_time (V.acts s))) (unwrap_or (option_map (λ (sim : PlanSim). filter (is_within P) (first_times sim ++ own_times (V.acts s) ++ triggers P (supply P V.acts) s)) o) [])) ≡ Some x → s < sim_count P) [
+ready_is_there P V s x e = elim (slice_get P.sims s) as (λ o. slice_get P.sims s ≡ o → least (filter (is_since (last_time (V.acts s))) (unwrap_or (option_map (λ (sim : PlanSim). filter (is_in_run P) (first_times sim ++ own_times (V.acts s) ++ triggers P (supply P V.acts) s)) o) [])) ≡ Some x → s < sim_count P) [
   | None ↦ λ q h. absurd (none_some h)
   | Some sim ↦ λ q h. (get_is P.sims s sim q).0
 ] refl e
@@ -100,9 +100,9 @@ nobody_at_end P J done ready = let r = ready.2 in none_some (sym (done.none_pend
 
 -- ---- a fault ends the replay
 
-stop : (P : Plan) (A : List Arrival) (f : CoreFault) (new : CoreState) (K : List Entry) → new.plan ≡ P → new.entries ≡ K → Stands new.plan new.entries → IsPatient P K → BeginsWith A (arrivals K) → IsLastFaulty P K f ⊎ IsTooLong P A K f → IsStopped P A f new
+stop : (P : Plan) (A : List Arrival) (f : CoreFault) (new : CoreState) (K : List Entry) → new.plan ≡ P → new.entries ≡ K → Stands new.plan new.entries → IsPatient P K → BeginsWith A (arrivals K) → IsLastFaulty P K f ⊎ IsFull P A K f → IsCutShort P A f new
 stop P A f new K plan entries stands patient given by = let here : Stands P K = subst (λ (J : List Entry). Stands P J) entries (subst (λ (Q : Plan). Stands Q new.entries) plan stands) in
-    subst (λ (J : List Entry). IsReplay P A J × (IsLastFaulty P J f ⊎ IsTooLong P A J f) → IsStopped P A f new) entries (λ t. record { plan = plan; replay = t.0; by = t.1 })
+    subst (λ (J : List Entry). IsReplay P A J × (IsLastFaulty P J f ⊎ IsFull P A J f) → IsCutShort P A f new) entries (λ t. record { plan = plan; replay = t.0; by = t.1 })
     (record { agrees = here.agrees; eager = (here.orderly, patient); given = given; within = here.within }, by)
 
 -- the messages given so far, one more, and the rest
@@ -144,7 +144,7 @@ module _ (old new : CoreState) (sim : SimNo) (m : Message) where
       (inr (record { named = full.named; full = full.full; no_fault = full.no_fault; more = inl full.owed }))
 
 -- no room for a Step, while these messages are left
-pub stopped_before : (old new : CoreState) (f : CoreFault) (A more : List Arrival) → IsSettled old (next.Fault f) new → IsOnWay old.plan A old.entries → IsStopped old.plan (A ++ more) f new
+pub stopped_before : (old new : CoreState) (f : CoreFault) (A more : List Arrival) → HasAskedAll old (next.Fault f) new → IsOnWay old.plan A old.entries → IsCutShort old.plan (A ++ more) f new
 stopped_before old new f A more s way = let after = s.goes.on_way A way in let plan : new.plan ≡ old.plan = s.goes.plan in
     stop old.plan (A ++ more) f new new.entries plan refl s.stands after.patient (more, ap (λ (B : List Arrival). B ++ more) (sym after.given))
     (inr (record { named = s.by.0 ∙ ap (λ (P : Plan). TooLong P.entries) plan; full = s.by.1 ∙ ap (λ (P : Plan). P.entries) plan; no_fault = after.no_fault; more = inr (inl (subst (λ (P : Plan). SomeReady P new.entries) plan s.by.2)) }))
@@ -152,16 +152,16 @@ stopped_before old new f A more s way = let after = s.goes.on_way A way in let p
 -- what follows a message, after whoever was ready was asked
 pub given_after : (old mid new : CoreState) (b : Arrival) (o : Option CoreFault) → GoesOn old mid → GivenBy mid b o new → GivenBy old b o new
 given_after old mid new b None g h = (h.0, h.1 ∙ g.plan, λ A way. let there : IsOnWay mid.plan A mid.entries = subst (λ (P : Plan). IsOnWay P A mid.entries) (sym g.plan) (g.on_way A way) in subst (λ (P : Plan). IsOnWay P (A ++ b ∷ []) new.entries) g.plan (h.2 A there))
-given_after old mid new b (Some f) g h = λ A more way. let there : IsOnWay mid.plan A mid.entries = subst (λ (P : Plan). IsOnWay P A mid.entries) (sym g.plan) (g.on_way A way) in subst (λ (P : Plan). IsStopped P (A ++ b ∷ more) f new) g.plan (h A more there)
+given_after old mid new b (Some f) g h = λ A more way. let there : IsOnWay mid.plan A mid.entries = subst (λ (P : Plan). IsOnWay P A mid.entries) (sym g.plan) (g.on_way A way) in subst (λ (P : Plan). IsCutShort P (A ++ b ∷ more) f new) g.plan (h A more there)
 
 -- ---- the end
 
-run_of_stop : (P : Plan) (A : List Arrival) (f : CoreFault) (new : CoreState) → IsStopped P A f new → IsRun P A (Core f) new
+run_of_stop : (P : Plan) (A : List Arrival) (f : CoreFault) (new : CoreState) → IsCutShort P A f new → HasReplayed P A (Core f) new
 run_of_stop P A f new s = record { plan = s.plan; replay = s.replay; ends = s.by; going = tt }
 
 -- a fault after the first messages
-pub stopped_within : (P : Plan) (A B : List Arrival) (f : CoreFault) (new : CoreState) → IsStopped P A f new → A ≡ B → IsRun P B (Core f) new
-stopped_within P A B f new s e = subst (λ (C : List Arrival). IsRun P C (Core f) new) e (run_of_stop P A f new s)
+pub stopped_within : (P : Plan) (A B : List Arrival) (f : CoreFault) (new : CoreState) → IsCutShort P A f new → A ≡ B → HasReplayed P B (Core f) new
+stopped_within P A B f new s e = subst (λ (C : List Arrival). HasReplayed P C (Core f) new) e (run_of_stop P A f new s)
 
 module _ (old new : CoreState) where
   -- the replay as far as all messages were given
@@ -169,10 +169,10 @@ module _ (old new : CoreState) where
   whole_replay A g stands way = let after = g.on_way A way in let here : Stands old.plan new.entries = subst (λ (P : Plan). Stands P new.entries) g.plan stands in
       record { agrees = here.agrees; eager = (here.orderly, after.patient); given = ([], sym after.given ∙ sym (append_nil (arrivals new.entries))); within = here.within }
 
-  pub ends_faulty : (f : CoreFault) (A : List Arrival) → IsSettled old (next.Fault f) new → IsOnWay old.plan A old.entries → IsRun old.plan A (Core f) new
+  pub ends_faulty : (f : CoreFault) (A : List Arrival) → HasAskedAll old (next.Fault f) new → IsOnWay old.plan A old.entries → HasReplayed old.plan A (Core f) new
   ends_faulty f A s way = stopped_within old.plan (A ++ []) A f new (stopped_before old new f A [] s way) (append_nil A)
 
-  pub ends_done : (A : List Arrival) → IsSettled old next.Done new → IsOnWay old.plan A old.entries → IsRun old.plan A Done new
+  pub ends_done : (A : List Arrival) → HasAskedAll old next.Done new → IsOnWay old.plan A old.entries → HasReplayed old.plan A Done new
   ends_done A s way = let after = s.goes.on_way A way in let finished : IsFinished old.plan new.entries = subst (λ (P : Plan). IsFinished P new.entries) s.goes.plan s.by.2 in record {
     plan = s.goes.plan;
     replay = whole_replay A s.goes s.stands way;
@@ -186,7 +186,7 @@ module _ (old new : CoreState) where
     going = s.by.0;
   }
 
-  pub ends_short : (n : ℕ) (A : List Arrival) → IsSettled old next.Wait new → n ≡ open_count new.plan (view new.plan new.entries) → IsOnWay old.plan A old.entries → IsRun old.plan A (Short n) new
+  pub ends_short : (n : ℕ) (A : List Arrival) → HasAskedAll old next.Wait new → n ≡ open_count new.plan (view new.plan new.entries) → IsOnWay old.plan A old.entries → HasReplayed old.plan A (Short n) new
   ends_short n A s e way = let after = s.goes.on_way A way in let count : n ≡ open_count old.plan (view old.plan new.entries) = subst (λ (P : Plan). n ≡ open_count P (view P new.entries)) s.goes.plan e in record {
     plan = s.goes.plan;
     replay = whole_replay A s.goes s.stands way;
@@ -219,9 +219,9 @@ module _ (all given left less : List saved.Arrival) (a : saved.Arrival) (parts :
   next_arrives P core plan known = subst (λ (Q : Plan). CanArrive Q a) (sym plan) (all_in (CanArrive P) all a known (subst (IsIn a) (sym next_part) (in_back a given (a ∷ reverse less) (inl refl))))
 
   -- a fault after the first of the messages
-  pub ends_within : (P : Plan) (core new : CoreState) (o : Option CoreFault) (f : CoreFault) → core.plan ≡ P → IsOnWay P (map came given) core.entries → o ≡ Some f → GivenBy core (came a) o new → IsRun P (map came all) (Core f) new
+  pub ends_within : (P : Plan) (core new : CoreState) (o : Option CoreFault) (f : CoreFault) → core.plan ≡ P → IsOnWay P (map came given) core.entries → o ≡ Some f → GivenBy core (came a) o new → HasReplayed P (map came all) (Core f) new
   ends_within P core new o f plan way fault by = stopped_within P (map came given ++ map came (a ∷ reverse less)) (map came all) f new
-      (subst (λ (Q : Plan). IsStopped Q (map came given ++ map came (a ∷ reverse less)) f new) plan
+      (subst (λ (Q : Plan). IsCutShort Q (map came given ++ map came (a ∷ reverse less)) f new) plan
       (subst (λ (p : Option CoreFault). GivenBy core (came a) p new) fault by (map came given) (map came (reverse less)) (subst (λ (Q : Plan). IsOnWay Q (map came given) core.entries) (sym plan) way)))
       (sym (map_append came given (a ∷ reverse less)) ∙ ap (map came) (sym next_part))
 
@@ -238,9 +238,9 @@ module _ (all given left less : List saved.Arrival) (a : saved.Arrival) (parts :
 
 -- the end, where all were given
 pub ends_after : {E : Type 0} (all given left : List saved.Arrival) (P : Plan) (core new : CoreState) (r : Result ReplayEnd E) → all ≡ given ++ reverse left → left ≡ [] → core.plan ≡ P → IsOnWay P (map came given) core.entries
-    → ((A : List Arrival) → IsOnWay core.plan A core.entries → IfOk r (λ end. IsRun core.plan A end new)) → IfOk r (λ end. IsRun P (map came all) end new)
+    → ((A : List Arrival) → IsOnWay core.plan A core.entries → IfOk r (λ end. HasReplayed core.plan A end new)) → IfOk r (λ end. HasReplayed P (map came all) end new)
 ends_after all given left P core new r parts none plan way ends =
     let whole : given ≡ all = sym (parts ∙ ap (λ (l : List saved.Arrival). given ++ reverse l) none ∙ append_nil given) in
-    subst (λ (l : List saved.Arrival). IfOk r (λ end. IsRun P (map came l) end new)) whole
-    (subst (λ (Q : Plan). IfOk r (λ end. IsRun Q (map came given) end new)) plan
+    subst (λ (l : List saved.Arrival). IfOk r (λ end. HasReplayed P (map came l) end new)) whole
+    (subst (λ (Q : Plan). IfOk r (λ end. HasReplayed Q (map came given) end new)) plan
     (ends (map came given) (subst (λ (Q : Plan). IsOnWay Q (map came given) core.entries) (sym plan) way)))

@@ -11,7 +11,7 @@ use Rattle.mk_plan.specs.Journals as journals
 use Rattle.mk_plan.specs.Journals.{Arrival, arrivals, view, View, open_count}
 use Rattle.mk_plan.specs.Ready.{IsReady}
 use Rattle.mk_plan.specs.Advance.{IsAdvance}
-use Rattle.mk_order.proofs.Settled.{IsAtEnd, faulty, full, waits_is_end, done_is_end, replay_is_one}
+use Rattle.mk_order.proofs.SameEnd.{IsAtEnd, faulty, full, waits_is_end, done_is_end, replay_is_one}
 use Rattle.mk_sched.specs.declared.faults.CoreFault.{CoreFault}
 use Rattle.mk_sched.specs.declared.faults.CoreFault.TheVariants.{Wrong, Failed, LoopLimit, TooLong}
 use Rattle.mk_sched.specs.Answers.{fault_in, IsLastFaulty, SomeReady}
@@ -20,7 +20,7 @@ use Rattle.mk_record_compare.specs.Differences.{IsOther}
 use Rattle.mk_record_compare.proofs.Places.{one_other}
 use Rattle.mk_record_replay.specs.declared.replaying.ReplayEnd.{ReplayEnd}
 use Rattle.mk_record_replay.specs.declared.replaying.ReplayEnd.TheVariants.{Done, Core, Short, Other}
-use Rattle.mk_record_replay.specs.Replays.{IsReplay, IsWhole, IsShort, IsTooLong, IsLeft, EndsBy, IsEndOf, end_with}
+use Rattle.mk_record_replay.specs.Replays.{IsReplay, IsWhole, IsShort, IsFull, SomeUngiven, EndsBy, IsEndOf, end_with}
 use Rattle.mk_record_replay.proofs.Giving.{nobody_at_end}
 
 some_of : {X : Type 0} (o : Option X) → IsSome o → (x : X) × (o ≡ Some x)
@@ -39,7 +39,7 @@ at_end P A J (Short n) r s = waits_is_end IsReady IsAdvance P A J r.eager s.give
 -- ---- a journal has one end
 
 -- where all were given, nothing is owed and nobody is ready, no more entry is needed
-pub nothing_more : (P : Plan) (A : List Arrival) (J : List Entry) → arrivals J ≡ A → (view P J).owed ≡ None → (SomeReady P J → ⊥) → IsSome (view P J).owed ⊎ (SomeReady P J ⊎ IsLeft A J) → ⊥
+pub nothing_more : (P : Plan) (A : List Arrival) (J : List Entry) → arrivals J ≡ A → (view P J).owed ≡ None → (SomeReady P J → ⊥) → IsSome (view P J).owed ⊎ (SomeReady P J ⊎ SomeUngiven A J) → ⊥
 nothing_more P A J given paid nobody (inl owed) = let x = some_of (view P J).owed owed in none_some (sym paid ∙ x.1)
 nothing_more P A J given paid nobody (inr (inl ready)) = nobody ready
 nothing_more P A J given paid nobody (inr (inr left)) =
@@ -57,14 +57,14 @@ filter_none p (x ∷ xs) h = ap (λ b. cond b (x ∷ filter p xs) (filter p xs))
 none_open : (P : Plan) (V : View) → ((i : ℕ) → i < sim_count P → V.open_at i ≡ None) → open_count P V ≡ 0
 none_open P V closed = ap length (filter_none (λ i. is_some (V.open_at i)) (range_with_len 0 (sim_count P)) (λ i m. let r = in_range i 0 (sim_count P) m in ap is_some (closed i (omega (arith, r.1)))))
 
-done_or_core : (P : Plan) (A : List Arrival) (J : List Entry) (f : CoreFault) → IsWhole P A J → IsLastFaulty P J f ⊎ IsTooLong P A J f → ⊥
+done_or_core : (P : Plan) (A : List Arrival) (J : List Entry) (f : CoreFault) → IsWhole P A J → IsLastFaulty P J f ⊎ IsFull P A J f → ⊥
 done_or_core P A J f w (inl l) = faultless P J f w.done.no_fault l
 done_or_core P A J f w (inr t) = nothing_more P A J w.given w.paid (nobody_at_end P J w.done) t.more
 
 done_or_short : (P : Plan) (A : List Arrival) (J : List Entry) (n : ℕ) → IsWhole P A J → IsShort P A J n → ⊥
 done_or_short P A J n w s = let none : n ≡ 0 = s.count ∙ none_open P (view P J) w.done.closed in let some = s.some in omega (arith, none, some)
 
-core_or_short : (P : Plan) (A : List Arrival) (J : List Entry) (f : CoreFault) (n : ℕ) → IsLastFaulty P J f ⊎ IsTooLong P A J f → IsShort P A J n → ⊥
+core_or_short : (P : Plan) (A : List Arrival) (J : List Entry) (f : CoreFault) (n : ℕ) → IsLastFaulty P J f ⊎ IsFull P A J f → IsShort P A J n → ⊥
 core_or_short P A J f n (inl l) s = faultless P J f s.no_fault l
 core_or_short P A J f n (inr t) s = nothing_more P A J s.given s.paid s.nobody t.more
 
@@ -84,7 +84,7 @@ core_is (TooLong n) h = absurd (true≢false (sym h))
 some_is : {X : Type 0} (x y : X) → Some x ≡ Some y → x ≡ y
 some_is x y e = cc
 
-pub one_fault : (P : Plan) (A : List Arrival) (J : List Entry) (f g : CoreFault) → IsLastFaulty P J f ⊎ IsTooLong P A J f → IsLastFaulty P J g ⊎ IsTooLong P A J g → f ≡ g
+pub one_fault : (P : Plan) (A : List Arrival) (J : List Entry) (f g : CoreFault) → IsLastFaulty P J f ⊎ IsFull P A J f → IsLastFaulty P J g ⊎ IsFull P A J g → f ≡ g
 one_fault P A J f g (inl l) (inl m) = some_is f g (sym (core_is f l.named) ∙ ap (option_map core_of) (sym l.fault ∙ m.fault) ∙ core_is g m.named)
 one_fault P A J f g (inl l) (inr t) = absurd (faultless P J f t.no_fault l)
 one_fault P A J f g (inr t) (inl l) = absurd (faultless P J g t.no_fault l)

@@ -17,10 +17,10 @@ use Rattle.mk_plan.specs.Advance.{IsAdvance}
 use Rattle.mk_plan.specs.Orderly.{IsNext, IsEager, IsOrderlySoFar}
 use Rattle.mk_order.proofs.EagerJournals.{advance_once, eager_fixed}
 use Rattle.mk_order.proofs.Pushing.{orderly_front}
-use Rattle.mk_order.proofs.Settled.{IsAtEnd, faulty, full, quiet, ends_here, nothing_sent}
+use Rattle.mk_order.proofs.SameEnd.{IsAtEnd, faulty, full, quiet, ends_here, nothing_sent}
 use Rattle.mk_record_replay.specs.declared.replaying.ReplayEnd.{ReplayEnd}
 use Rattle.mk_record_replay.specs.declared.replaying.ReplayEnd.TheVariants.{Done, Core, Short, Other}
-use Rattle.mk_record_replay.specs.Replays.{EndsBy, IsLeft, messages_from}
+use Rattle.mk_record_replay.specs.Replays.{EndsBy, SomeUngiven, messages_from}
 use Rattle.mk_record_replay.specs.Orders.{IsReplayBy, IsReplayInOrder, SameMessages, next_sim}
 use Rattle.mk_sched.specs.Answers.{SomeReady}
 use Rattle.mk_record_read.specs.declared.saved.Asked.{Asked}
@@ -211,14 +211,14 @@ module _ (P : Plan) (A : List Arrival) (N : ℕ) where
   ends_over J B C (Core f) same also given (inl l) = inl l
   ends_over J B C (Core f) same also given (inr t) = inr (record { named = t.named; full = t.full; no_fault = t.no_fault; more = more t.more })
     where
-      left : (rest : List Arrival) → B ≡ arrivals J ++ rest → IsLeft C J → IsLeft B J
+      left : (rest : List Arrival) → B ≡ arrivals J ++ rest → SomeUngiven C J → SomeUngiven B J
       left [] is c = absurd (not_none (none_left J C B also same (c.0 ∷ c.1) c.2 (sym (is ∙ append_nil (arrivals J)))))
         where
           not_none : {x : Arrival} {xs : List Arrival} → x ∷ xs ≡ [] → ⊥
           not_none h = cc
       left (a ∷ rest) is c = (a, rest, is)
 
-      more : IsSome (view P J).owed ⊎ (SomeReady P J ⊎ IsLeft C J) → IsSome (view P J).owed ⊎ (SomeReady P J ⊎ IsLeft B J)
+      more : IsSome (view P J).owed ⊎ (SomeReady P J ⊎ SomeUngiven C J) → IsSome (view P J).owed ⊎ (SomeReady P J ⊎ SomeUngiven B J)
       more (inl owed) = inl owed
       more (inr (inl ready)) = inr (inl ready)
       more (inr (inr c)) = inr (inr (left given.0 given.1 c))

@@ -14,8 +14,8 @@ use Rattle.mk_record_replay.specs.declared.replaying.ReplayEnd.{ReplayEnd}
 use Rattle.mk_record_replay.specs.declared.replaying.ReplayEnd.TheVariants.{Done, Core, Short}
 use Rattle.mk_record_replay.specs.declared.ordering.Given.{Given}
 use Rattle.mk_record_replay.specs.declared.ordering.Given.TheVariants.{Going, Nothing, Stopped}
-use Rattle.mk_record_replay.specs.Runs.{IsRun}
-use Rattle.mk_record_replay.specs.inner.Loops.{GoesOn, IsOnWay, IsSettled, IsStopped, GivenBy}
+use Rattle.mk_record_replay.specs.Runs.{HasReplayed}
+use Rattle.mk_record_replay.specs.inner.Loops.{GoesOn, IsOnWay, HasAskedAll, IsCutShort, GivenBy}
 use Rattle.mk_record_replay.specs.Orders.{IsInOrder, IsReplayInOrder, SameMessages, after_draw, all_left, candidates, chosen, next_number, next_sim, number_after}
 use Rattle.mk_record_replay.specs.inner.Rounds.{AreFit, AreWaiting, GivenMessage, GivenNext, GrownBy, HasEnded, HasGone, HasMoved, IsAllGiven, IsBetween, is_some_left, next_among}
 use Rattle.mk_record_replay.proofs.Giving.{stopped_before, ends_done, ends_short, with_rest}
@@ -73,7 +73,7 @@ module _ (A : List Arrival) (N : ℕ) (old : CoreState) (waiting : List (List Me
   stopped : (f : CoreFault) (new : CoreState) → GivenMessage old a (Stopped f) new → HasEnded A N old (Core f) new
   stopped f new h =
       let more : List Arrival = rest (sim_count old.plan) A (C ++ a ∷ []) in
-      let s : IsStopped old.plan ((C ++ a ∷ []) ++ more) f new = subst (λ (l : List Arrival). IsStopped old.plan l f new) (with_rest C a more) (h.0 C more b.on_way) in
+      let s : IsCutShort old.plan ((C ++ a ∷ []) ++ more) f new = subst (λ (l : List Arrival). IsCutShort old.plan l f new) (with_rest C a more) (h.0 C more b.on_way) in
       record {
         plan = s.plan;
         replay = record {
@@ -140,7 +140,7 @@ module _ (A : List Arrival) (N : ℕ) (old mid : CoreState) (waiting : List (Lis
   ended_before end new h = record { plan = h.plan ∙ g.plan; replay = subst (λ (P : Plan). IsReplayInOrder P A N new.entries end) g.plan h.replay }
 
   -- the replay of what came so far has come to its end, and all came
-  all_came : (end : ReplayEnd) (new : CoreState) → IsRun old.plan (arrivals old.entries) end mid → IsAllGiven A mid new → HasEnded A N old end new
+  all_came : (end : ReplayEnd) (new : CoreState) → HasReplayed old.plan (arrivals old.entries) end mid → IsAllGiven A mid new → HasEnded A N old end new
   all_came end new run given =
       let same : SameMessages A (arrivals old.entries) = subst (λ (l : List Arrival). SameMessages A l) same_arrivals given.all in
       subst (λ (c : CoreState). HasEnded A N old end c) (sym given.same) (record {
@@ -149,10 +149,10 @@ module _ (A : List Arrival) (N : ℕ) (old mid : CoreState) (waiting : List (Lis
       })
 
 module _ (A : List Arrival) (N : ℕ) (old mid : CoreState) (waiting : List (List Message)) (x : ℕ) (b : IsBetween A N old waiting x) where
-  pub fault_ends : (f : CoreFault) → IsSettled old (next.Fault f) mid → HasEnded A N old (Core f) mid
+  pub fault_ends : (f : CoreFault) → HasAskedAll old (next.Fault f) mid → HasEnded A N old (Core f) mid
   fault_ends f s =
       let more : List Arrival = rest (sim_count old.plan) A (arrivals old.entries) in
-      let t : IsStopped old.plan (arrivals old.entries ++ more) f mid = stopped_before old mid f (arrivals old.entries) more s b.on_way in record {
+      let t : IsCutShort old.plan (arrivals old.entries ++ more) f mid = stopped_before old mid f (arrivals old.entries) more s b.on_way in record {
         plan = t.plan;
         replay = record {
           order = arrivals old.entries ++ more;
@@ -163,10 +163,10 @@ module _ (A : List Arrival) (N : ℕ) (old mid : CoreState) (waiting : List (Lis
         };
       }
 
-  pub done_ends : (new : CoreState) → IsSettled old next.Done mid → IsAllGiven A mid new → HasEnded A N old Done new
+  pub done_ends : (new : CoreState) → HasAskedAll old next.Done mid → IsAllGiven A mid new → HasEnded A N old Done new
   done_ends new s given = all_came A N old mid waiting x b s.goes Done new (ends_done old mid (arrivals old.entries) s b.on_way) given
 
-  pub short_ends : (n : ℕ) (new : CoreState) → IsSettled old next.Wait mid → n ≡ open_count new.plan (view new.plan new.entries) → IsAllGiven A mid new → HasEnded A N old (Short n) new
+  pub short_ends : (n : ℕ) (new : CoreState) → HasAskedAll old next.Wait mid → n ≡ open_count new.plan (view new.plan new.entries) → IsAllGiven A mid new → HasEnded A N old (Short n) new
   short_ends n new s e given = all_came A N old mid waiting x b s.goes (Short n) new
       (ends_short old mid n (arrivals old.entries) s (subst (λ (c : CoreState). n ≡ open_count c.plan (view c.plan c.entries)) given.same e) b.on_way) given
 

@@ -48,21 +48,21 @@ pub record IsShort (P : Plan) (A : List Arrival) (J : List Entry) (n : ℕ) : Ty
   pub some : 1 ≤ n
 
 -- not all messages were given
-abbrev pub IsLeft : List Arrival → List Entry → Type 0
-IsLeft A J = (a : Arrival) × (more : List Arrival) × (A ≡ arrivals J ++ a ∷ more)
+abbrev pub SomeUngiven : List Arrival → List Entry → Type 0
+SomeUngiven A J = (a : Arrival) × (more : List Arrival) × (A ≡ arrivals J ++ a ∷ more)
 
 -- the journal is full, there is no fault, and one more entry is needed: what is owed, a Step, or a
 -- message
-pub record IsTooLong (P : Plan) (A : List Arrival) (J : List Entry) (f : CoreFault) : Type 0 where
+pub record IsFull (P : Plan) (A : List Arrival) (J : List Entry) (f : CoreFault) : Type 0 where
   pub named : f ≡ TooLong P.entries
   pub full : length J ≡ P.entries
   pub no_fault : (view P J).fault ≡ None
-  pub more : IsSome (view P J).owed ⊎ (SomeReady P J ⊎ IsLeft A J)
+  pub more : IsSome (view P J).owed ⊎ (SomeReady P J ⊎ SomeUngiven A J)
 
 -- what the end of a replay of messages means
 abbrev pub EndsBy : Plan → List Arrival → List Entry → ReplayEnd → Type 0
 EndsBy P A J Done = IsWhole P A J
-EndsBy P A J (Core f) = IsLastFaulty P J f ⊎ IsTooLong P A J f
+EndsBy P A J (Core f) = IsLastFaulty P J f ⊎ IsFull P A J f
 EndsBy P A J (Short n) = IsShort P A J n
 EndsBy P A J (Other n) = ⊥
 

@@ -21,7 +21,7 @@ IsGoingAfter (Short n) core = core.ended ≡ None
 IsGoingAfter (Other n) core = ⊤
 
 -- the replay of the messages A came to its end
-pub record IsRun (P : Plan) (A : List journals.Arrival) (end : ReplayEnd)
+pub record HasReplayed (P : Plan) (A : List journals.Arrival) (end : ReplayEnd)
     (new : CoreState) : Type 0 where
   pub plan : new.plan ≡ P
   pub replay : IsReplay P A new.entries

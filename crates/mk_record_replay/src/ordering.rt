@@ -10,7 +10,7 @@ ghost use Rattle.mk_record_replay.specs.inner.Loops.{IsUnready};
 ghost use Rattle.mk_record_replay.specs.Orders.{after_draw, chosen, drawn, next_number};
 ghost use Rattle.mk_record_replay.specs.inner.Rounds.{AreFit, AreWaiting, CanGoOn, GivenMessage, GivenNext, HasEnded, HasMoved, IsBetween, IsPopped, RoundOf, next_among};
 
-use crate::replaying::{ReplayEnd, open_count, settle, take};
+use crate::replaying::{ReplayEnd, ask_all, open_count, take};
 use mk_base::{List, Mem, SimNo};
 use mk_plan::Message;
 use mk_record_read::Arrival;
@@ -108,7 +108,7 @@ fn round(
         → IfOk result (λ end. RoundOf A N core.old end core.new waiting.new.items number.new) }
     ensures moved { IfOk result (λ end. end ≡ None → HasMoved core.old core.new waiting.new.items) }
 {
-    match settle(core)? {
+    match ask_all(core)? {
         Next::Fault(fault) => Ok(Some(ReplayEnd::Core(fault))),
         Next::Ask(_) => unreachable!(),
         Next::Done => match give_next(alloc, core, waiting, number)? {

@@ -13,8 +13,8 @@ ghost use Rattle.mk_sched.specs.Answers.{open_id};
 ghost use Rattle.mk_record_replay.specs.Replays.{IsReplay, IsEndOf, end_with};
 ghost use Rattle.mk_record_replay.specs.Orders.{IsReplayBy, IsReplayInOrder};
 ghost use Rattle.mk_record_replay.specs.inner.Rounds.{GrownBy};
-ghost use Rattle.mk_record_replay.specs.Runs.{CanArrive, IsRun};
-ghost use Rattle.mk_record_replay.specs.inner.Loops.{GivenBy, IsOnWay, IsSettled, IsUnready};
+ghost use Rattle.mk_record_replay.specs.Runs.{CanArrive, HasReplayed};
+ghost use Rattle.mk_record_replay.specs.inner.Loops.{GivenBy, IsOnWay, HasAskedAll, IsUnready};
 
 use crate::ordering::{run_in_order, split};
 use mk_base::{List, Mem, SimNo};
@@ -149,7 +149,7 @@ pub fn replay_is_one()
 pub fn give_all(core: &mut Core, arrivals: List<Arrival>) -> Result<ReplayEnd, Mem>
     requires new { core.old ≡ record { plan = core.old.plan; entries = []; ended = None } }
     requires known { All (CanArrive core.old.plan) arrivals }
-    ensures { IfOk result (λ end. IsRun core.old.plan (map came arrivals) end core.new) }
+    ensures { IfOk result (λ end. HasReplayed core.old.plan (map came arrivals) end core.new) }
 {
     let mut left = last_first(arrivals);
     let mut half = left.len() / 2;
@@ -189,7 +189,7 @@ fn give(core: &mut Core, arrival: Arrival) -> Result<Option<CoreFault>, Mem>
     requires known { CanArrive core.old.plan arrival }
     ensures { IfOk result (λ fault. GivenBy core.old (came arrival) fault core.new) }
 {
-    match settle(core)? {
+    match ask_all(core)? {
         Next::Fault(fault) => Ok(Some(fault)),
         Next::Ask(_) => unreachable!(),
         Next::Wait => take(core, arrival),
@@ -217,9 +217,9 @@ pub fn take(core: &mut Core, arrival: Arrival) -> Result<Option<CoreFault>, Mem>
 fn finish(core: &mut Core) -> Result<ReplayEnd, Mem>
     requires going { core.old.ended ≡ None }
     ensures { (A : List journals.Arrival) → IsOnWay core.old.plan A core.old.entries
-        → IfOk result (λ end. IsRun core.old.plan A end core.new) }
+        → IfOk result (λ end. HasReplayed core.old.plan A end core.new) }
 {
-    match settle(core)? {
+    match ask_all(core)? {
         Next::Fault(fault) => Ok(ReplayEnd::Core(fault)),
         Next::Done => Ok(ReplayEnd::Done),
         Next::Ask(_) => unreachable!(),
@@ -228,9 +228,9 @@ fn finish(core: &mut Core) -> Result<ReplayEnd, Mem>
 }
 
 // Asks whoever is ready, until nobody is.
-pub fn settle(core: &mut Core) -> Result<Next, Mem>
+pub fn ask_all(core: &mut Core) -> Result<Next, Mem>
     requires going { core.old.ended ≡ None }
-    ensures { IfOk result (λ next. IsSettled core.old next core.new) }
+    ensures { IfOk result (λ next. HasAskedAll core.old next core.new) }
 {
     'asking: loop {
         match core.next()? {

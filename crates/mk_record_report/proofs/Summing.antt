@@ -9,7 +9,7 @@ use Rattle.mk_plan.specs.declared.PlanSim.{PlanSim}
 use Rattle.mk_plan.specs.declared.Entry.{Entry}
 use Rattle.mk_plan.specs.declared.Item.{Item}
 use Rattle.mk_plan.specs.Journals.{sent}
-use Rattle.mk_plan.specs.Report.{summary, steps_in, values_in, counts, last_line, last_stepped}
+use Rattle.mk_plan.specs.Report.{summary, steps_in, values_sent, counts, last_line, last_stepped}
 use Rattle.mk_record_report.specs.declared.tallies.Tally.{Tally}
 use Rattle.mk_record_report.specs.inner.Summary.{IsTally, steps_at}
 use Rattle.mk_record_report.proofs.Lasts.{last_stepped_push}
@@ -17,13 +17,13 @@ use Rattle.mk_record_report.proofs.Texts.{all_taken, one_more, sum_last}
 
 -- a simulator's line, the number of its Steps, that of its input values, and its items
 abbrev pub counts_at : List Entry → ℕ × PlanSim → List ℕ
-counts_at J s = s.1.id ++ counts (length (steps_in (sent J s.0))) (values_in (sent J s.0))
+counts_at J s = s.1.id ++ counts (length (steps_in (sent J s.0))) (values_sent (sent J s.0))
 
 abbrev pub stepped_at : List Entry → ℕ × PlanSim → ℕ
 stepped_at J s = length (steps_in (sent J s.0))
 
 abbrev pub valued_at : List Entry → ℕ × PlanSim → ℕ
-valued_at J s = values_in (sent J s.0)
+valued_at J s = values_sent (sent J s.0)
 
 abbrev pub items_at : List Entry → ℕ × PlanSim → List Item
 items_at J s = sent J s.0

@@ -10,7 +10,7 @@ use Rattle.mk_plan.specs.declared.Message.{Message}
 use Rattle.mk_plan.specs.declared.Entry.{Entry}
 use Rattle.mk_plan.specs.declared.Entry.TheVariants.{Sent, Got}
 use Rattle.mk_plan.specs.Journals.{sent}
-use Rattle.mk_plan.specs.Report.{steps_in, inputs_of, values_in}
+use Rattle.mk_plan.specs.Report.{steps_in, inputs_of, values_sent}
 use Rattle.mk_record_report.specs.declared.tallies.Tally.{Tally}
 use Rattle.mk_record_report.specs.inner.Parts.{step_count}
 use Rattle.mk_record_report.specs.inner.Summary.{IsTally, AreTallies, all_values, value_count}
@@ -35,8 +35,8 @@ one_more (GetData wants) = refl
 one_more (Answer id content) = refl
 one_more (Refuse id reason) = refl
 
-more_values : (items : List Item) (item : Item) → values_in (items ++ item ∷ []) ≡ values_in items + value_count item
-more_values items item = ap length (flat_map_append inputs_of items (item ∷ [])) ∙ length-append (flat_map inputs_of items) (flat_map inputs_of (item ∷ [])) ∙ ap (λ n. values_in items + n) (one_more item)
+more_values : (items : List Item) (item : Item) → values_sent (items ++ item ∷ []) ≡ values_sent items + value_count item
+more_values items item = ap length (flat_map_append inputs_of items (item ∷ [])) ∙ length-append (flat_map inputs_of items) (flat_map inputs_of (item ∷ [])) ∙ ap (λ n. values_sent items + n) (one_more item)
 
 -- an item more is counted for its simulator
 grown : (t u : Tally) (items : List Item) (item : Item) → IsTally t items → u.steps ≡ t.steps + step_count item → u.values ≡ t.values + value_count item → IsTally u (items ++ item ∷ [])

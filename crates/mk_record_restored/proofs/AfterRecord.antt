@@ -11,27 +11,27 @@ use Rattle.mk_sched.specs.declared.faults.CoreFault.{CoreFault}
 use Rattle.mk_sched.specs.Cores.{CoreState}
 use Rattle.mk_record_replay.specs.declared.replaying.ReplayEnd.{ReplayEnd}
 use Rattle.mk_record_replay.specs.declared.replaying.ReplayEnd.TheVariants as replay_end
-use Rattle.mk_record_replay.specs.Runs.{IsRun}
+use Rattle.mk_record_replay.specs.Runs.{HasReplayed}
 use Rattle.mk_record_replay.proofs.Giving.{nobody_at_end}
 use Rattle.mk_record_restored.specs.Restored.{IsRestored, IsFaulted}
 
 -- all were given, and nothing is left to do
-pub restored_done : (P : Plan) (A : List Arrival) (end : ReplayEnd) (core : CoreState) → IsRun P A end core → end ≡ replay_end.Done → (core.ended ≡ None) × IsRestored P A core.entries
-restored_done P A end core run e = let r : IsRun P A replay_end.Done core = subst (λ (x : ReplayEnd). IsRun P A x core) e run in (
+pub restored_done : (P : Plan) (A : List Arrival) (end : ReplayEnd) (core : CoreState) → HasReplayed P A end core → end ≡ replay_end.Done → (core.ended ≡ None) × IsRestored P A core.entries
+restored_done P A end core run e = let r : HasReplayed P A replay_end.Done core = subst (λ (x : ReplayEnd). HasReplayed P A x core) e run in (
   r.going,
   record { replay = r.replay; given = r.ends.given; no_fault = r.ends.done.no_fault; paid = r.ends.paid; nobody = nobody_at_end P core.entries r.ends.done },
 )
 
 -- all were given, and messages are waited for
-pub restored_short : (P : Plan) (A : List Arrival) (end : ReplayEnd) (n : ℕ) (core : CoreState) → IsRun P A end core → end ≡ replay_end.Short n → (core.ended ≡ None) × IsRestored P A core.entries
-restored_short P A end n core run e = let r : IsRun P A (replay_end.Short n) core = subst (λ (x : ReplayEnd). IsRun P A x core) e run in (
+pub restored_short : (P : Plan) (A : List Arrival) (end : ReplayEnd) (n : ℕ) (core : CoreState) → HasReplayed P A end core → end ≡ replay_end.Short n → (core.ended ≡ None) × IsRestored P A core.entries
+restored_short P A end n core run e = let r : HasReplayed P A (replay_end.Short n) core = subst (λ (x : ReplayEnd). HasReplayed P A x core) e run in (
   r.going,
   record { replay = r.replay; given = r.ends.given; no_fault = r.ends.no_fault; paid = r.ends.paid; nobody = r.ends.nobody },
 )
 
 -- a fault was met
-pub restored_not : (P : Plan) (A : List Arrival) (end : ReplayEnd) (f : CoreFault) (core : CoreState) → IsRun P A end core → end ≡ replay_end.Core f → IsFaulted P A core.entries f
-restored_not P A end f core run e = let r : IsRun P A (replay_end.Core f) core = subst (λ (x : ReplayEnd). IsRun P A x core) e run in record { replay = r.replay; cause = r.ends }
+pub restored_not : (P : Plan) (A : List Arrival) (end : ReplayEnd) (f : CoreFault) (core : CoreState) → HasReplayed P A end core → end ≡ replay_end.Core f → IsFaulted P A core.entries f
+restored_not P A end f core run e = let r : HasReplayed P A (replay_end.Core f) core = subst (λ (x : ReplayEnd). HasReplayed P A x core) e run in record { replay = r.replay; cause = r.ends }
 
 -- the messages are a beginning of themselves
 pub given_all : (P : Plan) (A : List Arrival) (core : CoreState) → IsRestored P A core.entries → BeginsWith A (arrivals core.entries)

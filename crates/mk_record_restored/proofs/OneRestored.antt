@@ -6,7 +6,7 @@ use Rattle.mk_plan.specs.declared.Entry.{Entry}
 use Rattle.mk_plan.specs.Journals.{Arrival}
 use Rattle.mk_plan.specs.Ready.{IsReady}
 use Rattle.mk_plan.specs.Advance.{IsAdvance}
-use Rattle.mk_order.proofs.Settled.{IsAtEnd, waits_is_end, replay_is_one}
+use Rattle.mk_order.proofs.SameEnd.{IsAtEnd, waits_is_end, replay_is_one}
 use Rattle.mk_record_read.specs.declared.saved.Asked.{Asked}
 use Rattle.mk_record_compare.specs.Differences.{IsOther}
 use Rattle.mk_record_compare.proofs.Places.{one_other}
@@ -14,7 +14,7 @@ use Rattle.mk_sched.specs.declared.faults.CoreFault.{CoreFault}
 use Rattle.mk_sched.specs.Answers.{IsLastFaulty}
 use Rattle.mk_sched.specs.Cores.{CoreState}
 use Rattle.mk_record_replay.specs.declared.replaying.ReplayEnd.TheVariants as replay_end
-use Rattle.mk_record_replay.specs.Replays.{IsReplay, IsTooLong}
+use Rattle.mk_record_replay.specs.Replays.{IsReplay, IsFull}
 use Rattle.mk_record_replay.proofs.OneEnd.{at_end, faultless, nothing_more, one_fault}
 use Rattle.mk_record_restored.specs.declared.restoring.Restored.{Restored}
 use Rattle.mk_record_restored.specs.declared.restoring.Restored.TheVariants as restored
@@ -38,7 +38,7 @@ module _ (P : Plan) (A : List Arrival) where
   not_both : (J K : List Entry) (f : CoreFault) → IsRestored P A J → IsFaulted P A K f → ⊥
   not_both J K f r q = by_cause (subst (λ (L : List Entry). IsFaulted P A L f) (sym (one_journal J K r.replay q.replay (restored_end J r) (faulted_end K f q))) q).cause
     where
-      by_cause : IsLastFaulty P J f ⊎ IsTooLong P A J f → ⊥
+      by_cause : IsLastFaulty P J f ⊎ IsFull P A J f → ⊥
       by_cause (inl l) = faultless P J f r.no_fault l
       by_cause (inr t) = nothing_more P A J r.given r.paid r.nobody t.more
 

@@ -8,7 +8,7 @@ use Rattle.mk_record_compare.specs.Differences.{IsOther}
 use Rattle.mk_sched.specs.declared.faults.CoreFault.{CoreFault}
 use Rattle.mk_sched.specs.Answers.{IsLastFaulty, SomeReady}
 use Rattle.mk_sched.specs.Cores.{CoreState}
-use Rattle.mk_record_replay.specs.Replays.{IsReplay, IsTooLong}
+use Rattle.mk_record_replay.specs.Replays.{IsReplay, IsFull}
 use Rattle.mk_record_restored.specs.declared.restoring.Restored.{Restored}
 use Rattle.mk_record_restored.specs.declared.restoring.Restored.TheVariants as restored
 
@@ -23,7 +23,7 @@ pub record IsRestored (P : Plan) (A : List Arrival) (J : List Entry) : Type 0 wh
 -- a fault was met on that way: by a message, or for want of room
 pub record IsFaulted (P : Plan) (A : List Arrival) (J : List Entry) (f : CoreFault) : Type 0 where
   pub replay : IsReplay P A J
-  pub cause : IsLastFaulty P J f ⊎ IsTooLong P A J f
+  pub cause : IsLastFaulty P J f ⊎ IsFull P A J f
 
 -- the record's entry n, from 0, is the first that isn't the journal's, which the record's messages
 -- make

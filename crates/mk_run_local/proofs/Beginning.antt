@@ -15,7 +15,7 @@ use Rattle.mk_local.specs.declared.turn.Turn.{Turn}
 use Rattle.mk_local.specs.Kinds.{has_kind, kind_named, name_of}
 use Rattle.mk_local.specs.Simulators.{Simulator, new_simulator}
 use Rattle.mk_local.proofs.Named.{named_in}
-use Rattle.mk_run_local.specs.inner.Standing.{IsFit, Stands}
+use Rattle.mk_run_local.specs.inner.Standing.{IsFit, AreFit}
 use Rattle.mk_run_local.specs.Seen.{WithinState, AreOf, arrival, begun_as, first_of, new_within, sim_at}
 
 same_kinds : (name : List ℕ) (rows : List Turn) → is_among (map name_of rows) name ≡ has_kind name rows
@@ -49,7 +49,7 @@ new_of rows S i L is = by S.sims i is
     by (s ∷ sims) (suc n) e = by sims n e
 
 -- none of them has entities
-new_stands : (rows : List Turn) (S : Scenario) → Stands (new_within rows S)
+new_stands : (rows : List Turn) (S : Scenario) → AreFit (new_within rows S)
 new_stands rows S = record { sims = λ i L is. by S.sims i L is; kept = tt }
   where
     first_fit : (b : Begin) (L : Simulator) → begun_as rows b ≡ Some L → IsFit L
@@ -71,8 +71,8 @@ module _ (rows : List Turn) (S : Scenario) (sims : List (Option Simulator)) (que
   same = ap (λ (s : List (Option Simulator)). let W : WithinState = record { sims = s; kept = map arrival queue } in W) begun
       ∙ ap (λ (q : List (SimNo × Message)). let W : WithinState = record { sims = map (first_of rows) S.sims; kept = map arrival q } in W) empty
 
-  pub begun_stands : Stands (record { sims = sims; kept = map arrival queue })
-  begun_stands = subst Stands (sym same) (new_stands rows S)
+  pub begun_stands : AreFit (record { sims = sims; kept = map arrival queue })
+  begun_stands = subst AreFit (sym same) (new_stands rows S)
 
   pub begun_of : AreOf rows (record { sims = sims; kept = map arrival queue })
   begun_of = subst (AreOf rows) (sym same) (new_of rows S)

@@ -5,7 +5,7 @@ use Rattle.std.specs.List.{enumerate_from}
 use Rattle.mk_base.specs.declared.json.Json.{Json}
 use Rattle.mk_base.specs.Lists.{Each}
 use Rattle.mk_base.specs.Trees.{whole_in, member}
-use Rattle.mk_base.specs.Numbers.{IsShort}
+use Rattle.mk_base.specs.Numbers.{FitsIn64}
 use Rattle.mk_plan.specs.declared.Call.{Call}
 use Rattle.mk_plan.specs.declared.Call.TheVariants.{Init, Create, SetupDone, Stop}
 use Rattle.mk_plan.specs.declared.Input.{Input}
@@ -24,20 +24,20 @@ use Rattle.mk_local.specs.Calls.{whole_from_to, as_step, as_setting, step_in, se
 use Rattle.mk_local.specs.Replies.{after_item}
 use Rattle.mk_run_local.specs.inner.Standing.{IsShortIfThere, IsFitEntity, IsFit}
 
-pub clamped_short : (n : ℤ) → IsShort (clamped n)
+pub clamped_short : (n : ℤ) → FitsIn64 (clamped n)
 clamped_short (pos n) = (omega (arith, ints), omega (arith, ints))
 clamped_short (negsuc n) = (omega (arith, ints), omega (arith, ints))
 
-charged_short : (s : EntityStep) → IsShort s.state → IsShort (charged s)
-charged_short s h = elim s.seen as (λ b. IsShort (cond b (cond (int_lt s.state s.sum) (clamped (s.state +ℤ pos 1)) (cond (int_lt s.sum s.state) (clamped (s.state +ℤ negsuc 0)) s.state)) s.state)) [
-  | true ↦ elim (int_lt s.state s.sum) as (λ b. IsShort (cond b (clamped (s.state +ℤ pos 1)) (cond (int_lt s.sum s.state) (clamped (s.state +ℤ negsuc 0)) s.state))) [
+charged_short : (s : EntityStep) → FitsIn64 s.state → FitsIn64 (charged s)
+charged_short s h = elim s.seen as (λ b. FitsIn64 (cond b (cond (int_lt s.state s.sum) (clamped (s.state +ℤ pos 1)) (cond (int_lt s.sum s.state) (clamped (s.state +ℤ negsuc 0)) s.state)) s.state)) [
+  | true ↦ elim (int_lt s.state s.sum) as (λ b. FitsIn64 (cond b (clamped (s.state +ℤ pos 1)) (cond (int_lt s.sum s.state) (clamped (s.state +ℤ negsuc 0)) s.state))) [
     | true ↦ clamped_short (s.state +ℤ pos 1)
-    | false ↦ elim (int_lt s.sum s.state) as (λ b. IsShort (cond b (clamped (s.state +ℤ negsuc 0)) s.state)) [ true ↦ clamped_short (s.state +ℤ negsuc 0) | false ↦ h ]
+    | false ↦ elim (int_lt s.sum s.state) as (λ b. FitsIn64 (cond b (clamped (s.state +ℤ negsuc 0)) s.state)) [ true ↦ clamped_short (s.state +ℤ negsuc 0) | false ↦ h ]
   ]
   | false ↦ h
 ]
 
-if_there : (b : Bool) (n : ℤ) → IsShort n → IsShortIfThere (if b then Some n else None)
+if_there : (b : Bool) (n : ℤ) → FitsIn64 n → IsShortIfThere (if b then Some n else None)
 if_there true n h = h
 if_there false n h = tt
 
@@ -51,11 +51,11 @@ next_short Controller s = tt
 
 -- what a turn gives
 pub record IsShortTurn (t : EntityTurn) : Type 0 where
-  pub state : IsShort t.state
+  pub state : FitsIn64 t.state
   pub out : IsShortIfThere t.out
   pub at : IsShortIfThere t.at
 
-turn_short : (T : Turn) (s : EntityStep) → IsShort s.setting → IsShort s.state → IsShortTurn (row T s)
+turn_short : (T : Turn) (s : EntityStep) → FitsIn64 s.setting → FitsIn64 s.state → IsShortTurn (row T s)
 turn_short Constant s g h = record { state = h; out = g; at = tt }
 turn_short Counter s g h = record { state = h; out = clamped_short (s.setting +ℤ s.time); at = tt }
 turn_short Sum s g h = record { state = h; out = clamped_short (s.setting +ℤ s.sum); at = tt }
@@ -105,7 +105,7 @@ value_within : (least most : ℤ) (value : Option Json) (other : ℤ) → IsWith
 value_within least most None other h = h
 value_within least most (Some v) other h = given_within least most (whole_in v) other h
 
-setting_short : (T : Turn) (params : Json) → IsShort (setting_in T params)
+setting_short : (T : Turn) (params : Json) → FitsIn64 (setting_in T params)
 setting_short T params = let t = value_within least_setting greatest_setting (member (setting_of T) params) (pos 0) (omega (arith, ints), omega (arith, ints)) in (omega (arith, ints, t.0), omega (arith, ints, t.1))
 
 each_replicate : {X : Type 0} (Q : X → Type 0) (n : ℕ) (x : X) → Q x → Each Q (replicate n x)
@@ -116,7 +116,7 @@ each_both : {X : Type 0} (Q : X → Type 0) (xs ys : List X) → Each Q xs → E
 each_both Q [] ys h k = k
 each_both Q (x ∷ xs) ys h k = (h.0, each_both Q xs ys h.1 k)
 
-new_fit : (setting : ℤ) → IsShort setting → IsFitEntity (new_entity setting)
+new_fit : (setting : ℤ) → FitsIn64 setting → IsFitEntity (new_entity setting)
 new_fit setting h = record { setting = h; state = h; out = tt; at = tt }
 
 refused_or : (Q : Simulator → Type 0) (r : Result Json (List ℕ)) (done same : Simulator) → Q done → Q same → Q (unless_refused r done same)

@@ -15,7 +15,7 @@ use Rattle.mk_local.specs.Replies.{item_reply, after_item}
 use Rattle.mk_local.specs.Simulators.{Simulator}
 use Rattle.mk_run_local.specs.Seen.{WithinState, sim_at, AreOf, IsHere, arrival}
 use Rattle.mk_run_local.specs.Calls.{IsAnswered, IsCalled, IsFitSuccess}
-use Rattle.mk_run_local.specs.inner.Standing.{IsFit, Stands}
+use Rattle.mk_run_local.specs.inner.Standing.{IsFit, AreFit}
 use Rattle.mk_run_local.proofs.Numbers.{call_fit, call_kind, item_fit, item_kind}
 use Rattle.mk_run_local.proofs.Replying.{reply_fit}
 
@@ -55,16 +55,16 @@ module _ (old : WithinState) (sims : Sims) (kept : List Arrival) (view : all sim
     | inr was ↦ known j M was
   ]
 
-  fit_here : Stands old → IsFit L
+  fit_here : AreFit old → IsFit L
   fit_here stands = stands.sims i L here
 
-  stands_set : Stands old → IsFit N → Stands (all (slice_set sims i (Some N)) kept)
+  stands_set : AreFit old → IsFit N → AreFit (all (slice_set sims i (Some N)) kept)
   stands_set stands fit = record {
     sims = λ j M is. elim (after kept j M is) [ inl new ↦ subst IsFit (sym new) fit | inr was ↦ stands.sims j M was ];
     kept = subst (λ (W : WithinState). Each (λ (a : Arrival). IsFitSuccess a.message) W.kept) (sym view) stands.kept;
   }
 
-  stands_kept : Stands old → IsFit N → (a : Arrival) → IsFitSuccess a.message → Stands (all (slice_set sims i (Some N)) (kept ++ a ∷ []))
+  stands_kept : AreFit old → IsFit N → (a : Arrival) → IsFitSuccess a.message → AreFit (all (slice_set sims i (Some N)) (kept ++ a ∷ []))
   stands_kept stands fit a good = record {
     sims = λ j M is. elim (after (kept ++ a ∷ []) j M is) [ inl new ↦ subst IsFit (sym new) fit | inr was ↦ stands.sims j M was ];
     kept = each_behind (λ (b : Arrival). IsFitSuccess b.message) kept a (subst (λ (W : WithinState). Each (λ (b : Arrival). IsFitSuccess b.message) W.kept) (sym view) stands.kept) good;
@@ -84,8 +84,8 @@ module _ (old : WithinState) (sims : Sims) (kept : List Arrival) (view : all sim
   pub called_of : (call : Call) → N ≡ after_call L call → (rows : List Turn) → AreOf rows old → AreOf rows (all (slice_set sims i (Some N)) kept)
   called_of call is rows known = of_set kept rows (ap (λ (S : Simulator). S.kind) is ∙ call_kind L call) known
 
-  pub called_stands : Stands (all sims kept) → (call : Call) → N ≡ after_call L call → Stands (all (slice_set sims i (Some N)) kept)
-  called_stands stands call is = let was : Stands old = subst Stands view stands in stands_set was (subst IsFit (sym is) (call_fit L call (fit_here was)))
+  pub called_stands : AreFit (all sims kept) → (call : Call) → N ≡ after_call L call → AreFit (all (slice_set sims i (Some N)) kept)
+  called_stands stands call is = let was : AreFit old = subst AreFit view stands in stands_set was (subst IsFit (sym is) (call_fit L call (fit_here was)))
 
   -- an item, whose reply is kept
   module _ (s : SimNo) (named : s.0 ≡ i) (id : ℕ) (item : Item) (m : Message) (reply : item_reply L id item ≡ Some m) (is : N ≡ after_item L item) (was queue : List (SimNo × Message)) (before : map arrival was ≡ kept) (pushed : queue ≡ was ++ (s, m) ∷ []) where
@@ -105,8 +105,8 @@ module _ (old : WithinState) (sims : Sims) (kept : List Arrival) (view : all sim
           ∙ ap (λ (W : WithinState). all (slice_set W.sims i (Some (after_item L item))) (W.kept ++ record { sim = i; message = m } ∷ [])) view;
     }
 
-    pub answered_stands : Stands (all sims kept) → Stands (all (slice_set sims i (Some N)) (map arrival queue))
-    answered_stands stands = let before_it : Stands old = subst Stands view stands in subst (λ (k : List Arrival). Stands (all (slice_set sims i (Some N)) k)) (sym queued)
+    pub answered_stands : AreFit (all sims kept) → AreFit (all (slice_set sims i (Some N)) (map arrival queue))
+    answered_stands stands = let before_it : AreFit old = subst AreFit view stands in subst (λ (k : List Arrival). AreFit (all (slice_set sims i (Some N)) k)) (sym queued)
         (stands_kept before_it (subst IsFit (sym is) (item_fit L item (fit_here before_it))) (record { sim = i; message = m }) (reply_fit L id item m (fit_here before_it) reply))
 
     pub answered_of : (rows : List Turn) → AreOf rows old → AreOf rows (all (slice_set sims i (Some N)) (map arrival queue))

@@ -11,7 +11,7 @@ use Rattle.mk_base.specs.declared.json.Json as tree
 use Rattle.mk_base.specs.Lists.{Each, same_text, text_order}
 use Rattle.mk_base.specs.Trees.{is_in_range, in_range}
 use Rattle.mk_base.proofs.OnTrees.{trees_compute}
-use Rattle.mk_base.specs.Numbers.{IsShort}
+use Rattle.mk_base.specs.Numbers.{FitsIn64}
 use Rattle.mk_json.proofs.LevelTests.{range-Object}
 use Rattle.mk_plan.specs.declared.Input.{Input}
 use Rattle.mk_plan.specs.declared.Want.{Want}
@@ -39,13 +39,13 @@ Member = List ℕ × tree.Json
 abbrev InRange : Member → Type 0
 InRange m = is_in_range m.1 ≡ true
 
-short_in_range : (n : ℤ) → IsShort n → in_range n ≡ true
+short_in_range : (n : ℤ) → FitsIn64 n → in_range n ≡ true
 short_in_range n h = let low : negsuc 9223372036854775807 ≤ℤ n = h.0 in let high : n ≤ℤ pos 18446744073709551615 = omega (arith, ints, h.1) in
     let a : int_le (negsuc 9223372036854775807) n ≡ true = grind (arith, ints) in
     let b : int_le n (pos 18446744073709551615) ≡ true = grind (arith, ints) in
     simp (a, b) refl
 
-whole_ranged : (n : ℤ) → IsShort n → is_in_range (tree.Whole n) ≡ true
+whole_ranged : (n : ℤ) → FitsIn64 n → is_in_range (tree.Whole n) ≡ true
 unfolding trees_compute
 whole_ranged n h = short_in_range n h
 
@@ -56,15 +56,15 @@ number_ranged (Some n) h = short_in_range n h
 
 -- ---- the reply to a Step
 
-earlier_short : (best : Option ℤ) (n : ℤ) → IsShortIfThere best → IsShort n → IsShortIfThere (earlier best n)
+earlier_short : (best : Option ℤ) (n : ℤ) → IsShortIfThere best → FitsIn64 n → IsShortIfThere (earlier best n)
 earlier_short None n h k = k
-earlier_short (Some b) n h k = elim (int_lt n b) as (λ c. IsShort (cond c n b)) [ true ↦ k | false ↦ h ]
+earlier_short (Some b) n h k = elim (int_lt n b) as (λ c. FitsIn64 (cond c n b)) [ true ↦ k | false ↦ h ]
 
-least_from : (best : Option ℤ) (ns : List ℤ) → IsShortIfThere best → Each IsShort ns → IsShortIfThere (fold earlier best ns)
+least_from : (best : Option ℤ) (ns : List ℤ) → IsShortIfThere best → Each FitsIn64 ns → IsShortIfThere (fold earlier best ns)
 least_from best [] h all = h
 least_from best (n ∷ ns) h all = least_from (earlier best n) ns (earlier_short best n h all.0) all.1
 
-cons_short : (o : Option ℤ) (ns : List ℤ) → IsShortIfThere o → Each IsShort ns → Each IsShort (cons_option o ns)
+cons_short : (o : Option ℤ) (ns : List ℤ) → IsShortIfThere o → Each FitsIn64 ns → Each FitsIn64 (cons_option o ns)
 cons_short None ns h all = all
 cons_short (Some n) ns h all = (h, all)
 
@@ -72,7 +72,7 @@ module _ (L : Simulator) (time : ℤ) (inputs : List Input) where
   abbrev turn_at : ℕ × Entity → EntityTurn
   turn_at p = row L.kind (entity_step L time inputs p.0 p.1)
 
-  nexts_short : (k : ℕ) (es : List Entity) → Each IsShort (filter_map (λ (t : EntityTurn). t.next) (map turn_at (enumerate_from k es)))
+  nexts_short : (k : ℕ) (es : List Entity) → Each FitsIn64 (filter_map (λ (t : EntityTurn). t.next) (map turn_at (enumerate_from k es)))
   nexts_short k [] = tt
   nexts_short k (e ∷ es) = cons_short (turn_at (k, e)).next (filter_map (λ (t : EntityTurn). t.next) (map turn_at (enumerate_from (k + 1) es))) (next_short L.kind (entity_step L time inputs k e)) (nexts_short (k + 1) es)
 
@@ -132,7 +132,7 @@ module _ (T : Turn) (es : List Entity) (fit : Each IsFitEntity es) where
   at_short : (latest at : Option ℤ) → IsShortIfThere latest → IsShortIfThere at → IsShortIfThere (later_at latest at)
   at_short latest None h k = h
   at_short None (Some a) h k = k
-  at_short (Some t) (Some a) h k = elim (int_lt a t) as (λ b. IsShort (cond b t a)) [ true ↦ h | false ↦ k ]
+  at_short (Some t) (Some a) h k = elim (int_lt a t) as (λ b. FitsIn64 (cond b t a)) [ true ↦ h | false ↦ k ]
 
   time_from : (latest : Option ℤ) (all : List Entity) → IsShortIfThere latest → Each IsFitEntity all → IsShortIfThere (fold later_made latest all)
   time_from latest [] h f = h

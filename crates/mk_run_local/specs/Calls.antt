@@ -36,7 +36,7 @@ pub record IsAnswered (old : WithinState) (i id : ℕ) (item : Item)
   }
 
 -- m was the oldest reply that was kept, and only it is gone
-pub record IsTaken (old : WithinState) (i : ℕ) (m : Message) (new : WithinState) : Type 0 where
+pub record IsTakenOut (old : WithinState) (i : ℕ) (m : Message) (new : WithinState) : Type 0 where
   pub kept : old.kept ≡ record { sim = i; message = m } ∷ new.kept
   pub sims : new.sims ≡ old.sims
 

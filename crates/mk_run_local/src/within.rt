@@ -8,7 +8,7 @@ ghost use Rattle.mk_local.specs.Kinds.{name_of};
 ghost use Rattle.mk_local.specs.Registries.{rows_in};
 ghost use Rattle.mk_local.specs.Replies.{IsItemReplied};
 ghost use Rattle.mk_run_local.specs.Seen.{AreOf, IsHere, begun_as, first_of, new_within, sim_at};
-ghost use Rattle.mk_run_local.specs.Calls.{IsAnswered, IsCalled, IsFitSuccess, IsTaken};
+ghost use Rattle.mk_run_local.specs.Calls.{IsAnswered, IsCalled, IsFitSuccess, IsTakenOut};
 
 use mk_base::{List, Mem, SimNo};
 use mk_local::{LocalSim, Registry};
@@ -29,7 +29,7 @@ pub struct Within {
 impl Model for Within {
     ghost use Rattle.std.specs.Prelude.{map};
     ghost use Rattle.mk_run_local.specs.Seen.{WithinState, arrival};
-    ghost use Rattle.mk_run_local.specs.inner.Standing.{Stands};
+    ghost use Rattle.mk_run_local.specs.inner.Standing.{AreFit};
     ghost use Rattle.mk_base.specs.contracts.json.Json as json;
     ghost use Rattle.std.specs.Coded.{codes};
 
@@ -40,7 +40,7 @@ impl Model for Within {
     ghost view = { λ a. record { sims = a.sims.items; kept = map arrival a.kept.items } };
 
     ghost invariant = { λ a.
-        Stands (record { sims = a.sims.items; kept = map arrival a.kept.items }) };
+        AreFit (record { sims = a.sims.items; kept = map arrival a.kept.items }) };
 }
 
 // The simulator that is begun so, before any request, if it is within the program.
@@ -146,7 +146,7 @@ impl Within {
     /// Takes the oldest reply that is kept; `None` exactly where none is. It takes no memory.
     pub fn take(&mut self) -> Option<(SimNo, Message)>
         ensures taken { MatchOption result ((self.old.kept ≡ [])
-            × (self.new ≡ self.old)) (λ r. IsTaken self.old r.0.0 r.1 self.new) }
+            × (self.new ≡ self.old)) (λ r. IsTakenOut self.old r.0.0 r.1 self.new) }
         ensures fit { IfSome result (λ r. IsFitSuccess r.1) }
         ensures kinds { (rows : List Turn) → AreOf rows self.old → AreOf rows self.new }
     {

@@ -3,7 +3,7 @@ use Rattle.std.proofs.Common.{◌≡◌, ℕ, ◌+◌, ◌<◌, ◌≤◌, arith
 use Rattle.std.proofs.Math.Seq.{drop-cons}
 use Rattle.std.proofs.lemmas.List.{append_assoc, append-nil, drop_all}
 use Rattle.std.specs.List.{enumerate_from}
-use Rattle.mk_base.specs.Verdicts.{before, all_well}
+use Rattle.mk_base.specs.Verdicts.{put_first, all_well}
 use Rattle.mk_scenario_keys.specs.Tests.{each_at}
 use Rattle.mk_scenario_keys.specs.declared.fault.ScenarioFault.{ScenarioFault}
 
@@ -16,7 +16,7 @@ abbrev pub gathered : {A : Type 0} → List A → Result (List A) ScenarioFault 
 gathered found (Ok more) = Ok (found ++ more)
 gathered found (Err fault) = Err fault
 
-with_next : {A : Type 0} (found : List A) (y : A) (r : Result (List A) ScenarioFault) → gathered found (before y r) ≡ gathered (found ++ y ∷ []) r
+with_next : {A : Type 0} (found : List A) (y : A) (r : Result (List A) ScenarioFault) → gathered found (put_first y r) ≡ gathered (found ++ y ∷ []) r
 with_next found y (Ok more) = ap Ok (sym (append_assoc found (y ∷ []) more))
 with_next found y (Err fault) = refl
 

@@ -4,7 +4,7 @@ use Rattle.std.specs.List.{enumerate_from, find}
 use Rattle.mk_base.specs.declared.json.Json.{Json}
 use Rattle.mk_base.specs.Lists.{Each}
 use Rattle.mk_base.proofs.Lists.{each_in, in_each, in_at, at_in, get_is, below_get, some_same}
-use Rattle.mk_base.specs.Verdicts.{held, no_text, before, all_well}
+use Rattle.mk_base.specs.Verdicts.{held, no_text, put_first, all_well}
 use Rattle.mk_scenario_keys.specs.Tests.{passed, found, each_at}
 use Rattle.mk_scenario_keys.specs.Keys.{required, optional}
 use Rattle.mk_scenario_keys.specs.declared.fault.ScenarioFault.{ScenarioFault}
@@ -58,7 +58,7 @@ pub optional_ok : {A : Type 0} (P : A → Type 0) (instead : A) (path : List ℕ
 optional_ok P instead path read None x e at_least of_value = subst P (ok_same instead x e) at_least
 optional_ok P instead path read (Some value) x e at_least of_value = of_value value e
 
-before_ok : {A : Type 0} (x : A) (r : Result (List A) ScenarioFault) (zs : List A) → before x r ≡ Ok zs → (ys : List A) × (r ≡ Ok ys) × (x ∷ ys ≡ zs)
+before_ok : {A : Type 0} (x : A) (r : Result (List A) ScenarioFault) (zs : List A) → put_first x r ≡ Ok zs → (ys : List A) × (r ≡ Ok ys) × (x ∷ ys ≡ zs)
 before_ok x (Ok ys) zs e = (ys, refl, ok_same (x ∷ ys) zs e)
 before_ok x (Err fault) zs e = cc
 

@@ -11,13 +11,13 @@ use Rattle.mk_base.proofs.Lists.{below_get, some_same, all_at, all_in, in_either
 use Rattle.mk_plan.specs.declared.Plan.{Plan}
 use Rattle.mk_plan.specs.declared.PlanSim.{PlanSim}
 use Rattle.mk_plan.specs.Plans.{sim_count, IsValidPlan, is_event_based}
-use Rattle.mk_plan.specs.Due.{is_within, first_times}
+use Rattle.mk_plan.specs.Due.{is_in_run, first_times}
 use Rattle.mk_plan.specs.Journals.{empty_view}
 use Rattle.mk_plan.specs.Ready.{pending}
 use Rattle.mk_nextstep.specs.declared.queue.Due.{Due}
 use Rattle.mk_nextstep.specs.Queues.{time_of, added, least}
 use Rattle.mk_nextstep.specs.inner.Queues.{IsRising}
-use Rattle.mk_tiers.specs.Seen.{Seen, IsOf, start_in, is_busy_in}
+use Rattle.mk_tiers.specs.Seen.{Seen, AreOfPlan, start_in, is_busy_in}
 use Rattle.mk_order.proofs.Reasons.{pending_below}
 use Rattle.mk_order.proofs.Pends.{Pends, PendsFirst, first_none, first_added, first_skipped, pends_first, start_is}
 use Rattle.mk_order.proofs.Tables.{StartsOf}
@@ -81,13 +81,13 @@ module _ (P : Plan) where
       whole : (l : List Tier) → l ++ [] ≡ l
       whole [] = refl
       whole (x ∷ l) = ap (λ (k : List Tier). x ∷ k) (whole l)
-  fold_pends done (x ∷ xs) q h = subst (λ (l : List Tier). PendsFirst P time_of flag_of l (fold (with_own (limits_of P)) (with_own (limits_of P) q x) xs)) (again done) (fold_pends (done ++ x ∷ []) xs (with_own (limits_of P) q x) (go (is_within P x) refl))
+  fold_pends done (x ∷ xs) q h = subst (λ (l : List Tier). PendsFirst P time_of flag_of l (fold (with_own (limits_of P)) (with_own (limits_of P) q x) xs)) (again done) (fold_pends (done ++ x ∷ []) xs (with_own (limits_of P) q x) (go (is_in_run P x) refl))
     where
       again : (l : List Tier) → (l ++ x ∷ []) ++ xs ≡ l ++ (x ∷ xs)
       again [] = refl
       again (y ∷ l) = ap (λ (k : List Tier). y ∷ k) (again l)
 
-      go : (b : Bool) → is_within P x ≡ b → PendsFirst P time_of flag_of (done ++ x ∷ []) (with_own (limits_of P) q x)
+      go : (b : Bool) → is_in_run P x ≡ b → PendsFirst P time_of flag_of (done ++ x ∷ []) (with_own (limits_of P) q x)
       go true e = subst (PendsFirst P time_of flag_of (done ++ x ∷ [])) (sym (ap (λ (b : Bool). if b then added false x q else q) e)) (first_added P time_of flag_of done x q (added false x q) e (added_is false x q) h)
       go false e = subst (PendsFirst P time_of flag_of (done ++ x ∷ [])) (sym (ap (λ (b : Bool). if b then added false x q else q) e)) (first_skipped P time_of flag_of done x q e h)
 
@@ -135,7 +135,7 @@ lasts_more l m k grown h = record {
 
 module _ (P : Plan) (k : ℕ) (sim : PlanSim) (there : slice_get P.sims k ≡ Some sim) (low : k < length P.sims) where
   pub begun_more : (Q : List (List Due)) (O : List Bool) (B : Seen) → AreBegun P k Q O B → (R : List (List Due)) (U : List Bool) (C : Seen) → R ≡ Q ++ first_queue (limits_of P) sim ∷ [] → U ≡ O ++ false ∷ []
-      → C ≡ with_start B k (least (first_queue (limits_of P) sim)) false → IsOf P C → AreBegun P (k + 1) R U C
+      → C ≡ with_start B k (least (first_queue (limits_of P) sim)) false → AreOfPlan P C → AreBegun P (k + 1) R U C
   begun_more Q O B h R U C grown more is of =
       let q : List Due = first_queue (limits_of P) sim in
       let count : length Q ≡ k = ap length h.queues ∙ map_take_count (first_queue (limits_of P)) P.sims k (omega arith) in
@@ -157,7 +157,7 @@ module _ (P : Plan) (k : ℕ) (sim : PlanSim) (there : slice_get P.sims k ≡ So
       below : (i : ℕ) → (i ≡ k → ⊥) → i < k + 1 → i < k
       below i n under = elim (cases_lt i k) [ inl l ↦ l | inr g ↦ absurd (n (omega (arith, g, under))) ]
 
-pub begun_none : (P : Plan) (B : Seen) → IsOf P B → ((i : ℕ) → start_in B i ≡ None) → ((i : ℕ) → is_busy_in B i ≡ false) → AreBegun P 0 [] [] B
+pub begun_none : (P : Plan) (B : Seen) → AreOfPlan P B → ((i : ℕ) → start_in B i ≡ None) → ((i : ℕ) → is_busy_in B i ≡ false) → AreBegun P 0 [] [] B
 begun_none P B of none idle = record { plan = of; queues = refl; opens = refl; none_open = λ i. refl; none_busy = idle; starts = λ i low. absurd (omega (arith, low)); later = λ i _. none i }
 
 -- ---- all simulators

@@ -13,12 +13,12 @@ use Rattle.mk_plan.specs.declared.Entry.{Entry}
 use Rattle.mk_plan.specs.declared.Entry.TheVariants.{Got}
 use Rattle.mk_plan.specs.Plans.{owner, sim_count}
 use Rattle.mk_plan.specs.Acts.{Act, made, next_time}
-use Rattle.mk_plan.specs.Due.{is_within}
+use Rattle.mk_plan.specs.Due.{is_in_run}
 use Rattle.mk_plan.specs.Journals.{View, OpenTurn, loop_fault, view, note, note_right, ended_turn}
 use Rattle.mk_plan.specs.Ready.{last_step, pending}
 use Rattle.mk_nextstep.specs.declared.queue.Due.{Due}
 use Rattle.mk_nextstep.specs.Queues.{time_of, added, least}
-use Rattle.mk_tiers.specs.Seen.{Seen, IsOf, start_in, is_busy_in}
+use Rattle.mk_tiers.specs.Seen.{Seen, AreOfPlan, start_in, is_busy_in}
 use Rattle.mk_order.proofs.Reasons.{both_and, IsNextOf, pending_below}
 use Rattle.mk_order.proofs.Entries.{Brings, ended_last}
 use Rattle.mk_order.proofs.Pends.{Pends, PendsWith, IsTriggeredAt, IsPendingAt, with_none, with_next, with_no_next, pending_is}
@@ -43,7 +43,7 @@ next_comes : (P : Plan) (V : View) (s : ℕ) (f : Act) (cs : List Conn) → s < 
 next_comes P V s f cs low known None is L limits q h = with_no_next P time_of flag_of V s f cs s q (λ y _ k. not_next P s f (sym is) y k) h
 next_comes P V s f cs low known (Some t) is L limits q h = go (is_inside L (moment t)) refl
   where
-    within : is_inside L (moment t) ≡ is_within P (moment t)
+    within : is_inside L (moment t) ≡ is_in_run P (moment t)
     within = ap (λ (M : Limits). is_inside M (moment t)) limits
 
     go : (b : Bool) → is_inside L (moment t) ≡ b → PendsWith P time_of flag_of V s f true cs s (next_queue L q (Some t))
@@ -99,7 +99,7 @@ module _ (P : Plan) (J : List Entry) (s : SimNo) (T : OpenTurn) (m : Message) (x
 
     -- the turn closes behind what these connections brought
     pub come_closed : (cs : List Conn) (Q : List (List Due)) (O : List Bool) (B : Seen) → IsTidy Q O B → s.0 < length Q → HasCome P (view P J) s.0 (ended_turn T m) false cs Q B
-        → (R : List (List Due)) (C : Seen) → R ≡ slice_set Q s.0 (next_queue A.limits (queue_in Q s.0) n) → (own : Option Tier) → C ≡ with_start B s.0 own false → IsOf P C
+        → (R : List (List Due)) (C : Seen) → R ≡ slice_set Q s.0 (next_queue A.limits (queue_in Q s.0) n) → (own : Option Tier) → C ≡ with_start B s.0 own false → AreOfPlan P C
         → HasCome P (view P J) s.0 (ended_turn T m) true cs R C
     come_closed cs Q O B tidy there come R C are own is of = record {
       plan = of;

@@ -13,7 +13,7 @@ use Rattle.mk_plan.specs.Acts.{Act, made, output}
 use Rattle.mk_plan.specs.Journals.{View, Fault, LoopLimit, beyond}
 use Rattle.mk_nextstep.specs.declared.queue.Due.{Due}
 use Rattle.mk_nextstep.specs.Queues.{time_of, added}
-use Rattle.mk_tiers.specs.Seen.{Seen, IsOf, start_in, is_busy_in}
+use Rattle.mk_tiers.specs.Seen.{Seen, AreOfPlan, start_in, is_busy_in}
 use Rattle.mk_order.proofs.Reasons.{and_both, both_and}
 use Rattle.mk_order.proofs.Limits.{IsInLimit}
 use Rattle.mk_order.proofs.Entries.{Brings, brought_within}
@@ -125,7 +125,7 @@ module _ (P : Plan) (V : View) (s : ℕ) (f : Act) (closed : Bool) (cs : List Co
   }
 
   pub come_more : (x : Tier) (i : ℕ) → i ≡ owner P c.to → Brings P s f (owner P c.to) x c → (Q R : List (List Due)) (O : List Bool) (B C : Seen) → IsTidy Q O B → i < length Q → HasCome P V s f closed cs Q B
-      → R ≡ slice_set Q i (added true x (queue_in Q i)) → C ≡ with_trigger B O (queue_in Q i) i x → IsOf P C → HasCome P V s f closed (cs ++ c ∷ []) R C
+      → R ≡ slice_set Q i (added true x (queue_in Q i)) → C ≡ with_trigger B O (queue_in Q i) i x → AreOfPlan P C → HasCome P V s f closed (cs ++ c ∷ []) R C
   come_more x i to b Q R O B C tidy low h grown is of = record {
     plan = of;
     count = ap length grown ∙ length_set Q i (added true x (queue_in Q i)) ∙ h.count;

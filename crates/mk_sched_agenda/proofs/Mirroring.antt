@@ -26,7 +26,7 @@ use Rattle.mk_plan.specs.Advance.{IsAdvance}
 use Rattle.mk_plan.specs.Orderly.{IsFirstReady, IsOrderlySoFar}
 use Rattle.mk_nextstep.specs.declared.queue.Due.{Due}
 use Rattle.mk_nextstep.specs.Queues.{time_of, least, later, least_trigger_after}
-use Rattle.mk_tiers.specs.Seen.{Seen, IsOf, start_in, is_busy_in, IsEarliestIn, IsFirstReadyIn, IsOuterIn}
+use Rattle.mk_tiers.specs.Seen.{Seen, AreOfPlan, start_in, is_busy_in, IsEarliestIn, IsFirstReadyIn, IsOuterIn}
 use Rattle.mk_order.proofs.EntityNames.{owner_is_below}
 use Rattle.mk_order.proofs.Pends.{Pends, start_is, closed_start, pends_step, pends_step_apart, pends_told, pends_went}
 use Rattle.mk_order.proofs.Tables.{StartsOf, starts_stepped, starts_told, starts_went, earliest_by, unreached_by, sooner, advance_by, advance_by_queue}
@@ -180,7 +180,7 @@ module _ (P : Plan) (V : View) (A : AgendaState) (O : List Bool) (mirrors : Mirr
   is_least : least (queue_in A.queues s) ≡ Some x
   is_least = sym (start_is P time_of flag_of V s (queue_in A.queues s) ready.closed mine (least (queue_in A.queues s)) (least_is_least (queue_in A.queues s) (tidy.rising s))) ∙ closed_start P V s ready.closed ∙ ready.at_pending
 
-  pub step_mirrors : (R : List (List Due)) (B : Seen) (lasts : List (Option Tier)) → s < length A.lasts → lasts ≡ slice_set A.lasts s (least (queue_in A.queues s)) → R ≡ slice_set A.queues s (later (queue_in A.queues s)) → B ≡ with_start A.bounds s (least (queue_in A.queues s)) true → IsOf P B
+  pub step_mirrors : (R : List (List Due)) (B : Seen) (lasts : List (Option Tier)) → s < length A.lasts → lasts ≡ slice_set A.lasts s (least (queue_in A.queues s)) → R ≡ slice_set A.queues s (later (queue_in A.queues s)) → B ≡ with_start A.bounds s (least (queue_in A.queues s)) true → AreOfPlan P B
       → Mirrors P (note_sent P V s (Step x ins advance)) (let E : AgendaState = record { limits = A.limits; outlets = A.outlets; queues = R; lasts = lasts; bounds = B } in E)
   step_mirrors R B lasts kept moved are is of = record {
     plan = record { limits = mirrors.plan.limits; count = ap length are ∙ length_set A.queues s (later (queue_in A.queues s)) ∙ mirrors.plan.count; outlets = mirrors.plan.outlets; bounds = of };

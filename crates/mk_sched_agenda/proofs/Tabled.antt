@@ -8,11 +8,11 @@ use Rattle.mk_plan.specs.Journals.{View}
 use Rattle.mk_plan.specs.Ready.{start, IsReady}
 use Rattle.mk_plan.specs.Advance.{IsAdvance}
 use Rattle.mk_plan.specs.Orderly.{IsFirstReady}
-use Rattle.mk_tiers.specs.Seen.{Seen, IsOf, start_in, is_busy_in, IsReadyIn, IsFirstReadyIn, IsOuterIn, IsEarliestIn}
+use Rattle.mk_tiers.specs.Seen.{Seen, AreOfPlan, start_in, is_busy_in, IsReadyIn, IsFirstReadyIn, IsOuterIn, IsEarliestIn}
 use Rattle.mk_order.proofs.Tables.{StartsOf, ready_by, ready_why, nobody_by, same_starts, earliest_by, IsOuterTime}
 use Rattle.mk_order.proofs.LaterQuestions.{IsMarkOf, earliest_is_mark}
 
-module _ (P : Plan) (V : View) (B : Seen) (of_plan : IsOf P B) (mirror : StartsOf P V (start_in B) (is_busy_in B)) where
+module _ (P : Plan) (V : View) (B : Seen) (of_plan : AreOfPlan P B) (mirror : StartsOf P V (start_in B) (is_busy_in B)) where
   pub ready_is : (s : ℕ) (r : IsReadyIn P B s) → IsReady P V s r.at
   ready_is s r = ready_by P V (start_in B) (is_busy_in B) mirror s r.at r.idle r.start r.clear
 

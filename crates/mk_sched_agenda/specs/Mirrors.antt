@@ -7,7 +7,7 @@ use Rattle.mk_plan.specs.Journals.{View}
 use Rattle.mk_plan.specs.Ready.{last_step}
 use Rattle.mk_nextstep.specs.declared.queue.Due.{Due}
 use Rattle.mk_nextstep.specs.Queues.{time_of}
-use Rattle.mk_tiers.specs.Seen.{Seen, IsOf, start_in, is_busy_in}
+use Rattle.mk_tiers.specs.Seen.{Seen, AreOfPlan, start_in, is_busy_in}
 use Rattle.mk_order.proofs.Pends.{Pends}
 use Rattle.mk_order.proofs.Tables.{StartsOf}
 use Rattle.mk_sched_agenda.specs.declared.limits.Limits.{Limits}
@@ -34,7 +34,7 @@ pub record IsOfPlan (P : Plan) (A : AgendaState) : Type 0 where
   pub count : length A.queues ≡ sim_count P
   pub outlets : (i : ℕ) → i < sim_count P
       → AreOutletsOf P (triggering_from P i) (outlets_in A.outlets i)
-  pub bounds : IsOf P A.bounds
+  pub bounds : AreOfPlan P A.bounds
 
 -- the steps to come of each simulator are those that are due and that it has not been asked for,
 -- marked where something that came triggers them;

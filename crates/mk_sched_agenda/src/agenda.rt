@@ -14,7 +14,7 @@ ghost use Rattle.mk_plan.specs.Ready.{IsReady, last_step, start};
 ghost use Rattle.mk_plan.specs.Advance.{IsAdvance};
 ghost use Rattle.mk_plan.specs.Orderly.{IsOrderlySoFar, IsFirstReady};
 ghost use Rattle.mk_tiers.specs.Noted.{HasNoted};
-ghost use Rattle.mk_tiers.specs.Seen.{IsOf, IsEarliestIn};
+ghost use Rattle.mk_tiers.specs.Seen.{AreOfPlan, IsEarliestIn};
 ghost use Rattle.mk_sched_agenda.specs.Outlets.{outlets_in};
 ghost use Rattle.mk_sched_agenda.specs.Mirrors.{AgendaState, Mirrors};
 ghost use Rattle.mk_sched_agenda.specs.Endings.{CanBeMade, IsLast, EndOf};
@@ -143,7 +143,7 @@ impl Agenda {
         ensures earliest { (P : Plan) → (V : View) → IsValidPlan P → Mirrors P V self.now
             → MatchOption result ((y : Tier) → Reach P (start P V) nobody sim.0 y
             → ⊥) (λ e. IsEarliest P (start P V) sim.0 e) }
-        ensures bounds { (P : Plan) → IsValidPlan P → IsOf P self.now.bounds
+        ensures bounds { (P : Plan) → IsValidPlan P → AreOfPlan P self.now.bounds
             → IsEarliestIn P self.now.bounds sim.0 result }
     {
         self.dues.bounds.earliest(sim)

@@ -4,7 +4,7 @@ ghost use Rattle.mk_plan.specs.declared.Plan.{Plan};
 ghost use Rattle.mk_plan.specs.Plans.{IsValidPlan, is_event_based};
 ghost use Rattle.mk_base.specs.Tiers.{moment};
 ghost use Rattle.mk_nextstep.specs.Queues.{least};
-ghost use Rattle.mk_tiers.specs.Seen.{IsOf};
+ghost use Rattle.mk_tiers.specs.Seen.{AreOfPlan};
 ghost use Rattle.mk_sched_agenda.specs.Dues.{limits_of};
 ghost use Rattle.mk_sched_agenda.specs.inner.Dues.{first_queue, with_own, with_start};
 ghost use Rattle.mk_sched_agenda.specs.inner.Begun.{AreBegun, AreNone};
@@ -56,7 +56,7 @@ fn begin(
     ensures opened { OnOk result (dues.new.opened.items ≡ dues.old.opened.items ++ false ∷ []) }
     ensures bounds { OnOk result (dues.new.bounds
         ≡ with_start dues.old.bounds number.0 (least (first_queue limits.now sim.now)) false) }
-    ensures plan { (P : Plan) → IsOf P dues.old.bounds → IsOf P dues.new.bounds }
+    ensures plan { (P : Plan) → AreOfPlan P dues.old.bounds → AreOfPlan P dues.new.bounds }
 {
     let queue = first_queue(alloc, limits, sim)?;
     let first = queue.least();

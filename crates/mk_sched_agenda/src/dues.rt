@@ -5,7 +5,7 @@ ghost use Rattle.std.specs.List.{list_any};
 ghost use Rattle.mk_plan.specs.declared.Plan.{Plan};
 ghost use Rattle.mk_nextstep.specs.Queues.{added, later, least};
 ghost use Rattle.mk_tiers.specs.Noted.{HasNoted};
-ghost use Rattle.mk_tiers.specs.Seen.{IsOf};
+ghost use Rattle.mk_tiers.specs.Seen.{AreOfPlan};
 ghost use Rattle.mk_tiers.specs.Standing.{IsOwn};
 ghost use Rattle.mk_sched_agenda.specs.Dues.{queue_in, last_in};
 ghost use Rattle.mk_sched_agenda.specs.inner.Dues.{IsTidy, is_open, with_own, with_next, with_start, is_first, with_trigger};
@@ -64,7 +64,7 @@ impl Dues {
             ≡ slice_set self.old.lasts.items sim.0 (least (queue_in self.old.queues.items sim.0)) }
         ensures bounds { self.new.bounds
             ≡ with_start self.old.bounds sim.0 (least (queue_in self.old.queues.items sim.0)) true }
-        ensures plan { (P : Plan) → IsOf P self.old.bounds → IsOf P self.new.bounds }
+        ensures plan { (P : Plan) → AreOfPlan P self.old.bounds → AreOfPlan P self.new.bounds }
         ensures noted { HasNoted self.old.bounds self.new.bounds noted.old noted.new }
     {
         let at = self.queues[sim.0 as usize].take();
@@ -95,7 +95,7 @@ impl Dues {
         ensures bounds { OnOk result (self.new.bounds
             ≡ with_start self.old.bounds sim.0
             (least (queue_in self.new.queues.items sim.0)) false) }
-        ensures plan { (P : Plan) → IsOf P self.old.bounds → IsOf P self.new.bounds }
+        ensures plan { (P : Plan) → AreOfPlan P self.old.bounds → AreOfPlan P self.new.bounds }
         ensures noted { OnOk result
             (HasNoted self.old.bounds self.new.bounds noted.old noted.new) }
     {
@@ -121,7 +121,7 @@ impl Dues {
         ensures bounds { OnOk result (self.new.bounds
             ≡ with_trigger self.old.bounds self.old.opened.items
             (queue_in self.old.queues.items to.0) to.0 at) }
-        ensures plan { (P : Plan) → IsOf P self.old.bounds → IsOf P self.new.bounds }
+        ensures plan { (P : Plan) → AreOfPlan P self.old.bounds → AreOfPlan P self.new.bounds }
         ensures opened { self.new.opened.items ≡ self.old.opened.items }
         ensures noted { OnOk result
             (HasNoted self.old.bounds self.new.bounds noted.old noted.new) }
@@ -144,7 +144,7 @@ impl Dues {
         ensures bounds { self.new.bounds
             ≡ (if is_first && not (is_open self.old.opened.items to.0)
             then with_start self.old.bounds to.0 (Some at) false else self.old.bounds) }
-        ensures plan { (P : Plan) → IsOf P self.old.bounds → IsOf P self.new.bounds }
+        ensures plan { (P : Plan) → AreOfPlan P self.old.bounds → AreOfPlan P self.new.bounds }
         ensures noted { HasNoted self.old.bounds self.new.bounds noted.old noted.new }
     {
         if is_first && !self.opened[to.0 as usize] {

@@ -24,7 +24,7 @@ use Rattle.mk_plan.specs.Turns.{next_place, wanted}
 use Rattle.mk_plan.specs.Sequential.{ids_used, items, told, messages_in, opening, response}
 use Rattle.mk_plan.specs.Journals.{OpenTurn, ended_turn, bare, place_at}
 use Rattle.mk_sched_open.specs.declared.sims.Sim.{Sim}
-use Rattle.mk_sched_open.specs.Turns.{IsInRun, IsPlaceInRun, IsOpenAt, IsStepping, IsFetching, ids_in, next_in}
+use Rattle.mk_sched_open.specs.Turns.{IsInRun, IsPlaceInRun, IsOpenBy, IsStepping, IsFetching, ids_in, next_in}
 use Rattle.mk_sched_open.specs.Sims.{IsSimOf, IsTurn, free_id}
 use Rattle.mk_sched_open.specs.inner.Changes.{begun_sim, gone_on, open_id, ended_sim}
 
@@ -38,7 +38,7 @@ pub turn_run : (free n : ℕ) (s : Sim) (o : Option OpenTurn) → n ≤ 20000000
 turn_run free n s None most turn = subst IsPlaceInRun (sym turn.place) tt
 turn_run free n s (Some T) most turn = at s.place turn.open_at
   where
-    at : (p : Place) → IsOpenAt free n s.next p T → IsPlaceInRun p
+    at : (p : Place) → IsOpenBy free n s.next p T → IsPlaceInRun p
     at Idle h = tt
     at (Stepping x id asks) h = (h.run, let few : id + 1 ≤ 1000000 + n = h.few in omega (arith, most))
     at (Fetching x id) h = (h.run, let few : id + 1 ≤ 1000000 + n = h.few in omega (arith, most))
@@ -49,7 +49,7 @@ pub turn_more : (free n m : ℕ) (s : Sim) (o : Option OpenTurn) → n ≤ m →
 turn_more free n m s None le t = record { place = t.place; id = t.id; few = let few : s.next_id ≤ 1000000 + n = t.few in omega arith }
 turn_more free n m s (Some T) le t = record { place = t.place; open_at = at s.place t.open_at }
   where
-    at : (p : Place) → IsOpenAt free n s.next p T → IsOpenAt free m s.next p T
+    at : (p : Place) → IsOpenBy free n s.next p T → IsOpenBy free m s.next p T
     at Idle h = h
     at (Stepping x id asks) h = record { time = h.time; run = h.run; contents = h.contents; ids = h.ids; number = h.number; few = let few : id + 1 ≤ 1000000 + n = h.few in omega arith }
     at (Fetching x id) h = record { time = h.time; run = h.run; content = h.content; contents = h.contents; asked = h.asked; ids = h.ids; number = h.number; few = let few : id + 1 ≤ 1000000 + n = h.few in omega arith }
@@ -137,13 +137,13 @@ module _ (P : Plan) (S : Supply) (i free n : ℕ) (T : OpenTurn) (y : Tier) (nex
     few = let few : id + 1 ≤ 1000000 + n = h.few in omega arith;
   }
 
-  open_on : (p : Place) (m : Message) (q : Place) → IsOpenAt free n next p T → next_place P i p m ≡ Some q → IsOpenAt free (n + 2) (next_in m) q (went T m q (response P S i y p m))
+  open_on : (p : Place) (m : Message) (q : Place) → IsOpenBy free n next p T → next_place P i p m ≡ Some q → IsOpenBy free (n + 2) (next_in m) q (went T m q (response P S i y p m))
   open_on Idle m q h goes = absurd h
-  open_on (Stepping x id asks) (Ask k name args named) q h goes = subst (λ (r : Place). IsOpenAt free (n + 2) None r (went T (Ask k name args named) r (item_of k (answer P (value_at S y) i name args named)))) (some_same goes) (asked_on x id asks k name args named h)
+  open_on (Stepping x id asks) (Ask k name args named) q h goes = subst (λ (r : Place). IsOpenBy free (n + 2) None r (went T (Ask k name args named) r (item_of k (answer P (value_at S y) i name args named)))) (some_same goes) (asked_on x id asks k name args named h)
   open_on (Stepping x id asks) (Success k content) q h goes = at (has_outputs P i) goes
     where
-      at : (b : Bool) → (if b then Some (Fetching x (id + 1)) else None) ≡ Some q → IsOpenAt free (n + 2) (whole_in content) q (went T (Success k content) q (GetData (wanted P i)))
-      at true e = subst (λ (r : Place). IsOpenAt free (n + 2) (whole_in content) r (went T (Success k content) r (GetData (wanted P i)))) (some_same e) (replied_on x id k content h)
+      at : (b : Bool) → (if b then Some (Fetching x (id + 1)) else None) ≡ Some q → IsOpenBy free (n + 2) (whole_in content) q (went T (Success k content) q (GetData (wanted P i)))
+      at true e = subst (λ (r : Place). IsOpenBy free (n + 2) (whole_in content) r (went T (Success k content) r (GetData (wanted P i)))) (some_same e) (replied_on x id k content h)
       at false e = absurd (none_some e)
   open_on (Stepping x id asks) (Failure k text) q h goes = absurd (none_some goes)
   open_on (Fetching x id) m q h goes = absurd (none_some goes)
@@ -153,7 +153,7 @@ pub sim_on : (P : Plan) (S : Supply) (acts : List Act) (n i : ℕ) (s : Sim) (T 
 sim_on P S acts n i s T m q h goes = record {
   turn = record {
     place = refl;
-    open_at = open_on P S i (free_id P i acts) n T T.at s.next T.place m q (subst (λ (p : Place). IsOpenAt (free_id P i acts) n s.next p T) (sym h.turn.place) h.turn.open_at) goes;
+    open_at = open_on P S i (free_id P i acts) n T T.at s.next T.place m q (subst (λ (p : Place). IsOpenBy (free_id P i acts) n s.next p T) (sym h.turn.place) h.turn.open_at) goes;
   };
   heard = ap (λ (k : ℕ). k + 1) h.heard ∙ one_longer (messages_in acts) T.messages m;
   few = let few : s.heard ≤ n = h.few in omega arith;
@@ -162,7 +162,7 @@ sim_on P S acts n i s T m q h goes = record {
 -- ---- a turn ends
 
 -- how many ids were used in it
-ids_at : (free n : ℕ) (next : Option ℤ) (p : Place) (other : ℕ) (T : OpenTurn) → IsOpenAt free n next p T → (free + ids_in T ≡ open_id p other + 1) × (open_id p other + 1 ≤ 1000000 + n)
+ids_at : (free n : ℕ) (next : Option ℤ) (p : Place) (other : ℕ) (T : OpenTurn) → IsOpenBy free n next p T → (free + ids_in T ≡ open_id p other + 1) × (open_id p other + 1 ≤ 1000000 + n)
 ids_at free n next Idle other T h = absurd h
 ids_at free n next (Stepping x id asks) other T h = (let a : ids_in T ≡ 1 = h.ids in let b : id ≡ free = h.number in omega arith, h.few)
 ids_at free n next (Fetching x id) other T h = (let a : ids_in T ≡ 2 = h.ids in let b : id ≡ free + 1 = h.number in omega arith, h.few)
@@ -193,10 +193,10 @@ sim_ended P acts n i s T m h =
 -- what is known of it, by its place
 module _ (free n : ℕ) (s : Sim) (T : OpenTurn) (x : Tier) (id : ℕ) where
   pub is_stepping : (asks : ℕ) → IsTurn free n s (Some T) → T.place ≡ Stepping x id asks → IsStepping free n x id T
-  is_stepping asks h at = subst (λ (p : Place). IsOpenAt free n s.next p T) (sym h.place ∙ at) h.open_at
+  is_stepping asks h at = subst (λ (p : Place). IsOpenBy free n s.next p T) (sym h.place ∙ at) h.open_at
 
   pub is_fetching : IsTurn free n s (Some T) → T.place ≡ Fetching x id → IsFetching free n x id s.next T
-  is_fetching h at = subst (λ (p : Place). IsOpenAt free n s.next p T) (sym h.place ∙ at) h.open_at
+  is_fetching h at = subst (λ (p : Place). IsOpenBy free n s.next p T) (sym h.place ∙ at) h.open_at
 
   -- the next time of a turn whose GetData is open
   pub fetching_next : (m : Message) → IsTurn free n s (Some T) → T.place ≡ Fetching x id → s.next ≡ next_time (ended_turn T m)

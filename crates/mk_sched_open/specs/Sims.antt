@@ -7,7 +7,7 @@ use Rattle.mk_plan.specs.Acts.{Act}
 use Rattle.mk_plan.specs.Sequential.{ids_used, messages_in}
 use Rattle.mk_plan.specs.Journals.{View, OpenTurn, messages_of}
 use Rattle.mk_sched_open.specs.declared.sims.Sim.{Sim}
-use Rattle.mk_sched_open.specs.Turns.{IsOpenAt}
+use Rattle.mk_sched_open.specs.Turns.{IsOpenBy}
 
 -- nothing is open, and the next id is the first that is free, in a journal of n entries
 pub record IsClosed (free n : ℕ) (s : Sim) : Type 0 where
@@ -18,7 +18,7 @@ pub record IsClosed (free n : ℕ) (s : Sim) : Type 0 where
 -- this turn is open
 pub record IsOpened (free n : ℕ) (s : Sim) (T : OpenTurn) : Type 0 where
   pub place : T.place ≡ s.place
-  pub open_at : IsOpenAt free n s.next s.place T
+  pub open_at : IsOpenBy free n s.next s.place T
 
 -- what is open, or nothing
 abbrev pub IsTurn : ℕ → ℕ → Sim → Option OpenTurn → Type 0

@@ -62,7 +62,7 @@ pub record IsFetching (free n : ℕ) (at : Tier) (id : ℕ) (next : Option ℤ)
   pub few : id + 1 ≤ 1000000 + n
 
 -- what is open, by its place
-abbrev pub IsOpenAt : ℕ → ℕ → Option ℤ → Place → OpenTurn → Type 0
-IsOpenAt free n next Idle T = ⊥
-IsOpenAt free n next (Stepping at id asks) T = IsStepping free n at id T
-IsOpenAt free n next (Fetching at id) T = IsFetching free n at id next T
+abbrev pub IsOpenBy : ℕ → ℕ → Option ℤ → Place → OpenTurn → Type 0
+IsOpenBy free n next Idle T = ⊥
+IsOpenBy free n next (Stepping at id asks) T = IsStepping free n at id T
+IsOpenBy free n next (Fetching at id) T = IsFetching free n at id next T

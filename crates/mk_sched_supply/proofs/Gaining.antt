@@ -18,7 +18,7 @@ use Rattle.mk_order.proofs.Reasons.{and_both, both_and}
 use Rattle.mk_order.proofs.GivenValues.{text_is}
 use Rattle.mk_buffers.specs.declared.buffers.Buffers.{Buffers}
 use Rattle.mk_buffers.specs.Held.{with_output}
-use Rattle.mk_buffers.specs.Standing.{Stands}
+use Rattle.mk_buffers.specs.Standing.{StandFor}
 use Rattle.mk_buffers.proofs.Collecting.{same_entity}
 use Rattle.mk_sched_supply.specs.inner.Making.{HasGiven}
 use Rattle.mk_sched_supply.proofs.Bringing.{brought, brought_more, made_of}
@@ -27,7 +27,7 @@ use Rattle.mk_sched_supply.proofs.Wanting.{is_want, text_itself}
 -- the buffers stand for the supply S with what the data bring for the first k wants of s
 pub record HasGained (P : Plan) (s : ℕ) (x : Tier) (content : Json) (k : ℕ) (S : Supply) (b : Buffers) : Type 0 where
   pub now : Supply
-  pub stands : Stands P b now
+  pub stands : StandFor P b now
   pub outputs : (e : ℕ) (attr : List ℕ) → gives_attr P e attr ≡ true → now.outputs e attr ≡ S.outputs e attr ++ brought P s x content (take k (wanted P s)) e attr
   pub gifts : (e : ℕ) → now.gifts e ≡ S.gifts e
 
@@ -52,7 +52,7 @@ owned_below P e s low own = elim (slice_get P.entities e) as (λ o. slice_get P.
 
 module _ (P : Plan) (s : ℕ) (low : s < sim_count P) (x : Tier) (content : Json) (S : Supply) (k : ℕ) (w : Want) (at : slice_get (wanted P s) k ≡ Some w) where
   -- the entity of the want is the one that is wanted
-  same_test : (b : Buffers) (T : Supply) → Stands P b T → (d : ℕ) → owner P d ≡ s → eid_of P d ≡ w.eid → (e : ℕ) (attr : List ℕ) → gives_attr P e attr ≡ true
+  same_test : (b : Buffers) (T : Supply) → StandFor P b T → (d : ℕ) → owner P d ≡ s → eid_of P d ≡ w.eid → (e : ℕ) (attr : List ℕ) → gives_attr P e attr ≡ true
       → ((e == d) && same_text attr w.attr) ≡ ((owner P e == s) && is_want (record { eid = eid_of P e; attr = attr }) w)
   same_test b T st d owned named e attr given = same_bool _ _ there back
     where
@@ -104,7 +104,7 @@ module _ (P : Plan) (s : ℕ) (low : s < sim_count P) (x : Tier) (content : Json
       more e attr gives false = h.outputs e attr gives ∙ ap (λ (l : List Timed). S.outputs e attr ++ l) (sym (append_nil (brought P s x content (take k (wanted P s)) e attr)))
 
 -- before any want
-pub gained_none : (P : Plan) (s : ℕ) (x : Tier) (content : Json) (S : Supply) (b : Buffers) → Stands P b S → HasGained P s x content 0 S b
+pub gained_none : (P : Plan) (s : ℕ) (x : Tier) (content : Json) (S : Supply) (b : Buffers) → StandFor P b S → HasGained P s x content 0 S b
 gained_none P s x content S b st = record { now = S; stands = st; outputs = λ e attr gives. sym (ap (λ (l : List Timed). S.outputs e attr ++ l) (nothing (owner P e == s)) ∙ append_nil (S.outputs e attr)); gifts = λ e. refl }
   where
     nothing : (b : Bool) → (if b then [] else []) ≡ (let l : List Timed = [] in l)

@@ -15,7 +15,7 @@ use Rattle.mk_plan.specs.Acts.{Act, output, outputs_in}
 use Rattle.mk_plan_judge.proofs.Right.{right_value_is_datum}
 use Rattle.mk_sched_supply.specs.declared.feeds.Feed.{Feed}
 use Rattle.mk_sched_supply.specs.declared.outputs.Outputs.{Outputs}
-use Rattle.mk_sched_supply.specs.Outputs.{AreData, AreOutputsIn, triggering_from, values_in}
+use Rattle.mk_sched_supply.specs.Outputs.{AreData, AreOutputsIn, triggering_from, found_values}
 use Rattle.mk_sched_supply.specs.Stock.{IsFeedOf, taken}
 use Rattle.mk_sched_supply.specs.inner.Making.{are_given, is_given}
 use Rattle.mk_sched_supply.proofs.Ranging.{value_in_range}
@@ -46,10 +46,10 @@ module _ (P : Plan) (s : ℕ) (content : Json) where
       texts None = refl
       texts (Some v) = refl
 
-  pub outputs_are : (feed : Feed) (outs : Outputs) → IsFeedOf P s feed → values_in outs ≡ map (value_for content) feed.wants → outs.given.items ≡ are_given (values_in outs) feed.triggers.items → AreOutputsIn P s content outs
+  pub outputs_are : (feed : Feed) (outs : Outputs) → IsFeedOf P s feed → found_values outs ≡ map (value_for content) feed.wants → outs.given.items ≡ are_given (found_values outs) feed.triggers.items → AreOutputsIn P s content outs
   outputs_are feed outs of values given = record { values = all; given = flags }
     where
-      all : values_in outs ≡ map (value_for content) (wanted P s)
+      all : found_values outs ≡ map (value_for content) (wanted P s)
       all = values ∙ ap (map (value_for content)) of.wants
 
       flags : (f : Act) → outputs_in f ≡ Some content → outs.given.items ≡ map (λ c. is_some (output P f c.from c.from_attr)) (triggering_from P s)
@@ -65,10 +65,10 @@ data_are P s at content values range right is v m =
     (right_value_is_datum (wanted P s) at content t.0 v right t.1 (sym t.2), value_in_range content v t.0.eid t.0.attr range (sym t.2))
 
 -- both, where the values were found
-pub outputs_found : {E : Type 0} (P : Plan) (s : ℕ) (content : Json) (feed : Feed) (r : Result Outputs E) → IsFeedOf P s feed → IfOk r (λ outs. values_in outs ≡ map (value_for content) feed.wants) → IfOk r (λ outs. outs.given.items ≡ are_given (values_in outs) feed.triggers.items) → IfOk r (λ outs. AreOutputsIn P s content outs)
+pub outputs_found : {E : Type 0} (P : Plan) (s : ℕ) (content : Json) (feed : Feed) (r : Result Outputs E) → IsFeedOf P s feed → IfOk r (λ outs. found_values outs ≡ map (value_for content) feed.wants) → IfOk r (λ outs. outs.given.items ≡ are_given (found_values outs) feed.triggers.items) → IfOk r (λ outs. AreOutputsIn P s content outs)
 outputs_found P s content feed (Ok outs) of values given = outputs_are P s content feed outs of values given
 outputs_found P s content feed (Err e) of values given = tt
 
-pub data_found : {E : Type 0} (P : Plan) (s : ℕ) (at : Tier) (content : Json) (feed : Feed) (r : Result Outputs E) → IsFeedOf P s feed → is_in_range content ≡ true → wrong_data (wanted P s) at content ≡ None → IfOk r (λ outs. values_in outs ≡ map (value_for content) feed.wants) → IfOk r (λ outs. AreData (values_in outs))
-data_found P s at content feed (Ok outs) of range right values = data_are P s at content (values_in outs) range right (values ∙ ap (map (value_for content)) of.wants)
+pub data_found : {E : Type 0} (P : Plan) (s : ℕ) (at : Tier) (content : Json) (feed : Feed) (r : Result Outputs E) → IsFeedOf P s feed → is_in_range content ≡ true → wrong_data (wanted P s) at content ≡ None → IfOk r (λ outs. found_values outs ≡ map (value_for content) feed.wants) → IfOk r (λ outs. AreData (found_values outs))
+data_found P s at content feed (Ok outs) of range right values = data_are P s at content (found_values outs) range right (values ∙ ap (map (value_for content)) of.wants)
 data_found P s at content feed (Err e) of range right values = tt

@@ -18,9 +18,9 @@ use Rattle.mk_order.proofs.EntityNames.{owner_is_below}
 use Rattle.mk_buffers.specs.declared.buffers.Buffers.{Buffers}
 use Rattle.mk_buffers.specs.Bounds.{same_source, sources, comes_late, is_late, late_of, most_kept}
 use Rattle.mk_buffers.specs.Marking.{asks_of}
-use Rattle.mk_buffers.specs.Standing.{Stands, least_mark, mark_of}
+use Rattle.mk_buffers.specs.Standing.{StandFor, least_mark, mark_of}
 use Rattle.mk_buffers.proofs.Ascending.{and_both, and_is}
-use Rattle.mk_buffers.proofs.Settling.{implied}
+use Rattle.mk_buffers.proofs.Keeping.{implied}
 use Rattle.mk_buffers.proofs.Standing.{same_from}
 use Rattle.mk_sched_supply.specs.declared.stock.Stock.{Stock}
 use Rattle.mk_sched_supply.specs.Stock.{IsStockOf}
@@ -97,7 +97,7 @@ most_falls P S low high less =
 
 -- ---- the least mark of those that ask
 
-module _ (P : Plan) (b : Buffers) (S : Supply) (st : Stands P b S) (m : Tier) (after : (s : ℕ) → s < sim_count P → IsUpTo m (mark_of b s)) where
+module _ (P : Plan) (b : Buffers) (S : Supply) (st : StandFor P b S) (m : Tier) (after : (s : ℕ) → s < sim_count P → IsUpTo m (mark_of b s)) where
   -- a time that every mark is after or at is up to the least one, where there is a connection, whose target asks
   pub least_after : (c : Conn) → IsIn c P.conns → IsUpTo m (least_mark b)
   least_after c here =

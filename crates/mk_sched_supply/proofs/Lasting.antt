@@ -37,7 +37,7 @@ use Rattle.mk_order.proofs.Supplies.{SameSupply, inputs_by}
 use Rattle.mk_sched_open.specs.Turns.{IsRight}
 use Rattle.mk_buffers.specs.Standing.{mark_of}
 use Rattle.mk_sched_supply.specs.declared.stock.Stock.{Stock}
-use Rattle.mk_sched_supply.specs.Stock.{IsStockOf, MayCome}
+use Rattle.mk_sched_supply.specs.Stock.{IsStockOf, MayComeNext}
 use Rattle.mk_sched_supply.proofs.Keeping.{mark_after, mark_going, mark_right}
 use Rattle.mk_sched_supply.proofs.Supplying.{ended_supplies, step_supplies, supply_through, told_supplies, went_supplies}
 
@@ -59,7 +59,7 @@ closed_for : (P : Plan) (V : View) (s : SimNo) (x : Tier) (ins : List Input) (ad
 closed_for P V s x ins advance sound None e next = next.0.0.closed
 closed_for P V s x ins advance sound (Some o) e next = absurd (true≢false (ap is_step_entry next ∙ sound.later o e))
 
-pub stays_step : (P : Plan) (J : List Entry) (k : Stock) (s : SimNo) (x : Tier) (ins : List Input) (advance : ℤ) → MayCome P J (Sent s (Step x ins advance)) → IsStockOf P (view P J) k → IsStockOf P (note_sent P (view P J) s.0 (Step x ins advance)) k
+pub stays_step : (P : Plan) (J : List Entry) (k : Stock) (s : SimNo) (x : Tier) (ins : List Input) (advance : ℤ) → MayComeNext P J (Sent s (Step x ins advance)) → IsStockOf P (view P J) k → IsStockOf P (note_sent P (view P J) s.0 (Step x ins advance)) k
 stays_step P J k s x ins advance may h =
     let sound = reached_sound IsReady IsAdvance P (λ V s x r. r) J may.orderly in
     same_stock P (view P J) (note_sent P (view P J) s.0 (Step x ins advance)) k h (step_supplies P (view P J) s.0 x ins advance (closed_for P (view P J) s x ins advance sound (view P J).owed refl may.allowed.1))
@@ -67,7 +67,7 @@ stays_step P J k s x ins advance may h =
 
 -- ---- a reply after which the turn goes on, and what is owed
 
-pub stays_fetching : (P : Plan) (J : List Entry) (k : Stock) (s : SimNo) (m : Message) (T : OpenTurn) (q : Place) (item : Item) → MayCome P J (Got s m) → IsRight P (view P J) s.0 m T (Some q) → is_ask m ≡ false → is_step item ≡ false
+pub stays_fetching : (P : Plan) (J : List Entry) (k : Stock) (s : SimNo) (m : Message) (T : OpenTurn) (q : Place) (item : Item) → MayComeNext P J (Got s m) → IsRight P (view P J) s.0 m T (Some q) → is_ask m ≡ false → is_step item ≡ false
     → item ≡ response P (supply P (view P J).acts) s.0 T.at T.place m → IsStockOf P (view P J) k → IsStockOf P (note_sent P (note_right P (view P J) s.0 m T (Some q)) s.0 item) k
 stays_fetching P J k s m T q item may right quiet late is h =
     let V : View = view P J in
@@ -97,7 +97,7 @@ no_outputs P A s f none e attr = go (owner P e == s) refl
     go true q = sym (append_nil ((supply P A).outputs e attr)) ∙ ap (λ (l : List Timed). (supply P A).outputs e attr ++ l) (sym (output_missing P s f e attr missing)) ∙ sym (outputs_after P s f A e attr (eqb-true (owner P e) s q))
     go false q = sym (outputs_apart P s f A e attr (λ own. true≢false (sym (eq-eqb (owner P e) s own) ∙ q)))
 
-pub stays_ended : (P : Plan) (J : List Entry) (k : Stock) (s : SimNo) (m : Message) (T : OpenTurn) → MayCome P J (Got s m) → IsRight P (view P J) s.0 m T None → outputs_in (ended_turn T m) ≡ None
+pub stays_ended : (P : Plan) (J : List Entry) (k : Stock) (s : SimNo) (m : Message) (T : OpenTurn) → MayComeNext P J (Got s m) → IsRight P (view P J) s.0 m T None → outputs_in (ended_turn T m) ≡ None
     → IsStockOf P (view P J) k → IsStockOf P (note_right P (view P J) s.0 m T None) k
 stays_ended P J k s m T may right none h =
     let V : View = view P J in

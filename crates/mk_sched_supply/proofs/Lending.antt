@@ -23,7 +23,7 @@ use Rattle.mk_async.proofs.Testing.{both}
 use Rattle.mk_buffers.specs.Marking.{asks_of}
 use Rattle.mk_buffers.specs.Standing.{least_mark, mark_of}
 use Rattle.mk_buffers.proofs.Standing.{least_low}
-use Rattle.mk_sched_supply.specs.Asking.{IsInStep}
+use Rattle.mk_sched_supply.specs.Asking.{IsStepOpen}
 use Rattle.mk_sched_supply.specs.inner.Gifts.{wants_data}
 use Rattle.mk_sched_supply.specs.declared.stock.Stock.{Stock}
 
@@ -55,7 +55,7 @@ module _ (P : Plan) (s : ℕ) where
   lent [] few h = absurd (omega arith)
   lent (m ∷ ms) few h = let e = entity_named P m.0 (λ e. has_pair P (owner P e) s) (first_of (lends P s m.0) (lends_each P s ms) h) in (owner P e.0, e.2)
 
-  pub reached : RefersInside P → (x : Tier) (k : Stock) (asked : Asked) → IsInStep P s x k → option_map (permits P s) (asked_in asked) ≡ Some true → wants_data asked ≡ true → IsUpTo (least_mark k.buffers) x
+  pub reached : RefersInside P → (x : Tier) (k : Stock) (asked : Asked) → IsStepOpen P s x k → option_map (permits P s) (asked_in asked) ≡ Some true → wants_data asked ≡ true → IsUpTo (least_mark k.buffers) x
   reached refers x k (as_asked.Get ms) open_ permitted wants =
       let l = lent ms.now (above wants) (permitted_asked (as_asked.Get ms) permitted) in
       let low = paired_below refers l.0 l.1 in

@@ -35,14 +35,14 @@ use Rattle.mk_async.specs.Asked.{IsGivenBy, asked_in, refusal_in}
 use Rattle.mk_async.specs.declared.request.Asked.{Asked}
 use Rattle.mk_buffers.specs.declared.buffers.Buffers.{Buffers}
 use Rattle.mk_buffers.specs.Held.{with_gift}
-use Rattle.mk_buffers.specs.Standing.{IsSourced, Stands, mark_of}
+use Rattle.mk_buffers.specs.Standing.{IsSourced, StandFor, mark_of}
 use Rattle.mk_buffers.proofs.Naming.{same_full}
 use Rattle.mk_buffers.proofs.Standing.{eq_from, same_from}
 use Rattle.mk_sched_open.specs.Turns.{IsRight}
 use Rattle.mk_sched_supply.specs.declared.stock.Stock.{Stock}
 use Rattle.mk_sched_supply.specs.inner.Gifts.{HasGifts, HasGivenAll, HasGivenOf, IsAnswerBy, gifts_in}
 use Rattle.mk_sched_supply.specs.inner.Making.{HasSameRest}
-use Rattle.mk_sched_supply.specs.Stock.{IsStockOf, MayCome}
+use Rattle.mk_sched_supply.specs.Stock.{IsStockOf, MayComeNext}
 use Rattle.mk_sched_supply.proofs.Keeping.{mark_going}
 use Rattle.mk_sched_supply.proofs.Supplying.{supply_through, told_supplies}
 
@@ -137,7 +137,7 @@ module _ (P : Plan) (J : List Entry) (s : SimNo) (T : OpenTurn) (q : Place) (id 
   ask = Ask id name args named
 
   -- gifts of the open turn's request are those behind the others
-  went : (S : Supply) → IsValidPlan P → (view P J).open_at s.0 ≡ Some T → Stands P k.buffers S → SameSupply P S (given_so_far P (view P J)) → (e : ℕ) → e < length P.entities
+  went : (S : Supply) → IsValidPlan P → (view P J).open_at s.0 ≡ Some T → StandFor P k.buffers S → SameSupply P S (given_so_far P (view P J)) → (e : ℕ) → e < length P.entities
       → (given_so_far P (view P J)).gifts e ++ filter (λ g. same_text g.given.source (full_id P e)) (gifts_by P s.0 T.at ask) ≡ (given_so_far P (note_right P (view P J) s.0 ask T (Some q))).gifts e
   went S valid opened stands same e low =
       let all = stands.gifts.0 in
@@ -146,7 +146,7 @@ module _ (P : Plan) (J : List Entry) (s : SimNo) (T : OpenTurn) (q : Place) (id 
       ap (λ (l : List Gift). l ++ filter (λ g. same_text g.given.source (full_id P e)) (gifts_by P s.0 T.at ask)) (sym (given.by_source e low))
       ∙ sym (filter_append (λ (g : Gift). same_text g.given.source (full_id P e)) all (gifts_by P s.0 T.at ask)) ∙ more.by_source e low
 
-  pub stock_answered : MayCome P J (Got s ask) → IsRight P (view P J) s.0 ask T (Some q) → (stock : IsStockOf P (view P J) k) → HasSameRest k n → (ws : List SetValue) → ws ≡ sets_of P s.0 ask
+  pub stock_answered : MayComeNext P J (Got s ask) → IsRight P (view P J) s.0 ask T (Some q) → (stock : IsStockOf P (view P J) k) → HasSameRest k n → (ws : List SetValue) → ws ≡ sets_of P s.0 ask
       → HasGivenAll P (gifts_in T.at ws) stock.supplied.0 n.buffers → (item : Item) → item ≡ response P (supply P (view P J).acts) s.0 T.at T.place ask
       → IsStockOf P (note_sent P (note_right P (view P J) s.0 ask T (Some q)) s.0 item) n
   stock_answered may right stock rest ws sets taken item is = record {
@@ -175,7 +175,7 @@ module _ (P : Plan) (J : List Entry) (s : SimNo) (T : OpenTurn) (q : Place) (id 
 
   -- after the answer to what was asked at x
   pub stock_asked : (x : Tier) → T.at ≡ x → (asked : Asked) → ((look : Lookup) → None ≡ refusal_in (answer P look s.0 name args named)) → asked_in asked ≡ request_of name args named
-      → MayCome P J (Got s ask) → IsRight P (view P J) s.0 ask T (Some q) → (stock : IsStockOf P (view P J) k) → HasSameRest k n → (item : Item)
+      → MayComeNext P J (Got s ask) → IsRight P (view P J) s.0 ask T (Some q) → (stock : IsStockOf P (view P J) k) → HasSameRest k n → (item : Item)
       → IsAnswerBy P (value_at stock.supplied.0 x) asked id item → HasGivenOf P x asked stock.supplied.0 n.buffers → IsStockOf P (note_sent P (note_right P (view P J) s.0 ask T (Some q)) s.0 item) n
   stock_asked x at asked accepted read may right stock rest item by given = stock_answered may right stock rest given.values
       (asked_sets P s.0 id name args named asked given.values (accepted (λ e attr. None)) read given.set)
@@ -185,7 +185,7 @@ module _ (P : Plan) (J : List Entry) (s : SimNo) (T : OpenTurn) (q : Place) (id 
 
 -- after a refusal
 pub stock_refused : (P : Plan) (J : List Entry) (s : SimNo) (T : OpenTurn) (q : Place) (id : ℕ) (name : List ℕ) (args : List Json) (named : Json) (k : Stock) (n : ℕ) → ((look : Lookup) → Some n ≡ refusal_in (answer P look s.0 name args named))
-    → MayCome P J (Got s (Ask id name args named)) → IsRight P (view P J) s.0 (Ask id name args named) T (Some q) → IsStockOf P (view P J) k
+    → MayComeNext P J (Got s (Ask id name args named)) → IsRight P (view P J) s.0 (Ask id name args named) T (Some q) → IsStockOf P (view P J) k
     → IsStockOf P (note_sent P (note_right P (view P J) s.0 (Ask id name args named) T (Some q)) s.0 (Refuse id n)) k
 stock_refused P J s T q id name args named k n refused may right stock = stock_answered P J s T q id name args named k k may right stock (record { names = refl; feeds = refl; marks = refl })
     [] (refused_sets P s.0 id name args named n (refused (λ e attr. None)))
@@ -207,7 +207,7 @@ none_left (x ∷ xs) n count none = absurd (omega (arith, count, none))
 
 -- one value more is given
 pub given_more : (P : Plan) (s : ℕ) (S : Supply) (x : Tier) (done : List SetValue) (w : SetValue) (old new : Buffers) → HasGivenAll P (gifts_in x done) S old → IsGivenBy P s w
-    → ((U : Supply) (e : ℕ) → Stands P old U → IsSourced P e w → Stands P new (with_gift U e (record { at = delayed x (Shift 1); given = w }))) → HasGivenAll P (gifts_in x (done ++ w ∷ [])) S new
+    → ((U : Supply) (e : ℕ) → StandFor P old U → IsSourced P e w → StandFor P new (with_gift U e (record { at = delayed x (Shift 1); given = w }))) → HasGivenAll P (gifts_in x (done ++ w ∷ [])) S new
 given_more P s S x done w old new has by gives =
     let g : Gift = record { at = delayed x (Shift 1); given = w } in
     record {

@@ -32,11 +32,11 @@ use Rattle.mk_sched_open.specs.Turns.{IsRight}
 use Rattle.mk_buffers.specs.declared.buffers.Buffers.{Buffers}
 use Rattle.mk_buffers.specs.Held.{with_output}
 use Rattle.mk_buffers.specs.Marking.{Marked}
-use Rattle.mk_buffers.specs.Standing.{HasKey, IsOutletFor, Stands, mark_of}
+use Rattle.mk_buffers.specs.Standing.{HasKey, IsOutletFor, StandFor, mark_of}
 use Rattle.mk_sched_supply.specs.declared.outputs.Outputs.{Outputs}
 use Rattle.mk_sched_supply.specs.declared.stock.Stock.{Stock}
-use Rattle.mk_sched_supply.specs.Outputs.{AreData, AreOutputsIn, values_in}
-use Rattle.mk_sched_supply.specs.Stock.{IsStockFor, IsStockOf, MayCome}
+use Rattle.mk_sched_supply.specs.Outputs.{AreData, AreOutputsIn, found_values}
+use Rattle.mk_sched_supply.specs.Stock.{IsStockFor, IsStockOf, MayComeNext}
 use Rattle.mk_sched_supply.specs.inner.Making.{HasGiven, HasSameRest}
 use Rattle.mk_sched_supply.proofs.Bringing.{brought, brought_all, take_all}
 use Rattle.mk_sched_supply.proofs.Gaining.{HasGained, gained_more}
@@ -64,14 +64,14 @@ outlet_fits b P s w n o for is =
 
 pub taken_some : (P : Plan) (b n : Buffers) (S : Supply) (s : ℕ) (x : Tier) (w : Want) (first place o : ℕ) (v : Json) (text : List ℕ) → IsOutletFor P b s w (first + place) → o ≡ min (first + place) (2 ^ 64 - 1) → text ≡ text_of v → (is_datum v ≡ true) × (is_in_range v ≡ true)
     → ((place : ℕ) → IsOutletFor P b s w place → (e : ℕ) × (owner P e ≡ s) × (eid_of P e ≡ w.eid) × HasKey b e w.attr place)
-    → ((e : ℕ) (attr : List ℕ) → HasKey b e attr o → IsValueText text → Stands P n (with_output S e attr (record { at = x; value = text })))
+    → ((e : ℕ) (attr : List ℕ) → HasKey b e attr o → IsValueText text → StandFor P n (with_output S e attr (record { at = x; value = text })))
     → HasGiven P s x w (Some v) S n
 taken_some P b n S s x w first place o v text for is same proper law delivered =
     let k = law o (subst (IsOutletFor P b s w) (outlet_fits b P s w (first + place) o for is) for) in (
       k.0,
       k.1,
       k.2,
-      subst (λ (t : List ℕ). Stands P n (with_output S k.0 w.attr (record { at = x; value = t }))) same (delivered k.0 w.attr k.3 (subst IsValueText (sym same) (value_text v proper.0 proper.1))),
+      subst (λ (t : List ℕ). StandFor P n (with_output S k.0 w.attr (record { at = x; value = t }))) same (delivered k.0 w.attr k.3 (subst IsValueText (sym same) (value_text v proper.0 proper.1))),
     )
 
 -- ---- value by value
@@ -103,8 +103,8 @@ rest_itself k = record { names = refl; feeds = refl; marks = refl }
 pub rest_through : (j k l : Stock) → HasSameRest j k → HasSameRest k l → HasSameRest j l
 rest_through j k l f g = record { names = g.names ∙ f.names; feeds = g.feeds ∙ f.feeds; marks = g.marks ∙ f.marks }
 
-pub gained_next : (P : Plan) (S : Supply) (content : Json) (outs : Outputs) (place s : ℕ) (x : Tier) (o : Option (Bor Json)) (old new : Buffers) → slice_get outs.values.items place ≡ Some o → s < sim_count P → values_in outs ≡ map (value_for content) (wanted P s)
-    → HasGained P s x content place S old → ((T : Supply) (w : Want) → Stands P old T → slice_get (wanted P s) place ≡ Some w → HasGiven P s x w (option_map (λ v. v.now) o) T new) → HasGained P s x content (place + 1) S new
+pub gained_next : (P : Plan) (S : Supply) (content : Json) (outs : Outputs) (place s : ℕ) (x : Tier) (o : Option (Bor Json)) (old new : Buffers) → slice_get outs.values.items place ≡ Some o → s < sim_count P → found_values outs ≡ map (value_for content) (wanted P s)
+    → HasGained P s x content place S old → ((T : Supply) (w : Want) → StandFor P old T → slice_get (wanted P s) place ≡ Some w → HasGiven P s x w (option_map (λ v. v.now) o) T new) → HasGained P s x content (place + 1) S new
 gained_next P S content outs place s x o old new at low values h given =
     let t = map_at (value_for content) (wanted P s) place (tree_of o) (sym (ap (λ l. slice_get l place) values) ∙ map_get tree_of outs.values.items place o at) in
     gained_more P s low x content S place t.0 t.1 old new h (tree_of o) (sym t.2) (given h.now t.0 h.stands t.1)
@@ -127,7 +127,7 @@ same_for P old new rest k = record {
   feeds = λ s f at. k.feeds s f (sym (ap (λ l. slice_get l.items s) rest.feeds) ∙ at);
 }
 
-pub stock_taken : (P : Plan) (J : List Entry) (s : SimNo) (m : Message) (T : OpenTurn) (content : Json) (x : Tier) (outs : Outputs) (old new : Stock) (n : ℕ) → MayCome P J (Got s m) → IsRight P (view P J) s.0 m T None → outputs_in (ended_turn T m) ≡ Some content
+pub stock_taken : (P : Plan) (J : List Entry) (s : SimNo) (m : Message) (T : OpenTurn) (content : Json) (x : Tier) (outs : Outputs) (old new : Stock) (n : ℕ) → MayComeNext P J (Got s m) → IsRight P (view P J) s.0 m T None → outputs_in (ended_turn T m) ≡ Some content
     → x ≡ made (ended_turn T m) → AreOutputsIn P s.0 content outs → (h : IsStockOf P (view P J) old) → HasSameRest old new → n ≡ length outs.values.items → HasGained P s.0 x content n h.supplied.0 new.buffers → IsStockOf P (note_right P (view P J) s.0 m T None) new
 stock_taken P J s m T content x outs old new n may right is when out h rest all gained = record {
   plan = same_for P old new rest h.plan;

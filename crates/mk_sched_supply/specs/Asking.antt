@@ -7,7 +7,7 @@ use Rattle.mk_sched_supply.specs.declared.stock.Stock.{Stock}
 use Rattle.mk_sched_supply.specs.Stock.{IsStockOf}
 
 -- a step of s at x is open in a view whose stock this is
-pub record IsInStep (P : Plan) (s : ℕ) (x : Tier) (k : Stock) : Type 0 where
+pub record IsStepOpen (P : Plan) (s : ℕ) (x : Tier) (k : Stock) : Type 0 where
   pub view : View
   pub turn : OpenTurn
   pub opened : view.open_at s ≡ Some turn

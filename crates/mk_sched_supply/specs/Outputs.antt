@@ -15,13 +15,13 @@ abbrev pub triggering_from : Plan → ℕ → List Conn
 triggering_from P s = filter (λ c. c.triggering && (owner P c.from == s)) P.conns
 
 -- what was found for each want
-abbrev pub values_in : Outputs → List (Option Json)
-values_in outs = map (option_map (λ v. v.now)) outs.values.items
+abbrev pub found_values : Outputs → List (Option Json)
+found_values outs = map (option_map (λ v. v.now)) outs.values.items
 
 -- the values are what the data give for each want of s; an act with these data gives an output to
 -- those of its triggering connections that are marked
 pub record AreOutputsIn (P : Plan) (s : ℕ) (content : Json) (outs : Outputs) : Type 0 where
-  pub values : values_in outs ≡ map (value_for content) (wanted P s)
+  pub values : found_values outs ≡ map (value_for content) (wanted P s)
   pub given : (f : Act) → outputs_in f ≡ Some content
       → outs.given.items ≡ map (λ c. is_some (output P f c.from c.from_attr)) (triggering_from P s)
 

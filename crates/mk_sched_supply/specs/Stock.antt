@@ -15,7 +15,7 @@ use Rattle.mk_order.proofs.Supplies.{SameSupply}
 use Rattle.mk_order.proofs.GivenEntries.{given_so_far}
 use Rattle.mk_order.proofs.LaterQuestions.{IsMarkOf}
 use Rattle.mk_plan_names.specs.Names.{AreNamesOf}
-use Rattle.mk_buffers.specs.Standing.{Stands, mark_of}
+use Rattle.mk_buffers.specs.Standing.{StandFor, mark_of}
 use Rattle.mk_sched_supply.specs.declared.feeds.Feed.{Feed}
 use Rattle.mk_sched_supply.specs.declared.stock.Stock.{Stock}
 use Rattle.mk_sched_supply.specs.Outputs.{triggering_from}
@@ -44,11 +44,11 @@ pub record IsStockFor (P : Plan) (k : Stock) : Type 0 where
 -- nothing is asked before a simulator's mark
 pub record IsStockOf (P : Plan) (V : View) (k : Stock) : Type 0 where
   pub plan : IsStockFor P k
-  pub supplied : (S : Supply) × Stands P k.buffers S × SameSupply P S (given_so_far P V)
+  pub supplied : (S : Supply) × StandFor P k.buffers S × SameSupply P S (given_so_far P V)
   pub marks : (s : ℕ) → s < sim_count P → IsMarkOf P V s (mark_of k.buffers s)
 
 -- e may come next in the orderly journal J of the valid plan
-pub record MayCome (P : Plan) (J : List Entry) (e : Entry) : Type 0 where
+pub record MayComeNext (P : Plan) (J : List Entry) (e : Entry) : Type 0 where
   pub valid : IsValidPlan P
   pub orderly : IsOrderlySoFar IsReady IsAdvance P J
   pub allowed : IsAllowed IsReady IsAdvance P (view P J) e

@@ -15,7 +15,7 @@ ghost use Rattle.mk_plan.specs.Inputs.{value_at};
 ghost use Rattle.mk_plan.specs.Sequential.{response};
 ghost use Rattle.mk_plan.specs.Journals.{OpenTurn, View, note_right, note_sent, view};
 ghost use Rattle.mk_plan_names.specs.Names.{AreNamesOf};
-ghost use Rattle.mk_buffers.specs.Standing.{HasSameMarks, Stands, least_mark};
+ghost use Rattle.mk_buffers.specs.Standing.{HasSameMarks, StandFor, least_mark};
 ghost use Rattle.mk_async.specs.Asked.{IsGivenBy, asked_in, is_asked_in_range};
 ghost use Rattle.mk_sched_open.specs.Turns.{IsRight};
 
@@ -25,9 +25,9 @@ use mk_base::{Datum, Json, List, Mem, SimNo, Text, Tier, Via};
 use mk_plan::{Item, Plan, SetValue};
 
 impl Stock {
-    ghost use Rattle.mk_sched_supply.specs.Stock.{IsStockOf, MayCome};
+    ghost use Rattle.mk_sched_supply.specs.Stock.{IsStockOf, MayComeNext};
     ghost use Rattle.mk_sched_supply.specs.inner.Making.{HasSameRest};
-    ghost use Rattle.mk_sched_supply.specs.Asking.{IsInStep};
+    ghost use Rattle.mk_sched_supply.specs.Asking.{IsStepOpen};
     ghost use Rattle.mk_sched_supply.specs.inner.Gifts.{HasGivenAll, HasGivenOf, IsAnswerBy, gifts_in, wants_data};
 
     /// The item that answers a request in an open step of the simulator at `at`: its content, or the number of the first of
@@ -44,7 +44,7 @@ impl Stock {
         named: &Json,
     ) -> Result<Item, Mem>
         requires valid { IsValidPlan plan.now }
-        requires asked { IsInStep plan.now sim.0 at self.old }
+        requires asked { IsStepOpen plan.now sim.0 at self.old }
         requires early { pos 0 ≤ℤ at.time }
         requires late { at.time ≤ℤ pos 1000000000000000000 }
         requires low { at.tier ≤ 1000000 }
@@ -55,7 +55,7 @@ impl Stock {
             ≡ response plan.now (supply plan.now V.acts) sim.0 at T.place
             (Ask id name.now args.now named.now)) }
         ensures stock { (J : List Entry) (T : OpenTurn) (q : Place)
-            → MayCome plan.now J (Got sim (Ask id name.now args.now named.now))
+            → MayComeNext plan.now J (Got sim (Ask id name.now args.now named.now))
             → IsRight plan.now (view plan.now J) sim.0 (Ask id name.now args.now named.now) T
             (Some q) → T.at ≡ at
             → IsStockOf plan.now (view plan.now J) self.old
@@ -78,16 +78,16 @@ impl Stock {
         requires range { is_asked_in_range asked.now ≡ true }
         requires known { (s : ℕ)
             × (option_map (knows plan.now s) (asked_in asked.now) ≡ Some true) }
-        requires stands { (S : Supply) × Stands plan.now self.old.buffers S }
+        requires stands { (S : Supply) × StandFor plan.now self.old.buffers S }
         requires reached { wants_data asked.now ≡ true → IsUpTo (least_mark self.old.buffers) at }
         requires early { pos 0 ≤ℤ at.time }
         requires late { at.time ≤ℤ pos 1000000000000000000 }
         requires low { at.tier ≤ 1000000 }
-        ensures item { (S : Supply) → Stands plan.now self.old.buffers S
+        ensures item { (S : Supply) → StandFor plan.now self.old.buffers S
             → IfOk result (λ item. IsAnswerBy plan.now (value_at S at) asked.now id item) }
         ensures given { (s : ℕ) (S : Supply)
             → option_map (knows plan.now s) (asked_in asked.now) ≡ Some true
-            → Stands plan.now self.old.buffers S
+            → StandFor plan.now self.old.buffers S
             → IfOk result (λ item. HasGivenOf plan.now at asked.now S self.new.buffers) }
         ensures rest { HasSameRest self.old self.new }
     {
@@ -104,9 +104,9 @@ impl Stock {
         requires form { IsSome (asked_in asked.now) }
         requires known { (s : ℕ)
             × (option_map (knows plan.now s) (asked_in asked.now) ≡ Some true) }
-        requires stands { (S : Supply) × Stands plan.now self.now.buffers S }
+        requires stands { (S : Supply) × StandFor plan.now self.now.buffers S }
         requires reached { wants_data asked.now ≡ true → IsUpTo (least_mark self.now.buffers) at }
-        ensures { (S : Supply) → Stands plan.now self.now.buffers S
+        ensures { (S : Supply) → StandFor plan.now self.now.buffers S
             → IfOk result (λ text.
             option_map (content_text plan.now (value_at S at)) (asked_in asked.now) ≡ Some text) }
     {
@@ -124,7 +124,7 @@ impl Stock {
         requires early { pos 0 ≤ℤ at.time }
         requires late { at.time ≤ℤ pos 1000000000000000000 }
         requires low { at.tier ≤ 1000000 }
-        ensures given { (P : Plan) (s : ℕ) (S : Supply) → Stands P self.old.buffers S
+        ensures given { (P : Plan) (s : ℕ) (S : Supply) → StandFor P self.old.buffers S
             → All (IsGivenBy P s) sets
             → OnOk result (HasGivenAll P (gifts_in at sets) S self.new.buffers) }
         ensures rest { HasSameRest self.old self.new }

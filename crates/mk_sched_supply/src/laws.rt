@@ -17,22 +17,22 @@ ghost use Rattle.mk_plan.specs.Journals.{OpenTurn, view, ended_turn, note_right,
 ghost use Rattle.mk_plan.specs.Report.{is_step};
 ghost use Rattle.mk_sched_open.specs.Turns.{IsRight};
 ghost use Rattle.mk_sched_supply.specs.declared.stock.Stock.{Stock};
-ghost use Rattle.mk_sched_supply.specs.Stock.{IsStockOf, MayCome};
+ghost use Rattle.mk_sched_supply.specs.Stock.{IsStockOf, MayComeNext};
 
 /// A stock stays that of the view where a Step is sent; where a reply comes after which the turn goes on, and what is owed
 /// is sent; and where a turn without outputs ends.
 pub fn stock_stays()
     ensures step { (P : Plan) (J : List Entry) (k : Stock) (s : SimNo) (x : Tier) (ins : List Input)
-        (advance : ℤ) → MayCome P J (Sent s (Step x ins advance)) → IsStockOf P (view P J) k
+        (advance : ℤ) → MayComeNext P J (Sent s (Step x ins advance)) → IsStockOf P (view P J) k
         → IsStockOf P (note_sent P (view P J) s.0 (Step x ins advance)) k }
     ensures fetching { (P : Plan) (J : List Entry) (k : Stock) (s : SimNo) (m : Message)
-        (T : OpenTurn) (q : Place) (item : Item) → MayCome P J (Got s m)
+        (T : OpenTurn) (q : Place) (item : Item) → MayComeNext P J (Got s m)
         → IsRight P (view P J) s.0 m T (Some q)
         → is_ask m ≡ false → is_step item ≡ false
         → item ≡ response P (supply P (view P J).acts) s.0 T.at T.place m → IsStockOf P (view P J) k
         → IsStockOf P (note_sent P (note_right P (view P J) s.0 m T (Some q)) s.0 item) k }
     ensures ended { (P : Plan) (J : List Entry) (k : Stock) (s : SimNo) (m : Message) (T : OpenTurn)
-        → MayCome P J (Got s m) → IsRight P (view P J) s.0 m T None
+        → MayComeNext P J (Got s m) → IsRight P (view P J) s.0 m T None
         → outputs_in (ended_turn T m) ≡ None
         → IsStockOf P (view P J) k → IsStockOf P (note_right P (view P J) s.0 m T None) k }
 {}

@@ -3,7 +3,7 @@ ghost use Rattle.std.specs.Prelude.{◌≡◌, map, true, IfOk, option_map};
 ghost use Rattle.mk_base.specs.Texts.{text_of};
 ghost use Rattle.mk_base.specs.Trees.{is_datum, is_in_range};
 ghost use Rattle.mk_plan.specs.Turns.{value_for};
-ghost use Rattle.mk_sched_supply.specs.Outputs.{values_in};
+ghost use Rattle.mk_sched_supply.specs.Outputs.{found_values};
 ghost use Rattle.mk_sched_supply.specs.inner.Making.{are_given, is_given};
 
 use crate::feeds::Feed;
@@ -32,10 +32,10 @@ impl<'a> Outputs<'a> {
 
 // What the data give the wants and triggering connections of a feed.
 pub fn outputs_of<'a>(alloc: Global, feed: &Feed, content: &'a Json) -> Result<Outputs<'a>, Mem>
-    ensures values { IfOk result (λ outs. values_in outs
+    ensures values { IfOk result (λ outs. found_values outs
         ≡ map (value_for content.now) feed.now.wants) }
     ensures given { IfOk result (λ outs. outs.given.items
-        ≡ are_given (values_in outs) feed.now.triggers.items) }
+        ≡ are_given (found_values outs) feed.now.triggers.items) }
 {
     let values = values_for(alloc, &feed.wants, content)?;
     let given = given_of(alloc, values.as_slice(), feed.triggers.as_slice())?;

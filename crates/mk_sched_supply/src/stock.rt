@@ -19,8 +19,8 @@ ghost use Rattle.mk_plan.specs.Ready.{IsReady};
 ghost use Rattle.mk_order.proofs.LaterQuestions.{IsMarkOf};
 ghost use Rattle.mk_sched_open.specs.Turns.{IsRight};
 ghost use Rattle.mk_buffers.specs.Bounds.{most_kept};
-ghost use Rattle.mk_buffers.specs.Standing.{HasRaised, HasSameMarks, Stands, least_mark, outputs_held};
-ghost use Rattle.mk_sched_supply.specs.Outputs.{AreData, AreOutputsIn, values_in};
+ghost use Rattle.mk_buffers.specs.Standing.{HasRaised, HasSameMarks, StandFor, least_mark, outputs_held};
+ghost use Rattle.mk_sched_supply.specs.Outputs.{AreData, AreOutputsIn, found_values};
 
 use crate::feeds::{Feed, feeds_of};
 use crate::outputs::{Outputs, datum_of, outputs_of};
@@ -43,7 +43,7 @@ pub struct Stock {
 }
 
 impl Stock {
-    ghost use Rattle.mk_sched_supply.specs.Stock.{IsStockFor, IsStockOf, MayCome};
+    ghost use Rattle.mk_sched_supply.specs.Stock.{IsStockFor, IsStockOf, MayComeNext};
     ghost use Rattle.mk_sched_supply.specs.inner.Making.{HasSameRest, HasGiven};
 
     /// The stock of a run that has not begun.
@@ -97,7 +97,7 @@ impl Stock {
             → IfOk result (λ outs. AreOutputsIn P sim.0 content.now outs) }
         ensures data { (P : Plan) (at : Tier) → IsStockFor P self.now → sim.0 < sim_count P
             → is_in_range content.now ≡ true → wrong_data (wanted P sim.0) at content.now ≡ None
-            → IfOk result (λ outs. AreData (values_in outs)) }
+            → IfOk result (λ outs. AreData (found_values outs)) }
     {
         match self.feeds.get(sim.0 as usize) {
             Some(feed) => outputs_of(self.alloc, feed, content),
@@ -111,10 +111,10 @@ impl Stock {
         requires early { pos 0 ≤ℤ made.time }
         requires late { made.time ≤ℤ pos 1000000000000000000 }
         requires low { made.tier ≤ 1000000 }
-        requires data { AreData (values_in outputs.now) }
+        requires data { AreData (found_values outputs.now) }
         ensures marks { HasSameMarks self.old.buffers self.new.buffers }
         ensures stock { (P : Plan) (J : List Entry) (m : Message) (T : OpenTurn) (content : Json)
-            → MayCome P J (Got sim m) → IsRight P (view P J) sim.0 m T None
+            → MayComeNext P J (Got sim m) → IsRight P (view P J) sim.0 m T None
             → outputs_in (ended_turn T m) ≡ Some content
             → made ≡ acts.made (ended_turn T m) → AreOutputsIn P sim.0 content outputs.now
             → IsStockOf P (view P J) self.old
@@ -138,7 +138,7 @@ impl Stock {
         requires late { made.time ≤ℤ pos 1000000000000000000 }
         requires low { made.tier ≤ 1000000 }
         requires data { IfSome value (λ v. (is_datum v.now ≡ true) × (is_in_range v.now ≡ true)) }
-        ensures given { (P : Plan) (S : Supply) (w : Want) → Stands P self.old.buffers S
+        ensures given { (P : Plan) (S : Supply) (w : Want) → StandFor P self.old.buffers S
             → sim.0 < sim_count P → slice_get (wanted P sim.0) place ≡ Some w
             → OnOk result (HasGiven P sim.0 made w
             (option_map (λ v. v.now) value.entry) S self.new.buffers) }

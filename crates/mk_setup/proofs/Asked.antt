@@ -18,17 +18,17 @@ use Rattle.mk_scenario.specs.declared.parts.SimPart.{SimPart}
 use Rattle.mk_run_laws.specs.Handshake.{setup_requests}
 use Rattle.mk_setup.specs.declared.fault.SetupFault.{SetupFault}
 use Rattle.mk_setup.specs.declared.fault.SetupFault.TheVariants as fault
-use Rattle.mk_setup.specs.Answers.{IsReady, IsRequested, IsUnready}
+use Rattle.mk_setup.specs.Answers.{IsReady, IsRequested, GivesNoRequest}
 use Rattle.mk_setup.specs.Asking.{fault_before, lasting, plan_of, refusal, test_before}
 use Rattle.mk_setup.specs.inner.Kept.{IsHindered}
 use Rattle.mk_setup.specs.Requests.{group_of, meta_of, request_of}
 use Rattle.mk_setup.specs.Seen.{SetupState}
-use Rattle.mk_setup.specs.inner.Standing.{IsPlanOf, Stands}
+use Rattle.mk_setup.specs.inner.Standing.{IsPlanOf, IsSoundSetup}
 use Rattle.mk_setup.proofs.Counting.{count_is}
 use Rattle.mk_setup.proofs.Sequence.{create_at, create_of, done_at, init_at, request_count}
 use Rattle.mk_setup.proofs.Stepping.{counted_of, request_fits}
 
-pub requested : (U : SetupState) (ids : List ℕ) (plan : Option Plan) (sim : SimNo) (call : Call) (id : ℕ) → Stands U ids plan → U.fault ≡ None → U.asked ≡ false → request_of U ≡ Some (record { sim = sim.0; call = call })
+pub requested : (U : SetupState) (ids : List ℕ) (plan : Option Plan) (sim : SimNo) (call : Call) (id : ℕ) → IsSoundSetup U ids plan → U.fault ≡ None → U.asked ≡ false → request_of U ≡ Some (record { sim = sim.0; call = call })
     → test_before U (request_of U) ≡ None → slice_get ids sim.0 ≡ Some id → IsRequested U sim call id (record U { asked = true })
 requested U ids plan sim call id s going resting request tested at =
     let fits = request_fits U.scenario s.wellformed U.answered (record { sim = sim.0; call = call }) request in
@@ -59,7 +59,7 @@ create_test U group g meta at there said =
     ap (test_before U) (create_at U.scenario U.answered group g at there) ∙ (λ i. fault_of_group U.scenario (number i) (metas i))
 
 -- the metadata of each simulator is there once groups are created
-pub meta_there : (U : SetupState) (ids : List ℕ) (plan : Option Plan) (group : ℕ) (g : Group) → Stands U ids plan → U.answered ≡ length U.scenario.sims + group → slice_get U.scenario.groups group ≡ Some g → g.sim.0 < length U.metas
+pub meta_there : (U : SetupState) (ids : List ℕ) (plan : Option Plan) (group : ℕ) (g : Group) → IsSoundSetup U ids plan → U.answered ≡ length U.scenario.sims + group → slice_get U.scenario.groups group ≡ Some g → g.sim.0 < length U.metas
 meta_there U ids plan group g s at there =
     let below : g.sim.0 < length U.scenario.sims = (request_fits U.scenario s.wellformed U.answered (create_of g) (create_at U.scenario U.answered group g at there)).0 in
     let said = s.said in
@@ -95,7 +95,7 @@ last_test U at = let c = request_count U.scenario in ap (test_before U) (slice_g
 pub ready : (U V : SetupState) (P : Plan) → U.fault ≡ None → U.asked ≡ false → U.answered ≡ length U.scenario.sims + length U.scenario.groups + length U.scenario.sims → IsPlanOf U P → V ≡ U → IsReady U P V
 ready U V P going resting at p same = record { going = going; resting = resting; all = at ∙ sym (request_count U.scenario); plan = p.made; valid = p.valid; sims = p.sims; first = p.first; same = same }
 
-pub at_end : (U : SetupState) (ids : List ℕ) (plan : Option Plan) → Stands U ids plan → length U.scenario.sims + length U.scenario.groups + length U.scenario.sims ≤ U.answered → U.answered ≡ length U.scenario.sims + length U.scenario.groups + length U.scenario.sims
+pub at_end : (U : SetupState) (ids : List ℕ) (plan : Option Plan) → IsSoundSetup U ids plan → length U.scenario.sims + length U.scenario.groups + length U.scenario.sims ≤ U.answered → U.answered ≡ length U.scenario.sims + length U.scenario.groups + length U.scenario.sims
 at_end U ids plan s late = let c = request_count U.scenario in let w = s.within in omega arith
 
 -- a plan that is there has passed
@@ -107,10 +107,10 @@ pub kept_plan : (U : SetupState) (plan : Option Plan) (P : Plan) → IfSome plan
 kept_plan U plan P h e = subst (λ (o : Option Plan). IfSome o (IsPlanOf U)) e h
 
 -- a fault that stands in the way, and what is kept of it
-pub unready_by : (U W : SetupState) (f e : SetupFault) (kept : Option SetupFault) → U.fault ≡ None → IsHindered U f W → ((e ≡ fault.Mem) × (kept ≡ None)) ⊎ ((e ≡ f) × (kept ≡ Some f) × (f ≢ fault.Mem)) → IsUnready U e (record W { fault = kept })
+pub unready_by : (U W : SetupState) (f e : SetupFault) (kept : Option SetupFault) → U.fault ≡ None → IsHindered U f W → ((e ≡ fault.Mem) × (kept ≡ None)) ⊎ ((e ≡ f) × (kept ≡ Some f) × (f ≢ fault.Mem)) → GivesNoRequest U e (record W { fault = kept })
 unready_by U W f e kept going h (inl t) = inl (t.0, (λ i. record (h.same i) { fault = (t.1 ∙ sym going) i }))
 unready_by U W f e kept going h (inr t) = go h.fault
   where
-    go : (f ≡ fault.Mem) ⊎ ((U.asked ≡ false) × (fault_before U ≡ Some f)) → IsUnready U e (record W { fault = kept })
+    go : (f ≡ fault.Mem) ⊎ ((U.asked ≡ false) × (fault_before U ≡ Some f)) → GivesNoRequest U e (record W { fault = kept })
     go (inl m) = absurd (t.2 m)
     go (inr s) = inr (record { resting = λ g. s.0; fault = s.1 ∙ ap Some (sym t.0); lasts = (λ i. record (h.same i) { fault = (t.1 ∙ ap Some (sym t.0)) i }) })

@@ -15,12 +15,12 @@ use Rattle.mk_run_laws.specs.Handshake.{setup_count}
 use Rattle.mk_setup.specs.Asking.{plan_of, refusal}
 use Rattle.mk_setup.specs.Requests.{first_ids}
 use Rattle.mk_setup.specs.Seen.{SetupState}
-use Rattle.mk_setup.specs.inner.Standing.{IsPlanOf, Stands}
+use Rattle.mk_setup.specs.inner.Standing.{IsPlanOf, IsSoundSetup}
 use Rattle.mk_setup.proofs.Counting.{count_few, few_requests}
 use Rattle.mk_setup.proofs.Planned.{first_made, sims_made}
 
 -- what a plan is made of is complete once all groups are created
-pub complete : (U : SetupState) (ids : List ℕ) (plan : Option Plan) → Stands U ids plan → length U.scenario.sims + length U.scenario.groups ≤ U.answered → IsComplete U.scenario U.ranks U.metas U.entities (first_ids U.scenario)
+pub complete : (U : SetupState) (ids : List ℕ) (plan : Option Plan) → IsSoundSetup U ids plan → length U.scenario.sims + length U.scenario.groups ≤ U.answered → IsComplete U.scenario U.ranks U.metas U.entities (first_ids U.scenario)
 complete U ids plan s late = record {
   ranking = s.ranked.ranking;
   each_once = s.ranked.each_once;
@@ -42,7 +42,7 @@ first_is S i below = ap (λ (o : Option ℕ). unwrap_or o 0) (range_get (setup_c
     nothing : (i : ℕ) → 0 + i ≡ i
     nothing i = omega arith
 
-pub plan_ok : (U : SetupState) (ids : List ℕ) (plan : Option Plan) (P : Plan) → Stands U ids plan → length U.scenario.sims + length U.scenario.groups ≤ U.answered → plan_of U ≡ Ok P → (IsComplete U.scenario U.ranks U.metas U.entities (first_ids U.scenario) → IsValidPlan P) → IsPlanOf U P
+pub plan_ok : (U : SetupState) (ids : List ℕ) (plan : Option Plan) (P : Plan) → IsSoundSetup U ids plan → length U.scenario.sims + length U.scenario.groups ≤ U.answered → plan_of U ≡ Ok P → (IsComplete U.scenario U.ranks U.metas U.entities (first_ids U.scenario) → IsValidPlan P) → IsPlanOf U P
 plan_ok U ids plan P s late made valid = record {
   created = late;
   made = made;
@@ -52,7 +52,7 @@ plan_ok U ids plan P s late made valid = record {
 }
 
 -- the plan that is made with these ids
-pub plan_result : (U : SetupState) (ids given : List ℕ) (plan : Option Plan) (r : Result Plan ConnectFault) → Stands U ids plan → length U.scenario.sims + length U.scenario.groups ≤ U.answered → given ≡ first_ids U.scenario
+pub plan_result : (U : SetupState) (ids given : List ℕ) (plan : Option Plan) (r : Result Plan ConnectFault) → IsSoundSetup U ids plan → length U.scenario.sims + length U.scenario.groups ≤ U.answered → given ≡ first_ids U.scenario
     → IfOk r (λ P. plan_made U.scenario U.ranks U.metas U.entities given ≡ Ok P) → IfOk r (λ P. IsComplete U.scenario U.ranks U.metas U.entities given → IsValidPlan P) → IfOk r (λ P. IsPlanOf U P)
 plan_result U ids given plan (Ok P) s late are made valid = plan_ok U ids plan P s late (ap (plan_made U.scenario U.ranks U.metas U.entities) (sym are) ∙ made) (λ c. valid (subst (IsComplete U.scenario U.ranks U.metas U.entities) (sym are) c))
 plan_result U ids given plan (Err e) s late are made valid = tt

@@ -83,7 +83,7 @@ module _ (old : List EntityInfo) (sim : SimNo) (group num : ℕ) (model : List �
   right_type : (number : List ℕ → Option ℕ) (count n : ℕ) (d : Described) → entity_fault number count model meta n d ≡ None → has_type model meta d ≡ true
   right_type number count n d e = go d.eid e
     where
-      go : (o : Option (List ℕ)) → creation.found (NoEid n) o (λ eid. creation.held (TwiceEid eid) (not (is_some (number eid))) (creation.held (OfType eid) (has_type model meta d) (creation.held (TooMany (creation.most_entities + 1)) (nat_lt count creation.most_entities) None))) ≡ None → has_type model meta d ≡ true
+      go : (o : Option (List ℕ)) → creation.after_text (NoEid n) o (λ eid. creation.held (TwiceEid eid) (not (is_some (number eid))) (creation.held (OfType eid) (has_type model meta d) (creation.held (TooMany (creation.most_entities + 1)) (nat_lt count creation.most_entities) None))) ≡ None → has_type model meta d ≡ true
       go None h = absurd (some_none h)
       go (Some eid) h = (held_none (OfType eid) (has_type model meta d) _ (held_none (TwiceEid eid) _ _ h).1).0
 

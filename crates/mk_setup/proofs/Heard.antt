@@ -22,13 +22,13 @@ use Rattle.mk_setup.specs.inner.Kept.{IsAwaitedBy, IsGroupOf, IsUntaken, added_b
 use Rattle.mk_setup.specs.Replies.{after_any, after_reply, arrival, is_reply, moved, outstanding, unless_faulty, with_entities, with_meta, with_reply}
 use Rattle.mk_setup.specs.Requests.{group_of, id_before, request_of}
 use Rattle.mk_setup.specs.Seen.{SetupState}
-use Rattle.mk_setup.specs.inner.Standing.{Stands}
+use Rattle.mk_setup.specs.inner.Standing.{IsSoundSetup}
 use Rattle.mk_setup.proofs.Counting.{count_is, counted_length}
 use Rattle.mk_setup.proofs.Sequence.{create_at, done_at, init_at, request_count}
 use Rattle.mk_setup.proofs.Stepping.{counted_of, to_there}
 
 -- the simulator of the request that is outstanding
-pub sim_there : (U : SetupState) (ids : List ℕ) (plan : Option Plan) (s : ℕ) → Stands U ids plan → awaited_sim U ≡ Some s → s < length ids
+pub sim_there : (U : SetupState) (ids : List ℕ) (plan : Option Plan) (s : ℕ) → IsSoundSetup U ids plan → awaited_sim U ≡ Some s → s < length ids
 sim_there U ids plan s st e =
     let long = counted_length U.scenario U.answered ids (counted_of U ids plan st) in
     let there = to_there U.scenario st.wellformed U.answered s (go U.asked e) in
@@ -46,7 +46,7 @@ outstanding_is U s e = go (outstanding U) refl e
     go (Some r) is h = (r, is, some_same h)
 
 -- the id is that of the request
-pub id_tells : (U : SetupState) (ids : List ℕ) (plan : Option Plan) (s sim id n : ℕ) → Stands U ids plan → awaited_sim U ≡ Some s → sim ≡ s → slice_get ids s ≡ Some n → (id == n) ≡ is_awaited U sim id
+pub id_tells : (U : SetupState) (ids : List ℕ) (plan : Option Plan) (s sim id n : ℕ) → IsSoundSetup U ids plan → awaited_sim U ≡ Some s → sim ≡ s → slice_get ids s ≡ Some n → (id == n) ≡ is_awaited U sim id
 id_tells U ids plan s sim id n st e same at =
     let t = outstanding_is U s e in
     let r : Request = t.0 in

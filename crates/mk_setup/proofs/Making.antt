@@ -11,7 +11,7 @@ use Rattle.mk_plan.specs.Journals.{Arrival}
 use Rattle.mk_scenario.specs.declared.parts.Scenario.{Scenario}
 use Rattle.mk_run_laws.specs.Handshake.{Request, setup_requests}
 use Rattle.mk_setup.specs.declared.fault.SetupFault.{SetupFault}
-use Rattle.mk_setup.specs.Answers.{IsReady, IsRequested, IsStopped}
+use Rattle.mk_setup.specs.Answers.{IsReady, IsRequested, IsBarred}
 use Rattle.mk_setup.specs.Asking.{after_asking, asked_unless, fault_before, lasting}
 use Rattle.mk_setup.specs.Handshakes.{IsFaultyAfter, IsMade, IsReached, after_answer, answering, asked_after, begun, next_sim, passed, reached}
 use Rattle.mk_setup.specs.Laws.{IsKindSaid, IsOfReplies, IsReplyTo, RepliesMake}
@@ -71,7 +71,7 @@ module _ (S : Scenario) (ranks : List ℕ) (answers : List Message) where
       let o = stands U at in
       record { all = sym o.count ∙ r.all ∙ ap (λ (X : Scenario). length (setup_requests X)) o.scenario; state = U; reached = resting U at r.resting; plan = r.plan }
 
-  pub stops : (U V : SetupState) (e : SetupFault) → IsReached S ranks answers U → IsStopped U e V → IsFaultyAfter S ranks answers None e
+  pub stops : (U V : SetupState) (e : SetupFault) → IsReached S ranks answers U → IsBarred U e V → IsFaultyAfter S ranks answers None e
   stops U V e at s = record { state = U; reached = resting U at (s.resting (stands U at).going); why = ap (asked_unless U) s.fault }
 
   pub refuses : (U : SetupState) (a : Arrival) (e : SetupFault) → IsReached S ranks answers U → U.asked ≡ true → after_reply U a ≡ Err e → IsFaultyAfter S ranks answers (Some a) e

@@ -27,7 +27,7 @@ use Rattle.mk_setup.specs.Ranked.{AreRanksOf}
 use Rattle.mk_setup.specs.Replies.{moved}
 use Rattle.mk_setup.specs.Requests.{group_of, id_before, meta_of, request_of}
 use Rattle.mk_setup.specs.Seen.{SetupState}
-use Rattle.mk_setup.specs.inner.Standing.{IsPlanOf, Stands}
+use Rattle.mk_setup.specs.inner.Standing.{IsPlanOf, IsSoundSetup}
 use Rattle.mk_setup.proofs.Counting.{equal_counts}
 use Rattle.mk_setup.proofs.Creating.{created, offered}
 use Rattle.mk_setup.proofs.Sequence.{create_at, create_of, done_at, init_at, request_count, request_is}
@@ -66,10 +66,10 @@ to_there S w k sim to = go (slice_get (setup_requests S) k) refl to
 
 -- ---- what stands
 
-pub counted_of : (U : SetupState) (ids : List ℕ) (plan : Option Plan) → Stands U ids plan → IsCounted U.scenario U.answered ids
+pub counted_of : (U : SetupState) (ids : List ℕ) (plan : Option Plan) → IsSoundSetup U ids plan → IsCounted U.scenario U.answered ids
 counted_of U ids plan s = record { wellformed = s.wellformed; within = s.within; numbered = s.numbered }
 
-pub begun_stands : (S : Scenario) (ranks ids : List ℕ) → IsWellformed S → AreRanksOf S ranks → ids ≡ replicate (length S.sims) 0 → Stands (begun S ranks) ids None
+pub begun_stands : (S : Scenario) (ranks ids : List ℕ) → IsWellformed S → AreRanksOf S ranks → ids ≡ replicate (length S.sims) 0 → IsSoundSetup (begun S ranks) ids None
 begun_stands S ranks ids w ranked are = record {
   wellformed = w;
   ranked = ranked;
@@ -94,7 +94,7 @@ kept_none : (U V : SetupState) (plan : Option Plan) → IfSome plan (IsPlanOf U)
 kept_none U V None h early = tt
 kept_none U V (Some P) h early = absurd (let c = h.created in omega arith)
 
-pub asked_stands : (U : SetupState) (ids : List ℕ) (plan : Option Plan) (r : Request) → Stands U ids plan → request_of U ≡ Some r → test_before U (request_of U) ≡ None → Stands (record U { asked = true }) ids plan
+pub asked_stands : (U : SetupState) (ids : List ℕ) (plan : Option Plan) (r : Request) → IsSoundSetup U ids plan → request_of U ≡ Some r → test_before U (request_of U) ≡ None → IsSoundSetup (record U { asked = true }) ids plan
 asked_stands U ids plan r s is none = record {
   wellformed = s.wellformed;
   ranked = s.ranked;
@@ -109,7 +109,7 @@ asked_stands U ids plan r s is none = record {
   kept = kept_same U (record U { asked = true }) plan s.kept (λ P p. record { created = p.created; made = p.made; valid = p.valid; sims = p.sims; first = p.first });
 }
 
-pub planned_stands : (U : SetupState) (ids : List ℕ) (plan : Option Plan) (P : Plan) → Stands U ids plan → IsPlanOf U P → Stands U ids (Some P)
+pub planned_stands : (U : SetupState) (ids : List ℕ) (plan : Option Plan) (P : Plan) → IsSoundSetup U ids plan → IsPlanOf U P → IsSoundSetup U ids (Some P)
 planned_stands U ids plan P s p = record {
   wellformed = s.wellformed;
   ranked = s.ranked;
@@ -124,7 +124,7 @@ planned_stands U ids plan P s p = record {
   kept = p;
 }
 
-pub given_stands : (U : SetupState) (ids : List ℕ) (plan : Option Plan) → Stands U ids plan → Stands U ids None
+pub given_stands : (U : SetupState) (ids : List ℕ) (plan : Option Plan) → IsSoundSetup U ids plan → IsSoundSetup U ids None
 given_stands U ids plan s = record {
   wellformed = s.wellformed;
   ranked = s.ranked;
@@ -160,9 +160,9 @@ of_model_more metas more e h = go (slice_get metas e.sim.0) refl h
     go None is q = absurd (none_some q)
     go (Some m) is q = ap (option_map (has_model e.model)) (get_more metas more e.sim.0 m is) ∙ q
 
-pub said_stands : (U : SetupState) (ids ids' : List ℕ) (plan : Option Plan) (meta : Meta) (metas : List Meta) → Stands U ids plan → U.answered < length U.scenario.sims → IsListed meta.models → metas ≡ U.metas ++ meta ∷ [] → IsCounted U.scenario (U.answered + 1) ids'
-    → Stands (record (moved U) { metas = metas }) ids' plan
-said_stands U ids ids' plan meta metas s early listed are c = subst (λ (l : List Meta). Stands (record (moved U) { metas = l }) ids' plan) (sym are) (record {
+pub said_stands : (U : SetupState) (ids ids' : List ℕ) (plan : Option Plan) (meta : Meta) (metas : List Meta) → IsSoundSetup U ids plan → U.answered < length U.scenario.sims → IsListed meta.models → metas ≡ U.metas ++ meta ∷ [] → IsCounted U.scenario (U.answered + 1) ids'
+    → IsSoundSetup (record (moved U) { metas = metas }) ids' plan
+said_stands U ids ids' plan meta metas s early listed are c = subst (λ (l : List Meta). IsSoundSetup (record (moved U) { metas = l }) ids' plan) (sym are) (record {
   wellformed = s.wellformed;
   ranked = s.ranked;
   within = c.within;
@@ -176,7 +176,7 @@ said_stands U ids ids' plan meta metas s early listed are c = subst (λ (l : Lis
   kept = kept_none U (record (moved U) { metas = U.metas ++ meta ∷ [] }) plan s.kept (omega arith);
 })
 
-pub done_stands : (U : SetupState) (ids ids' : List ℕ) (plan : Option Plan) → Stands U ids plan → length U.scenario.sims + length U.scenario.groups ≤ U.answered → IsCounted U.scenario (U.answered + 1) ids' → Stands (moved U) ids' plan
+pub done_stands : (U : SetupState) (ids ids' : List ℕ) (plan : Option Plan) → IsSoundSetup U ids plan → length U.scenario.sims + length U.scenario.groups ≤ U.answered → IsCounted U.scenario (U.answered + 1) ids' → IsSoundSetup (moved U) ids' plan
 done_stands U ids ids' plan s late c = record {
   wellformed = s.wellformed;
   ranked = s.ranked;
@@ -191,8 +191,8 @@ done_stands U ids ids' plan s late c = record {
   kept = kept_same U (moved U) plan s.kept (λ P p. record { created = let q = p.created in omega arith; made = p.made; valid = p.valid; sims = p.sims; first = p.first });
 }
 
-pub created_stands : (U : SetupState) (ids ids' : List ℕ) (plan : Option Plan) (sim : SimNo) (group : ℕ) (g : Group) (meta : Meta) (content : Json) (es : List EntityInfo) → Stands U ids plan → U.asked ≡ true → U.answered ≡ length U.scenario.sims + group
-    → slice_get U.scenario.groups group ≡ Some g → g.sim.0 ≡ sim.0 → slice_get U.metas sim.0 ≡ Some meta → entities_added U.entities sim group g.num g.model meta content ≡ Ok es → IsCounted U.scenario (U.answered + 1) ids' → Stands (record (moved U) { entities = es }) ids' plan
+pub created_stands : (U : SetupState) (ids ids' : List ℕ) (plan : Option Plan) (sim : SimNo) (group : ℕ) (g : Group) (meta : Meta) (content : Json) (es : List EntityInfo) → IsSoundSetup U ids plan → U.asked ≡ true → U.answered ≡ length U.scenario.sims + group
+    → slice_get U.scenario.groups group ≡ Some g → g.sim.0 ≡ sim.0 → slice_get U.metas sim.0 ≡ Some meta → entities_added U.entities sim group g.num g.model meta content ≡ Ok es → IsCounted U.scenario (U.answered + 1) ids' → IsSoundSetup (record (moved U) { entities = es }) ids' plan
 created_stands U ids ids' plan sim group g meta content es s asked at there of_sim said added c =
     let below : group < length U.scenario.groups = slice_get_within U.scenario.groups group g there in
     let number : group_of U ≡ group = omega arith in

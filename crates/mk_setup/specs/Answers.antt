@@ -58,14 +58,14 @@ IsUnchanged U e V = (e ≡ Mem) × (V ≡ U)
 
 -- the fault that stands in the way, no request being outstanding, or that was met before; it is
 -- answered from now on
-pub record IsStopped (U : SetupState) (e : SetupFault) (V : SetupState) : Type 0 where
+pub record IsBarred (U : SetupState) (e : SetupFault) (V : SetupState) : Type 0 where
   pub resting : U.fault ≡ None → U.asked ≡ false
   pub fault : fault_before U ≡ Some e
   pub lasts : V ≡ record U { fault = Some e }
 
 -- why `next` gives nothing
-abbrev pub IsUnready : SetupState → SetupFault → SetupState → Type 0
-IsUnready U e V = IsUnchanged U e V ⊎ IsStopped U e V
+abbrev pub GivesNoRequest : SetupState → SetupFault → SetupState → Type 0
+GivesNoRequest U e V = IsUnchanged U e V ⊎ IsBarred U e V
 
 -- the fault that the message makes, or that was met before; it is answered from now on
 pub record IsFaulty (U : SetupState) (a : Arrival) (e : SetupFault) (V : SetupState) : Type 0 where

@@ -13,7 +13,7 @@ use Rattle.mk_meta.specs.Metadata.{meta_in}
 use Rattle.mk_scenario.specs.declared.parts.Scenario.{Scenario}
 use Rattle.mk_run_laws.specs.Handshake.{Request, setup_requests}
 use Rattle.mk_setup.specs.declared.fault.SetupFault.{SetupFault}
-use Rattle.mk_setup.specs.Answers.{IsReady, IsRequested, IsStopped}
+use Rattle.mk_setup.specs.Answers.{IsReady, IsRequested, IsBarred}
 use Rattle.mk_setup.specs.Handshakes.{IsFaultyAfter, IsMade, IsReached, begun}
 use Rattle.mk_setup.specs.Replies.{after_reply}
 use Rattle.mk_setup.specs.Requests.{id_before, request_of}
@@ -59,7 +59,7 @@ pub record RepliesMake : Type 0 where
   pub makes : (S : Scenario) (ranks : List ℕ) (answers : List Message) (U V : SetupState) (P : Plan)
       → IsReached S ranks answers U → IsReady U P V → IsMade S ranks answers P
   pub stops : (S : Scenario) (ranks : List ℕ) (answers : List Message) (U V : SetupState)
-      (e : SetupFault) → IsReached S ranks answers U → IsStopped U e V
+      (e : SetupFault) → IsReached S ranks answers U → IsBarred U e V
       → IsFaultyAfter S ranks answers None e
   pub refuses : (S : Scenario) (ranks : List ℕ) (answers : List Message) (U : SetupState)
       (a : Arrival) (e : SetupFault) → IsReached S ranks answers U → U.asked ≡ true

@@ -3,7 +3,7 @@ ghost use Rattle.std.specs.Prelude.{◌≡◌, ◌+◌, ◌<◌, ◌⊎◌, fals
 ghost use Rattle.mk_setup.specs.Answers.{NextOf};
 ghost use Rattle.mk_setup.specs.Asking.{test_before};
 ghost use Rattle.mk_setup.specs.Kept.{state_of};
-ghost use Rattle.mk_setup.specs.inner.Kept.{IsHindered, IsKept};
+ghost use Rattle.mk_setup.specs.inner.Kept.{IsHindered, IsSoundProgress};
 ghost use Rattle.mk_setup.specs.Requests.{request_of};
 
 use crate::answers::SetupNext;
@@ -19,8 +19,8 @@ use mk_plan::Call;
 
 // The next request or the plan, unless a request is outstanding.
 pub fn go_on(progress: &mut Progress) -> Result<SetupNext, SetupFault>
-    requires { IsKept progress.old }
-    ensures kept { IsKept progress.new }
+    requires { IsSoundProgress progress.old }
+    ensures kept { IsSoundProgress progress.new }
     ensures ok { IfOk result
         (λ next. NextOf (state_of progress.old None) next (state_of progress.new None)) }
     ensures hindered { IfErr result
@@ -39,14 +39,14 @@ pub fn go_on(progress: &mut Progress) -> Result<SetupNext, SetupFault>
 
 // The request is made.
 fn ask(progress: &mut Progress, sim: SimNo, call: Call) -> SetupNext
-    requires kept { IsKept progress.old }
+    requires kept { IsSoundProgress progress.old }
     requires resting { progress.old.asked ≡ false }
     requires there { sim.0 < length progress.old.scenario.sims }
     requires request { request_of (state_of progress.old None)
         ≡ Some (record { sim = sim.0; call = call }) }
     requires tested { test_before (state_of progress.old None)
         (request_of (state_of progress.old None)) ≡ None }
-    ensures kept { IsKept progress.new }
+    ensures kept { IsSoundProgress progress.new }
     ensures asked { NextOf (state_of progress.old None) result (state_of progress.new None) }
 {
     let id = *progress.ids.at(sim.0 as usize);
@@ -55,11 +55,11 @@ fn ask(progress: &mut Progress, sim: SimNo, call: Call) -> SetupNext
 }
 
 fn ask_init(progress: &mut Progress, sim: u32) -> Result<SetupNext, SetupFault>
-    requires kept { IsKept progress.old }
+    requires kept { IsSoundProgress progress.old }
     requires resting { progress.old.asked ≡ false }
     requires stage { progress.old.answered ≡ sim }
     requires there { sim < length progress.old.scenario.sims }
-    ensures kept { IsKept progress.new }
+    ensures kept { IsSoundProgress progress.new }
     ensures ok { IfOk result
         (λ next. NextOf (state_of progress.old None) next (state_of progress.new None)) }
     ensures hindered { IfErr result
@@ -71,11 +71,11 @@ fn ask_init(progress: &mut Progress, sim: u32) -> Result<SetupNext, SetupFault>
 }
 
 fn ask_create(progress: &mut Progress, group: u32) -> Result<SetupNext, SetupFault>
-    requires kept { IsKept progress.old }
+    requires kept { IsSoundProgress progress.old }
     requires resting { progress.old.asked ≡ false }
     requires stage { progress.old.answered ≡ length progress.old.scenario.sims + group }
     requires there { group < length progress.old.scenario.groups }
-    ensures kept { IsKept progress.new }
+    ensures kept { IsSoundProgress progress.new }
     ensures ok { IfOk result
         (λ next. NextOf (state_of progress.old None) next (state_of progress.new None)) }
     ensures hindered { IfErr result
@@ -92,7 +92,7 @@ fn ask_create(progress: &mut Progress, group: u32) -> Result<SetupNext, SetupFau
 
 // The test of a group before its `create`.
 fn test_group(progress: &Progress, group: u32) -> Result<(), ConnectFault>
-    requires kept { IsKept progress.now }
+    requires kept { IsSoundProgress progress.now }
     requires stage { progress.now.answered ≡ length progress.now.scenario.sims + group }
     requires there { group < length progress.now.scenario.groups }
     ensures ok { OnOk result
@@ -108,12 +108,12 @@ fn test_group(progress: &Progress, group: u32) -> Result<(), ConnectFault>
 }
 
 fn ask_done(progress: &mut Progress, sim: u32) -> Result<SetupNext, SetupFault>
-    requires kept { IsKept progress.old }
+    requires kept { IsSoundProgress progress.old }
     requires resting { progress.old.asked ≡ false }
     requires stage { progress.old.answered
         ≡ length progress.old.scenario.sims + length progress.old.scenario.groups + sim }
     requires there { sim < length progress.old.scenario.sims }
-    ensures kept { IsKept progress.new }
+    ensures kept { IsSoundProgress progress.new }
     ensures ok { IfOk result
         (λ next. NextOf (state_of progress.old None) next (state_of progress.new None)) }
     ensures hindered { IfErr result
@@ -126,12 +126,12 @@ fn ask_done(progress: &mut Progress, sim: u32) -> Result<SetupNext, SetupFault>
 }
 
 fn finish(progress: &mut Progress) -> Result<SetupNext, SetupFault>
-    requires kept { IsKept progress.old }
+    requires kept { IsSoundProgress progress.old }
     requires resting { progress.old.asked ≡ false }
     requires stage { progress.old.answered
         ≡ length progress.old.scenario.sims + length progress.old.scenario.groups + length
         progress.old.scenario.sims }
-    ensures kept { IsKept progress.new }
+    ensures kept { IsSoundProgress progress.new }
     ensures ok { IfOk result
         (λ next. NextOf (state_of progress.old None) next (state_of progress.new None)) }
     ensures hindered { IfErr result

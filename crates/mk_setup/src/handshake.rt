@@ -1,7 +1,7 @@
 // The setup of a run: what its simulators have replied so far, and what comes next.
 ghost use Rattle.std.specs.Prelude.{◌≡◌, IfOk, IfErr, OnOk, Ok};
 ghost use Rattle.mk_scenario.specs.Wellformed.{IsWellformed};
-ghost use Rattle.mk_setup.specs.Answers.{NextOf, IsUnready, IsRefused};
+ghost use Rattle.mk_setup.specs.Answers.{NextOf, GivesNoRequest, IsRefused};
 ghost use Rattle.mk_setup.specs.Handshakes.{begun};
 ghost use Rattle.mk_setup.specs.Ranked.{AreRanksOf};
 ghost use Rattle.mk_setup.specs.Replies.{after_reply, arrival};
@@ -34,7 +34,7 @@ pub struct Setup {
 impl Model for Setup {
     ghost use Rattle.mk_setup.specs.Seen.{SetupState};
     ghost use Rattle.mk_setup.specs.Kept.{state_of};
-    ghost use Rattle.mk_setup.specs.inner.Kept.{IsKept};
+    ghost use Rattle.mk_setup.specs.inner.Kept.{IsSoundProgress};
     ghost use Rattle.mk_base.specs.contracts.json.Json as json;
     ghost use Rattle.std.specs.Coded.{codes};
 
@@ -44,7 +44,7 @@ impl Model for Setup {
 
     ghost view = { λ a. state_of a.progress a.fault };
 
-    ghost invariant = { λ a. IsKept a.progress };
+    ghost invariant = { λ a. IsSoundProgress a.progress };
 }
 
 impl Setup {
@@ -77,7 +77,7 @@ impl Setup {
     /// nothing has changed.
     pub fn next(&mut self) -> Result<SetupNext, SetupFault>
         ensures ok { IfOk result (λ next. NextOf self.old next self.new) }
-        ensures refused { IfErr result (λ e. IsUnready self.old e self.new) }
+        ensures refused { IfErr result (λ e. GivesNoRequest self.old e self.new) }
     {
         if let Some(fault) = &self.fault {
             return Err(repeated(fault));

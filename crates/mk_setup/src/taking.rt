@@ -5,7 +5,7 @@ ghost use Rattle.mk_scenario.specs.declared.parts.Group.{Group};
 ghost use Rattle.mk_run_laws.specs.Handshake.{Request};
 ghost use Rattle.mk_setup.specs.inner.Counts.{IsToSim, sim_after};
 ghost use Rattle.mk_setup.specs.Kept.{state_of};
-ghost use Rattle.mk_setup.specs.inner.Kept.{IsAwaitedBy, IsGroupOf, IsKept, IsUntaken, added_by, awaited_sim, is_awaited};
+ghost use Rattle.mk_setup.specs.inner.Kept.{IsAwaitedBy, IsGroupOf, IsSoundProgress, IsUntaken, added_by, awaited_sim, is_awaited};
 ghost use Rattle.mk_setup.specs.Replies.{after_reply, arrival, moved, with_entities, with_meta, with_reply};
 
 use crate::fault::SetupFault;
@@ -18,8 +18,8 @@ use mk_plan::Message;
 
 // Takes a message: it has to be the success reply to the request that is outstanding.
 pub fn take(progress: &mut Progress, sim: SimNo, message: &Message) -> Result<(), SetupFault>
-    requires { IsKept progress.old }
-    ensures kept { IsKept progress.new }
+    requires { IsSoundProgress progress.old }
+    ensures kept { IsSoundProgress progress.new }
     ensures ok { OnOk result (after_reply (state_of progress.old None) (arrival sim message.now)
         ≡ Ok (state_of progress.new None)) }
     ensures untaken { IfErr result
@@ -47,7 +47,7 @@ pub fn take(progress: &mut Progress, sim: SimNo, message: &Message) -> Result<()
 
 // Whether the request that is outstanding went to this simulator, with this id.
 fn is_awaited(progress: &Progress, sim: SimNo, id: u64) -> bool
-    requires { IsKept progress.now }
+    requires { IsSoundProgress progress.now }
     ensures { result ≡ is_awaited (state_of progress.now None) sim.0 id }
 {
     match awaited_sim(progress) {
@@ -58,7 +58,7 @@ fn is_awaited(progress: &Progress, sim: SimNo, id: u64) -> bool
 
 // The simulator of the request that is outstanding.
 fn awaited_sim(progress: &Progress) -> Option<SimNo>
-    requires { IsKept progress.now }
+    requires { IsSoundProgress progress.now }
     ensures { option_map (λ s. s.0) result ≡ awaited_sim (state_of progress.now None) }
 {
     if progress.asked {
@@ -70,7 +70,7 @@ fn awaited_sim(progress: &Progress) -> Option<SimNo>
 
 // The simulator of the request that follows those that were answered.
 fn next_sim(progress: &Progress) -> Option<SimNo>
-    requires { IsKept progress.now }
+    requires { IsSoundProgress progress.now }
     ensures { option_map (λ s. s.0) result ≡ sim_after progress.now.scenario progress.now.answered }
 {
     match stage(progress) {
@@ -86,10 +86,10 @@ fn next_sim(progress: &Progress) -> Option<SimNo>
 
 // Takes the content of the reply to the request that is outstanding.
 fn take_content(progress: &mut Progress, sim: SimNo, content: &Json) -> Result<(), SetupFault>
-    requires kept { IsKept progress.old }
+    requires kept { IsSoundProgress progress.old }
     requires asked { progress.old.asked ≡ true }
     requires next { IsToSim progress.old.scenario progress.old.answered sim.0 }
-    ensures kept { IsKept progress.new }
+    ensures kept { IsSoundProgress progress.new }
     ensures ok { OnOk result ((r : Request) → IsAwaitedBy (state_of progress.old None) sim.0 r
         → with_reply (state_of progress.old None) sim r.call content.now
         ≡ Ok (state_of progress.new None)) }
@@ -114,11 +114,11 @@ fn take_content(progress: &mut Progress, sim: SimNo, content: &Json) -> Result<(
 
 // Takes the reply to `init`.
 fn take_meta(progress: &mut Progress, sim: SimNo, content: &Json) -> Result<(), SetupFault>
-    requires kept { IsKept progress.old }
+    requires kept { IsSoundProgress progress.old }
     requires asked { progress.old.asked ≡ true }
     requires stage { progress.old.answered ≡ sim.0 }
     requires there { sim.0 < length progress.old.scenario.sims }
-    ensures kept { IsKept progress.new }
+    ensures kept { IsSoundProgress progress.new }
     ensures ok { OnOk result (with_meta (state_of progress.old None) sim (meta_in content.now)
         ≡ Ok (state_of progress.new None)) }
     ensures untaken { IfErr result
@@ -142,11 +142,11 @@ fn take_entities(
     group: u32,
     content: &Json,
 ) -> Result<(), SetupFault>
-    requires kept { IsKept progress.old }
+    requires kept { IsSoundProgress progress.old }
     requires asked { progress.old.asked ≡ true }
     requires stage { progress.old.answered ≡ length progress.old.scenario.sims + group }
     requires there { IsGroupOf progress.old.scenario group sim.0 }
-    ensures kept { IsKept progress.new }
+    ensures kept { IsSoundProgress progress.new }
     ensures ok { OnOk result ((g : Group) → slice_get progress.old.scenario.groups group ≡ Some g
         → with_entities (state_of progress.old None) sim
         (added_by (state_of progress.old None) sim group g content.now)
@@ -173,12 +173,12 @@ fn take_entities(
 
 // Takes the reply to `setup_done`.
 fn take_done(progress: &mut Progress, sim: SimNo)
-    requires kept { IsKept progress.old }
+    requires kept { IsSoundProgress progress.old }
     requires asked { progress.old.asked ≡ true }
     requires stage { length progress.old.scenario.sims + length progress.old.scenario.groups ≤
         progress.old.answered }
     requires next { IsToSim progress.old.scenario progress.old.answered sim.0 }
-    ensures kept { IsKept progress.new }
+    ensures kept { IsSoundProgress progress.new }
     ensures moved { state_of progress.new None ≡ moved (state_of progress.old None) }
 {
     note_reply(progress, sim);

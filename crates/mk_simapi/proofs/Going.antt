@@ -8,14 +8,14 @@ use Rattle.mk_message.specs.Written.{message_text}
 use Rattle.mk_local.specs.Simulators.{Simulator}
 use Rattle.mk_run_laws.proofs.Moving.{frames_more}
 use Rattle.mk_simapi.specs.Replies.{after_message, is_stop, payloads, replies, reply_to}
-use Rattle.mk_simapi.specs.Serving.{IsGoing}
+use Rattle.mk_simapi.specs.Serving.{NoStop}
 
 -- nothing after a stop
 abbrev unless : Bool → List Message → List Message
 unless b ms = if b then [] else ms
 
 -- one more message that isn't a stop
-pub replies_more : (L : Simulator) (ms : List Message) (m : Message) → IsGoing ms → is_stop m ≡ false → replies L (ms ++ m ∷ []) ≡ replies L ms ++ option_to_list (reply_to (fold after_message L ms) m)
+pub replies_more : (L : Simulator) (ms : List Message) (m : Message) → NoStop ms → is_stop m ≡ false → replies L (ms ++ m ∷ []) ≡ replies L ms ++ option_to_list (reply_to (fold after_message L ms) m)
 replies_more L [] m going e = ap (λ (b : Bool). unless b (option_to_list (reply_to L m) ++ [])) e ∙ append_nil (option_to_list (reply_to L m))
 replies_more L (x ∷ ms) m (first, rest) e =
     let one = option_to_list (reply_to L x) in
@@ -26,7 +26,7 @@ replies_more L (x ∷ ms) m (first, rest) e =
     ∙ ap (λ (b : Bool). unless b (one ++ replies N ms) ++ option_to_list (reply_to (fold after_message N ms) m)) (sym first)
 
 -- a stop, whatever follows it
-pub replies_stop : (L : Simulator) (ms later : List Message) (m : Message) → IsGoing ms → is_stop m ≡ true → replies L (ms ++ m ∷ later) ≡ replies L ms
+pub replies_stop : (L : Simulator) (ms later : List Message) (m : Message) → NoStop ms → is_stop m ≡ true → replies L (ms ++ m ∷ later) ≡ replies L ms
 replies_stop L [] later m going e = ap (λ (b : Bool). unless b (option_to_list (reply_to L m) ++ replies (after_message L m) later)) e
 replies_stop L (x ∷ ms) later m (first, rest) e = ap (λ (r : List Message). unless (is_stop x) (option_to_list (reply_to L x) ++ r)) (replies_stop (after_message L x) ms later m rest e)
 
@@ -54,13 +54,13 @@ frames_begin L ms later said unsent is = let r = payloads_begin L ms later in (
 
 -- ---- one more message
 
-pub payloads_same : (L : Simulator) (ms : List Message) (m : Message) → IsGoing ms → is_stop m ≡ false → reply_to (fold after_message L ms) m ≡ None → payloads L (ms ++ m ∷ []) ≡ payloads L ms
+pub payloads_same : (L : Simulator) (ms : List Message) (m : Message) → NoStop ms → is_stop m ≡ false → reply_to (fold after_message L ms) m ≡ None → payloads L (ms ++ m ∷ []) ≡ payloads L ms
 payloads_same L ms m going e none = ap (map message_text) (replies_more L ms m going e ∙ ap (λ (o : Option Message). replies L ms ++ option_to_list o) none ∙ append_nil (replies L ms))
 
-pub payloads_more : (L : Simulator) (ms : List Message) (m r : Message) → IsGoing ms → is_stop m ≡ false → reply_to (fold after_message L ms) m ≡ Some r → payloads L (ms ++ m ∷ []) ≡ payloads L ms ++ message_text r ∷ []
+pub payloads_more : (L : Simulator) (ms : List Message) (m r : Message) → NoStop ms → is_stop m ≡ false → reply_to (fold after_message L ms) m ≡ Some r → payloads L (ms ++ m ∷ []) ≡ payloads L ms ++ message_text r ∷ []
 payloads_more L ms m r going e some = ap (map message_text) (replies_more L ms m going e ∙ ap (λ (o : Option Message). replies L ms ++ option_to_list o) some) ∙ map_append message_text (replies L ms) (r ∷ [])
 
-pub payloads_stop : (L : Simulator) (ms later : List Message) (m : Message) → IsGoing ms → is_stop m ≡ true → payloads L (ms ++ m ∷ later) ≡ payloads L ms
+pub payloads_stop : (L : Simulator) (ms later : List Message) (m : Message) → NoStop ms → is_stop m ≡ true → payloads L (ms ++ m ∷ later) ≡ payloads L ms
 payloads_stop L ms later m going e = ap (map message_text) (replies_stop L ms later m going e)
 
 pub each_behind : {X : Type 0} (Q : X → Type 0) (xs : List X) (y : X) → Each Q xs → Q y → Each Q (xs ++ y ∷ [])

@@ -5,7 +5,7 @@ use Rattle.mk_base.specs.Lists.{Each}
 use Rattle.mk_base.proofs.Lists.{append_nil}
 use Rattle.mk_outside.specs.declared.fleet.LogEntry.{LogEntry}
 use Rattle.mk_outside.specs.declared.fleet.LogEntry.TheVariants.{NotSaid, Rest}
-use Rattle.mk_outside.specs.Logs.{IsOf, is_write, last_write, said_on}
+use Rattle.mk_outside.specs.Logs.{IsOnLink, is_write, last_write, said_on}
 use Rattle.mk_session.specs.Talks.{IsSaidOut}
 use Rattle.mk_local.specs.Simulators.{Simulator}
 use Rattle.mk_run_laws.specs.Rests.{SaysAll}
@@ -14,16 +14,16 @@ use Rattle.mk_run_laws.proofs.Stepping.{first_or_second, not_empty}
 use Rattle.mk_simapi.specs.Serving.{IsWellAtRest, RestsWell}
 
 -- entries of one link have no rest
-restless : (link : LinkNo) (before after entries : List LogEntry) → Each (IsOf link) entries → entries ≡ before ++ Rest ∷ after → ⊥
+restless : (link : LinkNo) (before after entries : List LogEntry) → Each (IsOnLink link) entries → entries ≡ before ++ Rest ∷ after → ⊥
 restless link before after [] each is = not_empty before after Rest is
-restless link [] after (e ∷ entries) (first, each) is = let same : e ≡ Rest = cc in subst (IsOf link) same first
+restless link [] after (e ∷ entries) (first, each) is = let same : e ≡ Rest = cc in subst (IsOnLink link) same first
 restless link (b ∷ before) after (e ∷ entries) (first, each) is = restless link before after entries each cc
 
 pub no_rest : (L : Simulator) (link : LinkNo) → RestsWell L link []
 no_rest L link before after is = absurd (not_empty before after Rest is)
 
 -- a call on the link adds no rest
-pub rests_still : (L : Simulator) (link : LinkNo) (log entries : List LogEntry) → RestsWell L link log → Each (IsOf link) entries → RestsWell L link (log ++ entries)
+pub rests_still : (L : Simulator) (link : LinkNo) (log entries : List LogEntry) → RestsWell L link log → Each (IsOnLink link) entries → RestsWell L link (log ++ entries)
 rests_still L link log entries rests each before after is = elim (first_or_second log entries before after Rest is) [
   | inl t ↦ rests before t.0 t.1
   | inr t ↦ absurd (restless link t.0 after entries each t.2)

@@ -11,7 +11,7 @@ use Rattle.mk_message.specs.Written.{message_text}
 use Rattle.mk_outside.specs.declared.fleet.LogEntry.{LogEntry}
 use Rattle.mk_outside.specs.declared.fleet.LogEntry.TheVariants.{NotHeard, Ended, Rest}
 use Rattle.mk_outside.proofs.OnLogs.{adds_more, adds_none}
-use Rattle.mk_outside.specs.Logs.{Adds, IsOf, heard_on, is_read, last_read, last_write, said_on}
+use Rattle.mk_outside.specs.Logs.{Adds, IsOnLink, heard_on, is_read, last_read, last_write, said_on}
 use Rattle.mk_session.specs.declared.answers.Heard.TheVariants as heard
 use Rattle.mk_session.specs.declared.answers.Polled.{Polled}
 use Rattle.mk_session.specs.declared.answers.Polled.TheVariants as polled
@@ -32,7 +32,7 @@ use Rattle.mk_simapi.specs.declared.servant.Answer.{Answer}
 use Rattle.mk_simapi.specs.declared.servant.Answer.TheVariants as answer
 use Rattle.mk_simapi.specs.inner.Answers.{AnswersAs}
 use Rattle.mk_simapi.specs.Replies.{after_message, is_stop, payloads, reply_to}
-use Rattle.mk_simapi.specs.Serving.{AreShort, EndsBy, IsGoing, IsUnstopped, IsWellAtRest, RestsWell, Serves, heard_of}
+use Rattle.mk_simapi.specs.Serving.{AreShort, EndsBy, NoStop, IsUnstopped, IsWellAtRest, RestsWell, Serves, heard_of}
 use Rattle.mk_simapi.specs.inner.Standing.{GoesOn, IsAsked, IsServing, QueuesAs, RestsAs, SaysAs}
 use Rattle.mk_simapi.proofs.Going.{after_more, each_behind, frames_begin, payloads_more, payloads_same}
 use Rattle.mk_simapi.proofs.Logs.{no_rest, rests_more, rests_still, said_out_later, says_all}
@@ -48,8 +48,8 @@ module _ (L : Simulator) (link : LinkNo) where
     same : t.link ≡ link
     same = p.same_link ∙ at.on
 
-    each : Each (IsOf link) entries
-    each = subst (λ (l : LinkNo). Each (IsOf l) entries) at.on p.on_link
+    each : Each (IsOnLink link) entries
+    each = subst (λ (l : LinkNo). Each (IsOnLink l) entries) at.on p.on_link
 
     heard_all : heard_on link (log ++ entries) ≡ heard_on link log ++ heard_on link entries
     heard_all = heard_more link log entries
@@ -112,11 +112,11 @@ module _ (L : Simulator) (link : LinkNo) where
       all_rest = taken_rest (heard_on link log) ms s.held at.heard ∙ (none_heard s.held nothing).1
 
       unstopped : IsUnstopped L link log
-      unstopped = record { going = subst IsGoing (sym all_heard) at.going; short = subst (AreShort L) (sym all_heard) at.short }
+      unstopped = record { going = subst NoStop (sym all_heard) at.going; short = subst (AreShort L) (sym all_heard) at.short }
 
       well : IsSaidOut link (last_write link log) s.unsent → last_read link log ≡ Some (NotHeard link) → IsWellAtRest L link log
       well out last = record {
-        going = subst IsGoing (sym all_heard) at.going;
+        going = subst NoStop (sym all_heard) at.going;
         said = subst (λ (all : List Message). SaysAll link log (frames_of (payloads L all))) (sym all_heard) (says_all link log s.unsent (frames_of (payloads L ms)) at.said out);
         heard_all = last;
       }
@@ -187,7 +187,7 @@ module _ (L : Simulator) (link : LinkNo) where
       now_after : N ≡ fold after_message L (ms ++ m ∷ [])
       now_after = after ∙ ap (λ (X : Simulator). after_message X m) at.now ∙ sym (after_more L ms m)
 
-      going_after : IsGoing (ms ++ m ∷ [])
+      going_after : NoStop (ms ++ m ∷ [])
       going_after = each_behind (λ (x : Message). is_stop x ≡ false) ms m at.going e
 
       pub ignored : reply_to M m ≡ None → IsServing L link log (ms ++ m ∷ []) N s

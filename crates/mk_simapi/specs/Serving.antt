@@ -22,21 +22,21 @@ abbrev pub heard_of : LinkNo → List LogEntry → List Message
 heard_of link log = messages_heard (heard_on link log)
 
 -- none of the messages is a stop
-abbrev pub IsGoing : List Message → Type 0
-IsGoing = Each (λ (m : Message). is_stop m ≡ false)
+abbrev pub NoStop : List Message → Type 0
+NoStop = Each (λ (m : Message). is_stop m ≡ false)
 
 -- each reply to these messages fits into a frame
 abbrev pub AreShort : Simulator → List Message → Type 0
 AreShort L ms = Each (λ (p : List ℕ). length p ≤ limit) (payloads L ms)
 
 -- a stop was heard, and the replies to all before it were said, or the last write took nothing
-pub record IsStopped (L : Simulator) (link : LinkNo) (log : List LogEntry) : Type 0 where
+pub record HasHeardStop (L : Simulator) (link : LinkNo) (log : List LogEntry) : Type 0 where
   pub before : List Message
   pub stop : Message
   pub later : List Message
   pub heard : heard_of link log ≡ before ++ stop ∷ later
   pub is : is_stop stop ≡ true
-  pub first : IsGoing before
+  pub first : NoStop before
   pub short : AreShort L before
   pub said : SaysAll link log (frames_of (payloads L before))
 
@@ -47,7 +47,7 @@ pub record IsLong (L : Simulator) (link : LinkNo) (log : List LogEntry) (n : ℕ
   pub asks : Message
   pub later : List Message
   pub heard : heard_of link log ≡ before ++ asks ∷ later
-  pub going : IsGoing (before ++ asks ∷ [])
+  pub going : NoStop (before ++ asks ∷ [])
   pub short : AreShort L before
   pub reply : Message
   pub replied : reply_to (fold after_message L before) asks ≡ Some reply
@@ -56,12 +56,12 @@ pub record IsLong (L : Simulator) (link : LinkNo) (log : List LogEntry) (n : ℕ
 
 -- no stop was heard, and each reply is short
 pub record IsUnstopped (L : Simulator) (link : LinkNo) (log : List LogEntry) : Type 0 where
-  pub going : IsGoing (heard_of link log)
+  pub going : NoStop (heard_of link log)
   pub short : AreShort L (heard_of link log)
 
 -- the cause by which the serving ended
 abbrev pub EndsBy : Simulator → LinkNo → Served → List LogEntry → Type 0
-EndsBy L link served.Stopped log = IsStopped L link log
+EndsBy L link served.Stopped log = HasHeardStop L link log
 EndsBy L link served.Closed log = IsUnstopped L link log
     × IsUnfinished (rest_heard (heard_on link log)) × (last_read link log ≡ Some (Ended link))
 EndsBy L link served.Failed log = ⊤
@@ -75,7 +75,7 @@ EndsBy L link served.Mem log = ⊤
 -- where the serving rests: no stop was heard so far, all replies were said, or the last write took
 -- nothing, and nothing more had come
 pub record IsWellAtRest (L : Simulator) (link : LinkNo) (before : List LogEntry) : Type 0 where
-  pub going : IsGoing (heard_of link before)
+  pub going : NoStop (heard_of link before)
   pub said : SaysAll link before (frames_of (payloads L (heard_of link before)))
   pub heard_all : last_read link before ≡ Some (NotHeard link)
 

@@ -7,24 +7,24 @@ use Rattle.mk_base.specs.declared.json.Json.{Json}
 use Rattle.mk_plan.specs.declared.Plan.{Plan}
 use Rattle.mk_watch_read.specs.declared.fault.WatchFault.{WatchFault}
 use Rattle.mk_watch_read.specs.declared.watches.Watch.{Watch}
-use Rattle.mk_watch_read.specs.Watches.{before, all_well, watch_in, watches_in, IsFaultOf}
+use Rattle.mk_watch_read.specs.Watches.{put_first, all_well, watch_in, watches_in, IsFaultOf}
 
 -- the watches before those of the rest
 abbrev pub prepended : List Watch → Result (List Watch) WatchFault → Result (List Watch) WatchFault
 prepended [] r = r
-prepended (w ∷ ws) r = before w (prepended ws r)
+prepended (w ∷ ws) r = put_first w (prepended ws r)
 
-pub prepend_push : (ws : List Watch) (w : Watch) (r : Result (List Watch) WatchFault) → prepended (ws ++ w ∷ []) r ≡ prepended ws (before w r)
+pub prepend_push : (ws : List Watch) (w : Watch) (r : Result (List Watch) WatchFault) → prepended (ws ++ w ∷ []) r ≡ prepended ws (put_first w r)
 prepend_push [] w r = refl
-prepend_push (x ∷ ws) w r = ap (before x) (prepend_push ws w r)
+prepend_push (x ∷ ws) w r = ap (put_first x) (prepend_push ws w r)
 
 prepend_fault : (ws : List Watch) (e : WatchFault) → prepended ws (Err e) ≡ Err e
 prepend_fault [] e = refl
-prepend_fault (x ∷ ws) e = ap (before x) (prepend_fault ws e)
+prepend_fault (x ∷ ws) e = ap (put_first x) (prepend_fault ws e)
 
 prepend_all : (ws : List Watch) → prepended ws (Ok []) ≡ Ok ws
 prepend_all [] = refl
-prepend_all (x ∷ ws) = ap (before x) (prepend_all ws)
+prepend_all (x ∷ ws) = ap (put_first x) (prepend_all ws)
 
 module _ (P : Plan) (names : List (List ℕ)) where
   -- what the tables from a place on say

@@ -15,7 +15,7 @@ use Rattle.mk_scenario_keys.specs.Keys.{required, text, tables_within, first_unk
 use Rattle.mk_scenario_keys.specs.declared.fault.ScenarioFault.{ScenarioFault}
 use Rattle.mk_watch_read.specs.declared.fault.WatchFault.{WatchFault}
 use Rattle.mk_watch_read.specs.declared.watches.Watch.{Watch}
-use Rattle.mk_watch_read.specs.Watches.{AreInside, keyed, sought, known, before, all_well, watch_named, watch_at, watch_in, document_watches, watches_of, top_keys, watch_keys}
+use Rattle.mk_watch_read.specs.Watches.{AreInside, keyed, sought, known, put_first, all_well, watch_named, watch_at, watch_in, document_watches, watches_of, top_keys, watch_keys}
 use Rattle.mk_watch_read.specs.Rules.{place_of}
 
 err_ok : {A : Type 0} (e : WatchFault) (x : A) → Err e ≡ Ok x → ⊥
@@ -72,7 +72,7 @@ module _ (P : Plan) (names : List (List ℕ)) where
       let d = after_key (required (key_in path (codes "rule")) text (member (codes "rule") table)) _ w c.1 in
       named_inside path b.0 c.0 d.0 w d.1
 
-  before_ok : (x : Watch) (r : Result (List Watch) WatchFault) (ws : List Watch) → before x r ≡ Ok ws → (more : List Watch) × (r ≡ Ok more) × (x ∷ more ≡ ws)
+  before_ok : (x : Watch) (r : Result (List Watch) WatchFault) (ws : List Watch) → put_first x r ≡ Ok ws → (more : List Watch) × (r ≡ Ok more) × (x ∷ more ≡ ws)
   before_ok x (Ok more) ws h = (more, refl, ok_same (x ∷ more) ws h)
   before_ok x (Err e) ws h = absurd (err_ok e ws h)
 

@@ -83,15 +83,15 @@ watch_at P names path table =
     watch_named P names path entity attr rule))))
 
 -- one watch before the others, unless there is a fault among these
-abbrev pub before : Watch → Result (List Watch) WatchFault → Result (List Watch) WatchFault
-before x (Ok xs) = Ok (x ∷ xs)
-before x (Err fault) = Err fault
+abbrev pub put_first : Watch → Result (List Watch) WatchFault → Result (List Watch) WatchFault
+put_first x (Ok xs) = Ok (x ∷ xs)
+put_first x (Err fault) = Err fault
 
 -- the watches, or the first fault among them
 abbrev pub all_well : List (Result Watch WatchFault) → Result (List Watch) WatchFault
 all_well [] = Ok []
 all_well (Err fault ∷ more) = Err fault
-all_well (Ok x ∷ more) = before x (all_well more)
+all_well (Ok x ∷ more) = put_first x (all_well more)
 
 -- the watch of the table at a place
 abbrev pub watch_in : Plan → List (List ℕ) → ℕ × Json → Result Watch WatchFault

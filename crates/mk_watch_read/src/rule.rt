@@ -1,6 +1,6 @@
 // A rule: its name, its fold, and its body.
 ghost use Rattle.std.specs.Prelude.{◌≡◌, ℤ};
-ghost use Rattle.mk_base.specs.Numbers.{IsShort};
+ghost use Rattle.mk_base.specs.Numbers.{FitsIn64};
 ghost use Rattle.mk_watch_read.specs.Folds.{value_of};
 
 use mk_base::Text;
@@ -22,16 +22,16 @@ pub struct Rule {
     pub name: Text,
     pub fold: Fold,
     body: Box<dyn Fn(i64, i64) -> i64>,
-    ghost callable: { (a : ℤ) (b : ℤ) → IsShort a → IsShort b → pre body a b },
-    ghost answers: { (a : ℤ) (b : ℤ) (c : ℤ) → IsShort a → IsShort b → post body a b c
+    ghost callable: { (a : ℤ) (b : ℤ) → FitsIn64 a → FitsIn64 b → pre body a b },
+    ghost answers: { (a : ℤ) (b : ℤ) (c : ℤ) → FitsIn64 a → FitsIn64 b → post body a b c
         → c ≡ value_of fold a b },
 }
 
 impl Rule {
     /// The rule of this name and fold, which the body computes for two numbers of 64 bits.
     pub fn new(name: Text, fold: Fold, body: Box<dyn Fn(i64, i64) -> i64>) -> Rule
-        requires callable { (a : ℤ) → (b : ℤ) → IsShort a → IsShort b → pre body a b }
-        requires answers { (a : ℤ) → (b : ℤ) → (c : ℤ) → IsShort a → IsShort b → post body a b c
+        requires callable { (a : ℤ) → (b : ℤ) → FitsIn64 a → FitsIn64 b → pre body a b }
+        requires answers { (a : ℤ) → (b : ℤ) → (c : ℤ) → FitsIn64 a → FitsIn64 b → post body a b c
             → c ≡ value_of fold a b }
         ensures name { result.name ≡ name }
         ensures fold { result.fold ≡ fold }

@@ -13,7 +13,7 @@ use Rattle.mk_outside.specs.declared.fleet.LogEntry.{LogEntry}
 use Rattle.mk_outside.specs.Logs.{heard_on}
 use Rattle.mk_scenario.specs.declared.parts.Scenario.{Scenario}
 use Rattle.mk_run_laws.specs.Handshake.{setup_count}
-use Rattle.mk_run_laws.specs.Hearing.{cut, first_frame, first_message, messages_heard, passed}
+use Rattle.mk_run_laws.specs.Hearing.{cut, first_frame, first_message, messages_heard, value_in}
 use Rattle.mk_run_laws.specs.Rests.{run_messages}
 use Rattle.mk_run_laws.proofs.Stepping.{same_is}
 
@@ -24,11 +24,11 @@ IsRead m = (payload : List ℕ) × (message_of payload ≡ Ok m)
 first_read : (held : List ℕ) (f : Message × List ℕ) → first_message held ≡ Some f → IsRead f.0
 first_read held f e = by_frame (first_frame held) e
   where
-    by_payload : (g : List ℕ × List ℕ) (r : Result Message ℕ) → message_of g.0 ≡ r → option_map (λ (m : Message). let p : Message × List ℕ = (m, g.1) in p) (passed r) ≡ Some f → IsRead f.0
+    by_payload : (g : List ℕ × List ℕ) (r : Result Message ℕ) → message_of g.0 ≡ r → option_map (λ (m : Message). let p : Message × List ℕ = (m, g.1) in p) (value_in r) ≡ Some f → IsRead f.0
     by_payload g (Ok m) is e = subst (λ (p : Message × List ℕ). IsRead p.0) (some_same e) (g.0, is)
     by_payload g (Err n) is e = absurd (none_some e)
 
-    by_frame : (o : Option (List ℕ × List ℕ)) → option_and_then (λ (f : List ℕ × List ℕ). option_map (λ (m : Message). let p : Message × List ℕ = (m, f.1) in p) (passed (message_of f.0))) o ≡ Some f → IsRead f.0
+    by_frame : (o : Option (List ℕ × List ℕ)) → option_and_then (λ (f : List ℕ × List ℕ). option_map (λ (m : Message). let p : Message × List ℕ = (m, f.1) in p) (value_in (message_of f.0))) o ≡ Some f → IsRead f.0
     by_frame None e = absurd (none_some e)
     by_frame (Some g) e = by_payload g (message_of g.0) refl e
 

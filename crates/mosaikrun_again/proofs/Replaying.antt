@@ -15,7 +15,7 @@ use Rattle.mk_plan.specs.Orderly.{IsEager}
 use Rattle.mk_order.proofs.Headlines.{orderly_finished}
 use Rattle.mk_order.proofs.Seen.{reached_sound}
 use Rattle.mk_order.proofs.Tables.{start_beyond}
-use Rattle.mk_order.proofs.Settled.{IsAtEnd, faulty, full, quiet, done_is_quiet, replay_is_longest, replay_is_one}
+use Rattle.mk_order.proofs.SameEnd.{IsAtEnd, faulty, full, quiet, done_is_quiet, replay_is_longest, replay_is_one}
 use Rattle.mk_scenario.specs.declared.parts.Scenario.{Scenario}
 use Rattle.mk_sched.specs.declared.faults.CoreFault.{CoreFault}
 use Rattle.mk_sched.specs.Answers.{SomeReady, fault_in}
@@ -30,7 +30,7 @@ use Rattle.mk_record_read.specs.Entries.{entries_in}
 use Rattle.mk_record_laws.specs.Again.{steps_of}
 use Rattle.mk_record_replay.specs.declared.replaying.ReplayEnd.{ReplayEnd}
 use Rattle.mk_record_replay.specs.declared.replaying.ReplayEnd.TheVariants.{Done, Core, Short}
-use Rattle.mk_record_replay.specs.Replays.{EndsBy, IsEndOf, IsLeft, IsWhole, end_with}
+use Rattle.mk_record_replay.specs.Replays.{EndsBy, IsEndOf, SomeUngiven, IsWhole, end_with}
 use Rattle.mk_record_replay.proofs.Counting.{some_are_open}
 use Rattle.mk_record_replay.proofs.OneEnd.{at_end, one_end}
 use Rattle.mk_record_replay.proofs.Pushing.{got_is}
@@ -87,7 +87,7 @@ whole P valid J eager done = let finished = orderly_finished P valid J eager.0 d
 pub full_again : (P : Plan) (J : List Entry) (f : CoreFault) (left : Type 0) → runs.IsFull P J f left → EndsBy P (arrivals J) J (Core f) ⊎ ((n : ℕ) × EndsBy P (arrivals J) J (Short n))
 full_again P J f left at_limit = by_more at_limit.more
   where
-    too_long : IsSome (view P J).owed ⊎ (SomeReady P J ⊎ IsLeft (arrivals J) J) → EndsBy P (arrivals J) J (Core f)
+    too_long : IsSome (view P J).owed ⊎ (SomeReady P J ⊎ SomeUngiven (arrivals J) J) → EndsBy P (arrivals J) J (Core f)
     too_long more = inr (record { named = at_limit.named; full = at_limit.full; no_fault = at_limit.no_fault; more = more })
 
     by_owed : (o : Option Owed) → (view P J).owed ≡ o → IsAwaiting P J → EndsBy P (arrivals J) J (Core f) ⊎ ((n : ℕ) × EndsBy P (arrivals J) J (Short n))

@@ -21,7 +21,7 @@ use Rattle.mosaikrun_sayings.specs.Sayings.{ids_of}
 use Rattle.mosaikrun_run.specs.declared.sayings.Form.{Form}
 use Rattle.mosaikrun_run.specs.declared.sayings.Form.TheVariants.{Report}
 use Rattle.mosaikrun_run.specs.Outcomes.{IsSaid, Outside}
-use Rattle.mosaikrun_run.specs.Records.{HasRecord, IsSettled}
+use Rattle.mosaikrun_run.specs.Records.{HasRecord, EndsOfItself}
 use Rattle.mosaikrun_run.specs.Sayings.{saying_of}
 use Rattle.mosaikrun_again.specs.Readable.{IsShallow}
 use Rattle.mosaikrun_again.specs.Saying.{IsLimitAgain, IsReadAs, IsSaidAgain, IsRecordOfRun, IsToldAgain, RecordsSayTheSame}
@@ -54,26 +54,26 @@ record IsLimited (ids : List (List ℕ)) (P : Plan) (J : List Entry) (end : Outc
   entries : ℕ
   line : saying_of Report ids P J end ≡ Err (ends.Entries entries)
 
-settled_fault : (ids : List (List ℕ)) (P : Plan) (J : List Entry) (f : CoreFault) → IsSaidAgain (outcome.Core f) ⊎ IsLimited ids P J (outcome.Core f)
-settled_fault ids P J (core.Wrong s place cause) = inl refl
-settled_fault ids P J (core.Failed s place) = inl refl
-settled_fault ids P J (core.LoopLimit s time) = inl refl
-settled_fault ids P J (core.TooLong n) = inr (record { fault = core.TooLong n; is = refl; none = refl; entries = n; line = refl })
+ends_faulty : (ids : List (List ℕ)) (P : Plan) (J : List Entry) (f : CoreFault) → IsSaidAgain (outcome.Core f) ⊎ IsLimited ids P J (outcome.Core f)
+ends_faulty ids P J (core.Wrong s place cause) = inl refl
+ends_faulty ids P J (core.Failed s place) = inl refl
+ends_faulty ids P J (core.LoopLimit s time) = inl refl
+ends_faulty ids P J (core.TooLong n) = inr (record { fault = core.TooLong n; is = refl; none = refl; entries = n; line = refl })
 
 module _ (started : ℕ) (S : Scenario) (P : Plan) (J : List Entry) (log : List LogEntry) (faults new_faults : ℕ) (ids : List (List ℕ)) where
-  settled_as : (end : Outcome) → ShownBy started S P J log faults new_faults end → IsSettled (saying_of Report ids P J end) → IsSaidAgain end ⊎ IsLimited ids P J end
-  settled_as outcome.Done shown settled = inl tt
-  settled_as (outcome.Setup f) shown settled = absurd shown
-  settled_as (outcome.Core f) shown settled = settled_fault ids P J f
-  settled_as outcome.Fleet shown settled = absurd settled
-  settled_as (outcome.Gone i) shown settled = absurd settled
-  settled_as (outcome.Garbled i n) shown settled = absurd settled
-  settled_as (outcome.LongFrame i n) shown settled = absurd settled
-  settled_as (outcome.LongItem i n) shown settled = absurd settled
-  settled_as outcome.Mem shown settled = absurd settled
+  ends_as : (end : Outcome) → ShownBy started S P J log faults new_faults end → EndsOfItself (saying_of Report ids P J end) → IsSaidAgain end ⊎ IsLimited ids P J end
+  ends_as outcome.Done shown of_itself = inl tt
+  ends_as (outcome.Setup f) shown of_itself = absurd shown
+  ends_as (outcome.Core f) shown of_itself = ends_faulty ids P J f
+  ends_as outcome.Fleet shown of_itself = absurd of_itself
+  ends_as (outcome.Gone i) shown of_itself = absurd of_itself
+  ends_as (outcome.Garbled i n) shown of_itself = absurd of_itself
+  ends_as (outcome.LongFrame i n) shown of_itself = absurd of_itself
+  ends_as (outcome.LongItem i n) shown of_itself = absurd of_itself
+  ends_as outcome.Mem shown of_itself = absurd of_itself
 
-one_text : (O : Outside) (S : Scenario) (text : Result (List ℕ) Ending) (bytes : List ℕ) → (h : HasRecord O Report S text (Some bytes)) → IsShallow S h.journal → IsSettled text → (o : Result (List ℕ) Ending) → IsOutcome bytes None o → (o ≡ Err ends.Mem → ⊥) → IsToldAgain text o
-one_text O S text bytes h shallow settled o comes not = by_said h.said
+one_text : (O : Outside) (S : Scenario) (text : Result (List ℕ) Ending) (bytes : List ℕ) → (h : HasRecord O Report S text (Some bytes)) → IsShallow S h.journal → EndsOfItself text → (o : Result (List ℕ) Ending) → IsOutcome bytes None o → (o ≡ Err ends.Mem → ⊥) → IsToldAgain text o
+one_text O S text bytes h shallow of_itself o comes not = by_said h.said
   where
     all : IsRecordOfRun (ids_of S) h.plan h.journal h.outcome
     all = saved O Report S text (Some bytes) h shallow
@@ -90,8 +90,8 @@ one_text O S text bytes h shallow settled o comes not = by_said h.said
     by_end same (inr l) = by_limit l same (all.limited l.fault l.is l.none o these not)
 
     by_said : IsSaid (saying_of Report (ids_of S) h.plan h.journal h.outcome) text → IsToldAgain text o
-    by_said (inl same) = by_end same (settled_as O.started S h.plan h.journal O.log O.faults O.new_faults (ids_of S) h.outcome h.run.run.shown (subst (λ (t : Result (List ℕ) Ending). IsSettled t) same settled))
-    by_said (inr mem) = absurd (subst (λ (t : Result (List ℕ) Ending). IsSettled t) mem settled)
+    by_said (inl same) = by_end same (ends_as O.started S h.plan h.journal O.log O.faults O.new_faults (ids_of S) h.outcome h.run.run.shown (subst (λ (t : Result (List ℕ) Ending). EndsOfItself t) same of_itself))
+    by_said (inr mem) = absurd (subst (λ (t : Result (List ℕ) Ending). EndsOfItself t) mem of_itself)
 
 pub records_say_the_same : RecordsSayTheSame
 records_say_the_same = record { saved = saved; one_text = one_text }

@@ -23,7 +23,7 @@ use Rattle.mosaikrun_sayings.specs.Sayings.{ids_of}
 use Rattle.mosaikrun_run.specs.declared.sayings.Form.{Form}
 use Rattle.mosaikrun_run.specs.declared.sayings.Form.TheVariants.{Report}
 use Rattle.mosaikrun_run.specs.Outcomes.{Outside}
-use Rattle.mosaikrun_run.specs.Records.{HasRecord, IsSettled}
+use Rattle.mosaikrun_run.specs.Records.{HasRecord, EndsOfItself}
 use Rattle.mosaikrun_run.specs.Sayings.{saying_of}
 use Rattle.mosaikrun_again.specs.Again.{IsRunAgain}
 use Rattle.mosaikrun_again.specs.Readable.{IsShallow}
@@ -93,6 +93,6 @@ pub record RecordsSayTheSame : Type 0 where
       (kept : Option (List ℕ)) → (h : HasRecord O form S text kept) → IsShallow S h.journal
       → IsRecordOfRun (ids_of S) h.plan h.journal h.outcome
   pub one_text : (O : Outside) (S : Scenario) (text : Result (List ℕ) Ending) (bytes : List ℕ)
-      → (h : HasRecord O Report S text (Some bytes)) → IsShallow S h.journal → IsSettled text
+      → (h : HasRecord O Report S text (Some bytes)) → IsShallow S h.journal → EndsOfItself text
       → (o : Result (List ℕ) Ending) → IsOutcome bytes None o → (o ≡ Err ends.Mem → ⊥)
       → IsToldAgain text o

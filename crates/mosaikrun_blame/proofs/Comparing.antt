@@ -9,7 +9,7 @@ use Rattle.mk_record.specs.Reading.{reading, Said}
 use Rattle.mk_record.specs.Steps.{IsKnown}
 use Rattle.mosaikrun_endings.specs.declared.ending.Ending.{Ending}
 use Rattle.mosaikrun_records.specs.Reports.{IsDoneBy}
-use Rattle.mosaikrun_records.specs.Saved.{IsRecord, IsUnfinished, ReplaysTo}
+use Rattle.mosaikrun_records.specs.Saved.{IsRecord, IsNotDone, ReplaysTo}
 use Rattle.mosaikrun_blame.specs.Blames.{IsBlameText, IsUnblamed}
 use Rattle.mosaikrun_blame.specs.inner.Pairs.{IsComparison, IsWholeOf}
 
@@ -35,11 +35,11 @@ pub record_here : (P : Plan) (A : List Arrival) (s : Option (List Asked)) (bytes
 record_here P A s bytes read = record { plan = P; arrivals = A; steps = s; read = read }
 
 module _ (first second : List ℕ) where
-  pub first_unfinished : (e : Ending) → IsRecord second → IsUnfinished first None e → IsUnblamed first second e
+  pub first_unfinished : (e : Ending) → IsRecord second → IsNotDone first None e → IsUnblamed first second e
   first_unfinished e is (inl wanting) = inl (inl wanting)
   first_unfinished e is (inr stopped) = inr (inr (inl (record { record_is = is; stopped = stopped })))
 
-  pub second_unfinished : (P : Plan) (J : List Entry) (e : Ending) → ReplaysTo first P J → IsUnfinished second None e → IsUnblamed first second e
+  pub second_unfinished : (P : Plan) (J : List Entry) (e : Ending) → ReplaysTo first P J → IsNotDone second None e → IsUnblamed first second e
   second_unfinished P J e replays (inl wanting) = inl (inl wanting)
   second_unfinished P J e replays (inr stopped) = inr (inr (inr (inl (record { plan = P; journal = J; first_replays = replays; stopped = stopped }))))
 

@@ -8,7 +8,7 @@ use Rattle.mk_blame.specs.Verdicts.{IsVerdict}
 use Rattle.mk_blame.specs.Written.{verdict_text}
 use Rattle.mosaikrun_endings.specs.declared.ending.Ending.{Ending}
 use Rattle.mosaikrun_endings.specs.declared.ending.Ending.TheVariants as ends
-use Rattle.mosaikrun_records.specs.Reports.{IsStopped}
+use Rattle.mosaikrun_records.specs.Reports.{EndsEarly}
 use Rattle.mosaikrun_records.specs.Saved.{IsRecord, IsUnread, ReplaysTo}
 
 -- both are records of valid plans, and each replay, the messages as they came, comes to a journal
@@ -33,14 +33,14 @@ pub record IsBlameText (first second text : List ℕ) : Type 0 where
 -- both are records, and the first's replay isn't done; the ending says why
 pub record IsFirstStopped (first second : List ℕ) (ending : Ending) : Type 0 where
   pub record_is : IsRecord second
-  pub stopped : IsStopped first None ending
+  pub stopped : EndsEarly first None ending
 
 -- the first's replay is done, and the second's isn't; the ending says why
 pub record IsSecondStopped (first second : List ℕ) (ending : Ending) : Type 0 where
   pub plan : Plan
   pub journal : List Entry
   pub first_replays : ReplaysTo first plan journal
-  pub stopped : IsStopped second None ending
+  pub stopped : EndsEarly second None ending
 
 -- both replays are done, and the ending names the first part in which the plans differ
 pub record IsOfAnotherPlan (first second : List ℕ) (ending : Ending) : Type 0 where

@@ -4,7 +4,7 @@ use Rattle.std.proofs.lemmas.List.{take_all}
 use Rattle.std.proofs.lemmas.Bool.{cases_lt}
 use Rattle.mk_base.specs.Lists.{Each, IsIn}
 use Rattle.mk_base.proofs.Lists.{below_get, at_in}
-use Rattle.mk_cycles.specs.Cycles.{IsCycle, IsLeft, IsLoop}
+use Rattle.mk_cycles.specs.Cycles.{IsCycle, IsUnplaced, IsLoop}
 use Rattle.mk_cycles.specs.Edges.{has_edge}
 use Rattle.mk_cycles.specs.Orders.{IsNext, IsOrder, IsRanking, MayFollow}
 use Rattle.mk_cycles.specs.Outcomes.{numbers}
@@ -37,12 +37,12 @@ module _ (before : ℕ → ℕ → Bool) (n : ℕ) where
       (split_at r s.0 o s.1).0 ∙ ap (λ (x : ℕ). take r o ++ x ∷ []) next ∙ ap (λ (l : List ℕ). l ++ t.0 ∷ []) same ∙ sym (split_at r t.0 p t.1).0
 
   -- a loop among those left begins with one that is left
-  loop_left : (order walk : List ℕ) → IsLoop before n order walk → (first : ℕ) × IsLeft n order first
+  loop_left : (order walk : List ℕ) → IsLoop before n order walk → (first : ℕ) × IsUnplaced n order first
   loop_left order [] l = absurd l
   loop_left order (first ∷ more) l = (first, reached_left before n order first l.0)
 
   -- an order that goes no further is no shorter than one that has all, and then nobody is left
-  no_cycle : (o p ranks : List ℕ) (s r : ℕ) → IsOrder before n o → length o ≡ n → IsOrder before n p → ((t : ℕ) → MayFollow before n p t → ⊥) → IsLeft n p s → slice_get o r ≡ Some s → ⊥
+  no_cycle : (o p ranks : List ℕ) (s r : ℕ) → IsOrder before n o → length o ≡ n → IsOrder before n p → ((t : ℕ) → MayFollow before n p t → ⊥) → IsUnplaced n p s → slice_get o r ≡ Some s → ⊥
   no_cycle o p ranks s r io all ip stuck left place = elim (cases_lt (length p) n) [ inl short ↦ further short | inr long ↦ left.1 (among long) ]
     where
       further : length p < n → ⊥

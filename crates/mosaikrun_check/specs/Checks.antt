@@ -25,14 +25,15 @@ IsUnread bytes e = (e ≡ ends.Mem)
     ⊎ ((fault : ScenarioFault) × (e ≡ ends.Scenario fault) × (scenario_of bytes ≡ Err fault))
 
 -- the bytes are a scenario that can't be run
-pub record IsStuck (kinds : List (List ℕ)) (bytes : List ℕ) (ending : Ending) : Type 0 where
+pub record IsUnrunnableText (kinds : List (List ℕ)) (bytes : List ℕ)
+    (ending : Ending) : Type 0 where
   pub scenario : Scenario
   pub read : scenario_of bytes ≡ Ok scenario
   pub cause : IsUnrunnable kinds scenario ending
 
 -- why nothing is printed of the bytes
 abbrev pub IsUnchecked : List (List ℕ) → List ℕ → Ending → Type 0
-IsUnchecked kinds bytes e = IsUnread bytes e ⊎ IsStuck kinds bytes e
+IsUnchecked kinds bytes e = IsUnread bytes e ⊎ IsUnrunnableText kinds bytes e
 
 -- what `check` makes of these bytes: the text that it prints, or why there is none
 abbrev pub IsOutcome : List (List ℕ) → List ℕ → Result (List ℕ) Ending → Type 0

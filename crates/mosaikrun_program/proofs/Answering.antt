@@ -12,7 +12,7 @@ use Rattle.mosaikrun_program.specs.Commands.{IsAsked, IsOutcomeOf, IsUnasked, Is
 use Rattle.mosaikrun_program.specs.Answers.{PrintAnswer, SaveAnswer, TextAnswer}
 use Rattle.mosaikrun_program.specs.Around.{Around, FolderSeen, IsCutBy, OutputSeen}
 use Rattle.mosaikrun_program.specs.Running.{IsDoneOver, IsFolderAfter, RunAnswer}
-use Rattle.mosaikrun_program.specs.Program.{Ended, HasPerformed, IsStatusOr, KeepsOthers, status}
+use Rattle.mosaikrun_program.specs.Program.{EndedAs, HasPerformed, IsStatusOr, KeepsOthers, status}
 use Rattle.mosaikrun_program.proofs.NeverUsage.{as_not_usage}
 use Rattle.mosaikrun_program.proofs.Rows.{row_of, row_over}
 
@@ -64,15 +64,15 @@ performed_as_mem S e (inl made) = inl (record {
 performed_as_mem S e (inr ran) = inr (record { request = ran.request; asked = ran.asked; run = done_as_mem S ran.request e ran.run })
 
 -- want of memory may be said instead
-as_mem : (S : Around) (e : Ending) → Ended S (Err e) → Ended S (Err Mem)
+as_mem : (S : Around) (e : Ending) → EndedAs S (Err e) → EndedAs S (Err Mem)
 as_mem S e (inl misused) = inl (record { cause = inl refl; untouched = misused.untouched })
 as_mem S e (inr (inl unread)) = inl (record { cause = inl refl; untouched = unread.untouched })
 as_mem S e (inr (inr done)) = inr (inr (performed_as_mem S e done))
 
 -- what is said holds, where it is the ending or want of memory
-pub said_ended : (S : Around) (e f : Ending) → Ended S (Err f) → (e ≡ f) ⊎ (e ≡ Mem) → Ended S (Err e)
-said_ended S e f ended (inl same) = subst (λ (x : Ending). Ended S (Err x)) (sym same) ended
-said_ended S e f ended (inr mem) = subst (λ (x : Ending). Ended S (Err x)) (sym mem) (as_mem S f ended)
+pub said_ended : (S : Around) (e f : Ending) → EndedAs S (Err f) → (e ≡ f) ⊎ (e ≡ Mem) → EndedAs S (Err e)
+said_ended S e f ended (inl same) = subst (λ (x : Ending). EndedAs S (Err x)) (sym same) ended
+said_ended S e f ended (inr mem) = subst (λ (x : Ending). EndedAs S (Err x)) (sym mem) (as_mem S f ended)
 
 -- words ask for one thing
 pub one_request : (words : List (List ℕ)) (R Q : Request) → IsAsked words R → IsAsked words Q → R ≡ Q
@@ -191,7 +191,7 @@ performed_not_usage S e (inl made) usage = text_not_usage S (target_of made.comm
 performed_not_usage S e (inr ran) usage = answer_not_usage S.folder S.output (saved_name ran.request) ran.run.text ran.run.kept e ran.run.ended ((row_over S.outside ran.request).never ran.run.read ran.run.text ran.run.kept ran.run.outcome) usage
 
 -- the status 2 comes only where the words ask for nothing
-pub usage_only : (S : Around) (r : Result (Unit {0}) Ending) → Ended S r → status r ≡ 2 → (R : Request) → IsAsked S.words R → ⊥
+pub usage_only : (S : Around) (r : Result (Unit {0}) Ending) → EndedAs S r → status r ≡ 2 → (R : Request) → IsAsked S.words R → ⊥
 usage_only S (Ok done) ended two R asked = absurd (omega (arith, two))
 usage_only S (Err e) (inl misused) two R asked = misused_two S.words e misused.cause (only_usage e two) R asked
 usage_only S (Err e) (inr (inl unread)) two R asked = unread_not_two _ _ _ e unread.stuck.cause (only_usage e two)
@@ -203,7 +203,7 @@ performed_asked S r (inl made) = (Reads made.command, made.asked)
 performed_asked S r (inr ran) = (ran.request, ran.asked)
 
 -- and there it comes, but for want of memory
-pub useless_words : (S : Around) (r : Result (Unit {0}) Ending) → Ended S r → ((R : Request) → IsAsked S.words R → ⊥) → IsStatusOr 2 (status r)
+pub useless_words : (S : Around) (r : Result (Unit {0}) Ending) → EndedAs S r → ((R : Request) → IsAsked S.words R → ⊥) → IsStatusOr 2 (status r)
 useless_words S (Ok done) performed none = let asked = performed_asked S (Ok done) performed in absurd (none asked.0 asked.1)
 useless_words S (Err e) (inl misused) none = unasked_status S.words e misused.cause
 useless_words S (Err e) (inr (inl unread)) none = absurd (none unread.request unread.asked)
@@ -233,7 +233,7 @@ performed_keeps : (S : Around) (r : Result (Unit {0}) Ending) → HasPerformed S
 performed_keeps S r (inl made) = made_keeps S made.command (target_of made.command) made.text r made.asked refl made.ended
 performed_keeps S r (inr ran) = run_keeps S ran.request (saved_name ran.request) ran.run.text ran.run.kept r ran.asked refl ran.run.ended
 
-pub keeps_others : (S : Around) (r : Result (Unit {0}) Ending) → Ended S r → KeepsOthers S.words S.folder.files S.folder.files_after
+pub keeps_others : (S : Around) (r : Result (Unit {0}) Ending) → EndedAs S r → KeepsOthers S.words S.folder.files S.folder.files_after
 keeps_others S (Ok done) performed = performed_keeps S (Ok done) performed
 keeps_others S (Err e) (inl misused) = inl misused.untouched.unsaved
 keeps_others S (Err e) (inr (inl unread)) = inl unread.untouched.unsaved

@@ -8,9 +8,9 @@ use Rattle.mosaikrun_check.specs.Checks.{IsUnchecked}
 use Rattle.mosaikrun_endings.specs.declared.ending.Ending.{Ending}
 use Rattle.mosaikrun_resume.specs.Outcomes.{IsStudy, IsStudyOutcome}
 use Rattle.mosaikrun_program.specs.Around.{Around}
-use Rattle.mosaikrun_program.specs.Commands.{IsAsked, IsHeld, IsUnreadable}
+use Rattle.mosaikrun_program.specs.Commands.{IsAsked, HasBytes, IsUnreadable}
 use Rattle.mosaikrun_program.specs.Running.{RunAnswer}
-use Rattle.mosaikrun_program.specs.Program.{Ended}
+use Rattle.mosaikrun_program.specs.Program.{EndedAs}
 use Rattle.mosaikrun_program.proofs.Answering.{is_memory}
 use Rattle.mosaikrun_program.proofs.Playing.{none_saved, performed}
 use Rattle.mosaikrun_program.proofs.Resuming.{refused_not}
@@ -23,7 +23,7 @@ module _ (S : Around) (scenario recorded : List ℕ) (name : Option (List ℕ)) 
   kinds = map name_of S.outside.kinds
 
   -- the scenario was refused, or memory was wanting
-  pub first_refused : (bytes : List ℕ) (e : Ending) → IsHeld S.folder.files scenario bytes → IsUnchecked kinds bytes e → S.output.after ≡ S.output.before → S.folder.files_after ≡ S.folder.files → S.outside.log ≡ [] → S.outside.new_faults ≡ S.outside.faults → Ended S (Err e)
+  pub first_refused : (bytes : List ℕ) (e : Ending) → HasBytes S.folder.files scenario bytes → IsUnchecked kinds bytes e → S.output.after ≡ S.output.before → S.folder.files_after ≡ S.folder.files → S.outside.log ≡ [] → S.outside.new_faults ≡ S.outside.faults → EndedAs S (Err e)
   first_refused bytes e held cause unput unsaved log faults = elim (is_memory e) [
     | inl mem ↦ inr (inl (record {
       request = Resume scenario recorded name;
@@ -46,8 +46,8 @@ module _ (S : Around) (scenario recorded : List ℕ) (name : Option (List ℕ)) 
   ]
 
   -- the record's file isn't read
-  pub second_stuck : (bytes : List ℕ) (e : Ending) → IsHeld S.folder.files scenario bytes → IsStudy kinds bytes → IsUnreadable S.folder.files recorded (HasRisen S.folder.faults S.folder.new_faults) e
-      → S.output.after ≡ S.output.before → S.folder.files_after ≡ S.folder.files → S.outside.log ≡ [] → S.outside.new_faults ≡ S.outside.faults → Ended S (Err e)
+  pub second_stuck : (bytes : List ℕ) (e : Ending) → HasBytes S.folder.files scenario bytes → IsStudy kinds bytes → IsUnreadable S.folder.files recorded (HasRisen S.folder.faults S.folder.new_faults) e
+      → S.output.after ≡ S.output.before → S.folder.files_after ≡ S.folder.files → S.outside.log ≡ [] → S.outside.new_faults ≡ S.outside.faults → EndedAs S (Err e)
   second_stuck bytes e held study cause unput unsaved log faults = inr (inl (record {
     request = Resume scenario recorded name;
     asked = asked;
@@ -56,8 +56,8 @@ module _ (S : Around) (scenario recorded : List ℕ) (name : Option (List ℕ)) 
   }))
 
   -- both were read
-  pub gone_on : (answer : Result (Unit {0}) Ending) (bytes old : List ℕ) → IsHeld S.folder.files scenario bytes → IsHeld S.folder.files recorded old → (study : IsStudy kinds bytes) (text : Result (List ℕ) Ending) (kept : Option (List ℕ))
-      → IsStudyOutcome S.outside (is_some name) study.scenario study.ranks old text kept → RunAnswer S.folder S.output name text kept answer → Ended S answer
+  pub gone_on : (answer : Result (Unit {0}) Ending) (bytes old : List ℕ) → HasBytes S.folder.files scenario bytes → HasBytes S.folder.files recorded old → (study : IsStudy kinds bytes) (text : Result (List ℕ) Ending) (kept : Option (List ℕ))
+      → IsStudyOutcome S.outside (is_some name) study.scenario study.ranks old text kept → RunAnswer S.folder S.output name text kept answer → EndedAs S answer
   gone_on answer bytes old held too study text kept outcome said = performed S answer (inr (record {
     request = Resume scenario recorded name;
     asked = asked;

@@ -11,12 +11,12 @@ use Rattle.mosaikrun_words.specs.declared.request.Request.TheVariants.{Files as 
 use Rattle.mosaikrun_endings.specs.declared.ending.Ending.{Ending}
 use Rattle.mosaikrun_endings.specs.declared.ending.Ending.TheVariants.{Mem}
 use Rattle.mosaikrun_endings.specs.Endings.{outcome_status, status_of}
-use Rattle.mosaikrun_program.specs.Commands.{AreHeld, IsAccepted, IsAsked, IsMade, IsNext, IsNoFile, IsOutcomeOf, IsReadOn, IsStuckBy, IsUnreadable, files_of, read_by, target_of}
+use Rattle.mosaikrun_program.specs.Commands.{AreHeld, IsAccepted, IsAsked, ComesOfFiles, IsNext, IsNoFile, IsOutcomeOf, IsReadOn, IsStuckBy, IsUnreadable, files_of, read_by, target_of}
 use Rattle.mosaikrun_program.specs.Answers.{TextAnswer}
 use Rattle.mosaikrun_program.specs.Around.{Around}
 use Rattle.mosaikrun_program.specs.Making.{HasMade}
 use Rattle.mosaikrun_program.specs.Running.{HasRunAs, IsDoneOver}
-use Rattle.mosaikrun_program.specs.Program.{Ended, HasPerformed, IsStatusOr, status}
+use Rattle.mosaikrun_program.specs.Program.{EndedAs, HasPerformed, IsStatusOr, status}
 use Rattle.mosaikrun_program.proofs.Answering.{cut_status, is_memory, memory, one_command, one_request, unasked_not}
 use Rattle.mosaikrun_program.proofs.Rows.{IsThere, row_of, row_over, there_not}
 
@@ -62,7 +62,7 @@ module _ (S : Around) (held : Files) (told : S.folder.files ≡ Some held) (comm
   made_status : (r : Result (Unit {0}) Ending) → HasMade S r → IsStatusOr (outcome_status o) (status r)
   made_status r has =
       let same : has.command ≡ command = one_command S.words has.command command has.asked asked in
-      let made = subst (λ (c : FileCommand). IsMade (Some held) S.outside.kinds S.rules c has.text) same (subst (λ (f : Option Files). IsMade f S.outside.kinds S.rules has.command has.text) told has.made) in
+      let made = subst (λ (c : FileCommand). ComesOfFiles (Some held) S.outside.kinds S.rules c has.text) same (subst (λ (f : Option Files). ComesOfFiles f S.outside.kinds S.rules has.command has.text) told has.made) in
       text_status (outcome_status o) S (target_of has.command) has.text r has.ended (λ other. (row_of S.outside.kinds S.rules command).one held made.read read has.text o made.held there made.made outcome other not)
 
   this_one : (Q : Request) → IsAsked S.words Q → Q ≡ Reads command
@@ -78,7 +78,7 @@ module _ (S : Around) (held : Files) (told : S.folder.files ≡ Some held) (comm
       let seen = subst (λ (f : Option Files). AreHeld f (read_by command) here.read) told here.held in
       readable_status held S.folder.files here.name (HasRisen S.folder.faults S.folder.new_faults) e wanted told ((row_of S.outside.kinds S.rules command).next held read here.read here.name o there seen here.on outcome here.next) here.cause
 
-  decided_status : (r : Result (Unit {0}) Ending) → Ended S r → IsStatusOr (outcome_status o) (status r)
+  decided_status : (r : Result (Unit {0}) Ending) → EndedAs S r → IsStatusOr (outcome_status o) (status r)
   decided_status (Ok done) performed = performed_status (Ok done) performed
   decided_status (Err e) (inl misused) = unasked_not S.words e misused.cause (outcome_status o) (Reads command) asked
   decided_status (Err e) (inr (inl unread)) = stuck_status unread.request e (outcome_status o) (this_one unread.request unread.asked) unread.stuck
@@ -90,7 +90,7 @@ module _ (S : Around) (held : Files) (told : S.folder.files ≡ Some held) (R : 
   not_made : (r : Result (Unit {0}) Ending) → HasMade S r → ⊥
   not_made r has =
       let same : R ≡ Reads has.command = one_request S.words R (Reads has.command) asked has.asked in
-      let made = subst (λ (f : Option Files). IsMade f S.outside.kinds S.rules has.command has.text) told has.made in
+      let made = subst (λ (f : Option Files). ComesOfFiles f S.outside.kinds S.rules has.command has.text) told has.made in
       let had = subst (λ (X : Request). AreHeld (Some held) (files_of X) before) same seen in
       let comes = subst (λ (X : Request). IsNext (files_of X) before name) same next in
       there_not held name ((row_of S.outside.kinds S.rules has.command).next held made.read before name has.text made.held had (subst (λ (X : Request). IsReadOn (IsAccepted (map name_of S.outside.kinds) X) before) same on) made.made comes) nothing
@@ -113,19 +113,19 @@ module _ (S : Around) (held : Files) (told : S.folder.files ≡ Some held) (R : 
   no_file_cause files other risen e (inr (inr (inl missing))) = inl (ap status_of missing.0)
   no_file_cause files other risen e (inr (inr (inr long))) = inl (ap status_of long.1)
 
-  no_file_status : (r : Result (Unit {0}) Ending) → Ended S r → IsStatusOr 3 (status r)
+  no_file_status : (r : Result (Unit {0}) Ending) → EndedAs S r → IsStatusOr 3 (status r)
   no_file_status (Ok done) performed = absurd (not_performed (Ok done) performed)
   no_file_status (Err e) (inl misused) = unasked_not S.words e misused.cause 3 R asked
   no_file_status (Err e) (inr (inl unread)) = no_file_cause _ _ _ e unread.stuck.cause
   no_file_status (Err e) (inr (inr performed)) = absurd (not_performed (Err e) performed)
 
 -- the same where the folder may not tell
-pub told_decided : (S : Around) (files : Option Files) (r : Result (Unit {0}) Ending) (n : ℕ) → S.folder.files ≡ files → n ≡ status r → Ended S r
+pub told_decided : (S : Around) (files : Option Files) (r : Result (Unit {0}) Ending) (n : ℕ) → S.folder.files ≡ files → n ≡ status r → EndedAs S r
     → IfSome files (λ held. (command : FileCommand) → (read : List (List ℕ)) → (o : Result (List ℕ) Ending) → IsAsked S.words (Reads command) → AreHeld (Some held) (read_by command) read → IsOutcomeOf S.outside.kinds S.rules command read o → (o ≡ Err Mem → ⊥) → IsStatusOr (outcome_status o) n)
 told_decided S None r n told is ended = tt
 told_decided S (Some held) r n told is ended = λ command read o asked there outcome not. subst (IsStatusOr (outcome_status o)) (sym is) (decided_status S held told command asked read there o outcome not r ended)
 
-pub told_no_file : (S : Around) (files : Option Files) (r : Result (Unit {0}) Ending) (n : ℕ) → S.folder.files ≡ files → n ≡ status r → Ended S r
+pub told_no_file : (S : Around) (files : Option Files) (r : Result (Unit {0}) Ending) (n : ℕ) → S.folder.files ≡ files → n ≡ status r → EndedAs S r
     → IfSome files (λ held. (R : Request) → (read : List (List ℕ)) → (name : List ℕ) → IsAsked S.words R → AreHeld (Some held) (files_of R) read → IsReadOn (IsAccepted (map name_of S.outside.kinds) R) read → IsNext (files_of R) read name → IsNoFile (held name) → IsStatusOr 3 n)
 told_no_file S None r n told is ended = tt
 told_no_file S (Some held) r n told is ended = λ R read name asked there on next nothing. subst (IsStatusOr 3) (sym is) (no_file_status S held told R asked read name there on next nothing r ended)

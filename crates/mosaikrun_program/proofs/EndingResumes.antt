@@ -41,9 +41,9 @@ use Rattle.mosaikrun_sayings.specs.Sayings.{ids_of}
 use Rattle.mosaikrun_resume.specs.Outcomes.{IsResumeOutcome, IsSavedOutcome, IsStudy}
 use Rattle.mosaikrun_resume.specs.Sayings.{resume_saying}
 use Rattle.mosaikrun_program.specs.Around.{Around}
-use Rattle.mosaikrun_program.specs.Commands.{AreHeld, IsAccepted, IsAsked, IsHeld, IsNext, IsReadOn, IsStuckBy, IsUnreadable, OfTwoBy, files_of}
+use Rattle.mosaikrun_program.specs.Commands.{AreHeld, IsAccepted, IsAsked, HasBytes, IsNext, IsReadOn, IsStuckBy, IsUnreadable, OfTwoBy, files_of}
 use Rattle.mosaikrun_program.specs.Complete.{IsFaultlessResume, IsRightRecord}
-use Rattle.mosaikrun_program.specs.Program.{Ended, HasPerformed, IsStatusOr, status}
+use Rattle.mosaikrun_program.specs.Program.{EndedAs, HasPerformed, IsStatusOr, status}
 use Rattle.mosaikrun_program.specs.Running.{IsDoneOver, RunAnswer}
 use Rattle.mosaikrun_program.proofs.Answering.{one_request, unasked_not}
 use Rattle.mosaikrun_program.proofs.Deciding.{readable_status}
@@ -199,8 +199,8 @@ module _ (C : Around) (held : Files) (told : C.folder.files ≡ Some held) (scen
   this_one Q other = one_request C.words Q (Resume scenario record_ saved) other asked
 
   -- the bytes that were read are these
-  these : (file b c : List ℕ) → held file ≡ Some c → IsHeld C.folder.files file b → b ≡ c
-  these file b c is h = let seen = subst (λ (files : Option Files). IsHeld files file b) told h in some_same (sym seen.0 ∙ is)
+  these : (file b c : List ℕ) → held file ≡ Some c → HasBytes C.folder.files file b → b ≡ c
+  these file b c is h = let seen = subst (λ (files : Option Files). HasBytes files file b) told h in some_same (sym seen.0 ∙ is)
 
   was_resumed : (r : Result (Unit {0}) Ending) → IsDoneOver C (Resume scenario record_ saved) r → WasResumed r
   was_resumed r d = by d.read d.held d.outcome
@@ -243,13 +243,13 @@ module _ (C : Around) (held : Files) (told : C.folder.files ≡ Some held) (scen
       ]
       by (b ∷ r ∷ more) file next h on cause = absurd next
 
-  by_run : length bytes ≤ file_limit → (IsStudy (map name_of C.outside.kinds) bytes → ⊥) ⊎ IsThere held record_ → (wanted : ℕ) → ((r : Result (Unit {0}) Ending) → WasResumed r → IsStatusOr wanted (status r)) → (r : Result (Unit {0}) Ending) → Ended C r → IsStatusOr wanted (status r)
+  by_run : length bytes ≤ file_limit → (IsStudy (map name_of C.outside.kinds) bytes → ⊥) ⊎ IsThere held record_ → (wanted : ℕ) → ((r : Result (Unit {0}) Ending) → WasResumed r → IsStatusOr wanted (status r)) → (r : Result (Unit {0}) Ending) → EndedAs C r → IsStatusOr wanted (status r)
   by_run short second wanted of_run (Ok done) performed = by_performed wanted of_run (Ok done) performed
   by_run short second wanted of_run (Err e) (inl misused) = unasked_not C.words e misused.cause wanted (Resume scenario record_ saved) asked
   by_run short second wanted of_run (Err e) (inr (inl stuck)) = stuck_status short second stuck.request e wanted (this_one stuck.request stuck.asked) stuck.stuck
   by_run short second wanted of_run (Err e) (inr (inr performed)) = by_performed wanted of_run (Err e) performed
 
-  module _ (short : length bytes ≤ file_limit) (r : Result (Unit {0}) Ending) (done : Ended C r) where
+  module _ (short : length bytes ≤ file_limit) (r : Result (Unit {0}) Ending) (done : EndedAs C r) where
     of_scenario : (e : Ending) → IsUnchecked (map name_of C.outside.kinds) bytes e → (e ≡ Mem → ⊥) → IsStatusOr 3 (status r)
     of_scenario e un not = by_run short (inl (refused_not (map name_of C.outside.kinds) bytes e un not)) 3 (λ s w. refused C saved bytes w.some w.text w.kept s w.answered w.came_so e un not) r done
 
@@ -270,7 +270,7 @@ EndsAt C held n = (scenario recorded : List ℕ) (saved : Option (List ℕ)) (by
     × ((old : List ℕ) → held recorded ≡ Some old → length old ≤ file_limit → (IsFaultlessResume C.outside bytes old → IsStatusOr 0 n) × ((e : Ending) → IsUnread old e → (e ≡ Mem → ⊥) → IsStatusOr 3 n))
 
 -- where the folder tells, and where it doesn't
-pub ends_resume : HandshakesComplete → (C : Around) (files : Option Files) (r : Result (Unit {0}) Ending) (n : ℕ) → C.folder.files ≡ files → n ≡ status r → Ended C r → IfSome files (λ held. EndsAt C held n)
+pub ends_resume : HandshakesComplete → (C : Around) (files : Option Files) (r : Result (Unit {0}) Ending) (n : ℕ) → C.folder.files ≡ files → n ≡ status r → EndedAs C r → IfSome files (λ held. EndsAt C held n)
 ends_resume law C None r n told is done = tt
 ends_resume law C (Some held) r n told is done = subst (EndsAt C held) (sym is) (λ scenario recorded saved bytes asked there short. (
   of_scenario C held told scenario recorded saved asked bytes there short r done,

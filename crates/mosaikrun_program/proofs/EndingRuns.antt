@@ -31,9 +31,9 @@ use Rattle.mosaikrun_run.specs.Outcomes.{IsRunOutcome, IsScenarioOutcome}
 use Rattle.mosaikrun_run.specs.Sayings.{halt_ending, saying_of, text_of}
 use Rattle.mosaikrun_run.proofs.Telling.{one_scenario}
 use Rattle.mosaikrun_program.specs.Around.{Around}
-use Rattle.mosaikrun_program.specs.Commands.{IsAccepted, IsAsked, IsHeld, IsNext, IsStuckBy, files_of}
+use Rattle.mosaikrun_program.specs.Commands.{IsAccepted, IsAsked, HasBytes, IsNext, IsStuckBy, files_of}
 use Rattle.mosaikrun_program.specs.Complete.{IsFaultlessStudy}
-use Rattle.mosaikrun_program.specs.Program.{Ended, HasPerformed, IsStatusOr, status}
+use Rattle.mosaikrun_program.specs.Program.{EndedAs, HasPerformed, IsStatusOr, status}
 use Rattle.mosaikrun_program.specs.Running.{IsDoneOver, RunAnswer}
 use Rattle.mosaikrun_program.proofs.Answering.{cut_status, memory, one_request, unasked_not}
 use Rattle.mosaikrun_program.proofs.Deciding.{readable_status}
@@ -122,7 +122,7 @@ module _ (C : Around) (held : Files) (told : C.folder.files ≡ Some held) (scen
   -- the run is of these bytes
   these : (r : Result (Unit {0}) Ending) → (ran : WasRun C scenario saved r) → ran.bytes ≡ bytes
   these r ran =
-      let seen = subst (λ (files : Option Files). IsHeld files scenario ran.bytes) told ran.held in
+      let seen = subst (λ (files : Option Files). HasBytes files scenario ran.bytes) told ran.held in
       let both : Some ran.bytes ≡ Some bytes = sym seen.0 ∙ there in
       cc
 
@@ -141,20 +141,20 @@ module _ (C : Around) (held : Files) (told : C.folder.files ≡ Some held) (scen
   by_performed wanted of_run r (inl made) = let wrong = this_run (Reads made.command) made.asked in absurd cc
   by_performed wanted of_run r (inr ran) = of_run r (was_run C scenario saved r (subst (λ (Q : Request). IsDoneOver C Q r) (this_run ran.request ran.asked) ran.run))
 
-  by_run : (wanted : ℕ) → ((r : Result (Unit {0}) Ending) → WasRun C scenario saved r → IsStatusOr wanted (status r)) → (r : Result (Unit {0}) Ending) → Ended C r → IsStatusOr wanted (status r)
+  by_run : (wanted : ℕ) → ((r : Result (Unit {0}) Ending) → WasRun C scenario saved r → IsStatusOr wanted (status r)) → (r : Result (Unit {0}) Ending) → EndedAs C r → IsStatusOr wanted (status r)
   by_run wanted of_run (Ok done) performed = by_performed wanted of_run (Ok done) performed
   by_run wanted of_run (Err e) (inl misused) = unasked_not C.words e misused.cause wanted (Run scenario saved) asked
   by_run wanted of_run (Err e) (inr (inl unread)) = unread_run unread.request e wanted unread.asked unread.stuck
   by_run wanted of_run (Err e) (inr (inr performed)) = by_performed wanted of_run (Err e) performed
 
-  both : HandshakesComplete → (r : Result (Unit {0}) Ending) → Ended C r → (IsFaultlessStudy C.outside bytes → IsStatusOr 0 (status r)) × ((e : Ending) → IsUnchecked (map name_of C.outside.kinds) bytes e → (e ≡ Mem → ⊥) → IsStatusOr 3 (status r))
+  both : HandshakesComplete → (r : Result (Unit {0}) Ending) → EndedAs C r → (IsFaultlessStudy C.outside bytes → IsStatusOr 0 (status r)) × ((e : Ending) → IsUnchecked (map name_of C.outside.kinds) bytes e → (e ≡ Mem → ⊥) → IsStatusOr 3 (status r))
   both law r done = (
     (λ fine. by_run 0 (λ s ran. ended C saved bytes ran.text ran.kept s ran.ended law (subst (λ (b : List ℕ). IsRunOutcome C.outside (is_some saved) b ran.text ran.kept) (these s ran) ran.outcome) fine) r done),
     (λ e un not. by_run 3 (λ s ran. refused C saved bytes ran.text ran.kept s ran.ended (subst (λ (b : List ℕ). IsRunOutcome C.outside (is_some saved) b ran.text ran.kept) (these s ran) ran.outcome) e un not) r done),
   )
 
 -- the same where the folder may not tell
-pub ends_run : HandshakesComplete → (C : Around) (files : Option Files) (r : Result (Unit {0}) Ending) (n : ℕ) → C.folder.files ≡ files → n ≡ status r → Ended C r
+pub ends_run : HandshakesComplete → (C : Around) (files : Option Files) (r : Result (Unit {0}) Ending) (n : ℕ) → C.folder.files ≡ files → n ≡ status r → EndedAs C r
     → IfSome files (λ held. (scenario : List ℕ) (saved : Option (List ℕ)) (bytes : List ℕ) → IsAsked C.words (Run scenario saved) → held scenario ≡ Some bytes → length bytes ≤ file_limit
     → (IsFaultlessStudy C.outside bytes → IsStatusOr 0 n) × ((e : Ending) → IsUnchecked (map name_of C.outside.kinds) bytes e → (e ≡ Mem → ⊥) → IsStatusOr 3 n))
 ends_run law C None r n told is done = tt

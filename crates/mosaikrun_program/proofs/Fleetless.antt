@@ -6,7 +6,7 @@ use Rattle.mk_scenario.specs.declared.parts.Scenario.{Scenario}
 use Rattle.mk_scenario.specs.Scenarios.{scenario_of}
 use Rattle.mk_run_crew.specs.Wholly.{is_wholly_within}
 use Rattle.mosaikrun_words.specs.declared.request.Request.TheVariants.{Run, Resume, Paced}
-use Rattle.mosaikrun_program.specs.Commands.{IsAsked, IsHeld}
+use Rattle.mosaikrun_program.specs.Commands.{IsAsked, HasBytes}
 use Rattle.mosaikrun_program.specs.Fleetless.{IsHeldWithin, IsWithin, NeedsNoFleet}
 use Rattle.mosaikrun_program.proofs.Answering.{one_request}
 
@@ -39,11 +39,11 @@ pace_needs words files name factor strict saved asked (inr (inl run)) = let wron
 pace_needs words files name factor strict saved asked (inr (inr again)) = let wrong = one_request words (Resume again.name again.recorded again.saved) (Paced name factor strict saved) again.asked asked in cc
 
 -- the file's bytes are those that were read
-pub bytes_within : (files : Option Files) (name bytes : List ℕ) → IsHeld files name bytes → IsHeldWithin files name → IsWithin bytes
-bytes_within files name bytes is h = subst (λ (b : List ℕ). IsWithin b) (some_same (sym h.there ∙ (subst (λ (o : Option Files). IsHeld o name bytes) h.told is).0)) h.within
+pub bytes_within : (files : Option Files) (name bytes : List ℕ) → HasBytes files name bytes → IsHeldWithin files name → IsWithin bytes
+bytes_within files name bytes is h = subst (λ (b : List ℕ). IsWithin b) (some_same (sym h.there ∙ (subst (λ (o : Option Files). HasBytes o name bytes) h.told is).0)) h.within
 
 -- where the bytes that are run are those that were read, they are such a scenario
-pub does_nothing : {X : Type 0} (files : Option Files) (name bytes run : List ℕ) → IsHeld files name bytes → run ≡ bytes → ((S : Scenario) → scenario_of run ≡ Ok S → is_wholly_within S ≡ true → X) → IsHeldWithin files name → X
+pub does_nothing : {X : Type 0} (files : Option Files) (name bytes run : List ℕ) → HasBytes files name bytes → run ≡ bytes → ((S : Scenario) → scenario_of run ≡ Ok S → is_wholly_within S ≡ true → X) → IsHeldWithin files name → X
 does_nothing files name bytes run is same within h =
     let w = subst (λ (b : List ℕ). IsWithin b) (sym same) (bytes_within files name bytes is h) in
     within w.scenario w.read w.within

@@ -22,9 +22,9 @@ use Rattle.mosaikrun_endings.specs.declared.ending.Ending.{Ending}
 use Rattle.mosaikrun_endings.specs.declared.ending.Ending.TheVariants.{Folder, Mem}
 use Rattle.mosaikrun_program.specs.Around.{Around, FolderSeen, RulesSeen}
 use Rattle.mosaikrun_program.specs.Answers.{SaveAnswer, TextAnswer}
-use Rattle.mosaikrun_program.specs.Commands.{AreHeld, IsAsked, IsHeld, IsMade, IsNext, IsOutcomeOf, IsStuck, IsUnreadable, OfTwo, read_by, target_of}
+use Rattle.mosaikrun_program.specs.Commands.{AreHeld, IsAsked, HasBytes, ComesOfFiles, IsNext, IsOutcomeOf, IsStuck, IsUnreadable, OfTwo, read_by, target_of}
 use Rattle.mosaikrun_program.specs.inner.Making.{IsMadeOfOne, IsUnmade}
-use Rattle.mosaikrun_program.specs.Program.{Ended}
+use Rattle.mosaikrun_program.specs.Program.{EndedAs}
 use Rattle.mosaikrun_program.proofs.Playing.{performed, risen_after}
 
 -- the text was saved, or wasn't
@@ -34,8 +34,8 @@ saved_or_not folder mid risen name text (Ok done) same low kept unsaved cause = 
 saved_or_not folder mid risen name text (Err e) same low kept unsaved cause = (unsaved ∙ same, elim cause [ inl failed ↦ inl (failed.0, risen_after folder.faults risen folder.new_faults low failed.1) | inr mem ↦ inr mem ])
 
 -- the command that was asked for has come to this text, and the fleet wasn't used
-pub has_made : (S : Around) (command : FileCommand) (text : Result (List ℕ) Ending) (answer : Result (Unit {0}) Ending) → IsAsked S.words (Reads command) → IsMade S.folder.files S.outside.kinds S.rules command text → TextAnswer S (target_of command) text answer
-    → S.outside.log ≡ [] → S.outside.new_faults ≡ S.outside.faults → Ended S answer
+pub has_made : (S : Around) (command : FileCommand) (text : Result (List ℕ) Ending) (answer : Result (Unit {0}) Ending) → IsAsked S.words (Reads command) → ComesOfFiles S.folder.files S.outside.kinds S.rules command text → TextAnswer S (target_of command) text answer
+    → S.outside.log ≡ [] → S.outside.new_faults ≡ S.outside.faults → EndedAs S answer
 has_made S command text answer asked made ended log faults = performed S answer (inl (record { command = command; asked = asked; text = text; made = made; ended = ended; log = log; faults = faults }))
 
 -- there is no text, which is said
@@ -43,8 +43,8 @@ no_text : (S : Around) (target : Option (List ℕ)) (e : Ending) → S.output.af
 no_text S None e unput unsaved = ((unput, inl refl), unsaved)
 no_text S (Some name) e unput unsaved = ((unsaved, inl refl), unput)
 
-pub has_none : (S : Around) (command : FileCommand) (e : Ending) → IsAsked S.words (Reads command) → IsStuck S.folder.files (read_by command) (HasRisen S.folder.faults S.folder.new_faults) e ⊎ IsMade S.folder.files S.outside.kinds S.rules command (Err e)
-    → S.output.after ≡ S.output.before → S.folder.files_after ≡ S.folder.files → S.outside.log ≡ [] → S.outside.new_faults ≡ S.outside.faults → Ended S (Err e)
+pub has_none : (S : Around) (command : FileCommand) (e : Ending) → IsAsked S.words (Reads command) → IsStuck S.folder.files (read_by command) (HasRisen S.folder.faults S.folder.new_faults) e ⊎ ComesOfFiles S.folder.files S.outside.kinds S.rules command (Err e)
+    → S.output.after ≡ S.output.before → S.folder.files_after ≡ S.folder.files → S.outside.log ≡ [] → S.outside.new_faults ≡ S.outside.faults → EndedAs S (Err e)
 has_none S command e asked (inl stuck) unput unsaved log faults = inr (inl (record { request = Reads command; asked = asked; stuck = stuck; untouched = record { unput = unput; unsaved = unsaved; log = log; faults = faults } }))
 has_none S command e asked (inr made) unput unsaved log faults = has_made S command (Err e) (Err e) asked made (no_text S (target_of command) e unput unsaved) log faults
 
@@ -85,7 +85,7 @@ first_unread files kinds rules c first second risen e names cause = inl (subst (
 
 -- a command whose row is one over two files
 module _ (files : Option Files) (kinds : List Turn) (rules : RulesSeen) (c : PairCommand) (first second : List ℕ) (makes : List ℕ → List ℕ → Result (List ℕ) Ending → Type 0) (names : read_by (Pair c first second) ≡ first ∷ second ∷ [])
-    (row : (read : List (List ℕ)) (o : Result (List ℕ) Ending) → OfTwo makes read o → IsOutcomeOf kinds rules (Pair c first second) read o) (bytes : List ℕ) (held : IsHeld files first bytes) where
+    (row : (read : List (List ℕ)) (o : Result (List ℕ) Ending) → OfTwo makes read o → IsOutcomeOf kinds rules (Pair c first second) read o) (bytes : List ℕ) (held : HasBytes files first bytes) where
   -- the first is no record, or memory was wanting
   pub first_refused : (risen : Type 0) (e : Ending) → ((other : List ℕ) → IsUnread bytes e → makes bytes other (Err e)) → IsUnread bytes e → IsUnmade files kinds rules (Pair c first second) risen e
   first_refused risen e law (inl mem) = first_unread files kinds rules c first second risen e names (inl mem)
@@ -107,7 +107,7 @@ module _ (files : Option Files) (kinds : List Turn) (rules : RulesSeen) (c : Pai
   })
 
   -- both were read
-  pub both_made : (other : List ℕ) (o : Result (List ℕ) Ending) → IsHeld files second other → makes bytes other o → IsMade files kinds rules (Pair c first second) o
+  pub both_made : (other : List ℕ) (o : Result (List ℕ) Ending) → HasBytes files second other → makes bytes other o → ComesOfFiles files kinds rules (Pair c first second) o
   both_made other o too made = record {
     read = bytes ∷ other ∷ [];
     held = subst (λ (n : List (List ℕ)). AreHeld files n (bytes ∷ other ∷ [])) (sym names) (held, (too, tt));
@@ -116,11 +116,11 @@ module _ (files : Option Files) (kinds : List Turn) (rules : RulesSeen) (c : Pai
 
 -- what came of the one file that a command reads
 module _ (files : Option Files) (kinds : List Turn) (rules : RulesSeen) (name : List ℕ) (o : Result (List ℕ) Ending) where
-  pub replay_made : (order : Option ℕ) → IsMadeOfOne files name (λ bytes. reports.IsOutcome bytes order) o → IsMade files kinds rules (Replay name order) o
+  pub replay_made : (order : Option ℕ) → IsMadeOfOne files name (λ bytes. reports.IsOutcome bytes order) o → ComesOfFiles files kinds rules (Replay name order) o
   replay_made order m = record { read = m.bytes ∷ []; held = (m.held, tt); made = m.made }
 
-  pub check_made : IsMadeOfOne files name (checks.IsOutcome (map name_of kinds)) o → IsMade files kinds rules (Check name) o
+  pub check_made : IsMadeOfOne files name (checks.IsOutcome (map name_of kinds)) o → ComesOfFiles files kinds rules (Check name) o
   check_made m = record { read = m.bytes ∷ []; held = (m.held, tt); made = m.made }
 
-  pub migrate_made : (new : List ℕ) → IsMadeOfOne files name IsMigration o → IsMade files kinds rules (Pair Migrate name new) o
+  pub migrate_made : (new : List ℕ) → IsMadeOfOne files name IsMigration o → ComesOfFiles files kinds rules (Pair Migrate name new) o
   migrate_made new m = record { read = m.bytes ∷ []; held = (m.held, tt); made = m.made }

@@ -27,7 +27,7 @@ use Rattle.mosaikrun_run.specs.Sayings.{halt_ending, saying_of}
 use Rattle.mosaikrun_run.specs.Outcomes.{Outside, IsRunOutcome, IsSaid, IsScenarioOutcome}
 use Rattle.mk_record.specs.ReplayEnd.{ReplayEnd}
 use Rattle.mk_record.specs.ReplayEnd.TheVariants as replay_end
-use Rattle.mosaikrun_records.specs.Reports.{IsSaidOf, IsStopped}
+use Rattle.mosaikrun_records.specs.Reports.{IsSaidOf, EndsEarly}
 use Rattle.mosaikrun_records.specs.Saved.{IsUnread}
 use Rattle.mk_resume_loop.specs.declared.ending.ResumeEnd.{ResumeEnd}
 use Rattle.mk_resume_loop.specs.declared.ending.ResumeEnd.TheVariants as resume_end
@@ -73,7 +73,7 @@ stop_not_usage P J (core.LoopLimit s time) wrong = cc
 stop_not_usage P J (core.TooLong count) wrong = cc
 
 -- nor does a command on records
-pub stopped_not_usage : (bytes : List ℕ) (order : Option ℕ) → IsStopped bytes order Usage → ⊥
+pub stopped_not_usage : (bytes : List ℕ) (order : Option ℕ) → EndsEarly bytes order Usage → ⊥
 stopped_not_usage bytes order s = by s.end s.said
   where
     by : (end : ReplayEnd) → IsSaidOf s.plan s.journal end Usage → ⊥

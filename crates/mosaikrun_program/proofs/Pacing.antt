@@ -15,12 +15,12 @@ use Rattle.mosaikrun_endings.specs.declared.ending.Ending.TheVariants as ends
 use Rattle.mosaikrun_run.specs.Records.{IsRunFault, IsStepSaid}
 use Rattle.mosaikrun_run.proofs.Recording.{nothing_said}
 use Rattle.mosaikrun_paced.specs.Outcomes.{IsPacedOutcome}
-use Rattle.mosaikrun_paced.specs.Records.{HasPaceRecord, IsLateEnding, IsPaceSettled}
+use Rattle.mosaikrun_paced.specs.Records.{HasPaceRecord, IsLateEnding, EndsOfItselfPaced}
 use Rattle.mosaikrun_paced.proofs.Recording.{awake_none, records_there}
 use Rattle.mosaikrun_program.specs.Around.{Around}
-use Rattle.mosaikrun_program.specs.Commands.{IsAsked, IsHeld, IsUnasked, IsUnreadable}
+use Rattle.mosaikrun_program.specs.Commands.{IsAsked, HasBytes, IsUnasked, IsUnreadable}
 use Rattle.mosaikrun_program.specs.Pacing.{AsksForPace, HoldsPaceRecord, IsPaceRecordKept, KeepsPaceRecord}
-use Rattle.mosaikrun_program.specs.Program.{Ended, HasPerformed, status}
+use Rattle.mosaikrun_program.specs.Program.{EndedAs, HasPerformed, status}
 use Rattle.mosaikrun_program.specs.Running.{IsDoneOver, IsFolderAfter, IsSaved, RunAnswer}
 use Rattle.mosaikrun_program.proofs.Answering.{one_request}
 use Rattle.mosaikrun_program.proofs.Playing.{was_paced}
@@ -64,33 +64,33 @@ module _ (S : Around) (factor : ℕ) (strict : Option ℕ) (bytes name : List �
   }
 
   -- nothing was done
-  untouched : (answer : Result (Unit {0}) Ending) → S.folder.files_after ≡ S.folder.files → S.outside.log ≡ [] → (IsPaceSettled answer → ⊥) → KeepsPaceRecord S answer factor strict bytes name
+  untouched : (answer : Result (Unit {0}) Ending) → S.folder.files_after ≡ S.folder.files → S.outside.log ≡ [] → (EndsOfItselfPaced answer → ⊥) → KeepsPaceRecord S answer factor strict bytes name
   untouched answer unsaved quiet not = record {
     either = inl unsaved;
-    settled = λ settled. absurd (not settled);
+    of_itself = λ of_itself. absurd (not of_itself);
     said = λ scenario read said. absurd (nothing_said S.outside.started scenario S.outside.log quiet said);
     slept = λ slept. absurd (slept (awake_none S.outside.log quiet));
   }
 
   -- bytes that are no scenario have no fault of a run, and no Step that was too late
   no_scenario : (e : Ending) → IsUnread bytes e → IsRunFault e ⊎ IsLateEnding e → ⊥
-  no_scenario e (inl mem) (inl settled) = subst IsRunFault mem settled
-  no_scenario e (inr fault) (inl settled) = subst IsRunFault fault.1 settled
+  no_scenario e (inl mem) (inl of_itself) = subst IsRunFault mem of_itself
+  no_scenario e (inr fault) (inl of_itself) = subst IsRunFault fault.1 of_itself
   no_scenario e (inl mem) (inr late) = let wrong = sym mem ∙ late.is in cc
   no_scenario e (inr fault) (inr late) = let wrong = sym fault.1 ∙ late.is in cc
 
   -- what came of the bytes, and that the record, where there is one, was saved
-  came : (answer : Result (Unit {0}) Ending) (text : Result (List ℕ) Ending) (kept : Option (List ℕ)) → IsPacedOutcome S.outside factor strict true bytes text kept → RunAnswer S.folder S.output (Some name) text kept answer → IsSaved S.folder (Some name) kept → (text ≡ Err ends.Mem → ⊥) → (IsPaceSettled answer → IsPaceSettled text) → KeepsPaceRecord S answer factor strict bytes name
-  came answer text kept (inl none) told saved not settles = untouched answer (subst (λ (k : Option (List ℕ)). IsFolderAfter (Some name) k S.folder.files S.folder.files_after) none.idle.unrecorded saved) none.idle.quiet
-      (λ settled. no_scenario none.ending none.cause (subst (λ (t : Result (List ℕ) Ending). IsPaceSettled t) none.is (settles settled)))
-  came answer text kept (inr read) told saved not settles =
+  came : (answer : Result (Unit {0}) Ending) (text : Result (List ℕ) Ending) (kept : Option (List ℕ)) → IsPacedOutcome S.outside factor strict true bytes text kept → RunAnswer S.folder S.output (Some name) text kept answer → IsSaved S.folder (Some name) kept → (text ≡ Err ends.Mem → ⊥) → (EndsOfItselfPaced answer → EndsOfItselfPaced text) → KeepsPaceRecord S answer factor strict bytes name
+  came answer text kept (inl none) told saved not by_itself = untouched answer (subst (λ (k : Option (List ℕ)). IsFolderAfter (Some name) k S.folder.files S.folder.files_after) none.idle.unrecorded saved) none.idle.quiet
+      (λ of_itself. no_scenario none.ending none.cause (subst (λ (t : Result (List ℕ) Ending). EndsOfItselfPaced t) none.is (by_itself of_itself)))
+  came answer text kept (inr read) told saved not by_itself =
       let due = records_there.there S.outside factor strict read.scenario text kept read.outcome not in
       record {
         either = elim (records_there.only S.outside factor strict read.scenario text kept read.outcome) [
           | inl none ↦ inl (subst (λ (k : Option (List ℕ)). IsFolderAfter (Some name) k S.folder.files S.folder.files_after) none saved)
           | inr has ↦ inr (held_record answer read.scenario text kept read.read has told saved)
         ];
-        settled = λ settled. held_record answer read.scenario text kept read.read (due (inl (settles settled))) told saved;
+        of_itself = λ of_itself. held_record answer read.scenario text kept read.read (due (inl (by_itself of_itself))) told saved;
         said = λ scenario is said. held_record answer read.scenario text kept read.read (due (inr (inl (subst (λ (X : Scenario). IsStepSaid S.outside.started X S.outside.log) (one_scenario scenario read.scenario bytes is read.read) said)))) told saved;
         slept = λ slept. held_record answer read.scenario text kept read.read (due (inr (inr slept))) told saved;
       }
@@ -98,14 +98,14 @@ module _ (S : Around) (factor : ℕ) (strict : Option ℕ) (bytes name : List �
   module _ (unrisen : HasRisen S.folder.faults S.folder.new_faults → ⊥) where
     -- what a run's answer says
     answered : (answer : Result (Unit {0}) Ending) (text : Result (List ℕ) Ending) (kept : Option (List ℕ)) → (answer ≡ Err ends.Mem → ⊥) → IsPacedOutcome S.outside factor strict true bytes text kept → RunAnswer S.folder S.output (Some name) text kept answer → KeepsPaceRecord S answer factor strict bytes name
-    answered (Ok done) (Ok text) kept not outcome said = came (Ok done) (Ok text) kept outcome said said.1 (λ wrong. cc) (λ settled. tt)
+    answered (Ok done) (Ok text) kept not outcome said = came (Ok done) (Ok text) kept outcome said said.1 (λ wrong. cc) (λ of_itself. tt)
     answered (Ok done) (Err why) kept not outcome said = absurd said
     answered (Err e) (Ok text) kept not outcome (inl unsaved) = elim unsaved.1.1 [ inl rose ↦ absurd (unrisen rose) | inr mem ↦ absurd (not (ap (λ (x : Ending). Err x) mem)) ]
-    answered (Err e) (Ok text) kept not outcome (inr cut) = came (Err e) (Ok text) kept outcome (inr cut) cut.1 (λ wrong. cc) (λ settled. tt)
+    answered (Err e) (Ok text) kept not outcome (inr cut) = came (Err e) (Ok text) kept outcome (inr cut) cut.1 (λ wrong. cc) (λ of_itself. tt)
     answered (Err e) (Err why) kept not outcome said = elim said.1 [
       | inr mem ↦ absurd (not (ap (λ (x : Ending). Err x) mem))
       | inl same ↦ elim said.2 [
-        | inl saved ↦ came (Err e) (Err why) kept outcome said saved (λ (wrong : Err why ≡ Err ends.Mem). let short : why ≡ ends.Mem = cc in not (ap (λ (x : Ending). Err x) (same ∙ short))) (λ settled. subst (λ (x : Ending). IsRunFault x ⊎ IsLateEnding x) same settled)
+        | inl saved ↦ came (Err e) (Err why) kept outcome said saved (λ (wrong : Err why ≡ Err ends.Mem). let short : why ≡ ends.Mem = cc in not (ap (λ (x : Ending). Err x) (same ∙ short))) (λ of_itself. subst (λ (x : Ending). IsRunFault x ⊎ IsLateEnding x) same of_itself)
         | inr unsaved ↦ elim unsaved.1 [ inl rose ↦ absurd (unrisen rose) | inr mem ↦ absurd (not (ap (λ (x : Ending). Err x) mem)) ]
       ]
     ]
@@ -119,34 +119,34 @@ module _ (S : Around) (held : Files) (told : S.folder.files ≡ Some held) (scen
   performed answer not (inl made) = let wrong = this_run (Reads made.command) made.asked in absurd cc
   performed answer not (inr ran) =
       let w = was_paced S scenario factor strict (Some name) answer (subst (λ (R : Request). IsDoneOver S R answer) (this_run ran.request ran.asked) ran.run) in
-      let seen = subst (λ (files : Option Files). IsHeld files scenario w.bytes) told w.held in
+      let seen = subst (λ (files : Option Files). HasBytes files scenario w.bytes) told w.held in
       let both : Some w.bytes ≡ Some bytes = sym seen.0 ∙ there_is in
       let these : w.bytes ≡ bytes = cc in
       answered S factor strict bytes name unrisen answer w.text w.kept not (subst (λ (b : List ℕ). IsPacedOutcome S.outside factor strict true b w.text w.kept) these w.outcome) w.ended
 
   misused_not : (e : Ending) → IsUnasked S.words e → IsRunFault e ⊎ IsLateEnding e → ⊥
-  misused_not e (inl mem) (inl settled) = subst IsRunFault mem settled
-  misused_not e (inr usage) (inl settled) = subst IsRunFault usage.0 settled
+  misused_not e (inl mem) (inl of_itself) = subst IsRunFault mem of_itself
+  misused_not e (inr usage) (inl of_itself) = subst IsRunFault usage.0 of_itself
   misused_not e (inl mem) (inr late) = let wrong = sym mem ∙ late.is in cc
   misused_not e (inr usage) (inr late) = let wrong = sym usage.0 ∙ late.is in cc
 
   unread_not : (files : Option Files) (other : List ℕ) (risen : Type 0) (e : Ending) → IsUnreadable files other risen e → IsRunFault e ⊎ IsLateEnding e → ⊥
-  unread_not files other risen e (inl mem) (inl settled) = subst IsRunFault mem settled
-  unread_not files other risen e (inr (inl failed)) (inl settled) = subst IsRunFault failed.0 settled
-  unread_not files other risen e (inr (inr (inl missing_))) (inl settled) = subst IsRunFault missing_.0 settled
-  unread_not files other risen e (inr (inr (inr long))) (inl settled) = subst IsRunFault long.1 settled
+  unread_not files other risen e (inl mem) (inl of_itself) = subst IsRunFault mem of_itself
+  unread_not files other risen e (inr (inl failed)) (inl of_itself) = subst IsRunFault failed.0 of_itself
+  unread_not files other risen e (inr (inr (inl missing_))) (inl of_itself) = subst IsRunFault missing_.0 of_itself
+  unread_not files other risen e (inr (inr (inr long))) (inl of_itself) = subst IsRunFault long.1 of_itself
   unread_not files other risen e (inl mem) (inr late) = let wrong = sym mem ∙ late.is in cc
   unread_not files other risen e (inr (inl failed)) (inr late) = let wrong = sym failed.0 ∙ late.is in cc
   unread_not files other risen e (inr (inr (inl missing_))) (inr late) = let wrong = sym missing_.0 ∙ late.is in cc
   unread_not files other risen e (inr (inr (inr long))) (inr late) = let wrong = sym long.1 ∙ late.is in cc
 
-  ended_keeps : (answer : Result (Unit {0}) Ending) → (answer ≡ Err ends.Mem → ⊥) → Ended S answer → KeepsPaceRecord S answer factor strict bytes name
+  ended_keeps : (answer : Result (Unit {0}) Ending) → (answer ≡ Err ends.Mem → ⊥) → EndedAs S answer → KeepsPaceRecord S answer factor strict bytes name
   ended_keeps (Ok done) not done_so = performed (Ok done) not done_so
   ended_keeps (Err e) not (inl misused) = untouched S factor strict bytes name (Err e) misused.untouched.unsaved misused.untouched.log (misused_not e misused.cause)
   ended_keeps (Err e) not (inr (inl unread)) = untouched S factor strict bytes name (Err e) unread.untouched.unsaved unread.untouched.log (unread_not _ _ _ e unread.stuck.cause)
   ended_keeps (Err e) not (inr (inr done_so)) = performed (Err e) not done_so
 
-pub pace_record_kept : (S : Around) (answer : Result (Unit {0}) Ending) (n : ℕ) → n ≡ status answer → Ended S answer → IsPaceRecordKept S answer n
+pub pace_record_kept : (S : Around) (answer : Result (Unit {0}) Ending) (n : ℕ) → n ≡ status answer → EndedAs S answer → IsPaceRecordKept S answer n
 pace_record_kept S answer n is ended = by_files S.folder.files refl
   where
     by_files : (files : Option Files) → S.folder.files ≡ files

@@ -9,19 +9,19 @@ use Rattle.mosaikrun_run.specs.Outcomes.{IsRunOutcome}
 use Rattle.mosaikrun_paced.specs.Outcomes.{IsPacedOutcome}
 use Rattle.mosaikrun_program.specs.Answers.{PrintAnswer}
 use Rattle.mosaikrun_program.specs.Around.{Around, FolderSeen, OutputSeen}
-use Rattle.mosaikrun_program.specs.Commands.{AreHeld, IsHeld, OfOne}
+use Rattle.mosaikrun_program.specs.Commands.{AreHeld, HasBytes, OfOne}
 use Rattle.mosaikrun_program.specs.Running.{IsDoneOver, IsFolderAfter, IsSaved, IsUnsaved, RunAnswer}
-use Rattle.mosaikrun_program.specs.Program.{Ended, HasPerformed}
+use Rattle.mosaikrun_program.specs.Program.{EndedAs, HasPerformed}
 
 -- what was asked for was done, whatever the answer
-pub performed : (S : Around) (answer : Result (Unit {0}) Ending) → HasPerformed S answer → Ended S answer
+pub performed : (S : Around) (answer : Result (Unit {0}) Ending) → HasPerformed S answer → EndedAs S answer
 performed S (Ok done) h = h
 performed S (Err e) h = inr (inr h)
 
 -- what a run of a scenario's file came to
 pub record WasRun (S : Around) (scenario : List ℕ) (name : Option (List ℕ)) (answer : Result (Unit {0}) Ending) : Type 0 where
   pub bytes : List ℕ
-  pub held : IsHeld S.folder.files scenario bytes
+  pub held : HasBytes S.folder.files scenario bytes
   pub text : Result (List ℕ) Ending
   pub kept : Option (List ℕ)
   pub outcome : IsRunOutcome S.outside (is_some name) bytes text kept
@@ -41,7 +41,7 @@ is_run S scenario name answer w = record { read = w.bytes ∷ []; held = (w.held
 -- what a run of a scenario's file by a clock came to
 pub record WasPaced (S : Around) (scenario : List ℕ) (factor : ℕ) (strict : Option ℕ) (name : Option (List ℕ)) (answer : Result (Unit {0}) Ending) : Type 0 where
   pub bytes : List ℕ
-  pub held : IsHeld S.folder.files scenario bytes
+  pub held : HasBytes S.folder.files scenario bytes
   pub text : Result (List ℕ) Ending
   pub kept : Option (List ℕ)
   pub outcome : IsPacedOutcome S.outside factor strict (is_some name) bytes text kept

@@ -21,8 +21,8 @@ use Rattle.mosaikrun_records.specs.Saved.{IsRecord, IsUnread}
 use Rattle.mosaikrun_run.specs.Outcomes.{IsReadAgain}
 use Rattle.mosaikrun_resume.specs.Outcomes.{IsResumeOutcome, IsSavedOutcome, IsStudy}
 use Rattle.mosaikrun_program.specs.Around.{Around}
-use Rattle.mosaikrun_program.specs.Commands.{AreHeld, IsAccepted, IsAsked, IsHeld, IsNext, IsStuckBy, IsUnasked, IsUnreadable, OfTwoBy, files_of}
-use Rattle.mosaikrun_program.specs.Program.{Ended, HasPerformed, status}
+use Rattle.mosaikrun_program.specs.Commands.{AreHeld, IsAccepted, IsAsked, HasBytes, IsNext, IsStuckBy, IsUnasked, IsUnreadable, OfTwoBy, files_of}
+use Rattle.mosaikrun_program.specs.Program.{EndedAs, HasPerformed, status}
 use Rattle.mosaikrun_program.specs.Resuming.{HoldsNewRecord, IsNewRecordKept, KeepsOldFiles}
 use Rattle.mosaikrun_program.specs.Running.{IsDoneOver, IsFolderAfter, IsSaved, RunAnswer}
 use Rattle.mosaikrun_program.proofs.Answering.{one_request}
@@ -110,8 +110,8 @@ module _ (S : Around) (held : Files) (told : S.folder.files ≡ Some held) (scen
   this_one Q other = one_request S.words Q (Resume scenario record_ (Some name)) other asked
 
   -- the bytes that were read are these
-  these : (file b c : List ℕ) → held file ≡ Some c → IsHeld S.folder.files file b → b ≡ c
-  these file b c is h = let seen = subst (λ (files : Option Files). IsHeld files file b) told h in some_same (sym seen.0 ∙ is)
+  these : (file b c : List ℕ) → held file ≡ Some c → HasBytes S.folder.files file b → b ≡ c
+  these file b c is h = let seen = subst (λ (files : Option Files). HasBytes files file b) told h in some_same (sym seen.0 ∙ is)
 
   module _ (answer : Result (Unit {0}) Ending) (not : answer ≡ Err ends.Mem → ⊥) where
     done_keeps : IsDoneOver S (Resume scenario record_ (Some name)) answer → Kept S bytes recorded name answer
@@ -144,13 +144,13 @@ module _ (S : Around) (held : Files) (told : S.folder.files ≡ Some held) (scen
   misused_not e not (inl mem) = not mem
   misused_not e not (inr usage) = usage.1 (Resume scenario record_ (Some name)) asked
 
-  ended_keeps : (answer : Result (Unit {0}) Ending) → (answer ≡ Err ends.Mem → ⊥) → Ended S answer → Kept S bytes recorded name answer
+  ended_keeps : (answer : Result (Unit {0}) Ending) → (answer ≡ Err ends.Mem → ⊥) → EndedAs S answer → Kept S bytes recorded name answer
   ended_keeps (Ok done) not done_so = performed (Ok done) not done_so
   ended_keeps (Err e) not (inl misused) = absurd (misused_not e (λ mem. not (ap (λ (x : Ending). Err x) mem)) misused.cause)
   ended_keeps (Err e) not (inr (inl unread)) = absurd (stuck_not e (λ mem. not (ap (λ (x : Ending). Err x) mem)) unread.request (this_one unread.request unread.asked) unread.stuck)
   ended_keeps (Err e) not (inr (inr done_so)) = performed (Err e) not done_so
 
-pub new_record_kept : (S : Around) (answer : Result (Unit {0}) Ending) (n : ℕ) → n ≡ status answer → Ended S answer → IsNewRecordKept S answer n
+pub new_record_kept : (S : Around) (answer : Result (Unit {0}) Ending) (n : ℕ) → n ≡ status answer → EndedAs S answer → IsNewRecordKept S answer n
 new_record_kept S answer n is ended = by_files S.folder.files refl
   where
     by_files : (files : Option Files) → S.folder.files ≡ files

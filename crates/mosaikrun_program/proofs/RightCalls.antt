@@ -45,15 +45,15 @@ use Rattle.mosaikrun_run.specs.Sayings.{saying_of}
 use Rattle.mosaikrun_resume.specs.Outcomes.{HasGoneOn, IsNotTaken, IsResumeOutcome, IsSavedOutcome, IsStudy}
 use Rattle.mosaikrun_resume.specs.Sayings.{resume_saying}
 use Rattle.mosaikrun_resume.proofs.Reporting as resuming
-use Rattle.mosaikrun_program.specs.Commands.{AreHeld, IsHeld, OfTwoBy}
+use Rattle.mosaikrun_program.specs.Commands.{AreHeld, HasBytes, OfTwoBy}
 use Rattle.mosaikrun_program.specs.Resuming.{IsNotOnward, IsRightOnward, IsRightResume}
 use Rattle.mosaikrun_program.specs.Around.{Around, IsUntouched}
 use Rattle.mosaikrun_program.specs.Commands.{IsAsked, IsOutcomeOf, target_of}
 use Rattle.mosaikrun_program.specs.Running.{IsDoneOver, IsFolderAfter, RunAnswer}
 use Rattle.mosaikrun_program.specs.Answers.{TextAnswer}
 use Rattle.mosaikrun_program.specs.Making.{HasMade}
-use Rattle.mosaikrun_program.specs.Program.{Ended, HasPerformed, status}
-use Rattle.mosaikrun_program.specs.Headline.{IsPut, IsRightCall, IsRightFor, IsRightRun, IsRightStudy, IsUnbegun, MayCome}
+use Rattle.mosaikrun_program.specs.Program.{EndedAs, HasPerformed, status}
+use Rattle.mosaikrun_program.specs.Headline.{IsPut, IsRightCall, IsRightFor, IsRightRun, IsRightStudy, NothingWasRun, MayCome}
 use Rattle.mosaikrun_program.proofs.Answering.{one_request}
 use Rattle.mosaikrun_program.specs.Pacing.{IsRightPaced, IsRightPacedRun}
 use Rattle.mk_plan.specs.Report.{report}
@@ -196,12 +196,12 @@ module _ (C : Around) (form : Form) (wanted : Bool) (S : Scenario) (saved : Opti
   unsaid : (text : Result (List ℕ) Ending) (kept : Option (List ℕ)) → IsUnrun C.outside S text kept → Shown C text n → n ≡ 0 → ⊥
   unsaid text kept u shown = elim u.said [ inl same ↦ (shown.unput _ same).1 | inr is ↦ (shown.unput Mem is).1 ]
 
-  unbegun : (text : Result (List ℕ) Ending) (e : Ending) → text ≡ Err e → C.outside.log ≡ [] → Shown C text n → IsUnbegun C n
+  unbegun : (text : Result (List ℕ) Ending) (e : Ending) → text ≡ Err e → C.outside.log ≡ [] → Shown C text n → NothingWasRun C n
   unbegun text e is silent shown = record { silent = silent; unput = (shown.unput e is).0; status = (shown.unput e is).1 }
 
   -- what came of a scenario
   studied : (text : Result (List ℕ) Ending) (kept : Option (List ℕ)) → IsScenarioOutcome C.outside form wanted S text kept → Shown C text n
-      → ((P : Plan) (J : List Entry) → kept ≡ record_of wanted P J → Filed C saved n P J) → IsUnbegun C n ⊎ IsRightStudy C form S saved n
+      → ((P : Plan) (J : List Entry) → kept ≡ record_of wanted P J → Filed C saved n P J) → NothingWasRun C n ⊎ IsRightStudy C form S saved n
   studied text kept (inl unready) shown filed = inl (unbegun text unready.ending unready.is unready.idle.quiet shown)
   studied text kept (inr (inl unrun)) shown filed = inr (halted text kept unrun (unsaid text kept unrun shown) shown.wanting)
   studied text kept (inr (inr p)) shown filed = inr (played_as text kept p shown (filed p.plan p.journal))
@@ -229,7 +229,7 @@ filed_by C (Some given) (Ok t) kept (Ok done) said P J is zero target named =
     (subst (λ (k : Option (List ℕ)). IsFolderAfter (Some given) k C.folder.files C.folder.files_after) is said.1)
 
 -- a run
-run_right : (C : Around) (r : Result (Unit {0}) Ending) (scenario : List ℕ) (name : Option (List ℕ)) → WasRun C scenario name r → IsUnbegun C (status r) ⊎ IsRightRun C scenario name (status r)
+run_right : (C : Around) (r : Result (Unit {0}) Ending) (scenario : List ℕ) (name : Option (List ℕ)) → WasRun C scenario name r → NothingWasRun C (status r) ⊎ IsRightRun C scenario name (status r)
 run_right C r scenario name ran =
     let shown = shown_by_run C name ran.text ran.kept r ran.ended in
     elim ran.outcome [
@@ -251,7 +251,7 @@ module _ (C : Around) (name : Option (List ℕ)) (text : Result (List ℕ) Endin
   ending_seen e (inr mem) = seen.unput Mem mem
 
   -- nothing was done
-  quiet : (e : Ending) → text ≡ Err e → C.outside.log ≡ [] → IsUnbegun C (status r)
+  quiet : (e : Ending) → text ≡ Err e → C.outside.log ≡ [] → NothingWasRun C (status r)
   quiet e is silent = record { silent = silent; unput = (seen.unput e is).0; status = (seen.unput e is).1 }
 
   refused_ending : (ids : List (List ℕ)) (P : Plan) (J : List Entry) (old : Saved) (end : ResumeEnd) → IsRefusedBy P old end ⊎ HasFaultySaved P old J end → (e : Ending) × (resume_saying ids P J end ≡ Err e)
@@ -296,13 +296,13 @@ onward C name (Err e) kept r said S ranks old p =
       recorded = λ zero target named. absurd (not zero);
     }
 
-resume_right : (C : Around) (r : Result (Unit {0}) Ending) (scenario recorded : List ℕ) (name : Option (List ℕ)) → IsDoneOver C (Resume scenario recorded name) r → IsUnbegun C (status r) ⊎ IsRightResume C scenario recorded name (status r)
+resume_right : (C : Around) (r : Result (Unit {0}) Ending) (scenario recorded : List ℕ) (name : Option (List ℕ)) → IsDoneOver C (Resume scenario recorded name) r → NothingWasRun C (status r) ⊎ IsRightResume C scenario recorded name (status r)
 resume_right C r scenario recorded name d = by d.read d.held d.outcome
   where
     wanted : Bool
     wanted = is_some name
 
-    both : (bytes old : List ℕ) → IsHeld C.folder.files scenario bytes → IsHeld C.folder.files recorded old → IsResumeOutcome C.outside wanted bytes old d.text d.kept → IsUnbegun C (status r) ⊎ IsRightResume C scenario recorded name (status r)
+    both : (bytes old : List ℕ) → HasBytes C.folder.files scenario bytes → HasBytes C.folder.files recorded old → IsResumeOutcome C.outside wanted bytes old d.text d.kept → NothingWasRun C (status r) ⊎ IsRightResume C scenario recorded name (status r)
     both bytes old h k (inl none) = inl (quiet C name d.text d.kept r d.ended none.ending none.is none.idle.quiet)
     both bytes old h k (inr has) = elim has.outcome [
       | inl none ↦ inl (quiet C name d.text d.kept r d.ended none.ending none.is none.idle.quiet)
@@ -324,7 +324,7 @@ resume_right C r scenario recorded name d = by d.read d.held d.outcome
         went S ranks old (inr (inr gone)) = inr (onward C name d.text d.kept r d.ended S ranks old gone)
 
     by : (read : List (List ℕ)) → AreHeld C.folder.files (scenario ∷ recorded ∷ []) read → OfTwoBy (IsStudy (map name_of C.outside.kinds)) (λ bytes old outcome. IsResumeOutcome C.outside wanted bytes old outcome d.kept) read d.text
-        → IsUnbegun C (status r) ⊎ IsRightResume C scenario recorded name (status r)
+        → NothingWasRun C (status r) ⊎ IsRightResume C scenario recorded name (status r)
     by [] h outcome = absurd outcome
     by (bytes ∷ []) h outcome = elim (outcome.1 []) [ inl none ↦ inl (quiet C name d.text d.kept r d.ended none.ending none.is none.idle.quiet) | inr has ↦ absurd (outcome.0 has.study) ]
     by (bytes ∷ old ∷ []) h outcome = both bytes old h.0 h.1.0 outcome
@@ -370,17 +370,17 @@ module _ (C : Around) (factor : ℕ) (strict : Option ℕ) (S : Scenario) (name 
       let not = ((shown_by_run C name (Err e) kept r said).unput e refl).1 in
       paced (Err e) kept (status r) p (λ zero. absurd (not zero)) (λ zero R may. absurd (not zero)) (λ zero target named. absurd (not zero))
 
-pace_right : (C : Around) (r : Result (Unit {0}) Ending) (scenario : List ℕ) (factor : ℕ) (strict : Option ℕ) (name : Option (List ℕ)) → WasPaced C scenario factor strict name r → IsUnbegun C (status r) ⊎ IsRightPaced C scenario factor strict name (status r)
+pace_right : (C : Around) (r : Result (Unit {0}) Ending) (scenario : List ℕ) (factor : ℕ) (strict : Option ℕ) (name : Option (List ℕ)) → WasPaced C scenario factor strict name r → NothingWasRun C (status r) ⊎ IsRightPaced C scenario factor strict name (status r)
 pace_right C r scenario factor strict name ran = by ran.outcome
   where
-    went : (S : Scenario) → scenario_of ran.bytes ≡ Ok S → IsPacedScenario C.outside factor strict (is_some name) S ran.text ran.kept → IsUnbegun C (status r) ⊎ IsRightPaced C scenario factor strict name (status r)
+    went : (S : Scenario) → scenario_of ran.bytes ≡ Ok S → IsPacedScenario C.outside factor strict (is_some name) S ran.text ran.kept → NothingWasRun C (status r) ⊎ IsRightPaced C scenario factor strict name (status r)
     went S read (inl unready) = inl (quiet C name ran.text ran.kept r ran.ended unready.ending unready.is unready.idle.quiet)
     went S read (inr (inl unpaced)) =
         let t = ending_seen C name ran.text ran.kept r ran.ended (halt_ending (ids_of S) unpaced.unrun.halt) unpaced.unrun.said in
         inr (record { bytes = ran.bytes; held = ran.held; scenario = S; read = read; went = inl (record { unpaced = (ran.text, ran.kept, unpaced); unput = t.0; status = t.1 }) })
     went S read (inr (inr p)) = inr (record { bytes = ran.bytes; held = ran.held; scenario = S; read = read; went = inr (paced_as C factor strict S name ran.text ran.kept r ran.ended p) })
 
-    by : IsPacedOutcome C.outside factor strict (is_some name) ran.bytes ran.text ran.kept → IsUnbegun C (status r) ⊎ IsRightPaced C scenario factor strict name (status r)
+    by : IsPacedOutcome C.outside factor strict (is_some name) ran.bytes ran.text ran.kept → NothingWasRun C (status r) ⊎ IsRightPaced C scenario factor strict name (status r)
     by (inl none) = inl (quiet C name ran.text ran.kept r ran.ended none.ending none.is none.idle.quiet)
     by (inr has) = went has.scenario has.read has.outcome
 
@@ -423,11 +423,11 @@ performed_right : (C : Around) (r : Result (Unit {0}) Ending) → HasPerformed C
 performed_right C r (inl made) R asked = subst (IsRightFor C (status r)) (one_request C.words (Reads made.command) R made.asked asked) (made_right C r made)
 performed_right C r (inr ran) R asked = subst (IsRightFor C (status r)) (one_request C.words ran.request R ran.asked asked) (done_right C r ran.request ran.run)
 
-right_for : (C : Around) (r : Result (Unit {0}) Ending) → Ended C r → (R : Request) → IsAsked C.words R → IsRightFor C (status r) R
+right_for : (C : Around) (r : Result (Unit {0}) Ending) → EndedAs C r → (R : Request) → IsAsked C.words R → IsRightFor C (status r) R
 right_for C (Ok done) performed R asked = performed_right C (Ok done) performed R asked
 right_for C (Err e) (inl misused) R asked = untouched_right C (status_of e) (not_zero e) misused.untouched R
 right_for C (Err e) (inr (inl unread)) R asked = untouched_right C (status_of e) (not_zero e) unread.untouched R
 right_for C (Err e) (inr (inr performed)) R asked = performed_right C (Err e) performed R asked
 
-pub right_call : (C : Around) (r : Result (Unit {0}) Ending) (n : ℕ) → n ≡ status r → Ended C r → IsRightCall C n
+pub right_call : (C : Around) (r : Result (Unit {0}) Ending) (n : ℕ) → n ≡ status r → EndedAs C r → IsRightCall C n
 right_call C r n is ended R asked = subst (λ (m : ℕ). IsRightFor C m R) (sym is) (right_for C r ended R asked)

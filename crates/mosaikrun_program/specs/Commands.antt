@@ -90,15 +90,15 @@ abbrev pub IsUnasked : List (List ℕ) → Ending → Type 0
 IsUnasked words e = (e ≡ ends.Mem) ⊎ ((e ≡ ends.Usage) × ((R : Request) → IsAsked words R → ⊥))
 
 -- the file of this name has these bytes, no more than a file may have, if the folder tells
-abbrev pub IsHeld : Option Files → List ℕ → List ℕ → Type 0
-IsHeld files name bytes = IfSome files (λ held. (held name ≡ Some bytes)
+abbrev pub HasBytes : Option Files → List ℕ → List ℕ → Type 0
+HasBytes files name bytes = IfSome files (λ held. (held name ≡ Some bytes)
     × (length bytes ≤ file_limit))
 
 -- the files of these names, or of the first of them, have these bytes
 abbrev pub AreHeld : Option Files → List (List ℕ) → List (List ℕ) → Type 0
 AreHeld files names [] = ⊤
 AreHeld files [] (bytes ∷ more) = ⊥
-AreHeld files (name ∷ names) (bytes ∷ more) = IsHeld files name bytes × AreHeld files names more
+AreHeld files (name ∷ names) (bytes ∷ more) = HasBytes files name bytes × AreHeld files names more
 
 -- the name of the file that comes next behind those that were read
 abbrev pub IsNext : List (List ℕ) → List (List ℕ) → List ℕ → Type 0
@@ -136,7 +136,7 @@ IsUnreadable files name risen e =
     × (file_limit < count))))
 
 -- some of these files were read, and this came of them
-pub record IsMade (files : Option Files) (kinds : List Turn) (rules : RulesSeen)
+pub record ComesOfFiles (files : Option Files) (kinds : List Turn) (rules : RulesSeen)
     (command : FileCommand) (outcome : Result (List ℕ) Ending) : Type 0 where
   pub read : List (List ℕ)
   pub held : AreHeld files (read_by command) read

@@ -35,7 +35,7 @@ use Rattle.mosaikrun_run.specs.declared.sayings.Form.TheVariants.{Report, Summar
 use Rattle.mosaikrun_run.specs.Outcomes.{Outside}
 use Rattle.mosaikrun_run.specs.Sayings.{text_of}
 use Rattle.mosaikrun_program.specs.Around.{Around}
-use Rattle.mosaikrun_program.specs.Commands.{AreHeld, IsAsked, IsHeld, IsOutcomeOf, read_by, target_of}
+use Rattle.mosaikrun_program.specs.Commands.{AreHeld, IsAsked, HasBytes, IsOutcomeOf, read_by, target_of}
 use Rattle.mosaikrun_program.specs.Resuming.{IsRightResume}
 use Rattle.mosaikrun_program.specs.Pacing.{IsRightPaced}
 
@@ -100,7 +100,7 @@ pub record IsRightStudy (C : Around) (form : Form) (S : Scenario) (saved : Optio
 
 -- nothing was run: nothing was said or heard on any link, nothing was put out, and the status isn't
 -- 0
-pub record IsUnbegun (C : Around) (n : ℕ) : Type 0 where
+pub record NothingWasRun (C : Around) (n : ℕ) : Type 0 where
   pub silent : C.outside.log ≡ []
   pub unput : C.output.after ≡ C.output.before
   pub status : n ≡ 0 → ⊥
@@ -108,7 +108,7 @@ pub record IsUnbegun (C : Around) (n : ℕ) : Type 0 where
 -- the file of this name, where the folder tells, has bytes that are a scenario, which was run
 pub record IsRightRun (C : Around) (name : List ℕ) (saved : Option (List ℕ)) (n : ℕ) : Type 0 where
   pub bytes : List ℕ
-  pub held : IsHeld C.folder.files name bytes
+  pub held : HasBytes C.folder.files name bytes
   pub scenario : Scenario
   pub read : scenario_of bytes ≡ Ok scenario
   pub study : IsRightStudy C Report scenario saved n
@@ -130,12 +130,12 @@ pub record IsRightText (C : Around) (command : FileCommand) : Type 0 where
 
 -- a call that asks for this, and ended with status n, is right
 abbrev pub IsRightFor : Around → ℕ → Request → Type 0
-IsRightFor C n (Run scenario saved) = IsUnbegun C n ⊎ IsRightRun C scenario saved n
-IsRightFor C n (Resume scenario recorded saved) = IsUnbegun C n
+IsRightFor C n (Run scenario saved) = NothingWasRun C n ⊎ IsRightRun C scenario saved n
+IsRightFor C n (Resume scenario recorded saved) = NothingWasRun C n
     ⊎ IsRightResume C scenario recorded saved n
-IsRightFor C n (Paced scenario factor strict saved) = IsUnbegun C n
+IsRightFor C n (Paced scenario factor strict saved) = NothingWasRun C n
     ⊎ IsRightPaced C scenario factor strict saved n
-IsRightFor C n (Demo size) = IsUnbegun C n ⊎ IsRightStudy C Summary (demo_scenario size) None n
+IsRightFor C n (Demo size) = NothingWasRun C n ⊎ IsRightStudy C Summary (demo_scenario size) None n
 IsRightFor C n (Files command) = n ≡ 0 → IsRightText C command
 
 -- whatever the words of a call ask for, it is right

@@ -22,9 +22,9 @@ use Rattle.mosaikrun_endings.specs.declared.ending.Ending.{Ending}
 use Rattle.mosaikrun_run.specs.Outcomes.{Outside}
 use Rattle.mosaikrun_run.specs.Records.{IsStepSaid}
 use Rattle.mosaikrun_paced.specs.Outcomes.{IsUnpaced}
-use Rattle.mosaikrun_paced.specs.Records.{HasPaceRecord, IsPaceSettled}
+use Rattle.mosaikrun_paced.specs.Records.{HasPaceRecord, EndsOfItselfPaced}
 use Rattle.mosaikrun_program.specs.Around.{Around}
-use Rattle.mosaikrun_program.specs.Commands.{IsAsked, IsHeld}
+use Rattle.mosaikrun_program.specs.Commands.{IsAsked, HasBytes}
 use Rattle.mosaikrun_program.specs.Running.{RunAnswer}
 
 -- the scenario was run by the clock, by this plan, with this journal and these moments: what was said
@@ -68,7 +68,7 @@ pub record IsNotPaced (C : Around) (S : Scenario) (n : ℕ) : Type 0 where
 pub record IsRightPaced (C : Around) (name : List ℕ) (factor : ℕ) (strict : Option ℕ)
     (saved : Option (List ℕ)) (n : ℕ) : Type 0 where
   pub bytes : List ℕ
-  pub held : IsHeld C.folder.files name bytes
+  pub held : HasBytes C.folder.files name bytes
   pub scenario : Scenario
   pub read : scenario_of bytes ≡ Ok scenario
   pub went : IsNotPaced C scenario n ⊎ IsRightPacedRun C factor strict scenario saved n
@@ -101,7 +101,7 @@ pub record KeepsPaceRecord (S : Around) (answer : Result (Unit {0}) Ending) (fac
     (strict : Option ℕ) (bytes name : List ℕ) : Type 0 where
   pub either : (S.folder.files_after ≡ S.folder.files)
       ⊎ HoldsPaceRecord S answer factor strict bytes name
-  pub settled : IsPaceSettled answer → HoldsPaceRecord S answer factor strict bytes name
+  pub of_itself : EndsOfItselfPaced answer → HoldsPaceRecord S answer factor strict bytes name
   pub said : (scenario : Scenario) → scenario_of bytes ≡ Ok scenario
       → IsStepSaid S.outside.started scenario S.outside.log
       → HoldsPaceRecord S answer factor strict bytes name

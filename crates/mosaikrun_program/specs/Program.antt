@@ -33,9 +33,9 @@ abbrev pub HasPerformed : Around → Result (Unit {0}) Ending → Type 0
 HasPerformed S answer = HasMade S answer ⊎ HasRunAs S answer
 
 -- what an answer says
-abbrev pub Ended : Around → Result (Unit {0}) Ending → Type 0
-Ended S (Ok done) = HasPerformed S (Ok done)
-Ended S (Err e) = IsMisused S e ⊎ (IsUnread S e ⊎ HasPerformed S (Err e))
+abbrev pub EndedAs : Around → Result (Unit {0}) Ending → Type 0
+EndedAs S (Ok done) = HasPerformed S (Ok done)
+EndedAs S (Err e) = IsMisused S e ⊎ (IsUnread S e ⊎ HasPerformed S (Err e))
 
 -- the words ask for a run that saves its record under this name, or for a command that saves its text
 -- under it
@@ -67,7 +67,7 @@ pub record EndsWith (S : Around) (failed : Type 0) (err_before err_after : Optio
     (n : ℕ) : Type 0 where
   pub answer : Result (Unit {0}) Ending
   pub is : n ≡ status answer
-  pub ended : Ended S answer
+  pub ended : EndedAs S answer
   pub told : Told answer failed err_before err_after
   pub recorded : IsRecordKept S answer n
   pub resumed : IsNewRecordKept S answer n

@@ -7,7 +7,7 @@ use Rattle.mk_scenario.specs.declared.parts.Scenario.{Scenario}
 use Rattle.mk_scenario.specs.Scenarios.{scenario_of}
 use Rattle.mosaikrun_endings.specs.declared.ending.Ending.{Ending}
 use Rattle.mosaikrun_run.specs.declared.sayings.Form.TheVariants.{Report}
-use Rattle.mosaikrun_run.specs.Records.{HasRecord, IsSettled, IsStepSaid}
+use Rattle.mosaikrun_run.specs.Records.{HasRecord, EndsOfItself, IsStepSaid}
 use Rattle.mosaikrun_program.specs.Around.{Around}
 use Rattle.mosaikrun_program.specs.Commands.{IsAsked}
 use Rattle.mosaikrun_program.specs.Running.{RunAnswer}
@@ -29,7 +29,7 @@ pub record HoldsRecord (S : Around) (answer : Result (Unit {0}) Ending)
 pub record KeepsRecord (S : Around) (answer : Result (Unit {0}) Ending)
     (bytes name : List ℕ) : Type 0 where
   pub either : (S.folder.files_after ≡ S.folder.files) ⊎ HoldsRecord S answer bytes name
-  pub settled : IsSettled answer → HoldsRecord S answer bytes name
+  pub of_itself : EndsOfItself answer → HoldsRecord S answer bytes name
   pub said : (scenario : Scenario) → scenario_of bytes ≡ Ok scenario
       → IsStepSaid S.outside.started scenario S.outside.log → HoldsRecord S answer bytes name
 

@@ -29,7 +29,7 @@ use Rattle.mosaikrun_records.specs.Saved.{IsRecord}
 use Rattle.mosaikrun_run.specs.Outcomes.{IsUnrun, Outside}
 use Rattle.mosaikrun_resume.specs.Outcomes.{HasGoneOn, IsNotTaken, IsStudy}
 use Rattle.mosaikrun_program.specs.Around.{Around}
-use Rattle.mosaikrun_program.specs.Commands.{IsAsked, IsHeld}
+use Rattle.mosaikrun_program.specs.Commands.{IsAsked, HasBytes}
 use Rattle.mosaikrun_program.specs.Running.{RunAnswer}
 
 -- the run has gone on by this plan, with this journal, which begins with the record's. At status 0,
@@ -68,10 +68,10 @@ pub record IsNotOnward (C : Around) (S : Scenario) (ranks : List ℕ) (old : Sav
 pub record IsRightResume (C : Around) (name recorded : List ℕ) (saved : Option (List ℕ))
     (n : ℕ) : Type 0 where
   pub bytes : List ℕ
-  pub held : IsHeld C.folder.files name bytes
+  pub held : HasBytes C.folder.files name bytes
   pub study : IsStudy (map name_of C.outside.kinds) bytes
   pub old_bytes : List ℕ
-  pub old_held : IsHeld C.folder.files recorded old_bytes
+  pub old_held : HasBytes C.folder.files recorded old_bytes
   pub old : Saved
   pub read : reading old_bytes ≡ Said old.plan (map came old.arrivals) old.asks
   pub went : IsNotOnward C study.scenario study.ranks old n

@@ -9,7 +9,7 @@ ghost use Rattle.mosaikrun_records.specs.Migrations.{IsMigration};
 ghost use Rattle.mosaikrun_records.specs.Reports as reports;
 ghost use Rattle.mosaikrun_words.specs.declared.request.PairCommand.{PairCommand};
 ghost use Rattle.mosaikrun_program.specs.Around.{RulesSeen, rules_seen};
-ghost use Rattle.mosaikrun_program.specs.Commands.{IsHeld, IsMade, IsStuck, IsUnreadable, target_of};
+ghost use Rattle.mosaikrun_program.specs.Commands.{HasBytes, ComesOfFiles, IsStuck, IsUnreadable, target_of};
 ghost use Rattle.mosaikrun_program.specs.inner.Making.{IsMadeOfOne, IsUnmade};
 
 use mk_base::Text;
@@ -34,7 +34,8 @@ pub fn made<D: Folder>(
     folder: &mut D,
 ) -> Result<Vec<u8>, Ending>
     ensures text { IfOk result
-        (λ text. IsMade (D.files folder.old) (rows_in kinds.now) (rules_seen rules.now) command.now
+        (λ text. ComesOfFiles (D.files folder.old) (rows_in kinds.now)
+        (rules_seen rules.now) command.now
         (Ok text.items)) }
     ensures none { IfErr result (λ e. IsUnmade (D.files folder.old) (rows_in kinds.now)
         (rules_seen rules.now) command.now
@@ -72,7 +73,7 @@ fn pair_made<D: Folder>(
     folder: &mut D,
 ) -> Result<Vec<u8>, Ending>
     ensures text { (kinds : List Turn) → IfOk result
-        (λ text. IsMade (D.files folder.old) kinds (rules_seen rules.now)
+        (λ text. ComesOfFiles (D.files folder.old) kinds (rules_seen rules.now)
         (FileCommand.Pair command first.now second.now) (Ok text.items)) }
     ensures none { (kinds : List Turn) → IfErr result
         (λ e. IsUnmade (D.files folder.old) kinds (rules_seen rules.now)
@@ -153,7 +154,7 @@ fn watch_files<D: Folder>(
     folder: &mut D,
 ) -> Result<Vec<u8>, Ending>
     ensures text { (command : PairCommand) → command ≡ PairCommand.Watch → (kinds : List Turn)
-        → IfOk result (λ text. IsMade (D.files folder.old) kinds (rules_seen rules.now)
+        → IfOk result (λ text. ComesOfFiles (D.files folder.old) kinds (rules_seen rules.now)
         (FileCommand.Pair command first.now second.now) (Ok text.items)) }
     ensures none { (command : PairCommand) → command ≡ PairCommand.Watch → (kinds : List Turn)
         → IfErr result (λ e. IsUnmade (D.files folder.old) kinds (rules_seen rules.now)
@@ -177,7 +178,7 @@ fn blame_files<D: Folder>(
     folder: &mut D,
 ) -> Result<Vec<u8>, Ending>
     ensures text { (command : PairCommand) → command ≡ PairCommand.Blame → (kinds : List Turn)
-        → (rules : RulesSeen) → IfOk result (λ text. IsMade (D.files folder.old) kinds rules
+        → (rules : RulesSeen) → IfOk result (λ text. ComesOfFiles (D.files folder.old) kinds rules
         (FileCommand.Pair command first.now second.now) (Ok text.items)) }
     ensures none { (command : PairCommand) → command ≡ PairCommand.Blame → (kinds : List Turn)
         → (rules : RulesSeen) → IfErr result (λ e. IsUnmade (D.files folder.old) kinds rules
@@ -212,7 +213,7 @@ pub fn target_of(command: &FileCommand) -> Option<&str>
 
 // A file's bytes, or why there are none.
 pub fn file_bytes<D: Folder>(alloc: Global, folder: &mut D, name: &str) -> Result<Vec<u8>, Ending>
-    ensures read { IfOk result (λ bytes. IsHeld (D.files folder.old) name.now bytes.items) }
+    ensures read { IfOk result (λ bytes. HasBytes (D.files folder.old) name.now bytes.items) }
     ensures unread { IfErr result
         (λ e. IsUnreadable (D.files folder.old) name.now
         (HasRisen (D.faults folder.old) (D.faults folder.new)) e) }

@@ -20,18 +20,18 @@ pub fn hand_out<D: Folder, K: Sink>(
     ensures text { IfOk told.text
         (λ text. RunAnswer (folder_seen D.files D.faults folder.old folder.new)
         (output_seen K.written K.faults K.shortages out.old out.new) name.now (Ok text.items)
-        (option_map (λ r. r.items) told.record) result) }
+        (option_map (λ r. r.items) told.record_text) result) }
     ensures none { IfErr told.text
         (λ e. RunAnswer (folder_seen D.files D.faults folder.old folder.new)
         (output_seen K.written K.faults K.shortages out.old out.new) name.now (Err e)
-        (option_map (λ r. r.items) told.record) result) }
+        (option_map (λ r. r.items) told.record_text) result) }
     ensures folder_count { D.faults folder.old ≤ D.faults folder.new }
     ensures out_count { K.faults out.old ≤ K.faults out.new }
 {
-    let Told { text, record } = told;
+    let Told { text, record_text } = told;
     match text {
-        Ok(text) => report(text.as_slice(), &record, name, folder, out),
-        Err(ending) => Err(explained(ending, &record, name, folder)),
+        Ok(text) => report(text.as_slice(), &record_text, name, folder, out),
+        Err(ending) => Err(explained(ending, &record_text, name, folder)),
     }
 }
 

@@ -25,7 +25,7 @@ ghost use Rattle.mosaikrun_program.specs.Complete.{EndsPaced, EndsResume, EndsRu
 ghost use Rattle.mosaikrun_program.specs.Fleetless.{IsHeldWithin, NeedsNoFleet};
 ghost use Rattle.mosaikrun_program.specs.Headline.{IsRightCall};
 ghost use Rattle.mosaikrun_program.specs.Running.{IsDoneOver};
-ghost use Rattle.mosaikrun_program.specs.Program.{Ended, EndsWith, IsStatusOr, KeepsOthers, TookLine};
+ghost use Rattle.mosaikrun_program.specs.Program.{EndedAs, EndsWith, IsStatusOr, KeepsOthers, TookLine};
 
 use crate::commands::{file_bytes, made, target_of};
 use crate::handing::{hand_out, print};
@@ -136,7 +136,7 @@ fn answer<D: Folder, F: Paced, K: Sink, R: Wait>(
     out: &mut K,
 ) -> Result<(), Ending>
     ensures ended { HoldsOver F.log F.started F.faults (rows_in kinds.now) fleet.old fleet.new
-        (λ O. Ended (around O (map string_bytes words.now) (rules_seen rules.now)
+        (λ O. EndedAs (around O (map string_bytes words.now) (rules_seen rules.now)
         (folder_seen D.files D.faults folder.old folder.new)
         (output_seen K.written K.faults K.shortages out.old out.new)) result) }
     ensures links_closed { AreNumbered (F.started fleet.old) (F.open_links fleet.old)
@@ -215,7 +215,7 @@ fn make<D: Folder, K: Sink>(
 ) -> Result<(), Ending>
     ensures made { (words : List (List ℕ)) → (started : ℕ) → (faults : ℕ)
         → IsAsked words (requests.Files command.now)
-        → Ended (around (unused (rows_in kinds.now) started faults) words (rules_seen rules.now)
+        → EndedAs (around (unused (rows_in kinds.now) started faults) words (rules_seen rules.now)
         (folder_seen D.files D.faults folder.old folder.new)
         (output_seen K.written K.faults K.shortages out.old out.new)) result }
     ensures folder_count { D.faults folder.old ≤ D.faults folder.new }
@@ -270,7 +270,7 @@ fn play<D: Folder, F: Fleet, K: Sink, R: Wait>(
     ensures played { (words : List (List ℕ)) → (rules : RulesSeen)
         → IsAsked words (requests.Run scenario.now name.now)
         → HoldsOver F.log F.started F.faults (rows_in kinds.now) fleet.old fleet.new
-        (λ O. Ended (around O words rules (folder_seen D.files D.faults folder.old folder.new)
+        (λ O. EndedAs (around O words rules (folder_seen D.files D.faults folder.old folder.new)
         (output_seen K.written K.faults K.shortages out.old out.new)) result) }
     ensures links_closed { AreNumbered (F.started fleet.old) (F.open_links fleet.old)
         → F.open_links fleet.new ≡ F.open_links fleet.old }
@@ -300,7 +300,7 @@ fn carry_on<D: Folder, F: Fleet, K: Sink, R: Wait>(
     ensures carried { (words : List (List ℕ)) → (rules : RulesSeen)
         → IsAsked words (requests.Resume scenario.now recorded.now name.now)
         → HoldsOver F.log F.started F.faults (rows_in kinds.now) fleet.old fleet.new
-        (λ O. Ended (around O words rules (folder_seen D.files D.faults folder.old folder.new)
+        (λ O. EndedAs (around O words rules (folder_seen D.files D.faults folder.old folder.new)
         (output_seen K.written K.faults K.shortages out.old out.new)) result) }
     ensures links_closed { AreNumbered (F.started fleet.old) (F.open_links fleet.old)
         → F.open_links fleet.new ≡ F.open_links fleet.old }
@@ -344,7 +344,7 @@ fn pace<D: Folder, F: Paced, K: Sink, R: Wait>(
     ensures paced { (words : List (List ℕ)) → (rules : RulesSeen)
         → IsAsked words (requests.Paced scenario.now factor strict name.now)
         → HoldsOver F.log F.started F.faults (rows_in kinds.now) fleet.old fleet.new
-        (λ O. Ended (around O words rules (folder_seen D.files D.faults folder.old folder.new)
+        (λ O. EndedAs (around O words rules (folder_seen D.files D.faults folder.old folder.new)
         (output_seen K.written K.faults K.shortages out.old out.new)) result) }
     ensures links_closed { AreNumbered (F.started fleet.old) (F.open_links fleet.old)
         → F.open_links fleet.new ≡ F.open_links fleet.old }

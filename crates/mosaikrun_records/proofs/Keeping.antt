@@ -23,7 +23,7 @@ use Rattle.mk_record_laws.proofs.Whole.{read_again}
 use Rattle.mk_record_laws.proofs.Recorded.{recordable}
 use Rattle.mk_sched.specs.declared.faults.CoreFault.{CoreFault}
 use Rattle.mk_sched.specs.declared.faults.CoreFault.TheVariants as core
-use Rattle.mk_record.specs.Replays.{EndsBy, IsLeft, end_with}
+use Rattle.mk_record.specs.Replays.{EndsBy, SomeUngiven, end_with}
 use Rattle.mk_record.specs.Orders.{IsReplayBy}
 use Rattle.mk_record.specs.ReplayEnd.{ReplayEnd}
 use Rattle.mk_record.specs.ReplayEnd.TheVariants.{Done, Core, Short, Other}
@@ -32,7 +32,7 @@ use Rattle.mosaikrun_records.specs.Saved.{IsUnread}
 use Rattle.mosaikrun_sayings.specs.Stops.{stop_of}
 use Rattle.mosaikrun_endings.specs.declared.ending.Ending.{Ending}
 use Rattle.mosaikrun_endings.specs.declared.ending.Ending.TheVariants.{Differs}
-use Rattle.mosaikrun_records.specs.Migrations.{IsKept, IsLost, IsRecordOf, IsNoRecordOf, Unmigrated}
+use Rattle.mosaikrun_records.specs.Migrations.{HasAllMessages, IsLost, IsRecordOf, IsNoRecordOf, Unmigrated}
 use Rattle.mosaikrun_records.specs.inner.Migrations.{is_message}
 
 -- ---- the messages of a journal
@@ -50,7 +50,7 @@ pub all_given : (J : List Entry) (A : List Arrival) → BeginsWith A (arrivals J
 all_given J A ([], is) same = sym (is ∙ append_nil (arrivals J))
 all_given J A (a ∷ more, is) same = let len = ap length is in let sum = length-append (arrivals J) (a ∷ more) in absurd (omega (arith, same, len, sum))
 
-pub some_left : (J : List Entry) (A : List Arrival) → BeginsWith A (arrivals J) → (length (arrivals J) ≡ length A → ⊥) → IsLeft A J
+pub some_left : (J : List Entry) (A : List Arrival) → BeginsWith A (arrivals J) → (length (arrivals J) ≡ length A → ⊥) → SomeUngiven A J
 some_left J A ([], is) apart = absurd (apart (ap length (sym (is ∙ append_nil (arrivals J)))))
 some_left J A (a ∷ more, is) apart = (a, more, is)
 
@@ -101,7 +101,7 @@ module _ (P : Plan) (A : List Arrival) (steps : Option (List Asked)) (J : List E
 
   module _ (bytes : List ℕ) (Q : Plan) (end : ReplayEnd) (read : reading bytes ≡ Said P A steps) (valid : IsValidPlan P) (same : Q ≡ P) (replayed : IsReplayBy P A steps None J end) where
     -- the record of a replay to which all messages came
-    record_made : (text : List ℕ) → arrivals J ≡ A → IsKept A J end → text ≡ record_text Q J → IsRecordOf bytes text
+    record_made : (text : List ℕ) → arrivals J ≡ A → HasAllMessages A J end → text ≡ record_text Q J → IsRecordOf bytes text
     record_made text given kept written =
         let is : text ≡ record_text P J = written ∙ ap (λ (X : Plan). record_text X J) same in
         record {
@@ -121,17 +121,17 @@ module _ (P : Plan) (A : List Arrival) (steps : Option (List Asked)) (J : List E
     pub record_done : (text : List ℕ) → end ≡ Done → text ≡ record_text Q J → IsRecordOf bytes text
     record_done text is written =
         let given : arrivals J ≡ A = given_done replayed.1.messages_end replayed.1.other replayed.1.ends (sym is ∙ replayed.1.is) in
-        record_made text given (subst (IsKept A J) (sym is) given) written
+        record_made text given (subst (HasAllMessages A J) (sym is) given) written
 
     pub record_short : (text : List ℕ) (n : ℕ) → end ≡ Short n → text ≡ record_text Q J → IsRecordOf bytes text
     record_short text n is written =
         let given : arrivals J ≡ A = given_short n replayed.1.messages_end replayed.1.other replayed.1.ends (sym is ∙ replayed.1.is) in
-        record_made text given (subst (IsKept A J) (sym is) given) written
+        record_made text given (subst (HasAllMessages A J) (sym is) given) written
 
     pub record_fault : (text : List ℕ) (f : CoreFault) → end ≡ Core f → length (arrivals J) ≡ length A → text ≡ record_text Q J → IsRecordOf bytes text
     record_fault text f is all written =
         let given : arrivals J ≡ A = all_given J A replayed.0.given all in
-        record_made text given (subst (IsKept A J) (sym is) given) written
+        record_made text given (subst (HasAllMessages A J) (sym is) given) written
 
     no_record : (e : Ending) → IsLost A J end → IsSaidOf P J end e → IsNoRecordOf bytes e
     no_record e lost said = record { plan = P; arrivals = A; journal = J; end = end; steps = steps; read = read; valid = valid; replayed = replayed; lost = lost; said = said }

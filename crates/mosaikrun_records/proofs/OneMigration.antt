@@ -5,24 +5,24 @@ use Rattle.mk_plan.specs.declared.Entry.{Entry}
 use Rattle.mk_plan.specs.Journals.{Arrival, arrivals}
 use Rattle.mk_record.specs.Reading.{reading, Faulty}
 use Rattle.mk_record.specs.Texts.{record_text}
-use Rattle.mk_record.specs.Replays.{IsLeft}
+use Rattle.mk_record.specs.Replays.{SomeUngiven}
 use Rattle.mk_record.specs.ReplayEnd.{ReplayEnd}
 use Rattle.mk_record.specs.ReplayEnd.TheVariants as ends
 use Rattle.mosaikrun_records.specs.Reports.{IsSaidOf}
 use Rattle.mosaikrun_records.proofs.OneOutcome.{same_plan, same_arrivals, same_end, said_once, faulty_not, same_fault}
 use Rattle.mosaikrun_endings.specs.declared.ending.Ending.{Ending}
 use Rattle.mosaikrun_endings.specs.declared.ending.Ending.TheVariants.{Usage, Missing, TooLong, Scenario, Watches, Cycle, Launch, Setup, Record, Wrong, Failed, LoopLimit, Link, Short, Differs, OtherPlan, OtherMessage, Late, Fleet, Folder, Output, Entries, LongItem, Mem}
-use Rattle.mosaikrun_records.specs.Migrations.{IsKept, IsLost, IsRecordOf, IsNoRecordOf, IsMigration, Unmigrated}
+use Rattle.mosaikrun_records.specs.Migrations.{HasAllMessages, IsLost, IsRecordOf, IsNoRecordOf, IsMigration, Unmigrated}
 
 -- a message that is left isn't in the journal
-left_not : (A : List Arrival) (J : List Entry) → arrivals J ≡ A → IsLeft A J → ⊥
+left_not : (A : List Arrival) (J : List Entry) → arrivals J ≡ A → SomeUngiven A J → ⊥
 left_not A J given left =
     let whole = ap length (given ∙ left.2) in
     let sum = length-append (arrivals J) (left.0 ∷ left.1) in
     omega (arith, whole, sum)
 
 -- what is kept isn't lost
-kept_not : (A : List Arrival) (J : List Entry) (end : ReplayEnd) → IsKept A J end → IsLost A J end → ⊥
+kept_not : (A : List Arrival) (J : List Entry) (end : ReplayEnd) → HasAllMessages A J end → IsLost A J end → ⊥
 kept_not A J ends.Done kept lost = left_not A J kept lost
 kept_not A J (ends.Short n) kept lost = left_not A J kept lost
 kept_not A J (ends.Core fault) kept lost = left_not A J kept lost
@@ -40,9 +40,9 @@ not_both bytes t e r q =
     let same = sym r.read ∙ q.read in
     let came = same_arrivals r.plan q.plan r.arrivals q.arrivals r.steps q.steps same in
     let one = same_end r.plan q.plan r.arrivals q.arrivals r.steps q.steps same None r.journal q.journal r.end q.end r.replayed q.replayed in
-    let a = subst (λ (A : List Arrival). IsKept A r.journal r.end) came r.kept in
-    let b = subst (λ (J : List Entry). IsKept q.arrivals J r.end) one.0 a in
-    let c = subst (λ (x : ReplayEnd). IsKept q.arrivals q.journal x) one.1 b in
+    let a = subst (λ (A : List Arrival). HasAllMessages A r.journal r.end) came r.kept in
+    let b = subst (λ (J : List Entry). HasAllMessages q.arrivals J r.end) one.0 a in
+    let c = subst (λ (x : ReplayEnd). HasAllMessages q.arrivals q.journal x) one.1 b in
     kept_not q.arrivals q.journal q.end c q.lost
 
 one_stop : (bytes : List ℕ) (e f : Ending) → IsNoRecordOf bytes e → IsNoRecordOf bytes f → e ≡ f

@@ -14,7 +14,7 @@ use Rattle.mk_record.specs.ReplayEnd.TheVariants as ends
 use Rattle.mk_record_replay.proofs.OneOrder.{one_replay_by}
 use Rattle.mosaikrun_endings.specs.declared.ending.Ending.{Ending}
 use Rattle.mosaikrun_endings.specs.declared.ending.Ending.TheVariants.{Usage, Missing, TooLong, Scenario, Watches, Cycle, Launch, Setup, Record, Wrong, Failed, LoopLimit, Link, Short, Differs, OtherPlan, OtherMessage, Late, Fleet, Folder, Output, Entries, LongItem, Mem}
-use Rattle.mosaikrun_records.specs.Reports.{IsDoneBy, IsReportOf, IsStopped, IsSaidOf, IsOutcome, Unreported}
+use Rattle.mosaikrun_records.specs.Reports.{IsDoneBy, IsReportOf, EndsEarly, IsSaidOf, IsOutcome, Unreported}
 
 -- the record of bytes that are read as two is one
 module _ (P Q : Plan) (A B : List Arrival) (s z : Option (List Asked)) (same : Said P A s ≡ Said Q B z) where
@@ -56,14 +56,14 @@ done_is P A steps None J done = (done.0, record { messages_end = ends.Done; othe
 done_is P A steps (Some N) J done = done
 
 -- a record that is reported doesn't stop
-not_both : (bytes : List ℕ) (order : Option ℕ) (t : List ℕ) (e : Ending) → IsReportOf bytes order t → IsStopped bytes order e → ⊥
+not_both : (bytes : List ℕ) (order : Option ℕ) (t : List ℕ) (e : Ending) → IsReportOf bytes order t → EndsEarly bytes order e → ⊥
 not_both bytes order t e r q =
     let done = done_is r.plan r.arrivals r.steps order r.journal r.done in
     let one = same_end r.plan q.plan r.arrivals q.arrivals r.steps q.steps (sym r.read ∙ q.read) order r.journal q.journal ends.Done q.end done q.replayed in
     let said : IsSaidOf q.plan q.journal ends.Done e = subst (λ (x : ReplayEnd). IsSaidOf q.plan q.journal x e) (sym one.1) q.said in
     said
 
-pub one_stop : (bytes : List ℕ) (order : Option ℕ) (e f : Ending) → IsStopped bytes order e → IsStopped bytes order f → e ≡ f
+pub one_stop : (bytes : List ℕ) (order : Option ℕ) (e f : Ending) → EndsEarly bytes order e → EndsEarly bytes order f → e ≡ f
 one_stop bytes order e f r q =
     let same = sym r.read ∙ q.read in
     let plan = same_plan r.plan q.plan r.arrivals q.arrivals r.steps q.steps same in
@@ -76,7 +76,7 @@ one_stop bytes order e f r q =
 -- why there is no report, in two kinds
 data Cause (bytes : List ℕ) (order : Option ℕ) : Ending → Type 0 where
   faulty : (line fault : ℕ) → reading bytes ≡ Faulty line fault → Cause bytes order (Record line fault)
-  stopped : (e : Ending) → IsStopped bytes order e → Cause bytes order e
+  stopped : (e : Ending) → EndsEarly bytes order e → Cause bytes order e
 
 cause_of : (bytes : List ℕ) (order : Option ℕ) (e : Ending) → Unreported bytes order e → (e ≡ Mem) ⊎ Cause bytes order e
 cause_of bytes order Usage h = absurd h

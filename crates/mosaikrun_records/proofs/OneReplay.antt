@@ -7,7 +7,7 @@ use Rattle.mk_record.specs.ReplayEnd.{ReplayEnd}
 use Rattle.mk_record.specs.ReplayEnd.TheVariants as ends
 use Rattle.mosaikrun_endings.specs.declared.ending.Ending.{Ending}
 use Rattle.mosaikrun_endings.specs.declared.ending.Ending.TheVariants.{Record}
-use Rattle.mosaikrun_records.specs.Reports.{IsStopped, IsSaidOf}
+use Rattle.mosaikrun_records.specs.Reports.{EndsEarly, IsSaidOf}
 use Rattle.mosaikrun_records.specs.Saved.{IsRecord, ReplaysTo}
 use Rattle.mosaikrun_records.proofs.OneOutcome.{done_is, faulty_not, same_end, same_fault, same_plan}
 
@@ -22,7 +22,7 @@ module _ (bytes : List ℕ) where
       )
 
   -- what is done doesn't end otherwise
-  pub replays_or_stops : (P : Plan) (J : List Entry) (e : Ending) → ReplaysTo bytes P J → IsStopped bytes None e → ⊥
+  pub replays_or_stops : (P : Plan) (J : List Entry) (e : Ending) → ReplaysTo bytes P J → EndsEarly bytes None e → ⊥
   replays_or_stops P J e a b =
       let one = same_end P b.plan a.arrivals b.arrivals a.steps b.steps (sym a.read ∙ b.read) None J b.journal ends.Done b.end
       (done_is P a.arrivals a.steps None J a.done) b.replayed in
@@ -41,5 +41,5 @@ module _ (bytes : List ℕ) where
   pub record_replays : (P : Plan) (J : List Entry) → ReplaysTo bytes P J → IsRecord bytes
   record_replays P J a = record { plan = P; arrivals = a.arrivals; steps = a.steps; read = a.read }
 
-  pub record_stops : (order : Option ℕ) (e : Ending) → IsStopped bytes order e → IsRecord bytes
+  pub record_stops : (order : Option ℕ) (e : Ending) → EndsEarly bytes order e → IsRecord bytes
   record_stops order e a = record { plan = a.plan; arrivals = a.arrivals; steps = a.steps; read = a.read }

@@ -20,8 +20,8 @@ use Rattle.mk_record.specs.Orders.{IsReplayBy, IsReplayInOrder}
 use Rattle.mk_record.specs.ReplayEnd.{ReplayEnd}
 use Rattle.mk_record.specs.ReplayEnd.TheVariants.{Done, Core, Short, Other}
 use Rattle.mk_record_report.proofs.Bare.{report_bare}
-use Rattle.mosaikrun_records.specs.Reports.{IsDoneBy, IsReportOf, IsSaidOf, IsStopped, Unreported}
-use Rattle.mosaikrun_records.specs.Saved.{IsUnfinished, IsUnread}
+use Rattle.mosaikrun_records.specs.Reports.{IsDoneBy, IsReportOf, IsSaidOf, EndsEarly, Unreported}
+use Rattle.mosaikrun_records.specs.Saved.{IsNotDone, IsUnread}
 use Rattle.mosaikrun_records.specs.inner.Saved.{IsSaidOrMemory}
 use Rattle.mosaikrun_sayings.specs.Stops.{stop_of}
 use Rattle.mosaikrun_endings.specs.declared.ending.Ending.{Ending}
@@ -105,7 +105,7 @@ module _ (P : Plan) (J : List Entry) (end : ReplayEnd) where
 
 -- it ends as is said
 pub unfinished : (P Q : Plan) (A : List Arrival) (steps : Option (List Asked)) (order : Option ℕ) (J : List Entry) (end : ReplayEnd) (e : Ending)
-    → IsValidPlan P → Q ≡ P → IsReplayBy P A steps order J end → IsSaidOrMemory Q J end e → (bytes : List ℕ) → reading bytes ≡ Said P A steps → IsUnfinished bytes order e
+    → IsValidPlan P → Q ≡ P → IsReplayBy P A steps order J end → IsSaidOrMemory Q J end e → (bytes : List ℕ) → reading bytes ≡ Said P A steps → IsNotDone bytes order e
 unfinished P Q A steps order J end e valid same replayed (inl wanting) bytes read = inl wanting
 unfinished P Q A steps order J end e valid same replayed (inr said) bytes read = inr (record {
   plan = P;
@@ -124,23 +124,23 @@ pub if_err : {A E : Type 0} (r : Result A E) (e : E) (F : E → Type 0) → r �
 if_err {A} {E} r e F is holds = subst (λ (x : Result A E). IfErr x F) (sym is) holds
 
 -- and has no report
-as_stopped : (bytes : List ℕ) (order : Option ℕ) (P : Plan) (J : List Entry) (fault : CoreFault) → IsStopped bytes order (stop_of P J fault) → Unreported bytes order (stop_of P J fault)
+as_stopped : (bytes : List ℕ) (order : Option ℕ) (P : Plan) (J : List Entry) (fault : CoreFault) → EndsEarly bytes order (stop_of P J fault) → Unreported bytes order (stop_of P J fault)
 as_stopped bytes order P J (core.Wrong s place cause) h = h
 as_stopped bytes order P J (core.Failed s place) h = h
 as_stopped bytes order P J (core.LoopLimit s time) h = h
 as_stopped bytes order P J (core.TooLong count) h = h
 
 module _ (bytes : List ℕ) (order : Option ℕ) where
-  by_end : (P : Plan) (J : List Entry) (end : ReplayEnd) (e : Ending) → IsSaidOf P J end e → IsStopped bytes order e → Unreported bytes order e
+  by_end : (P : Plan) (J : List Entry) (end : ReplayEnd) (e : Ending) → IsSaidOf P J end e → EndsEarly bytes order e → Unreported bytes order e
   by_end P J Done e said s = absurd said
-  by_end P J (Short n) e said s = subst (Unreported bytes order) (sym said) (subst (IsStopped bytes order) said s)
-  by_end P J (Other n) e said s = subst (Unreported bytes order) (sym said) (subst (IsStopped bytes order) said s)
-  by_end P J (Core fault) e said s = subst (Unreported bytes order) (sym said) (as_stopped bytes order P J fault (subst (IsStopped bytes order) said s))
+  by_end P J (Short n) e said s = subst (Unreported bytes order) (sym said) (subst (EndsEarly bytes order) said s)
+  by_end P J (Other n) e said s = subst (Unreported bytes order) (sym said) (subst (EndsEarly bytes order) said s)
+  by_end P J (Core fault) e said s = subst (Unreported bytes order) (sym said) (as_stopped bytes order P J fault (subst (EndsEarly bytes order) said s))
 
   memory : (e : Ending) → e ≡ Mem → Unreported bytes order e
   memory e is = subst (Unreported bytes order) (sym is) tt
 
-  pub unfinished_unreported : (e : Ending) → IsUnfinished bytes order e → Unreported bytes order e
+  pub unfinished_unreported : (e : Ending) → IsNotDone bytes order e → Unreported bytes order e
   unfinished_unreported e (inl wanting) = memory e wanting
   unfinished_unreported e (inr s) = by_end s.plan s.journal s.end e s.said s
 

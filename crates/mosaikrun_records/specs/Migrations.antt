@@ -8,7 +8,7 @@ use Rattle.mk_record.specs.Reading.{reading, Said, Faulty}
 use Rattle.mk_record.specs.Texts.{record_text}
 use Rattle.mk_record.specs.Asked.{Asked}
 use Rattle.mk_record.specs.Again.{steps_of}
-use Rattle.mk_record.specs.Replays.{IsLeft}
+use Rattle.mk_record.specs.Replays.{SomeUngiven}
 use Rattle.mk_record.specs.Orders.{IsReplayBy}
 use Rattle.mk_record.specs.ReplayEnd.{ReplayEnd}
 use Rattle.mk_record.specs.ReplayEnd.TheVariants as ends
@@ -17,17 +17,17 @@ use Rattle.mosaikrun_endings.specs.declared.ending.Ending.{Ending}
 use Rattle.mosaikrun_endings.specs.declared.ending.Ending.TheVariants.{Usage, Missing, TooLong, Scenario, Watches, Cycle, Launch, Setup, Record, Wrong, Failed, LoopLimit, Link, Short, Differs, OtherPlan, OtherMessage, Late, Fleet, Folder, Output, Entries, LongItem, Mem}
 
 -- no entry of the record differs, and all its messages are in the journal, whatever the end is
-abbrev pub IsKept : List Arrival → List Entry → ReplayEnd → Type 0
-IsKept A J ends.Done = arrivals J ≡ A
-IsKept A J (ends.Short n) = arrivals J ≡ A
-IsKept A J (ends.Core fault) = arrivals J ≡ A
-IsKept A J (ends.Other n) = ⊥
+abbrev pub HasAllMessages : List Arrival → List Entry → ReplayEnd → Type 0
+HasAllMessages A J ends.Done = arrivals J ≡ A
+HasAllMessages A J (ends.Short n) = arrivals J ≡ A
+HasAllMessages A J (ends.Core fault) = arrivals J ≡ A
+HasAllMessages A J (ends.Other n) = ⊥
 
 -- an entry of the record differs, or one of its messages isn't in the journal
 abbrev pub IsLost : List Arrival → List Entry → ReplayEnd → Type 0
-IsLost A J ends.Done = IsLeft A J
-IsLost A J (ends.Short n) = IsLeft A J
-IsLost A J (ends.Core fault) = IsLeft A J
+IsLost A J ends.Done = SomeUngiven A J
+IsLost A J (ends.Short n) = SomeUngiven A J
+IsLost A J (ends.Core fault) = SomeUngiven A J
 IsLost A J (ends.Other n) = ⊤
 
 -- the bytes are a record of a valid plan; no entry differs in its replay, which comes to a journal
@@ -42,7 +42,7 @@ pub record IsRecordOf (bytes : List ℕ) (text : List ℕ) : Type 0 where
   pub read : reading bytes ≡ Said plan arrivals steps
   pub valid : IsValidPlan plan
   pub replayed : IsReplayBy plan arrivals steps None journal end
-  pub kept : IsKept arrivals journal end
+  pub kept : HasAllMessages arrivals journal end
   pub written : text ≡ record_text plan journal
   pub again : reading text ≡ Said plan arrivals (Some (steps_of journal))
 

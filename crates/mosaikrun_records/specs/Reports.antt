@@ -49,7 +49,7 @@ IsSaidOf P J (ends.Other n) e = e ≡ Differs n
 IsSaidOf P J (ends.Core fault) e = e ≡ stop_of P J fault
 
 -- the bytes are a record of a valid plan, whose replay in this order ends as is said
-pub record IsStopped (bytes : List ℕ) (order : Option ℕ) (e : Ending) : Type 0 where
+pub record EndsEarly (bytes : List ℕ) (order : Option ℕ) (e : Ending) : Type 0 where
   pub plan : Plan
   pub arrivals : List Arrival
   pub journal : List Entry
@@ -70,11 +70,11 @@ Unreported bytes order (Watches fault) = ⊥
 Unreported bytes order (Cycle sims) = ⊥
 Unreported bytes order (Launch sim fault) = ⊥
 Unreported bytes order (Record line fault) = reading bytes ≡ Faulty line fault
-Unreported bytes order (Wrong sim place cause) = IsStopped bytes order (Wrong sim place cause)
-Unreported bytes order (Failed sim text) = IsStopped bytes order (Failed sim text)
-Unreported bytes order (LoopLimit sim time) = IsStopped bytes order (LoopLimit sim time)
-Unreported bytes order (Short outstanding) = IsStopped bytes order (Short outstanding)
-Unreported bytes order (Differs entry) = IsStopped bytes order (Differs entry)
+Unreported bytes order (Wrong sim place cause) = EndsEarly bytes order (Wrong sim place cause)
+Unreported bytes order (Failed sim text) = EndsEarly bytes order (Failed sim text)
+Unreported bytes order (LoopLimit sim time) = EndsEarly bytes order (LoopLimit sim time)
+Unreported bytes order (Short outstanding) = EndsEarly bytes order (Short outstanding)
+Unreported bytes order (Differs entry) = EndsEarly bytes order (Differs entry)
 Unreported bytes order (OtherPlan part) = ⊥
 Unreported bytes order (OtherMessage sim place) = ⊥
 Unreported bytes order (Late sim time late allowed) = ⊥
@@ -84,7 +84,7 @@ Unreported bytes order (Link sim fault) = ⊥
 Unreported bytes order (LongItem sim length) = ⊥
 Unreported bytes order Fleet = ⊥
 Unreported bytes order Output = ⊥
-Unreported bytes order (Entries entries) = IsStopped bytes order (Entries entries)
+Unreported bytes order (Entries entries) = EndsEarly bytes order (Entries entries)
 Unreported bytes order Mem = ⊤
 
 -- what `replay` makes of these bytes in this order: the text that it prints, or why there is none

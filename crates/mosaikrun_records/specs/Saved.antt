@@ -9,7 +9,7 @@ use Rattle.mk_record.specs.Reading.{reading, Said, Faulty}
 use Rattle.mk_record.specs.Asked.{Asked}
 use Rattle.mosaikrun_endings.specs.declared.ending.Ending.{Ending}
 use Rattle.mosaikrun_endings.specs.declared.ending.Ending.TheVariants as ends
-use Rattle.mosaikrun_records.specs.Reports.{IsDoneBy, IsStopped}
+use Rattle.mosaikrun_records.specs.Reports.{IsDoneBy, EndsEarly}
 
 -- why the bytes are no record: their first fault, or want of memory
 abbrev pub IsUnread : List ℕ → Ending → Type 0
@@ -25,8 +25,8 @@ pub record IsRecord (bytes : List ℕ) : Type 0 where
   pub read : reading bytes ≡ Said plan arrivals steps
 
 -- why the replay of a record in this order isn't done: it ends as is said, or memory is wanting
-abbrev pub IsUnfinished : List ℕ → Option ℕ → Ending → Type 0
-IsUnfinished bytes order e = (e ≡ ends.Mem) ⊎ IsStopped bytes order e
+abbrev pub IsNotDone : List ℕ → Option ℕ → Ending → Type 0
+IsNotDone bytes order e = (e ≡ ends.Mem) ⊎ EndsEarly bytes order e
 
 -- the bytes are a record of this plan, which is valid, and its replay, its messages as they came,
 -- comes to this journal, in which all is done

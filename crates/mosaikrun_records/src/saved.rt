@@ -5,7 +5,7 @@ ghost use Rattle.mk_record.specs.Reading.{reading, Said};
 ghost use Rattle.mk_record.specs.Seen.{came};
 ghost use Rattle.mk_record.specs.Steps.{IsKnown};
 ghost use Rattle.mosaikrun_records.specs.Reports.{IsDoneBy};
-ghost use Rattle.mosaikrun_records.specs.Saved.{IsUnfinished, IsUnread};
+ghost use Rattle.mosaikrun_records.specs.Saved.{IsNotDone, IsUnread};
 ghost use Rattle.mosaikrun_records.specs.inner.Saved.{IsSaidOrMemory};
 
 use mk_record::{RecordFault, ReplayEnd, Replayed, Saved, read_record, replay};
@@ -41,7 +41,7 @@ pub fn finished(alloc: Global, saved: Saved, order: Option<u32>) -> Result<Repla
         (map came saved.arrivals) saved.asks order replayed.journal.entries) }
     ensures unfinished { (bytes : List ℕ)
         → reading bytes ≡ Said saved.plan (map came saved.arrivals) saved.asks
-        → IfErr result (λ ending. IsUnfinished bytes order ending) }
+        → IfErr result (λ ending. IsNotDone bytes order ending) }
 {
     let replayed = replay(alloc, saved, order)?;
     all_done(alloc, &replayed)?;

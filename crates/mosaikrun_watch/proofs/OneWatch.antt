@@ -14,7 +14,7 @@ use Rattle.mosaikrun_endings.specs.declared.ending.Ending.{Ending}
 use Rattle.mosaikrun_endings.specs.declared.ending.Ending.TheVariants.{Mem, Record, Watches}
 use Rattle.mosaikrun_records.proofs.OneOutcome.{faulty_not, one_stop, same_arrivals, same_fault, same_plan}
 use Rattle.mosaikrun_records.proofs.OneReplay.{replays_or_stops}
-use Rattle.mosaikrun_watch.specs.Watched.{IsTabled, IsRefused, IsUndone, IsUntabled, IsWatchOutcome}
+use Rattle.mosaikrun_watch.specs.Watched.{IsTabled, SaysNoWatches, IsUndone, IsUntabled, IsWatchOutcome}
 
 ok_same : (x y : List Watch) → ◌≡◌ {A = Result (List Watch) WatchFault} (Ok x) (Ok y) → x ≡ y
 ok_same x y e = cc
@@ -45,7 +45,7 @@ module _ (names : List (List ℕ)) (folds : List Fold) (bytes spec : List ℕ) w
   -- why there are no tables, want of memory aside, in three kinds
   data Cause : Ending → Type 0 where
     faulty : (line fault : ℕ) → reading bytes ≡ Faulty line fault → Cause (Record line fault)
-    refused : (e : Ending) → IsRefused names bytes spec e → Cause e
+    refused : (e : Ending) → SaysNoWatches names bytes spec e → Cause e
     undone : (e : Ending) → IsUndone names bytes spec e → Cause e
 
   cause_of : (e : Ending) → IsUntabled names bytes spec e → (e ≡ Mem) ⊎ Cause e

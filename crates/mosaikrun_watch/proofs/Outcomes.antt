@@ -15,7 +15,7 @@ use Rattle.mk_watch_read.specs.Watches.{AreInside, watches_of}
 use Rattle.mk_watch.specs.Tables.{tables_text}
 use Rattle.mosaikrun_endings.specs.declared.ending.Ending.{Ending}
 use Rattle.mosaikrun_records.specs.Reports.{IsDoneBy}
-use Rattle.mosaikrun_records.specs.Saved.{IsUnfinished}
+use Rattle.mosaikrun_records.specs.Saved.{IsNotDone}
 use Rattle.mosaikrun_records.proofs.WholeRuns.{got_is}
 use Rattle.mosaikrun_watch.specs.Watched.{IsTabled, IsUntabled}
 use Rattle.mosaikrun_watch.specs.inner.Refused.{IsNoWatch}
@@ -30,7 +30,7 @@ module _ (names : List (List ℕ)) (folds : List Fold) (bytes spec : List ℕ) (
   refused e (inl mem) = inl (inl mem)
   refused e (inr (fault, is, first)) = inr (inl (record { plan = P; arrivals = A; steps = steps; fault = fault; record_is = read; refused = first; is = is }))
 
-  pub undone : (ws : List Watch) (e : Ending) → watches_of P names spec ≡ Ok ws → IsUnfinished bytes None e → IsUntabled names bytes spec e
+  pub undone : (ws : List Watch) (e : Ending) → watches_of P names spec ≡ Ok ws → IsNotDone bytes None e → IsUntabled names bytes spec e
   undone ws e said (inl mem) = inl (inl mem)
   undone ws e said (inr stopped) = inr (inr (record { plan = P; arrivals = A; steps = steps; watches = ws; record_is = read; read = said; stopped = stopped }))
 

@@ -15,7 +15,7 @@ use Rattle.mk_watch_read.specs.Watches.{watches_of}
 use Rattle.mk_watch.specs.Tables.{tables_text}
 use Rattle.mosaikrun_endings.specs.declared.ending.Ending.{Ending}
 use Rattle.mosaikrun_endings.specs.declared.ending.Ending.TheVariants as ends
-use Rattle.mosaikrun_records.specs.Reports.{IsStopped}
+use Rattle.mosaikrun_records.specs.Reports.{EndsEarly}
 use Rattle.mosaikrun_records.specs.Saved.{IsUnread, ReplaysTo}
 
 -- the bytes are a record of a valid plan, and its replay, the messages as they came, comes to a
@@ -33,7 +33,7 @@ pub record IsTabled (names : List (List ℕ)) (folds : List Fold) (bytes spec te
 
 -- the bytes are a record, and the file says no watches over its plan: the ending names the first
 -- test that the file fails
-pub record IsRefused (names : List (List ℕ)) (bytes spec : List ℕ) (ending : Ending)
+pub record SaysNoWatches (names : List (List ℕ)) (bytes spec : List ℕ) (ending : Ending)
     : Type 0 where
   pub plan : Plan
   pub arrivals : List Arrival
@@ -53,13 +53,13 @@ pub record IsUndone (names : List (List ℕ)) (bytes spec : List ℕ) (ending : 
   pub watches : List Watch
   pub record_is : reading bytes ≡ Said plan arrivals steps
   pub read : watches_of plan names spec ≡ Ok watches
-  pub stopped : IsStopped bytes None ending
+  pub stopped : EndsEarly bytes None ending
 
 -- why there are no tables: the bytes are no record; the file says no watches; or the replay isn't
 -- done. Or memory is wanting
 abbrev pub IsUntabled : List (List ℕ) → List ℕ → List ℕ → Ending → Type 0
 IsUntabled names bytes spec e = IsUnread bytes e
-    ⊎ (IsRefused names bytes spec e ⊎ IsUndone names bytes spec e)
+    ⊎ (SaysNoWatches names bytes spec e ⊎ IsUndone names bytes spec e)
 
 -- what `watch` makes of these bytes: the text that it prints, or why there is none
 abbrev pub IsWatchOutcome : List (List ℕ) → List Fold → List ℕ → List ℕ → Result (List ℕ) Ending

@@ -5,9 +5,9 @@ use Rattle.mk_async.specs.declared.request.Asked.{Asked}
 use Rattle.mk_async.specs.Asked.{asked_in, is_asked_in_range}
 
 -- what is asked for is the request; nothing is where there is none
-abbrev pub IsRequest : Option Asked → Option Request → Type 0
-IsRequest None request = request ≡ None
-IsRequest (Some asked) request = (asked_in asked ≡ request) × IsSome request
+abbrev pub IsAskedRequest : Option Asked → Option Request → Type 0
+IsAskedRequest None request = request ≡ None
+IsAskedRequest (Some asked) request = (asked_in asked ≡ request) × IsSome request
 
 -- a request that is there is in range
 abbrev pub HasRange : Option Asked → Type 0

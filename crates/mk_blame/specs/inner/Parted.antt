@@ -23,8 +23,8 @@ pub record AreTalks (count : ℕ) (J : List Entry) (talks : List (List Entry)) :
   pub each : (i : ℕ) (t : List Entry) → slice_get talks i ≡ Some t → t ≡ filter (is_with i) J
 
 -- the first that is said, if there is anything, is a Step
-abbrev pub IsBegun : List Said → Type 0
-IsBegun xs = (x : Said) (more : List Said) → xs ≡ x ∷ more → (at : Tier)
+abbrev pub BeginsWithStep : List Said → Type 0
+BeginsWithStep xs = (x : Said) (more : List Said) → xs ≡ x ∷ more → (at : Tier)
     × (step_after None x ≡ Some at)
 
 -- two talks are equal up to place number, where they have different things; place messages came
@@ -53,15 +53,16 @@ PartingOf xs ys partings.End = OneEnds xs ys
 PartingOf xs ys (partings.Entry number place at) = PartAt xs ys number place at
 
 -- wherever two talks are equal up to a message of each, these messages are equal
-abbrev pub AreAlike : List Said → List Said → Type 0
-AreAlike xs ys = (before more other : List Said) (m n : Message) → xs ≡ before ++ Heard m ∷ more
+abbrev pub MessagesAlike : List Said → List Said → Type 0
+MessagesAlike xs ys = (before more other : List Said) (m n : Message)
+    → xs ≡ before ++ Heard m ∷ more
     → ys ≡ before ++ Heard n ∷ other → m ≡ n
 
 -- whether two talks of simulator i are equal, and what becomes of the list of those to blame
 abbrev pub JudgedOf : List Said → List Said → ℕ → List Blamed → Bool → List Blamed → Type 0
 JudgedOf xs ys i old true new = (xs ≡ ys) × (new ≡ old)
 JudgedOf xs ys i old false new = (xs ≡ ys → ⊥)
-    × (((new ≡ old) × AreAlike xs ys)
+    × (((new ≡ old) × MessagesAlike xs ys)
     ⊎ ((b : Blamed) × (new ≡ old ++ b ∷ []) × (b.sim.0 ≡ i) × IsBlamedBy xs ys b))
 
 -- what stands when the first so many simulators were judged
@@ -69,6 +70,6 @@ pub record IsJudged (J K : List Entry) (count : ℕ) (equal : Bool) (bs : List B
   pub same : equal ≡ true → AreEqual J K count
   pub differ : equal ≡ false → SomeDiffer J K count
   pub each : (b : Blamed) → IsIn b bs → (b.sim.0 < count) × IsBlamed J K b
-  pub alike : (i : ℕ) → i < count → AreAlike (talk J i) (talk K i)
+  pub alike : (i : ℕ) → i < count → MessagesAlike (talk J i) (talk K i)
       ⊎ ((b : Blamed) × IsIn b bs × (b.sim.0 ≡ i))
   pub in_order : AreInOrder bs

@@ -122,14 +122,14 @@ pub record IsSweptAt (mark : Tier) (i : ℕ) (next : Option Tier) (old new : Buf
   pub next_marks : new.next_marks ≡ old.next_marks
 
 -- nothing that it delivers comes before the start
-abbrev pub IsBegun : Buffers → Inlet → Tier → Type 0
-IsBegun b i x = IfSome (last_for b i x) (λ d. IsUpTo (moment (pos 0)) d.at)
+abbrev pub IsAfterStart : Buffers → Inlet → Tier → Type 0
+IsAfterStart b i x = IfSome (last_for b i x) (λ d. IsUpTo (moment (pos 0)) d.at)
 
 -- what these inlets give, in their order
 pub record HasGathered (b : Buffers) (l : List Inlet) (p : Option Tier) (x : Tier)
     (ins : List Input) : Type 0 where
   pub inputs : ins ≡ flat_map (λ i. given b i p x) l
-  pub begun : (i : Inlet) → IsIn i l → IsBegun b i x
+  pub begun : (i : Inlet) → IsIn i l → IsAfterStart b i x
 
 -- each entity's outlets are those of its part
 pub record AreHomes (P : Plan) (parts : List Part) (homes : List Home) : Type 0 where

@@ -7,7 +7,7 @@ pub record Listing : Type 0 where
   pub order : List ℕ
 
 -- a number is marked exactly if it is listed, and as many are marked as are listed
-pub record IsMarked (marks : List Bool) (order : List ℕ) : Type 0 where
+pub record MarksListed (marks : List Bool) (order : List ℕ) : Type 0 where
   pub listed : (s : ℕ) → slice_index_or marks s false ≡ true → IsIn s order
   pub marked : (s : ℕ) → IsIn s order → slice_index_or marks s false ≡ true
   pub counted : count_by (λ (b : Bool). b) marks ≡ length order

@@ -3,7 +3,7 @@ use Rattle.std.specs.Prelude.{◌≡◌, ℕ, suc, ◌==◌, ◌≤◌, List, []
 use Rattle.mk_entities.specs.declared.entities.EntityInfo.{EntityInfo}
 use Rattle.mk_entities.specs.Creation.{most_entities}
 use Rattle.mk_entities.specs.Sound.{AreSound}
-use Rattle.mk_entities.specs.Tied.{IsFound}
+use Rattle.mk_entities.specs.Tied.{AreFirst}
 
 -- the eids of simulator s among entities that are numbered from n
 abbrev pub numbered : ℕ → ℕ → List EntityInfo → List (List ℕ × ℕ)
@@ -19,6 +19,6 @@ names_at names s = unwrap_or (slice_get names s) []
 -- simulator's names are theirs
 pub record IsTied (entities : List EntityInfo) (names : List (List (List ℕ × ℕ))) : Type 0 where
   pub few : length entities ≤ most_entities
-  pub distinct : IsFound entities
+  pub distinct : AreFirst entities
   pub sound : AreSound entities
   pub numbers : (s : ℕ) → names_at names s ≡ numbered s 0 entities

@@ -14,7 +14,7 @@ use Rattle.mk_sched.specs.declared.faults.Next.TheVariants.{Ask, Wait, Done, Fau
 use Rattle.mk_sched.specs.Cores.{CoreState, Stands}
 use Rattle.mk_sched.specs.Answers.{IsLastFaulty, SomeReady, SomeOpen, open_id}
 use Rattle.mk_sched.specs.inner.Patient.{IsPatient}
-use Rattle.mk_record_replay.specs.Replays.{IsReplay, IsTooLong}
+use Rattle.mk_record_replay.specs.Replays.{IsReplay, IsFull}
 
 -- the messages A were given, and there is no fault
 pub record IsGiven (P : Plan) (A : List journals.Arrival) (J : List Entry) : Type 0 where
@@ -44,26 +44,26 @@ IsUnready core = SomeReady core.plan core.entries → ⊥
 
 -- nobody is to be asked any more: a message is waited for, nothing is left to do, or there is no
 -- room for a Step
-abbrev pub SettledBy : CoreState → Next → Type 0
-SettledBy core (Ask s) = ⊥
-SettledBy core Wait = (core.ended ≡ None) × IsUnready core × SomeOpen core.plan core.entries
-SettledBy core Done = (core.ended ≡ None) × IsDone core.plan (view core.plan core.entries)
+abbrev pub AskedAllBy : CoreState → Next → Type 0
+AskedAllBy core (Ask s) = ⊥
+AskedAllBy core Wait = (core.ended ≡ None) × IsUnready core × SomeOpen core.plan core.entries
+AskedAllBy core Done = (core.ended ≡ None) × IsDone core.plan (view core.plan core.entries)
     × IsFinished core.plan core.entries
-SettledBy core (Fault f) = (f ≡ TooLong core.plan.entries)
+AskedAllBy core (Fault f) = (f ≡ TooLong core.plan.entries)
     × (length core.entries ≡ core.plan.entries) × SomeReady core.plan core.entries
 
 -- whoever was ready was asked
-pub record IsSettled (old : CoreState) (next : Next) (new : CoreState) : Type 0 where
+pub record HasAskedAll (old : CoreState) (next : Next) (new : CoreState) : Type 0 where
   pub goes : GoesOn old new
   pub stands : Stands new.plan new.entries
-  pub by : SettledBy new next
+  pub by : AskedAllBy new next
 
 -- a fault ends the replay of the messages A
-pub record IsStopped (P : Plan) (A : List journals.Arrival) (f : CoreFault)
+pub record IsCutShort (P : Plan) (A : List journals.Arrival) (f : CoreFault)
     (new : CoreState) : Type 0 where
   pub plan : new.plan ≡ P
   pub replay : IsReplay P A new.entries
-  pub by : IsLastFaulty P new.entries f ⊎ IsTooLong P A new.entries f
+  pub by : IsLastFaulty P new.entries f ⊎ IsFull P A new.entries f
 
 -- a message was given, or a fault ended the replay
 abbrev pub GivenBy : CoreState → journals.Arrival → Option CoreFault → CoreState → Type 0
@@ -71,7 +71,7 @@ GivenBy old a None new = (new.ended ≡ None) × (new.plan ≡ old.plan)
     × ((A : List journals.Arrival) → IsOnWay old.plan A old.entries
     → IsOnWay old.plan (A ++ a ∷ []) new.entries)
 GivenBy old a (Some f) new = (A more : List journals.Arrival) → IsOnWay old.plan A old.entries
-    → IsStopped old.plan (A ++ a ∷ more) f new
+    → IsCutShort old.plan (A ++ a ∷ more) f new
 
 -- at how many of the first n simulators a request is open
 abbrev pub open_ids : CoreState → ℕ → ℕ

@@ -5,7 +5,7 @@ use Rattle.mk_plan.specs.declared.Item.{Item}
 use Rattle.mk_plan.specs.declared.Item.TheVariants.{Step, GetData, Answer, Refuse}
 use Rattle.mk_plan.specs.declared.Entry.{Entry}
 use Rattle.mk_plan.specs.Journals.{sent, sent_to}
-use Rattle.mk_plan.specs.Report.{is_step, steps_in, values_in}
+use Rattle.mk_plan.specs.Report.{is_step, steps_in, values_sent}
 use Rattle.mk_record_report.specs.declared.tallies.Tally.{Tally}
 
 -- how many input values the item has
@@ -18,7 +18,7 @@ value_count (Refuse id reason) = 0
 -- how many Steps are among these items, and how many input values over them
 pub record IsTally (tally : Tally) (items : List Item) : Type 0 where
   pub steps : tally.steps ≡ length (steps_in items)
-  pub values : tally.values ≡ values_in items
+  pub values : tally.values ≡ values_sent items
 
 -- a tally for each simulator, of what it was sent in these entries
 pub record AreTallies (count : ℕ) (J : List Entry) (tallies : List Tally) : Type 0 where

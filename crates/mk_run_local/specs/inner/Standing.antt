@@ -2,7 +2,7 @@
 -- kept.
 use Rattle.std.specs.Prelude.{◌≡◌, ℕ, ℤ, Option, Some, None, ⊤}
 use Rattle.mk_base.specs.Lists.{Each}
-use Rattle.mk_base.specs.Numbers.{IsShort}
+use Rattle.mk_base.specs.Numbers.{FitsIn64}
 use Rattle.mk_plan.specs.Journals.{Arrival}
 use Rattle.mk_local.specs.declared.entity.Entity.{Entity}
 use Rattle.mk_local.specs.Simulators.{Simulator}
@@ -12,12 +12,12 @@ use Rattle.mk_run_local.specs.Calls.{IsFitSuccess}
 -- the same, if it is there
 abbrev pub IsShortIfThere : Option ℤ → Type 0
 IsShortIfThere None = ⊤
-IsShortIfThere (Some n) = IsShort n
+IsShortIfThere (Some n) = FitsIn64 n
 
 -- an entity's numbers are within 64 bits
 pub record IsFitEntity (e : Entity) : Type 0 where
-  pub setting : IsShort e.setting
-  pub state : IsShort e.state
+  pub setting : FitsIn64 e.setting
+  pub state : FitsIn64 e.state
   pub out : IsShortIfThere e.out
   pub at : IsShortIfThere e.at
 
@@ -26,6 +26,6 @@ abbrev pub IsFit : Simulator → Type 0
 IsFit L = Each IsFitEntity L.entities
 
 -- the numbers of each simulator, and of each reply that is kept, are in range
-pub record Stands (W : WithinState) : Type 0 where
+pub record AreFit (W : WithinState) : Type 0 where
   pub sims : (i : ℕ) (L : Simulator) → sim_at W i ≡ Some L → IsFit L
   pub kept : Each (λ (a : Arrival). IsFitSuccess a.message) W.kept

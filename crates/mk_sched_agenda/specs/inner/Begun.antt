@@ -4,7 +4,7 @@ use Rattle.mk_base.specs.declared.tier.Tier.{Tier}
 use Rattle.mk_plan.specs.declared.Plan.{Plan}
 use Rattle.mk_nextstep.specs.declared.queue.Due.{Due}
 use Rattle.mk_nextstep.specs.Queues.{least}
-use Rattle.mk_tiers.specs.Seen.{Seen, IsOf, start_in, is_busy_in}
+use Rattle.mk_tiers.specs.Seen.{Seen, AreOfPlan, start_in, is_busy_in}
 use Rattle.mk_sched_agenda.specs.Dues.{limits_of, queue_in, last_in}
 use Rattle.mk_sched_agenda.specs.inner.Dues.{first_queue, is_open}
 
@@ -16,7 +16,7 @@ pub record AreNone (k : ℕ) (lasts : List (Option Tier)) : Type 0 where
 -- the first k simulators have the steps that they begin with, and starts by them; no turn is open
 pub record AreBegun (P : Plan) (k : ℕ) (Q : List (List Due)) (opened : List Bool)
     (B : Seen) : Type 0 where
-  pub plan : IsOf P B
+  pub plan : AreOfPlan P B
   pub queues : Q ≡ map (first_queue (limits_of P)) (take k P.sims)
   pub opens : length opened ≡ k
   pub none_open : (i : ℕ) → is_open opened i ≡ false

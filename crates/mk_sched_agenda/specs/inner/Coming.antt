@@ -11,7 +11,7 @@ use Rattle.mk_plan.specs.Journals.{View}
 use Rattle.mk_plan.specs.Ready.{start}
 use Rattle.mk_nextstep.specs.declared.queue.Due.{Due}
 use Rattle.mk_nextstep.specs.Queues.{time_of}
-use Rattle.mk_tiers.specs.Seen.{Seen, IsOf, start_in, is_busy_in}
+use Rattle.mk_tiers.specs.Seen.{Seen, AreOfPlan, start_in, is_busy_in}
 use Rattle.mk_order.proofs.Limits.{IsInLimit}
 use Rattle.mk_order.proofs.Pends.{PendsWith}
 use Rattle.mk_sched_agenda.specs.declared.limits.Limits.{Limits}
@@ -35,7 +35,7 @@ pub record IsEnding (P : Plan) (s : ℕ) (f : Act) (L : Limits) (os : List Outle
 -- time
 pub record HasCome (P : Plan) (V : View) (s : ℕ) (f : Act) (closed : Bool) (cs : List Conn)
     (Q : List (List Due)) (B : Seen) : Type 0 where
-  pub plan : IsOf P B
+  pub plan : AreOfPlan P B
   pub count : length Q ≡ sim_count P
   pub queues : (j : ℕ) → j < sim_count P
       → PendsWith P time_of flag_of V s f closed cs j (queue_in Q j)

@@ -15,7 +15,7 @@ use Rattle.mk_async.specs.Asked.{asked_in}
 use Rattle.mk_async.specs.declared.request.Asked.{Asked}
 use Rattle.mk_async.specs.declared.request.Asked.TheVariants as as_asked
 use Rattle.mk_buffers.specs.declared.buffers.Buffers.{Buffers}
-use Rattle.mk_buffers.specs.Standing.{Stands}
+use Rattle.mk_buffers.specs.Standing.{StandFor}
 
 -- these values, set in a step at x, as they are given
 abbrev pub gifts_in : Tier → List SetValue → List Gift
@@ -30,7 +30,7 @@ pub record HasGifts (P : Plan) (gifts : List Gift) (S T : Supply) : Type 0 where
 -- the buffers stand for such a supply
 pub record HasGivenAll (P : Plan) (gifts : List Gift) (S : Supply) (b : Buffers) : Type 0 where
   pub supply : Supply
-  pub stands : Stands P b supply
+  pub stands : StandFor P b supply
   pub more : HasGifts P gifts S supply
 
 -- the buffers have taken what is set by what was asked at x

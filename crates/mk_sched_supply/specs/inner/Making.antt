@@ -11,7 +11,7 @@ use Rattle.mk_plan.specs.Turns.{wanted}
 use Rattle.mk_plan.specs.Deliveries.{Supply}
 use Rattle.mk_buffers.specs.declared.buffers.Buffers.{Buffers}
 use Rattle.mk_buffers.specs.Held.{with_output}
-use Rattle.mk_buffers.specs.Standing.{Stands}
+use Rattle.mk_buffers.specs.Standing.{StandFor}
 use Rattle.mk_sched_supply.specs.declared.feeds.Feed.{Feed}
 use Rattle.mk_sched_supply.specs.declared.stock.Stock.{Stock}
 use Rattle.mk_sched_supply.specs.Stock.{ArePlaces}
@@ -57,6 +57,6 @@ pub record HasSameRest (old new : Stock) : Type 0 where
 -- the buffers stand for the supply, with the value of what is wanted of s, if there is one, as an
 -- output of one of its entities
 abbrev pub HasGiven : Plan → ℕ → Tier → Want → Option Json → Supply → Buffers → Type 0
-HasGiven P s x w None S b = Stands P b S
+HasGiven P s x w None S b = StandFor P b S
 HasGiven P s x w (Some v) S b = (e : ℕ) × (owner P e ≡ s) × (eid_of P e ≡ w.eid)
-    × Stands P b (with_output S e w.attr (record { at = x; value = text_of v }))
+    × StandFor P b (with_output S e w.attr (record { at = x; value = text_of v }))

@@ -4,7 +4,7 @@ use Rattle.mk_base.specs.declared.LinkNo.{LinkNo}
 use Rattle.mk_base.specs.Lists.{Each}
 use Rattle.mk_outside.specs.declared.fleet.LogEntry.{LogEntry}
 use Rattle.mk_outside.specs.declared.fleet.LogEntry.TheVariants.{NotHeard, Ended}
-use Rattle.mk_outside.specs.Logs.{IsOf, heard_on, said_on, last_read, last_write}
+use Rattle.mk_outside.specs.Logs.{IsOnLink, heard_on, said_on, last_read, last_write}
 use Rattle.mk_session.specs.declared.answers.Polled.{Polled}
 use Rattle.mk_session.specs.declared.saying.Said.{Said}
 use Rattle.mk_session.specs.declared.saying.Said.TheVariants as said
@@ -30,7 +30,7 @@ SpokenAs link false old new entries = (bytes : List ℕ) × Writes link entries 
 
 -- entries of reads of one link alone, by which these bytes were heard
 pub record Reads (link : LinkNo) (entries : List LogEntry) (bytes : List ℕ) : Type 0 where
-  pub on_link : Each (IsOf link) entries
+  pub on_link : Each (IsOnLink link) entries
   pub no_write : last_write link entries ≡ None
   pub not_said : said_on link entries ≡ []
   pub heard : heard_on link entries ≡ bytes

@@ -15,12 +15,12 @@ use Rattle.mk_setup.specs.Asking.{fault_before}
 use Rattle.mk_setup.specs.Replies.{is_reply, outstanding}
 use Rattle.mk_setup.specs.Requests.{meta_of}
 use Rattle.mk_setup.specs.Seen.{SetupState}
-use Rattle.mk_setup.specs.inner.Standing.{Stands}
+use Rattle.mk_setup.specs.inner.Standing.{IsSoundSetup}
 use Rattle.mk_setup.specs.Kept.{state_of}
 
 -- what is kept stands
-abbrev pub IsKept : Progress → Type 0
-IsKept p = Stands (state_of p None) p.ids p.plan
+abbrev pub IsSoundProgress : Progress → Type 0
+IsSoundProgress p = IsSoundSetup (state_of p None) p.ids p.plan
 
 -- nothing has changed, for want of memory or by the fault that stands in the way of the next
 -- request

@@ -24,7 +24,7 @@ pub record IsPlanOf (U : SetupState) (P : Plan) : Type 0 where
 
 -- the scenario is well-formed and ranked; each id is how many requests were answered; an
 -- outstanding request has passed its test; and entities are of models and groups
-pub record Stands (U : SetupState) (ids : List ℕ) (plan : Option Plan) : Type 0 where
+pub record IsSoundSetup (U : SetupState) (ids : List ℕ) (plan : Option Plan) : Type 0 where
   pub wellformed : IsWellformed U.scenario
   pub ranked : AreRanksOf U.scenario U.ranks
   pub within : U.answered ≤ length (setup_requests U.scenario)

@@ -15,7 +15,7 @@ use Rattle.mk_simapi.specs.declared.served.Served.TheVariants as served
 use Rattle.mk_simapi.specs.declared.servant.Answer.{Answer}
 use Rattle.mk_simapi.specs.declared.servant.Answer.TheVariants as answer
 use Rattle.mk_simapi.specs.Replies.{after_message, payloads}
-use Rattle.mk_simapi.specs.Serving.{IsGoing, AreShort, RestsWell, Serves}
+use Rattle.mk_simapi.specs.Serving.{NoStop, AreShort, RestsWell, Serves}
 
 -- by this log these messages were heard, and all of them were answered; M is the simulator then,
 -- and s the session
@@ -25,7 +25,7 @@ pub record IsServing (L : Simulator) (link : LinkNo) (log : List LogEntry) (ms :
   pub heard : Takes (heard_on link log) ms s.held
   pub said : said_on link log ++ s.unsent ≡ frames_of (payloads L ms)
   pub now : M ≡ fold after_message L ms
-  pub going : IsGoing ms
+  pub going : NoStop ms
   pub short : AreShort L ms
   pub rests : RestsWell L link log
 
@@ -37,7 +37,7 @@ pub record IsAsked (L : Simulator) (link : LinkNo) (log : List LogEntry) (ms : L
   pub said : said_on link log ++ s.unsent ≡ frames_of (payloads L ms)
   pub said_out : IsSaidOut link (last_write link log) s.unsent
   pub now : M ≡ fold after_message L ms
-  pub going : IsGoing ms
+  pub going : NoStop ms
   pub short : AreShort L ms
   pub rests : RestsWell L link log
 

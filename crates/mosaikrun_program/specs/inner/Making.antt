@@ -6,17 +6,17 @@ use Rattle.mk_local.specs.declared.turn.Turn.{Turn}
 use Rattle.mosaikrun_words.specs.declared.request.FileCommand.{FileCommand}
 use Rattle.mosaikrun_endings.specs.declared.ending.Ending.{Ending}
 use Rattle.mosaikrun_program.specs.Around.{RulesSeen}
-use Rattle.mosaikrun_program.specs.Commands.{IsHeld, IsMade, IsStuck, read_by}
+use Rattle.mosaikrun_program.specs.Commands.{HasBytes, ComesOfFiles, IsStuck, read_by}
 
 -- the file of this name was read, and this came of it
 pub record IsMadeOfOne (files : Option Files) (name : List ℕ)
     (makes : List ℕ → Result (List ℕ) Ending → Type 0)
     (outcome : Result (List ℕ) Ending) : Type 0 where
   pub bytes : List ℕ
-  pub held : IsHeld files name bytes
+  pub held : HasBytes files name bytes
   pub made : makes bytes outcome
 
 -- one of the command's files isn't read, or this ending came of them
 abbrev pub IsUnmade : Option Files → List Turn → RulesSeen → FileCommand → Type 0 → Ending → Type 0
 IsUnmade files kinds rules command risen e = IsStuck files (read_by command) risen e
-    ⊎ IsMade files kinds rules command (Err e)
+    ⊎ ComesOfFiles files kinds rules command (Err e)

@@ -1,6 +1,6 @@
 use Rattle.std.proofs.Common.{◌<◌, Bool, sym, subst, arith}
 use Rattle.mk_plan.specs.Plans.{sim_count}
-use Rattle.mk_blame.specs.inner.Parted.{IsBegun, IsJudged}
+use Rattle.mk_blame.specs.inner.Parted.{BeginsWithStep, IsJudged}
 use Rattle.mk_blame.proofs.Grouping.{as_many, talk_said}
 use Rattle.mk_blame.proofs.Judging.{judged_blamed, judged_equal, judged_no, judged_yes}
 use Rattle.mk_blame.proofs.Talking.{begun}
@@ -11,7 +11,7 @@ pub judge-requires : goal.judge-requires
 judge-requires c =
     let low : c.loop-sim.sim < sim_count c.args.plan.now = subst (λ n. c.loop-sim.sim < n) c.len-count.ensures c.loop-sim-test.true in
     let inside = subst (λ n. c.loop-sim.sim < n) (sym (as_many _ c.len-count.result c.args.first.now.entries c.in_ok-talks.talks.items c.loop-sim.invariant.talks)) c.loop-sim-test.true in
-    subst IsBegun (sym (talk_said (λ e. e.now) (λ t. t.items) c.len-count.result c.args.first.now.entries c.in_ok-talks.talks.items c.loop-sim.sim c.index.result.now c.as_slice-in-loop-sim.result.now inside c.index.ensures c.as_slice-in-loop-sim.ensures.value c.loop-sim.invariant.talks))
+    subst BeginsWithStep (sym (talk_said (λ e. e.now) (λ t. t.items) c.len-count.result c.args.first.now.entries c.in_ok-talks.talks.items c.loop-sim.sim c.index.result.now c.as_slice-in-loop-sim.result.now inside c.index.ensures c.as_slice-in-loop-sim.ensures.value c.loop-sim.invariant.talks))
     (begun c.args.plan.now c.requires.valid c.args.first.now.entries c.requires.first_orderly c.requires.first_finished c.loop-sim.sim low)
 
 pub loop-sim-preserved : goal.loop-sim-preserved

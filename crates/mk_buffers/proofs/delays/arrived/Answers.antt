@@ -1,7 +1,7 @@
 use Rattle.std.proofs.Common.{sym, ap, subst, ◌∙◌}
 use Rattle.mk_base.specs.declared.tier.Tier.{Tier}
 use Rattle.mk_base.specs.Tiers.{IsUpTo, delayed}
-use Rattle.mk_buffers.proofs.Settling.{past_at}
+use Rattle.mk_buffers.proofs.Keeping.{past_at}
 use Rattle.mk_buffers.proofs.delays.arrived.Goals as goal
 
 pub loop-via-preserved : goal.loop-via-preserved

@@ -1,7 +1,7 @@
 use Rattle.std.proofs.Common.{arith, sym, subst, List}
 use Rattle.mk_plan.specs.Deliveries.{Timed}
 use Rattle.mk_buffers.specs.Logs.{IsAmong}
-use Rattle.mk_buffers.proofs.Settling.{among_remove, among_trans}
+use Rattle.mk_buffers.proofs.Keeping.{among_remove, among_trans}
 use Rattle.mk_buffers.proofs.Sparing.{few_sifted, sifted_drop, sifted_more, spare_drop}
 use Rattle.mk_buffers.proofs.log.forget_spare.Goals as goal
 

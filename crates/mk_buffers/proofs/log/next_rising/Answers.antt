@@ -6,7 +6,7 @@ use mir.Val.{to_z, of_z}
 use Rattle.mk_base.specs.declared.tier.Tier.{Tier}
 use Rattle.mk_base.specs.Tiers.{delayed}
 use Rattle.mk_buffers.specs.inner.Logs.{is_past}
-use Rattle.mk_buffers.proofs.Settling.{stays_all, stays_first}
+use Rattle.mk_buffers.proofs.Keeping.{stays_all, stays_first}
 use Rattle.mk_buffers.proofs.log.next_rising.Goals as goal
 
 pub returns-then-is_all_in_time : goal.returns-then-is_all_in_time

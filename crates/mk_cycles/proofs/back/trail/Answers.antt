@@ -1,5 +1,5 @@
 use Rattle.std.proofs.Common.{ℕ, arith}
-use Rattle.mk_cycles.specs.Cycles.{IsBack, IsReached, at_least, further}
+use Rattle.mk_cycles.specs.Cycles.{IsBack, IsGoneBackTo, at_least, further}
 use Rattle.mk_cycles.specs.inner.Tables.{leads}
 use Rattle.mk_cycles.proofs.Chains.{chain_push, each_push}
 use Rattle.mk_cycles.proofs.Loops.{reached_left}
@@ -30,7 +30,7 @@ going-preserved c =
     let t = c.args.table.now in
     let order = c.args.placed.now.order in
     let R : ℕ → ℕ → Type 0 = λ s p. IsBack (leads t) t.sims order s p in
-    let P : ℕ → Type 0 = λ s. IsReached (leads t) t.sims order s in
+    let P : ℕ → Type 0 = λ s. IsGoneBackTo (leads t) t.sims order s in
     rw c.in_ok-push.ensures.ok record {
       count = c.going.invariant.count;
       here = further c.going.sim c.back-sim.result c.going.invariant.here c.back-sim.ensures;

@@ -1,6 +1,6 @@
 use Rattle.std.proofs.Common.{◌≡◌, ◌-◌, [], ◌∷◌, ◌++◌, length}
 use Rattle.mk_base.specs.Lists.{Each}
-use Rattle.mk_cycles.specs.Cycles.{IsBack, IsReached}
+use Rattle.mk_cycles.specs.Cycles.{IsBack, IsGoneBackTo}
 use Rattle.mk_cycles.specs.Edges.{IsChain}
 use Rattle.mk_cycles.specs.inner.Tables.{leads}
 use Rattle.mk_cycles.proofs.back.trail.Given as goal
@@ -11,7 +11,7 @@ decreases-going l = l.table.sims - length l.path.order
 abbrev pub invariant-going : goal.invariant-going
 invariant-going l = record {
   count : l.path.count ≡ l.table.sims;
-  here : IsReached (leads l.table) l.table.sims l.placed.order l.sim;
-  reached : Each (λ s. IsReached (leads l.table) l.table.sims l.placed.order s) l.path.order;
+  here : IsGoneBackTo (leads l.table) l.table.sims l.placed.order l.sim;
+  reached : Each (λ s. IsGoneBackTo (leads l.table) l.table.sims l.placed.order s) l.path.order;
   chain : IsChain (λ s p. IsBack (leads l.table) l.table.sims l.placed.order s p) (l.path.order ++ l.sim ∷ []);
 }

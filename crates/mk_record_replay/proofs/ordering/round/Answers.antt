@@ -1,39 +1,39 @@
 -- proofs/ordering/round/Answers.antt
 use Rattle.std.proofs.Common.{subst}
 use Rattle.mk_sched.specs.declared.faults.Next.{Next}
-use Rattle.mk_record_replay.specs.inner.Loops.{IsSettled}
+use Rattle.mk_record_replay.specs.inner.Loops.{HasAskedAll}
 use Rattle.mk_record_replay.specs.declared.ordering.Given.{Given}
 use Rattle.mk_record_replay.specs.inner.Rounds.{GivenNext}
 use Rattle.mk_record_replay.proofs.RoundsGiven.{between_mid, done_ends, ended_before, fault_ends, gone_before, short_ends}
 use Rattle.mk_record_replay.proofs.ordering.round.Goals as goal
 
 pub returns-in-Fault-clause-round : goal.returns-in-Fault-clause-round
-returns-in-Fault-clause-round c = λ A N b. fault_ends A N c.args.core.now c.settle.new.core c.args.waiting.now.items c.args.number.now b c.in-Fault.fault
-    (subst (λ (n : Next). IsSettled c.args.core.now n c.settle.new.core) c.in-Fault.is c.in_ok-fault.ensures)
+returns-in-Fault-clause-round c = λ A N b. fault_ends A N c.args.core.now c.ask_all.new.core c.args.waiting.now.items c.args.number.now b c.in-Fault.fault
+    (subst (λ (n : Next). HasAskedAll c.args.core.now n c.ask_all.new.core) c.in-Fault.is c.in_ok-fault.ensures)
 
 pub returns-in-Going-clause-round : goal.returns-in-Going-clause-round
-returns-in-Going-clause-round c = λ A N b. gone_before A N c.args.core.now c.settle.new.core c.args.waiting.now.items c.args.number.now b c.in_ok-fault.ensures.goes c.give_next.new.core c.give_next.new.waiting.items c.give_next.new.number
-    (subst (λ (g : Given). GivenNext A N c.settle.new.core g c.give_next.new.core c.give_next.new.waiting.items c.give_next.new.number) c.in-Going.is (c.in_ok-give_next-in-Done.ensures.given A N (between_mid A N c.args.core.now c.settle.new.core c.args.waiting.now.items c.args.number.now b c.in_ok-fault.ensures.goes)))
+returns-in-Going-clause-round c = λ A N b. gone_before A N c.args.core.now c.ask_all.new.core c.args.waiting.now.items c.args.number.now b c.in_ok-fault.ensures.goes c.give_next.new.core c.give_next.new.waiting.items c.give_next.new.number
+    (subst (λ (g : Given). GivenNext A N c.ask_all.new.core g c.give_next.new.core c.give_next.new.waiting.items c.give_next.new.number) c.in-Going.is (c.in_ok-give_next-in-Done.ensures.given A N (between_mid A N c.args.core.now c.ask_all.new.core c.args.waiting.now.items c.args.number.now b c.in_ok-fault.ensures.goes)))
 
 pub returns-in-Stopped-clause-round : goal.returns-in-Stopped-clause-round
-returns-in-Stopped-clause-round c = λ A N b. ended_before A N c.args.core.now c.settle.new.core c.args.waiting.now.items c.args.number.now b c.in_ok-fault.ensures.goes _ c.give_next.new.core
-    (subst (λ (g : Given). GivenNext A N c.settle.new.core g c.give_next.new.core c.give_next.new.waiting.items c.give_next.new.number) c.in-Stopped.is (c.in_ok-give_next-in-Done.ensures.given A N (between_mid A N c.args.core.now c.settle.new.core c.args.waiting.now.items c.args.number.now b c.in_ok-fault.ensures.goes)))
+returns-in-Stopped-clause-round c = λ A N b. ended_before A N c.args.core.now c.ask_all.new.core c.args.waiting.now.items c.args.number.now b c.in_ok-fault.ensures.goes _ c.give_next.new.core
+    (subst (λ (g : Given). GivenNext A N c.ask_all.new.core g c.give_next.new.core c.give_next.new.waiting.items c.give_next.new.number) c.in-Stopped.is (c.in_ok-give_next-in-Done.ensures.given A N (between_mid A N c.args.core.now c.ask_all.new.core c.args.waiting.now.items c.args.number.now b c.in_ok-fault.ensures.goes)))
 
 pub returns-in-Nothing-clause-round : goal.returns-in-Nothing-clause-round
-returns-in-Nothing-clause-round c = λ A N b. done_ends A N c.args.core.now c.settle.new.core c.args.waiting.now.items c.args.number.now b c.give_next.new.core (subst (λ (n : Next). IsSettled c.args.core.now n c.settle.new.core) c.in-Done.is c.in_ok-fault.ensures)
-    (subst (λ (g : Given). GivenNext A N c.settle.new.core g c.give_next.new.core c.give_next.new.waiting.items c.give_next.new.number) c.in-Nothing.is (c.in_ok-give_next-in-Done.ensures.given A N (between_mid A N c.args.core.now c.settle.new.core c.args.waiting.now.items c.args.number.now b c.in_ok-fault.ensures.goes)))
+returns-in-Nothing-clause-round c = λ A N b. done_ends A N c.args.core.now c.ask_all.new.core c.args.waiting.now.items c.args.number.now b c.give_next.new.core (subst (λ (n : Next). HasAskedAll c.args.core.now n c.ask_all.new.core) c.in-Done.is c.in_ok-fault.ensures)
+    (subst (λ (g : Given). GivenNext A N c.ask_all.new.core g c.give_next.new.core c.give_next.new.waiting.items c.give_next.new.number) c.in-Nothing.is (c.in_ok-give_next-in-Done.ensures.given A N (between_mid A N c.args.core.now c.ask_all.new.core c.args.waiting.now.items c.args.number.now b c.in_ok-fault.ensures.goes)))
 
 pub returns-in-Going-2-clause-round : goal.returns-in-Going-2-clause-round
-returns-in-Going-2-clause-round c = λ A N b. gone_before A N c.args.core.now c.settle.new.core c.args.waiting.now.items c.args.number.now b c.in_ok-fault.ensures.goes c.give_next-in-Wait.new.core c.give_next-in-Wait.new.waiting.items c.give_next-in-Wait.new.number
-    (subst (λ (g : Given). GivenNext A N c.settle.new.core g c.give_next-in-Wait.new.core c.give_next-in-Wait.new.waiting.items c.give_next-in-Wait.new.number) c.in-Going-2.is (c.in_ok-give_next-in-Wait.ensures.given A N (between_mid A N c.args.core.now c.settle.new.core c.args.waiting.now.items c.args.number.now b c.in_ok-fault.ensures.goes)))
+returns-in-Going-2-clause-round c = λ A N b. gone_before A N c.args.core.now c.ask_all.new.core c.args.waiting.now.items c.args.number.now b c.in_ok-fault.ensures.goes c.give_next-in-Wait.new.core c.give_next-in-Wait.new.waiting.items c.give_next-in-Wait.new.number
+    (subst (λ (g : Given). GivenNext A N c.ask_all.new.core g c.give_next-in-Wait.new.core c.give_next-in-Wait.new.waiting.items c.give_next-in-Wait.new.number) c.in-Going-2.is (c.in_ok-give_next-in-Wait.ensures.given A N (between_mid A N c.args.core.now c.ask_all.new.core c.args.waiting.now.items c.args.number.now b c.in_ok-fault.ensures.goes)))
 
 pub returns-in-Stopped-2-clause-round : goal.returns-in-Stopped-2-clause-round
-returns-in-Stopped-2-clause-round c = λ A N b. ended_before A N c.args.core.now c.settle.new.core c.args.waiting.now.items c.args.number.now b c.in_ok-fault.ensures.goes _ c.give_next-in-Wait.new.core
-    (subst (λ (g : Given). GivenNext A N c.settle.new.core g c.give_next-in-Wait.new.core c.give_next-in-Wait.new.waiting.items c.give_next-in-Wait.new.number) c.in-Stopped-2.is (c.in_ok-give_next-in-Wait.ensures.given A N (between_mid A N c.args.core.now c.settle.new.core c.args.waiting.now.items c.args.number.now b c.in_ok-fault.ensures.goes)))
+returns-in-Stopped-2-clause-round c = λ A N b. ended_before A N c.args.core.now c.ask_all.new.core c.args.waiting.now.items c.args.number.now b c.in_ok-fault.ensures.goes _ c.give_next-in-Wait.new.core
+    (subst (λ (g : Given). GivenNext A N c.ask_all.new.core g c.give_next-in-Wait.new.core c.give_next-in-Wait.new.waiting.items c.give_next-in-Wait.new.number) c.in-Stopped-2.is (c.in_ok-give_next-in-Wait.ensures.given A N (between_mid A N c.args.core.now c.ask_all.new.core c.args.waiting.now.items c.args.number.now b c.in_ok-fault.ensures.goes)))
 
 pub returns-in-Nothing-2-clause-round : goal.returns-in-Nothing-2-clause-round
-returns-in-Nothing-2-clause-round c = λ A N b. short_ends A N c.args.core.now c.settle.new.core c.args.waiting.now.items c.args.number.now b c.open_count.result c.give_next-in-Wait.new.core (subst (λ (n : Next). IsSettled c.args.core.now n c.settle.new.core) c.in-Wait.is c.in_ok-fault.ensures) c.open_count.ensures
-    (subst (λ (g : Given). GivenNext A N c.settle.new.core g c.give_next-in-Wait.new.core c.give_next-in-Wait.new.waiting.items c.give_next-in-Wait.new.number) c.in-Nothing-2.is (c.in_ok-give_next-in-Wait.ensures.given A N (between_mid A N c.args.core.now c.settle.new.core c.args.waiting.now.items c.args.number.now b c.in_ok-fault.ensures.goes)))
+returns-in-Nothing-2-clause-round c = λ A N b. short_ends A N c.args.core.now c.ask_all.new.core c.args.waiting.now.items c.args.number.now b c.open_count.result c.give_next-in-Wait.new.core (subst (λ (n : Next). HasAskedAll c.args.core.now n c.ask_all.new.core) c.in-Wait.is c.in_ok-fault.ensures) c.open_count.ensures
+    (subst (λ (g : Given). GivenNext A N c.ask_all.new.core g c.give_next-in-Wait.new.core c.give_next-in-Wait.new.waiting.items c.give_next-in-Wait.new.number) c.in-Nothing-2.is (c.in_ok-give_next-in-Wait.ensures.given A N (between_mid A N c.args.core.now c.ask_all.new.core c.args.waiting.now.items c.args.number.now b c.in_ok-fault.ensures.goes)))
 
 pub unreachable-requires : goal.unreachable-requires
-unreachable-requires c = (subst (λ (n : Next). IsSettled c.args.core.now n c.settle.new.core) c.in-Ask.is c.in_ok-fault.ensures).by
+unreachable-requires c = (subst (λ (n : Next). HasAskedAll c.args.core.now n c.ask_all.new.core) c.in-Ask.is c.in_ok-fault.ensures).by

@@ -13,13 +13,13 @@ use Rattle.mosaikrun_demo.proofs.summing.summed.Goals as goal
 pub returns-clause-text : goal.returns-clause-text
 returns-clause-text g c =
     if_ok c.played.result.text
-    (λ text h. (h.0, h.1, of_demo (outside g.F.Fleet.started g.F.Fleet.faults (rows_in c.args.kinds.now) c.args.fleet.now c.played.new.fleet h.0) c.args.size c.in_ok-scenario.scenario (Ok text.items) (option_map (λ v. v.items) c.played.result.record) c.in_ok-scenario.ensures.made h.2))
+    (λ text h. (h.0, h.1, of_demo (outside g.F.Fleet.started g.F.Fleet.faults (rows_in c.args.kinds.now) c.args.fleet.now c.played.new.fleet h.0) c.args.size c.in_ok-scenario.scenario (Ok text.items) (option_map (λ v. v.items) c.played.result.record_text) c.in_ok-scenario.ensures.made h.2))
     c.played.ensures.text
 
 pub returns-clause-none : goal.returns-clause-none
 returns-clause-none g c =
     if_err c.played.result.text
-    (λ e h. (h.0, h.1, of_demo (outside g.F.Fleet.started g.F.Fleet.faults (rows_in c.args.kinds.now) c.args.fleet.now c.played.new.fleet h.0) c.args.size c.in_ok-scenario.scenario (Err e) (option_map (λ v. v.items) c.played.result.record) c.in_ok-scenario.ensures.made h.2))
+    (λ e h. (h.0, h.1, of_demo (outside g.F.Fleet.started g.F.Fleet.faults (rows_in c.args.kinds.now) c.args.fleet.now c.played.new.fleet h.0) c.args.size c.in_ok-scenario.scenario (Err e) (option_map (λ v. v.items) c.played.result.record_text) c.in_ok-scenario.ensures.made h.2))
     c.played.ensures.none
 
 -- all simulators are within the program

@@ -9,7 +9,7 @@ use Rattle.mosaikrun_blame.specs.Blames.{IsBlameOutcome}
 use Rattle.mosaikrun_words.specs.declared.request.FileCommand.{FileCommand}
 use Rattle.mosaikrun_words.specs.declared.request.FileCommand.TheVariants.{Pair}
 use Rattle.mosaikrun_words.specs.declared.request.PairCommand.{PairCommand}
-use Rattle.mosaikrun_program.specs.Commands.{IsHeld, IsOutcomeOf, read_by}
+use Rattle.mosaikrun_program.specs.Commands.{HasBytes, IsOutcomeOf, read_by}
 use Rattle.mosaikrun_program.specs.inner.Making.{IsUnmade}
 use Rattle.mosaikrun_program.proofs.Making.{both_made, first_refused, first_unread, if_err, is_record, on_err, on_ok, second_unread, unreadable_later}
 use Rattle.mosaikrun_program.proofs.Playing.{risen_after}
@@ -61,7 +61,7 @@ returns-in_err-other-clause-none g c = λ command is kinds rules.
     let one = c.in_ok-record.record.items in
     let other = c.in_ok-record-2.record.items in
     let held = c.in_ok-record.ensures.read in
-    let too = subst (λ (f : Option Files). IsHeld f c.args.second.now other) c.file_bytes.ensures.kept c.in_ok-record-2.ensures.read in
+    let too = subst (λ (f : Option Files). HasBytes f c.args.second.now other) c.file_bytes.ensures.kept c.in_ok-record-2.ensures.read in
     let read = subst (λ (b : List ℕ). reading b ≡ Said c.in_ok-one.one.plan (map came c.in_ok-one.one.arrivals) c.in_ok-one.one.asks) c.as_slice.ensures.value c.in_ok-one.ensures.read in
     let e = err_from_is_err_and c.from_residual-in_err-other.result c.from_residual-in_err-other.ensures.1 in
     let ending = c.in_err-other.field-0.0 in
@@ -76,7 +76,7 @@ returns-clause-text g c = λ command is kinds rules.
     let one = c.in_ok-record.record.items in
     let other = c.in_ok-record-2.record.items in
     let held = c.in_ok-record.ensures.read in
-    let too = subst (λ (f : Option Files). IsHeld f c.args.second.now other) c.file_bytes.ensures.kept c.in_ok-record-2.ensures.read in
+    let too = subst (λ (f : Option Files). HasBytes f c.args.second.now other) c.file_bytes.ensures.kept c.in_ok-record-2.ensures.read in
     let read = subst (λ (b : List ℕ). reading b ≡ Said c.in_ok-one.one.plan (map came c.in_ok-one.one.arrivals) c.in_ok-one.one.asks) c.as_slice.ensures.value c.in_ok-one.ensures.read in
     let reads = subst (λ (b : List ℕ). reading b ≡ Said c.in_ok-other.other.plan (map came c.in_ok-other.other.arrivals) c.in_ok-other.other.asks) c.as_slice-2.ensures.value c.in_ok-other.ensures.read in
     on_ok c.blamed.result (λ text h. both_made F kinds rules command c.args.first.now c.args.second.now IsBlameOutcome (ap (λ (x : PairCommand). read_by (Pair x c.args.first.now c.args.second.now)) is) (λ read o h. subst (λ (x : PairCommand). IsOutcomeOf kinds rules (Pair x c.args.first.now c.args.second.now) read o) (sym is) h) one held other (Ok text.items) too h) (c.blamed.ensures.text one other read reads)
@@ -87,7 +87,7 @@ returns-clause-none g c = λ command is kinds rules.
     let one = c.in_ok-record.record.items in
     let other = c.in_ok-record-2.record.items in
     let held = c.in_ok-record.ensures.read in
-    let too = subst (λ (f : Option Files). IsHeld f c.args.second.now other) c.file_bytes.ensures.kept c.in_ok-record-2.ensures.read in
+    let too = subst (λ (f : Option Files). HasBytes f c.args.second.now other) c.file_bytes.ensures.kept c.in_ok-record-2.ensures.read in
     let read = subst (λ (b : List ℕ). reading b ≡ Said c.in_ok-one.one.plan (map came c.in_ok-one.one.arrivals) c.in_ok-one.one.asks) c.as_slice.ensures.value c.in_ok-one.ensures.read in
     let reads = subst (λ (b : List ℕ). reading b ≡ Said c.in_ok-other.other.plan (map came c.in_ok-other.other.arrivals) c.in_ok-other.other.asks) c.as_slice-2.ensures.value c.in_ok-other.ensures.read in
     on_err c.blamed.result (λ ending h. inr (both_made F kinds rules command c.args.first.now c.args.second.now IsBlameOutcome (ap (λ (x : PairCommand). read_by (Pair x c.args.first.now c.args.second.now)) is) (λ read o h. subst (λ (x : PairCommand). IsOutcomeOf kinds rules (Pair x c.args.first.now c.args.second.now) read o) (sym is) h) one held other (Err ending) too h)) (c.blamed.ensures.none one other read reads)

@@ -5,7 +5,7 @@ use Rattle.mk_outside.specs.Counts.{HasRisen}
 use Rattle.mosaikrun_words.specs.declared.request.FileCommand.{FileCommand}
 use Rattle.mosaikrun_words.specs.declared.request.FileCommand.TheVariants.{Replay, Check, Pair}
 use Rattle.mosaikrun_program.specs.Around.{rules_seen}
-use Rattle.mosaikrun_program.specs.Commands.{IsMade}
+use Rattle.mosaikrun_program.specs.Commands.{ComesOfFiles}
 use Rattle.mosaikrun_program.specs.inner.Making.{IsUnmade}
 use Rattle.mosaikrun_program.proofs.Making.{check_made, on_err, on_ok, replay_made}
 use Rattle.mosaikrun_program.proofs.commands.made.Goals as goal
@@ -16,7 +16,7 @@ returns-in-Replay-clause-text g c =
     let K = rows_in c.args.kinds.now in
     let R = rules_seen c.args.rules.now in
     let same : c.args.command.now ≡ Replay c.as_str.result.now c.in-Replay.order = cc (c.in-Replay.is, c.as_str.ensures) in
-    on_ok c.replay_file.result (λ text h. subst (λ (x : FileCommand). IsMade F K R x (Ok text.items)) (sym same) (replay_made F K R c.as_str.result.now (Ok text.items) c.in-Replay.order h)) c.replay_file.ensures.text
+    on_ok c.replay_file.result (λ text h. subst (λ (x : FileCommand). ComesOfFiles F K R x (Ok text.items)) (sym same) (replay_made F K R c.as_str.result.now (Ok text.items) c.in-Replay.order h)) c.replay_file.ensures.text
 
 pub returns-in-Replay-clause-none : goal.returns-in-Replay-clause-none
 returns-in-Replay-clause-none g c =
@@ -33,7 +33,7 @@ returns-in-Check-clause-text g c =
     let K = rows_in c.args.kinds.now in
     let R = rules_seen c.args.rules.now in
     let same : c.args.command.now ≡ Check c.as_str-in-Check.result.now = cc (c.in-Check.is, c.as_str-in-Check.ensures) in
-    on_ok c.check_file.result (λ text h. subst (λ (x : FileCommand). IsMade F K R x (Ok text.items)) (sym same) (check_made F K R c.as_str-in-Check.result.now (Ok text.items) h)) c.check_file.ensures.text
+    on_ok c.check_file.result (λ text h. subst (λ (x : FileCommand). ComesOfFiles F K R x (Ok text.items)) (sym same) (check_made F K R c.as_str-in-Check.result.now (Ok text.items) h)) c.check_file.ensures.text
 
 pub returns-in-Check-clause-none : goal.returns-in-Check-clause-none
 returns-in-Check-clause-none g c =
@@ -50,7 +50,7 @@ returns-in-Pair-clause-text g c =
     let K = rows_in c.args.kinds.now in
     let R = rules_seen c.args.rules.now in
     let same : c.args.command.now ≡ Pair c.in-Pair.command c.as_str-in-Pair.result.now c.as_str-in-Pair-2.result.now = cc (c.in-Pair.is, c.as_str-in-Pair.ensures, c.as_str-in-Pair-2.ensures) in
-    subst (λ (x : FileCommand). IfOk c.pair_made.result (λ text. IsMade F K R x (Ok text.items))) (sym same) (c.pair_made.ensures.text K)
+    subst (λ (x : FileCommand). IfOk c.pair_made.result (λ text. ComesOfFiles F K R x (Ok text.items))) (sym same) (c.pair_made.ensures.text K)
 
 pub returns-in-Pair-clause-none : goal.returns-in-Pair-clause-none
 returns-in-Pair-clause-none g c =

@@ -3,7 +3,7 @@ use Rattle.mk_outside.specs.Counts.{HasRisen}
 use Rattle.mosaikrun_words.specs.declared.request.FileCommand.TheVariants.{Pair}
 use Rattle.mosaikrun_words.specs.declared.request.PairCommand.{PairCommand}
 use Rattle.mosaikrun_program.specs.Around.{rules_seen}
-use Rattle.mosaikrun_program.specs.Commands.{IsMade}
+use Rattle.mosaikrun_program.specs.Commands.{ComesOfFiles}
 use Rattle.mosaikrun_program.specs.inner.Making.{IsUnmade}
 use Rattle.mosaikrun_program.proofs.Making.{migrate_made, on_err, on_ok}
 use Rattle.mosaikrun_program.proofs.commands.pair_made.Goals as goal
@@ -11,7 +11,7 @@ use Rattle.mosaikrun_program.proofs.commands.pair_made.Goals as goal
 pub returns-in-Migrate-clause-text : goal.returns-in-Migrate-clause-text
 returns-in-Migrate-clause-text g c = λ kinds.
     let F = g.D.Folder.files c.args.folder.now in
-    on_ok c.migrate_file.result (λ text h. subst (λ (x : PairCommand). IsMade F kinds (rules_seen c.args.rules.now) (Pair x c.args.first.now c.args.second.now) (Ok text.items)) (sym c.in-Migrate.is) (migrate_made F kinds (rules_seen c.args.rules.now) c.args.first.now (Ok text.items) c.args.second.now h)) c.migrate_file.ensures.text
+    on_ok c.migrate_file.result (λ text h. subst (λ (x : PairCommand). ComesOfFiles F kinds (rules_seen c.args.rules.now) (Pair x c.args.first.now c.args.second.now) (Ok text.items)) (sym c.in-Migrate.is) (migrate_made F kinds (rules_seen c.args.rules.now) c.args.first.now (Ok text.items) c.args.second.now h)) c.migrate_file.ensures.text
 
 pub returns-in-Migrate-clause-none : goal.returns-in-Migrate-clause-none
 returns-in-Migrate-clause-none g c = λ kinds.

@@ -12,7 +12,7 @@ use Rattle.mosaikrun_program.specs.Around.{rules_seen}
 use Rattle.mosaikrun_words.specs.declared.request.FileCommand.{FileCommand}
 use Rattle.mosaikrun_words.specs.declared.request.FileCommand.TheVariants.{Pair}
 use Rattle.mosaikrun_words.specs.declared.request.PairCommand.{PairCommand}
-use Rattle.mosaikrun_program.specs.Commands.{IsHeld, IsOutcomeOf, read_by}
+use Rattle.mosaikrun_program.specs.Commands.{HasBytes, IsOutcomeOf, read_by}
 use Rattle.mosaikrun_program.specs.inner.Making.{IsUnmade}
 use Rattle.mosaikrun_program.proofs.Making.{both_made, first_refused, first_unread, if_err, is_record, on_err, on_ok, second_unread, unreadable_later}
 use Rattle.mosaikrun_program.proofs.Playing.{risen_after}
@@ -64,7 +64,7 @@ returns-in_err-watches-clause-none g c = λ command is kinds.
     let one = c.in_ok-record.record.items in
     let other = c.in_ok-spec.spec.items in
     let held = c.in_ok-record.ensures.read in
-    let too = subst (λ (f : Option Files). IsHeld f c.args.second.now other) c.file_bytes.ensures.kept c.in_ok-spec.ensures.read in
+    let too = subst (λ (f : Option Files). HasBytes f c.args.second.now other) c.file_bytes.ensures.kept c.in_ok-spec.ensures.read in
     let read = subst (λ (b : List ℕ). reading b ≡ Said c.in_ok-saved.saved.plan (map came c.in_ok-saved.saved.arrivals) c.in_ok-saved.saved.asks) c.as_slice.ensures.value c.in_ok-saved.ensures.read in
     let e = err_from_is_err_and c.from_residual-in_err-watches.result c.from_residual-in_err-watches.ensures.1 in
     let ending = c.in_err-watches.field-0.0 in
@@ -79,7 +79,7 @@ returns-clause-text g c = λ command is kinds.
     let one = c.in_ok-record.record.items in
     let other = c.in_ok-spec.spec.items in
     let held = c.in_ok-record.ensures.read in
-    let too = subst (λ (f : Option Files). IsHeld f c.args.second.now other) c.file_bytes.ensures.kept c.in_ok-spec.ensures.read in
+    let too = subst (λ (f : Option Files). HasBytes f c.args.second.now other) c.file_bytes.ensures.kept c.in_ok-spec.ensures.read in
     let read = subst (λ (b : List ℕ). reading b ≡ Said c.in_ok-saved.saved.plan (map came c.in_ok-saved.saved.arrivals) c.in_ok-saved.saved.asks) c.as_slice.ensures.value c.in_ok-saved.ensures.read in
     let says = subst (λ (b : List ℕ). watches_of c.in_ok-saved.saved.plan (names_in c.args.rules.now) b ≡ Ok c.in_ok-watches.watches) c.as_slice-2.ensures.value c.in_ok-watches.ensures.read in
     on_ok c.tabled.result (λ text h. both_made F kinds (rules_seen c.args.rules.now) command c.args.first.now c.args.second.now (IsWatchOutcome (names_in c.args.rules.now) (folds_in c.args.rules.now)) (ap (λ (x : PairCommand). read_by (Pair x c.args.first.now c.args.second.now)) is) (λ read o h. subst (λ (x : PairCommand). IsOutcomeOf kinds (rules_seen c.args.rules.now) (Pair x c.args.first.now c.args.second.now) read o) (sym is) h) one held other (Ok text.items) too h) (c.tabled.ensures.text one other read says)
@@ -90,7 +90,7 @@ returns-clause-none g c = λ command is kinds.
     let one = c.in_ok-record.record.items in
     let other = c.in_ok-spec.spec.items in
     let held = c.in_ok-record.ensures.read in
-    let too = subst (λ (f : Option Files). IsHeld f c.args.second.now other) c.file_bytes.ensures.kept c.in_ok-spec.ensures.read in
+    let too = subst (λ (f : Option Files). HasBytes f c.args.second.now other) c.file_bytes.ensures.kept c.in_ok-spec.ensures.read in
     let read = subst (λ (b : List ℕ). reading b ≡ Said c.in_ok-saved.saved.plan (map came c.in_ok-saved.saved.arrivals) c.in_ok-saved.saved.asks) c.as_slice.ensures.value c.in_ok-saved.ensures.read in
     let says = subst (λ (b : List ℕ). watches_of c.in_ok-saved.saved.plan (names_in c.args.rules.now) b ≡ Ok c.in_ok-watches.watches) c.as_slice-2.ensures.value c.in_ok-watches.ensures.read in
     on_err c.tabled.result (λ ending h. inr (both_made F kinds (rules_seen c.args.rules.now) command c.args.first.now c.args.second.now (IsWatchOutcome (names_in c.args.rules.now) (folds_in c.args.rules.now)) (ap (λ (x : PairCommand). read_by (Pair x c.args.first.now c.args.second.now)) is) (λ read o h. subst (λ (x : PairCommand). IsOutcomeOf kinds (rules_seen c.args.rules.now) (Pair x c.args.first.now c.args.second.now) read o) (sym is) h) one held other (Err ending) too h)) (c.tabled.ensures.none one other read says)

@@ -9,7 +9,7 @@ use Rattle.mosaikrun_endings.specs.declared.ending.Ending.{Ending}
 use Rattle.mosaikrun_run.specs.Outcomes.{outside}
 use Rattle.mosaikrun_program.specs.Around.{Around, folder_seen, output_seen, rules_seen}
 use Rattle.mosaikrun_program.specs.Commands.{IsAsked}
-use Rattle.mosaikrun_program.specs.Program.{Ended}
+use Rattle.mosaikrun_program.specs.Program.{EndedAs}
 use Rattle.mosaikrun_program.proofs.Fleetless.{pace_needs, resume_within, run_within}
 use Rattle.mosaikrun_paced.proofs.Telling.{rising_none}
 use Rattle.mosaikrun_program.proofs.Pacing.{pace_of_words, within_bounds}
@@ -29,7 +29,7 @@ returns-in_err-scenario-clause-ended g c =
     let e = err_from_is_err_and c.from_residual.result c.from_residual.ensures.1 in (
       [],
       adds_none (g.F.Fleet.log c.args.fleet.now),
-      subst (λ (r : Result (Unit {0}) Ending). Ended S r) (sym (e.1 ∙ ap (λ x. Err x) e.2)) (inl (record {
+      subst (λ (r : Result (Unit {0}) Ending). EndedAs S r) (sym (e.1 ∙ ap (λ x. Err x) e.2)) (inl (record {
         cause = c.in_err-scenario.ensures.unasked;
         untouched = record { unput = refl; unsaved = refl; log = refl; faults = refl };
       })),

@@ -13,9 +13,9 @@ use Rattle.mosaikrun_run.specs.Outcomes.{outside}
 use Rattle.mosaikrun_run.proofs.Telling.{within_also}
 use Rattle.mosaikrun_resume.specs.Outcomes.{IsStudy, IsStudyOutcome}
 use Rattle.mosaikrun_program.specs.Around.{Around, folder_seen, output_seen}
-use Rattle.mosaikrun_program.specs.Commands.{IsHeld}
+use Rattle.mosaikrun_program.specs.Commands.{HasBytes}
 use Rattle.mosaikrun_program.specs.Running.{RunAnswer}
-use Rattle.mosaikrun_program.specs.Program.{Ended}
+use Rattle.mosaikrun_program.specs.Program.{EndedAs}
 use Rattle.mosaikrun_program.proofs.CarryingOn.{first_refused, gone_on, low, second_stuck}
 use Rattle.mosaikrun_program.proofs.Fleetless.{does_nothing}
 use Rattle.mosaikrun_program.proofs.Making.{unreadable_later}
@@ -35,7 +35,7 @@ returns-in_err-bytes-clause-carried g c = λ words rules asked.
     let e = err_from_is_err_and c.from_residual.result c.from_residual.ensures.1 in (
       [],
       adds_none (g.F.Fleet.log c.args.fleet.now),
-      subst (λ (r : Result (Unit {0}) Ending). Ended S r) (sym (e.1 ∙ ap (λ x. Err x) e.2)) (inr (inl (record {
+      subst (λ (r : Result (Unit {0}) Ending). EndedAs S r) (sym (e.1 ∙ ap (λ x. Err x) e.2)) (inr (inl (record {
         request = Resume c.args.scenario.now c.args.recorded.now c.args.name.now;
         asked = asked;
         stuck = record { read = []; held = tt; on = tt; name = c.args.scenario.now; next = refl; cause = c.in_err-bytes.ensures.unread };
@@ -58,7 +58,7 @@ returns-in_err-study-clause-carried g c = λ words rules asked.
     let cause = subst (λ (b : List ℕ). IsUnchecked (map name_of (rows_in c.args.kinds.now)) b ending) c.as_slice.ensures.value c.in_err-study.ensures.unchecked in (
       [],
       adds_none (g.F.Fleet.log c.args.fleet.now),
-      subst (λ (r : Result (Unit {0}) Ending). Ended S r) (sym (e.1 ∙ ap (λ x. Err x) e.2))
+      subst (λ (r : Result (Unit {0}) Ending). EndedAs S r) (sym (e.1 ∙ ap (λ x. Err x) e.2))
           (first_refused S c.args.scenario.now c.args.recorded.now c.args.name.now asked c.in_ok-bytes.bytes.items ending c.in_ok-bytes.ensures.read cause refl c.file_bytes.ensures.kept refl refl),
     )
 
@@ -85,14 +85,14 @@ returns-in_err-old-clause-carried g c = λ words rules asked.
     (risen_after S.folder.faults (g.D.Folder.faults c.file_bytes.new.folder) S.folder.new_faults c.file_bytes.ensures.count) c.in_err-old.ensures.unread in (
       [],
       adds_none (g.F.Fleet.log c.args.fleet.now),
-      subst (λ (r : Result (Unit {0}) Ending). Ended S r) (sym (e.1 ∙ ap (λ x. Err x) e.2))
+      subst (λ (r : Result (Unit {0}) Ending). EndedAs S r) (sym (e.1 ∙ ap (λ x. Err x) e.2))
           (second_stuck S c.args.scenario.now c.args.recorded.now c.args.name.now asked c.in_ok-bytes.bytes.items ending c.in_ok-bytes.ensures.read study cause refl (c.file_bytes-2.ensures.kept ∙ c.file_bytes.ensures.kept) refl refl),
     )
 
 -- the run goes on
 pub returns-clause-carried : goal.returns-clause-carried
 returns-clause-carried g c = λ words rules asked.
-    let kept = option_map (λ r. r.items) c.resumed-told.result.record in
+    let kept = option_map (λ r. r.items) c.resumed-told.result.record_text in
     let name = c.args.name.now in
     let mid = folder_seen g.D.Folder.files g.D.Folder.faults c.file_bytes-2.new.folder c.hand_out.new.folder in
     let out = output_seen g.K.Sink.written g.K.Sink.faults g.K.Sink.shortages c.args.out.now c.hand_out.new.out in
@@ -122,7 +122,7 @@ returns-clause-carried g c = λ words rules asked.
       runnable = c.in_ok-study.ensures.runnable;
     } in
     let outcome = subst (λ w. IsStudyOutcome S.outside w scenario ranks old text kept) c.is_some.ensures (subst (λ b. IsStudyOutcome S.outside c.is_some.result scenario ranks b text kept) c.as_slice-2.ensures.value came.2) in
-    let too = subst (λ (f : _). IsHeld f c.args.recorded.now old) c.file_bytes.ensures.kept c.in_ok-old.ensures.read in (
+    let too = subst (λ (f : _). HasBytes f c.args.recorded.now old) c.file_bytes.ensures.kept c.in_ok-old.ensures.read in (
       came.0,
       came.1,
       gone_on S c.args.scenario.now c.args.recorded.now name asked c.hand_out.result bytes old c.in_ok-bytes.ensures.read too study text kept outcome

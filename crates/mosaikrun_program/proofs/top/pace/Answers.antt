@@ -11,7 +11,7 @@ use Rattle.mosaikrun_run.specs.Outcomes.{outside}
 use Rattle.mosaikrun_paced.specs.Outcomes.{IsPacedOutcome}
 use Rattle.mosaikrun_program.specs.Around.{Around, folder_seen, output_seen}
 use Rattle.mosaikrun_program.specs.Running.{RunAnswer}
-use Rattle.mosaikrun_program.specs.Program.{Ended}
+use Rattle.mosaikrun_program.specs.Program.{EndedAs}
 use Rattle.mosaikrun_program.proofs.Playing.{answered_since, either, is_paced, performed}
 use Rattle.mosaikrun_paced.proofs.Telling.{rising_none}
 use Rattle.mosaikrun_program.proofs.top.pace.Goals as goal
@@ -29,7 +29,7 @@ returns-in_err-bytes-clause-paced g c = λ words rules asked.
     let e = err_from_is_err_and c.from_residual.result c.from_residual.ensures.1 in (
       [],
       adds_none (g.F.Fleet.log c.args.fleet.now),
-      subst (λ (r : Result (Unit {0}) Ending). Ended S r) (sym (e.1 ∙ ap (λ x. Err x) e.2)) (inr (inl (record {
+      subst (λ (r : Result (Unit {0}) Ending). EndedAs S r) (sym (e.1 ∙ ap (λ x. Err x) e.2)) (inr (inl (record {
         request = Paced c.args.scenario.now c.args.factor c.args.strict c.args.name.now;
         asked = asked;
         stuck = record { read = []; held = tt; on = tt; name = c.args.scenario.now; next = refl; cause = c.in_err-bytes.ensures.unread };
@@ -40,7 +40,7 @@ returns-in_err-bytes-clause-paced g c = λ words rules asked.
 -- it is run
 pub returns-clause-paced : goal.returns-clause-paced
 returns-clause-paced g c = λ words rules asked.
-    let kept = option_map (λ r. r.items) c.paced_ran-told.result.record in
+    let kept = option_map (λ r. r.items) c.paced_ran-told.result.record_text in
     let name = c.args.name.now in
     let mid = folder_seen g.D.Folder.files g.D.Folder.faults c.file_bytes.new.folder c.hand_out.new.folder in
     let out = output_seen g.K.Sink.written g.K.Sink.faults g.K.Sink.shortages c.args.out.now c.hand_out.new.out in

@@ -9,7 +9,7 @@ use Rattle.mosaikrun_endings.specs.declared.ending.Ending.{Ending}
 use Rattle.mosaikrun_run.specs.Outcomes.{IsRunOutcome, outside}
 use Rattle.mosaikrun_program.specs.Around.{Around, folder_seen, output_seen}
 use Rattle.mosaikrun_program.specs.Running.{RunAnswer}
-use Rattle.mosaikrun_program.specs.Program.{Ended}
+use Rattle.mosaikrun_program.specs.Program.{EndedAs}
 use Rattle.mosaikrun_program.proofs.Fleetless.{does_nothing}
 use Rattle.mosaikrun_program.proofs.Playing.{answered_since, either, is_run, performed}
 use Rattle.mosaikrun_program.proofs.top.play.Goals as goal
@@ -27,7 +27,7 @@ returns-in_err-bytes-clause-played g c = λ words rules asked.
     let e = err_from_is_err_and c.from_residual.result c.from_residual.ensures.1 in (
       [],
       adds_none (g.F.Fleet.log c.args.fleet.now),
-      subst (λ (r : Result (Unit {0}) Ending). Ended S r) (sym (e.1 ∙ ap (λ x. Err x) e.2)) (inr (inl (record {
+      subst (λ (r : Result (Unit {0}) Ending). EndedAs S r) (sym (e.1 ∙ ap (λ x. Err x) e.2)) (inr (inl (record {
         request = Run c.args.scenario.now c.args.name.now;
         asked = asked;
         stuck = record { read = []; held = tt; on = tt; name = c.args.scenario.now; next = refl; cause = c.in_err-bytes.ensures.unread };
@@ -38,7 +38,7 @@ returns-in_err-bytes-clause-played g c = λ words rules asked.
 -- it is run
 pub returns-clause-played : goal.returns-clause-played
 returns-clause-played g c = λ words rules asked.
-    let kept = option_map (λ r. r.items) c.ran-told.result.record in
+    let kept = option_map (λ r. r.items) c.ran-told.result.record_text in
     let name = c.args.name.now in
     let mid = folder_seen g.D.Folder.files g.D.Folder.faults c.file_bytes.new.folder c.hand_out.new.folder in
     let out = output_seen g.K.Sink.written g.K.Sink.faults g.K.Sink.shortages c.args.out.now c.hand_out.new.out in

@@ -11,8 +11,8 @@ returns-then-is_up_to c = subst (λ o. Raised c.args.sim c.args.at false o o) c.
     (stays c.self.inside.marks.items c.self.inside.asks.items c.self.inside.least c.self.inside.holder c.args.sim c.args.at c.index.result.now c.self.invariant.1 c.self.invariant.2
     (subst (λ (o : Marked). c.args.sim < length o.marks) (sym c.self.view_is) c.requires) c.index.ensures (sym c.is_up_to.ensures ∙ c.if-is_up_to.true))
 
-pub settle-requires-clause-low : goal.settle-requires-clause-low
-settle-requires-clause-low c = subst (λ (a : List Bool). IsLow c.as_slice.result.now a c.self.inside.least) (sym c.as_slice-then-sim-self.ensures.value)
+pub raise_least-requires-clause-low : goal.raise_least-requires-clause-low
+raise_least-requires-clause-low c = subst (λ (a : List Bool). IsLow c.as_slice.result.now a c.self.inside.least) (sym c.as_slice-then-sim-self.ensures.value)
     (subst (λ (l : List Tier). IsLow l c.self.inside.asks.items c.self.inside.least) (sym c.as_slice.ensures.value)
     (lifted_low c.self.inside.marks.items c.self.inside.asks.items c.self.inside.least c.self.inside.holder c.args.sim c.args.at c.index.result.now c.self.invariant.1 c.self.invariant.2
     (subst (λ (o : Marked). c.args.sim < length o.marks) (sym c.self.view_is) c.requires) c.index.ensures (sym c.is_up_to.ensures ∙ c.if-is_up_to.false)))
@@ -30,11 +30,11 @@ pub returns-then-sim-self : goal.returns-then-sim-self
 returns-then-sim-self c =
     let there = subst (λ (o : Marked). c.args.sim < length o.marks) (sym c.self.view_is) c.requires in
     let more = sym c.is_up_to.ensures ∙ c.if-is_up_to.false in
-    subst (λ o. Raised c.args.sim c.args.at c.settle.result o (record { marks = slice_set c.self.inside.marks.items c.args.sim c.args.at; asks = c.self.inside.asks.items; least = c.settle.new.least })) c.self.view_is
-    (lifted_then c.self.inside.marks.items c.self.inside.asks.items c.self.inside.least c.self.inside.holder c.args.sim c.args.at c.index.result.now c.self.invariant.1 c.self.invariant.2 there c.index.ensures more c.settle.result c.settle.new.least c.settle.new.holder
-    (subst (λ (l : List Tier). IsLow l c.self.inside.asks.items c.settle.new.least) c.as_slice.ensures.value (subst (λ (a : List Bool). IsLow c.as_slice.result.now a c.settle.new.least) c.as_slice-then-sim-self.ensures.value c.settle.ensures.low))
-    (subst (λ (l : List Tier). HoldsLeast l c.self.inside.asks.items c.settle.new.least c.settle.new.holder) c.as_slice.ensures.value (subst (λ (a : List Bool). HoldsLeast c.as_slice.result.now a c.settle.new.least c.settle.new.holder) c.as_slice-then-sim-self.ensures.value c.settle.ensures.holds))
-    c.settle.ensures.up c.settle.ensures.same)
+    subst (λ o. Raised c.args.sim c.args.at c.raise_least.result o (record { marks = slice_set c.self.inside.marks.items c.args.sim c.args.at; asks = c.self.inside.asks.items; least = c.raise_least.new.least })) c.self.view_is
+    (lifted_then c.self.inside.marks.items c.self.inside.asks.items c.self.inside.least c.self.inside.holder c.args.sim c.args.at c.index.result.now c.self.invariant.1 c.self.invariant.2 there c.index.ensures more c.raise_least.result c.raise_least.new.least c.raise_least.new.holder
+    (subst (λ (l : List Tier). IsLow l c.self.inside.asks.items c.raise_least.new.least) c.as_slice.ensures.value (subst (λ (a : List Bool). IsLow c.as_slice.result.now a c.raise_least.new.least) c.as_slice-then-sim-self.ensures.value c.raise_least.ensures.low))
+    (subst (λ (l : List Tier). HoldsLeast l c.self.inside.asks.items c.raise_least.new.least c.raise_least.new.holder) c.as_slice.ensures.value (subst (λ (a : List Bool). HoldsLeast c.as_slice.result.now a c.raise_least.new.least c.raise_least.new.holder) c.as_slice-then-sim-self.ensures.value c.raise_least.ensures.holds))
+    c.raise_least.ensures.up c.raise_least.ensures.same)
 
 pub returns-else-sim-self : goal.returns-else-sim-self
 returns-else-sim-self c =

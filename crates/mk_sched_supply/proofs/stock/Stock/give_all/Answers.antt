@@ -5,7 +5,7 @@ use Rattle.mk_base.proofs.Lists.{all_in, append_nil, in_back}
 use Rattle.mk_plan.specs.declared.SetValue.{SetValue}
 use Rattle.mk_async.specs.Asked.{IsGivenBy}
 use Rattle.mk_buffers.specs.Held.{with_gift}
-use Rattle.mk_buffers.specs.Standing.{Stands}
+use Rattle.mk_buffers.specs.Standing.{StandFor}
 use Rattle.mk_sched_supply.specs.inner.Gifts.{HasGivenAll, gifts_in}
 use Rattle.mk_sched_supply.proofs.Replying.{given_more, none_left}
 use Rattle.mk_sched_supply.proofs.stock.Stock.give_all.Goals as goal
@@ -31,7 +31,7 @@ loop-set-preserved c =
       next = l.invariant.next;
       given = λ P s S stands all. given_more P s S c.args.at done w l.self.buffers c.give.new.self (l.invariant.given P s S stands all)
           (all_in (IsGivenBy P s) c.args.sets w all (subst (IsIn w) (sym (l.invariant.split ∙ ap (λ ws. done ++ ws) c.in-Some.ensures.steps.0)) (in_back w done (w ∷ c.next.new.self.rest.items) (inl refl))))
-          (λ U e holds source. subst (λ (x : Tier). Stands P c.give.new.self (with_gift U e (record { at = x; given = w }))) l.invariant.next (c.in_ok-give.ensures.ok P U e holds source));
+          (λ U e holds source. subst (λ (x : Tier). StandFor P c.give.new.self (with_gift U e (record { at = x; given = w }))) l.invariant.next (c.in_ok-give.ensures.ok P U e holds source));
     }
 
 pub returns-clause-given : goal.returns-clause-given

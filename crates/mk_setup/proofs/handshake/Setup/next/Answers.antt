@@ -1,5 +1,5 @@
 use Rattle.std.proofs.Common.{◌≡◌, ◌∙◌, None, ap, sym, subst, refl}
-use Rattle.mk_setup.specs.Answers.{IsUnready}
+use Rattle.mk_setup.specs.Answers.{GivesNoRequest}
 use Rattle.mk_setup.specs.Kept.{state_of}
 use Rattle.mk_setup.specs.Seen.{SetupState}
 use Rattle.mk_setup.proofs.Asked.{unready_by}
@@ -9,5 +9,5 @@ use Rattle.mk_setup.proofs.handshake.Setup.next.Goals as goal
 pub returns-in-Err-clause-refused : goal.returns-in-Err-clause-refused
 returns-in-Err-clause-refused c =
     let none : c.self.inside.fault ≡ None = no_fault c.self.inside.fault c.in_default.not-Some in
-    subst (λ (V : SetupState). IsUnready V c.keep.result (state_of c.go_on.new.progress c.keep.new.kept)) (ap (state_of c.self.inside.progress) (sym none) ∙ c.self.view_is)
+    subst (λ (V : SetupState). GivesNoRequest V c.keep.result (state_of c.go_on.new.progress c.keep.new.kept)) (ap (state_of c.self.inside.progress) (sym none) ∙ c.self.view_is)
     (unready_by (state_of c.self.inside.progress None) (state_of c.go_on.new.progress None) c.in-Err.fault c.keep.result c.keep.new.kept refl c.in-Err.ensures.hindered c.keep.ensures)

@@ -2,7 +2,7 @@ use Rattle.std.proofs.Common.{arith, pos, refl, sym, subst, ◌∙◌, get_or, l
 use Rattle.mk_base.specs.declared.tier.Tier.{Tier}
 use Rattle.mk_buffers.specs.inner.Marking.{HoldsLeast, IsBest, IsLeastOf}
 use Rattle.mk_buffers.proofs.Marking.{get_or_some, low_is, low_least, holds_best, holds_none}
-use Rattle.mk_buffers.proofs.marks.settle.Goals as goal
+use Rattle.mk_buffers.proofs.marks.raise_least.Goals as goal
 
 pub returns-then-is_up_to-clause-holds : goal.returns-then-is_up_to-clause-holds
 returns-then-is_up_to-clause-holds c =

@@ -1,8 +1,8 @@
 use Rattle.std.proofs.Common.{subst}
 use Rattle.mk_sched.specs.declared.faults.Next.{Next}
 use Rattle.mk_sched.specs.Answers.{NextOf, IsAsked}
-use Rattle.mk_record_replay.proofs.Giving.{asked_goes, goes_on_asked, settled_full}
-use Rattle.mk_record_replay.proofs.replaying.settle.Goals as goal
+use Rattle.mk_record_replay.proofs.Giving.{asked_goes, goes_on_asked, asked_full}
+use Rattle.mk_record_replay.proofs.replaying.ask_all.Goals as goal
 
 pub asking-preserved : goal.asking-preserved
 asking-preserved c = let asked : IsAsked c.asking.core c.in-Ask.field-0 c.next.new.self = subst (λ (n : Next). NextOf c.asking.core n c.next.new.self) c.in-Ask.is c.in_ok-next.ensures.ok in record {
@@ -11,5 +11,5 @@ asking-preserved c = let asked : IsAsked c.asking.core c.in-Ask.field-0 c.next.n
 }
 
 pub returns-in-Fault : goal.returns-in-Fault
-returns-in-Fault c = settled_full c.args.core.now c.asking.core c.next.new.self c.in-Fault.fault c.asking.invariant.goes c.asking.invariant.going
+returns-in-Fault c = asked_full c.args.core.now c.asking.core c.next.new.self c.in-Fault.fault c.asking.invariant.goes c.asking.invariant.going
     (subst (λ (n : Next). NextOf c.asking.core n c.next.new.self) c.in-Fault.is c.in_ok-next.ensures.ok) c.next.ensures.stands
