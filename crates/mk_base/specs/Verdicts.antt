@@ -20,3 +20,23 @@ abbrev pub all_well : {A E : Type 0} → List (Result A E) → Result (List A) E
 all_well [] = Ok []
 all_well (Err fault ∷ more) = Err fault
 all_well (Ok x ∷ more) = put_first x (all_well more)
+
+-- what follows a test that gives something
+abbrev pub passed : {A B E : Type 0} → Result A E → (A → Result B E) → Result B E
+passed (Ok x) next = next x
+passed (Err fault) next = Err fault
+
+-- what follows where something is found, and the fault where nothing is
+abbrev pub after_found : {A B E : Type 0} → E → Option A → (A → Result B E) → Result B E
+after_found fault (Some x) next = next x
+after_found fault None next = Err fault
+
+-- the first fault where faults alone are looked for: the test's where it doesn't hold, and what
+-- follows where it holds
+abbrev pub fault_unless : {E : Type 0} → E → Bool → Option E → Option E
+fault_unless fault holds next = if holds then next else Some fault
+
+-- what follows where no fault was found
+abbrev pub unless : {B E : Type 0} → Option E → Result B E → Result B E
+unless None next = next
+unless (Some fault) next = Err fault

@@ -10,7 +10,7 @@ ghost use Rattle.mk_base.specs.inner.Lists.{place_under, is_name_at, value_if_na
 use crate::text::Text;
 use std::cmp::Ordering;
 
-/// A value, where there is one, and the place behind it, or else the place at which it would stand.
+/// A value, where there is one, and where a search for the next name may begin: a hint, on which no answer rests.
 #[derive(Drop)]
 pub struct Near<'a, V> {
     pub value: Option<&'a V>,

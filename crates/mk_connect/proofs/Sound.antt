@@ -9,6 +9,7 @@ use Rattle.mk_base.specs.Lists.{Each, IsIn, same_text, value_under}
 use Rattle.mk_base.specs.Texts.{text_of}
 use Rattle.mk_base.specs.Trees.{is_whole, member, members_in, nesting, value_depth}
 use Rattle.mk_base.proofs.Lists.{Rises, in_map, passes_some, rises_append}
+use Rattle.mk_base.specs.Verdicts.{fault_unless, passed, unless}
 use Rattle.mk_plan.specs.declared.Conn.{Conn}
 use Rattle.mk_entities.specs.declared.entities.EntityInfo.{EntityInfo}
 use Rattle.mk_scenario.specs.declared.parts.AttrPair.{AttrPair}
@@ -19,7 +20,7 @@ use Rattle.mk_connect_pairs.specs.declared.fault.ConnectFault.{ConnectFault}
 use Rattle.mk_connect_pairs.specs.declared.models.SimModel.{SimModel}
 use Rattle.mk_connect_pairs.specs.Connections.{attrs_fault, block_made, block_pairs, conn_between, conn_fault, connected, conns_made, has_initial, initial_text, is_way, most_conns, pair_made}
 use Rattle.mk_connect_pairs.specs.Ends.{ends_at, pairs_between, place_fault}
-use Rattle.mk_connect_pairs.specs.Faults.{held, passed, through, unless}
+use Rattle.mk_connect_pairs.specs.Faults.{through}
 use Rattle.mk_connect_pairs.specs.Models.{keeps_attr, model_at, says, triggers_by}
 use Rattle.mk_connect_pairs.proofs.Initials.{initial_in_range, initial_is_datum}
 
@@ -29,7 +30,7 @@ unless_is : {A : Type 0} (o : Option ConnectFault) (next : Result A ConnectFault
 unless_is None next y is = (refl, is)
 unless_is (Some e) next y is = cc
 
-held_is : (e : ConnectFault) (b : Bool) (next : Option ConnectFault) → held e b next ≡ None → (b ≡ true) × (next ≡ None)
+held_is : (e : ConnectFault) (b : Bool) (next : Option ConnectFault) → fault_unless e b next ≡ None → (b ≡ true) × (next ≡ None)
 held_is e true next is = (refl, is)
 held_is e false next is = cc
 

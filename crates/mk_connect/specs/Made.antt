@@ -3,6 +3,7 @@
 use Rattle.std.specs.Prelude.{ℕ, List, map, length, option_map, unwrap_or, slice_get, Result, Ok}
 use Rattle.mk_base.specs.declared.SimKind.{SimKind}
 use Rattle.mk_base.specs.declared.SimKind.TheVariants.{TimeBased}
+use Rattle.mk_base.specs.Verdicts.{passed}
 use Rattle.mk_plan.specs.declared.Plan.{Plan}
 use Rattle.mk_plan.specs.declared.PlanSim.{PlanSim}
 use Rattle.mk_plan.specs.declared.PlanEntity.{PlanEntity}
@@ -15,7 +16,6 @@ use Rattle.mk_connect_pairs.specs.declared.fault.ConnectFault.{ConnectFault}
 use Rattle.mk_connect_pairs.specs.declared.models.SimModel.{SimModel}
 use Rattle.mk_connect.specs.Asyncs.{asyncs_of}
 use Rattle.mk_connect_pairs.specs.Connections.{conns_made}
-use Rattle.mk_connect_pairs.specs.Faults.{passed}
 use Rattle.mk_connect.specs.ByPlace.{by_place}
 use Rattle.mk_connect_pairs.specs.Models.{model_number, models_of, plan_model}
 use Rattle.mk_connect.specs.Related.{pairs_of, related}

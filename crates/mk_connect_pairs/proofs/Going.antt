@@ -2,8 +2,9 @@
 use Rattle.std.proofs.Common.{◌≡◌, ℕ, zero, suc, ◌+◌, ◌<◌, List, [], ◌∷◌, ◌++◌, length, take, drop, Result, Ok, Err, refl, sym, ap, ◌∙◌, get_or, inl, inr, arith}
 use Rattle.std.proofs.Math.Seq.{drop-cons}
 use Rattle.std.proofs.lemmas.List.{take_more, take-append-drop}
+use Rattle.mk_base.specs.Verdicts.{passed}
 use Rattle.mk_connect_pairs.specs.declared.fault.ConnectFault.{ConnectFault}
-use Rattle.mk_connect_pairs.specs.Faults.{IsFaultOf, passed, through}
+use Rattle.mk_connect_pairs.specs.Faults.{IsFaultOf, through}
 
 module _ {A X : Type 0} (step : A → X → Result A ConnectFault) where
   through_append : (m : A) (xs ys : List X) → through step m (xs ++ ys) ≡ passed (through step m xs) (λ n. through step n ys)

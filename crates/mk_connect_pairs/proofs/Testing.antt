@@ -1,7 +1,8 @@
 -- What follows two tests.
 use Rattle.std.proofs.Common.{◌≡◌, Option, Some, None, Result, Ok, Err, inl, inr, refl, ap}
+use Rattle.mk_base.specs.Verdicts.{unless}
 use Rattle.mk_connect_pairs.specs.declared.fault.ConnectFault.{ConnectFault}
-use Rattle.mk_connect_pairs.specs.Faults.{IsFaultOf, unless}
+use Rattle.mk_connect_pairs.specs.Faults.{IsFaultOf}
 
 same_ok : {A : Type 0} (x y : A) → ◌≡◌ {A = Result A ConnectFault} (Ok x) (Ok y) → x ≡ y
 same_ok x y e = cc

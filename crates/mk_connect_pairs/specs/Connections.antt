@@ -7,6 +7,7 @@ use Rattle.mk_base.specs.declared.tier.Via.TheVariants.{Plain, Shift, Weak}
 use Rattle.mk_base.specs.Lists.{same_text}
 use Rattle.mk_base.specs.Texts.{text_of}
 use Rattle.mk_base.specs.Trees.{member}
+use Rattle.mk_base.specs.Verdicts.{fault_unless, unless}
 use Rattle.mk_plan.specs.declared.Conn.{Conn}
 use Rattle.mk_entities.specs.declared.entities.EntityInfo.{EntityInfo}
 use Rattle.mk_scenario.specs.declared.parts.AttrPair.{AttrPair}
@@ -16,7 +17,7 @@ use Rattle.mk_connect_pairs.specs.declared.fault.ConnectFault.{ConnectFault}
 use Rattle.mk_connect_pairs.specs.declared.fault.ConnectFault.TheVariants.{NoSourceAttr, NoTargetAttr, Twice, NoInitial, TooMany}
 use Rattle.mk_connect_pairs.specs.declared.models.SimModel.{SimModel}
 use Rattle.mk_connect_pairs.specs.Ends.{ends_at, full_id, pairs_between, place_fault}
-use Rattle.mk_connect_pairs.specs.Faults.{held, through, unless}
+use Rattle.mk_connect_pairs.specs.Faults.{through}
 use Rattle.mk_connect_pairs.specs.Models.{has_attr, keeps_attr, model_at, says, takes_attr, triggers_by}
 
 -- how many connections there may be
@@ -55,9 +56,9 @@ conn_between models entities b ends pair = record {
 abbrev pub attrs_fault : List SimPart → List SimModel → List EntityInfo → ℕ × ℕ → AttrPair
     → Option ConnectFault
 attrs_fault sims models entities ends pair =
-    held (NoSourceAttr (full_id sims entities ends.0) pair.from)
+    fault_unless (NoSourceAttr (full_id sims entities ends.0) pair.from)
     (says (has_attr pair.from) (model_at models entities ends.0)) (
-    held (NoTargetAttr (full_id sims entities ends.1) pair.to)
+    fault_unless (NoTargetAttr (full_id sims entities ends.1) pair.to)
     (says (takes_attr pair.to) (model_at models entities ends.1))
     None)
 
@@ -65,11 +66,11 @@ attrs_fault sims models entities ends pair =
 -- that it needs; and there is room
 abbrev pub conn_fault : List SimPart → List EntityInfo → List Conn → Conn → Option ConnectFault
 conn_fault sims entities conns c =
-    held (Twice (full_id sims entities c.to) c.to_attr (full_id sims entities c.from))
+    fault_unless (Twice (full_id sims entities c.to) c.to_attr (full_id sims entities c.from))
     (not (list_any (is_way c.from c.to c.to_attr) conns)) (
-    held (NoInitial (full_id sims entities c.to) c.from_attr)
+    fault_unless (NoInitial (full_id sims entities c.to) c.from_attr)
     (has_initial c.via c.persistent (is_some c.initial)) (
-    held (TooMany (most_conns + 1)) (nat_lt (length conns) most_conns)
+    fault_unless (TooMany (most_conns + 1)) (nat_lt (length conns) most_conns)
     None))
 
 -- one connection more, after its tests

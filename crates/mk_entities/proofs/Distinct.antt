@@ -6,12 +6,13 @@ use Rattle.std.proofs.lemmas.List.{length-map, map-append}
 use Rattle.mk_base.specs.declared.SimNo.{SimNo}
 use Rattle.mk_base.specs.Lists.{same_text}
 use Rattle.mk_base.proofs.Lists.{none_some, some_same}
+use Rattle.mk_base.specs.Verdicts.{fault_unless}
 use Rattle.mk_meta.specs.declared.meta.Meta.{Meta}
 use Rattle.mk_entities.specs.declared.described.Described.{Described}
 use Rattle.mk_entities.specs.declared.entities.EntityInfo.{EntityInfo}
 use Rattle.mk_entities.specs.declared.fault.CreateFault.{CreateFault}
 use Rattle.mk_entities.specs.declared.fault.CreateFault.TheVariants.{NoEid, TwiceEid, OfType, TooMany}
-use Rattle.mk_entities.specs.Creation.{entity_fault, first_there, after_text, has_type, held, is_named, most_entities, number_of}
+use Rattle.mk_entities.specs.Creation.{entity_fault, first_there, after_text, has_type, is_named, most_entities, number_of}
 use Rattle.mk_entities.specs.inner.Making.{fault_at, first_fault, named_from, number_in}
 use Rattle.mk_entities.specs.Tied.{AreFirst}
 use Rattle.mk_entities.specs.inner.Tied.{numbered}
@@ -33,7 +34,7 @@ none_at {X} f a (suc n) k none low high = at (f a) refl (apart k a low) none (no
     at None is (inl same) none more = ap f (sym same) ∙ is
     at None is (inr above) none more = more none above (omega arith)
 
-missing : (r : Option ℕ) (fault : CreateFault) (next : Option CreateFault) → held fault (not (is_some r)) next ≡ None → r ≡ None
+missing : (r : Option ℕ) (fault : CreateFault) (next : Option CreateFault) → fault_unless fault (not (is_some r)) next ≡ None → r ≡ None
 missing None fault next none = refl
 missing (Some n) fault next none = cc
 
@@ -41,9 +42,9 @@ missing (Some n) fault next none = cc
 new_eid : (number : List ℕ → Option ℕ) (count : ℕ) (model : List ℕ) (meta : Meta) (n : ℕ) (e : Described) → entity_fault number count model meta n e ≡ None → number (unwrap_or e.eid []) ≡ None
 new_eid number count model meta n e none = at e.eid none
   where
-    at : (eid : Option (List ℕ)) → after_text (NoEid n) eid (λ t. held (TwiceEid t) (not (is_some (number t))) (held (OfType t) (has_type model meta e) (held (TooMany (most_entities + 1)) (nat_lt count most_entities) None))) ≡ None → number (unwrap_or eid []) ≡ None
+    at : (eid : Option (List ℕ)) → after_text (NoEid n) eid (λ t. fault_unless (TwiceEid t) (not (is_some (number t))) (fault_unless (OfType t) (has_type model meta e) (fault_unless (TooMany (most_entities + 1)) (nat_lt count most_entities) None))) ≡ None → number (unwrap_or eid []) ≡ None
     at None none = cc
-    at (Some t) none = missing (number t) (TwiceEid t) (held (OfType t) (has_type model meta e) (held (TooMany (most_entities + 1)) (nat_lt count most_entities) None)) none
+    at (Some t) none = missing (number t) (TwiceEid t) (fault_unless (OfType t) (has_type model meta e) (fault_unless (TooMany (most_entities + 1)) (nat_lt count most_entities) None)) none
 
 -- ---- the first place in a longer list
 

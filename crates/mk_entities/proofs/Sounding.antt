@@ -13,12 +13,13 @@ use Rattle.mk_base.specs.Lists.{Each}
 use Rattle.mk_base.specs.Trees.{items_in, member, nesting, text_in}
 use Rattle.mk_base.proofs.Lists.{none_some, some_same}
 use Rattle.mk_base.specs.Names.{is_eid}
+use Rattle.mk_base.specs.Verdicts.{fault_unless}
 use Rattle.mk_meta.specs.declared.meta.Meta.{Meta}
 use Rattle.mk_entities.specs.declared.described.Described.{Described}
 use Rattle.mk_entities.specs.declared.entities.EntityInfo.{EntityInfo}
 use Rattle.mk_entities.specs.declared.fault.CreateFault.{CreateFault}
 use Rattle.mk_entities.specs.declared.fault.CreateFault.TheVariants.{NoEid, TwiceEid, OfType, TooMany}
-use Rattle.mk_entities.specs.Creation.{added, entity_fault, after_text, has_number, has_type, held, most_entities}
+use Rattle.mk_entities.specs.Creation.{added, entity_fault, after_text, has_number, has_type, most_entities}
 use Rattle.mk_entities.specs.Descriptions.{below, children_in, described, eid_in, family, if_eid, list_under}
 use Rattle.mk_entities.specs.inner.Making.{fault_at, first_fault, named_from, number_in}
 use Rattle.mk_entities.specs.Sound.{AreSound, IsSound}
@@ -65,7 +66,7 @@ families_named trees = each_flat IsNamed (family false) trees (λ tree. (describ
 eid_there : (number : List ℕ → Option ℕ) (count : ℕ) (model : List ℕ) (meta : Meta) (n : ℕ) (e : Described) → entity_fault number count model meta n e ≡ None → IsNamed e → IsTrue (is_eid (unwrap_or e.eid []))
 eid_there number count model meta n e none named = at e.eid none named
   where
-    at : (eid : Option (List ℕ)) → after_text (NoEid n) eid (λ t. held (TwiceEid t) (not (is_some (number t))) (held (OfType t) (has_type model meta e) (held (TooMany (most_entities + 1)) (nat_lt count most_entities) None))) ≡ None
+    at : (eid : Option (List ℕ)) → after_text (NoEid n) eid (λ t. fault_unless (TwiceEid t) (not (is_some (number t))) (fault_unless (OfType t) (has_type model meta e) (fault_unless (TooMany (most_entities + 1)) (nat_lt count most_entities) None))) ≡ None
         → ((text : List ℕ) → eid ≡ Some text → IsTrue (is_eid text)) → IsTrue (is_eid (unwrap_or eid []))
     at None none named = cc
     at (Some t) none named = named t refl

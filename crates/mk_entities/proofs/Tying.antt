@@ -4,11 +4,12 @@ use Rattle.std.specs.Prelude.{OnOk, IfErr}
 use Rattle.mk_base.specs.declared.SimNo.{SimNo}
 use Rattle.mk_base.specs.Lists.{Each}
 use Rattle.mk_base.proofs.Lists.{append_nil, set_else}
+use Rattle.mk_base.specs.Verdicts.{unless}
 use Rattle.mk_meta.specs.declared.meta.Meta.{Meta}
 use Rattle.mk_entities.specs.declared.described.Described.{Described}
 use Rattle.mk_entities.specs.declared.entities.EntityInfo.{EntityInfo}
 use Rattle.mk_entities.specs.declared.fault.CreateFault.{CreateFault}
-use Rattle.mk_entities.specs.Creation.{added, drafts, first_entity_fault, first_there, most_entities, number_of, rel_fault, unless, with_entities}
+use Rattle.mk_entities.specs.Creation.{added, drafts, first_entity_fault, first_there, most_entities, number_of, rel_fault, with_entities}
 use Rattle.mk_entities.specs.Tied.{AreFirst}
 use Rattle.mk_entities.specs.inner.Tied.{IsTied, names_at, numbered}
 use Rattle.mk_entities.proofs.Adding.{numbered_append, numbered_other, same_fault}

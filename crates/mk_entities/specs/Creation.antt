@@ -5,6 +5,7 @@ use Rattle.mk_base.specs.declared.SimNo.{SimNo}
 use Rattle.mk_base.specs.declared.json.Json.{Json}
 use Rattle.mk_base.specs.Lists.{same_text}
 use Rattle.mk_base.specs.Trees.{items_in}
+use Rattle.mk_base.specs.Verdicts.{unless, fault_unless}
 use Rattle.mk_meta.specs.declared.meta.ModelMeta.{ModelMeta}
 use Rattle.mk_meta.specs.declared.meta.Meta.{Meta}
 use Rattle.mk_entities.specs.declared.described.Described.{Described}
@@ -31,20 +32,11 @@ first_there [] = None
 first_there (None ∷ xs) = first_there xs
 first_there (Some x ∷ xs) = Some x
 
--- what follows a test that holds, and the fault where it doesn't
-abbrev pub held : CreateFault → Bool → Option CreateFault → Option CreateFault
-held fault holds next = if holds then next else Some fault
-
 -- what follows a test that finds a text, and the fault where it finds none
 abbrev pub after_text : CreateFault → Option (List ℕ) → (List ℕ → Option CreateFault)
     → Option CreateFault
 after_text fault None next = Some fault
 after_text fault (Some text) next = next text
-
--- what follows where there is no fault
-abbrev pub unless : {B : Type 0} → Option CreateFault → Result B CreateFault → Result B CreateFault
-unless None next = next
-unless (Some fault) next = Err fault
 
 -- the type of a child is some model of the simulator, that of another entity the model that was
 -- created
@@ -62,9 +54,9 @@ abbrev pub entity_fault : (List ℕ → Option ℕ) → ℕ → List ℕ → Met
     → Option CreateFault
 entity_fault number count model meta n entity =
     after_text (NoEid n) entity.eid (λ eid.
-    held (TwiceEid eid) (not (is_some (number eid))) (
-    held (OfType eid) (has_type model meta entity) (
-    held (TooMany (most_entities + 1)) (nat_lt count most_entities)
+    fault_unless (TwiceEid eid) (not (is_some (number eid))) (
+    fault_unless (OfType eid) (has_type model meta entity) (
+    fault_unless (TooMany (most_entities + 1)) (nat_lt count most_entities)
     None)))
 
 -- the text that a `rel` names and that is no eid, or nothing where it is no list of texts
@@ -115,7 +107,7 @@ first_entity_fault old sim group model meta entities =
 
 -- the reply has as many entities as were asked for
 abbrev pub count_fault : ℕ → Json → Option CreateFault
-count_fault num reply = let count : ℕ = length (unwrap_or (items_in reply) []) in held
+count_fault num reply = let count : ℕ = length (unwrap_or (items_in reply) []) in fault_unless
     (Count num count) (count == num) None
 
 -- these entities of a reply are added, unless one fails a test

@@ -8,10 +8,11 @@ use Rattle.std.proofs.lemmas.List.{append-nil, take-append-drop}
 use Rattle.std.proofs.lemmas.Str.{inside_one, length-encode, len_utf8_bounds}
 use Rattle.std.proofs.lemmas.Slice.Eq.{bytes_eq-Decides}
 use Rattle.mk_base.specs.Lists.{Each}
+use Rattle.mk_base.specs.Verdicts.{put_first}
 use Rattle.mk_launch.specs.declared.faults.LaunchFault.{LaunchFault}
 use Rattle.mk_launch.specs.declared.faults.LaunchFault.TheVariants.{BadPlace}
 use Rattle.mk_launch.specs.declared.marks.Front.TheVariants as front
-use Rattle.mk_launch.specs.Marks.{Mark, put_first, mark_of, marks}
+use Rattle.mk_launch.specs.Marks.{Mark, mark_of, marks}
 use Rattle.mk_launch.specs.Marks.Sign.{Byte, Address}
 use Rattle.mk_launch.specs.Marks.Mark.{Space, Quote, Plain}
 use Rattle.mk_launch.specs.inner.Steps.{front_of}

@@ -3,8 +3,9 @@ use Rattle.std.proofs.Common.{◌≡◌, ℕ, ◌==◌, cond, Bool, true, false,
 use Rattle.std.specs.Prelude.{option_to_list, Result, Ok, Err}
 use Rattle.std.proofs.lemmas.Grind.{flat_map-append}
 use Rattle.std.proofs.lemmas.List.{append-nil}
+use Rattle.mk_base.specs.Verdicts.{put_first}
 use Rattle.mk_launch.specs.declared.faults.LaunchFault.{LaunchFault}
-use Rattle.mk_launch.specs.Marks.{Sign, Mark, put_first}
+use Rattle.mk_launch.specs.Marks.{Sign, Mark}
 use Rattle.mk_launch.specs.Marks.Sign.{Byte, Address}
 use Rattle.mk_launch.specs.Marks.Mark.{Space, Quote, Plain}
 use Rattle.mk_launch.specs.Parts.{Piece, gap, of_word, pieces}

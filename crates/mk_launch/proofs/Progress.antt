@@ -6,11 +6,12 @@ use Rattle.std.proofs.lemmas.Grind.{common_steps}
 use Rattle.std.proofs.lemmas.Str.{encode_ascii}
 use Rattle.std.proofs.lemmas.Bool.Decides.{nat_tests}
 use Rattle.mk_base.specs.Lists.{Each}
+use Rattle.mk_base.specs.Verdicts.{put_first}
 use Rattle.mk_launch.specs.declared.faults.LaunchFault.{LaunchFault}
 use Rattle.mk_launch.specs.declared.faults.LaunchFault.TheVariants.{BadPlace}
 use Rattle.mk_launch.specs.declared.marks.Front.{Front}
 use Rattle.mk_launch.specs.declared.marks.Front.TheVariants as front
-use Rattle.mk_launch.specs.Marks.{Mark, put_first, marks}
+use Rattle.mk_launch.specs.Marks.{Mark, marks}
 use Rattle.mk_launch.specs.Marks.Sign.{Byte}
 use Rattle.mk_launch.specs.Marks.Mark.{Space, Quote, Plain}
 use Rattle.mk_launch.specs.inner.Reading.{Reading}

@@ -2,6 +2,7 @@
 use Rattle.std.specs.Prelude.{ℕ, ◌+◌, ◌-◌, ◌==◌, ◌||◌, zero, suc, List, [], ◌∷◌, Option, Some, None, Result, Ok, Err, if◌then◌else◌, nat_eq, codes}
 use Rattle.std.specs.List.{starts_with}
 use Rattle.std.specs.Option.{option_map_or}
+use Rattle.mk_base.specs.Verdicts.{put_first}
 use Rattle.mk_launch.specs.declared.faults.LaunchFault.{LaunchFault}
 use Rattle.mk_launch.specs.declared.faults.LaunchFault.TheVariants.{BadPlace}
 
@@ -30,11 +31,6 @@ mark_at i b more =
     then if starts_with nat_eq (b ∷ more) (codes "%(addr)s") then Some (Plain Address, 8)
     else if starts_with nat_eq (b ∷ more) (codes "%%") then Some (Plain (Byte 37), 2) else None
     else Some (mark_of i b, 1)
-
--- an item before the others, if there are others
-abbrev pub put_first : {X : Type 0} → X → Result (List X) LaunchFault → Result (List X) LaunchFault
-put_first x (Ok xs) = Ok (x ∷ xs)
-put_first x (Err fault) = Err fault
 
 -- the marks of a text that begins at byte i, its first bytes, so many, being of a mark that was
 -- read before; or the first per cent sign that is none

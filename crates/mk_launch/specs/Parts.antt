@@ -1,8 +1,9 @@
 -- The parts within quotation marks: which spaces separate words, and which belong to one.
 use Rattle.std.specs.Prelude.{ℕ, ◌==◌, List, [], ◌∷◌, Option, Some, None, Result, Ok, Err, if◌then◌else◌}
+use Rattle.mk_base.specs.Verdicts.{put_first}
 use Rattle.mk_launch.specs.declared.faults.LaunchFault.{LaunchFault}
 use Rattle.mk_launch.specs.declared.faults.LaunchFault.TheVariants.{BadQuote}
-use Rattle.mk_launch.specs.Marks.{Sign, Mark, put_first}
+use Rattle.mk_launch.specs.Marks.{Sign, Mark}
 use Rattle.mk_launch.specs.Marks.Sign.{Byte}
 use Rattle.mk_launch.specs.Marks.Mark.{Space, Quote, Plain}
 

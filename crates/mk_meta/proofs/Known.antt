@@ -7,11 +7,11 @@ use Rattle.mk_base.specs.declared.SimKind.TheVariants.{TimeBased, EventBased, Hy
 use Rattle.mk_base.specs.declared.json.Json.{Json}
 use Rattle.mk_base.specs.Lists.{Each, is_among}
 use Rattle.mk_base.specs.Trees.{bool_in, is_object, member, texts_in}
-use Rattle.mk_base.specs.Verdicts.{held, no_text, put_first, all_well}
+use Rattle.mk_base.specs.Verdicts.{held, no_text, put_first, all_well, after_found}
 use Rattle.mk_meta.specs.declared.meta.ModelMeta.{ModelMeta}
 use Rattle.mk_meta.specs.declared.fault.MetaFault.{MetaFault}
 use Rattle.mk_meta.specs.declared.fault.MetaFault.TheVariants.{Model, TriggerUnknown}
-use Rattle.mk_meta.specs.Metadata.{HasKnownAttrs, first_unknown, after_found, hybrid_texts, is_hybrid, model_in, unless_missing, with_known}
+use Rattle.mk_meta.specs.Metadata.{HasKnownAttrs, first_unknown, hybrid_texts, is_hybrid, model_in, unless_missing, with_known}
 
 ok_same : {X : Type 0} (r : Result X MetaFault) (x y : X) → r ≡ Ok x → r ≡ Ok y → x ≡ y
 ok_same r x y is also = cc

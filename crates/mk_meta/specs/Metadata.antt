@@ -8,17 +8,11 @@ use Rattle.mk_base.specs.declared.json.Json.{Json}
 use Rattle.mk_base.specs.Lists.{same_text, text_order, Each, is_among}
 use Rattle.mk_base.specs.Trees.{bool_in, text_in, members_in, is_object, member, texts_in}
 use Rattle.mk_base.specs.Names.{kind_named}
-use Rattle.mk_base.specs.Verdicts.{held, no_text, all_well}
+use Rattle.mk_base.specs.Verdicts.{held, no_text, all_well, after_found}
 use Rattle.mk_meta.specs.declared.meta.ModelMeta.{ModelMeta}
 use Rattle.mk_meta.specs.declared.meta.Meta.{Meta}
 use Rattle.mk_meta.specs.declared.fault.MetaFault.{MetaFault}
 use Rattle.mk_meta.specs.declared.fault.MetaFault.TheVariants.{NoVersion, Version, BadType, NoModels, Model, TriggerUnknown}
-
--- what follows a test that finds something, and the fault where it finds nothing
-abbrev pub after_found : {A B : Type 0} → MetaFault → Option A → (A → Result B MetaFault)
-    → Result B MetaFault
-after_found fault None next = Err fault
-after_found fault (Some x) next = next x
 
 -- what is read of a member, or what stands for it where it is missing
 abbrev pub unless_missing : {A : Type 0} → A → (Json → Option A) → Option Json → Option A

@@ -6,10 +6,10 @@ use Rattle.std.specs.Prelude.{option_and_then}
 use Rattle.std.specs.List.{filter_map, cons_option}
 use Rattle.mk_base.specs.declared.json.Json.{Json}
 use Rattle.mk_base.specs.Trees.{text_in}
-use Rattle.mk_base.specs.Verdicts.{held}
+use Rattle.mk_base.specs.Verdicts.{held, passed}
 use Rattle.mk_scenario_keys.specs.Keys.{required, name}
 use Rattle.mk_scenario_keys.specs.Spelling.{is_name}
-use Rattle.mk_scenario_keys.specs.Tests.{passed, found}
+use Rattle.mk_scenario_keys.specs.Tests.{found}
 use Rattle.mk_scenario_keys.specs.declared.fault.ScenarioFault.{ScenarioFault}
 use Rattle.mk_scenario_keys.specs.declared.fault.ScenarioFault.TheVariants.{WrongKind, OutOfRange}
 use Rattle.mk_scenario.specs.inner.Groups.{id_in}

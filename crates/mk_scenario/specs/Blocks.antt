@@ -5,9 +5,9 @@ use Rattle.mk_base.specs.declared.json.Json as tree
 use Rattle.mk_base.specs.declared.tier.Via.{Via}
 use Rattle.mk_base.specs.declared.tier.Via.TheVariants.{Plain, Shift, Weak}
 use Rattle.mk_base.specs.Trees.{text_in, member}
-use Rattle.mk_base.specs.Verdicts.{held, no_text}
+use Rattle.mk_base.specs.Verdicts.{held, no_text, passed}
 use Rattle.mk_scenario_keys.specs.Known.{block_keys}
-use Rattle.mk_scenario_keys.specs.Tests.{passed, found, each_at, key_in, item_in}
+use Rattle.mk_scenario_keys.specs.Tests.{found, each_at, key_in, item_in}
 use Rattle.mk_scenario_keys.specs.Keys.{required, optional, members_of, first_unknown, truth, some_width, text, items, values}
 use Rattle.mk_scenario_keys.specs.declared.fault.ScenarioFault.{ScenarioFault}
 use Rattle.mk_scenario_keys.specs.declared.fault.ScenarioFault.TheVariants.{WrongKind, UnknownKey, TwoKinds, Uneven}

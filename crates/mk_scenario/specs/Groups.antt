@@ -4,9 +4,9 @@ use Rattle.mk_base.specs.declared.json.Json.{Json}
 use Rattle.mk_base.specs.declared.json.Json as tree
 use Rattle.mk_base.specs.declared.SimNo.{SimNo}
 use Rattle.mk_base.specs.Trees.{member}
-use Rattle.mk_base.specs.Verdicts.{held, no_text}
+use Rattle.mk_base.specs.Verdicts.{held, no_text, passed}
 use Rattle.mk_scenario_keys.specs.Known.{group_keys}
-use Rattle.mk_scenario_keys.specs.Tests.{passed, found, key_in, item_in}
+use Rattle.mk_scenario_keys.specs.Tests.{found, key_in, item_in}
 use Rattle.mk_scenario_keys.specs.Keys.{required, optional, first_unknown, is_among, count_within, text, name, values}
 use Rattle.mk_scenario_keys.specs.declared.fault.ScenarioFault.{ScenarioFault}
 use Rattle.mk_scenario_keys.specs.declared.fault.ScenarioFault.TheVariants.{UnknownKey, UnknownSim, Taken}

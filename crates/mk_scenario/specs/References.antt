@@ -1,8 +1,9 @@
 -- A reference: a full id, a group's entity at an index, or a group.
 use Rattle.std.specs.Prelude.{ℕ, nat_lt, Bool, ◌&&◌, ◌==◌, ◌-◌, List, length, take, map, Option, Some, None, slice_get, option_map, option_and_then, unwrap_or, false, Result, Ok, if◌then◌else◌}
 use Rattle.std.specs.List.{list_any, before_first, after_first}
+use Rattle.mk_base.specs.Verdicts.{passed}
 use Rattle.mk_scenario_keys.specs.Spelling.{spelled}
-use Rattle.mk_scenario_keys.specs.Tests.{passed, found}
+use Rattle.mk_scenario_keys.specs.Tests.{found}
 use Rattle.mk_scenario_keys.specs.declared.fault.ScenarioFault.{ScenarioFault}
 use Rattle.mk_scenario_keys.specs.declared.fault.ScenarioFault.TheVariants.{OutOfRange, UnknownGroup}
 use Rattle.mk_scenario.specs.Places.{place_in}

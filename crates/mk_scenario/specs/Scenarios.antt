@@ -2,10 +2,10 @@
 use Rattle.std.specs.Prelude.{ℕ, ℤ, pos, List, [], map, codes, Result, Ok}
 use Rattle.mk_base.specs.declared.json.Json.{Json}
 use Rattle.mk_base.specs.Trees.{member}
-use Rattle.mk_base.specs.Verdicts.{no_text}
+use Rattle.mk_base.specs.Verdicts.{no_text, passed}
 use Rattle.mk_scenario_toml.specs.Document.{toml_of}
 use Rattle.mk_scenario_keys.specs.Known.{top_keys}
-use Rattle.mk_scenario_keys.specs.Tests.{passed, found, each_at, each_after}
+use Rattle.mk_scenario_keys.specs.Tests.{found, each_at, each_after}
 use Rattle.mk_scenario_keys.specs.Keys.{required, optional, first_unknown, whole_within, count_within, tables_within}
 use Rattle.mk_scenario_keys.specs.declared.fault.ScenarioFault.{ScenarioFault}
 use Rattle.mk_scenario_keys.specs.declared.fault.ScenarioFault.TheVariants.{NotToml, UnknownKey}

@@ -6,9 +6,9 @@ use Rattle.mk_base.specs.declared.json.Json.{Json}
 use Rattle.mk_base.specs.declared.json.Json as tree
 use Rattle.mk_base.specs.Lists.{same_text}
 use Rattle.mk_base.specs.Trees.{text_in, member}
-use Rattle.mk_base.specs.Verdicts.{held, no_text}
+use Rattle.mk_base.specs.Verdicts.{held, no_text, passed}
 use Rattle.mk_scenario_keys.specs.Known.{sim_keys}
-use Rattle.mk_scenario_keys.specs.Tests.{passed, key_in, item_in}
+use Rattle.mk_scenario_keys.specs.Tests.{key_in, item_in}
 use Rattle.mk_scenario_keys.specs.Keys.{required, optional, first_unknown, wholes_within, some_text, name, some_port, values}
 use Rattle.mk_scenario_keys.specs.declared.fault.ScenarioFault.{ScenarioFault}
 use Rattle.mk_scenario_keys.specs.declared.fault.ScenarioFault.TheVariants.{Missing, UnknownKey, TwoKinds}

@@ -3,7 +3,8 @@ ghost use Rattle.std.specs.Prelude.{◌≡◌, length, codes, false, option_map,
 ghost use Rattle.std.specs.List.{filter};
 ghost use Rattle.mk_base.specs.Lists.{same_text};
 ghost use Rattle.mk_base.specs.Trees.{member, text_in};
-ghost use Rattle.mk_scenario_keys.specs.Tests.{IsFaultOf, each_after, key_in, passed};
+ghost use Rattle.mk_base.specs.Verdicts.{passed};
+ghost use Rattle.mk_scenario_keys.specs.Tests.{IsFaultOf, each_after, key_in};
 ghost use Rattle.mk_scenario.specs.Sims as sims;
 
 use crate::parts::{Begin, SimPart};

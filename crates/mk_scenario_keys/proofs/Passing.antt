@@ -4,8 +4,8 @@ use Rattle.std.specs.List.{enumerate_from, find}
 use Rattle.mk_base.specs.declared.json.Json.{Json}
 use Rattle.mk_base.specs.Lists.{Each}
 use Rattle.mk_base.proofs.Lists.{each_in, in_each, in_at, at_in, get_is, below_get, some_same}
-use Rattle.mk_base.specs.Verdicts.{held, no_text, put_first, all_well}
-use Rattle.mk_scenario_keys.specs.Tests.{passed, found, each_at}
+use Rattle.mk_base.specs.Verdicts.{held, no_text, put_first, all_well, passed}
+use Rattle.mk_scenario_keys.specs.Tests.{found, each_at}
 use Rattle.mk_scenario_keys.specs.Keys.{required, optional}
 use Rattle.mk_scenario_keys.specs.declared.fault.ScenarioFault.{ScenarioFault}
 use Rattle.mk_scenario_keys.proofs.Gathering.{each_from}

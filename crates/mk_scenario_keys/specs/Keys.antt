@@ -5,9 +5,9 @@ use Rattle.std.specs.List.{find, list_any}
 use Rattle.mk_base.specs.declared.json.Json.{Json}
 use Rattle.mk_base.specs.Lists.{Each, same_text}
 use Rattle.mk_base.specs.Trees.{bool_in, whole_in, text_in, items_in, members_in, is_object, is_datum, is_in_range}
-use Rattle.mk_base.specs.Verdicts.{held, no_text}
+use Rattle.mk_base.specs.Verdicts.{held, no_text, passed}
 use Rattle.mk_scenario_keys.specs.Spelling.{is_name, port_of}
-use Rattle.mk_scenario_keys.specs.Tests.{passed, found, each_at, key_in, item_in}
+use Rattle.mk_scenario_keys.specs.Tests.{found, each_at, key_in, item_in}
 use Rattle.mk_scenario_keys.specs.declared.fault.ScenarioFault.{ScenarioFault}
 use Rattle.mk_scenario_keys.specs.declared.fault.ScenarioFault.TheVariants.{Missing, WrongKind, OutOfRange}
 

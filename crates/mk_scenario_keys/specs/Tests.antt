@@ -10,12 +10,6 @@ use Rattle.mk_scenario_keys.specs.declared.fault.ScenarioFault.TheVariants.{Mem}
 abbrev pub IsFaultOf : {A : Type 0} → Result A ScenarioFault → ScenarioFault → Type 0
 IsFaultOf verdict fault = (fault ≡ Mem) ⊎ (verdict ≡ Err fault)
 
--- what follows a test that gives something
-abbrev pub passed : {A B : Type 0} → Result A ScenarioFault → (A → Result B ScenarioFault)
-    → Result B ScenarioFault
-passed (Ok x) next = next x
-passed (Err fault) next = Err fault
-
 -- what was found, and the fault where nothing was
 abbrev pub found : {A : Type 0} → ScenarioFault → Option A → Result A ScenarioFault
 found fault (Some x) = Ok x

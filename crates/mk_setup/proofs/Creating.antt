@@ -6,6 +6,7 @@ use Rattle.std.proofs.lemmas.Option.{slice_get_within}
 use Rattle.mk_base.specs.declared.SimNo.{SimNo}
 use Rattle.mk_base.specs.declared.json.Json.{Json}
 use Rattle.mk_base.specs.Lists.{IsIn, same_text}
+use Rattle.mk_base.specs.Verdicts as verdicts
 use Rattle.mk_base.proofs.Lists.{in_at, in_map, none_some, some_same}
 use Rattle.mk_meta.specs.declared.meta.Meta.{Meta}
 use Rattle.mk_meta.specs.declared.meta.ModelMeta.{ModelMeta}
@@ -27,11 +28,11 @@ use Rattle.mk_setup.proofs.Replied.{ok_err, ok_same}
 some_none : {X : Type 0} {x : X} → Some x ≡ None → ⊥
 some_none e = none_some (sym e)
 
-unless_ok : {B : Type 0} (o : Option CreateFault) (r : Result B CreateFault) (x : B) → creation.unless o r ≡ Ok x → (o ≡ None) × (r ≡ Ok x)
+unless_ok : {B : Type 0} (o : Option CreateFault) (r : Result B CreateFault) (x : B) → verdicts.unless o r ≡ Ok x → (o ≡ None) × (r ≡ Ok x)
 unless_ok None r x e = (refl, e)
 unless_ok (Some f) r x e = absurd (ok_err (sym e))
 
-held_none : (f : CreateFault) (b : Bool) (next : Option CreateFault) → creation.held f b next ≡ None → (b ≡ true) × (next ≡ None)
+held_none : (f : CreateFault) (b : Bool) (next : Option CreateFault) → verdicts.fault_unless f b next ≡ None → (b ≡ true) × (next ≡ None)
 held_none f true next e = (refl, e)
 held_none f false next e = absurd (some_none e)
 
@@ -83,7 +84,7 @@ module _ (old : List EntityInfo) (sim : SimNo) (group num : ℕ) (model : List �
   right_type : (number : List ℕ → Option ℕ) (count n : ℕ) (d : Described) → entity_fault number count model meta n d ≡ None → has_type model meta d ≡ true
   right_type number count n d e = go d.eid e
     where
-      go : (o : Option (List ℕ)) → creation.after_text (NoEid n) o (λ eid. creation.held (TwiceEid eid) (not (is_some (number eid))) (creation.held (OfType eid) (has_type model meta d) (creation.held (TooMany (creation.most_entities + 1)) (nat_lt count creation.most_entities) None))) ≡ None → has_type model meta d ≡ true
+      go : (o : Option (List ℕ)) → creation.after_text (NoEid n) o (λ eid. verdicts.fault_unless (TwiceEid eid) (not (is_some (number eid))) (verdicts.fault_unless (OfType eid) (has_type model meta d) (verdicts.fault_unless (TooMany (creation.most_entities + 1)) (nat_lt count creation.most_entities) None))) ≡ None → has_type model meta d ≡ true
       go None h = absurd (some_none h)
       go (Some eid) h = (held_none (OfType eid) (has_type model meta d) _ (held_none (TwiceEid eid) _ _ h).1).0
 
@@ -102,7 +103,7 @@ module _ (old : List EntityInfo) (sim : SimNo) (group num : ℕ) (model : List �
       let ds : List Described = reply_entities reply in
       let a = unless_ok (count_fault num reply) (with_entities old sim group model meta ds) es e in
       let number : List ℕ → Option ℕ = number_of (drafts old sim group ds) sim in
-      let b = unless_ok (first_entity_fault old sim group model meta ds) (creation.unless (first_there (map (rel_fault number) ds)) (Ok (old ++ map (added number (length old + length ds) sim group) ds))) es a.1 in
+      let b = unless_ok (first_entity_fault old sim group model meta ds) (verdicts.unless (first_there (map (rel_fault number) ds)) (Ok (old ++ map (added number (length old + length ds) sim group) ds))) es a.1 in
       let c = unless_ok (first_there (map (rel_fault number) ds)) (Ok (old ++ map (added number (length old + length ds) sim group) ds)) es b.1 in (
         map (added number (length old + length ds) sim group) ds,
         sym (ok_same c.1),

@@ -4,6 +4,7 @@ use Rattle.std.specs.Prelude.{option_map, unwrap_or}
 use Rattle.std.proofs.lemmas.List.Sums.{fold-append}
 use Rattle.mk_base.specs.declared.SimNo.{SimNo}
 use Rattle.mk_base.proofs.Lists.{below_get, none_some}
+use Rattle.mk_base.specs.Verdicts.{passed}
 use Rattle.mk_plan.specs.declared.Plan.{Plan}
 use Rattle.mk_plan.specs.declared.Call.{Call}
 use Rattle.mk_plan.specs.declared.Message.{Message}
@@ -13,7 +14,7 @@ use Rattle.mk_run_laws.specs.Handshake.{Request, setup_requests}
 use Rattle.mk_setup.specs.declared.fault.SetupFault.{SetupFault}
 use Rattle.mk_setup.specs.Answers.{IsReady, IsRequested, IsBarred}
 use Rattle.mk_setup.specs.Asking.{after_asking, asked_unless, fault_before, lasting}
-use Rattle.mk_setup.specs.Handshakes.{IsFaultyAfter, IsMade, IsReached, after_answer, answering, asked_after, begun, next_sim, passed, reached}
+use Rattle.mk_setup.specs.Handshakes.{IsFaultyAfter, IsMade, IsReached, after_answer, answering, asked_after, begun, next_sim, reached}
 use Rattle.mk_setup.specs.Laws.{IsKindSaid, IsOfReplies, IsReplyTo, RepliesMake}
 use Rattle.mk_setup.specs.Replies.{after_reply}
 use Rattle.mk_setup.specs.Requests.{first_ids, request_of}

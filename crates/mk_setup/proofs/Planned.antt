@@ -3,6 +3,7 @@ use Rattle.std.proofs.Common.{◌≡◌, ℕ, ◌+◌, ◌<◌, List, length, Op
 use Rattle.std.specs.Prelude.{option_map, unwrap_or}
 use Rattle.mk_base.specs.declared.SimKind.TheVariants.{TimeBased}
 use Rattle.mk_base.proofs.Lists.{below_get}
+use Rattle.mk_base.specs.Verdicts.{passed}
 use Rattle.mk_plan.specs.declared.Conn.{Conn}
 use Rattle.mk_plan.specs.declared.Plan.{Plan}
 use Rattle.mk_plan.specs.declared.PlanSim.{PlanSim}
@@ -13,7 +14,6 @@ use Rattle.mk_scenario.specs.declared.parts.Scenario.{Scenario}
 use Rattle.mk_scenario.specs.declared.parts.SimPart.{SimPart}
 use Rattle.mk_connect_pairs.specs.declared.fault.ConnectFault.{ConnectFault}
 use Rattle.mk_connect_pairs.specs.Connections.{conns_made}
-use Rattle.mk_connect_pairs.specs.Faults.{passed}
 use Rattle.mk_connect.specs.Made.{number_at, plan_made, plan_sim, plan_with}
 use Rattle.mk_connect_pairs.specs.Models.{models_of}
 use Rattle.mk_connect.proofs.ByPlaces.{by_place_get, by_place_length}

@@ -5,6 +5,7 @@ use Rattle.std.proofs.lemmas.Option.{slice_get_within}
 use Rattle.std.proofs.lemmas.Bool.{cases_lt}
 use Rattle.mk_base.specs.declared.json.Json.{Json}
 use Rattle.mk_base.proofs.Lists.{none_some, some_same}
+use Rattle.mk_base.specs.Verdicts.{passed}
 use Rattle.mk_plan.specs.declared.Message.{Message}
 use Rattle.mk_plan.specs.declared.Message.TheVariants.{Success}
 use Rattle.mk_meta.specs.declared.meta.Meta.{Meta}
@@ -12,7 +13,7 @@ use Rattle.mk_meta.specs.Metadata.{meta_in}
 use Rattle.mk_scenario.specs.declared.parts.Scenario.{Scenario}
 use Rattle.mk_setup.specs.declared.fault.SetupFault.{SetupFault}
 use Rattle.mk_setup.specs.Asking.{after_asking, fault_before}
-use Rattle.mk_setup.specs.Handshakes.{after_answer, answering, begun, next_sim, passed, reached}
+use Rattle.mk_setup.specs.Handshakes.{after_answer, answering, begun, next_sim, reached}
 use Rattle.mk_setup.specs.Laws.{IsReplyTo}
 use Rattle.mk_setup.specs.Requests.{id_before}
 use Rattle.mk_setup.specs.Seen.{SetupState}

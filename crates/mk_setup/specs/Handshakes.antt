@@ -1,5 +1,6 @@
 -- What replies make of a scenario, each of them after its request.
 use Rattle.std.specs.Prelude.{◌≡◌, ◌⊎◌, ℕ, false, List, [], length, fold, Option, Some, None, option_map, unwrap_or, Result, Ok, Err}
+use Rattle.mk_base.specs.Verdicts.{passed}
 use Rattle.mk_plan.specs.declared.Plan.{Plan}
 use Rattle.mk_plan.specs.declared.Message.{Message}
 use Rattle.mk_plan.specs.Journals.{Arrival}
@@ -22,12 +23,6 @@ begun S ranks = record {
   asked = false;
   fault = None;
 }
-
--- what follows a state, and the fault where there is one
-abbrev pub passed : Result SetupState SetupFault → (SetupState → Result SetupState SetupFault)
-    → Result SetupState SetupFault
-passed (Ok U) next = next U
-passed (Err fault) next = Err fault
 
 -- the simulator that the next request goes to
 abbrev pub next_sim : SetupState → ℕ

@@ -4,10 +4,11 @@ use Rattle.std.specs.List.{enumerate_from}
 use Rattle.std.proofs.Math.Seq.{drop-cons}
 use Rattle.std.proofs.lemmas.List.{drop_all}
 use Rattle.mk_base.specs.declared.json.Json.{Json}
+use Rattle.mk_base.specs.Verdicts.{put_first, all_well}
 use Rattle.mk_plan.specs.declared.Plan.{Plan}
 use Rattle.mk_watch_read.specs.declared.fault.WatchFault.{WatchFault}
 use Rattle.mk_watch_read.specs.declared.watches.Watch.{Watch}
-use Rattle.mk_watch_read.specs.Watches.{put_first, all_well, watch_in, watches_in, IsFaultOf}
+use Rattle.mk_watch_read.specs.Watches.{watch_in, watches_in, IsFaultOf}
 
 -- the watches before those of the rest
 abbrev pub prepended : List Watch → Result (List Watch) WatchFault → Result (List Watch) WatchFault

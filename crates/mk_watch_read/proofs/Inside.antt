@@ -6,6 +6,7 @@ use Rattle.mk_base.specs.declared.json.Json.{Json}
 use Rattle.mk_base.specs.Lists.{same_text}
 use Rattle.mk_base.specs.Trees.{member}
 use Rattle.mk_base.proofs.Lists.{none_some, some_same}
+use Rattle.mk_base.specs.Verdicts.{after_found, put_first, all_well}
 use Rattle.mk_plan.specs.declared.Plan.{Plan}
 use Rattle.mk_plan.specs.Plans.{full_id}
 use Rattle.mk_plan.specs.Asks.{entity_of}
@@ -15,7 +16,7 @@ use Rattle.mk_scenario_keys.specs.Keys.{required, text, tables_within, first_unk
 use Rattle.mk_scenario_keys.specs.declared.fault.ScenarioFault.{ScenarioFault}
 use Rattle.mk_watch_read.specs.declared.fault.WatchFault.{WatchFault}
 use Rattle.mk_watch_read.specs.declared.watches.Watch.{Watch}
-use Rattle.mk_watch_read.specs.Watches.{AreInside, keyed, sought, known, put_first, all_well, watch_named, watch_at, watch_in, document_watches, watches_of, top_keys, watch_keys}
+use Rattle.mk_watch_read.specs.Watches.{AreInside, keyed, known, watch_named, watch_at, watch_in, document_watches, watches_of, top_keys, watch_keys}
 use Rattle.mk_watch_read.specs.Rules.{place_of}
 
 err_ok : {A : Type 0} (e : WatchFault) (x : A) → Err e ≡ Ok x → ⊥
@@ -33,7 +34,7 @@ after_known : {B : Type 0} (path : List ℕ → List ℕ) (o : Option (List ℕ)
 after_known path None r y h = h
 after_known path (Some key) r y h = absurd (err_ok _ y h)
 
-after_sought : {A B : Type 0} (e : WatchFault) (o : Option A) (next : A → Result B WatchFault) (y : B) → sought e o next ≡ Ok y → (x : A) × (o ≡ Some x) × (next x ≡ Ok y)
+after_sought : {A B : Type 0} (e : WatchFault) (o : Option A) (next : A → Result B WatchFault) (y : B) → after_found e o next ≡ Ok y → (x : A) × (o ≡ Some x) × (next x ≡ Ok y)
 after_sought e None next y h = absurd (err_ok e y h)
 after_sought e (Some x) next y h = (x, refl, h)
 

@@ -3,6 +3,7 @@ use Rattle.std.specs.Prelude.{◌≡◌, ◌⊎◌, ℕ, ◌<◌, All, List, [],
 use Rattle.std.specs.List.{enumerate_from}
 use Rattle.mk_base.specs.declared.json.Json.{Json}
 use Rattle.mk_base.specs.Trees.{member}
+use Rattle.mk_base.specs.Verdicts.{all_well, after_found}
 use Rattle.mk_plan.specs.declared.Plan.{Plan}
 use Rattle.mk_plan.specs.Asks.{entity_of}
 use Rattle.mk_scenario_toml.specs.Document.{toml_of}
@@ -42,12 +43,6 @@ abbrev pub keyed : {A B : Type 0} → Result A ScenarioFault → (A → Result B
 keyed (Ok x) next = next x
 keyed (Err fault) next = Err (of_key fault)
 
--- what follows where something was found, and the fault where nothing was
-abbrev pub sought : {A B : Type 0} → WatchFault → Option A → (A → Result B WatchFault)
-    → Result B WatchFault
-sought fault (Some x) next = next x
-sought fault None next = Err fault
-
 -- what follows where there is no unknown key, and the fault of the one that there is
 abbrev pub known : {B : Type 0} → (List ℕ → List ℕ) → Option (List ℕ) → Result B WatchFault
     → Result B WatchFault
@@ -69,8 +64,8 @@ keys_of tables.Watch = watch_keys
 abbrev pub watch_named : Plan → List (List ℕ) → List ℕ → List ℕ → List ℕ → List ℕ
     → Result Watch WatchFault
 watch_named P names path entity attr rule =
-    sought (NoRule (key_in path (codes "rule")) rule) (place_of rule names) (λ r.
-    sought (NoEntity (key_in path (codes "entity")) entity) (entity_of P entity) (λ e.
+    after_found (NoRule (key_in path (codes "rule")) rule) (place_of rule names) (λ r.
+    after_found (NoEntity (key_in path (codes "entity")) entity) (entity_of P entity) (λ e.
     Ok (record { entity = e; attr = attr; rule = r })))
 
 -- the watch of the table of this path: its keys are known, and all three stand there and are texts
@@ -81,17 +76,6 @@ watch_at P names path table =
     keyed (required (key_in path (codes "attr")) text (member (codes "attr") table)) (λ attr.
     keyed (required (key_in path (codes "rule")) text (member (codes "rule") table)) (λ rule.
     watch_named P names path entity attr rule))))
-
--- one watch before the others, unless there is a fault among these
-abbrev pub put_first : Watch → Result (List Watch) WatchFault → Result (List Watch) WatchFault
-put_first x (Ok xs) = Ok (x ∷ xs)
-put_first x (Err fault) = Err fault
-
--- the watches, or the first fault among them
-abbrev pub all_well : List (Result Watch WatchFault) → Result (List Watch) WatchFault
-all_well [] = Ok []
-all_well (Err fault ∷ more) = Err fault
-all_well (Ok x ∷ more) = put_first x (all_well more)
 
 -- the watch of the table at a place
 abbrev pub watch_in : Plan → List (List ℕ) → ℕ × Json → Result Watch WatchFault
@@ -110,7 +94,7 @@ document_watches P names document =
 
 -- the watches of a text: it is TOML, and the document passes its tests
 abbrev pub watches_of : Plan → List (List ℕ) → List ℕ → Result (List Watch) WatchFault
-watches_of P names bytes = sought NotToml (toml_of bytes) (document_watches P names)
+watches_of P names bytes = after_found NotToml (toml_of bytes) (document_watches P names)
 
 -- the numbers of the watches are those of entities and rules that there are
 abbrev pub AreInside : Plan → ℕ → List Watch → Type 0

@@ -3,7 +3,8 @@ use Rattle.std.specs.Prelude.{ℕ, List, [], codes, Result, Ok}
 use Rattle.mk_base.specs.declared.json.Json.{Json}
 use Rattle.mk_base.specs.declared.json.Json as tree
 use Rattle.mk_base.specs.Trees.{member}
-use Rattle.mk_scenario_keys.specs.Tests.{passed, key_in}
+use Rattle.mk_base.specs.Verdicts.{passed}
+use Rattle.mk_scenario_keys.specs.Tests.{key_in}
 use Rattle.mk_scenario_keys.specs.Keys.{optional, values}
 use Rattle.mk_scenario_keys.specs.declared.fault.ScenarioFault.{ScenarioFault}
 use Rattle.mk_scenario.specs.Blocks.{manner_said, pairs, via_of}

@@ -2,9 +2,9 @@ use Rattle.std.proofs.Common.{◌≡◌, ◌∙◌, ℕ, nat_le, ◌&&◌, List,
 use Rattle.std.proofs.lemmas.Result.{err_from_is_err_and}
 use Rattle.std.specs.Fmt.{decimal}
 use Rattle.mk_base.specs.declared.json.Json.{Json}
-use Rattle.mk_base.specs.Verdicts.{held}
+use Rattle.mk_base.specs.Verdicts.{held, passed}
 use Rattle.mk_scenario_keys.specs.Keys as keys
-use Rattle.mk_scenario_keys.specs.Tests.{IsFaultOf, each_at, item_in, passed}
+use Rattle.mk_scenario_keys.specs.Tests.{IsFaultOf, each_at, item_in}
 use Rattle.mk_scenario_keys.specs.declared.fault.ScenarioFault.{ScenarioFault}
 use Rattle.mk_scenario_keys.specs.declared.fault.ScenarioFault.TheVariants.{OutOfRange}
 use Rattle.mk_scenario_keys.proofs.values.tables_within.Goals as goal
