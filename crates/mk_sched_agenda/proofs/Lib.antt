@@ -1,3 +1,4 @@
+pub mod Counting
 pub mod Queued
 pub mod Tabled
 pub mod Tidying

@@ -1,5 +1,6 @@
 -- What proofs alone need.
 pub mod Begun
 pub mod Coming
+pub mod Counts
 pub mod Dues
 pub mod Outlets

@@ -65,7 +65,7 @@ impl Model for Agenda {
     } };
 
     ghost invariant = { λ a. IsSound a.limits a.outlets.items a.dues.queues.items
-        × IsTidy a.dues.queues.items a.dues.opened.items a.dues.bounds
+        × IsTidy a.dues.queues.items a.dues.opened a.dues.bounds
         × (length a.dues.lasts.items ≡ length a.dues.queues.items) };
 }
 

@@ -11,6 +11,7 @@ ghost use Rattle.mk_sched_agenda.specs.inner.Begun.{AreBegun, AreNone};
 
 use crate::dues::{Dues, add_own};
 use crate::limits::Limits;
+use crate::turns::OpenTurns;
 use mk_base::{Mem, SimKind, SimNo, Tier};
 use mk_nextstep::Queue;
 use mk_plan::{Plan, PlanSim};
@@ -24,12 +25,12 @@ pub fn first_dues(alloc: Global, plan: &Plan, limits: &Limits) -> Result<Dues, M
     ensures lasts { IfOk result (λ dues. AreNone (length plan.now.sims) dues.lasts.items) }
     ensures begun { IfOk result
         (λ dues. AreBegun plan.now
-        (length plan.now.sims) dues.queues.items dues.opened.items dues.bounds) }
+        (length plan.now.sims) dues.queues.items dues.opened dues.bounds) }
 {
     let mut dues = Dues {
         queues: Vec::new(alloc),
         lasts: Vec::new(alloc),
-        opened: Vec::new(alloc),
+        opened: OpenTurns::new(alloc),
         bounds: Bounds::new(alloc, plan)?,
     };
     for (number, sim) in plan.sims.as_slice().iter().enumerate() {
@@ -53,7 +54,7 @@ fn begin(
     ensures queues { OnOk result (dues.new.queues.items ≡ dues.old.queues.items
         ++ first_queue limits.now sim.now ∷ []) }
     ensures lasts { OnOk result (dues.new.lasts.items ≡ dues.old.lasts.items ++ None ∷ []) }
-    ensures opened { OnOk result (dues.new.opened.items ≡ dues.old.opened.items ++ false ∷ []) }
+    ensures opened { OnOk result (dues.new.opened ≡ dues.old.opened ++ false ∷ []) }
     ensures bounds { OnOk result (dues.new.bounds
         ≡ with_start dues.old.bounds number.0 (least (first_queue limits.now sim.now)) false) }
     ensures plan { (P : Plan) → AreOfPlan P dues.old.bounds → AreOfPlan P dues.new.bounds }
@@ -62,7 +63,7 @@ fn begin(
     let first = queue.least();
     dues.queues.push(queue)?;
     dues.lasts.push(None)?;
-    dues.opened.push(false)?;
+    dues.opened.push()?;
     dues.bounds.set_own(number, first, false);
     Ok(())
 }

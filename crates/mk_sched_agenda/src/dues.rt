@@ -11,6 +11,7 @@ ghost use Rattle.mk_sched_agenda.specs.Dues.{queue_in, last_in};
 ghost use Rattle.mk_sched_agenda.specs.inner.Dues.{IsTidy, is_open, with_own, with_next, with_start, is_first, with_trigger};
 
 use crate::limits::{Limits, is_inside};
+use crate::turns::OpenTurns;
 use mk_base::{Mem, SimNo, Tier};
 use mk_nextstep::Queue;
 use mk_tiers::{Bits, Bounds};
@@ -20,7 +21,7 @@ use mk_tiers::{Bits, Bounds};
 pub struct Dues {
     pub queues: Vec<Queue>,
     pub lasts: Vec<Option<Tier>>,
-    pub opened: Vec<bool>,
+    pub opened: OpenTurns,
     pub bounds: Bounds,
 }
 
@@ -47,17 +48,17 @@ impl Dues {
 
     // Whether some turn is open.
     pub fn is_any_open(&self) -> bool
-        ensures { result ≡ list_any (λ b. b) self.now.opened.items }
+        ensures { result ≡ list_any (λ b. b) self.now.opened }
     {
-        self.opened.iter().any(|opened| *opened)
+        self.opened.is_any_open()
     }
 
     // The simulator is asked for the first of its steps: its turn opens. Whoever may then step from another time on is noted.
     pub fn begin_turn(&mut self, sim: SimNo, noted: &mut Bits)
         requires sim { sim.0 < length self.old.queues.items }
         requires lasts { sim.0 < length self.old.lasts.items }
-        requires tidy { IsTidy self.old.queues.items self.old.opened.items self.old.bounds }
-        ensures tidy { IsTidy self.new.queues.items self.new.opened.items self.new.bounds }
+        requires tidy { IsTidy self.old.queues.items self.old.opened self.old.bounds }
+        ensures tidy { IsTidy self.new.queues.items self.new.opened self.new.bounds }
         ensures queues { self.new.queues.items
             ≡ slice_set self.old.queues.items sim.0 (later (queue_in self.old.queues.items sim.0)) }
         ensures lasts { self.new.lasts.items
@@ -69,7 +70,7 @@ impl Dues {
     {
         let at = self.queues[sim.0 as usize].take();
         self.lasts[sim.0 as usize] = at;
-        self.opened[sim.0 as usize] = true;
+        self.opened.open(sim.0 as usize);
         self.bounds.set_own_noting(sim, at, true, noted);
     }
 
@@ -82,11 +83,11 @@ impl Dues {
         noted: &mut Bits,
     ) -> Result<(), Mem>
         requires sim { sim.0 < length self.old.queues.items }
-        requires tidy { IsTidy self.old.queues.items self.old.opened.items self.old.bounds }
+        requires tidy { IsTidy self.old.queues.items self.old.opened self.old.bounds }
         requires until { limits.now.until ≤ℤ pos 1000000000 }
         requires loops { limits.now.loops ≤ 1000 }
         requires next { ForSome next (λ n. pos 0 ≤ℤ n) }
-        ensures tidy { IsTidy self.new.queues.items self.new.opened.items self.new.bounds }
+        ensures tidy { IsTidy self.new.queues.items self.new.opened self.new.bounds }
         ensures count { length self.new.queues.items ≡ length self.old.queues.items }
         ensures queues { OnOk result (self.new.queues.items
             ≡ slice_set self.old.queues.items sim.0
@@ -102,7 +103,7 @@ impl Dues {
         let queue = &mut self.queues[sim.0 as usize];
         add_next(queue, limits, next)?;
         let first = queue.least();
-        self.opened[sim.0 as usize] = false;
+        self.opened.close(sim.0 as usize);
         self.bounds.set_own_noting(sim, first, false, noted);
         Ok(())
     }
@@ -110,19 +111,19 @@ impl Dues {
     // A delivery triggers a step.
     pub fn trigger(&mut self, to: SimNo, at: Tier, noted: &mut Bits) -> Result<(), Mem>
         requires sim { to.0 < length self.old.queues.items }
-        requires tidy { IsTidy self.old.queues.items self.old.opened.items self.old.bounds }
+        requires tidy { IsTidy self.old.queues.items self.old.opened self.old.bounds }
         requires own { IsOwn (Some at) }
-        ensures tidy { IsTidy self.new.queues.items self.new.opened.items self.new.bounds }
+        ensures tidy { IsTidy self.new.queues.items self.new.opened self.new.bounds }
         ensures count { length self.new.queues.items ≡ length self.old.queues.items }
         ensures queues { OnOk result (self.new.queues.items
             ≡ slice_set self.old.queues.items to.0
             (added true at (queue_in self.old.queues.items to.0))) }
         ensures lasts { self.new.lasts.items ≡ self.old.lasts.items }
         ensures bounds { OnOk result (self.new.bounds
-            ≡ with_trigger self.old.bounds self.old.opened.items
+            ≡ with_trigger self.old.bounds self.old.opened
             (queue_in self.old.queues.items to.0) to.0 at) }
         ensures plan { (P : Plan) → AreOfPlan P self.old.bounds → AreOfPlan P self.new.bounds }
-        ensures opened { self.new.opened.items ≡ self.old.opened.items }
+        ensures opened { self.new.opened ≡ self.old.opened }
         ensures noted { OnOk result
             (HasNoted self.old.bounds self.new.bounds noted.old noted.new) }
     {
@@ -135,19 +136,19 @@ impl Dues {
 
     // A step that is the first one is the start, where no turn is open.
     fn start_at(&mut self, to: SimNo, at: Tier, is_first: bool, noted: &mut Bits)
-        requires opened { to.0 < length self.old.opened.items }
+        requires opened { to.0 < length self.old.opened }
         requires sim { to.0 < length self.old.bounds.owns }
         requires own { IsOwn (Some at) }
         ensures queues { self.new.queues.items ≡ self.old.queues.items }
-        ensures opened { self.new.opened.items ≡ self.old.opened.items }
+        ensures opened { self.new.opened ≡ self.old.opened }
         ensures lasts { self.new.lasts.items ≡ self.old.lasts.items }
         ensures bounds { self.new.bounds
-            ≡ (if is_first && not (is_open self.old.opened.items to.0)
+            ≡ (if is_first && not (is_open self.old.opened to.0)
             then with_start self.old.bounds to.0 (Some at) false else self.old.bounds) }
         ensures plan { (P : Plan) → AreOfPlan P self.old.bounds → AreOfPlan P self.new.bounds }
         ensures noted { HasNoted self.old.bounds self.new.bounds noted.old noted.new }
     {
-        if is_first && !self.opened[to.0 as usize] {
+        if is_first && !self.opened.is_open(to.0 as usize) {
             self.bounds.set_own_noting(to, Some(at), false, noted);
         }
     }

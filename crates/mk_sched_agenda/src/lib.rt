@@ -8,6 +8,7 @@ mod dues;
 mod limits;
 mod outlets;
 mod triggers;
+mod turns;
 
 pub use agenda::{Agenda, Ready};
 pub use outlets::{Beyond, Outlet};

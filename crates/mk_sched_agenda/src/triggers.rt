@@ -68,14 +68,14 @@ pub fn bring_all(
     made_at: Tier,
     noted: &mut Bits,
 ) -> Result<(), Mem>
-    requires tidy { IsTidy dues.old.queues.items dues.old.opened.items dues.old.bounds }
+    requires tidy { IsTidy dues.old.queues.items dues.old.opened dues.old.bounds }
     requires until { limits.now.until ≤ℤ pos 1000000000 }
     requires loops { limits.now.loops ≤ 1000 }
     requires count { length given.now ≡ length outlets.now }
     requires outlets { All (λ o. (o.to.0 < length dues.old.queues.items)
         × HasWidth o.via) outlets.now }
     requires made { CanBeMade made_at }
-    ensures tidy { IsTidy dues.new.queues.items dues.new.opened.items dues.new.bounds }
+    ensures tidy { IsTidy dues.new.queues.items dues.new.opened dues.new.bounds }
     ensures count { length dues.new.queues.items ≡ length dues.old.queues.items }
     ensures lasts { dues.new.lasts.items ≡ dues.old.lasts.items }
     ensures come { (P : Plan) → (V : View) → (s : ℕ) → (f : Act)
@@ -100,13 +100,13 @@ fn bring(
     made_at: Tier,
     noted: &mut Bits,
 ) -> Result<(), Mem>
-    requires tidy { IsTidy dues.old.queues.items dues.old.opened.items dues.old.bounds }
+    requires tidy { IsTidy dues.old.queues.items dues.old.opened dues.old.bounds }
     requires until { limits.now.until ≤ℤ pos 1000000000 }
     requires loops { limits.now.loops ≤ 1000 }
     requires to { outlet.now.to.0 < length dues.old.queues.items }
     requires width { HasWidth outlet.now.via }
     requires made { CanBeMade made_at }
-    ensures tidy { IsTidy dues.new.queues.items dues.new.opened.items dues.new.bounds }
+    ensures tidy { IsTidy dues.new.queues.items dues.new.opened dues.new.bounds }
     ensures count { length dues.new.queues.items ≡ length dues.old.queues.items }
     ensures lasts { dues.new.lasts.items ≡ dues.old.lasts.items }
     ensures come { (P : Plan) → (V : View) → (s : ℕ) → (f : Act) → (cs : List Conn) → (c : Conn)

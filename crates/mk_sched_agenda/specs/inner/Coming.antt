@@ -1,6 +1,6 @@
 -- For proofs alone. While a turn ends: what of its act has come about, and the search for a trigger
 -- beyond the loop limit.
-use Rattle.std.specs.Prelude.{◌≡◌, ℕ, ◌+◌, ◌<◌, Bool, true, false, not, ◌&&◌, List, [], ◌∷◌, length, Option, Some, None, is_some, int_lt, ◌==◌, if◌then◌else◌}
+use Rattle.std.specs.Prelude.{◌≡◌, ℕ, ◌+◌, ◌<◌, Bool, true, not, ◌&&◌, List, [], ◌∷◌, length, Option, Some, None, is_some, int_lt, ◌==◌, if◌then◌else◌}
 use Rattle.mk_base.specs.declared.tier.Tier.{Tier}
 use Rattle.mk_base.specs.Tiers.{delayed}
 use Rattle.mk_plan.specs.declared.Plan.{Plan}

@@ -18,8 +18,8 @@ loop-number-preserved c =
     let sim = c.sim-item.result in
     let E = c.in_ok-begin.ensures in (
       c.as_slice-sim-items.ensures,
-      begun_more P k sim (get_is P.sims k sim low (c.sim-item.is ∙ ap (λ (l : List PlanSim). get_or l k sim) c.as_slice-sim-items.ensures)) low D.queues.items D.opened.items D.bounds I.1
-          c.begin.new.dues.queues.items c.begin.new.dues.opened.items c.begin.new.dues.bounds (E.queues ∙ ap (λ (L : Limits). D.queues.items ++ first_queue L sim ∷ []) c.requires.limits) E.opened
+      begun_more P k sim (get_is P.sims k sim low (c.sim-item.is ∙ ap (λ (l : List PlanSim). get_or l k sim) c.as_slice-sim-items.ensures)) low D.queues.items D.opened D.bounds I.1
+          c.begin.new.dues.queues.items c.begin.new.dues.opened c.begin.new.dues.bounds (E.queues ∙ ap (λ (L : Limits). D.queues.items ++ first_queue L sim ∷ []) c.requires.limits) E.opened
           (E.bounds ∙ ap (λ (L : Limits). with_start D.bounds k (least (first_queue L sim)) false) c.requires.limits) (c.begin.ensures.plan P I.1.plan),
       lasts_more D.lasts.items c.begin.new.dues.lasts.items k E.lasts I.2,
     )
@@ -28,7 +28,7 @@ pub returns-clause-begun : goal.returns-clause-begun
 returns-clause-begun c =
     let count : length c.as_slice-sim-items.result.now ≡ length c.args.plan.now.sims = ap length c.as_slice-sim-items.ensures in
     let all : c.loop-number.number ≡ length c.args.plan.now.sims = omega arith in
-    subst (λ (k : ℕ). AreBegun c.args.plan.now k c.loop-number.dues.queues.items c.loop-number.dues.opened.items c.loop-number.dues.bounds) all c.loop-number.invariant.1
+    subst (λ (k : ℕ). AreBegun c.args.plan.now k c.loop-number.dues.queues.items c.loop-number.dues.opened c.loop-number.dues.bounds) all c.loop-number.invariant.1
 
 pub returns-clause-lasts : goal.returns-clause-lasts
 returns-clause-lasts c =

@@ -3,4 +3,4 @@ use Rattle.mk_sched_agenda.specs.inner.Begun.{AreBegun, AreNone}
 use Rattle.mk_sched_agenda.proofs.beginning.first_dues.Given as goal
 
 abbrev pub invariant-loop-number : goal.invariant-loop-number
-invariant-loop-number l = (l.sim-items ≡ l.plan.sims) × AreBegun l.plan l.number l.dues.queues.items l.dues.opened.items l.dues.bounds × AreNone l.number l.dues.lasts.items
+invariant-loop-number l = (l.sim-items ≡ l.plan.sims) × AreBegun l.plan l.number l.dues.queues.items l.dues.opened l.dues.bounds × AreNone l.number l.dues.lasts.items

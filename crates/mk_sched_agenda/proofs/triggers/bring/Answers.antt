@@ -13,7 +13,7 @@ returns-in_ok-trigger-clause-come c = λ P V s f cs e is m given at limits kept 
     let L = c.args.limits.now in
     let on : (c.args.given && is_inside L (delayed c.args.made_at c.args.outlet.now.via)) ≡ true = ap (λ (y : Tier). c.args.given && is_inside L y) (sym c.after-at.ensures) ∙ sym c.is_brought.ensures ∙ c.if-is_brought.true in
     let b : Brings P s f (owner P e.to) c.after-at.result e = subst (λ (y : Tier). Brings P s f (owner P e.to) y e) (sym c.after-at.ensures) (brought_by P s f L c.args.outlet.now e c.args.made_at c.args.given is m given at limits on) in
-    come_more P V s f false cs e c.after-at.result c.args.outlet.now.to.0 is.to b c.args.dues.now.queues.items c.trigger.new.self.queues.items c.args.dues.now.opened.items c.args.dues.now.bounds c.trigger.new.self.bounds c.requires.tidy c.requires.to h
+    come_more P V s f false cs e c.after-at.result c.args.outlet.now.to.0 is.to b c.args.dues.now.queues.items c.trigger.new.self.queues.items c.args.dues.now.opened c.args.dues.now.bounds c.trigger.new.self.bounds c.requires.tidy c.requires.to h
     c.in_ok-trigger.ensures.queues c.in_ok-trigger.ensures.bounds (c.trigger.ensures.plan P h.plan)
 
 pub returns-else-is_brought-clause-come : goal.returns-else-is_brought-clause-come

@@ -9,7 +9,7 @@ use Rattle.mk_sched_agenda.specs.inner.Coming.{HasCome, IsEnding}
 use Rattle.mk_sched_agenda.proofs.triggers.bring_all.Given as goal
 
 abbrev pub invariant-loop-place : goal.invariant-loop-place
-invariant-loop-place l = IsTidy l.dues.queues.items l.dues.opened.items l.dues.bounds
+invariant-loop-place l = IsTidy l.dues.queues.items l.dues.opened l.dues.bounds
     × (length l.dues.queues.items ≡ length l.fn.dues.queues.items)
     × (l.dues.lasts.items ≡ l.fn.dues.lasts.items)
     × ((P : Plan) → (V : View) → (s : ℕ) → (f : Act) → IsEnding P s f l.limits l.outlets l.given l.fn.made_at → HasCome P V s f false [] l.fn.dues.queues.items l.fn.dues.bounds

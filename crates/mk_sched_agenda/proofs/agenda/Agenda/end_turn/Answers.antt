@@ -1,4 +1,4 @@
-use Rattle.std.proofs.Common.{◌≡◌, ◌<◌, ◌∙◌, List, [], None, false, length, refl, sym, ap, subst, arith}
+use Rattle.std.proofs.Common.{◌≡◌, ◌<◌, ◌∙◌, List, None, false, length, refl, sym, ap, subst, arith}
 use Rattle.mk_nextstep.specs.Queues.{least}
 use Rattle.mk_sched_agenda.specs.declared.outlets.Outlet.{Outlet}
 use Rattle.mk_sched_agenda.specs.Mirrors.{AgendaState}
@@ -64,8 +64,8 @@ returns-clause-ends c = rw (← c.self.view_is) (λ P J T m h mirrors.
     let ending : IsEnding P s (ended_turn T m) L c.as_slice-outlets.result.now c.args.given.now c.args.made = subst (λ (l : List Outlet). IsEnding P s (ended_turn T m) L l c.args.given.now c.args.made) (sym os) (is_ending P J c.args.sim T m c.args.made c.args.next c.args.given.now h _ mirrors queued fine) in
     let brought : HasCome P (view P J) s (ended_turn T m) false (triggering_from P s) c.bring_all.new.dues.queues.items c.bring_all.new.dues.bounds = c.in_ok-bring_all.ensures.come P (view P J) s (ended_turn T m) ending (come_begun P J c.args.sim T m c.args.made c.args.next c.args.given.now h _ mirrors queued fine) in (
       no_fault P J c.args.sim T m c.args.made c.args.next c.args.given.now h _ mirrors queued fine,
-      come_ended P J c.args.sim T m c.args.made c.args.next c.args.given.now h _ mirrors queued fine c.close_turn.new.self.opened.items c.close_turn.new.self.queues.items c.close_turn.new.self.bounds c.close_turn.new.self.lasts.items (c.close_turn.ensures.lasts ∙ c.bring_all.ensures.lasts) c.close_turn.ensures.tidy
-          (come_closed P J c.args.sim T m c.args.made c.args.next c.args.given.now h _ mirrors queued fine (triggering_from P s) c.bring_all.new.dues.queues.items c.bring_all.new.dues.opened.items c.bring_all.new.dues.bounds c.bring_all.ensures.tidy (omega (arith, queued, c.bring_all.ensures.count)) brought
+      come_ended P J c.args.sim T m c.args.made c.args.next c.args.given.now h _ mirrors queued fine c.close_turn.new.self.opened c.close_turn.new.self.queues.items c.close_turn.new.self.bounds c.close_turn.new.self.lasts.items (c.close_turn.ensures.lasts ∙ c.bring_all.ensures.lasts) c.close_turn.ensures.tidy
+          (come_closed P J c.args.sim T m c.args.made c.args.next c.args.given.now h _ mirrors queued fine (triggering_from P s) c.bring_all.new.dues.queues.items c.bring_all.new.dues.opened c.bring_all.new.dues.bounds c.bring_all.ensures.tidy (omega (arith, queued, c.bring_all.ensures.count)) brought
           c.close_turn.new.self.queues.items c.close_turn.new.self.bounds close.queues (least (queue_in c.close_turn.new.self.queues.items s)) close.bounds (c.close_turn.ensures.plan P brought.plan)),
     ))
 

@@ -19,4 +19,4 @@ returns-clause-advance c = rw (← c.self.view_is) (λ P J valid orderly fine re
     let is : to_z w64 (of_z w64 c.advance_by.result) ≡ advance_by c.self.inside.limits.until c.args.at.time (sooner (least_trigger_after c.args.at (queue_in D.queues.items c.args.sim.0)) c.outer-outer.result) =
     omega (arith, ints) ∙ c.advance_by.ensures ∙ ap (advance_by c.self.inside.limits.until c.args.at.time) (c.sooner.ensures ∙ ap (λ (o : Option Tier). sooner o c.outer-outer.result) trigger) in
     subst (IsAdvance P (view P J) c.args.sim.0 c.args.at) (sym is)
-    (advance_of P J _ D.opened.items valid orderly fine c.args.sim.0 c.args.at ready mirrors c.self.invariant.1 low c.outer-outer.result (c.outer-outer.ensures.end P valid mirrors.plan.bounds)))
+    (advance_of P J _ D.opened valid orderly fine c.args.sim.0 c.args.at ready mirrors c.self.invariant.1 low c.outer-outer.result (c.outer-outer.ensures.end P valid mirrors.plan.bounds)))

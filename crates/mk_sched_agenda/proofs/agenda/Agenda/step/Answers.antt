@@ -16,7 +16,7 @@ pub returns-clause-mirrors : goal.returns-clause-mirrors
 returns-clause-mirrors c = rw (← c.self.view_is) (λ P V x ins advance ready mirrors.
     let D = c.self.inside.dues in
     let low : c.args.sim.0 < length D.queues.items = omega (arith, c.requires, ap (λ (A : AgendaState). length A.queues) c.self.view_is) in
-    step_mirrors P V _ D.opened.items mirrors c.self.invariant.1 c.args.sim.0 low x ready ins advance c.begin_turn.new.self.queues.items c.begin_turn.new.self.bounds c.begin_turn.new.self.lasts.items (omega (arith, low, c.self.invariant.2)) c.begin_turn.ensures.lasts c.begin_turn.ensures.queues c.begin_turn.ensures.bounds (c.begin_turn.ensures.plan P mirrors.plan.bounds))
+    step_mirrors P V _ D.opened mirrors c.self.invariant.1 c.args.sim.0 low x ready ins advance c.begin_turn.new.self.queues.items c.begin_turn.new.self.bounds c.begin_turn.new.self.lasts.items (omega (arith, low, c.self.invariant.2)) c.begin_turn.ensures.lasts c.begin_turn.ensures.queues c.begin_turn.ensures.bounds (c.begin_turn.ensures.plan P mirrors.plan.bounds))
 
 pub returns-clause-noted : goal.returns-clause-noted
 returns-clause-noted c = rw (← c.self.view_is) c.begin_turn.ensures.noted

@@ -1,4 +1,4 @@
-use Rattle.std.proofs.Common.{ap, sym, ◌∙◌, List, Option, slice_set, subst, true}
+use Rattle.std.proofs.Common.{ap, sym, ◌∙◌, Bool, List, Option, slice_set, subst, true}
 use Rattle.mk_base.specs.declared.tier.Tier.{Tier}
 use Rattle.mk_nextstep.specs.declared.queue.Due.{Due}
 use Rattle.mk_nextstep.specs.Queues.{later, least}
@@ -21,7 +21,8 @@ returns-clause-bounds c =
 pub returns-clause-tidy : goal.returns-clause-tidy
 returns-clause-tidy c =
     let Q = c.args.self.now.queues.items in
-    let O = c.args.self.now.opened.items in
+    let O = c.args.self.now.opened in
+    subst (λ (U : List Bool). IsTidy (slice_set Q c.args.sim.0 c.take-at.new.self) U c.set_own_noting.new.self) (sym c.open.ensures) (
     subst (λ (R : List (List Due)). IsTidy R (slice_set O c.args.sim.0 true) c.set_own_noting.new.self) (sym (returns-clause-queues c))
     (subst (λ (B : Seen). IsTidy (slice_set Q c.args.sim.0 (later (queue_in Q c.args.sim.0))) (slice_set O c.args.sim.0 true) B) (sym (returns-clause-bounds c))
-    (begun_tidy Q O c.args.self.now.bounds c.requires.tidy c.args.sim.0 c.requires.sim))
+    (begun_tidy Q O c.args.self.now.bounds c.requires.tidy c.args.sim.0 c.requires.sim)))
