@@ -1,5 +1,5 @@
 -- Outputs that ascend by the times of their making ascend by each delay.
-use Rattle.std.proofs.Common.{◌≡◌, inl, inr, ℕ, zero, suc, ◌+◌, ◌-◌, ◌<◌, ◌≤◌, ℤ, ◌<ℤ◌, ◌≤ℤ◌, Bool, true, false, not, ◌&&◌, ◌||◌, cond, List, [], ◌∷◌, ◌++◌, length, map, filter, fold, get_or, take, Option, Some, None, option_map, refl, sym, ap, subst, ◌∙◌, arith, true≢false, int_lt, int_le}
+use Rattle.std.proofs.Common.{◌≡◌, inl, inr, ℕ, zero, suc, ◌+◌, ◌-◌, ◌<◌, ◌≤◌, ℤ, ◌<ℤ◌, ◌≤ℤ◌, Bool, true, false, not, ◌&&◌, ◌||◌, cond, List, [], ◌∷◌, ◌++◌, length, map, filter, fold, get_or, take, pos, Option, Some, None, option_map, refl, sym, ap, subst, ◌∙◌, arith, true≢false, int_lt, int_le}
 use Rattle.std.proofs.lemmas.List.{take_all, take_more}
 use Rattle.std.proofs.lemmas.List.Sums.{fold-append}
 use Rattle.std.specs.List.{list_all, remove, insert}
@@ -15,7 +15,7 @@ use Rattle.mk_base.proofs.Lists.{filter_append, map_append, in_map}
 use Rattle.mk_plan.specs.Deliveries.{Timed}
 use Rattle.mk_plan.specs.Inputs.{later, latest, is_since}
 use Rattle.mk_buffers.specs.Logs.{arrival, arrivals, by, is_in_time, within, AnswersFrom}
-use Rattle.mk_buffers.specs.inner.Logs.{does_come, weighed, AllFrom, IsAscending, is_overtaken, SameAnswers, PlacedFor}
+use Rattle.mk_buffers.specs.inner.Logs.{does_come, weighed, AllFrom, IsAscending, is_overtaken, SameAnswers, PlacedFor, IsEarlierAt}
 use Rattle.mk_buffers.proofs.Latest.{without, moved, latest_last}
 
 -- two tests one after the other
@@ -149,6 +149,10 @@ found_last v until x ts p e up le some is parts = sym (ap latest (come v until x
     one_more : (p : ℕ) → 0 < p → p ≡ suc (p - 1)
     one_more p h = omega arith
 
+-- some output
+abbrev pub anything : Timed
+anything = record { at = record { time = pos 0; tier = 0 }; value = [] }
+
 pub get_or_any : (xs : List Timed) (i : ℕ) (c d : Timed) → i < length xs → get_or xs i c ≡ get_or xs i d
 get_or_any [] i c d there = absurd (omega arith)
 get_or_any (x ∷ xs) zero c d there = refl
@@ -232,6 +236,18 @@ ascending_back ts new t rising p n placed all le up is on = subst IsAscending (s
 pub ascending_inside : (ts new : List Timed) (t : Timed) (rising : Bool) (p : ℕ) → PlacedFor t.at rising ts p → (rising ≡ true → IsAscending ts) → new ≡ insert ts p t → rising ≡ true → IsAscending new
 ascending_inside ts new t rising p placed up is on = subst IsAscending (sym is) (ascending_insert ts p t placed.within (up on) (placed.parts on))
 
+-- one more output behind all others
+pub takes_back : (ts now new : List Timed) (t : Timed) → ts ≡ now → new ≡ ts ++ t ∷ [] → SameAnswers new (now ++ t ∷ [])
+takes_back ts now new t same is =
+    let whole : new ≡ now ++ t ∷ [] = is ∙ ap (λ (l : List Timed). l ++ t ∷ []) same in
+    record {
+      made = λ test. ap (λ (l : List Timed). latest (filter test l)) whole;
+      arrived = λ v until test. ap (λ (l : List Timed). latest (filter test (arrivals v until l))) whole;
+    }
+
+pub ascending_earlier : (ts new : List Timed) (t : Timed) (x : Tier) (rising : Bool) (p : ℕ) → x ≡ t.at → PlacedFor x rising ts p → (rising ≡ true → IsAscending ts) → new ≡ insert ts p t → rising ≡ true → IsAscending new
+ascending_earlier ts new t x rising p same placed up is on = ascending_inside ts new t rising p (subst (λ (y : Tier). PlacedFor y rising ts p) same placed) up is on
+
 split_at : (ts : List Timed) (p : ℕ) (n : Timed) → p < length ts → n ≡ get_or ts p n → IsAscending ts
     → (front : List Timed) × (back : List Timed) × (ts ≡ front ++ back) × ((t : Timed) → insert ts p t ≡ front ++ t ∷ back) × ((f : Timed) → IsIn f back → IsUpTo n.at f.at)
 split_at [] p n there is up = absurd (omega arith)
@@ -272,6 +288,12 @@ takes_inside ts now new t n rising p same placed there up is h made = by rising 
               ∙ sym (ap latest (filter_both test (λ y. is_in_time until y.at) (map (arrival v) ((front ++ back) ++ t ∷ []))))
               ∙ ap (λ (l : List Timed). latest (filter test (arrivals v until (l ++ t ∷ [])))) (sym whole);
         }
+
+pub takes_earlier : (ts now new : List Timed) (t : Timed) (x : Tier) (rising : Bool) (p : ℕ) → ts ≡ now → x ≡ t.at → PlacedFor x rising ts p → IsEarlierAt x ts p → (rising ≡ true → IsAscending ts) → new ≡ insert ts p t → SameAnswers new (now ++ t ∷ [])
+takes_earlier ts now new t x rising p same is placed earlier up made =
+    let n : Timed = get_or ts p t in
+    takes_inside ts now new t n rising p same (subst (λ (y : Tier). PlacedFor y rising ts p) is placed) earlier.there up (get_or_any ts p t n earlier.there)
+    (subst (λ (y : Tier). y.time <ℤ n.at.time) is (earlier.less t)) made
 
 -- one that its next overtakes may go
 all_from_remove : (x : Tier) (ts : List Timed) (p : ℕ) → AllFrom x ts → AllFrom x (remove ts p)

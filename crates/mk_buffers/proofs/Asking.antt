@@ -106,3 +106,7 @@ second_there P refs pairs n p is low at = (all_at (λ (p : AsyncPair). (p.from.0
 
 pub at_place : {X : Type 0} (xs : List X) (n : ℕ) (x : X) → slice_get xs n ≡ Some x → (n < length xs) × (x ≡ get_or xs n x)
 at_place xs n x at = ((get_is xs n x at).0, sym (get_any xs n x x at))
+
+-- the ends of a connection are entities of the plan
+pub ends_there : (P : Plan) → RefersInside P → (n : ℕ) (c : Conn) → slice_get P.conns n ≡ Some c → (c.from < length P.entities) × (c.to < length P.entities)
+ends_there P refs n c at = all_at (λ (c : Conn). (c.from < length P.entities) × (c.to < length P.entities)) P.conns n c refs.conns at

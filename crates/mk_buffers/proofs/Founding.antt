@@ -1,5 +1,6 @@
 -- The tables of new buffers are those of the plan.
-use Rattle.std.proofs.Common.{◌≡◌, ◌⊎◌, inl, inr, ℕ, ℤ, zero, suc, ◌<◌, ◌≤◌, nat_lt, nat_le, get_or, true, false, ◌&&◌, List, [], ◌∷◌, length, Option, Some, None, pos, unwrap_or, option_map, slice_get, refl, sym, ap, subst, ◌∙◌, arith, ◌==◌, ◌++◌}
+use Rattle.std.proofs.Common.{◌≡◌, ◌⊎◌, inl, inr, ℕ, ℤ, zero, suc, ◌<◌, ◌≤◌, nat_lt, nat_le, get_or, true, false, ◌&&◌, List, [], ◌∷◌, length, Option, Some, None, pos, unwrap_or, option_map, slice_get, refl, sym, ap, subst, ◌∙◌, ◌+◌, arith, ◌==◌, ◌++◌}
+use Rattle.std.proofs.lemmas.List.{length-append}
 use Rattle.std.specs.Cmp.{IsTotalOrder}
 use Rattle.std.specs.List.Sorted.{IsStrictlySortedBy}
 use Rattle.std.specs.Ordering.{ordering_then, ordering_reverse, nat_cmp}
@@ -28,7 +29,7 @@ use Rattle.mk_buffers.specs.Marking.{AreAsking, IsLeastMark}
 use Rattle.mk_buffers.specs.inner.Marking.{AreStarts}
 use Rattle.mk_base.specs.declared.tier.Tier.{Tier}
 use Rattle.mk_base.specs.Tiers.{moment}
-use Rattle.mk_plan.specs.Plans.{IsValidPlan}
+use Rattle.mk_plan.specs.Plans.{full_id, IsValidPlan}
 use Rattle.mk_buffers.specs.Held.{is_key, has_key}
 use Rattle.mk_buffers.specs.inner.Building.{outlet_order, IsSource, HasSources, AreOutlets, AreParts, IsPartOf}
 use Rattle.mk_buffers.specs.inner.Listing.{IsTargetAt, AreTargets, IsInletOf, AreListed}
@@ -72,6 +73,42 @@ not_less : {X : Type 0} (order : X → X → Ordering) → IsTotalOrder order �
 not_less order total x less = let wrong : Less ≡ Greater = sym less ∙ total.antisymm x x ∙ ap ordering_reverse less in cc
 
 -- no set values yet
+pub parts_none : (all : List Outlet) (xs : List Part) → xs ≡ [] → AreParts 0 all xs
+parts_none all xs none = record { count = ap length none; each = λ s part at. absurd (no_more s part (sym (ap (λ (l : List Part). slice_get l s) none) ∙ at)) }
+  where
+    no_more : (s : ℕ) (part : Part) → slice_get (let l : List Part = [] in l) s ≡ Some part → ⊥
+    no_more s part e = cc
+
+pub parts_more : (all : List Outlet) (n : ℕ) (xs new : List Part) (part : Part) → AreParts n all xs → IsPartOf all n part → new ≡ xs ++ part ∷ [] → AreParts (n + 1) all new
+parts_more all n xs new part are is whole = record {
+  count = omega (arith, ap length whole, length-append xs (part ∷ []), are.count);
+  each = λ s p at. elim (get_more xs part p s (sym (ap (λ (l : List Part). slice_get l s) whole) ∙ at)) [
+    | inl h ↦ are.each s p h
+    | inr h ↦ subst (λ k. IsPartOf all k p) (sym (h.0 ∙ are.count)) (subst (λ q. IsPartOf all n q) (sym h.1) is)
+  ];
+}
+
+pub names_more : (P : Plan) (n : ℕ) (xs new : List (List ℕ)) (x : List ℕ) → (length xs ≡ n) × ((e : ℕ) (y : List ℕ) → slice_get xs e ≡ Some y → y ≡ full_id P e) → x ≡ full_id P n → new ≡ xs ++ x ∷ [] → (length new ≡ n + 1) × ((e : ℕ) (y : List ℕ) → slice_get new e ≡ Some y → y ≡ full_id P e)
+names_more P n xs new x are is whole = (
+  omega (arith, ap length whole, length-append xs (x ∷ []), are.0),
+  λ e y at. elim (get_more xs x y e (sym (ap (λ (l : List (List ℕ)). slice_get l e) whole) ∙ at)) [
+    | inl h ↦ are.1 e y h
+    | inr h ↦ h.1 ∙ is ∙ ap (full_id P) (sym (h.0 ∙ are.0))
+  ],
+)
+
+pub homes_more : (P : Plan) (parts : List Part) (n : ℕ) (xs new : List Home) (h : Home)
+    → (length xs ≡ n) × ((e : ℕ) (g : Home) → slice_get xs e ≡ Some g → (slice_get parts e ≡ Some g.outlets) × (g.sim ≡ owner P e) × (g.eid ≡ eid_of P e)) → (slice_get parts n ≡ Some h.outlets) × (h.sim ≡ owner P n) × (h.eid ≡ eid_of P n) → new ≡ xs ++ h ∷ []
+    → (length new ≡ n + 1) × ((e : ℕ) (g : Home) → slice_get new e ≡ Some g → (slice_get parts e ≡ Some g.outlets) × (g.sim ≡ owner P e) × (g.eid ≡ eid_of P e))
+homes_more P parts n xs new h are is whole = (
+  omega (arith, ap length whole, length-append xs (h ∷ []), are.0),
+  λ e g at. elim (get_more xs h g e (sym (ap (λ (l : List Home). slice_get l e) whole) ∙ at)) [
+    | inl k ↦ are.1 e g k
+    | inr k ↦ subst (λ m. (slice_get parts m ≡ Some g.outlets) × (g.sim ≡ owner P m) × (g.eid ≡ eid_of P m)) (sym (k.0 ∙ are.0))
+        (subst (λ (x : Home). (slice_get parts n ≡ Some x.outlets) × (x.sim ≡ owner P n) × (x.eid ≡ eid_of P n)) (sym k.1) is)
+  ],
+)
+
 pub unset_more : (v w : List (List Slot)) (l : List Slot) → AreUnset (length v) v → l ≡ [] → w ≡ v ++ l ∷ [] → AreUnset (length w) w
 unset_more v w l unset none whole = record {
   all = refl;

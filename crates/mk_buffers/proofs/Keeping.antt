@@ -33,6 +33,9 @@ more test ts t = ap length (filter_append test ts (t ∷ [])) ∙ length-append 
 pub among_more : (ts : List Timed) (t : Timed) → IsAmong ts (ts ++ t ∷ [])
 among_more ts t test = omega (arith, more test ts t)
 
+pub among_back : (ts now new : List Timed) (t : Timed) → ts ≡ now → new ≡ ts ++ t ∷ [] → IsAmong new (now ++ t ∷ [])
+among_back ts now new t same is = subst (λ (l : List Timed). IsAmong l (now ++ t ∷ [])) (sym (is ∙ ap (λ (l : List Timed). l ++ t ∷ []) same)) (among_self (now ++ t ∷ []))
+
 pub among_push : (ks hs : List Timed) (t : Timed) → IsAmong ks hs → IsAmong (ks ++ t ∷ []) (hs ++ t ∷ [])
 among_push ks hs t f test = rw (more test ks t, more test hs t) (omega (arith, f test))
 

@@ -25,3 +25,4 @@ pub mod Picking
 pub mod Gathering
 pub mod Aligning
 pub mod Founding
+pub mod Walking

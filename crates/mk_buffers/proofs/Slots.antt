@@ -24,7 +24,7 @@ use Rattle.mk_order.proofs.GivenValues.{is_for}
 use Rattle.mk_buffers.specs.declared.sets.Slot.{Slot}
 use Rattle.mk_buffers.specs.Logs.{within}
 use Rattle.mk_buffers.specs.Slots.{input_in, same_key, or_before, last_of, last_within, held_for, given_for, SameLast, AnswerGifts}
-use Rattle.mk_buffers.specs.inner.Slots.{slot_order, set_inputs, TakesLast, HaveTaken}
+use Rattle.mk_buffers.specs.inner.Slots.{slot_order, set_inputs, TakesLast, HaveTaken, HasTakenAt, HasInserted}
 use Rattle.mk_buffers.proofs.Lasts.{or_last, last_filtered}
 use Rattle.mk_plan_judge.proofs.Putting.{put_found, put_unfound}
 use Rattle.mk_buffers.proofs.Marking.{get_some}
@@ -325,6 +325,17 @@ slot_inserted m t fresh vs xs now items new i same sorted is low found set none 
       subst (λ (l : List Slot). HaveTaken m (input_in fresh []) t l new) same (have_taken m t y (input_in fresh []) xs new refl refl refl sorted made.0
           (λ k h. subst (λ (l : List Timed). TakesLast m t l vs) (none ∙ sym (held_none k fresh xs h (apart_all fresh xs i parts))) takes)),
     )
+
+pub taken_at : (m : Tier) (t : Timed) (fresh : Slot) (xs now items new : List Slot) (i : ℕ) → xs ≡ now → IsStrictlySortedBy slot_order xs → items ≡ xs → i < length items → HoldsAt (λ y. slot_order y fresh ≡ Equal) items i → HasTakenAt m t i xs new
+    → IsStrictlySortedBy slot_order new × HaveTaken m (input_in fresh []) t now new
+taken_at m t fresh xs now items new i same sorted is low found d =
+    subst (λ (l : List Slot). IsStrictlySortedBy slot_order l × HaveTaken m (input_in fresh []) t now l) (sym d.items)
+    (slot_set m t fresh d.before (record { eid = d.before.eid; attr = d.before.attr; source = d.before.source; values = d.values }) xs now items i same sorted is low found d.at_place refl refl refl d.taken)
+
+pub inserted_at : (m : Tier) (t : Timed) (fresh : Slot) (xs now items new : List Slot) (i : ℕ) → xs ≡ now → IsStrictlySortedBy slot_order xs → items ≡ xs → i ≤ length items
+    → (IsNonDecreasingBy (λ y. ordering_index (slot_order y fresh)) items → IsPartitionPoint (λ y. slot_order y fresh ≡ Less) (λ y. slot_order y fresh ≡ Greater) items i)
+    → HasInserted m t i fresh xs new → fresh.values ≡ [] → IsStrictlySortedBy slot_order new × HaveTaken m (input_in fresh []) t now new
+inserted_at m t fresh xs now items new i same sorted is low found d none = slot_inserted m t fresh d.values xs now items new i same sorted is low found d.items none d.taken
 
 pub none_sorted : (xs : List Slot) → xs ≡ [] → IsStrictlySortedBy slot_order xs
 unfolding IsStrictlySortedBy

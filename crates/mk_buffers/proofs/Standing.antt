@@ -14,18 +14,19 @@ use Rattle.std.proofs.lemmas.Bool.Decides.{nat_tests}
 use Rattle.std.proofs.lemmas.Slice.Eq.{bytes_eq-Decides}
 use Rattle.mk_buffers.specs.declared.outlets.Outlet.{Outlet}
 use Rattle.mk_buffers.specs.declared.buffers.Buffers.{Buffers}
+use Rattle.mk_buffers.specs.declared.buffers.Home.{Home}
 use Rattle.std.specs.List.{sum_by}
 use Rattle.std.proofs.lemmas.List.Sums.{sum_by-cons}
 use Rattle.mk_buffers.specs.Bounds.{HasShape}
 use Rattle.mk_buffers.specs.Logs.{AnswersFrom, IsAmong, IsFew, StaysFew, by}
-use Rattle.std.specs.Prelude.{IfSome}
+use Rattle.std.specs.Prelude.{IfNone, IfSome, ◌≤◌}
 use Rattle.mk_base.specs.Tiers.{moment}
 use Rattle.mk_base.specs.Data.{IsValueText}
 use Rattle.mk_plan.specs.declared.Want.{Want}
 use Rattle.mk_buffers.specs.declared.sets.Slot.{Slot}
 use Rattle.mk_buffers.specs.Slots.{AnswerGifts, SameLast, held_for, given_for}
 use Rattle.mk_buffers.specs.Held.{with_output, is_key, has_key}
-use Rattle.mk_buffers.specs.inner.Held.{IsThinned, AreThinned}
+use Rattle.mk_buffers.specs.inner.Held.{IsThinned, AreThinned, IsKeyless}
 use Rattle.mk_plan.specs.declared.Conn.{Conn}
 use Rattle.mk_buffers.specs.declared.inlets.Inlet.{Inlet}
 use Rattle.mk_buffers.specs.Standing.{IsInlet, IsOfPlan, IsNew, StandFor, HasKey, LacksKey, HasValueTexts, IsOutletFor, IsUnchanged, HasRaised, IsTight, next_of, mark_of}
@@ -211,6 +212,13 @@ pub key_below : (os : List Outlet) (e : ℕ) (attr : List ℕ) (i : ℕ) → has
 key_below [] e attr i h = absurd (true≢false (sym h))
 key_below (o ∷ os) e attr zero h = omega arith
 key_below (o ∷ os) e attr (suc i) h = omega (arith, key_below os e attr i h)
+
+-- none of the places of an entity's outlets has the one of this attribute
+pub keyless : (b : Buffers) (e : ℕ) (attr : List ℕ) (home : Home) (outlets : List Outlet) (r : Option ℕ) → slice_get b.homes.items e ≡ Some home → outlets ≡ b.outlets.items → IfNone r (IsKeyless outlets e attr home.outlets.first home.outlets.end) → IfNone r (LacksKey b e attr)
+keyless b e attr home outlets (Some i) at is none = tt
+keyless b e attr home outlets None at is none = λ h there i low high.
+    let same : h ≡ home = some_same (sym there ∙ at) in
+    subst (λ (os : List Outlet). has_key os e attr i ≡ false) is (none i (subst (λ (x : Home). x.outlets.first ≤ i) same low) (subst (λ (x : Home). i < x.outlets.end) same high))
 
 pub eq_from : (m n : ℕ) → (m == n) ≡ true → m ≡ n
 eq_from m n h = grind (arith, nat_tests)
@@ -416,6 +424,12 @@ marks_raised b n s x rose low r =
       here = ap (λ (o : Option Tier). unwrap_or o (moment (pos 0))) (r.here m.0 m.1) ∙ ap (λ (t : Tier). greater t x) (sym old);
       others = λ q apart. ap (λ (o : Option Tier). unwrap_or o (moment (pos 0))) (r.others q apart);
     }
+
+pub has_raised : (b n : Buffers) (s : ℕ) (x : Tier) (rose : Bool) → s < length b.marks.marks → Raised s x rose b.marks n.marks → HasRaised s x b n
+has_raised b n s x rose low r = let m = below_get b.marks.marks s low in record {
+  here = ap (λ (o : Option Tier). unwrap_or o (moment (pos 0))) (r.here m.0 m.1) ∙ ap (λ (y : Tier). greater y x) (sym (ap (λ (o : Option Tier). unwrap_or o (moment (pos 0))) m.1));
+  others = λ q apart. ap (λ (o : Option Tier). unwrap_or o (moment (pos 0))) (r.others q apart);
+}
 
 pub marks_rise : (b n : Marked) (s : ℕ) (x : Tier) (rose : Bool) → s < length b.marks → Raised s x rose b n → (q : ℕ) → IsUpTo (unwrap_or (slice_get b.marks q) (moment (pos 0))) (unwrap_or (slice_get n.marks q) (moment (pos 0)))
 marks_rise b n s x rose low r q = elim (apart_or_same q s) [

@@ -1,5 +1,5 @@
 //! The delays of connections: when what is made at a time comes, and which questions it can answer.
-ghost use Rattle.std.specs.Prelude.{◌≡◌, ◌≤◌, ◌||◌, true, pos, Some, int_le, int_lt, ◌≤ℤ◌};
+ghost use Rattle.std.specs.Prelude.{◌≡◌, ◌≤◌, ◌&&◌, ◌||◌, not, true, pos, Some, int_le, int_lt, ◌≤ℤ◌};
 ghost use Rattle.std.specs.List.{list_all};
 ghost use Rattle.mk_base.specs.declared.tier.Tier.{Tier};
 ghost use Rattle.mk_base.specs.Tiers.{delayed, up_to, HasWidth, IsUpTo};
@@ -97,7 +97,22 @@ fn has_come(made: Tier, vias: &[Delay], mark: Tier) -> bool
     requires low { made.tier ≤ 1000000 }
     ensures { result ≡ list_all (λ v. up_to (delayed made v) mark) vias.now }
 {
-    vias.iter().all(|via| made.after(via.via()).is_up_to(mark))
+    for via in vias {
+        if !comes_by(made, *via, mark) {
+            return false;
+        }
+    }
+    true
+}
+
+// What is made at a time has come by the mark by this delay.
+fn comes_by(made: Tier, via: Delay, mark: Tier) -> bool
+    requires early { pos 0 ≤ℤ made.time }
+    requires late { made.time ≤ℤ pos 1000000000000000000 }
+    requires low { made.tier ≤ 1000000 }
+    ensures { result ≡ up_to (delayed made via) mark }
+{
+    made.after(via.via()).is_up_to(mark)
 }
 
 // Neither the making nor, by any of these delays, the delivery before the run's end of what is made at a time is later than the mark.
@@ -122,8 +137,23 @@ fn has_come_or_never(made: Tier, vias: &[Delay], until: i64, mark: Tier) -> bool
     ensures { result ≡ list_all (λ v. up_to (delayed made v) mark
         || int_le until (delayed made v).time) vias.now }
 {
-    vias.iter().all(|via| made.after(via.via()).is_up_to(mark)
-        || until <= made.after(via.via()).time)
+    for via in vias {
+        if !comes_by_or_never(made, *via, until, mark) {
+            return false;
+        }
+    }
+    true
+}
+
+// What is made at a time has come by the mark by this delay, or never comes before the run's end.
+fn comes_by_or_never(made: Tier, via: Delay, until: i64, mark: Tier) -> bool
+    requires early { pos 0 ≤ℤ made.time }
+    requires late { made.time ≤ℤ pos 1000000000000000000 }
+    requires low { made.tier ≤ 1000000 }
+    ensures { result ≡ (up_to (delayed made via) mark || int_le until (delayed made via).time) }
+{
+    let arrival = made.after(via.via());
+    arrival.is_up_to(mark) || until <= arrival.time
 }
 
 // From the mark on, what is made second answers every question that what is made first could: by each of these delays the
@@ -155,8 +185,26 @@ fn has_replaced(first: Tier, second: Tier, vias: &[Delay], until: i64, mark: Tie
     ensures { result ≡ list_all (λ v. does_come v (Some until) mark second
         || int_le until (delayed first v).time) vias.now }
 {
-    vias.iter().all(|via| is_delivered(second, *via, Some(until), mark)
-        || until <= first.after(via.via()).time)
+    for via in vias {
+        if !replaces_by(first, second, *via, until, mark) {
+            return false;
+        }
+    }
+    true
+}
+
+// By this delay the second has come by the mark, or the first never comes before the run's end.
+fn replaces_by(first: Tier, second: Tier, via: Delay, until: i64, mark: Tier) -> bool
+    requires early { pos 0 ≤ℤ first.time }
+    requires late { first.time ≤ℤ pos 1000000000000000000 }
+    requires low { first.tier ≤ 1000000 }
+    requires second_early { pos 0 ≤ℤ second.time }
+    requires second_late { second.time ≤ℤ pos 1000000000000000000 }
+    requires second_low { second.tier ≤ 1000000 }
+    ensures { result ≡ (does_come via (Some until) mark second
+        || int_le until (delayed first via).time) }
+{
+    is_delivered(second, via, Some(until), mark) || until <= first.after(via.via()).time
 }
 
 // By one of these delays what is made first comes after the mark, while what is made last still comes before the run's end.
@@ -169,8 +217,26 @@ pub fn is_held_up(first: Tier, last: Tier, vias: &[Delay], until: i64, mark: Tie
     requires last_low { last.tier ≤ 1000000 }
     ensures { result ≡ is_held_up vias.now until mark first last }
 {
-    vias.iter().any(|via| !first.after(via.via()).is_up_to(mark)
-        && last.after(via.via()).time < until)
+    for via in vias {
+        if is_held_up_by(first, last, *via, until, mark) {
+            return true;
+        }
+    }
+    false
+}
+
+// By this delay what is made first comes after the mark, while what is made last still comes before the run's end.
+fn is_held_up_by(first: Tier, last: Tier, via: Delay, until: i64, mark: Tier) -> bool
+    requires early { pos 0 ≤ℤ first.time }
+    requires late { first.time ≤ℤ pos 1000000000000000000 }
+    requires low { first.tier ≤ 1000000 }
+    requires last_early { pos 0 ≤ℤ last.time }
+    requires last_late { last.time ≤ℤ pos 1000000000000000000 }
+    requires last_low { last.tier ≤ 1000000 }
+    ensures { result ≡ (not (up_to (delayed first via) mark)
+        && int_lt (delayed last via).time until) }
+{
+    !first.after(via.via()).is_up_to(mark) && last.after(via.via()).time < until
 }
 
 // By each of these delays what is made at a time comes before the run's end.
@@ -180,7 +246,22 @@ pub fn is_all_in_time(made: Tier, vias: &[Delay], until: i64) -> bool
     requires low { made.tier ≤ 1000000 }
     ensures { result ≡ list_all (λ v. int_lt (delayed made v).time until) vias.now }
 {
-    vias.iter().all(|via| made.after(via.via()).time < until)
+    for via in vias {
+        if !comes_in_time(made, *via, until) {
+            return false;
+        }
+    }
+    true
+}
+
+// By this delay what is made at a time comes before the run's end.
+fn comes_in_time(made: Tier, via: Delay, until: i64) -> bool
+    requires early { pos 0 ≤ℤ made.time }
+    requires late { made.time ≤ℤ pos 1000000000000000000 }
+    requires low { made.tier ≤ 1000000 }
+    ensures { result ≡ int_lt (delayed made via).time until }
+{
+    made.after(via.via()).time < until
 }
 
 // The least time by which what is made at a time has come, on its own and by each of these delays.

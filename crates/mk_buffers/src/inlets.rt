@@ -11,7 +11,7 @@ ghost use Rattle.mk_buffers.specs.inner.Listing.{IsTarget, AreTargets, IsInletOf
 
 use crate::delays::Delay;
 use crate::names::full_id;
-use crate::sorted::input_named;
+use crate::sorted::{input_named, or_texts};
 use mk_base::{Datum, Mem, Text};
 use mk_plan::{Conn, Input, Plan};
 use mk_plan_judge::owner;
@@ -186,12 +186,9 @@ fn initial_of(conn: &Conn) -> Result<Option<Datum>, Mem>
 fn target_order(first: &Target, second: &Target) -> Ordering
     ensures { result ≡ target_order first.now second.now }
 {
-    first
-        .sim
-        .cmp(&second.sim)
-        .then_with(|| first.eid.bytes().cmp(second.eid.bytes()))
-        .then_with(|| first.conn.to_attr.bytes().cmp(second.conn.to_attr.bytes()))
-        .then_with(|| first.source.bytes().cmp(second.source.bytes()))
+    let eids = or_texts(first.sim.cmp(&second.sim), first.eid, second.eid);
+    let attrs = or_texts(eids, &first.conn.to_attr, &second.conn.to_attr);
+    or_texts(attrs, first.source, second.source)
 }
 
 // The input that an inlet makes of a value.

@@ -1,6 +1,6 @@
 //! The outputs of one entity and attribute: the search for the one that counts, and the giving up of those that no question can reach.
 ghost use Rattle.std.specs.Prelude.{◌≡◌, ◌+◌, ◌<◌, ◌≤◌, true, false, [], ◌∷◌, ◌++◌, length, get_or, option_map, Some, OnOk, OnErr, pos, ◌≤ℤ◌};
-ghost use Rattle.std.specs.List.{remove};
+ghost use Rattle.std.specs.List.{insert, remove};
 ghost use Rattle.std.specs.List.Sorted.{IsPartitionPoint};
 ghost use Rattle.mk_base.specs.Lists.{IsIn};
 ghost use Rattle.mk_base.specs.Tiers.{up_to};
@@ -8,7 +8,7 @@ ghost use Rattle.mk_base.specs.declared.tier.Via.{Via};
 ghost use Rattle.mk_plan.specs.Deliveries.{Timed};
 ghost use Rattle.mk_plan.specs.Inputs.{later, latest};
 ghost use Rattle.mk_buffers.specs.Logs.{AnswersFrom, IsAmong, IsFew, StaysFew, arrival, arrivals, by, is_settled};
-ghost use Rattle.mk_buffers.specs.inner.Logs.{IsAscending, IsFirstToCome, IsNeeded, IsNewestAt, IsNewestByOf, IsOutdoneAt, IsRest, IsSpare, is_outdone, PlacedFor, Takes, does_come, is_past, weighed};
+ghost use Rattle.mk_buffers.specs.inner.Logs.{IsAscending, IsEarlierAt, IsFirstToCome, IsNeeded, IsNewestAt, IsNewestByOf, IsOutdoneAt, IsRest, IsSpare, is_outdone, is_overtaken, PlacedFor, Takes, does_come, is_past, weighed};
 
 use crate::delays::{
     Delay, arrived, is_all_in_time, is_delivered, is_held_up, is_overtaken, is_past, is_settled,
@@ -60,18 +60,13 @@ impl Log {
         ensures among { OnOk result (IsAmong self.new (self.old ++ new ∷ [])) }
         ensures err { OnErr result (self.new ≡ self.old) }
     {
-        let place = place_for(&self.entries, self.rising, new.at());
-        if place < self.entries.len() {
-            if new.at().time < self.entries[place].at().time {
-                self.entries.insert(place, new)?;
-            } else {
-                self.entries.push_back(new)?;
-                self.rising = false;
-            }
+        let at = new.at();
+        let place = place_for(&self.entries, self.rising, at);
+        if is_earlier(&self.entries, place, at) {
+            insert_at(&mut self.entries, place, new)
         } else {
-            self.entries.push_back(new)?;
+            push_last(&mut self.entries, &mut self.rising, place, new)
         }
-        Ok(())
     }
 
     // The one that is delivered last up to `at`, of equal ones the one that came last.
@@ -117,6 +112,44 @@ impl Log {
             Some(mark)
         }
     }
+}
+
+// There is an entry at the place, and its time is later.
+fn is_earlier(entries: &VecDeque<Made>, place: usize, at: Tier) -> bool
+    ensures { result ≡ true → IsEarlierAt at entries.now.items place }
+{
+    place < entries.len() && at.time < entries[place].at().time
+}
+
+// Puts an entry before the one at the place.
+fn insert_at(entries: &mut VecDeque<Made>, place: usize, new: Made) -> Result<(), Mem>
+    requires { place ≤ length entries.old.items }
+    ensures ok { OnOk result (entries.new.items ≡ insert entries.old.items place new) }
+    ensures err { OnErr result (entries.new.items ≡ entries.old.items) }
+{
+    entries.insert(place, new)?;
+    Ok(())
+}
+
+// Puts an entry behind all others; they rise on if it belongs there.
+fn push_last(
+    entries: &mut VecDeque<Made>,
+    rising: &mut bool,
+    place: usize,
+    new: Made,
+) -> Result<(), Mem>
+    requires placed { PlacedFor new.at rising.old entries.old.items place }
+    requires rising { rising.old ≡ true → IsAscending entries.old.items }
+    ensures ok { OnOk result (entries.new.items ≡ entries.old.items ++ new ∷ []) }
+    ensures rising { rising.new ≡ true → IsAscending entries.new.items }
+    ensures err { OnErr result (entries.new.items ≡ entries.old.items) }
+{
+    let count = entries.len();
+    entries.push_back(new)?;
+    if place < count {
+        *rising = false;
+    }
+    Ok(())
 }
 
 // Before which entry of rising ones a new one belongs.
@@ -273,18 +306,33 @@ fn forget_rising(entries: &mut VecDeque<Made>, vias: &[Delay], until: &i64, mark
 {
     let mut place = 0;
     while goes_on(entries, place, vias, until, mark) {
-        if is_overtaken(
-            entries[place].at(),
-            entries[place + 1].at(),
-            vias,
-            *until,
-            mark,
-        ) {
+        if is_overtaken_at(entries, place, vias, until, mark) {
             drop_at(entries, place);
         } else {
             place += 1;
         }
     }
+}
+
+// The entry at the place is overtaken by its next one.
+fn is_overtaken_at(
+    entries: &VecDeque<Made>,
+    place: usize,
+    vias: &[Delay],
+    until: &i64,
+    mark: Tier,
+) -> bool
+    requires { place + 1 < length entries.now.items }
+    ensures { (d : Timed) → result ≡ is_overtaken vias.now until.now mark
+        (get_or entries.now.items place d).at (get_or entries.now.items (place + 1) d).at }
+{
+    is_overtaken(
+        entries[place].at(),
+        entries[place + 1].at(),
+        vias,
+        *until,
+        mark,
+    )
 }
 
 // The entry at the place may be overtaken by its next one, or one behind it by its own.

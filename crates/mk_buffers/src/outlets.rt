@@ -8,12 +8,13 @@ ghost use Rattle.mk_plan.specs.declared.Plan.{Plan};
 ghost use Rattle.mk_plan.specs.Plans.{RefersInside, HasDistinctNames};
 ghost use Rattle.mk_buffers.specs.declared.outlets.Source.{Source};
 ghost use Rattle.mk_buffers.specs.declared.outlets.Outlet.{Outlet};
-ghost use Rattle.mk_buffers.specs.Held.{has_key};
-ghost use Rattle.mk_buffers.specs.inner.Building.{AreRising, IsSource, HasSources, AreSources, AreOutlets, AreParts, IsPartOf, IsNext, HasReached, HasAdded, HasVia, HasJoined, reached, source_order};
+ghost use Rattle.mk_buffers.specs.Held.{has_key, is_key};
+ghost use Rattle.mk_buffers.specs.inner.Building.{AreRising, IsOutletOf, IsSource, HasSources, AreSources, AreOutlets, AreParts, IsPartOf, IsNext, HasReached, HasAdded, HasVia, HasJoined, reached, source_order};
 
 use crate::delays::Delay;
 use crate::log::Log;
 use crate::made::Made;
+use crate::sorted::or_texts;
 use mk_base::{Datum, Mem, Text, Tier, Via};
 use mk_plan::{Conn, Plan};
 use mk_plan_judge::owner;
@@ -228,13 +229,7 @@ impl Outlets {
         ensures { OnOk result (HasAdded source.now self.old self.new) }
     {
         let place = self.all.len();
-        self.all.push(Outlet {
-            sim: source.sim as usize,
-            entity: source.entity,
-            attr: source.attr.copy()?,
-            vias: Vec::new(alloc),
-            log: Log::new(alloc),
-        })?;
+        self.all.push(outlet_of(alloc, source)?)?;
         let end = self.all.len();
         reach(&mut self.of_entity, source.entity as usize, place, end);
         Ok(())
@@ -250,14 +245,35 @@ impl Outlets {
     }
 }
 
+// An outlet of the source, without a delay and without an output.
+fn outlet_of(alloc: Global, source: &Source) -> Result<Outlet, Mem>
+    ensures is { IfOk result (λ o. IsOutletOf source.now o) }
+    ensures vias { IfOk result (λ o. o.vias.items ≡ []) }
+{
+    Ok(Outlet {
+        sim: source.sim as usize,
+        entity: source.entity,
+        attr: source.attr.copy()?,
+        vias: Vec::new(alloc),
+        log: Log::new(alloc),
+    })
+}
+
 // Whether the outlet at the place is that of this attribute.
 pub fn has_key(outlets: &[Outlet], entity: u32, attr: &Text, place: usize) -> bool
     ensures { result ≡ has_key outlets.now entity attr.now place }
 {
     match outlets.get(place) {
-        Some(outlet) => outlet.entity == entity && outlet.attr.bytes() == attr.bytes(),
+        Some(outlet) => is_key(outlet, entity, attr),
         None => false,
     }
+}
+
+// Whether the outlet is that of this attribute.
+fn is_key(outlet: &Outlet, entity: u32, attr: &Text) -> bool
+    ensures { result ≡ is_key entity attr.now outlet.now }
+{
+    outlet.entity == entity && outlet.attr.bytes() == attr.bytes()
 }
 
 // Adds a delay, if it isn't there.
@@ -343,9 +359,6 @@ fn source_of<'a>(plan: &'a Plan, conn: &'a Conn, place: usize) -> Source<'a>
 fn source_order(first: &Source, second: &Source) -> Ordering
     ensures { result ≡ source_order first.now second.now }
 {
-    first
-        .sim
-        .cmp(&second.sim)
-        .then_with(|| first.eid.bytes().cmp(second.eid.bytes()))
-        .then_with(|| first.attr.bytes().cmp(second.attr.bytes()))
+    let eids = or_texts(first.sim.cmp(&second.sim), first.eid, second.eid);
+    or_texts(eids, first.attr, second.attr)
 }

@@ -1,15 +1,15 @@
 //! The values that requests set in a simulator, and the giving up of those that no question can reach any more.
-ghost use Rattle.std.specs.Prelude.{◌≡◌, ◌+◌, ◌<◌, ◌&&◌, [], false, length, option_map, option_to_list, IfOk, OnOk, OnErr};
+ghost use Rattle.std.specs.Prelude.{◌≡◌, ◌+◌, ◌<◌, ◌≤◌, ◌&&◌, [], false, length, option_map, option_to_list, IfOk, OnOk, OnErr};
 ghost use Rattle.std.specs.List.Sorted.{IsStrictlySortedBy, IsBinarySearchResult, IsSearchInRange};
 ghost use Rattle.mk_base.specs.Tiers.{up_to};
 ghost use Rattle.mk_plan.specs.Inputs.{input_order, put_all};
 ghost use Rattle.mk_buffers.specs.Logs.{within};
 ghost use Rattle.std.specs.List.{remove};
 ghost use Rattle.mk_buffers.specs.Slots.{SameLast, last_within};
-ghost use Rattle.mk_buffers.specs.inner.Slots.{TakesLast, slot_order};
+ghost use Rattle.mk_buffers.specs.inner.Slots.{HasInserted, HasTakenAt, TakesLast, slot_order};
 
 use crate::delays::is_since;
-use crate::sorted::{input_named, put_input};
+use crate::sorted::{input_named, or_texts, put_input};
 use mk_base::{Datum, List, Mem, Text, Tier};
 use mk_plan::Input;
 use std::alloc::Global;
@@ -236,16 +236,8 @@ impl Sets {
         ensures err { OnErr result (self.new ≡ self.old) }
     {
         match place_of(self.slots.as_slice(), &fresh) {
-            Ok(place) => {
-                self.slots[place].values.take_in(new, mark)?;
-                Ok(())
-            }
-            Err(place) => {
-                let mut fresh = fresh;
-                fresh.values.take_in(new, mark)?;
-                self.slots.insert(place, fresh)?;
-                Ok(())
-            }
+            Ok(place) => set_at(&mut self.slots, place, new, mark),
+            Err(place) => insert_at(&mut self.slots, place, fresh, new, mark),
         }
     }
 
@@ -266,6 +258,35 @@ impl Sets {
     }
 }
 
+// Takes one more value in the slot at the place.
+fn set_at(slots: &mut Vec<Slot>, place: usize, new: Setting, mark: Tier) -> Result<(), Mem>
+    requires { place < length slots.old.items }
+    ensures ok { OnOk result (HasTakenAt mark new place slots.old.items slots.new.items) }
+    ensures err { OnErr result (slots.new.items ≡ slots.old.items) }
+{
+    slots[place].values.take_in(new, mark)?;
+    Ok(())
+}
+
+// Puts a new slot before the place, with one value.
+fn insert_at(
+    slots: &mut Vec<Slot>,
+    place: usize,
+    fresh: Slot,
+    new: Setting,
+    mark: Tier,
+) -> Result<(), Mem>
+    requires { place ≤ length slots.old.items }
+    ensures ok { OnOk result
+        (HasInserted mark new place fresh slots.old.items slots.new.items) }
+    ensures err { OnErr result (slots.new.items ≡ slots.old.items) }
+{
+    let mut fresh = fresh;
+    fresh.values.take_in(new, mark)?;
+    slots.insert(place, fresh)?;
+    Ok(())
+}
+
 // Where the slot of these names stands, or else the place before which it belongs.
 fn place_of(slots: &[Slot], fresh: &Slot) -> Result<usize, usize>
     ensures within { IsSearchInRange result (length slots.now) }
@@ -278,10 +299,7 @@ fn place_of(slots: &[Slot], fresh: &Slot) -> Result<usize, usize>
 fn slot_order(first: &Slot, second: &Slot) -> Ordering
     ensures { result ≡ slot_order first.now second.now }
 {
-    first
-        .eid
-        .bytes()
-        .cmp(second.eid.bytes())
-        .then_with(|| first.attr.bytes().cmp(second.attr.bytes()))
-        .then_with(|| first.source.bytes().cmp(second.source.bytes()))
+    let eids = first.eid.bytes().cmp(second.eid.bytes());
+    let attrs = or_texts(eids, &first.attr, &second.attr);
+    or_texts(attrs, &first.source, &second.source)
 }

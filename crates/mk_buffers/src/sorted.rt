@@ -1,7 +1,8 @@
 //! Inputs: how one is made of names and a value, and put among sorted ones.
 ghost use Rattle.std.specs.Prelude.{◌≡◌, IfOk, OnOk, length};
 ghost use Rattle.std.specs.List.Sorted.{IsStrictlySortedBy, IsBinarySearchResult, IsSearchInRange};
-ghost use Rattle.mk_base.specs.Lists.{put};
+ghost use Rattle.std.specs.Ordering.{ordering_then};
+ghost use Rattle.mk_base.specs.Lists.{put, text_order};
 ghost use Rattle.mk_plan.specs.Inputs.{input_order};
 
 use mk_base::{Datum, List, Mem, Text};
@@ -49,10 +50,18 @@ fn place_of(inputs: &[Input], new: &Input) -> Result<usize, usize>
 fn input_order(first: &Input, second: &Input) -> Ordering
     ensures { result ≡ input_order first.now second.now }
 {
-    first
-        .eid
-        .bytes()
-        .cmp(second.eid.bytes())
-        .then_with(|| first.attr.bytes().cmp(second.attr.bytes()))
-        .then_with(|| first.source.bytes().cmp(second.source.bytes()))
+    let eids = first.eid.bytes().cmp(second.eid.bytes());
+    let attrs = or_texts(eids, &first.attr, &second.attr);
+    or_texts(attrs, &first.source, &second.source)
+}
+
+// The order that was found, or else that of two texts, in byte order.
+pub fn or_texts(found: Ordering, first: &Text, second: &Text) -> Ordering
+    ensures { result ≡ ordering_then found (text_order first.now second.now) }
+{
+    match found {
+        Ordering::Less => Ordering::Less,
+        Ordering::Equal => first.bytes().cmp(second.bytes()),
+        Ordering::Greater => Ordering::Greater,
+    }
 }

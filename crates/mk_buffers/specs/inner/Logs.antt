@@ -1,5 +1,5 @@
 -- For proofs alone. Beside `Logs`, which has what a reader needs.
-use Rattle.std.specs.Prelude.{◌≡◌, ℕ, ◌+◌, ◌-◌, ◌<◌, ℤ, Bool, true, not, ◌&&◌, ◌||◌, List, [], ◌∷◌, ◌++◌, length, get_or, ◌≤◌, ◌⊎◌, nat_lt, false, filter, Option, Some, None, int_lt, int_le, ⊤, if◌then◌else◌}
+use Rattle.std.specs.Prelude.{◌≡◌, ℕ, ◌+◌, ◌-◌, ◌<◌, ℤ, Bool, true, not, ◌&&◌, ◌||◌, List, [], ◌∷◌, ◌++◌, length, get_or, ◌≤◌, ◌<ℤ◌, ◌⊎◌, nat_lt, false, filter, Option, Some, None, int_lt, int_le, ⊤, if◌then◌else◌}
 use Rattle.std.specs.List.{list_all, list_any}
 use Rattle.std.specs.List.Sorted.{IsPartitionPoint}
 use Rattle.mk_base.specs.declared.tier.Tier.{Tier}
@@ -9,7 +9,7 @@ use Rattle.mk_base.specs.Lists.{IsIn}
 use Rattle.mk_base.specs.Tiers.{delayed, up_to, IsUpTo}
 use Rattle.mk_plan.specs.Deliveries.{Timed}
 use Rattle.mk_plan.specs.Inputs.{later, latest}
-use Rattle.mk_buffers.specs.Logs.{is_in_time, arrival, is_settled, within, arrivals}
+use Rattle.mk_buffers.specs.Logs.{is_in_time, arrival, is_settled, arrivals}
 
 -- what is made at this time is delivered by x, and before the run's end
 abbrev pub does_come : Via → Option ℤ → Tier → Tier → Bool
@@ -98,6 +98,11 @@ pub record SameAnswers (ks hs : List Timed) : Type 0 where
   pub made : (test : Timed → Bool) → latest (filter test ks) ≡ latest (filter test hs)
   pub arrived : (v : Via) (until : Option ℤ) (test : Timed → Bool)
       → latest (filter test (arrivals v until ks)) ≡ latest (filter test (arrivals v until hs))
+
+-- there is an output at the place, and its time is later
+pub record IsEarlierAt (x : Tier) (ts : List Timed) (p : ℕ) : Type 0 where
+  pub there : p < length ts
+  pub less : (d : Timed) → x.time <ℤ (get_or ts p d).at.time
 
 -- one list answers as the other with one more output at its end
 abbrev pub Takes : Timed → List Timed → List Timed → Type 0

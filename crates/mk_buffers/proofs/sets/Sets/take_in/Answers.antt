@@ -1,15 +1,23 @@
-use Rattle.std.proofs.Common.{refl}
-use Rattle.mk_buffers.proofs.Slots.{slot_set, slot_inserted}
+use Rattle.std.proofs.Common.{sym, subst}
+use Rattle.std.specs.List.Sorted.{IsStrictlySortedBy}
+use Rattle.mk_plan_judge.proofs.Putting.{on_ok}
+use Rattle.mk_buffers.specs.inner.Slots.{slot_order}
+use Rattle.mk_buffers.proofs.Putting.{either_way}
+use Rattle.mk_buffers.proofs.Slots.{taken_at, inserted_at}
 use Rattle.mk_buffers.proofs.sets.Sets.take_in.Goals as goal
 
-pub invariant_of-self-in-Ok-1 : goal.invariant_of-self-in-Ok-1
-invariant_of-self-in-Ok-1 c = (slot_set c.args.mark c.args.new c.args.fresh c.index_mut.result.now _ c.self.inside.slots.items c.args.self.now c.as_slice.result.now c.in-Ok.place c.self.view_is c.self.invariant c.as_slice.ensures.value c.in-Ok.ensures.within c.in-Ok.ensures.found c.index_mut.ensures.value refl refl refl c.in_ok-take_in-in-Ok.ensures.ok).0
+pub invariant_of-self : goal.invariant_of-self
+invariant_of-self c = either_way c.set_at.result c.set_at.ensures.ok c.set_at.ensures.err
+    (λ d. (taken_at c.args.mark c.args.new c.args.fresh c.self.inside.slots.items c.args.self.now c.as_slice.result.now c.set_at.new.slots.items c.in-Ok.place c.self.view_is c.self.invariant c.as_slice.ensures.value c.in-Ok.ensures.within c.in-Ok.ensures.found d).0)
+    (λ e. subst (IsStrictlySortedBy slot_order) (sym e) c.self.invariant)
 
 pub invariant_of-self-in-Err : goal.invariant_of-self-in-Err
-invariant_of-self-in-Err c = (slot_inserted c.args.mark c.args.new c.args.fresh c.take_in-in-Err.new.self c.self.inside.slots.items c.args.self.now c.as_slice.result.now c.insert.new.self.items c.in-Err.place c.self.view_is c.self.invariant c.as_slice.ensures.value c.in-Err.ensures.within c.in-Err.ensures.found c.in_ok-insert-in-Err.ensures.items c.requires c.in_ok-take_in-in-Err.ensures.ok).0
+invariant_of-self-in-Err c = either_way c.insert_at.result c.insert_at.ensures.ok c.insert_at.ensures.err
+    (λ d. (inserted_at c.args.mark c.args.new c.args.fresh c.self.inside.slots.items c.args.self.now c.as_slice.result.now c.insert_at.new.slots.items c.in-Err.place c.self.view_is c.self.invariant c.as_slice.ensures.value c.in-Err.ensures.within c.in-Err.ensures.found d c.requires).0)
+    (λ e. subst (IsStrictlySortedBy slot_order) (sym e) c.self.invariant)
 
-pub returns-in_ok-take_in-in-Ok-clause-ok : goal.returns-in_ok-take_in-in-Ok-clause-ok
-returns-in_ok-take_in-in-Ok-clause-ok c = (slot_set c.args.mark c.args.new c.args.fresh c.index_mut.result.now _ c.self.inside.slots.items c.args.self.now c.as_slice.result.now c.in-Ok.place c.self.view_is c.self.invariant c.as_slice.ensures.value c.in-Ok.ensures.within c.in-Ok.ensures.found c.index_mut.ensures.value refl refl refl c.in_ok-take_in-in-Ok.ensures.ok).1
+pub returns-in-Ok-clause-ok : goal.returns-in-Ok-clause-ok
+returns-in-Ok-clause-ok c = on_ok c.set_at.result (λ d. (taken_at c.args.mark c.args.new c.args.fresh c.self.inside.slots.items c.args.self.now c.as_slice.result.now c.set_at.new.slots.items c.in-Ok.place c.self.view_is c.self.invariant c.as_slice.ensures.value c.in-Ok.ensures.within c.in-Ok.ensures.found d).1) c.set_at.ensures.ok
 
-pub returns-in_ok-insert-in-Err-clause-ok : goal.returns-in_ok-insert-in-Err-clause-ok
-returns-in_ok-insert-in-Err-clause-ok c = (slot_inserted c.args.mark c.args.new c.args.fresh c.take_in-in-Err.new.self c.self.inside.slots.items c.args.self.now c.as_slice.result.now c.insert.new.self.items c.in-Err.place c.self.view_is c.self.invariant c.as_slice.ensures.value c.in-Err.ensures.within c.in-Err.ensures.found c.in_ok-insert-in-Err.ensures.items c.requires c.in_ok-take_in-in-Err.ensures.ok).1
+pub returns-in-Err-clause-ok : goal.returns-in-Err-clause-ok
+returns-in-Err-clause-ok c = on_ok c.insert_at.result (λ d. (inserted_at c.args.mark c.args.new c.args.fresh c.self.inside.slots.items c.args.self.now c.as_slice.result.now c.insert_at.new.slots.items c.in-Err.place c.self.view_is c.self.invariant c.as_slice.ensures.value c.in-Err.ensures.within c.in-Err.ensures.found d c.requires).1) c.insert_at.ensures.ok
