@@ -1,11 +1,33 @@
-use Rattle.std.proofs.Common.{◌≡◌, ℕ, ◌<◌, ◌++◌, List, Bool, length, take, drop, slice_set, slice_index, refl, sym, ap, ◌∙◌, subst, arith}
+use Rattle.std.proofs.Common.{◌≡◌, ℕ, ◌<◌, ◌≤◌, ◌++◌, List, Bool, length, take, drop, slice_set, slice_index, refl, sym, ap, ◌∙◌, subst, arith}
 use Rattle.std.proofs.lemmas.List.{length-set}
 use Rattle.mk_tiers.specs.inner.Arcs.{AreKept, HasReason, IsLow, IsWithin}
 use Rattle.mk_tiers.specs.inner.Clear.{IsMarkedClear}
 use Rattle.mk_tiers.specs.inner.Standing.{AreLabelled, AreNets}
-use Rattle.mk_tiers.proofs.Changing.{still_said, start_set}
+use Rattle.mk_tiers.specs.Times.{never}
+use Rattle.mk_tiers.proofs.Changing.{low_else, reason_else, still_said, start_set}
 use Rattle.mk_tiers.proofs.Owning.{take_front}
 use Rattle.mk_tiers.proofs.state.State.set_own.Goals as goal
+
+pub relabel_if-moved-requires-clause-fits : goal.relabel_if-moved-requires-clause-fits
+relabel_if-moved-requires-clause-fits c = λ i. subst (λ (ls : List ℕ). slice_index ls i ≤ never) (sym c.deref_mut.ensures.value) (c.requires.stands.fits i)
+
+pub relabel_if-moved-requires-clause-reasons : goal.relabel_if-moved-requires-clause-reasons
+relabel_if-moved-requires-clause-reasons c = λ v h k.
+    let a = c.args.self.now in
+    let ins = c.args.net.now.triggers.ins in
+    let low : v < length a.owns.items = omega (arith, h, ap length c.deref_mut.ensures.value, c.requires.stands.labels_count) in
+    subst (λ (ys : List ℕ). HasReason ins ys c.deref_mut.result.now v) (sym c.deref.ensures.value)
+    (subst (λ (ls : List ℕ). HasReason ins (slice_set a.owns.items c.args.sim c.args.own) ls v) (sym c.deref_mut.ensures.value)
+    (reason_else ins a.owns.items a.labels.items c.args.sim c.args.own v k (c.requires.stands.reasons v low)))
+
+pub relabel_if-moved-requires-clause-low : goal.relabel_if-moved-requires-clause-low
+relabel_if-moved-requires-clause-low c = λ v h k.
+    let a = c.args.self.now in
+    let ins = c.args.net.now.triggers.ins in
+    let low : v < length a.owns.items = omega (arith, h, ap length c.deref_mut.ensures.value, c.requires.stands.labels_count) in
+    subst (λ (ys : List ℕ). IsLow ins ys c.deref_mut.result.now v) (sym c.deref.ensures.value)
+    (subst (λ (ls : List ℕ). IsLow ins (slice_set a.owns.items c.args.sim c.args.own) ls v) (sym c.deref_mut.ensures.value)
+    (low_else ins a.owns.items a.labels.items c.args.sim c.args.own v k (c.requires.stands.low v low)))
 
 pub unsure-unsure-requires-clause-below : goal.unsure-unsure-requires-clause-below
 unsure-unsure-requires-clause-below c = λ v a m. let h = c.requires.stands.nets.waits.outs_below v a m in omega (arith, h, c.requires.stands.nets.waits.outs_count)
