@@ -1,3 +1,4 @@
 -- What proofs alone need.
+pub mod Calls
 pub mod Inputs
 pub mod Steps

@@ -1,14 +1,16 @@
 // The replies to the requests before the run.
-ghost use Rattle.std.specs.Prelude.{◌≡◌, ◌++◌, IfOk, OnErr, OnOk, codes, map, replicate};
+ghost use Rattle.std.specs.Prelude.{◌≡◌, [], ◌++◌, IfOk, OnErr, OnOk, codes, length, map, replicate};
 ghost use Rattle.std.specs.List.{range_with_len};
 ghost use Rattle.mk_base.specs.declared.json.Json as tree;
-ghost use Rattle.mk_local.specs.Calls.{create_content, entity_tree, init_content, message, new_entity};
+ghost use Rattle.mk_local.specs.Calls.{create_content, entity_tree, init_content, message, new_entity, setting_in, step_in};
+ghost use Rattle.mk_local.specs.Rows.{IsStepOf};
+ghost use Rattle.mk_local.specs.inner.Calls.{if_taken};
 
 use crate::entity::Entity;
 use crate::metadata::metadata;
 use crate::names::model_of;
-use crate::params::{first_bad_of_create, first_bad_of_init};
-use crate::trees::{put, text};
+use crate::params::{first_bad_of_create, first_bad_of_init, setting_in, step_in};
+use crate::trees::put_text;
 use crate::turn::Turn;
 use mk_base::{Json, List, Mem, Members, Text};
 use mk_plan::Message;
@@ -25,7 +27,7 @@ pub fn init_content(alloc: Global, turn: Turn, params: &Json) -> Result<Result<J
 }
 
 // The content of the reply to `create`, or the text of its failure, where so many entities are there already.
-pub fn create_content(
+fn create_content(
     alloc: Global,
     turn: Turn,
     count: usize,
@@ -56,8 +58,46 @@ fn new_entities(alloc: Global, num: u32, setting: i64) -> Result<List<Entity>, M
     Ok(new)
 }
 
+// The step after a request to begin that had this content as its reply.
+pub fn step_after(content: &Result<Json, Text>, turn: Turn, step: i64, params: &Json) -> i64
+    requires { IsStepOf turn step }
+    ensures same { result ≡ if_taken content.now (step_in turn params.now) step }
+    ensures in_range { IsStepOf turn result }
+{
+    if content.is_ok() {
+        step_in(turn, params)
+    } else {
+        step
+    }
+}
+
+// Creates the entities unless the request is refused; the content of the reply, or its failure.
+pub fn created(
+    alloc: Global,
+    turn: Turn,
+    entities: &mut List<Entity>,
+    num: u32,
+    model: &Text,
+    params: &Json,
+) -> Result<Result<Json, Text>, Mem>
+    ensures content { IfOk result (λ content. content
+        ≡ create_content turn (length entities.old) num model.now params.now) }
+    ensures after { IfOk result (λ content. entities.new
+        ≡ if_taken content
+        (entities.old ++ replicate num (new_entity (setting_in turn params.now))) entities.old) }
+    ensures err { OnErr result (entities.new ≡ entities.old) }
+{
+    match create_content(alloc, turn, entities.len(), num, model, params)? {
+        Ok(content) => {
+            add_entities(alloc, entities, num, setting_in(turn, params))?;
+            Ok(Ok(content))
+        }
+        Err(text) => Ok(Err(text)),
+    }
+}
+
 // Puts so many new entities with this setting behind the others.
-pub fn add_entities(
+fn add_entities(
     alloc: Global,
     entities: &mut List<Entity>,
     num: u32,
@@ -120,12 +160,20 @@ fn entity_tree(alloc: Global, turn: Turn, place: u128) -> Result<Json, Mem>
     ensures { IfOk result (λ t. t ≡ entity_tree turn place) }
 {
     let mut members = Members::new(alloc);
-    put(
-        alloc,
-        &mut members,
-        "eid",
-        text(alloc, place.to_string(alloc)?.as_str())?,
-    )?;
-    put(alloc, &mut members, "type", text(alloc, model_of(turn))?)?;
+    put_entity(alloc, &mut members, turn, place)?;
     Ok(Json::Object(members))
+}
+
+fn put_entity(
+    alloc: Global,
+    members: &mut Members<Json>,
+    turn: Turn,
+    place: u128,
+) -> Result<(), Mem>
+    requires { members.old ≡ [] }
+    ensures { OnOk result (tree.Object members.new ≡ entity_tree turn place) }
+{
+    let mut buffer = itoa::Buffer::new();
+    put_text(alloc, members, "eid", buffer.format(place))?;
+    put_text(alloc, members, "type", model_of(turn))
 }

@@ -13,7 +13,7 @@ use mk_plan::Input;
 use std::alloc::Global;
 
 // Whether an entity has an input, and the sum of its inputs.
-#[derive(Clone, Copy, Debug, PartialEq, Eq)]
+#[derive(Clone, Copy)]
 pub struct Taken {
     pub seen: bool,
     pub sum: i64,

@@ -1,5 +1,5 @@
 // The kinds that a program has, by their names.
-ghost use Rattle.std.specs.Prelude.{◌≡◌, false, true, [], ◌∷◌, ◌++◌, map, IfOk, IfSome, OnOk, OnErr};
+ghost use Rattle.std.specs.Prelude.{◌≡◌, false, [], ◌∷◌, ◌++◌, map, IfOk, IfSome, OnOk, OnErr};
 ghost use Rattle.mk_base.specs.Lists.{IsIn, same_text};
 ghost use Rattle.mk_local.specs.Kinds.{has_kind, kind_named, name_of};
 ghost use Rattle.mk_local.specs.Registries.{rows_in};
@@ -36,15 +36,11 @@ impl Registry {
     }
 
     /// Whether a kind has this name.
+    #[tactic(auto, using(crate::proofs::Named::has_found))]
     pub fn has(&self, name: &str) -> bool
         ensures { result ≡ has_kind name.now (rows_in self.now) }
     {
-        for kind in self.kinds.as_slice() {
-            if is_named(kind.turn, name) {
-                return true;
-            }
-        }
-        false
+        self.named(name).is_some()
     }
 
     /// The names of the kinds, in the order in which they were added.

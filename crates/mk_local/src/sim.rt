@@ -8,13 +8,12 @@ ghost use Rattle.mk_local.specs.Replies.{IsItemReplied, after_item, item_reply};
 ghost use Rattle.mk_local.specs.Rows.{IsStepOf};
 ghost use Rattle.mk_local.specs.Simulators.{new_simulator};
 
-use crate::calls::{add_entities, create_content, init_content, message};
+use crate::calls::{created, init_content, message, step_after};
 use crate::data::data_content;
 use crate::entity::Entity;
 use crate::names::least_step;
-use crate::params::{setting_in, step_in};
 use crate::registry::Registry;
-use crate::steps::{Pace, step_content, take_turns};
+use crate::steps::{Pace, stepped};
 use crate::turn::Turn;
 use mk_base::{Json, List, Mem, Text};
 use mk_plan::{Call, Item, Message};
@@ -78,18 +77,11 @@ impl LocalSim {
         match call {
             Call::Init { sim: _, params } => {
                 let content = init_content(alloc, self.turn, params)?;
-                if content.is_ok() {
-                    self.step = step_in(self.turn, params);
-                }
+                self.step = step_after(&content, self.turn, self.step, params);
                 Ok(message(id, content))
             }
             Call::Create { num, model, params } => {
-                let count = self.entities.len();
-                let content = create_content(alloc, self.turn, count, *num, model, params)?;
-                if content.is_ok() {
-                    let setting = setting_in(self.turn, params);
-                    add_entities(alloc, &mut self.entities, *num, setting)?;
-                }
+                let content = created(alloc, self.turn, &mut self.entities, *num, model, params)?;
                 Ok(message(id, content))
             }
             Call::SetupDone => Ok(message(id, Ok(Json::Null))),
@@ -119,16 +111,11 @@ impl LocalSim {
                 inputs,
                 max_advance: _,
             } => {
-                let Some(kind) = kinds.of(self.turn) else {
-                    unreachable!()
-                };
                 let pace = Pace {
                     step: self.step,
                     time: at.time,
                 };
-                let turned = take_turns(alloc, kind, &pace, inputs, &self.entities)?;
-                let content = step_content(self.turn, &pace, &self.entities, turned.least);
-                self.entities = turned.entities;
+                let content = stepped(alloc, kinds, self.turn, &pace, inputs, &mut self.entities)?;
                 Ok(Message::Success { id, content })
             }
             Item::GetData { wanted } => {

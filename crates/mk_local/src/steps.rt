@@ -1,13 +1,16 @@
 // The reply to a Step.
-ghost use Rattle.std.specs.Prelude.{◌≡◌, IfOk, filter_map};
+ghost use Rattle.std.specs.Prelude.{◌≡◌, IfOk, OnErr, OnOk, filter_map};
+ghost use Rattle.mk_base.specs.Lists.{IsIn};
+ghost use Rattle.mk_local.specs.Registries.{rows_in};
 ghost use Rattle.mk_local.specs.Rows.{IsStepOf, IsStepTime, row};
-ghost use Rattle.mk_local.specs.Steps.{after_step, least, number_or_null, own_next, turned, turns};
+ghost use Rattle.mk_local.specs.Steps.{after_step, least, number_or_null, own_next, step_content, turned, turns};
 ghost use Rattle.mk_local.specs.inner.Steps.{earlier_next};
 
 use crate::entity::Entity;
 use crate::inputs::{Taken, gathered};
 use crate::kind::Kind;
 use crate::names::type_of;
+use crate::registry::Registry;
 use crate::turn::{EntityStep, EntityTurn, Turn};
 use mk_base::{Json, List, Mem, SimKind};
 use mk_plan::Input;
@@ -27,8 +30,43 @@ pub struct Pace {
     pub time: i64,
 }
 
+// Takes the turns of all entities in a Step; the content of its reply.
+pub fn stepped(
+    alloc: Global,
+    kinds: &Registry,
+    turn: Turn,
+    pace: &Pace,
+    inputs: &List<Input>,
+    entities: &mut List<Entity>,
+) -> Result<Json, Mem>
+    requires there { IsIn turn (rows_in kinds.now) }
+    requires step { IsStepOf turn pace.now.step }
+    requires time { IsStepTime pace.now.time }
+    ensures content { IfOk result (λ t. t
+        ≡ step_content (record {
+          kind = turn;
+          step = pace.now.step;
+          entities = entities.old;
+        }) pace.now.time inputs.now) }
+    ensures after { OnOk result (entities.new
+        ≡ (after_step (record {
+          kind = turn;
+          step = pace.now.step;
+          entities = entities.old;
+        }) pace.now.time inputs.now).entities) }
+    ensures err { OnErr result (entities.new ≡ entities.old) }
+{
+    let Some(kind) = kinds.of(turn) else {
+        unreachable!()
+    };
+    let turned = take_turns(alloc, kind, pace, inputs, entities)?;
+    let content = step_content(turn, pace, entities, turned.least);
+    *entities = turned.entities;
+    Ok(content)
+}
+
 // The turns of all entities in a Step.
-pub fn take_turns(
+fn take_turns(
     alloc: Global,
     kind: &Kind,
     pace: &Pace,
@@ -66,7 +104,7 @@ pub fn take_turns(
 }
 
 // The content of the reply to a Step, where the entities give this least next time.
-pub fn step_content(turn: Turn, pace: &Pace, entities: &List<Entity>, least: Option<i64>) -> Json
+fn step_content(turn: Turn, pace: &Pace, entities: &List<Entity>, least: Option<i64>) -> Json
     ensures { result ≡ number_or_null
         (own_next (record {
           kind = turn;
