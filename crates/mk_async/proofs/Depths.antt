@@ -136,8 +136,8 @@ module _ (P : Plan) (look : Lookup) (values : FindsValues look) where
   contents [] a = tt
   contents (m ∷ ms) a =
       let vs : Texts = values_of P look m.0 m.1 in
-      let shown = are_shallow vs a.0.2 (are_values look values (entity_of P m.0) (items_in m.1)) in
-      ((a.0.0, object_is 101 refl vs (names_rise-sorted (keys_of vs) a.0.1) shown), contents ms a.1)
+      let shown = are_shallow vs a.0.1.1 (are_values look values (entity_of P m.0) (items_in m.1)) in
+      ((a.0.0, object_is 101 refl vs (names_rise-sorted (keys_of vs) a.0.1.0) shown), contents ms a.1)
 
   -- what was written of wants is the text of a proper tree
   pub datum_written : (ms : Members) (text : List ℕ) → IsStrictlySortedBy text_order (keys_of ms) → AreContents P look ms → text ≡ wants_text P look ms → IsDatumText text

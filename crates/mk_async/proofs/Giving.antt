@@ -1,5 +1,5 @@
 -- What is gathered from an argument are the values that its request sets.
-use Rattle.std.proofs.Common.{◌≡◌, ℕ, Bool, true, false, cond, ◌&&◌, List, [], ◌∷◌, ◌++◌, map, flat_map, Option, Some, None, IsSome, option_map, option_and_then, unwrap_or, refl, ap, ◌∙◌, sym, true≢false}
+use Rattle.std.proofs.Common.{◌≡◌, ◌<◌, ℕ, zero, suc, arith, length, get_or, Bool, true, false, cond, ◌&&◌, List, [], ◌∷◌, ◌++◌, map, flat_map, Option, Some, None, IsSome, option_map, option_and_then, unwrap_or, refl, ap, ◌∙◌, sym, true≢false}
 use Rattle.std.specs.List.{list_all}
 use Rattle.std.proofs.lemmas.List.Folds.{list_all-map}
 use Rattle.mk_base.specs.declared.json.Json.{Json, Json-F, out-Json, map-Json}
@@ -31,6 +31,12 @@ first_of false b e = e
 pub rest_of : (a b : Bool) → (a && b) ≡ true → b ≡ true
 rest_of true b e = e
 rest_of false b e = absurd (true≢false (sym e))
+
+-- what each of a list passes, its items pass
+pub all_at : {A : Type 0} (p : A → Bool) (xs : List A) (i : ℕ) (x : A) → list_all p xs ≡ true → i < length xs → x ≡ get_or xs i x → p x ≡ true
+all_at p [] i x all below is = absurd (omega arith)
+all_at p (y ∷ ys) zero x all below is = ap p is ∙ first_of (p y) (list_all p ys) all
+all_at p (y ∷ ys) (suc i) x all below is = all_at p ys i x (rest_of (p y) (list_all p ys) all) (omega arith) is
 
 all_both : {A : Type 0} (p r q : A → Bool) → ((x : A) → p x ≡ true → r x ≡ true → q x ≡ true) → (xs : List A) → list_all p xs ≡ true → list_all r xs ≡ true → list_all q xs ≡ true
 all_both p r q f [] a b = refl

@@ -9,12 +9,12 @@ ghost use Rattle.mk_plan.specs.Inputs.{value_at};
 ghost use Rattle.mk_plan_names.specs.Names.{AreNamesOf};
 ghost use Rattle.mk_buffers.specs.Standing.{StandFor, least_mark};
 ghost use Rattle.mk_async.specs.Asked.{get_in};
-ghost use Rattle.mk_async.specs.inner.Content.{listed, member_text, put_attr, put_named, values_by, values_of, want_text, wants_text, IsNamed, AreNamed, IsContent, AreContents};
+ghost use Rattle.mk_async.specs.inner.Content.{listed, member_text, put_attr, put_named, values_by, values_of, want_text, wants_text, IsNamed, AreNamed, AreRising, IsContent, AreContents};
 ghost use Rattle.mk_async.specs.Forms.{is_such};
 ghost use Rattle.mk_async.specs.inner.Known.{gives_each, knows_want, knows_wants};
 
 use crate::known::entity_of;
-use mk_base::{Datum, Json, List, Mem, Members, Text, Tier};
+use mk_base::{Datum, Json, List, Mem, Members, Text, Tier, put};
 use mk_buffers::Buffers;
 use mk_json::put_text;
 use mk_plan::Plan;
@@ -65,12 +65,12 @@ fn put_wants(
         → OnOk result (AreContents plan.now (value_at S at) wants.now) }
 {
     match wants {
-        [] => text.extend_from_slice(b"{}")?,
+        [] => put(text, "{}")?,
         [first, rest @ ..] => {
-            text.extend_from_slice(b"{")?;
+            put(text, "{")?;
             put_want(alloc, plan, names, buffers, at, text, &first.0, &first.1)?;
             put_more_wants(alloc, plan, names, buffers, at, text, rest)?;
-            text.extend_from_slice(b"}")?;
+            put(text, "}")?;
         }
     }
     Ok(())
@@ -96,7 +96,7 @@ fn put_more_wants(
         → OnOk result (AreContents plan.now (value_at S at) wants.now) }
 {
     for want in wants {
-        text.extend_from_slice(b",")?;
+        put(text, ",")?;
         put_want(alloc, plan, names, buffers, at, text, &want.0, &want.1)?;
     }
     Ok(())
@@ -122,9 +122,33 @@ fn put_want(
     ensures content { (S : Supply) → StandFor plan.now buffers.now S
         → OnOk result (IsContent id.now (values_of plan.now (value_at S at) id.now tree.now)) }
 {
-    let values = values_of(alloc, plan, names, buffers, at, id, tree)?;
     put_text(alloc, text, id)?;
-    text.extend_from_slice(b":")?;
+    put(text, ":")?;
+    put_values_of(alloc, plan, names, buffers, at, text, id, tree)?;
+    Ok(())
+}
+
+// Appends an object of an entity's values.
+fn put_values_of(
+    alloc: Global,
+    plan: &Plan,
+    names: &Names,
+    buffers: &Buffers,
+    at: Tier,
+    text: &mut Vec<u8>,
+    id: &Text,
+    tree: &Json,
+) -> Result<(), Mem>
+    requires names { AreNamesOf plan.now names.now }
+    requires known { knows_want plan.now id.now tree.now ≡ true }
+    requires late { IsUpTo (least_mark buffers.now) at }
+    ensures written { (S : Supply) → StandFor plan.now buffers.now S
+        → OnOk result (text.new.items ≡ text.old.items
+        ++ object_text (values_of plan.now (value_at S at) id.now tree.now)) }
+    ensures content { (S : Supply) → StandFor plan.now buffers.now S
+        → OnOk result (AreRising (values_of plan.now (value_at S at) id.now tree.now)) }
+{
+    let values = values_of(alloc, plan, names, buffers, at, id, tree)?;
     put_values(alloc, text, values.entries())?;
     Ok(())
 }
@@ -237,12 +261,12 @@ fn put_values(alloc: Global, text: &mut Vec<u8>, values: &[(Text, Datum)]) -> Re
     ensures named { OnOk result (AreNamed values.now) }
 {
     match values {
-        [] => text.extend_from_slice(b"{}")?,
+        [] => put(text, "{}")?,
         [first, rest @ ..] => {
-            text.extend_from_slice(b"{")?;
+            put(text, "{")?;
             put_member(alloc, text, &first.0, &first.1)?;
             put_more_values(alloc, text, rest)?;
-            text.extend_from_slice(b"}")?;
+            put(text, "}")?;
         }
     }
     Ok(())
@@ -255,7 +279,7 @@ fn put_more_values(alloc: Global, text: &mut Vec<u8>, values: &[(Text, Datum)]) 
     ensures named { OnOk result (AreNamed values.now) }
 {
     for value in values {
-        text.extend_from_slice(b",")?;
+        put(text, ",")?;
         put_member(alloc, text, &value.0, &value.1)?;
     }
     Ok(())
@@ -268,7 +292,7 @@ fn put_member(alloc: Global, text: &mut Vec<u8>, name: &Text, value: &Datum) -> 
     ensures named { OnOk result (IsNamed name.now value.now) }
 {
     put_text(alloc, text, name)?;
-    text.extend_from_slice(b":")?;
+    put(text, ":")?;
     text.extend_from_slice(value.bytes())?;
     Ok(())
 }

@@ -31,16 +31,28 @@ pub fn given_values(
     ensures given { (s : ℕ) → option_map (knows plan.now s) (asked_in asked.now) ≡ Some true
         → IfOk result (λ sets. All (IsGivenBy plan.now s) sets) }
 {
-    let mut sets = List::new(alloc);
     match asked {
-        Asked::Get(_) => Ok(sets),
-        Asked::Set(sources) => {
-            put_sources(alloc, plan, names, &mut sets, sources)?;
-            Ok(sets)
-        }
-        Asked::Related(_) => Ok(sets),
-        Asked::RelatedOfEach(_) => Ok(sets),
+        Asked::Get(_) => Ok(List::new(alloc)),
+        Asked::Set(sources) => values_in(alloc, plan, names, sources),
+        Asked::Related(_) => Ok(List::new(alloc)),
+        Asked::RelatedOfEach(_) => Ok(List::new(alloc)),
     }
+}
+
+// The values of all sources.
+fn values_in(
+    alloc: Global,
+    plan: &Plan,
+    names: &Names,
+    sources: &Members<Json>,
+) -> Result<List<SetValue>, Mem>
+    requires names { AreNamesOf plan.now names.now }
+    requires values { each_passes is_source sources.now ≡ true }
+    ensures { IfOk result (λ sets. sets ≡ values_in plan.now sources.now) }
+{
+    let mut sets = List::new(alloc);
+    put_sources(alloc, plan, names, &mut sets, sources)?;
+    Ok(sets)
 }
 
 // Appends the values of all sources.
@@ -172,13 +184,36 @@ fn put_value(
           value = text_of value.now;
         } ∷ []) }
 {
-    let given = SetValue {
-        source: source.copy()?,
-        entity,
-        attr: attr.copy()?,
-        value: datum_of(alloc, value)?,
-    };
+    let given = given(alloc, source, entity, attr, value)?;
     sets.push(given)
+}
+
+// One value that is set.
+fn given(
+    alloc: Global,
+    source: &Text,
+    entity: u32,
+    attr: &Text,
+    value: &Json,
+) -> Result<SetValue, Mem>
+    requires { is_value value.now ≡ true }
+    ensures { IfOk result (λ given. given
+        ≡ record {
+          source = source.now;
+          entity = entity;
+          attr = attr.now;
+          value = text_of value.now;
+        }) }
+{
+    let source = source.copy()?;
+    let attr = attr.copy()?;
+    let value = datum_of(alloc, value)?;
+    Ok(SetValue {
+        source,
+        entity,
+        attr,
+        value,
+    })
 }
 
 /// The text of a value that a simulator may give or get: it is a datum whose whole numbers are in

@@ -1,6 +1,7 @@
 //! The content of answers that need no output: `null`, and related entities.
-ghost use Rattle.std.specs.Prelude.{◌≡◌, ℕ, ◌<◌, codes, length, All, IfOk, IfSome, IsSome, OnOk, Some, is_some, not, option_map};
+ghost use Rattle.std.specs.Prelude.{◌≡◌, ℕ, ◌<◌, [], codes, length, All, IfOk, IfSome, IsSome, OnOk, Some, is_some, not, option_map};
 ghost use Rattle.std.specs.BTreeMap.{insert_entry};
+ghost use Rattle.mk_base.specs.declared.json.Json as tree;
 ghost use Rattle.mk_base.specs.Lists.{text_order};
 ghost use Rattle.mk_plan.specs.Plans.{RefersInside, full_id};
 ghost use Rattle.mk_plan.specs.Asks.{Lookup, content_text, model_name, related_text, related_to};
@@ -138,10 +139,17 @@ fn type_tree(alloc: Global, plan: &Plan, entity: u32) -> Result<Json, Mem>
     ensures { IfOk result (λ tree. tree ≡ type_tree plan.now entity) }
 {
     let mut members = Members::new(alloc);
-    let name = Text::of(alloc, "type")?;
-    let model = Json::Text(model_name(alloc, plan, entity)?);
-    members.put(name, model)?;
+    put_type(alloc, plan, &mut members, entity)?;
     Ok(Json::Object(members))
+}
+
+fn put_type(alloc: Global, plan: &Plan, members: &mut Members<Json>, entity: u32) -> Result<(), Mem>
+    requires { members.old ≡ [] }
+    ensures { OnOk result (tree.Object members.new ≡ type_tree plan.now entity) }
+{
+    let name = Text::of(alloc, "type")?;
+    let model = model_name(alloc, plan, entity)?;
+    members.put(name, Json::Text(model))
 }
 
 // The name of the model of an entity.

@@ -69,9 +69,13 @@ IsNamed name text = IsUtf8 name × IsDatumText text
 abbrev pub AreNamed : Texts → Type 0
 AreNamed ms = Each (λ (m : List ℕ × List ℕ). IsNamed m.0 m.1) ms
 
--- a full id with such values, whose names rise
+-- such values, whose names rise
+abbrev pub AreRising : Texts → Type 0
+AreRising ms = IsStrictlySortedBy text_order (keys_of ms) × AreNamed ms
+
+-- a full id with such values
 abbrev pub IsContent : List ℕ → Texts → Type 0
-IsContent id ms = IsUtf8 id × IsStrictlySortedBy text_order (keys_of ms) × AreNamed ms
+IsContent id ms = IsUtf8 id × AreRising ms
 
 abbrev pub AreContents : Plan → Lookup → Members → Type 0
 AreContents P look ms = Each (λ (m : List ℕ × Json). IsContent m.0 (values_of P look m.0 m.1)) ms
