@@ -196,3 +196,12 @@ module _ (core : CoreState) (slice waiting : List (List Message)) (x : ℕ) (sam
 
 pub between_first : (P : Plan) (A : List Arrival) (N : ℕ) (core : CoreState) (lists : List (List Message)) → core ≡ record { plan = P; entries = []; ended = None } → AreWaiting (sim_count P) A [] lists → IsBetween A N core lists N
 between_first P A N core lists new waits = subst (λ (c : CoreState). IsBetween A N c lists N) (sym new) (record { on_way = on_way_first P; in_order = order_first P A N; drawn = refl; lists = waits })
+
+-- a round moves a core on, where it was asked first
+pub moved_before : (old mid new : CoreState) (waiting : List (List Message)) → GoesOn old mid → HasMoved mid new waiting → HasMoved old new waiting
+moved_before old mid new waiting goes moved = record {
+  going = moved.going;
+  plan = moved.plan ∙ goes.plan;
+  fit = moved.fit;
+  room = let limit : mid.plan.entries ≡ old.plan.entries = ap (λ (P : Plan). P.entries) goes.plan in let count : length mid.entries ≡ length old.entries + length goes.more = ap length goes.longer ∙ length-append old.entries goes.more in omega (arith, moved.room);
+}

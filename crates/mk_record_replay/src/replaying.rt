@@ -84,10 +84,19 @@ fn as_recorded(alloc: Global, saved: Saved) -> Result<Replayed, Mem>
         asks,
     } = saved;
     let count = arrivals.len();
-    let mut core = Core::new(alloc, plan)?;
-    let end = give_all(&mut core, arrivals)?;
+    let Ok(mut core) = Core::new(alloc, plan) else {
+        drop(arrivals);
+        drop(asks);
+        return Err(Mem);
+    };
+    let Ok(end) = give_all(&mut core, arrivals) else {
+        drop(core);
+        drop(asks);
+        return Err(Mem);
+    };
     let (plan, journal) = core.into_parts();
     let other = first_other_step(count, &asks, &journal);
+    drop(asks);
     Ok(Replayed {
         end: end_with(end, other),
         plan,
@@ -109,9 +118,20 @@ fn in_order(alloc: Global, saved: Saved, order: u32) -> Result<Replayed, Mem>
         asks,
     } = saved;
     drop(asks);
-    let mut waiting = split(alloc, plan.sims.len(), arrivals)?;
-    let mut core = Core::new(alloc, plan)?;
-    let end = run_in_order(alloc, &mut core, &mut waiting, order)?;
+    let Ok(mut waiting) = split(alloc, plan.sims.len(), arrivals) else {
+        drop(plan);
+        return Err(Mem);
+    };
+    let Ok(mut core) = Core::new(alloc, plan) else {
+        drop(waiting);
+        return Err(Mem);
+    };
+    let ended = run_in_order(alloc, &mut core, &mut waiting, order);
+    drop(waiting);
+    let Ok(end) = ended else {
+        drop(core);
+        return Err(Mem);
+    };
     let (plan, journal) = core.into_parts();
     Ok(Replayed { end, plan, journal })
 }
@@ -189,8 +209,15 @@ fn give(core: &mut Core, arrival: Arrival) -> Result<Option<CoreFault>, Mem>
     requires known { CanArrive core.old.plan arrival }
     ensures { IfOk result (λ fault. GivenBy core.old (came arrival) fault core.new) }
 {
-    match ask_all(core)? {
-        Next::Fault(fault) => Ok(Some(fault)),
+    let Ok(next) = ask_all(core) else {
+        drop(arrival);
+        return Err(Mem);
+    };
+    match next {
+        Next::Fault(fault) => {
+            drop(arrival);
+            Ok(Some(fault))
+        }
         Next::Ask(_) => unreachable!(),
         Next::Wait => take(core, arrival),
         Next::Done => take(core, arrival),

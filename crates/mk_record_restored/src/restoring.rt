@@ -43,8 +43,14 @@ pub fn restore(
     ensures { IfOk result (λ r. RestoresAs plan (map came arrivals) asks.now r) }
 {
     let count = arrivals.len();
-    let mut core = Core::new(alloc, plan)?;
-    let end = give_all(&mut core, arrivals)?;
+    let Ok(mut core) = Core::new(alloc, plan) else {
+        drop(arrivals);
+        return Err(Mem);
+    };
+    let Ok(end) = give_all(&mut core, arrivals) else {
+        drop(core);
+        return Err(Mem);
+    };
     match end {
         ReplayEnd::Core(fault) => Ok(faulted(core, fault)),
         ReplayEnd::Done => Ok(compared(core, count, asks)),

@@ -41,9 +41,10 @@ use Rattle.mk_sched.specs.declared.faults.Ended.TheVariants.{Faulty, OutOfMemory
 use Rattle.mk_sched.specs.declared.faults.Taken.{Taken}
 use Rattle.mk_sched.specs.declared.faults.Taken.TheVariants as taken
 use Rattle.mk_sched.specs.declared.taking.Upshot.{Upshot}
-use Rattle.mk_sched.specs.Answers.{HasRoom, fault_in}
-use Rattle.mk_sched.specs.inner.Derived.{IsCurrent, IsDerived, HasTaken, IsTaking, Leaves, core_of, entries_by, fault_by, taken_by}
-use Rattle.mk_sched.proofs.Standing.{derived_push, derived_twice, ended_derived, one_longer}
+use Rattle.mk_sched.specs.Answers.{ArriveOf, HasRoom, IsOutOfMemory, fault_in}
+use Rattle.mk_sched.specs.Cores.{CoreState}
+use Rattle.mk_sched.specs.inner.Derived.{IsCurrent, IsDerived, HasTaken, IsTaking, Leaves, core_of, end_after_arrive, entries_by, fault_by, taken_by}
+use Rattle.mk_sched.proofs.Standing.{derived_push, derived_twice, ended_derived, failed_core, one_longer}
 use Rattle.mk_sched.proofs.Judged.{noted_wrong, noted_right}
 
 -- nothing is claimed of what is derived after an end
@@ -65,6 +66,16 @@ pub taken_pushed : (P : Plan) (J : List Entry) (K : Derived) → IsDerived P J K
 taken_pushed P J K derived sim m u L leaves (Ok t) M ok err =
     subst (λ (n : Taken). HasTaken P J sim m (Ok n) L M) (sym ok.0) (subst (λ (N : List Entry). HasTaken P J sim m (Ok (taken_by u)) L N) (sym ok.1) leaves)
 taken_pushed P J K derived sim m u L leaves (Err e) M ok err = taken_failed P J K derived sim m e L M err
+
+-- a core by its fields, before and after
+pub arrived_ok : (P : Plan) (J M : List Entry) (sim : SimNo) (m : Message) (r : Result Taken Mem) (L : Derived) → HasTaken P J sim m r L M → (old : CoreState) (o n : Option Ended) → old ≡ core_of P J o → o ≡ None → n ≡ end_after_arrive r → IfOk r (λ t. ArriveOf old sim m t (core_of P M n))
+arrived_ok P J M sim m r L taken old o n is none end =
+    subst (λ (k : CoreState). IfOk r (λ t. ArriveOf k sim m t (core_of P M n))) (sym (is ∙ ap (λ (e : Option Ended). core_of P J e) none))
+    (subst (λ (e : Option Ended). IfOk r (λ t. ArriveOf (core_of P J None) sim m t (core_of P M e))) (sym end) taken.ok)
+
+pub arrived_err : (P : Plan) (J M : List Entry) (sim : SimNo) (m : Message) (r : Result Taken Mem) (L : Derived) → HasTaken P J sim m r L M → (old : CoreState) (o n : Option Ended) → old ≡ core_of P J o → o ≡ None → n ≡ end_after_arrive r → IfErr r (λ _. IsOutOfMemory old (core_of P M n))
+arrived_err P J M sim m (Ok t) L taken old o n is none end = tt
+arrived_err P J M sim m (Err e) L taken old o n is none end = failed_core P J M old o n is none end taken.err
 
 pub few_entries : (P : Plan) (J : List Entry) (K : Derived) (end : Option Ended) → IsDerived P J K end → length J ≤ 20000000
 few_entries P J K end derived = let a : length J ≤ P.entries = derived.within in let b : P.entries ≤ 20000000 = derived.valid.well_formed.limits.entries.1 in omega arith

@@ -1,5 +1,5 @@
 -- The core asks the first simulator that is ready, waits, is over, or has no room.
-use Rattle.std.proofs.Common.{◌≡◌, ◌≢◌, ℕ, ◌+◌, ◌<◌, ◌≤◌, ℤ, pos, ◌≤ℤ◌, true, List, [], ◌∷◌, ◌++◌, length, Option, Some, None, Ok, Err, refl, sym, ap, ◌∙◌, subst, inl, inr, arith, is_some, int_lt, nat_le, true≢false}
+use Rattle.std.proofs.Common.{◌≡◌, ◌≢◌, ℕ, ◌+◌, ◌<◌, ◌≤◌, ℤ, pos, ◌≤ℤ◌, true, List, [], ◌∷◌, ◌++◌, length, Option, Some, None, Result, Ok, Err, IfOk, IfErr, refl, sym, ap, ◌∙◌, subst, inl, inr, arith, is_some, int_lt, nat_le, true≢false}
 use Rattle.std.proofs.lemmas.Int.{ints}
 use Rattle.std.proofs.lemmas.Bool.{leb-true}
 use Rattle.mk_base.specs.declared.Mem.{Mem}
@@ -17,7 +17,6 @@ use Rattle.mk_plan.specs.Sequential.{last_time}
 use Rattle.mk_plan.specs.Journals.{OpenTurn, Owed, note_sent, view}
 use Rattle.mk_plan.specs.Orderly.{IsAllowed, IsNext, IsFirstReady}
 use Rattle.mk_plan.specs.Ready.{pending, last_step, step_at, IsReady, IsDone}
-use Rattle.mk_plan.specs.Walks.{nobody}
 use Rattle.mk_plan.specs.Advance.{IsAdvance}
 use Rattle.mk_order.proofs.Headlines.{orderly_finished}
 use Rattle.mk_order.proofs.Orders.{somebody_is_ready}
@@ -28,13 +27,16 @@ use Rattle.mk_sched_open.specs.Sims.{AreSimsOf}
 use Rattle.mk_sched_open.specs.Turns.{IsInRun}
 use Rattle.mk_sched_supply.specs.Stock.{IsStockOf, MayComeNext}
 use Rattle.mk_sched.specs.declared.derived.Derived.{Derived}
+use Rattle.mk_sched.specs.declared.faults.Ended.{Ended}
 use Rattle.mk_sched.specs.declared.faults.Ended.TheVariants.{Faulty, OutOfMemory}
 use Rattle.mk_sched.specs.declared.faults.CoreFault.TheVariants.{TooLong}
+use Rattle.mk_sched.specs.declared.faults.Next.{Next}
 use Rattle.mk_sched.specs.declared.faults.Next.TheVariants as next
-use Rattle.mk_sched.specs.Answers.{IsAsked}
+use Rattle.mk_sched.specs.Answers.{IsAsked, IsOutOfMemory, NextOf}
+use Rattle.mk_sched.specs.Cores.{CoreState}
 use Rattle.mk_sched.specs.inner.Holding.{HasGivenUp}
-use Rattle.mk_sched.specs.inner.Derived.{IsCurrent, IsDerived, HasAdvanced, core_of}
-use Rattle.mk_sched.proofs.Standing.{derived_push, ended_derived, ended_given_up}
+use Rattle.mk_sched.specs.inner.Derived.{IsCurrent, IsDerived, HasAdvanced, core_of, end_after_next}
+use Rattle.mk_sched.proofs.Standing.{derived_push, ended_derived, ended_given_up, failed_core}
 
 module _ (P : Plan) (J : List Entry) (K : Derived) (derived : IsDerived P J K None) where
   pub its : IsCurrent P (view P J) (length J) K
@@ -119,3 +121,14 @@ module _ (P : Plan) (J : List Entry) (K : Derived) (derived : IsDerived P J K No
       ok = record { going = refl; done = is_over shut; finished = orderly_finished P derived.valid J derived.orderly (is_over shut); same = refl };
       err = tt;
     }
+
+-- ---- a core by its fields, before and after
+
+pub advanced_ok : (P : Plan) (J M : List Entry) (r : Result Next Mem) (L : Derived) → HasAdvanced P J r L M → (old : CoreState) (o n : Option Ended) → old ≡ core_of P J o → o ≡ None → n ≡ end_after_next r → IfOk r (λ a. NextOf old a (core_of P M n))
+advanced_ok P J M r L advanced old o n is none end =
+    subst (λ (k : CoreState). IfOk r (λ a. NextOf k a (core_of P M n))) (sym (is ∙ ap (λ (e : Option Ended). core_of P J e) none))
+    (subst (λ (e : Option Ended). IfOk r (λ a. NextOf (core_of P J None) a (core_of P M e))) (sym end) advanced.ok)
+
+pub advanced_err : (P : Plan) (J M : List Entry) (r : Result Next Mem) (L : Derived) → HasAdvanced P J r L M → (old : CoreState) (o n : Option Ended) → old ≡ core_of P J o → o ≡ None → n ≡ end_after_next r → IfErr r (λ _. IsOutOfMemory old (core_of P M n))
+advanced_err P J M (Ok a) L advanced old o n is none end = tt
+advanced_err P J M (Err e) L advanced old o n is none end = failed_core P J M old o n is none end advanced.err

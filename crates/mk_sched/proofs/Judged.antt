@@ -8,7 +8,7 @@ use Rattle.mk_base.specs.declared.tier.Tier.{Tier}
 use Rattle.mk_base.specs.declared.json.Json.{Json}
 use Rattle.mk_base.specs.Lists.{IsIn}
 use Rattle.mk_base.specs.Tiers.{moment}
-use Rattle.mk_base.specs.Trees.{whole_in, is_object, is_whole, nesting, value_depth}
+use Rattle.mk_base.specs.Trees.{whole_in, is_in_range, is_object, is_whole, nesting, value_depth}
 use Rattle.mk_base.proofs.Lists.{none_some, passes_some}
 use Rattle.mk_plan.specs.declared.Plan.{Plan}
 use Rattle.mk_plan.specs.declared.Want.{Want}
@@ -20,6 +20,7 @@ use Rattle.mk_plan.specs.declared.Cause.{Cause}
 use Rattle.mk_plan.specs.declared.Cause.TheVariants.{Wrong, Failed}
 use Rattle.mk_plan.specs.declared.Entry.TheVariants.{Got}
 use Rattle.mk_plan.specs.Plans.{has_outputs, owner, kind_of}
+use Rattle.mk_plan.specs.Acts.{content_of}
 use Rattle.mk_plan.specs.Turns.{unasked, first_cause, is_number, time_in, holds_of, part_for, value_for, wrong, wrong_data, next_place, wanted}
 use Rattle.mk_plan.specs.Journals.{View, OpenTurn, place_at, note, note_got, note_right, fault_of}
 use Rattle.mk_plan_judge.specs.Places.{open_id}
@@ -27,7 +28,8 @@ use Rattle.mk_plan_judge.proofs.Right.{right_data_reply, right_step_reply, right
 use Rattle.mk_sched_agenda.specs.Outlets.{triggering_from}
 use Rattle.mk_sched_agenda.specs.Endings.{CanBeMade}
 use Rattle.mk_sched_open.specs.Turns.{IsRight, IsInRun, IsPlaceInRun, next_in}
-use Rattle.mk_sched.specs.inner.Derived.{IsJudged, made_at}
+use Rattle.mk_sched.specs.Cores.{is_message_in_range}
+use Rattle.mk_sched.specs.inner.Derived.{IsJudged, EndsFetch, made_at}
 
 module _ (P : Plan) (V : View) (s : SimNo) (m : Message) where
   pub judge : (place : Place) → place ≡ place_at (V.open_at s.0) → IsPlaceInRun place → wrong P s.0 place m ≡ None → (q : Option Place) → next_place P s.0 place m ≡ q → IsJudged P V s.0 m place q
@@ -128,6 +130,20 @@ next_fits P i x id asks (Failure n text) run right = λ k e. absurd (none_some e
 
 pub output_fits : (P : Plan) (i : ℕ) (x : Tier) (id n : ℕ) (content : Json) → wrong P i (Fetching x id) (Success n content) ≡ None → ForSome (option_and_then whole_in (time_in content)) (λ n. FitsSigned w64 n)
 output_fits P i x id n content right = right_output_time_fits (wanted P i) x content (right_data_reply P i x id n content right).1
+
+-- the data of a right reply are right, and in range where the message is
+pub fetched_right : (P : Plan) (V : View) (s : ℕ) (m : Message) (x : Tier) (content : Json) → EndsFetch P V s m x → content_of m ≡ Some content → wrong_data (wanted P s) x content ≡ None
+fetched_right P V s m x content ends is = go m (subst (λ (p : Place). wrong P s p m ≡ None) ends.judged.same ends.judged.right.right) is
+  where
+    go : (m : Message) → wrong P s (Fetching x ends.id) m ≡ None → content_of m ≡ Some content → wrong_data (wanted P s) x content ≡ None
+    go (Ask n name args named) right is = absurd (none_some is)
+    go (Success n other) right is = let same : other ≡ content = cc in subst (λ (c : Json). wrong_data (wanted P s) x c ≡ None) same (right_data_reply P s x ends.id n other right).1
+    go (Failure n text) right is = absurd (none_some is)
+
+pub content_in_range : (m : Message) (content : Json) → is_message_in_range m ≡ true → content_of m ≡ Some content → is_in_range content ≡ true
+content_in_range (Ask n name args named) content form is = absurd (none_some is)
+content_in_range (Success n other) content form is = let same : other ≡ content = cc in subst (λ (c : Json). is_in_range c ≡ true) same form
+content_in_range (Failure n text) content form is = absurd (none_some is)
 
 first_of_five : (a b c d e : Bool) (i j k l m : ℕ) → first_cause ((a, i) ∷ (b, j) ∷ (c, k) ∷ (d, l) ∷ (e, m) ∷ []) ≡ None → a ≡ false
 first_of_five true b c d e i j k l m h = absurd (none_some (sym h))

@@ -1,5 +1,5 @@
 -- What stands of a core, and what is derived from a journal with more entries.
-use Rattle.std.proofs.Common.{◌≡◌, ◌≢◌, ℕ, ◌+◌, ◌<◌, ◌≤◌, List, [], ◌∷◌, ◌++◌, length, Option, Some, None, refl, sym, ap, ◌∙◌, subst, ◌⊎◌, inl, inr, arith, length-append, ◌==◌, true, false, true≢false}
+use Rattle.std.proofs.Common.{◌≡◌, ◌≢◌, ℕ, ◌+◌, ◌<◌, ◌≤◌, List, [], ◌∷◌, ◌++◌, length, Option, Some, None, refl, sym, ap, ◌∙◌, subst, ◌⊎◌, inl, inr, arith, length-append, ◌==◌, false, true≢false}
 use Rattle.std.proofs.lemmas.Bool.{eq-eqb}
 use Rattle.mk_base.proofs.Lists.{none_some}
 use Rattle.mk_plan.specs.declared.Plan.{Plan}
@@ -16,9 +16,11 @@ use Rattle.mk_sched_open.specs.Sims.{AreSimsOf}
 use Rattle.mk_sched_supply.specs.Stock.{IsStockOf}
 use Rattle.mk_sched.specs.declared.derived.Derived.{Derived}
 use Rattle.mk_sched.specs.declared.faults.Ended.{Ended}
-use Rattle.mk_sched.specs.Cores.{Stands}
+use Rattle.mk_sched.specs.declared.faults.Ended.TheVariants.{OutOfMemory}
+use Rattle.mk_sched.specs.Answers.{IsOutOfMemory, moved}
+use Rattle.mk_sched.specs.Cores.{CoreState, Stands}
 use Rattle.mk_sched.specs.inner.Holding.{HasGivenUp}
-use Rattle.mk_sched.specs.inner.Derived.{IsCurrent, IsDerived}
+use Rattle.mk_sched.specs.inner.Derived.{IsCurrent, IsDerived, core_of}
 
 pub stands_of : (P : Plan) (J : List Entry) (K : Derived) (end : Option Ended) → IsDerived P J K end → Stands P J
 stands_of P J K end derived = record { valid = derived.valid; orderly = derived.orderly; agrees = orderly_agrees P derived.valid J derived.orderly; within = derived.within }
@@ -72,3 +74,12 @@ derived_twice P J K L e f derived room first second owes current =
   where
     longer : (a b c : ℕ) → b ≡ a + 1 → c ≡ b + 1 → c ≡ a + 2
     longer a b c p q = omega arith
+
+-- want of memory of a core that had not ended
+pub failed_core : (P : Plan) (J M : List Entry) (old : CoreState) (o n : Option Ended) → old ≡ core_of P J o → o ≡ None → n ≡ Some OutOfMemory → M ≡ J → IsOutOfMemory old (core_of P M n)
+failed_core P J M old o n is none end same =
+    let was : old ≡ core_of P J None = is ∙ ap (λ (e : Option Ended). core_of P J e) none in
+    record {
+      no_fault = λ fault faulty. none_some (sym (ap (λ (k : CoreState). k.ended) was) ∙ faulty);
+      ended = subst (λ (k : CoreState). core_of P M n ≡ moved k k.entries (Some OutOfMemory)) (sym was) (ap (λ (N : List Entry). core_of P N n) same ∙ ap (λ (e : Option Ended). core_of P J e) end);
+    }

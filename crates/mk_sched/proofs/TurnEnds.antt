@@ -18,7 +18,7 @@ use Rattle.mk_plan.specs.Plans.{has_outputs}
 use Rattle.mk_plan.specs.declared.Place.{Place}
 use Rattle.mk_plan.specs.Turns.{time_in, wrong, next_place}
 use Rattle.mk_plan.specs.Acts.{Act, content_of, contents, outputs_in, next_time, made}
-use Rattle.mk_plan.specs.Journals.{View, OpenTurn, Fault, ended_turn, loop_fault, note_right, note, view}
+use Rattle.mk_plan.specs.Journals.{View, OpenTurn, ended_turn, loop_fault, note_right, note, view}
 use Rattle.mk_plan.specs.Ready.{IsReady}
 use Rattle.mk_plan.specs.Advance.{IsAdvance}
 use Rattle.mk_order.proofs.Past.{view_right}

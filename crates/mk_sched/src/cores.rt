@@ -121,8 +121,14 @@ impl Core {
         ensures stands { Stands self.new.plan self.new.entries }
     {
         match self.ended {
-            Some(Ended::Faulty(fault)) => return Ok(Taken::Fault(fault)),
-            Some(Ended::OutOfMemory) => return Err(Mem),
+            Some(Ended::Faulty(fault)) => {
+                drop(message);
+                return Ok(Taken::Fault(fault));
+            }
+            Some(Ended::OutOfMemory) => {
+                drop(message);
+                return Err(Mem);
+            }
             None => {}
         }
         let answer = take(
@@ -198,13 +204,10 @@ impl Core {
             derived,
             ended: _,
         } = self;
-        let_go(derived);
+        drop(derived);
         (plan, journal)
     }
 }
-
-// Lets go of what was derived from the journal.
-fn let_go(_derived: Derived) {}
 
 // What the core answers after this answer, if it has ended.
 fn end_after_next(answer: &Result<Next, Mem>) -> Option<Ended>

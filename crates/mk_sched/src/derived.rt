@@ -29,8 +29,15 @@ pub fn new_derived(alloc: Global, plan: &Plan) -> Result<Derived, Mem>
     ensures told { IfOk result (λ derived. HasToldRest plan.now derived None) }
 {
     let sims = Sims::new(alloc, plan)?;
-    let agenda = Agenda::new(alloc, plan)?;
-    let stock = Stock::new(alloc, plan)?;
+    let Ok(agenda) = Agenda::new(alloc, plan) else {
+        drop(sims);
+        return Err(Mem);
+    };
+    let Ok(stock) = Stock::new(alloc, plan) else {
+        drop(sims);
+        drop(agenda);
+        return Err(Mem);
+    };
     Ok(Derived {
         sims,
         agenda,

@@ -100,17 +100,26 @@ fn end_fetch(
     let made = made_at(at, content);
     let next = derived.sims.next(sim);
     let outputs = derived.stock.outputs(sim, content)?;
-    let ended = derived.agenda.end_turn(
+    let answer = derived.agenda.end_turn(
         sim,
         made,
         next,
         outputs.given.as_slice(),
         &mut derived.untold,
-    )?;
+    );
+    let Ok(ended) = answer else {
+        drop(outputs);
+        return Err(Mem);
+    };
     match ended {
-        Some(beyond) => Ok(Upshot::Fault(limit_by(beyond))),
+        Some(beyond) => {
+            drop(outputs);
+            Ok(Upshot::Fault(limit_by(beyond)))
+        }
         None => {
-            derived.stock.take_outputs(sim, made, &outputs)?;
+            let taken = derived.stock.take_outputs(sim, made, &outputs);
+            drop(outputs);
+            taken?;
             derived.sims.end(sim);
             Ok(Upshot::Quiet)
         }

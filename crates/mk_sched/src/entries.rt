@@ -66,11 +66,14 @@ fn push_two(journal: &mut Journal, first: Entry, second: Entry) -> Result<Taken,
         × (journal.new.entries ≡ journal.old.entries ++ first ∷ [] ++ second ∷ [])) }
     ensures err { IfErr result (λ _. journal.new.entries ≡ journal.old.entries) }
 {
-    journal.entries.push(first)?;
+    let Ok(()) = journal.entries.push(first) else {
+        drop(second);
+        return Err(Mem);
+    };
     match journal.entries.push(second) {
         Ok(()) => Ok(Taken::Send),
         Err(Mem) => {
-            journal.entries.pop();
+            drop(journal.entries.pop());
             Err(Mem)
         }
     }

@@ -56,11 +56,15 @@ pub fn take(
     ensures notes { IfOk result (λ _. Notes derived.old derived.new) }
 {
     if is_full(plan, journal) {
+        drop(message);
         return Ok(Taken::Fault(too_long(plan)));
     }
     match weigh(alloc, plan, derived, journal, sim, &message) {
         Ok(upshot) => push_all(journal, sim, message, upshot),
-        Err(Mem) => Err(Mem),
+        Err(Mem) => {
+            drop(message);
+            Err(Mem)
+        }
     }
 }
 

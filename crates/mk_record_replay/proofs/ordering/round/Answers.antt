@@ -1,10 +1,11 @@
 -- proofs/ordering/round/Answers.antt
-use Rattle.std.proofs.Common.{subst}
+use Rattle.std.proofs.Common.{subst, sym}
+use Rattle.mk_base.proofs.Lists.{none_some}
 use Rattle.mk_sched.specs.declared.faults.Next.{Next}
 use Rattle.mk_record_replay.specs.inner.Loops.{HasAskedAll}
 use Rattle.mk_record_replay.specs.declared.ordering.Given.{Given}
 use Rattle.mk_record_replay.specs.inner.Rounds.{GivenNext}
-use Rattle.mk_record_replay.proofs.RoundsGiven.{between_mid, done_ends, ended_before, fault_ends, gone_before, short_ends}
+use Rattle.mk_record_replay.proofs.RoundsGiven.{between_mid, done_ends, ended_before, fault_ends, gone_before, moved_before, short_ends}
 use Rattle.mk_record_replay.proofs.ordering.round.Goals as goal
 
 pub returns-in-Fault-clause-round : goal.returns-in-Fault-clause-round
@@ -37,3 +38,24 @@ returns-in-Nothing-2-clause-round c = λ A N b. short_ends A N c.args.core.now c
 
 pub unreachable-requires : goal.unreachable-requires
 unreachable-requires c = (subst (λ (n : Next). HasAskedAll c.args.core.now n c.ask_all.new.core) c.in-Ask.is c.in_ok-fault.ensures).by
+
+pub returns-in-Going-clause-moved : goal.returns-in-Going-clause-moved
+returns-in-Going-clause-moved c = λ _. moved_before c.args.core.now c.ask_all.new.core c.give_next.new.core c.give_next.new.waiting.items c.in_ok-fault.ensures.goes (c.in_ok-give_next-in-Done.ensures.moved c.in-Going.is)
+
+pub returns-in-Going-2-clause-moved : goal.returns-in-Going-2-clause-moved
+returns-in-Going-2-clause-moved c = λ _. moved_before c.args.core.now c.ask_all.new.core c.give_next-in-Wait.new.core c.give_next-in-Wait.new.waiting.items c.in_ok-fault.ensures.goes (c.in_ok-give_next-in-Wait.ensures.moved c.in-Going-2.is)
+
+pub returns-in-Fault-clause-moved : goal.returns-in-Fault-clause-moved
+returns-in-Fault-clause-moved c = λ none. absurd (none_some (sym none))
+
+pub returns-in-Nothing-clause-moved : goal.returns-in-Nothing-clause-moved
+returns-in-Nothing-clause-moved c = λ none. absurd (none_some (sym none))
+
+pub returns-in-Stopped-clause-moved : goal.returns-in-Stopped-clause-moved
+returns-in-Stopped-clause-moved c = λ none. absurd (none_some (sym none))
+
+pub returns-in-Nothing-2-clause-moved : goal.returns-in-Nothing-2-clause-moved
+returns-in-Nothing-2-clause-moved c = λ none. absurd (none_some (sym none))
+
+pub returns-in-Stopped-2-clause-moved : goal.returns-in-Stopped-2-clause-moved
+returns-in-Stopped-2-clause-moved c = λ none. absurd (none_some (sym none))

@@ -12,16 +12,16 @@ use Rattle.mk_record_replay.proofs.Known.{messages_of_record}
 use Rattle.mk_record_replay.proofs.replaying.as_recorded.Goals as goal
 
 pub give_all-requires-clause-known : goal.give_all-requires-clause-known
-give_all-requires-clause-known c = let plan : c.in_ok-core.core.plan ≡ c.args.saved.plan = ap (λ (core : CoreState). core.plan) c.in_ok-core.ensures in
+give_all-requires-clause-known c = let plan : c.in-Ok.core.plan ≡ c.args.saved.plan = ap (λ (core : CoreState). core.plan) c.in-Ok.ensures in
     subst (λ (P : Plan). All (CanArrive P) c.args.saved.arrivals) (sym plan) (messages_of_record c.args.saved.plan c.args.saved.arrivals c.requires.known)
 
 pub returns-clause-end : goal.returns-clause-end
 returns-clause-end c =
     let P = c.args.saved.plan in
     let A = map came c.args.saved.arrivals in
-    let end = c.in_ok-end.end in
-    let plan : c.in_ok-core.core.plan ≡ P = ap (λ (core : CoreState). core.plan) c.in_ok-core.ensures in
-    let run = c.in_ok-end.ensures in
+    let end = c.in-Ok-give_all.end in
+    let plan : c.in-Ok.core.plan ≡ P = ap (λ (core : CoreState). core.plan) c.in-Ok.ensures in
+    let run = c.in-Ok-give_all.ensures in
     record {
       messages_end = end;
       other = c.first_other_step-other.result;

@@ -19,15 +19,15 @@ pub returns-clause-plan : goal.returns-clause-plan
 returns-clause-plan c =
     let P = c.args.saved.plan in
     let A = map came c.args.saved.arrivals in
-    let waits : AreWaiting (sim_count P) A [] c.in_ok-waiting.waiting.items = subst (λ n. AreWaiting n A [] c.in_ok-waiting.waiting.items) c.len.ensures c.in_ok-waiting.ensures.waiting in
-    let ended : HasEnded A c.args.order c.in_ok-core.core c.in_ok-end.end c.run_in_order.new.core = c.in_ok-end.ensures A (between_first P A c.args.order c.in_ok-core.core c.in_ok-waiting.waiting.items c.in_ok-core.ensures waits) in
-    c.into_parts-plan.ensures.plan ∙ ended.plan ∙ ap (λ (core : CoreState). core.plan) c.in_ok-core.ensures
+    let waits : AreWaiting (sim_count P) A [] c.in-Ok.waiting.items = subst (λ n. AreWaiting n A [] c.in-Ok.waiting.items) c.len.ensures c.in-Ok.ensures.waiting in
+    let ended : HasEnded A c.args.order c.in-Ok-new.core c.in-Ok-ended.end c.run_in_order-ended.new.core = c.in-Ok-ended.ensures A (between_first P A c.args.order c.in-Ok-new.core c.in-Ok.waiting.items c.in-Ok-new.ensures waits) in
+    c.into_parts-plan.ensures.plan ∙ ended.plan ∙ ap (λ (core : CoreState). core.plan) c.in-Ok-new.ensures
 
 pub returns-clause-replay : goal.returns-clause-replay
 returns-clause-replay c =
     let P = c.args.saved.plan in
     let A = map came c.args.saved.arrivals in
-    let waits : AreWaiting (sim_count P) A [] c.in_ok-waiting.waiting.items = subst (λ n. AreWaiting n A [] c.in_ok-waiting.waiting.items) c.len.ensures c.in_ok-waiting.ensures.waiting in
-    let ended : HasEnded A c.args.order c.in_ok-core.core c.in_ok-end.end c.run_in_order.new.core = c.in_ok-end.ensures A (between_first P A c.args.order c.in_ok-core.core c.in_ok-waiting.waiting.items c.in_ok-core.ensures waits) in
-    subst (λ (J : List Entry). IsReplayInOrder P A c.args.order J c.in_ok-end.end) (sym c.into_parts-plan.ensures.journal)
-    (subst (λ (Q : Plan). IsReplayInOrder Q A c.args.order c.run_in_order.new.core.entries c.in_ok-end.end) (ap (λ (core : CoreState). core.plan) c.in_ok-core.ensures) ended.replay)
+    let waits : AreWaiting (sim_count P) A [] c.in-Ok.waiting.items = subst (λ n. AreWaiting n A [] c.in-Ok.waiting.items) c.len.ensures c.in-Ok.ensures.waiting in
+    let ended : HasEnded A c.args.order c.in-Ok-new.core c.in-Ok-ended.end c.run_in_order-ended.new.core = c.in-Ok-ended.ensures A (between_first P A c.args.order c.in-Ok-new.core c.in-Ok.waiting.items c.in-Ok-new.ensures waits) in
+    subst (λ (J : List Entry). IsReplayInOrder P A c.args.order J c.in-Ok-ended.end) (sym c.into_parts-plan.ensures.journal)
+    (subst (λ (Q : Plan). IsReplayInOrder Q A c.args.order c.run_in_order-ended.new.core.entries c.in-Ok-ended.end) (ap (λ (core : CoreState). core.plan) c.in-Ok-new.ensures) ended.replay)

@@ -1,3 +1,8 @@
+use Rattle.std.proofs.Common.{Option, subst, sym}
+use Rattle.mk_sched.specs.declared.faults.Ended.{Ended}
+use Rattle.mk_sched.specs.inner.Holding.{HasGivenUp, HasToldRest}
+use Rattle.mk_sched.specs.inner.Derived.{IsDerived}
+use Rattle.mk_sched.proofs.Asked.{advanced_ok, advanced_err}
 use Rattle.mk_sched.proofs.cores.Core.next.Goals as goal
 use Rattle.mk_sched.proofs.Standing.{stands_of}
 
@@ -12,3 +17,19 @@ returns-clause-stands c = stands_of _ _ _ _ c.advance-answer.ensures.advanced.de
 
 pub advance-answer-requires-clause-given_up : goal.advance-answer-requires-clause-given_up
 advance-answer-requires-clause-given_up c = λ going. c.self.invariant.1 c.in-None.is
+
+pub returns-clause-ok : goal.returns-clause-ok
+returns-clause-ok c = advanced_ok c.self.inside.plan c.self.inside.journal.entries c.advance-answer.new.journal.entries c.advance-answer.result c.advance-answer.new.derived c.advance-answer.ensures.advanced c.args.self.now
+    c.self.inside.ended c.end_after_next-self-inside.result (sym c.self.view_is) c.in-None.is c.end_after_next-self-inside.ensures
+
+pub returns-clause-err : goal.returns-clause-err
+returns-clause-err c = advanced_err c.self.inside.plan c.self.inside.journal.entries c.advance-answer.new.journal.entries c.advance-answer.result c.advance-answer.new.derived c.advance-answer.ensures.advanced c.args.self.now
+    c.self.inside.ended c.end_after_next-self-inside.result (sym c.self.view_is) c.in-None.is c.end_after_next-self-inside.ensures
+
+pub invariant_of-self : goal.invariant_of-self
+invariant_of-self c =
+    let P = c.self.inside.plan in
+    let M = c.advance-answer.new.journal.entries in
+    let L = c.advance-answer.new.derived in
+    let done = c.advance-answer.ensures in
+    subst (λ (e : Option Ended). IsDerived P M L e × HasGivenUp P M L e × HasToldRest P L e) (sym c.end_after_next-self-inside.ensures) (done.advanced.derived, done.advanced.given_up, done.told)

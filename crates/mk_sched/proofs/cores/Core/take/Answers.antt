@@ -3,6 +3,7 @@ use Rattle.mk_sched.specs.declared.faults.Ended.{Ended}
 use Rattle.mk_sched.specs.inner.Holding.{HasToldRest}
 use Rattle.mk_sched.specs.inner.Derived.{IsDerived}
 use Rattle.mk_sched.proofs.cores.Core.take.Goals as goal
+use Rattle.mk_sched.proofs.Arrived.{arrived_ok, arrived_err}
 use Rattle.mk_sched.proofs.GivingUp.{told_after, whole_of}
 use Rattle.mk_sched.proofs.Standing.{stands_of}
 
@@ -28,3 +29,11 @@ invariant_of-self c =
     c.give_up.ensures J (subst (λ (e : Option Ended). IsDerived P J L e) (sym c.end_after_arrive-self-inside.ensures) c.take-answer.ensures.taken.derived)
     (subst (λ (e : Option Ended). HasToldRest P L e) (sym c.end_after_arrive-self-inside.ensures)
     (told_after P had.valid K L (had.current refl).agenda.plan.bounds c.take-answer.ensures.marks (c.self.invariant.2 c.in-None.is) c.take-answer.result c.take-answer.ensures.notes))
+
+pub returns-clause-ok : goal.returns-clause-ok
+returns-clause-ok c = arrived_ok c.self.inside.plan c.self.inside.journal.entries c.take-answer.new.journal.entries c.args.sim c.args.message c.take-answer.result c.take-answer.new.derived c.take-answer.ensures.taken c.args.self.now
+    c.self.inside.ended c.end_after_arrive-self-inside.result (sym c.self.view_is) c.in-None.is c.end_after_arrive-self-inside.ensures
+
+pub returns-clause-err : goal.returns-clause-err
+returns-clause-err c = arrived_err c.self.inside.plan c.self.inside.journal.entries c.take-answer.new.journal.entries c.args.sim c.args.message c.take-answer.result c.take-answer.new.derived c.take-answer.ensures.taken c.args.self.now
+    c.self.inside.ended c.end_after_arrive-self-inside.result (sym c.self.view_is) c.in-None.is c.end_after_arrive-self-inside.ensures
