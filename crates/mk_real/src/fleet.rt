@@ -1,8 +1,9 @@
 // Links to simulators over sockets on this machine.
-ghost use Rattle.std.specs.Prelude.{◌≡◌, ◌≢◌, ◌<◌, ◌≤◌, [], IfOk, length};
+ghost use Rattle.std.specs.Prelude.{◌≡◌, ◌≢◌, ℕ, ◌<◌, ◌≤◌, [], length};
 ghost use Rattle.mk_base.specs.Links.{without};
 ghost use Rattle.mk_outside.specs.Counts.{HasRisen};
 ghost use Rattle.mk_outside.specs.Fleets.{IsWritten, ReadAs, StartedAs};
+ghost use Rattle.mk_real.specs.declared.fleet.Found.TheVariants as found;
 
 use crate::desk::{Desk, mark};
 use crate::door::{AwaitedAt, Door, connect};
@@ -205,22 +206,84 @@ fn write_on<R: Clock, P: OpenProcess + Drop>(
     }
 }
 
+// What a look for a link that is ready comes to: its place, want of memory, or an error of the system.
+enum Found {
+    At(usize),
+    Mem,
+    Failed,
+}
+
 // Waits until one of these links is ready, and gives its place.
 fn find_ready<R: Clock, P: OpenProcess + Drop>(
     rt: &R,
     desk: &mut Option<Desk>,
     sockets: &mut [Option<Socket<P>>],
     links: &[LinkNo],
-) -> io::Result<usize>
-    ensures { IfOk result (λ place. place < length links.now) }
+) -> Found
+    ensures { (place : ℕ) → result ≡ found.At place → place < length links.now }
 {
-    match desk {
-        Some(desk) => desk.find_ready(rt, sockets, links),
-        None => Err(io::Error::from(ErrorKind::NotFound)),
+    let Some(desk) = desk else {
+        return Found::Failed;
+    };
+    match desk.find_ready(rt, sockets, links) {
+        Ok(place) => Found::At(place),
+        Err(e) if e.kind() == ErrorKind::OutOfMemory => Found::Mem,
+        Err(_) => Found::Failed,
     }
 }
 
 impl<R: Net + Processes + Clock> MioFleet<R> {
+    // Counts one more error of the system.
+    fn count_fault(&mut self)
+        ensures risen { HasRisen self.old.faults self.new.faults }
+        ensures count { self.old.faults ≤ self.new.faults }
+        ensures same_count { length self.new.sockets.items ≡ length self.old.sockets.items }
+        ensures same_links { self.new.links.items ≡ self.old.links.items }
+    {
+        self.faults = self.faults.saturating_add(1);
+    }
+
+    // Reads on a link.
+    fn read_link(&mut self, link: LinkNo, into: &mut [u8]) -> ReadLink
+        requires { into.old ≢ [] }
+        ensures same_faults { self.new.faults ≡ self.old.faults }
+        ensures same_count { length self.new.sockets.items ≡ length self.old.sockets.items }
+        ensures same_links { self.new.links.items ≡ self.old.links.items }
+        ensures got { ReadAs result into.old into.new }
+    {
+        let sockets = self.sockets.as_mut_slice();
+        read_on(
+            &self.host.rt,
+            &mut self.desk,
+            sockets,
+            link.0 as usize,
+            into,
+        )
+    }
+
+    // Writes on a link.
+    fn write_link(&mut self, link: LinkNo, bytes: &[u8]) -> WriteLink
+        requires { bytes.now ≢ [] }
+        ensures same_faults { self.new.faults ≡ self.old.faults }
+        ensures same_count { length self.new.sockets.items ≡ length self.old.sockets.items }
+        ensures same_links { self.new.links.items ≡ self.old.links.items }
+        ensures put { IsWritten result bytes.now }
+    {
+        let sockets = self.sockets.as_mut_slice();
+        write_on(&self.host.rt, &self.desk, sockets, link.0 as usize, bytes)
+    }
+
+    // Waits until one of these links is ready.
+    fn await_ready(&mut self, links: &[LinkNo]) -> Found
+        ensures same_faults { self.new.faults ≡ self.old.faults }
+        ensures same_count { length self.new.sockets.items ≡ length self.old.sockets.items }
+        ensures same_links { self.new.links.items ≡ self.old.links.items }
+        ensures place { (place : ℕ) → result ≡ found.At place → place < length links.now }
+    {
+        let sockets = self.sockets.as_mut_slice();
+        find_ready(&self.host.rt, &mut self.desk, sockets, links)
+    }
+
     // Waits for the children that this start needs; false where one of them is late, or has failed.
     fn await_children(&mut self, start: &Start) -> bool
         ensures same_faults { self.new.faults ≡ self.old.faults }
@@ -254,7 +317,7 @@ impl<R: Net + Processes + Clock> MioFleet<R> {
             }
             Err(e) if e.kind() == ErrorKind::OutOfMemory => Started::Mem,
             Err(_) => {
-                self.faults = self.faults.saturating_add(1);
+                self.count_fault();
                 Started::Failed
             }
         }
@@ -283,7 +346,7 @@ impl<R: Net + Processes + Clock> Fleet for MioFleet<R> {
             }
             Err(e) if e.kind() == ErrorKind::OutOfMemory => Listened::Mem,
             Err(_) => {
-                self.faults = self.faults.saturating_add(1);
+                self.count_fault();
                 Listened::Failed
             }
         }
@@ -291,42 +354,37 @@ impl<R: Net + Processes + Clock> Fleet for MioFleet<R> {
 
     fn start(&mut self, start: &Start) -> Started {
         if !self.await_children(start) {
-            self.faults = self.faults.saturating_add(1);
+            self.count_fault();
             return Started::Failed;
         }
         self.begin_link(start)
     }
 
     fn read(&mut self, link: LinkNo, into: &mut [u8]) -> ReadLink {
-        let number = link.0 as usize;
-        let sockets = self.sockets.as_mut_slice();
-        let answer = read_on(&self.host.rt, &mut self.desk, sockets, number, into);
+        let answer = self.read_link(link, into);
         if let ReadLink::Failed = answer {
-            self.faults = self.faults.saturating_add(1);
+            self.count_fault();
         }
         answer
     }
 
     fn write(&mut self, link: LinkNo, bytes: &[u8]) -> WriteLink {
-        let number = link.0 as usize;
-        let sockets = self.sockets.as_mut_slice();
-        let answer = write_on(&self.host.rt, &self.desk, sockets, number, bytes);
+        let answer = self.write_link(link, bytes);
         if let WriteLink::Failed = answer {
-            self.faults = self.faults.saturating_add(1);
+            self.count_fault();
         }
         answer
     }
 
     fn wait(&mut self, links: &[LinkNo], ready: &mut [bool]) -> Waited {
-        let sockets = self.sockets.as_mut_slice();
-        match find_ready(&self.host.rt, &mut self.desk, sockets, links) {
-            Ok(first) => {
+        match self.await_ready(links) {
+            Found::At(first) => {
                 mark(self.sockets.as_slice(), links, ready, first);
                 Waited::Marked
             }
-            Err(e) if e.kind() == ErrorKind::OutOfMemory => Waited::Mem,
-            Err(_) => {
-                self.faults = self.faults.saturating_add(1);
+            Found::Mem => Waited::Mem,
+            Found::Failed => {
+                self.count_fault();
                 Waited::Failed
             }
         }
@@ -340,7 +398,7 @@ impl<R: Net + Processes + Clock> Fleet for MioFleet<R> {
         };
         if let Some(socket) = socket {
             if socket.close().is_err() {
-                self.faults = self.faults.saturating_add(1);
+                self.count_fault();
             }
         }
     }
@@ -351,7 +409,7 @@ impl<R: Net + Processes + Clock> Paced for MioFleet<R> {
         match self.ticks.passed(&self.host.rt) {
             Ok(moment) => Now::At(moment),
             Err(_) => {
-                self.faults = self.faults.saturating_add(1);
+                self.count_fault();
                 Now::Failed
             }
         }
