@@ -71,7 +71,10 @@ fn explained<D: Folder>(
 {
     match keep(folder, name, made) {
         FileSave::Kept | FileSave::Failed => ending,
-        FileSave::Mem => Ending::Mem,
+        FileSave::Mem => {
+            drop(ending);
+            Ending::Mem
+        }
     }
 }
 

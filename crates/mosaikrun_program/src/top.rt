@@ -120,7 +120,11 @@ pub fn program<D: Folder, F: Paced, K: Sink, E: Sink, R: Wait>(
     handshakes_complete();
     match answer(rt, alloc, words, folder, fleet, kinds, rules, out) {
         Ok(()) => 0,
-        Err(ending) => tell(alloc, &ending, err),
+        Err(ending) => {
+            let status = tell(alloc, &ending, err);
+            drop(ending);
+            status
+        }
     }
 }
 

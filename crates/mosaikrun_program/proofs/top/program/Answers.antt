@@ -57,26 +57,26 @@ returns-in-Err g c =
       folder = folder_seen g.D.Folder.files g.D.Folder.faults c.args.folder.now c.answer.new.folder;
       output = output_seen g.K.Sink.written g.K.Sink.faults g.K.Sink.shortages c.args.out.now c.answer.new.out;
     } in
-    let told = c.tell.ensures.told in
+    let told = c.tell-status.ensures.told in
     let said = said_ended S told.0 c.in-Err.ending ended.2 told.1 in
     record {
-      headline = (ended.0, ended.1, right_call S (Err told.0) c.tell.result told.2 said);
-      ended = (ended.0, ended.1, record { answer = Err told.0; is = told.2; ended = said; told = told.3; recorded = record_kept S (Err told.0) c.tell.result told.2 said; resumed = new_record_kept S (Err told.0) c.tell.result told.2 said; paced = pace_record_kept S (Err told.0) c.tell.result told.2 said });
-      completes = (ended.0, ended.1, ends_run c.handshakes_complete.ensures S S.folder.files (Err told.0) c.tell.result refl told.2 said);
-      resumes = (ended.0, ended.1, ends_resume c.handshakes_complete.ensures S S.folder.files (Err told.0) c.tell.result refl told.2 said);
-      paces = (ended.0, ended.1, ends_paced c.handshakes_complete.ensures S S.folder.files (Err told.0) c.tell.result refl told.2 said);
+      headline = (ended.0, ended.1, right_call S (Err told.0) c.tell-status.result told.2 said);
+      ended = (ended.0, ended.1, record { answer = Err told.0; is = told.2; ended = said; told = told.3; recorded = record_kept S (Err told.0) c.tell-status.result told.2 said; resumed = new_record_kept S (Err told.0) c.tell-status.result told.2 said; paced = pace_record_kept S (Err told.0) c.tell-status.result told.2 said });
+      completes = (ended.0, ended.1, ends_run c.handshakes_complete.ensures S S.folder.files (Err told.0) c.tell-status.result refl told.2 said);
+      resumes = (ended.0, ended.1, ends_resume c.handshakes_complete.ensures S S.folder.files (Err told.0) c.tell-status.result refl told.2 said);
+      paces = (ended.0, ended.1, ends_paced c.handshakes_complete.ensures S S.folder.files (Err told.0) c.tell-status.result refl told.2 said);
       rising = c.in-Err.ensures.rising;
       usage = λ two. usage_only S (Err told.0) said (sym told.2 ∙ two);
       useless = λ none. subst (IsStatusOr 2) (sym told.2) (useless_words S (Err told.0) said none);
-      decided = told_decided S S.folder.files (Err told.0) c.tell.result refl told.2 said;
-      unreadable = told_no_file S S.folder.files (Err told.0) c.tell.result refl told.2 said;
+      decided = told_decided S S.folder.files (Err told.0) c.tell-status.result refl told.2 said;
+      unreadable = told_no_file S S.folder.files (Err told.0) c.tell-status.result refl told.2 said;
       others_kept = keeps_others S (Err told.0) said;
       fleet_unused = c.in-Err.ensures.fleet_unused;
       counts_and_links = record {
         folder_count = c.in-Err.ensures.folder_count;
         fleet_count = c.in-Err.ensures.fleet_count;
         out_count = c.in-Err.ensures.out_count;
-        err_count = c.tell.ensures.count;
+        err_count = c.tell-status.ensures.count;
         links_closed = c.in-Err.ensures.links_closed;
       };
     }
