@@ -1,32 +1,51 @@
 // Files of the system, and a standard stream.
-use mk_base::Mem;
-use mk_outside::{FileSave, Folder, Sink, Wrote};
+use mk_outside::{FileRead, FileSave, Folder, Sink, Wrote};
 use mk_real::{RealFolder, RealSink};
-use std::alloc::Global;
+use std::alloc::{AllocGlobal, Global};
 use std::fs::{self, Files};
 use std::io;
 use std::os::unix::fs as unix;
-use std::test::Fail;
 
-// What a folder answers to a read, and the bytes that it gives.
-fn read_text<F: Folder>(alloc: Global, folder: &mut F, name: &str) -> Result<String, Mem> {
-    let mut bytes = Vec::new(alloc);
-    let read = folder.read(name, &mut bytes);
-    let text = std::str::from_utf8(bytes.as_slice()).unwrap_or("");
-    Ok(format!(in alloc; "{read:?} {text}")?)
+// Whether a folder answers so to a read, and gives these bytes.
+fn is_read<F: Folder>(
+    alloc: Global,
+    folder: &mut F,
+    name: &str,
+    want: FileRead,
+    bytes: &[u8],
+) -> bool {
+    let mut into = Vec::new(alloc);
+    folder.read(name, &mut into) == want && into.as_slice() == bytes
+}
+
+// Whether a save of these bytes is answered so, and a read then gives these.
+fn is_saved<R: Files + AllocGlobal>(
+    rt: &R,
+    name: &str,
+    bytes: &[u8],
+    want: FileSave,
+    kept: &[u8],
+) -> bool {
+    let mut folder = RealFolder::new(rt);
+    folder.save(name, bytes) == want
+        && is_read(rt.alloc(), &mut folder, name, FileRead::Whole, kept)
+}
+
+fn is_missing<R: Files + AllocGlobal>(rt: &R, name: &str) -> bool {
+    is_read(
+        rt.alloc(),
+        &mut RealFolder::new(rt),
+        name,
+        FileRead::Missing,
+        b"",
+    )
 }
 
 #[test]
-fn keeps_a_file(rt: HostRuntime) -> Result<(), Fail> {
+fn keeps_a_file(rt: HostRuntime) {
     let name = "kept-by-a-test";
-    let mut folder = RealFolder::new(&rt);
-    assert_eq!(rt; folder.save(name, b"some\n"), FileSave::Kept);
-    let kept = read_text(rt.alloc(), &mut folder, name)?;
-    fs::remove_file(&rt, name)?;
-    let missed = read_text(rt.alloc(), &mut folder, name)?;
-    assert_eq!(rt; kept.as_str(), "Whole some\n");
-    assert_eq!(rt; missed.as_str(), "Missing ");
-    Ok(())
+    let kept = is_saved(&rt, name, b"some\n", FileSave::Kept, b"some\n");
+    assert!(rt; fs::remove_file(&rt, name).is_ok() && kept && is_missing(&rt, name));
 }
 
 #[test]
@@ -54,39 +73,41 @@ fn is_tidy<R: Files>(rt: &R) -> io::Result<bool> {
     Ok(fs::symlink_metadata(rt, LINK)?.is_symlink() && !fs::exists(rt, "replaced-by-a-test.part")?)
 }
 
-#[test]
-fn puts_a_file_in_the_place_of_another(rt: HostRuntime) -> Result<(), Fail> {
-    make_both(&rt)?;
-    let mut folder = RealFolder::new(&rt);
-    let saved = folder.save(LINK, b"new\n");
-    let tidy = is_tidy(&rt);
-    let kept = read_text(rt.alloc(), &mut folder, REPLACED)?;
-    remove_both(&rt)?;
-    assert_eq!(rt; saved, FileSave::Kept);
-    assert!(rt; matches!(tidy, Ok(true)));
-    assert_eq!(rt; kept.as_str(), "Whole new\n");
-    Ok(())
+// Whether a save over the link is a save over the file.
+fn is_replaced<R: Files + AllocGlobal>(rt: &R) -> bool {
+    is_saved(rt, LINK, b"new\n", FileSave::Kept, b"new\n")
+        && matches!(is_tidy(rt), Ok(true))
+        && is_read(
+            rt.alloc(),
+            &mut RealFolder::new(rt),
+            REPLACED,
+            FileRead::Whole,
+            b"new\n",
+        )
 }
 
-// A file of this name, to whose name nothing can be added, after a save: the save's answer, and the file.
-fn saved_over<R: Files + AllocGlobal>(rt: &R, name: &str) -> io::Result<(FileSave, String)> {
-    let mut folder = RealFolder::new(rt);
-    fs::write(rt, name, "old\n")?;
-    let saved = folder.save(name, b"new\n");
-    let kept = read_text(rt.alloc(), &mut folder, name);
-    fs::remove_file(rt, name)?;
-    match kept {
-        Ok(kept) => Ok((saved, kept)),
-        Err(Mem) => Err(io::Error::from(io::ErrorKind::OutOfMemory)),
+#[test]
+fn puts_a_file_in_the_place_of_another(rt: HostRuntime) {
+    let replaced = make_both(&rt).is_ok() && is_replaced(&rt);
+    assert!(rt; remove_both(&rt).is_ok() && replaced);
+}
+
+// Whether a save over a file fails and leaves it, which is removed then.
+fn is_left<R: Files + AllocGlobal>(rt: &R, name: &str) -> bool {
+    let left = fs::write(rt, name, "old\n").is_ok()
+        && is_saved(rt, name, b"new\n", FileSave::Failed, b"old\n");
+    fs::remove_file(rt, name).is_ok() && left
+}
+
+// The same of a file with so long a name that nothing stands beside it.
+fn is_long_left<R: Files + AllocGlobal>(rt: &R) -> bool {
+    match "a".repeat(rt.alloc(), 252) {
+        Ok(name) => is_left(rt, name.as_str()),
+        Err(_) => false,
     }
 }
 
 #[test]
-fn leaves_the_old_file_where_a_save_fails(rt: HostRuntime) -> Result<(), Fail> {
-    // so long that nothing stands beside it
-    let name = "a".repeat(rt.alloc(), 252)?;
-    let (saved, kept) = saved_over(&rt, name.as_str())?;
-    assert_eq!(rt; saved, FileSave::Failed);
-    assert_eq!(rt; kept.as_str(), "Whole old\n");
-    Ok(())
+fn leaves_the_old_file_where_a_save_fails(rt: HostRuntime) {
+    assert!(rt; is_long_left(&rt));
 }

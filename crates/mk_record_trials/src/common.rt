@@ -4,12 +4,11 @@ ghost use Rattle.std.specs.List.{list_all};
 ghost use Rattle.mk_record_write.specs.Writable.{is_writable};
 
 use mk_base::{List, SimNo, Tier};
-use mk_message::read;
+use mk_message::{ReadFault, read};
 use mk_plan::{Entry, Item, Journal};
 use mk_record_read::read_record;
 use mk_record_replay::{Replayed, replay};
 use std::alloc::Global;
-use std::test::Fail;
 
 /// The lines of a plan of one counter.
 pub const PLAN: &str =
@@ -42,10 +41,12 @@ got [0,[1,5,3]]
 end 6
 ";
 
-/// The replay of a record.
-pub fn replayed(alloc: Global, text: &[u8], order: Option<u32>) -> Result<Replayed, Fail> {
-    let saved = read_record(alloc, text)?;
-    Ok(replay(alloc, saved, order)?)
+/// The replay of a record, if it can be read.
+pub fn replayed(alloc: Global, text: &[u8], order: Option<u32>) -> Option<Replayed> {
+    match read_record(alloc, text) {
+        Ok(saved) => replay(alloc, saved, order).ok(),
+        Err(_) => None,
+    }
 }
 
 // A Step without inputs.
@@ -58,7 +59,12 @@ fn step(alloc: Global, time: i64) -> Item {
 }
 
 // A Step of the counter, and its reply.
-fn push_turn(alloc: Global, entries: &mut List<Entry>, time: i64, reply: &[u8]) -> Result<(), Fail>
+fn push_turn(
+    alloc: Global,
+    entries: &mut List<Entry>,
+    time: i64,
+    reply: &[u8],
+) -> Result<(), ReadFault>
     requires { list_all is_writable entries.old ≡ true }
     ensures writable { OnOk result (list_all is_writable entries.new ≡ true) }
     ensures length { OnOk result (length entries.new ≡ length entries.old + 2) }
@@ -70,7 +76,7 @@ fn push_turn(alloc: Global, entries: &mut List<Entry>, time: i64, reply: &[u8]) 
 }
 
 /// The journal of the counter's three steps.
-pub fn counter_journal(alloc: Global) -> Result<Journal, Fail>
+pub fn counter_journal(alloc: Global) -> Result<Journal, ReadFault>
     ensures writable { IfOk result (λ journal. list_all is_writable journal.entries ≡ true) }
     ensures length { IfOk result (λ journal. length journal.entries ≡ 6) }
 {

@@ -2,13 +2,12 @@
 ghost use Rattle.std.specs.Prelude.{◌<◌, ◌^◌, ℕ, List, length};
 ghost use Rattle.mk_launch.specs.Ready.{IsPrepared};
 
-use mk_base::{List, Mem, SimNo, Text};
+use mk_base::{LinkNo, List, Mem, SimNo, Text};
 use mk_fakes::{Ask, AskedFleet, MemFleet};
 use mk_launch::{StartFault, prepare, start_all, words};
 use mk_outside::Start;
 use mk_scenario::{Scenario, read_scenario};
 use std::alloc::Global;
-use std::test::Fail;
 
 fn are_same(words: &[Text], wanted: &[&str]) -> bool {
     for (word, want) in words.iter().zip(wanted) {
@@ -20,13 +19,24 @@ fn are_same(words: &[Text], wanted: &[&str]) -> bool {
 }
 
 // Whether these are the words of a template for port 5000.
-fn are_words(alloc: Global, template: &str, wanted: &[&str]) -> Result<bool, Fail> {
-    let template = Text::of(alloc, template)?;
-    let words = words(alloc, &template, 5000)?;
-    Ok(are_same(words.as_slice(), wanted))
+fn are_words(alloc: Global, template: &Text, wanted: &[&str]) -> bool {
+    match words(alloc, template, 5000) {
+        Ok(words) => are_same(words.as_slice(), wanted),
+        Err(_) => false,
+    }
 }
 
-const TEMPLATES: [(&str, &[&str]); 5] = [
+// A template and its words.
+type Template = (&'static str, &'static [&'static str]);
+
+fn has_words(alloc: Global, row: &Template) -> bool {
+    match Text::of(alloc, row.0) {
+        Ok(template) => are_words(alloc, &template, row.1),
+        Err(_) => false,
+    }
+}
+
+const TEMPLATES: [Template; 5] = [
     (
         "python sim.py \"my dir/x\" %(addr)s --p=100%%",
         &["python", "sim.py", "my dir/x", "127.0.0.1:5000", "--p=100%"],
@@ -37,79 +47,19 @@ const TEMPLATES: [(&str, &[&str]); 5] = [
     ("\\\"é ü\\\" a\tb", &["\\é ü\\", "a\tb"]),
 ];
 
-#[test]
-fn templates_have_words(rt: HostRuntime) -> Result<(), Fail> {
-    for (template, wanted) in &TEMPLATES {
-        assert!(rt; are_words(rt.alloc(), template, wanted)?, "{template}");
+// How many templates have their words, up to the first that hasn't.
+fn count_templates(alloc: Global) -> usize {
+    for (place, row) in TEMPLATES.iter().enumerate() {
+        if !has_words(alloc, row) {
+            return place;
+        }
     }
-    Ok(())
+    TEMPLATES.len()
 }
-
-// Two simulators by commands, one within the program, and one at a port.
-const FOUR: &str = "until = 1
-sim = [{name = 'A', command = 'a %(addr)s'}, {name = 'B', local = 'sum'}, {name = 'C', connect = '127.0.0.1:4000'}, {name = 'D', command = 'b --at=%(addr)s'}]
-";
-
-fn kinds(alloc: Global) -> Result<List<Text>, Mem> {
-    let mut kinds = List::new(alloc);
-    kinds.push(Text::of(alloc, "sum")?)?;
-    Ok(kinds)
-}
-
-// A fleet that fails at this call.
-fn fleet_failing(alloc: Global, failing: u64) -> Result<MemFleet, Mem> {
-    let mut fails = List::new(alloc);
-    fails.push(failing)?;
-    MemFleet::new(alloc, List::new(alloc), fails, 1, 0, 0)
-}
-
-// What comes of a start over a fleet that fails at this call: the fault, and the places of the links.
-fn begun_of(
-    alloc: Global,
-    scenario: &Scenario,
-    failing: u64,
-) -> Result<(Option<StartFault>, String), Mem>
-    requires few { length scenario.now.sims < 2 ^ 32 }
-    requires prepared { (kinds : List (List ℕ)) × IsPrepared scenario.now kinds }
-{
-    let mut fleet = fleet_failing(alloc, failing)?;
-    let mut links = List::new(alloc);
-    let fault = start_all(alloc, scenario, &mut fleet, &mut links).err();
-    Ok((fault, format!(in alloc; "{:?}", links.as_slice())?))
-}
-
-// The same of the four, if they can be begun.
-fn begun(alloc: Global, failing: u64) -> Result<(Option<StartFault>, String), Fail> {
-    let kinds = kinds(alloc)?;
-    let scenario = read_scenario(alloc, FOUR.as_bytes())?;
-    prepare(alloc, &scenario, &kinds)?;
-    if scenario.sims.len() != 4 {
-        return Err(Mem)?;
-    }
-    Ok(begun_of(alloc, &scenario, failing)?)
-}
-
-const STARTS: [(u64, Option<StartFault>, &str); 3] = [
-    (
-        9,
-        None,
-        "[Some(LinkNo(0)), None, Some(LinkNo(1)), Some(LinkNo(2))]",
-    ),
-    (
-        3,
-        Some(StartFault::Failed(SimNo(3))),
-        "[Some(LinkNo(0)), None, Some(LinkNo(1))]",
-    ),
-    (1, Some(StartFault::Failed(SimNo(0))), "[]"),
-];
 
 #[test]
-fn simulators_are_started_in_their_order(rt: HostRuntime) -> Result<(), Fail> {
-    for (failing, wanted, places) in &STARTS {
-        let (fault, links) = begun(rt.alloc(), *failing)?;
-        assert!(rt; fault == *wanted && links.as_str() == *places);
-    }
-    Ok(())
+fn templates_have_words(rt: HostRuntime) {
+    assert_eq!(rt; count_templates(rt.alloc()), 5);
 }
 
 // A port that listening gives, a connection to a port, and a command's words.
@@ -140,62 +90,155 @@ fn are_wanted(asks: &[Ask], wanted: &[Wanted]) -> bool {
     asks.len() == wanted.len()
 }
 
-// Whether a fleet that fails at this call is asked for these at the start of a scenario's simulators.
-fn is_asked_for(
-    alloc: Global,
-    scenario: &Scenario,
-    failing: u64,
-    wanted: &[Wanted],
-) -> Result<bool, Mem>
-    requires few { length scenario.now.sims < 2 ^ 32 }
-    requires prepared { (kinds : List (List ℕ)) × IsPrepared scenario.now kinds }
-{
-    let mut fleet = AskedFleet::new(alloc, fleet_failing(alloc, failing)?);
-    let mut links = List::new(alloc);
-    let _fault = start_all(alloc, scenario, &mut fleet, &mut links).err();
-    Ok(are_wanted(fleet.asks(), wanted))
+// What comes of a start: the fault and the places of the links, or what the fleet was asked for.
+#[derive(Drop)]
+enum Outcome {
+    Begun(Option<StartFault>, &'static [Option<LinkNo>]),
+    Asked(&'static [Wanted]),
 }
+
+// A file, how many simulators it has, the call at which the fleet fails, and what comes of a start.
+type Row = (&'static str, u8, u64, Outcome);
+
+// Two simulators by commands, one within the program, and one at a port.
+const FOUR: &str = "until = 1
+sim = [{name = 'A', command = 'a %(addr)s'}, {name = 'B', local = 'sum'}, {name = 'C', connect = '127.0.0.1:4000'}, {name = 'D', command = 'b --at=%(addr)s'}]
+";
 
 // A simulator by a command, one within the program, and one at a port.
 const THREE: &str = "until = 1
 sim = [{name = 'A', command = '\"my sim\" --at=%(addr)s 100%%'}, {name = 'B', local = 'sum'}, {name = 'C', connect = '127.0.0.1:4000'}]
 ";
 
-// What these three ask for, where the fleet fails at no call, at the second start, at the first one, and as it is to listen.
-const ASKED: [(u64, &[Wanted]); 4] = [
+// The fleet fails at no call, at the start of the fourth simulator, and at that of the first; and of three simulators at no call,
+// at the second start, at the first one, and as it is to listen.
+const STARTS: [Row; 7] = [
     (
+        FOUR,
+        4,
         9,
-        &[
+        Outcome::Begun(
+            None,
+            &[Some(LinkNo(0)), None, Some(LinkNo(1)), Some(LinkNo(2))],
+        ),
+    ),
+    (
+        FOUR,
+        4,
+        3,
+        Outcome::Begun(
+            Some(StartFault::Failed(SimNo(3))),
+            &[Some(LinkNo(0)), None, Some(LinkNo(1))],
+        ),
+    ),
+    (
+        FOUR,
+        4,
+        1,
+        Outcome::Begun(Some(StartFault::Failed(SimNo(0))), &[]),
+    ),
+    (
+        THREE,
+        3,
+        9,
+        Outcome::Asked(&[
             Wanted::Port(5000),
             Wanted::Words(&["my sim", "--at=127.0.0.1:5000", "100%"]),
             Wanted::Connection(4000),
-        ],
+        ]),
     ),
     (
+        THREE,
+        3,
         2,
-        &[
+        Outcome::Asked(&[
             Wanted::Port(5000),
             Wanted::Words(&["my sim", "--at=127.0.0.1:5000", "100%"]),
-        ],
+        ]),
     ),
-    (1, &[Wanted::Port(5000)]),
-    (0, &[]),
+    (THREE, 3, 1, Outcome::Asked(&[Wanted::Port(5000)])),
+    (THREE, 3, 0, Outcome::Asked(&[])),
 ];
 
-fn three_ask_for(alloc: Global, failing: u64, wanted: &[Wanted]) -> Result<bool, Fail> {
-    let kinds = kinds(alloc)?;
-    let scenario = read_scenario(alloc, THREE.as_bytes())?;
-    prepare(alloc, &scenario, &kinds)?;
-    if scenario.sims.len() != 3 {
-        return Ok(false);
+fn kinds(alloc: Global) -> Result<List<Text>, Mem> {
+    let mut kinds = List::new(alloc);
+    kinds.push(Text::of(alloc, "sum")?)?;
+    Ok(kinds)
+}
+
+// A fleet that fails at this call.
+fn fleet_failing(alloc: Global, failing: u64) -> Result<AskedFleet<MemFleet>, Mem> {
+    let mut fails = List::new(alloc);
+    fails.push(failing)?;
+    let fleet = MemFleet::new(alloc, List::new(alloc), fails, 1, 0, 0)?;
+    Ok(AskedFleet::new(alloc, fleet))
+}
+
+// Whether this comes of a start over a fleet.
+fn is_begun(
+    alloc: Global,
+    scenario: &Scenario,
+    fleet: &mut AskedFleet<MemFleet>,
+    outcome: &Outcome,
+) -> bool
+    requires few { length scenario.now.sims < 2 ^ 32 }
+    requires prepared { (kinds : List (List ℕ)) × IsPrepared scenario.now kinds }
+{
+    let mut links = List::new(alloc);
+    let fault = start_all(alloc, scenario, fleet, &mut links).err();
+    match outcome {
+        Outcome::Begun(want, places) => fault == *want && links.as_slice() == *places,
+        Outcome::Asked(wanted) => are_wanted(fleet.asks(), wanted),
     }
-    Ok(is_asked_for(alloc, &scenario, failing, wanted)?)
+}
+
+fn does_begin(alloc: Global, scenario: &Scenario, failing: u64, outcome: &Outcome) -> bool
+    requires few { length scenario.now.sims < 2 ^ 32 }
+    requires prepared { (kinds : List (List ℕ)) × IsPrepared scenario.now kinds }
+{
+    match fleet_failing(alloc, failing) {
+        Ok(mut fleet) => is_begun(alloc, scenario, &mut fleet, outcome),
+        Err(_) => false,
+    }
+}
+
+fn is_prepared(alloc: Global, scenario: &Scenario, kinds: &List<Text>, row: &Row) -> bool {
+    if scenario.sims.len() != usize::from(row.1) {
+        return false;
+    }
+    match prepare(alloc, scenario, kinds) {
+        Ok(()) => does_begin(alloc, scenario, row.2, &row.3),
+        Err(_) => false,
+    }
+}
+
+fn is_read(alloc: Global, kinds: &List<Text>, row: &Row) -> bool {
+    match read_scenario(alloc, row.0.as_bytes()) {
+        Ok(scenario) => is_prepared(alloc, &scenario, kinds, row),
+        Err(_) => false,
+    }
+}
+
+// How many starts have their outcome, up to the first that hasn't.
+fn count_starts(alloc: Global, kinds: &List<Text>) -> usize {
+    for (place, row) in STARTS.iter().enumerate() {
+        if !is_read(alloc, kinds, row) {
+            return place;
+        }
+    }
+    STARTS.len()
+}
+
+fn count_started(alloc: Global) -> usize {
+    match kinds(alloc) {
+        Ok(kinds) => count_starts(alloc, &kinds),
+        Err(_) => 1000,
+    }
 }
 
 #[test]
-fn a_start_asks_for_a_port_its_words_and_connections(rt: HostRuntime) -> Result<(), Fail> {
-    for (failing, wanted) in &ASKED {
-        assert!(rt; three_ask_for(rt.alloc(), *failing, wanted)?);
-    }
-    Ok(())
+fn simulators_are_started_in_their_order_and_ask_for_a_port_their_words_and_connections(
+    rt: HostRuntime,
+) {
+    assert_eq!(rt; count_started(rt.alloc()), 7);
 }

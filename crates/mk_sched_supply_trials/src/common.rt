@@ -124,12 +124,19 @@ fn line(alloc: Global, input: &Input) -> Result<String, Mem> {
     )?)
 }
 
-/// Inputs of a step as text.
-pub fn lines(alloc: Global, inputs: &[Input]) -> Result<String, Mem> {
+fn lines(alloc: Global, inputs: &[Input]) -> Result<String, Mem> {
     let mut lines = String::new(alloc);
     for input in inputs {
         let next = line(alloc, input)?;
         lines.push_str(next.as_str())?;
     }
     Ok(lines)
+}
+
+/// Whether these are the inputs of a step as text.
+pub fn are_lines(alloc: Global, inputs: &[Input], want: &str) -> bool {
+    match lines(alloc, inputs) {
+        Ok(lines) => lines.as_str() == want,
+        Err(_) => false,
+    }
 }

@@ -2,42 +2,26 @@
 ghost use Rattle.std.specs.Prelude.{◌≡◌, true, IfOk, IsSome};
 ghost use Rattle.std.specs.List.{list_all};
 ghost use Rattle.mk_base.specs.Trees.{is_in_range};
-ghost use Rattle.mk_plan.specs.Plans.{RefersInside};
+ghost use Rattle.mk_plan.specs.Plans.{IsValidPlan, RefersInside};
 ghost use Rattle.mk_plan_names.specs.Names.{AreNamesOf};
 ghost use Rattle.mk_async.specs.Asked.{asked_in, is_asked_in_range};
 
 use crate::common::{checked, lending_plan, read};
 use mk_async::{Asked, given_values, judge, plain_content};
-use mk_base::{Json, List, Mem, SimNo, Text};
+use mk_base::{Json, List, Mem, Members, SimNo, Text};
+use mk_json::JsonFault;
 use mk_plan::{Plan, SetValue};
+use mk_plan_check::PlanFault;
 use mk_plan_names::Names;
 use std::alloc::Global;
-use std::test::Fail;
 
 // A list of one argument.
-fn one(alloc: Global, text: &str) -> Result<List<Json>, Fail>
+fn one(alloc: Global, text: &str) -> Result<List<Json>, JsonFault>
     ensures { IfOk result (λ args. list_all is_in_range args ≡ true) }
 {
     let mut args = List::new(alloc);
     args.push(read(alloc, text)?)?;
     Ok(args)
-}
-
-// What a request of B asks for, or the number of its refusal.
-fn judged<'a>(
-    plan: &Plan,
-    names: &Names,
-    name: &Text,
-    args: &'a List<Json>,
-    named: &Json,
-) -> Result<Asked<'a>, u8>
-    requires references { RefersInside plan.now }
-    requires names { AreNamesOf plan.now names.now }
-    ensures form { IfOk result (λ asked. IsSome (asked_in asked)) }
-    ensures range { list_all is_in_range args.now ≡ true
-        → IfOk result (λ asked. is_asked_in_range asked ≡ true) }
-{
-    judge(plan, names, SimNo(1), name, args, named)
 }
 
 // Values that are set, a line each.
@@ -56,21 +40,17 @@ fn lines(alloc: Global, sets: &[SetValue]) -> Result<String, Mem> {
     Ok(lines)
 }
 
-// The values that a request of B to set data sets.
-fn sets(alloc: Global, plan: &Plan, names: &Names, arg: &str) -> Result<String, Fail>
-    requires references { RefersInside plan.now }
+// The values that a request sets.
+fn sets(alloc: Global, plan: &Plan, names: &Names, asked: &Asked) -> Result<String, Mem>
     requires names { AreNamesOf plan.now names.now }
+    requires form { IsSome (asked_in asked.now) }
+    requires range { is_asked_in_range asked.now ≡ true }
 {
-    let args = one(alloc, arg)?;
-    let named = read(alloc, "{}")?;
-    let name = Text::of(alloc, "set_data")?;
-    let Ok(asked) = judged(plan, names, &name, &args, &named) else {
-        return Ok(String::from_str(alloc, "refused")?);
-    };
-    let given = given_values(alloc, plan, names, &asked)?;
-    Ok(lines(alloc, given.as_slice())?)
+    let given = given_values(alloc, plan, names, asked)?;
+    lines(alloc, given.as_slice())
 }
 
+// The content of the answer to a request.
 fn content_of(alloc: Global, plan: &Plan, names: &Names, asked: &Asked) -> Result<String, Mem>
     requires references { RefersInside plan.now }
     requires names { AreNamesOf plan.now names.now }
@@ -82,48 +62,104 @@ fn content_of(alloc: Global, plan: &Plan, names: &Names, asked: &Asked) -> Resul
     }
 }
 
-// The content of the answer to a request of B for related entities.
-fn related(alloc: Global, plan: &Plan, names: &Names, arg: &str) -> Result<String, Fail>
+// The values that a request of B to set data sets, or the content of the answer to another one.
+fn told(
+    alloc: Global,
+    plan: &Plan,
+    names: &Names,
+    name: &Text,
+    args: &List<Json>,
+) -> Result<String, Mem>
+    requires references { RefersInside plan.now }
+    requires names { AreNamesOf plan.now names.now }
+    requires range { list_all is_in_range args.now ≡ true }
+{
+    let named = Json::Object(Members::new(alloc));
+    match judge(plan, names, SimNo(1), name, args, &named) {
+        Ok(asked) => {
+            if name.as_str() == "set_data" {
+                sets(alloc, plan, names, &asked)
+            } else {
+                content_of(alloc, plan, names, &asked)
+            }
+        }
+        Err(_) => Ok(String::from_str(alloc, "refused")?),
+    }
+}
+
+fn is_text(text: Result<String, Mem>, want: &str) -> bool {
+    match text {
+        Ok(text) => text.as_str() == want,
+        Err(_) => false,
+    }
+}
+
+// A request of B: its function, its argument, and what it sets or the content of its answer.
+type Row = (&'static str, &'static str, &'static str);
+
+fn is_told_by(alloc: Global, plan: &Plan, names: &Names, args: &List<Json>, row: &Row) -> bool
+    requires references { RefersInside plan.now }
+    requires names { AreNamesOf plan.now names.now }
+    requires range { list_all is_in_range args.now ≡ true }
+{
+    match Text::of(alloc, row.0) {
+        Ok(name) => is_text(told(alloc, plan, names, &name, args), row.2),
+        Err(_) => false,
+    }
+}
+
+fn is_told(alloc: Global, plan: &Plan, names: &Names, row: &Row) -> bool
     requires references { RefersInside plan.now }
     requires names { AreNamesOf plan.now names.now }
 {
-    let args = one(alloc, arg)?;
-    let named = read(alloc, "{}")?;
-    let name = Text::of(alloc, "get_related_entities")?;
-    let Ok(asked) = judged(plan, names, &name, &args, &named) else {
-        return Ok(String::from_str(alloc, "refused")?);
-    };
-    Ok(content_of(alloc, plan, names, &asked)?)
+    match one(alloc, row.1) {
+        Ok(args) => is_told_by(alloc, plan, names, &args, row),
+        Err(_) => false,
+    }
 }
 
-const SETS: &str =
-    r#"{"B-0.a.b":{"A-0.1":{"in":[1,null]},"A-0.0":{"in":"x"}},"B-0.0":{"A-0.1":{"in":-7}}}"#;
+const SETTING: Row = (
+    "set_data",
+    r#"{"B-0.a.b":{"A-0.1":{"in":[1,null]},"A-0.0":{"in":"x"}},"B-0.0":{"A-0.1":{"in":-7}}}"#,
+    "B-0.0 1 in -7\nB-0.a.b 0 in \"x\"\nB-0.a.b 1 in [1,null]\n",
+);
 
-const RELATED: &str =
-    r#"{"A-0.1":{"A-0.0":{"type":"M"},"B-0.0":{"type":"N"},"B-0.a.b":{"type":"N"}},"B-0.a.b":{}}"#;
+const RELATED: Row = (
+    "get_related_entities",
+    r#"["B-0.a.b","A-0.1"]"#,
+    r#"{"A-0.1":{"A-0.0":{"type":"M"},"B-0.0":{"type":"N"},"B-0.a.b":{"type":"N"}},"B-0.a.b":{}}"#,
+);
 
-// The values that are set, and who is related.
-fn tell(alloc: Global, plan: &Plan, names: &Names) -> Result<(String, String), Fail>
+fn are_told(alloc: Global, plan: &Plan, names: &Names) -> bool
     requires references { RefersInside plan.now }
     requires names { AreNamesOf plan.now names.now }
 {
-    let sets = sets(alloc, plan, names, SETS)?;
-    Ok((sets, related(alloc, plan, names, r#"["B-0.a.b","A-0.1"]"#)?))
+    is_told(alloc, plan, names, &SETTING) && is_told(alloc, plan, names, &RELATED)
 }
 
-fn told(alloc: Global) -> Result<(String, String), Fail> {
-    let plan = checked(alloc, lending_plan(alloc)?)?;
-    let names = Names::new(alloc, &plan)?;
-    tell(alloc, &plan, &names)
+fn are_told_of(alloc: Global, plan: &Plan) -> bool
+    requires { IsValidPlan plan.now }
+{
+    match Names::new(alloc, plan) {
+        Ok(names) => are_told(alloc, plan, &names),
+        Err(_) => false,
+    }
+}
+
+fn valid_plan(alloc: Global) -> Result<Plan, PlanFault>
+    ensures { IfOk result (λ plan. IsValidPlan plan) }
+{
+    checked(alloc, lending_plan(alloc)?)
+}
+
+fn are_all_told(alloc: Global) -> bool {
+    match valid_plan(alloc) {
+        Ok(plan) => are_told_of(alloc, &plan),
+        Err(_) => false,
+    }
 }
 
 #[test]
-fn requests_set_values_and_tell_who_is_related(rt: HostRuntime) -> Result<(), Fail> {
-    let (sets, related) = told(rt.alloc())?;
-    assert_eq!(rt;
-        sets.as_str(),
-        "B-0.0 1 in -7\nB-0.a.b 0 in \"x\"\nB-0.a.b 1 in [1,null]\n"
-    );
-    assert_eq!(rt; related.as_str(), RELATED);
-    Ok(())
+fn requests_set_values_and_tell_who_is_related(rt: HostRuntime) {
+    assert!(rt; are_all_told(rt.alloc()));
 }

@@ -1,17 +1,17 @@
 // A stock of two simulators: a counter that feeds a sum.
-ghost use Rattle.std.specs.Prelude.{◌<◌, IfOk};
+ghost use Rattle.std.specs.Prelude.{◌≡◌, ◌<◌, true, IfOk};
+ghost use Rattle.mk_base.specs.Trees.{is_in_range};
 ghost use Rattle.mk_plan.specs.Plans.{IsValidPlan, sim_count};
 ghost use Rattle.mk_sched_supply.specs.Stock.{IsStockFor};
 
-use crate::common::{at, checked, lines, read, sum_plan};
-use mk_base::{Mem, SimNo};
+use crate::common::{are_lines, at, checked, read, sum_plan};
+use mk_base::{Json, SimNo};
 use mk_plan::{Message, Place, Plan};
 use mk_plan_check::PlanFault;
 use mk_plan_judge::wrong;
 use mk_plan_samples::{OUT_TO_IN, Tie};
 use mk_sched_supply::Stock;
 use std::alloc::Global;
-use std::test::Fail;
 
 const COUNTER: SimNo = SimNo(0);
 
@@ -37,53 +37,77 @@ fn plan(alloc: Global) -> Result<Plan, PlanFault>
     checked(alloc, sum_plan(alloc, &TIES)?)
 }
 
-// Whether the data of the counter give its `level`, its `out` and what triggers, in this order.
-fn found(alloc: Global, stock: &Stock, text: &str) -> Result<(bool, bool, bool), Fail> {
-    let content = read(alloc, text)?;
-    let outputs = stock.outputs(COUNTER, &content)?;
-    match (outputs.values.as_slice(), outputs.given.as_slice()) {
-        ([level, out], [given]) => Ok((level.is_some(), out.is_some(), *given)),
-        _ => Ok((false, false, false)),
+// Whether data of the counter give its `level`, its `out` and what triggers, in this order.
+fn given(stock: &Stock, content: &Json) -> Option<(bool, bool, bool)> {
+    match stock.outputs(COUNTER, content) {
+        Ok(outputs) => match (outputs.values.as_slice(), outputs.given.as_slice()) {
+            ([level, out], [given]) => Some((level.is_some(), out.is_some(), *given)),
+            _ => None,
+        },
+        Err(_) => None,
+    }
+}
+
+fn is_found(alloc: Global, stock: &Stock, text: &str, want: (bool, bool, bool)) -> bool {
+    match read(alloc, text) {
+        Ok(content) => given(stock, &content) == Some(want),
+        Err(_) => false,
     }
 }
 
 // Takes what the counter gives at a time, if its data are right; another stock of the plan says what that is.
-fn take(
+fn take(plan: &Plan, other: &Stock, stock: &mut Stock, time: u8, content: Json) -> bool
+    requires sims { 0 < sim_count plan.now }
+    requires other { IsStockFor plan.now other.now }
+    requires range { is_in_range content ≡ true }
+{
+    let place = Place::Fetching {
+        at: at(time),
+        id: 3,
+    };
+    let message = Message::Success { id: 3, content };
+    if wrong(plan, other.wants(COUNTER), COUNTER, &place, &message).is_some() {
+        return false;
+    }
+    match &message {
+        Message::Success { id: _, content } => match other.outputs(COUNTER, content) {
+            Ok(outputs) => stock.take_outputs(COUNTER, at(time), &outputs).is_ok(),
+            Err(_) => false,
+        },
+        _ => false,
+    }
+}
+
+// The same of the data of a text.
+fn is_taken(
     alloc: Global,
     plan: &Plan,
     other: &Stock,
     stock: &mut Stock,
     time: u8,
     text: &str,
-) -> Result<bool, Fail>
+) -> bool
     requires sims { 0 < sim_count plan.now }
     requires other { IsStockFor plan.now other.now }
 {
-    let place = Place::Fetching {
-        at: at(time),
-        id: 3,
-    };
-    let message = Message::Success {
-        id: 3,
-        content: read(alloc, text)?,
-    };
-    if wrong(plan, other.wants(COUNTER), COUNTER, &place, &message).is_some() {
-        return Ok(false);
-    }
-    match &message {
-        Message::Success { id: _, content } => {
-            let outputs = other.outputs(COUNTER, content)?;
-            stock.take_outputs(COUNTER, at(time), &outputs)?;
-            Ok(true)
-        }
-        _ => Ok(false),
+    match read(alloc, text) {
+        Ok(content) => take(plan, other, stock, time, content),
+        Err(_) => false,
     }
 }
 
-// The inputs of a step of the sum after an earlier one, as text.
-fn inputs(alloc: Global, stock: &Stock, previous: u8, time: u8) -> Result<String, Mem> {
-    let inputs = stock.inputs_at(SUM, Some(at(previous)), at(time))?;
-    lines(alloc, inputs.as_slice())
+// Whether these are the inputs of a step of the sum after an earlier one, as text.
+fn is_given(alloc: Global, stock: &Stock, previous: u8, time: u8, want: &str) -> bool {
+    match stock.inputs_at(SUM, Some(at(previous)), at(time)) {
+        Ok(inputs) => are_lines(alloc, inputs.as_slice(), want),
+        Err(_) => false,
+    }
+}
+
+// The sum asks for nothing before a time.
+fn does_forget(stock: &mut Stock, time: u8) -> bool {
+    stock.forget_before(SUM, at(time));
+    true
 }
 
 // What a row does to the stock, or what is asked of it, with the answer that it must get.
@@ -104,50 +128,18 @@ enum Row {
 }
 
 // Does what the row says, and tells whether the answer is its own.
-fn is_so(
-    alloc: Global,
-    plan: &Plan,
-    other: &Stock,
-    stock: &mut Stock,
-    row: Row,
-) -> Result<bool, Fail>
+fn is_so(alloc: Global, plan: &Plan, other: &Stock, stock: &mut Stock, row: Row) -> bool
     requires sims { 0 < sim_count plan.now }
     requires other { IsStockFor plan.now other.now }
 {
     match row {
-        Row::Found(text, want) => Ok(found(alloc, other, text)? == want),
-        Row::Take(time, text, right) => {
-            Ok(take(alloc, plan, other, stock, time, text)? == right)
-        }
-        Row::Step(previous, time, want) => {
-            Ok(inputs(alloc, stock, previous, time)?.as_str() == want)
-        }
-        Row::Forget(time) => {
-            stock.forget_before(SUM, at(time));
-            Ok(true)
-        }
-        Row::Kept(count) => Ok(stock.kept() == count),
-        Row::AtMost(count) => Ok(stock.kept() <= count),
+        Row::Found(text, want) => is_found(alloc, other, text, want),
+        Row::Take(time, text, right) => is_taken(alloc, plan, other, stock, time, text) == right,
+        Row::Step(previous, time, want) => is_given(alloc, stock, previous, time, want),
+        Row::Forget(time) => does_forget(stock, time),
+        Row::Kept(count) => stock.kept() == count,
+        Row::AtMost(count) => stock.kept() <= count,
     }
-}
-
-// How many rows come true, up to the first that doesn't.
-fn count_so(
-    alloc: Global,
-    plan: &Plan,
-    other: &Stock,
-    stock: &mut Stock,
-    rows: &[Row],
-) -> Result<usize, Fail>
-    requires sims { 0 < sim_count plan.now }
-    requires other { IsStockFor plan.now other.now }
-{
-    for (place, row) in rows.iter().enumerate() {
-        if !is_so(alloc, plan, other, stock, *row)? {
-            return Ok(place);
-        }
-    }
-    Ok(rows.len())
 }
 
 const ROWS: [Row; 13] = [
@@ -169,15 +161,47 @@ const ROWS: [Row; 13] = [
     Row::Step(3, 4, "0.in A-0.0=4;0.p A-0.0=[8];"),
 ];
 
-fn count_all(alloc: Global) -> Result<usize, Fail> {
-    let plan = plan(alloc)?;
-    let other = Stock::new(alloc, &plan)?;
-    let mut stock = Stock::new(alloc, &plan)?;
-    count_so(alloc, &plan, &other, &mut stock, &ROWS)
+// How many rows come true, up to the first that doesn't.
+fn count_so(alloc: Global, plan: &Plan, other: &Stock, stock: &mut Stock) -> usize
+    requires sims { 0 < sim_count plan.now }
+    requires other { IsStockFor plan.now other.now }
+{
+    for (place, row) in ROWS.iter().enumerate() {
+        if !is_so(alloc, plan, other, stock, *row) {
+            return place;
+        }
+    }
+    ROWS.len()
+}
+
+// The same of another stock of the plan.
+fn count_beside(alloc: Global, plan: &Plan, other: &Stock) -> usize
+    requires valid { IsValidPlan plan.now }
+    requires other { IsStockFor plan.now other.now }
+{
+    match Stock::new(alloc, plan) {
+        Ok(mut stock) => count_so(alloc, plan, other, &mut stock),
+        Err(_) => 1000,
+    }
+}
+
+fn count_of(alloc: Global, plan: &Plan) -> usize
+    requires { IsValidPlan plan.now }
+{
+    match Stock::new(alloc, plan) {
+        Ok(other) => count_beside(alloc, plan, &other),
+        Err(_) => 1000,
+    }
+}
+
+fn count_all(alloc: Global) -> usize {
+    match plan(alloc) {
+        Ok(plan) => count_of(alloc, &plan),
+        Err(_) => 1000,
+    }
 }
 
 #[test]
-fn the_sum_gets_what_the_counter_gave(rt: HostRuntime) -> Result<(), Fail> {
-    assert_eq!(rt; count_all(rt.alloc())?, ROWS.len());
-    Ok(())
+fn the_sum_gets_what_the_counter_gave(rt: HostRuntime) {
+    assert_eq!(rt; count_all(rt.alloc()), 13);
 }

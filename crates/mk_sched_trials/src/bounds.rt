@@ -10,7 +10,6 @@ use mk_plan_check::{PlanFault, check_plan};
 use mk_plan_samples::{Who, number};
 use mk_tiers::Bounds;
 use std::alloc::Global;
-use std::test::Fail;
 
 // The bounds of a plan, if it is valid.
 fn bounds_of(alloc: Global, plan: &Plan) -> Result<Bounds, PlanFault>
@@ -37,16 +36,20 @@ enum Row {
     Start(Who, i64, bool),
     // from when on it may step
     Earliest(Who, Option<Tier>),
+    // the same is what comes back from the other at the earliest
+    EarliestBack(Who),
     // the least end of the walks that touch it at their end alone
     Outer(Who, Option<i64>),
+    // the same is the time of what comes back
+    OuterBack(Who),
     // whether it may be asked
     Ready(Who, bool),
     // who may be asked first
     First(Option<SimNo>),
 }
 
-// Does what the row says, and tells whether the answer is its own.
-fn is_so(bounds: &mut Bounds, row: Row) -> bool
+// Does what the row says, and tells whether the answer is its own, where so much comes back.
+fn is_so(bounds: &mut Bounds, row: Row, back: Tier) -> bool
     requires { length bounds.old.owns ≡ 2 }
     ensures { length bounds.new.owns ≡ 2 }
 {
@@ -56,49 +59,69 @@ fn is_so(bounds: &mut Bounds, row: Row) -> bool
             true
         }
         Row::Earliest(who, end) => bounds.earliest(number(who)) == end,
+        Row::EarliestBack(who) => bounds.earliest(number(who)) == Some(back),
         Row::Outer(who, end) => bounds.outer(number(who)) == end,
+        Row::OuterBack(who) => bounds.outer(number(who)) == Some(back.time),
         Row::Ready(who, is_ready) => bounds.ready(number(who)) == is_ready,
         Row::First(sim) => bounds.first_ready() == sim,
     }
 }
 
-// How many rows come true of a plan's bounds, up to the first that doesn't.
-fn count_so(alloc: Global, plan: &Plan, rows: &[Row]) -> Result<usize, PlanFault>
-    requires { length plan.now.sims ≡ 2 }
+const ROWS: [Row; 15] = [
+    Row::First(None),
+    Row::Start(Who::A, 1, false),
+    Row::Earliest(Who::B, Some(Tier { time: 1, tier: 0 })),
+    // only its own walks come back
+    Row::Outer(Who::A, None),
+    Row::Start(Who::B, 4, false),
+    Row::Ready(Who::A, true),
+    Row::Ready(Who::B, false),
+    Row::OuterBack(Who::A),
+    Row::Outer(Who::B, Some(1)),
+    // a start that is outstanding bounds the other, and is asked no more
+    Row::Start(Who::A, 1, true),
+    Row::First(None),
+    Row::Start(Who::A, -1, false),
+    Row::EarliestBack(Who::A),
+    Row::First(Some(SimNo(1))),
+    Row::Outer(Who::B, None),
+];
+
+// How many rows come true of bounds, up to the first that doesn't.
+fn count_so(bounds: &mut Bounds, back: Tier) -> usize
+    requires { length bounds.old.owns ≡ 2 }
 {
-    let mut bounds = bounds_of(alloc, plan)?;
-    for (place, row) in rows.iter().enumerate() {
-        if !is_so(&mut bounds, *row) {
-            return Ok(place);
+    for (place, row) in ROWS.iter().enumerate() {
+        if !is_so(bounds, *row, back) {
+            return place;
         }
     }
-    Ok(rows.len())
+    ROWS.len()
 }
 
-#[test]
-fn what_comes_back_comes_later(rt: HostRuntime) -> Result<(), Fail> {
-    for (via, time, tier) in [(Via::Weak, 4, 1), (Via::Shift(3), 7, 0)] {
-        let plan = loop_of_two(rt.alloc(), via)?;
-        let rows = [
-            Row::First(None),
-            Row::Start(Who::A, 1, false),
-            Row::Earliest(Who::B, Some(Tier { time: 1, tier: 0 })),
-            // only its own walks come back
-            Row::Outer(Who::A, None),
-            Row::Start(Who::B, 4, false),
-            Row::Ready(Who::A, true),
-            Row::Ready(Who::B, false),
-            Row::Outer(Who::A, Some(time)),
-            Row::Outer(Who::B, Some(1)),
-            // a start that is outstanding bounds the other, and is asked no more
-            Row::Start(Who::A, 1, true),
-            Row::First(None),
-            Row::Start(Who::A, -1, false),
-            Row::Earliest(Who::A, Some(Tier { time, tier })),
-            Row::First(Some(SimNo(1))),
-            Row::Outer(Who::B, None),
-        ];
-        assert_eq!(rt; count_so(rt.alloc(), &plan, &rows)?, rows.len());
+fn count_of(alloc: Global, plan: &Plan, back: Tier) -> usize
+    requires { length plan.now.sims ≡ 2 }
+{
+    match bounds_of(alloc, plan) {
+        Ok(mut bounds) => count_so(&mut bounds, back),
+        Err(_) => 1000,
     }
-    Ok(())
+}
+
+// The same of two simulators, over such a connection from the second.
+fn count_all(alloc: Global, via: Via, back: Tier) -> usize {
+    match loop_of_two(alloc, via) {
+        Ok(plan) => count_of(alloc, &plan, back),
+        Err(_) => 1000,
+    }
+}
+
+const WEAKLY: Tier = Tier { time: 4, tier: 1 };
+
+const SHIFTED: Tier = Tier { time: 7, tier: 0 };
+
+#[test]
+fn what_comes_back_comes_later(rt: HostRuntime) {
+    assert_eq!(rt; count_all(rt.alloc(), Via::Weak, WEAKLY), 15);
+    assert_eq!(rt; count_all(rt.alloc(), Via::Shift(3), SHIFTED), 15);
 }

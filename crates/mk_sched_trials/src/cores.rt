@@ -9,7 +9,6 @@ use mk_plan_check::{PlanFault, check_plan};
 use mk_plan_samples::{OUT_TO_IN, connections, plan_of, two_simulators};
 use mk_sched::{Core, Next, Taken};
 use std::alloc::Global;
-use std::test::Fail;
 
 // The counter A-0 feeds the sum B-0, which steps at each third time.
 fn sum_plan(alloc: Global) -> Result<Plan, Mem> {
@@ -27,31 +26,36 @@ fn core_of(alloc: Global) -> Result<Core, PlanFault> {
 }
 
 // What is next.
-fn next(core: &mut Core) -> Result<&'static str, Mem> {
-    match core.next()? {
-        Next::Ask(_) => Ok("ask"),
-        Next::Wait => Ok("wait"),
-        Next::Done => Ok("done"),
-        Next::Fault(_) => Ok("fault"),
+fn next(core: &mut Core) -> &'static str {
+    match core.next() {
+        Ok(Next::Ask(_)) => "ask",
+        Ok(Next::Wait) => "wait",
+        Ok(Next::Done) => "done",
+        Ok(Next::Fault(_)) => "fault",
+        Err(_) => "no memory",
+    }
+}
+
+fn word_of(taken: Result<Taken, Mem>) -> &'static str {
+    match taken {
+        Ok(Taken::Quiet) => "quiet",
+        Ok(Taken::Send) => "send",
+        Ok(Taken::Fault(_)) => "fault",
+        Err(_) => "no memory",
     }
 }
 
 // What follows a message, of which the counter gives a copy.
-fn take(core: &mut Core, sim: u32, message: Message) -> Result<&'static str, Mem>
+fn take(core: &mut Core, sim: u32, message: Message) -> &'static str
     requires { is_message_in_range message ≡ true }
 {
     if sim as usize >= core.plan().sims.len() {
-        return Ok("nobody");
+        return "nobody";
     }
-    let taken = if sim == 0 {
-        core.arrive(SimNo(sim), &message)?
+    if sim == 0 {
+        word_of(core.arrive(SimNo(sim), &message))
     } else {
-        core.take(SimNo(sim), message)?
-    };
-    match taken {
-        Taken::Quiet => Ok("quiet"),
-        Taken::Send => Ok("send"),
-        Taken::Fault(_) => Ok("fault"),
+        word_of(core.take(SimNo(sim), message))
     }
 }
 
@@ -73,23 +77,18 @@ fn success(alloc: Global, id: u64, text: &str) -> Result<Message, JsonFault>
 }
 
 // What follows a reply to what is open.
-fn reply(alloc: Global, core: &mut Core, sim: u32, text: &str) -> Result<&'static str, Fail> {
-    let message = success(alloc, open_id(core, sim), text)?;
-    Ok(take(core, sim, message)?)
-}
-
-// What a core answers to a line: a question for what is next, or a reply.
-fn act(alloc: Global, core: &mut Core, sim: u32, text: &str) -> Result<&'static str, Fail> {
-    if text == "next" {
-        Ok(next(core)?)
-    } else {
-        reply(alloc, core, sim, text)
+fn reply(alloc: Global, core: &mut Core, sim: u32, text: &str) -> &'static str {
+    match success(alloc, open_id(core, sim), text) {
+        Ok(message) => take(core, sim, message),
+        Err(_) => "no reply",
     }
 }
 
 // Who says what, or `next`; what the core answers, and how many of the counter's outputs it keeps then at most. The counter makes
 // all seven before the sum replies for the first time; those before the sum's step are given up.
-const LINES: [(u32, &str, &str, usize); 32] = [
+type Line = (u32, &'static str, &'static str, usize);
+
+const LINES: [Line; 32] = [
     (0, "next", "ask", 0),
     (0, "next", "wait", 0),
     (0, "1", "send", 0),
@@ -124,14 +123,24 @@ const LINES: [(u32, &str, &str, usize); 32] = [
     (0, "next", "done", 2),
 ];
 
-// The first line to which a core answers otherwise, or after which it keeps more outputs.
-fn first_other(alloc: Global, core: &mut Core) -> Result<Option<usize>, Fail> {
-    for (place, (sim, text, answer, kept)) in LINES.iter().enumerate() {
-        if act(alloc, core, *sim, text)? != *answer || core.kept() > *kept {
-            return Ok(Some(place));
+// Whether a core answers so to a line, and keeps no more outputs then.
+fn is_so(alloc: Global, core: &mut Core, line: &Line) -> bool {
+    let answer = if line.1 == "next" {
+        next(core)
+    } else {
+        reply(alloc, core, line.0, line.1)
+    };
+    answer == line.2 && core.kept() <= line.3
+}
+
+// How many lines go so, up to the first that doesn't.
+fn count_so(alloc: Global, core: &mut Core) -> usize {
+    for (place, line) in LINES.iter().enumerate() {
+        if !is_so(alloc, core, line) {
+            return place;
         }
     }
-    Ok(None)
+    LINES.len()
 }
 
 // How many entries its journal has, and how many where it is taken apart.
@@ -141,15 +150,18 @@ fn entry_counts(core: Core) -> (usize, usize) {
     (count, journal.entries.len())
 }
 
-// The first line that goes otherwise, and how many entries the journal has then.
-fn played(alloc: Global) -> Result<(Option<usize>, (usize, usize)), Fail> {
-    let mut core = core_of(alloc)?;
-    let other = first_other(alloc, &mut core)?;
-    Ok((other, entry_counts(core)))
+// How many lines go so, and how many entries the journal has then.
+fn played(alloc: Global) -> (usize, (usize, usize)) {
+    match core_of(alloc) {
+        Ok(mut core) => {
+            let count = count_so(alloc, &mut core);
+            (count, entry_counts(core))
+        }
+        Err(_) => (1000, (0, 0)),
+    }
 }
 
 #[test]
-fn a_sum_gets_what_a_counter_gives(rt: HostRuntime) -> Result<(), Fail> {
-    assert_eq!(rt; played(rt.alloc())?, (None, (34, 34)));
-    Ok(())
+fn a_sum_gets_what_a_counter_gives(rt: HostRuntime) {
+    assert!(rt; played(rt.alloc()) == (32, (34, 34)));
 }

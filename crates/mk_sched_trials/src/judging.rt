@@ -1,12 +1,13 @@
 // A message judged, the place after it, and what the data give.
+ghost use Rattle.std.specs.Prelude.{◌≡◌};
+ghost use Rattle.mk_plan.specs.Turns.{wanted};
 
-use mk_base::{Mem, SimKind, SimNo, Tier};
-use mk_json::read_json;
-use mk_plan::{Cause, Message, Place, Plan};
+use mk_base::{Json, List, Mem, SimKind, SimNo, Tier};
+use mk_json::{JsonFault, read_json};
+use mk_plan::{Cause, Message, Place, Plan, Want};
 use mk_plan_judge::{next_place, values_for, wanted, wrong};
 use mk_plan_samples::{OUT_TO_IN, Tie, connections, plan_of, two_simulators};
 use std::alloc::Global;
-use std::test::Fail;
 
 const LEVEL: Tie = Tie {
     from_attr: "level",
@@ -27,49 +28,86 @@ fn plan(alloc: Global) -> Result<Plan, Mem> {
     plan_of(alloc, 5, 3, sims, conns)
 }
 
-const FETCHING: Place = Place::Fetching {
-    at: Tier { time: 2, tier: 0 },
-    id: 4,
-};
+// What is open after a reply, or the cause by which it is wrong.
+type Judged = Result<Option<Place>, Cause>;
 
-// What is open after a reply to the Step of A-0, or the cause by which the reply is wrong.
-fn judged_of(alloc: Global, text: &str) -> Result<Result<Option<Place>, Cause>, Fail> {
-    let plan = plan(alloc)?;
-    let wants = wanted(alloc, &plan, SimNo(0))?;
-    let content = read_json(alloc, text.as_bytes())?;
-    let message = Message::Success { id: 3, content };
+// Whether a reply to the Step of A-0 is judged so.
+fn is_judged(plan: &Plan, wants: &List<Want>, message: &Message, want: Judged) -> bool
+    requires { wants.now ≡ wanted plan.now 0 }
+{
     let place = Place::Stepping {
         at: Tier { time: 2, tier: 0 },
         id: 3,
         asks: 0,
     };
-    Ok(match wrong(&plan, &wants, SimNo(0), &place, &message) {
-        Some(cause) => Err(cause),
-        None => Ok(next_place(&wants, &place, &message)),
+    match wrong(plan, wants, SimNo(0), &place, message) {
+        Some(cause) => want == Err(cause),
+        None => want == Ok(next_place(wants, &place, message)),
+    }
+}
+
+fn reply(alloc: Global, text: &str) -> Result<Message, JsonFault> {
+    Ok(Message::Success {
+        id: 3,
+        content: read_json(alloc, text.as_bytes())?,
     })
 }
 
-#[test]
-fn the_reply_to_a_step_is_followed_by_get_data(rt: HostRuntime) -> Result<(), Fail> {
-    assert_eq!(rt; judged_of(rt.alloc(), "3")?, Ok(Some(FETCHING)));
-    assert_eq!(rt; judged_of(rt.alloc(), "2")?, Err(Cause::Wrong(3)));
-    Ok(())
+fn is_text_judged(alloc: Global, plan: &Plan, wants: &List<Want>, text: &str, want: Judged) -> bool
+    requires { wants.now ≡ wanted plan.now 0 }
+{
+    match reply(alloc, text) {
+        Ok(message) => is_judged(plan, wants, &message, want),
+        Err(_) => false,
+    }
 }
 
-// Whether `level` and `out`, in this order, are all that is wanted of A-0, and data with `out` alone give that alone.
-fn is_given(alloc: Global) -> Result<bool, Fail> {
-    let plan = plan(alloc)?;
-    let wants = wanted(alloc, &plan, SimNo(0))?;
-    let content = read_json(alloc, b"{\"0\":{\"out\":null}}")?;
-    let values = values_for(alloc, &wants, &content)?;
-    match values.as_slice() {
-        [level, out] => Ok(level.is_none() && out.is_some()),
-        _ => Ok(false),
+// Whether `level` and `out`, in this order, are all that is wanted of A-0, and these data give `out` alone.
+fn are_given(alloc: Global, wants: &List<Want>, content: &Json) -> bool {
+    match values_for(alloc, wants, content) {
+        Ok(values) => match values.as_slice() {
+            [level, out] => level.is_none() && out.is_some(),
+            _ => false,
+        },
+        Err(_) => false,
+    }
+}
+
+fn is_given(alloc: Global, wants: &List<Want>) -> bool {
+    match read_json(alloc, b"{\"0\":{\"out\":null}}") {
+        Ok(content) => are_given(alloc, wants, &content),
+        Err(_) => false,
+    }
+}
+
+const FETCHING: Place = Place::Fetching {
+    at: Tier { time: 2, tier: 0 },
+    id: 4,
+};
+
+fn are_right(alloc: Global, plan: &Plan, wants: &List<Want>) -> bool
+    requires { wants.now ≡ wanted plan.now 0 }
+{
+    is_text_judged(alloc, plan, wants, "3", Ok(Some(FETCHING)))
+        && is_text_judged(alloc, plan, wants, "2", Err(Cause::Wrong(3)))
+        && is_given(alloc, wants)
+}
+
+fn is_plan_right(alloc: Global, plan: &Plan) -> bool {
+    match wanted(alloc, plan, SimNo(0)) {
+        Ok(wants) => are_right(alloc, plan, &wants),
+        Err(_) => false,
+    }
+}
+
+fn is_right(alloc: Global) -> bool {
+    match plan(alloc) {
+        Ok(plan) => is_plan_right(alloc, &plan),
+        Err(_) => false,
     }
 }
 
 #[test]
-fn each_output_that_is_taken_is_wanted_once(rt: HostRuntime) -> Result<(), Fail> {
-    assert!(rt; is_given(rt.alloc())?);
-    Ok(())
+fn the_reply_to_a_step_is_judged_and_each_output_is_wanted_once(rt: HostRuntime) {
+    assert!(rt; is_right(rt.alloc()));
 }

@@ -3,7 +3,6 @@
 use mk_base::{Json, List, Mem, Text};
 use mk_plan::Message;
 use std::alloc::Global;
-use std::test::Fail;
 
 fn request(alloc: Global) -> Result<Message, Mem> {
     let mut args = List::new(alloc);
@@ -16,22 +15,39 @@ fn request(alloc: Global) -> Result<Message, Mem> {
     })
 }
 
-// Whether the copy of a request has its id, its name and its argument.
-fn is_copied(alloc: Global) -> Result<bool, Mem> {
-    let request = request(alloc)?;
-    match request.copy(alloc)? {
+// Whether a message has the id, the name and the argument of that request.
+fn is_request(message: &Message) -> bool {
+    match message {
         Message::Ask {
             id,
             name,
             args,
-            named: _named,
-        } => Ok(id == 9 && name.as_str() == "get_data" && args.len() == 1),
-        _ => Ok(false),
+            named,
+        } => {
+            *id == 9
+                && name.as_str() == "get_data"
+                && matches!(args.as_slice(), [Json::Whole(1)])
+                && named.is_null()
+        }
+        _ => false,
+    }
+}
+
+fn is_copied(request: &Message, alloc: Global) -> bool {
+    match request.copy(alloc) {
+        Ok(copy) => is_request(&copy),
+        Err(_) => false,
+    }
+}
+
+fn is_made_and_copied(alloc: Global) -> bool {
+    match request(alloc) {
+        Ok(request) => is_copied(&request, alloc),
+        Err(_) => false,
     }
 }
 
 #[test]
-fn messages_are_copied(rt: HostRuntime) -> Result<(), Fail> {
-    assert!(rt; is_copied(rt.alloc())?);
-    Ok(())
+fn messages_are_copied(rt: HostRuntime) {
+    assert!(rt; is_made_and_copied(rt.alloc()));
 }

@@ -6,7 +6,8 @@ ghost use Rattle.mk_scenario.specs.Wellformed.{IsWellformed};
 ghost use Rattle.mosaikrun_check.specs.Runnable.{IsRunnable};
 
 use crate::pacing::{Clock, FACTOR, ticking};
-use mk_base::{List, Mem, SimNo, Tier};
+use mk_base::{Mem, SimNo, Tier};
+use mk_fakes::MemFleet;
 use mk_local::Registry;
 use mk_pace::{Moment, PaceRan, paced};
 use mosaikrun_resume::{Study, study_of};
@@ -41,38 +42,79 @@ const MOMENTS: [Moment; 3] = [
     },
 ];
 
-fn pace<R: Wait>(rt: &R, alloc: Global, kinds: &Registry, study: Study) -> Result<PaceRan, Mem>
+fn fleet(alloc: Global) -> Result<MemFleet, Mem> {
+    let chunks = replies_of(alloc, &TALK, 1000)?;
+    ticking(alloc, chunks, CLOCK)
+}
+
+fn ran<R: Wait>(
+    rt: &R,
+    alloc: Global,
+    kinds: &Registry,
+    study: Study,
+    fleet: &mut MemFleet,
+) -> PaceRan
     requires wellformed { IsWellformed study.scenario }
     requires runnable { IsRunnable (map name_of (rows_in kinds.now)) study.scenario study.ranks }
 {
-    let chunks = replies_of(alloc, &TALK, 1000)?;
-    let mut fleet = ticking(alloc, chunks, CLOCK)?;
-    Ok(paced(
-        rt,
-        alloc,
-        study.scenario,
-        study.ranks,
-        &mut fleet,
-        kinds,
-        FACTOR,
-        Some(0),
-    ))
+    let Study {
+        scenario,
+        ranks,
+        ids,
+    } = study;
+    drop(ids);
+    paced(rt, alloc, scenario, ranks, fleet, kinds, FACTOR, Some(0))
 }
 
-fn moments<R: Wait>(rt: &R, alloc: Global) -> Result<List<Moment>, Mem> {
-    let kinds = Registry::new(alloc);
-    match study_of(alloc, &kinds, COUNTER.as_bytes()) {
-        Ok(study) => Ok(pace(rt, alloc, &kinds, study)?.moments),
-        Err(_) => Err(Mem),
+fn are_moments(ran: &PaceRan) -> bool {
+    ran.moments.as_slice() == &MOMENTS[..]
+}
+
+fn is_paced<R: Wait>(
+    rt: &R,
+    alloc: Global,
+    kinds: &Registry,
+    study: Study,
+    fleet: &mut MemFleet,
+) -> bool
+    requires wellformed { IsWellformed study.scenario }
+    requires runnable { IsRunnable (map name_of (rows_in kinds.now)) study.scenario study.ranks }
+{
+    let ran = ran(rt, alloc, kinds, study, fleet);
+    let right = are_moments(&ran);
+    drop(ran);
+    right
+}
+
+fn is_paced_over<R: Wait>(rt: &R, alloc: Global, kinds: &Registry, fleet: &mut MemFleet) -> bool {
+    match study_of(alloc, kinds, COUNTER.as_bytes()) {
+        Ok(study) => is_paced(rt, alloc, kinds, study, fleet),
+        Err(ending) => {
+            drop(ending);
+            false
+        }
     }
 }
 
-fn are_right<R: Wait>(rt: &R, alloc: Global) -> Result<bool, Mem> {
-    let moments = moments(rt, alloc)?;
-    Ok(moments.as_slice() == &MOMENTS[..])
+fn is_paced_with<R: Wait>(rt: &R, alloc: Global, kinds: &Registry) -> bool {
+    match fleet(alloc) {
+        Ok(mut fleet) => {
+            let right = is_paced_over(rt, alloc, kinds, &mut fleet);
+            drop(fleet);
+            right
+        }
+        Err(_) => false,
+    }
+}
+
+fn are_right<R: Wait>(rt: &R, alloc: Global) -> bool {
+    let kinds = Registry::new(alloc);
+    let right = is_paced_with(rt, alloc, &kinds);
+    drop(kinds);
+    right
 }
 
 #[test]
 fn each_step_is_sent_at_its_moment(rt: HostRuntime) {
-    assert_eq!(rt; are_right(&rt, rt.alloc()), Ok(true));
+    assert!(rt; are_right(&rt, rt.alloc()));
 }

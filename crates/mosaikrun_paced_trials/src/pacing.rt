@@ -1,10 +1,12 @@
 // A paced run over a fleet in memory, and what it comes to.
+ghost use Rattle.std.specs.Prelude.{◌≤◌, IfSome};
 
 use mk_base::{List, Mem};
 use mk_fakes::{Chunk, MemFleet};
 use mk_local::Registry;
 use mosaikrun_paced::paced_ran;
-use mosaikrun_samples::{COUNTER, Outcome, outcome_of};
+use mosaikrun_run::Told;
+use mosaikrun_samples::{COUNTER, is_both, outcome_of};
 use std::alloc::Global;
 use std::sync::Wait;
 
@@ -25,24 +27,74 @@ pub fn ticking(alloc: Global, chunks: List<Chunk>, clock: Clock) -> Result<MemFl
     Ok(fleet)
 }
 
-/// What the paced run of the counter over the fleet comes to, no kind being there; if it is strict, no step may be late.
-pub fn paced_counter<R: Wait>(
+// How late a step may be, in milliseconds: not at all if the run is strict, and else as late as it comes.
+fn allowance(is_strict: bool) -> Option<u64>
+    ensures { IfSome result (λ ms. ms ≤ 86400000) }
+{
+    if is_strict { Some(0) } else { None }
+}
+
+// What the paced run of the counter over the fleet tells.
+fn told<R: Wait>(
     rt: &R,
     alloc: Global,
+    kinds: &Registry,
     fleet: &mut MemFleet,
-    is_strict: bool,
-) -> Result<Outcome, Mem> {
-    let kinds = Registry::new(alloc);
-    let strict = if is_strict { Some(0) } else { None };
-    let told = paced_ran(
+    strict: Option<u64>,
+) -> Told
+    requires { IfSome strict (λ ms. ms ≤ 86400000) }
+{
+    paced_ran(
         rt,
         alloc,
-        &kinds,
+        kinds,
         COUNTER.as_bytes(),
         fleet,
         FACTOR,
         strict,
         true,
-    );
-    outcome_of(alloc, &told)
+    )
+}
+
+// Whether a run told this text and this record.
+fn is_told(alloc: Global, told: &Told, text: &str, kept: &str) -> bool {
+    match outcome_of(alloc, told) {
+        Ok(outcome) => {
+            let right = is_both(&outcome, text, kept);
+            drop(outcome);
+            right
+        }
+        Err(_) => false,
+    }
+}
+
+fn is_told_of<R: Wait>(
+    rt: &R,
+    alloc: Global,
+    kinds: &Registry,
+    fleet: &mut MemFleet,
+    is_strict: bool,
+    text: &str,
+    kept: &str,
+) -> bool {
+    let told = told(rt, alloc, kinds, fleet, allowance(is_strict));
+    let right = is_told(alloc, &told, text, kept);
+    drop(told);
+    right
+}
+
+/// Whether the paced run of the counter over the fleet comes to this text and this record, no kind being there; if it is strict, no
+/// step may be late.
+pub fn comes_to<R: Wait>(
+    rt: &R,
+    alloc: Global,
+    fleet: &mut MemFleet,
+    is_strict: bool,
+    text: &str,
+    kept: &str,
+) -> bool {
+    let kinds = Registry::new(alloc);
+    let right = is_told_of(rt, alloc, &kinds, fleet, is_strict, text, kept);
+    drop(kinds);
+    right
 }

@@ -1,9 +1,9 @@
 // The counter's run by clocks that go on by themselves or by its naps alone, with and without an allowance.
 
-use crate::pacing::{Clock, paced_counter, ticking};
+use crate::pacing::{Clock, comes_to, ticking};
 use mk_base::Mem;
 use mk_fakes::MemFleet;
-use mosaikrun_samples::{Outcome, RECORD, TALK, TEXT, count_right, is_both, replies_of};
+use mosaikrun_samples::{RECORD, TALK, TEXT, replies_of};
 use std::alloc::Global;
 use std::sync::Wait;
 
@@ -82,21 +82,28 @@ fn fleet_of(alloc: Global, clock: Clock) -> Result<MemFleet, Mem> {
     ticking(alloc, chunks, clock)
 }
 
-fn come_to<R: Wait>(rt: &R, alloc: Global, row: &Row) -> Result<Outcome, Mem> {
-    let mut fleet = fleet_of(alloc, row.clock)?;
-    paced_counter(rt, alloc, &mut fleet, row.is_strict)
+fn is_right<R: Wait>(rt: &R, alloc: Global, row: &Row) -> bool {
+    match fleet_of(alloc, row.clock) {
+        Ok(mut fleet) => {
+            let right = comes_to(rt, alloc, &mut fleet, row.is_strict, row.text, row.kept);
+            drop(fleet);
+            right
+        }
+        Err(_) => false,
+    }
 }
 
-fn is_right<R: Wait>(rt: &R, alloc: Global, row: &Row) -> Result<bool, Mem> {
-    let outcome = come_to(rt, alloc, row)?;
-    Ok(is_both(&outcome, row.text, row.kept))
-}
-
-fn rows_right<R: Wait>(rt: &R, alloc: Global) -> Result<usize, Mem> {
-    count_right(&ROWS, |row| is_right(rt, alloc, row))
+// How many rows are right, up to the first that isn't.
+fn rows_right<R: Wait>(rt: &R, alloc: Global) -> usize {
+    for (place, row) in ROWS.iter().enumerate() {
+        if !is_right(rt, alloc, row) {
+            return place;
+        }
+    }
+    ROWS.len()
 }
 
 #[test]
 fn steps_wait_for_the_clock(rt: HostRuntime) {
-    assert_eq!(rt; rows_right(&rt, rt.alloc()), Ok(4));
+    assert_eq!(rt; rows_right(&rt, rt.alloc()), 4);
 }

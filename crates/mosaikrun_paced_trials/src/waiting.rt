@@ -4,14 +4,6 @@ ghost use Rattle.std.specs.Prelude.{◌≡◌, length, IfOk};
 use mk_base::{Mem, SimNo, Tier};
 use mk_pace_held::{Due, First, Held, Holds};
 use std::alloc::Global;
-use std::test::Fail;
-
-fn due(time: i64, moment: u64) -> Due {
-    Due {
-        at: Tier { time, tier: 0 },
-        moment,
-    }
-}
 
 fn step(place: usize, due: Due) -> Held {
     Held {
@@ -30,54 +22,92 @@ fn request(place: usize) -> Held {
     }
 }
 
-fn first(sim: u32, place: usize, due: Due) -> Option<First> {
-    Some(First {
-        sim: SimNo(sim),
-        place,
-        due,
-    })
-}
+const EARLY: Due = Due {
+    at: Tier { time: 0, tier: 0 },
+    moment: 10,
+};
+
+const LATE: Due = Due {
+    at: Tier { time: 1, tier: 0 },
+    moment: 30,
+};
 
 // Of simulator 0 a Step waits and a request behind it; of 1 and 2 a Step each, with an earlier moment.
 fn waiting(alloc: Global) -> Result<Holds, Mem>
     ensures { IfOk result (λ holds. length holds ≡ 3) }
 {
     let mut holds = Holds::new(alloc, 3)?;
-    holds.hold(SimNo(0), step(3, due(1, 30)))?;
+    holds.hold(SimNo(0), step(3, LATE))?;
     holds.hold(SimNo(0), request(6))?;
-    holds.hold(SimNo(1), step(5, due(0, 10)))?;
-    holds.hold(SimNo(2), step(4, due(0, 10)))?;
+    holds.hold(SimNo(1), step(5, EARLY))?;
+    holds.hold(SimNo(2), step(4, EARLY))?;
     Ok(holds)
 }
 
-// The Step that is to be sent first, and then what was taken of that simulator.
-#[test]
-fn steps_by_moment_and_then_as_they_were_asked(rt: HostRuntime) -> Result<(), Fail> {
-    let alloc = rt.alloc();
-    let mut holds = waiting(alloc)?;
+// Whether this Step is to be sent first, and is what is taken of its simulator then.
+fn is_first(holds: &mut Holds, sim: u32, place: usize, due: Due) -> bool
+    requires { length holds.old ≡ 3 }
+    ensures { length holds.new ≡ 3 }
+{
+    let sim = SimNo(sim);
+    sim.0 < 3
+        && holds.first() == Some(First { sim, place, due })
+        && holds.take(sim) == Some(step(place, due))
+}
 
-    assert_eq!(rt; holds.first(), first(2, 4, due(0, 10)));
-    assert_eq!(rt; holds.take(SimNo(2)), Some(step(4, due(0, 10))));
-    assert_eq!(rt; holds.first(), first(1, 5, due(0, 10)));
-    assert_eq!(rt; holds.take(SimNo(1)), Some(step(5, due(0, 10))));
-    assert_eq!(rt; holds.first(), first(0, 3, due(1, 30)));
-    assert_eq!(rt; holds.take(SimNo(0)), Some(step(3, due(1, 30))));
-    Ok(())
+fn are_by_moment(holds: &mut Holds) -> bool
+    requires { length holds.old ≡ 3 }
+{
+    is_first(holds, 2, 4, EARLY) && is_first(holds, 1, 5, EARLY) && is_first(holds, 0, 3, LATE)
+}
+
+fn are_waiting_by_moment(alloc: Global) -> bool {
+    match waiting(alloc) {
+        Ok(mut holds) => are_by_moment(&mut holds),
+        Err(_) => false,
+    }
+}
+
+#[test]
+fn steps_by_moment_and_then_as_they_were_asked(rt: HostRuntime) {
+    assert!(rt; are_waiting_by_moment(rt.alloc()));
+}
+
+// A request of the one simulator.
+fn behind(alloc: Global) -> Result<Holds, Mem>
+    ensures { IfOk result (λ holds. length holds ≡ 1) }
+{
+    let mut holds = Holds::new(alloc, 1)?;
+    holds.hold(SimNo(0), request(6))?;
+    Ok(holds)
+}
+
+// Whether this waits of the one simulator.
+fn is_front(holds: &Holds, held: Option<Held>) -> bool
+    requires { length holds.now ≡ 1 }
+{
+    holds.is_held(SimNo(0)) == held.is_some() && holds.front(SimNo(0)) == held
 }
 
 // A request isn't the first; it goes with the Step before it.
-#[test]
-fn what_stands_behind_a_step(rt: HostRuntime) -> Result<(), Fail> {
-    let alloc = rt.alloc();
-    let mut holds = Holds::new(alloc, 1)?;
-    holds.hold(SimNo(0), request(6))?;
+fn is_behind(holds: &mut Holds) -> bool
+    requires { length holds.old ≡ 1 }
+{
+    holds.first().is_none()
+        && is_front(holds, Some(request(6)))
+        && holds.take(SimNo(0)) == Some(request(6))
+        && is_front(holds, None)
+        && holds.take(SimNo(0)).is_none()
+}
 
-    assert_eq!(rt; holds.first(), None);
-    assert_eq!(rt; holds.is_held(SimNo(0)), true);
-    assert_eq!(rt; holds.front(SimNo(0)), Some(request(6)));
-    assert_eq!(rt; holds.take(SimNo(0)), Some(request(6)));
-    assert_eq!(rt; holds.is_held(SimNo(0)), false);
-    assert_eq!(rt; holds.front(SimNo(0)), None);
-    assert_eq!(rt; holds.take(SimNo(0)), None);
-    Ok(())
+fn is_request_behind(alloc: Global) -> bool {
+    match behind(alloc) {
+        Ok(mut holds) => is_behind(&mut holds),
+        Err(_) => false,
+    }
+}
+
+#[test]
+fn what_stands_behind_a_step(rt: HostRuntime) {
+    assert!(rt; is_request_behind(rt.alloc()));
 }

@@ -9,6 +9,7 @@ ghost use Rattle.mosaikrun_sayings.specs.Sayings.{ids_of};
 use mk_base::Mem;
 use mk_local::Registry;
 use mk_outside::Fleet;
+use mosaikrun_endings::Ending;
 use mosaikrun_resume::{Study, resumed, study_of};
 use mosaikrun_samples::{Outcome, outcome_of, refused};
 use std::alloc::Global;
@@ -23,10 +24,30 @@ pub fn told<F: Fleet, R: Wait>(
     fleet: &mut F,
 ) -> Result<Outcome, Mem> {
     let kinds = Registry::new(alloc);
-    match study_of(alloc, &kinds, scenario.as_bytes()) {
-        Ok(study) => gone_on(rt, alloc, &kinds, study, old, fleet),
-        Err(ending) => refused(alloc, &ending),
+    let outcome = told_with(rt, alloc, &kinds, scenario, old, fleet);
+    drop(kinds);
+    outcome
+}
+
+fn told_with<F: Fleet, R: Wait>(
+    rt: &R,
+    alloc: Global,
+    kinds: &Registry,
+    scenario: &str,
+    old: &str,
+    fleet: &mut F,
+) -> Result<Outcome, Mem> {
+    match study_of(alloc, kinds, scenario.as_bytes()) {
+        Ok(study) => gone_on(rt, alloc, kinds, study, old, fleet),
+        Err(ending) => ended(alloc, ending),
     }
+}
+
+// What it comes to that ends so before it runs.
+fn ended(alloc: Global, ending: Ending) -> Result<Outcome, Mem> {
+    let outcome = refused(alloc, &ending);
+    drop(ending);
+    outcome
 }
 
 fn gone_on<F: Fleet, R: Wait>(
@@ -42,5 +63,7 @@ fn gone_on<F: Fleet, R: Wait>(
     requires ids { study.ids ≡ ids_of study.scenario }
 {
     let told = resumed(rt, alloc, kinds, study, old.as_bytes(), fleet, true);
-    outcome_of(alloc, &told)
+    let outcome = outcome_of(alloc, &told);
+    drop(told);
+    outcome
 }

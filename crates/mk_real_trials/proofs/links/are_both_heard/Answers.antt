@@ -1,0 +1,5 @@
+use Rattle.mk_real_trials.proofs.Opened.{is_open}
+use Rattle.mk_real_trials.proofs.links.are_both_heard.Goals as goal
+
+pub is_second_heard-requires : goal.is_second_heard-requires
+is_second_heard-requires g c = is_open c.in-Some.late (g.F.Fleet.open_links c.args.fleet.now) _ c.in-Some.ensures

@@ -1,0 +1,5 @@
+use Rattle.mk_real_trials.proofs.Opened.{is_open}
+use Rattle.mk_real_trials.proofs.links.is_end_heard.Goals as goal
+
+pub does_end-requires : goal.does_end-requires
+does_end-requires g c = is_open c.in-Some.link (g.F.Fleet.open_links c.args.fleet.now) _ c.in-Some.ensures
