@@ -25,7 +25,7 @@ use Rattle.mk_run_links.specs.Entries.{IsClockless, IsRunLink}
 use Rattle.mk_run_links.proofs.OnEntries.{on_or_clock, or_clock_more}
 use Rattle.mk_run_links.specs.Places.{AreOpen}
 use Rattle.mk_run_crew.specs.Seen.{CrewSeen, crew_of}
-use Rattle.mk_run.specs.inner.Handshakes.{Start}
+use Rattle.mk_run_crew.specs.Attempts.{Attempt}
 use Rattle.mk_run.specs.inner.Underway.{IsUnderway, Setting}
 use Rattle.mk_run.specs.inner.Turns.{AreLinksOpen}
 use Rattle.mk_run.proofs.Beginning.{links_open, run_begins, setting_of}
@@ -69,7 +69,7 @@ none_told : (log : List LogEntry) → IsClockless log → list_any is_told log �
 none_told [] all = refl
 none_told (e ∷ log) all = ap (λ (b : Bool). b || list_any is_told log) (untold_entry e all.0) ∙ none_told log all.1
 
-module _ (A : Start) (C : CrewSeen) (P : Plan) (s : IsStarted A C P) where
+module _ (A : Attempt) (C : CrewSeen) (P : Plan) (s : IsStarted A C P) where
   abbrev pub setting_at : Setting
   setting_at = setting_of A.started A.scenario A.ranks A.rows A.log C P s.begun
 

@@ -9,6 +9,7 @@ use Rattle.mk_outside.specs.declared.fleet.LogEntry.TheVariants.{Rest, Told, Nap
 use Rattle.mk_outside.specs.Logs.{later_of, last_write}
 use Rattle.mk_scenario.specs.declared.parts.Scenario.{Scenario}
 use Rattle.mk_sched.proofs.Pushed.{heads}
+use Rattle.mk_run_crew.specs.Attempts.{Attempt, attempt, longer}
 use Rattle.mk_local.specs.declared.turn.Turn.{Turn}
 use Rattle.mk_run_laws.specs.Crews.{AreStopped, CrewState, IsRestless}
 use Rattle.mk_run_laws.specs.Handshake.{setup_requests}
@@ -22,7 +23,6 @@ use Rattle.mk_run_crew.specs.declared.halt.Halt.TheVariants as halt
 use Rattle.mk_run_crew.specs.Halted.{HasHalted, ShowsCause}
 use Rattle.mk_run_crew.specs.Seen.{CrewSeen, crew_of}
 use Rattle.mk_run_crew.proofs.Stopped.{all_said}
-use Rattle.mk_run.specs.inner.Handshakes.{Start}
 use Rattle.mk_run.specs.declared.outcome.Outcome.{Outcome}
 use Rattle.mk_run.specs.declared.outcome.Outcome.TheVariants as outcome
 use Rattle.mk_run.specs.Outcomes.{outcome_of}
@@ -70,8 +70,8 @@ awake_on log entries one two before after is = elim (first_or_second log entries
 
 -- ---- the crew of a whole handshake is stopped
 
-halted : (A : Start) (C : CrewSeen) (P : Plan) (s : IsStarted A C P) (entries : List LogEntry) (some risen : Type 0) (h : Halt) → (some → risen) → ShowsCause A.started A.scenario A.ranks A.rows (A.log ++ entries) risen (setup_requests A.scenario) [] h
-    → AreStopped entries some (crew_of C) → IsRestless entries → AreOnOrOfClock (IsChannelLink C.channels) entries → HasHalted A.started A.scenario A.ranks A.rows (A.log ++ entries) risen h
+halted : (A : Attempt) (C : CrewSeen) (P : Plan) (s : IsStarted A C P) (entries : List LogEntry) (some risen : Type 0) (h : Halt) → (some → risen) → ShowsCause (longer A entries) risen (setup_requests A.scenario) [] h
+    → AreStopped entries some (crew_of C) → IsRestless entries → AreOnOrOfClock (IsChannelLink C.channels) entries → HasHalted (longer A entries) risen h
 halted A C P s entries some risen h on cause stopped restless of_channels = record {
   queued = setup_requests A.scenario;
   later = [];
@@ -89,8 +89,8 @@ halted A C P s entries some risen h on cause stopped restless of_channels = reco
       (on_run_or_clock A.started A.scenario C.channels entries (λ i l linked. let t = s.begun.begun.channels i l linked in (t.0, t.1, t.2)) s.begun.back of_channels);
 }
 
-not_paced : (A : Start) (C : CrewSeen) (P : Plan) (s : IsStarted A C P) (entries : List LogEntry) (some risen : Type 0) (h : Halt) → (some → risen) → ShowsCause A.started A.scenario A.ranks A.rows (A.log ++ entries) risen (setup_requests A.scenario) [] h
-    → AreStopped entries some (crew_of C) → IsRestless entries → AreOnOrOfClock (IsChannelLink C.channels) entries → IsAwake entries → HasNotPaced A.started A.scenario A.ranks A.rows (A.log ++ entries) risen (pace.Outcome (outcome_of h))
+not_paced : (A : Attempt) (C : CrewSeen) (P : Plan) (s : IsStarted A C P) (entries : List LogEntry) (some risen : Type 0) (h : Halt) → (some → risen) → ShowsCause (longer A entries) risen (setup_requests A.scenario) [] h
+    → AreStopped entries some (crew_of C) → IsRestless entries → AreOnOrOfClock (IsChannelLink C.channels) entries → IsAwake entries → HasNotPaced (longer A entries) risen (pace.Outcome (outcome_of h))
 not_paced A C P s entries some risen h on cause stopped restless of_channels awake = record {
   outcome = outcome_of h;
   is = refl;
@@ -123,7 +123,7 @@ no_memory P C origin factor strict entries faults new_faults ran stopped restles
 
 -- the handshake ended early
 pub begun_not : (started : ℕ) (S : Scenario) (ranks : List ℕ) (rows : List Turn) (factor : ℕ) (strict : Option ℕ) (entries : List LogEntry) (faults new_faults : ℕ) (h : Halt) (end : Outcome) (ran : PaceRan)
-    → HasHalted started S ranks rows entries (HasRisen faults new_faults) h → IsClockless entries → end ≡ outcome_of h → ran ≡ nothing_left end → PacesAs started S ranks rows factor strict ran.plan ran.journal ran.moments entries faults new_faults ran.end
+    → HasHalted (attempt started S ranks rows entries) (HasRisen faults new_faults) h → IsClockless entries → end ≡ outcome_of h → ran ≡ nothing_left end → PacesAs (attempt started S ranks rows entries) factor strict ran.plan ran.journal ran.moments faults new_faults ran.end
 begun_not started S ranks rows factor strict entries faults new_faults h end ran halted clockless end_is is =
-    subst (λ (r : PaceRan). PacesAs started S ranks rows factor strict r.plan r.journal r.moments entries faults new_faults r.end) (sym is)
+    subst (λ (r : PaceRan). PacesAs (attempt started S ranks rows entries) factor strict r.plan r.journal r.moments faults new_faults r.end) (sym is)
     (record { outcome = end; is = refl; run = record { halt = h; is = end_is; halted = halted }; awake = λ b after parts. no_naps entries b after clockless parts }, refl)

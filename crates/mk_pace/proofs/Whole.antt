@@ -26,7 +26,7 @@ use Rattle.mk_run_links.proofs.OnEntries.{on_no_clock, on_or_clock, on_run, or_c
 use Rattle.mk_run.specs.declared.outcome.Outcome.{Outcome}
 use Rattle.mk_run.specs.declared.outcome.Outcome.TheVariants as outcome
 use Rattle.mk_run.specs.Ends.{IsUngot}
-use Rattle.mk_run.specs.inner.Underway.{Setting, reply_in}
+use Rattle.mk_run.specs.inner.Underway.{Setting, exchange_at}
 use Rattle.mk_run.proofs.ChannelsStopped.{all_heard, behind_ungot, full_still, heard_behind, held_heard, stopped_by}
 use Rattle.mk_pace_laws.specs.declared.end.Moment.{Moment}
 use Rattle.mk_pace_laws.specs.declared.end.PaceEnd.{PaceEnd}
@@ -141,7 +141,7 @@ module _ (S : Setting) (T : Tempo) (strict : Option ℕ) (P : Plan) (J : List En
     | inr t ↦ absurd (no_naps entries t.0 after clockless t.2)
   ]
 
-  pub whole : IsPaced S.started S.scenario (reply_in S) P J T strict moments (log ++ entries) faults new_faults end
+  pub whole : IsPaced (exchange_at S (log ++ entries)) P J T strict moments faults new_faults end
   whole = record {
     replies = S.replies;
     valid = out.stands.valid;

@@ -10,13 +10,14 @@ use Rattle.mk_outside.specs.declared.fleet.LogEntry.{LogEntry}
 use Rattle.mk_outside.specs.declared.fleet.LogEntry.TheVariants.{Told}
 use Rattle.mk_setup.specs.Handshakes.{IsMade}
 use Rattle.mk_sched.specs.Cores.{CoreState}
+use Rattle.mk_run_laws.specs.Exchanges.{exchange}
 use Rattle.mk_run_laws.specs.Crews.{AreStopped, IsRestless}
 use Rattle.mk_run_laws.specs.Running.{SetupReplies}
 use Rattle.mk_run_links.specs.Entries.{AreOn}
 use Rattle.mk_run_links.specs.Places.{AreOpen, IsChannelLink}
 use Rattle.mk_run_crew.specs.Seen.{CrewSeen, crew_of}
-use Rattle.mk_run.specs.inner.Handshakes.{Start}
-use Rattle.mk_run.specs.inner.Underway.{Setting, reply_in}
+use Rattle.mk_run_crew.specs.Attempts.{Attempt}
+use Rattle.mk_run.specs.inner.Underway.{Setting, reply_in, exchange_at}
 use Rattle.mk_run.specs.inner.Turns.{AreLinksOpen}
 use Rattle.mk_run.proofs.Turning.{risen_on, risen_later}
 use Rattle.mk_run.proofs.WholeRuns.{new_core}
@@ -34,7 +35,7 @@ use Rattle.mk_pace.proofs.Whole.{whole, whole_replies}
 -- a paced run from its first turn to its stop
 pub paced_whole : (core new : CoreState) (C D : CrewSeen) (W V : WaitingSeen) (entries stops : List LogEntry) (f0 f1 f2 : ℕ) (end : PaceEnd) → f0 ≤ f1 → f1 ≤ f2 → TurnsAs (Err end) entries (HasRisen f0 f1) core C W new D V → IsOnTempo W V
     → AreStopped stops (HasRisen f1 f2) (crew_of D) → IsRestless stops → AreOn (IsChannelLink D.channels) stops → (S : Setting) (log : List LogEntry) (before : ℕ) → before ≤ f0 → GoesOn S core log C W
-    → (new.plan ≡ core.plan) × (r : IsPaced S.started S.scenario (reply_in S) new.plan new.entries W.tempo W.strict V.moments (log ++ (entries ++ stops)) before f2 end) × (r.replies ≡ S.replies)
+    → (new.plan ≡ core.plan) × (r : IsPaced (exchange_at S (log ++ (entries ++ stops))) new.plan new.entries W.tempo W.strict V.moments before f2 end) × (r.replies ≡ S.replies)
 paced_whole core new C D W V entries stops f0 f1 f2 end up later ended same stopped restless of_channels S log before low u =
     let over : HasPacedOut (HasRisen f0 f1) S V.tempo V.strict new.plan new.entries V.moments (log ++ entries) (crew_of D) end = ended S log u in
     let on_tempo : HasPacedOut (HasRisen f0 f1) S W.tempo V.strict new.plan new.entries V.moments (log ++ entries) (crew_of D) end =
@@ -44,7 +45,7 @@ paced_whole core new C D W V entries stops f0 f1 f2 end up later ended same stop
     let by_run = λ (r : HasRisen f0 f1). risen_on before f0 f2 low (risen_later f0 f1 f2 later r) in
     let by_stop = λ (r : HasRisen f1 f2). risen_on before f1 f2 (omega (arith, low, up)) r in
     let made = whole S W.tempo W.strict new.plan new.entries V.moments (log ++ entries) stops (crew_of D) end before f2 (HasRisen f0 f1) (HasRisen f1 f2) by_run by_stop stopping stopped restless of_channels in
-    let moved = subst (λ (l : List LogEntry). (r : IsPaced S.started S.scenario (reply_in S) new.plan new.entries W.tempo W.strict V.moments l before f2 end) × (r.replies ≡ S.replies)) (append_assoc log entries stops) (
+    let moved = subst (λ (l : List LogEntry). (r : IsPaced (exchange_at S l) new.plan new.entries W.tempo W.strict V.moments before f2 end) × (r.replies ≡ S.replies)) (append_assoc log entries stops) (
       made,
       whole_replies S W.tempo W.strict new.plan new.entries V.moments (log ++ entries) stops (crew_of D) end before f2 (HasRisen f0 f1) (HasRisen f1 f2) by_run by_stop stopping stopped restless of_channels,
     ) in
@@ -52,19 +53,19 @@ paced_whole core new C D W V entries stops f0 f1 f2 end up later ended same stop
 
 -- the same of the core's parts
 pub paced_in_parts : (S : Setting) (T : Tempo) (strict : Option ℕ) (P Q : Plan) (J K : List Entry) (moments others : List Moment) (log : List LogEntry) (before new_faults : ℕ) (end : PaceEnd) → Q ≡ P → K ≡ J → others ≡ moments → (old : Plan)
-    → (P ≡ old) × (r : IsPaced S.started S.scenario (reply_in S) P J T strict moments log before new_faults end) × (r.replies ≡ S.replies)
-    → (Q ≡ old) × (r : IsPaced S.started S.scenario (reply_in S) Q K T strict others log before new_faults end) × (r.replies ≡ S.replies)
+    → (P ≡ old) × (r : IsPaced (exchange_at S log) P J T strict moments before new_faults end) × (r.replies ≡ S.replies)
+    → (Q ≡ old) × (r : IsPaced (exchange_at S log) Q K T strict others before new_faults end) × (r.replies ≡ S.replies)
 paced_in_parts S T strict P Q J K moments others log before new_faults end q k o old t =
-    subst (λ (X : Plan). (X ≡ old) × (r : IsPaced S.started S.scenario (reply_in S) X K T strict others log before new_faults end) × (r.replies ≡ S.replies)) (sym q)
-    (subst (λ (Y : List Entry). (P ≡ old) × (r : IsPaced S.started S.scenario (reply_in S) P Y T strict others log before new_faults end) × (r.replies ≡ S.replies)) (sym k)
-    (subst (λ (Z : List Moment). (P ≡ old) × (r : IsPaced S.started S.scenario (reply_in S) P J T strict Z log before new_faults end) × (r.replies ≡ S.replies)) (sym o) t))
+    subst (λ (X : Plan). (X ≡ old) × (r : IsPaced (exchange_at S log) X K T strict others before new_faults end) × (r.replies ≡ S.replies)) (sym q)
+    (subst (λ (Y : List Entry). (P ≡ old) × (r : IsPaced (exchange_at S log) P Y T strict others before new_faults end) × (r.replies ≡ S.replies)) (sym k)
+    (subst (λ (Z : List Moment). (P ≡ old) × (r : IsPaced (exchange_at S log) P J T strict Z before new_faults end) × (r.replies ≡ S.replies)) (sym o) t))
 
 -- nothing waits yet
 abbrev pub new_waiting : Plan → ℕ → ℕ → Option ℕ → WaitingSeen
 new_waiting P origin factor strict = record { holds = replicate (sim_count P) []; moments = []; tempo = record { origin = origin; factor = factor }; strict = strict }
 
 -- it goes on from there
-pub goes_new : (A : Start) (C : CrewSeen) (P : Plan) (s : IsStarted A C P) (origin factor : ℕ) (strict : Option ℕ) (core : CoreState) (W : WaitingSeen) → core ≡ new_core P → W ≡ new_waiting P origin factor strict → (open_links : List LinkNo) → AreOpen C.channels open_links
+pub goes_new : (A : Attempt) (C : CrewSeen) (P : Plan) (s : IsStarted A C P) (origin factor : ℕ) (strict : Option ℕ) (core : CoreState) (W : WaitingSeen) → core ≡ new_core P → W ≡ new_waiting P origin factor strict → (open_links : List LinkNo) → AreOpen C.channels open_links
     → (S : Setting) × (log : List LogEntry) × GoesOn S core log C W × AreLinksOpen S open_links
 goes_new A C P s origin factor strict core W core_is waiting_is open_links all = (
   setting_at A C P s,
@@ -84,9 +85,9 @@ plan_paces P C core W origin factor strict entries faults new_faults (Some Q) (S
     (subst (λ (w : WaitingSeen). GoesOn (setting_at A C P s) (new_core P) (A.log ++ Told origin ∷ []) C w) (sym waiting_is) (begins A C P s origin factor strict)) in
     let t = subst
     (λ (w : WaitingSeen).
-    (Q ≡ P) × (r : IsPaced A.started A.scenario (reply_in (setting_at A C P s)) Q J.entries w.tempo w.strict moments (A.log ++ (Told origin ∷ entries)) before new_faults end) × (r.replies ≡ s.begun.replies)) waiting_is
-    (subst (λ (X : Plan). (Q ≡ X) × (r : IsPaced A.started A.scenario (reply_in (setting_at A C P s)) Q J.entries W.tempo W.strict moments (A.log ++ (Told origin ∷ entries)) before new_faults end) × (r.replies ≡ s.begun.replies)) (ap (λ (k : CoreState). k.plan) core_is)
-    (subst (λ (l : List LogEntry). (Q ≡ core.plan) × (r : IsPaced A.started A.scenario (reply_in (setting_at A C P s)) Q J.entries W.tempo W.strict moments l before new_faults end) × (r.replies ≡ s.begun.replies)) (append_assoc A.log (Told origin ∷ []) entries)
+    (Q ≡ P) × (r : IsPaced (exchange A.started A.scenario (reply_in (setting_at A C P s)) (A.log ++ (Told origin ∷ entries))) Q J.entries w.tempo w.strict moments before new_faults end) × (r.replies ≡ s.begun.replies)) waiting_is
+    (subst (λ (X : Plan). (Q ≡ X) × (r : IsPaced (exchange A.started A.scenario (reply_in (setting_at A C P s)) (A.log ++ (Told origin ∷ entries))) Q J.entries W.tempo W.strict moments before new_faults end) × (r.replies ≡ s.begun.replies)) (ap (λ (k : CoreState). k.plan) core_is)
+    (subst (λ (l : List LogEntry). (Q ≡ core.plan) × (r : IsPaced (exchange A.started A.scenario (reply_in (setting_at A C P s)) l) Q J.entries W.tempo W.strict moments before new_faults end) × (r.replies ≡ s.begun.replies)) (append_assoc A.log (Told origin ∷ []) entries)
     (g S log before low goes))) in
     record {
       answers = s.begun.answers;

@@ -7,6 +7,7 @@ ghost use Rattle.mk_outside.specs.Logs.{Adds};
 ghost use Rattle.mk_scenario.specs.Wellformed.{IsWellformed};
 ghost use Rattle.mk_launch.specs.Ready.{IsPrepared};
 ghost use Rattle.mk_launch.specs.Starts.{AreNumbered, links_in};
+ghost use Rattle.mk_run_crew.specs.Attempts.{Attempt, attempt};
 ghost use Rattle.mk_local.specs.Kinds.{name_of};
 ghost use Rattle.mk_local.specs.Registries.{rows_in};
 ghost use Rattle.mk_plan.specs.Plans.{IsValidPlan, sim_count};
@@ -17,7 +18,6 @@ ghost use Rattle.mk_setup.specs.Ranked.{AreRanksOf};
 ghost use Rattle.mk_run_local.specs.Seen.{AreOf};
 ghost use Rattle.mk_run_crew.specs.Seen.{crew_of, within_of};
 ghost use Rattle.mk_run_crew.specs.Started.{StartsLinks};
-ghost use Rattle.mk_run.specs.inner.Handshakes.{Start};
 ghost use Rattle.mk_run.specs.inner.Underway.{Setting};
 ghost use Rattle.mk_run.specs.inner.Turns.{AreLinksOpen};
 ghost use Rattle.mk_pace_laws.specs.declared.end.PaceEnd.TheVariants as pace;
@@ -68,8 +68,8 @@ pub fn paced<F: Paced, R: Wait>(
     ensures ran { (entries : List LogEntry)
         × Adds entries (F.Fleet.log fleet.old) (F.Fleet.log fleet.new)
         × (IsSome (F.Fleet.log fleet.new) → IsRising entries)
-        × PacesAs (F.Fleet.started fleet.old) scenario ranks
-        (rows_in kinds.now) factor strict result.plan result.journal result.moments entries
+        × PacesAs (attempt (F.Fleet.started fleet.old) scenario ranks (rows_in kinds.now) entries)
+        factor strict result.plan result.journal result.moments
         (F.Fleet.faults fleet.old) (F.Fleet.faults fleet.new) result.end
         × StartsLinks scenario (F.Fleet.started fleet.old) (F.Fleet.started fleet.new)
         (EndsAtStart result.plan entries result.end) }
@@ -126,7 +126,7 @@ fn pace_plan<F: Paced, R: Wait>(
     strict: Option<u64>,
 ) -> PaceRan
     requires most { factor ≤ 86400000 }
-    requires started { (A : Start) × (A.rows ≡ rows_in kinds.now) × IsStarted A crew plan }
+    requires started { (A : Attempt) × (A.rows ≡ rows_in kinds.now) × IsStarted A crew plan }
     requires open { AreOpen crew.channels (F.Fleet.open_links fleet.old) }
     ensures count { F.Fleet.faults fleet.old ≤ F.Fleet.faults fleet.new }
     ensures ran { (entries : List LogEntry)
@@ -157,7 +157,7 @@ fn pace_from<F: Paced, R: Wait>(
 ) -> PaceRan
     requires first { origin ≤ 10 ^ 18 }
     requires most { factor ≤ 86400000 }
-    requires started { (A : Start) × (A.rows ≡ rows_in kinds.now) × IsStarted A crew plan }
+    requires started { (A : Attempt) × (A.rows ≡ rows_in kinds.now) × IsStarted A crew plan }
     requires open { AreOpen crew.channels (F.Fleet.open_links fleet.old) }
     ensures count { F.Fleet.faults fleet.old ≤ F.Fleet.faults fleet.new }
     ensures ran { (entries : List LogEntry)

@@ -4,6 +4,7 @@ use Rattle.mk_plan.specs.Ready.{IsDone}
 use Rattle.mk_plan.specs.Journals.{view}
 use Rattle.mk_order.proofs.Headlines.{orderly_agrees, orderly_finished}
 use Rattle.mk_outside.specs.Counts.{HasRisen}
+use Rattle.mk_run_laws.specs.Exchanges.{exchange}
 use Rattle.mk_run_laws.specs.Handshake.{is_within}
 use Rattle.mk_run_laws.specs.Laws.{IsJournalOf}
 use Rattle.mk_run_laws.proofs.Answering.{done_answers}
@@ -31,7 +32,7 @@ paces_right started S reply P J T strict moments log faults new_faults end run =
   promised = λ H s x inputs advance more parts low R may. step_promised P run.valid started S j.sims reply log J j.orderly j.kinds j.links H s x inputs advance more parts low R may;
 }
   where
-    j : IsJournalOf started S reply P log J
+    j : IsJournalOf (exchange started S reply log) P J
     j = run.journal
 
     over : end ≡ Outcome Done → IsDone P (view P J)

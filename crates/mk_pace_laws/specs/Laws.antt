@@ -15,6 +15,7 @@ use Rattle.mk_outside.specs.declared.fleet.LogEntry.TheVariants.{Ended}
 use Rattle.mk_outside.specs.Logs.{heard_on}
 use Rattle.mk_session.specs.Fronts.{BeginsGarbled}
 use Rattle.mk_scenario.specs.declared.parts.Scenario.{Scenario}
+use Rattle.mk_run_laws.specs.Exchanges.{Exchange, exchange}
 use Rattle.mk_run_laws.specs.Handshake.{setup_count, sim_link}
 use Rattle.mk_run_laws.specs.Hearing.{rest_heard}
 use Rattle.mk_run_laws.specs.Kinds.{Replies}
@@ -36,30 +37,29 @@ use Rattle.mk_pace_laws.specs.Paced.{IsPaced}
 -- sends it, and a stop; all of it, but where a write took nothing or the count of faults rose; and
 -- the items are all of the journal's before the first Step that was never sent, but for the last
 -- ones, where one was too long or there was no memory for it
-pub record LinkPacesRight (started : ℕ) (S : Scenario) (reply : Replies) (P : Plan) (J : List Entry)
-    (moments : List Moment) (log : List LogEntry) (risen : Type 0) (end : PaceEnd) (i : ℕ)
-    (l : LinkNo) : Type 0 where
+pub record LinkPacesRight (X : Exchange) (P : Plan) (J : List Entry) (moments : List Moment)
+    (risen : Type 0) (end : PaceEnd) (i : ℕ) (l : LinkNo) : Type 0 where
   pub items : List Item
-  pub right : SaysRight started S reply (Some P) log i l (setup_count S i) items true
-  pub whole : SaidWhole S log risen i l (setup_count S i) items
+  pub right : SaysRight X (Some P) i l (setup_count X.scenario i) items true
+  pub whole : SaidWhole X.scenario X.log risen i l (setup_count X.scenario i) items
   pub all : QueuedOut end (sent_out J moments i) items
 
 -- what holds of a paced run
-pub record IsRightPace (started : ℕ) (S : Scenario) (reply : Replies) (P : Plan) (J : List Entry)
-    (moments : List Moment) (log : List LogEntry) (risen : Type 0) (end : PaceEnd) : Type 0 where
+pub record IsRightPace (X : Exchange) (P : Plan) (J : List Entry) (moments : List Moment)
+    (risen : Type 0) (end : PaceEnd) : Type 0 where
   pub agrees : Agrees P J
-  pub links : (i : ℕ) (l : LinkNo) → sim_link started S i ≡ Some l
-      → LinkPacesRight started S reply P J moments log risen end i l
-  pub done : end ≡ pace.Outcome outcome.Done → HasSentAll started S reply P J log
-  pub promised : ArePromised started S reply P J log
+  pub links : (i : ℕ) (l : LinkNo) → sim_link X.started X.scenario i ≡ Some l
+      → LinkPacesRight X P J moments risen end i l
+  pub done : end ≡ pace.Outcome outcome.Done → HasSentAll X P J
+  pub promised : ArePromised X P J
 
 -- every paced run is right
 abbrev pub PacesAreRight : Type 0
 PacesAreRight = (started : ℕ) (S : Scenario) (reply : Replies) (P : Plan) (J : List Entry)
     (T : Tempo) (strict : Option ℕ) (moments : List Moment) (log : List LogEntry)
     (faults new_faults : ℕ) (end : PaceEnd)
-    → IsPaced started S reply P J T strict moments log faults new_faults end
-    → IsRightPace started S reply P J moments log (HasRisen faults new_faults) end
+    → IsPaced (exchange started S reply log) P J T strict moments faults new_faults end
+    → IsRightPace (exchange started S reply log) P J moments (HasRisen faults new_faults) end
 
 -- what stood at each sleep, said of the run's own journal
 abbrev pub NapsAreWell : Type 0
@@ -88,6 +88,6 @@ abbrev pub PacesComplete : Type 0
 PacesComplete = (started : ℕ) (S : Scenario) (reply : Replies) (P : Plan) (J : List Entry)
     (T : Tempo) (strict : Option ℕ) (moments : List Moment) (log : List LogEntry)
     (faults new_faults : ℕ) (end : PaceEnd)
-    → IsPaced started S reply P J T strict moments log faults new_faults end
+    → IsPaced (exchange started S reply log) P J T strict moments faults new_faults end
     → IsFaultlessPace started S P J T strict moments log faults new_faults
     → (end ≡ pace.Outcome outcome.Done) ⊎ (end ≡ pace.Outcome outcome.Mem)

@@ -15,16 +15,15 @@ use Rattle.mk_outside.specs.Counts.{HasRisen}
 use Rattle.mk_outside.specs.declared.fleet.LogEntry.{LogEntry}
 use Rattle.mk_outside.specs.declared.fleet.LogEntry.TheVariants.{Nap, Rest, Told}
 use Rattle.mk_scenario.specs.declared.parts.Scenario.{Scenario}
-use Rattle.mk_local.specs.declared.turn.Turn.{Turn}
+use Rattle.mk_run_crew.specs.Attempts.{Attempt, exchange_of}
+use Rattle.mk_run_laws.specs.Exchanges.{Exchange}
 use Rattle.mk_run_laws.specs.Handshake.{is_within, setup_count, setup_requests, sim_link}
-use Rattle.mk_run_laws.specs.Kinds.{Replies}
 use Rattle.mk_run_laws.specs.Laws.{IsJournalOf}
 use Rattle.mk_run_laws.specs.Rests.{AllSetUp, IsWellInSetup}
 use Rattle.mk_run_laws.specs.Running.{SetupReplies}
 use Rattle.mk_run_laws.specs.Runs.{IsLinkOfRun}
 use Rattle.mk_setup.specs.Handshakes.{IsMade}
 use Rattle.mk_run_links.specs.Entries.{AreOnOrOfClock, IsRunLink}
-use Rattle.mk_run_local.specs.Made.{kind_reply_of}
 use Rattle.mk_run_crew.specs.Answers.{AreKindAnswers, answers_to}
 use Rattle.mk_run.specs.declared.outcome.Outcome.{Outcome}
 use Rattle.mk_run.specs.Ends.{AreInRange, IsAwaiting}
@@ -66,52 +65,50 @@ pub record IsPacedLink (started : ℕ) (S : Scenario) (replies : SetupReplies) (
 -- what was sent alone; the fleet rests only in the handshake; where it sleeps, nothing is due, and
 -- each link has been looked at; where the run was broken off some request was open, and nobody was
 -- ready; and no link but the run's was read or written
-pub record IsPaced (started : ℕ) (S : Scenario) (reply : Replies) (P : Plan) (J : List Entry)
-    (T : Tempo) (strict : Option ℕ) (moments : List Moment) (log : List LogEntry)
-    (faults new_faults : ℕ) (end : PaceEnd) : Type 0 where
+pub record IsPaced (X : Exchange) (P : Plan) (J : List Entry) (T : Tempo) (strict : Option ℕ)
+    (moments : List Moment) (faults new_faults : ℕ) (end : PaceEnd) : Type 0 where
   pub replies : SetupReplies
   pub valid : IsValidPlan P
-  pub journal : IsJournalOf started S reply P log J
+  pub journal : IsJournalOf X P J
   pub eager : IsEager P J
   pub within : length J ≤ P.entries
   pub in_range : AreInRange J
-  pub origin : IsOrigin started S log T.origin
-  pub links : (i : ℕ) (l : LinkNo) → sim_link started S i ≡ Some l
-      → IsPacedLink started S replies T J moments log (HasRisen faults new_faults) end i l
-  pub moments_are : AreMoments T strict J log moments
-  pub replied : (i : ℕ) → is_within S i ≡ true
+  pub origin : IsOrigin X.started X.scenario X.log T.origin
+  pub links : (i : ℕ) (l : LinkNo) → sim_link X.started X.scenario i ≡ Some l
+      → IsPacedLink X.started X.scenario replies T J moments X.log
+      (HasRisen faults new_faults) end i l
+  pub moments_are : AreMoments T strict J X.log moments
+  pub replied : (i : ℕ) → is_within X.scenario i ≡ true
       → length (got J i) ≤ length (filter takes_id (sent_out J moments i))
-  pub setup_rests : (before after : List LogEntry) → log ≡ before ++ Rest ∷ after
-      → IsWellInSetup started S before × (AllSetUp started S before → ⊥)
-  pub on_links : AreOnOrOfClock (IsRunLink started S) log
-  pub naps : IsRising log → AreAllLinked S → NapsWell started S P T J log
-  pub looks : NapsLook started S log
-  pub shown : Shows started S P T strict J moments log faults new_faults end
+  pub setup_rests : (before after : List LogEntry) → X.log ≡ before ++ Rest ∷ after
+      → IsWellInSetup X.started X.scenario before × (AllSetUp X.started X.scenario before → ⊥)
+  pub on_links : AreOnOrOfClock (IsRunLink X.started X.scenario) X.log
+  pub naps : IsRising X.log → AreAllLinked X.scenario → NapsWell X.started X.scenario P T J X.log
+  pub looks : NapsLook X.started X.scenario X.log
+  pub shown : Shows X.started X.scenario P T strict J moments X.log faults new_faults end
   pub fault : (view P J).fault ≡ fault_of end
   pub unfinished : IsBroken end → IsAwaiting P J
 
 -- the handshake was made, the clock told the origin, and what came of the run then
-pub record HasPaced (started : ℕ) (S : Scenario) (ranks : List ℕ) (rows : List Turn) (factor : ℕ)
-    (strict : Option ℕ) (P : Plan) (J : List Entry) (moments : List Moment) (log : List LogEntry)
-    (faults new_faults : ℕ) (end : PaceEnd) : Type 0 where
+pub record HasPaced (A : Attempt) (factor : ℕ) (strict : Option ℕ) (P : Plan) (J : List Entry)
+    (moments : List Moment) (faults new_faults : ℕ) (end : PaceEnd) : Type 0 where
   pub answers : List Message
-  pub made : IsMade S ranks answers P
-  pub kinds : AreKindAnswers rows S answers
-  pub first : (i : ℕ) → i < sim_count P → first_id P i ≡ setup_count S i
+  pub made : IsMade A.scenario A.ranks answers P
+  pub kinds : AreKindAnswers A.rows A.scenario answers
+  pub first : (i : ℕ) → i < sim_count P → first_id P i ≡ setup_count A.scenario i
   pub origin : ℕ
-  pub run : IsPaced started S (kind_reply_of rows S) P J
-      (record { origin = origin; factor = factor }) strict moments log faults new_faults end
-  pub told : (i : ℕ) (l : LinkNo) → sim_link started S i ≡ Some l
-      → run.replies i ≡ answers_to i (setup_requests S) answers
+  pub run : IsPaced (exchange_of A) P J
+      (record { origin = origin; factor = factor }) strict moments faults new_faults end
+  pub told : (i : ℕ) (l : LinkNo) → sim_link A.started A.scenario i ≡ Some l
+      → run.replies i ≡ answers_to i (setup_requests A.scenario) answers
 
 -- the handshake ended early, or there was no memory for the run, or the clock failed when it was
 -- first looked at; the fleet didn't sleep
-pub record HasNotPaced (started : ℕ) (S : Scenario) (ranks : List ℕ) (rows : List Turn)
-    (log : List LogEntry) (risen : Type 0) (end : PaceEnd) : Type 0 where
+pub record HasNotPaced (A : Attempt) (risen : Type 0) (end : PaceEnd) : Type 0 where
   pub outcome : Outcome
   pub is : end ≡ pace.Outcome outcome
-  pub run : HasNotRun started S ranks rows log risen outcome
-  pub awake : IsAwake log
+  pub run : HasNotRun A risen outcome
+  pub awake : IsAwake A.log
 
 -- the run may have ended while its links were started: the fleet failed or memory was wanting, and
 -- nothing was read or written
@@ -119,12 +116,11 @@ abbrev pub EndsAtStart : Option Plan → List LogEntry → PaceEnd → Type 0
 EndsAtStart plan log end = (o : Outcome) × (end ≡ pace.Outcome o) × ran.EndsAtStart plan log o
 
 -- a paced run with its plan and its journal, or with neither
-abbrev pub PacesAs : ℕ → Scenario → List ℕ → List Turn → ℕ → Option ℕ → Option Plan → Option Journal
-    → List Moment → List LogEntry → ℕ → ℕ → PaceEnd → Type 0
-PacesAs started S ranks rows factor strict (Some P)
-    (Some J) moments log faults new_faults end = HasPaced started S ranks rows factor strict P
-    J.entries moments log faults new_faults end
-PacesAs started S ranks rows factor strict (Some P) None moments log faults new_faults end = ⊥
-PacesAs started S ranks rows factor strict None (Some J) moments log faults new_faults end = ⊥
-PacesAs started S ranks rows factor strict None None moments log faults new_faults end = HasNotPaced
-    started S ranks rows log (HasRisen faults new_faults) end × (moments ≡ [])
+abbrev pub PacesAs : Attempt → ℕ → Option ℕ → Option Plan → Option Journal → List Moment → ℕ → ℕ
+    → PaceEnd → Type 0
+PacesAs A factor strict (Some P) (Some J) moments faults new_faults end = HasPaced A factor strict P
+    J.entries moments faults new_faults end
+PacesAs A factor strict (Some P) None moments faults new_faults end = ⊥
+PacesAs A factor strict None (Some J) moments faults new_faults end = ⊥
+PacesAs A factor strict None None moments faults new_faults end = HasNotPaced A
+    (HasRisen faults new_faults) end × (moments ≡ [])

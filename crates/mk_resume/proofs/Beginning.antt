@@ -14,7 +14,7 @@ use Rattle.mk_sched.specs.Cores.{CoreState}
 use Rattle.mk_run_laws.specs.Channels.{Channel}
 use Rattle.mk_run_links.specs.Places.{AreOpen}
 use Rattle.mk_run_crew.specs.Seen.{CrewSeen, crew_of}
-use Rattle.mk_run.specs.inner.Handshakes.{Start}
+use Rattle.mk_run_crew.specs.Attempts.{Attempt}
 use Rattle.mk_run.specs.inner.Underway.{Setting}
 use Rattle.mk_run.specs.inner.Turns.{AreLinksOpen}
 use Rattle.mk_run.proofs.Beginning.{links_open, setting_of}
@@ -25,10 +25,10 @@ use Rattle.mk_resume_loop.specs.inner.Underway.{IsResumingWith, saved_of}
 use Rattle.mk_resume_loop.proofs.Beginning.{resuming_begins}
 use Rattle.mk_resume.specs.inner.Going.{IsFresh, IsStarted}
 
-abbrev pub setting_at : (A : Start) (C : CrewSeen) (P : Plan) → IsStarted A C P → Setting
+abbrev pub setting_at : (A : Attempt) (C : CrewSeen) (P : Plan) → IsStarted A C P → Setting
 setting_at A C P s = setting_of A.started A.scenario A.ranks A.rows A.log C P s.begun
 
-pub begins_fresh : (A : Start) (C : CrewSeen) (P : Plan) (s : IsStarted A C P) (saved : Saved) (core : CoreState) → IsOnward P (map came saved.arrivals) saved.asks core → All (IsKnown saved.plan) (map came saved.arrivals) → IsFresh (setting_at A C P s) core A.log C
+pub begins_fresh : (A : Attempt) (C : CrewSeen) (P : Plan) (s : IsStarted A C P) (saved : Saved) (core : CoreState) → IsOnward P (map came saved.arrivals) saved.asks core → All (IsKnown saved.plan) (map came saved.arrivals) → IsFresh (setting_at A C P s) core A.log C
 begins_fresh A C P s saved core on known =
     let T = setting_at A C P s in record {
       resuming = subst (λ (X : Plan). IsResumingWith (λ i. []) (λ i. []) (setting_at A C P s) X core.entries core.entries (λ i. 0) A.log (crew_of C) C.sims) (sym on.plan)
@@ -36,7 +36,7 @@ begins_fresh A C P s saved core on known =
       over = none_yet (saved_of core.entries) A.started A.scenario s.begun.replies core.plan core.entries A.log (crew_of C) s.begun.begun;
     }
 
-pub open_fresh : (A : Start) (C : CrewSeen) (P : Plan) (s : IsStarted A C P) (open_links : List LinkNo) → AreOpen C.channels open_links → AreLinksOpen (setting_at A C P s) open_links
+pub open_fresh : (A : Attempt) (C : CrewSeen) (P : Plan) (s : IsStarted A C P) (open_links : List LinkNo) → AreOpen C.channels open_links → AreLinksOpen (setting_at A C P s) open_links
 open_fresh A C P s open_links open_ = links_open A.started A.scenario A.ranks A.rows A.log C P s.begun open_links open_
 
 -- the links of a crew that is to be stopped are open still

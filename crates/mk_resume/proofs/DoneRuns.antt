@@ -21,6 +21,7 @@ use Rattle.mk_outside.specs.Counts.{HasRisen}
 use Rattle.mk_outside.specs.declared.fleet.LogEntry.{LogEntry}
 use Rattle.mk_scenario.specs.declared.parts.Scenario.{Scenario}
 use Rattle.mk_record_read.specs.declared.saved.Saved.{Saved}
+use Rattle.mk_run_laws.specs.Exchanges.{exchange}
 use Rattle.mk_run_laws.specs.Handshake.{is_within, sim_link}
 use Rattle.mk_run_laws.specs.Kinds.{KeepsToKinds, Replies}
 use Rattle.mk_run_laws.specs.Runs.{IsLinkOfRun}
@@ -97,7 +98,7 @@ keeps P S reply J heard sims orderly fine all kinds H s m more is within = recor
 
 -- ---- the whole run
 
-module _ (started : ℕ) (S : Scenario) (reply : Replies) (P : Plan) (saved : Saved) (J : List Entry) (log : List LogEntry) (faults new_faults : ℕ) (r : IsResumed started S reply P saved J log faults new_faults (ends.Outcome outcome.Done)) where
+module _ (started : ℕ) (S : Scenario) (reply : Replies) (P : Plan) (saved : Saved) (J : List Entry) (log : List LogEntry) (faults new_faults : ℕ) (r : IsResumed (exchange started S reply log) P saved J faults new_faults (ends.Outcome outcome.Done)) where
   done : IsDone P (view P J)
   done = r.shown.0
 
@@ -110,7 +111,7 @@ module _ (started : ℕ) (S : Scenario) (reply : Replies) (P : Plan) (saved : Sa
   link_of : (i : ℕ) (l : LinkNo) → sim_link started S i ≡ Some l → (items : List Item) → IsLinkOfRun S r.replies (up_to i (r.heard i) J) log (HasRisen faults new_faults) i l items → IsLinkOfRun S r.replies J log (HasRisen faults new_faults) i l items
   link_of i l linked items t = subst (λ (K : List Entry). IsLinkOfRun S r.replies K log (HasRisen faults new_faults) i l items) (all_of i l linked) t
 
-  journal : IsJournalOf started S reply P log J
+  journal : IsJournalOf (exchange started S reply log) P J
   journal = record {
     sims = r.sims;
     orderly = orderly;
@@ -136,5 +137,5 @@ done_runs started S reply P saved J log faults new_faults r = record {
   promised = λ H s x inputs advance more parts low R may. step_promised P r.valid started S j.sims reply log J j.orderly j.kinds j.links H s x inputs advance more parts low R may;
 }
   where
-    j : IsJournalOf started S reply P log J
+    j : IsJournalOf (exchange started S reply log) P J
     j = journal started S reply P saved J log faults new_faults r

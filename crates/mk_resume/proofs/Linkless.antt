@@ -10,7 +10,9 @@ use Rattle.mk_outside.specs.Counts.{HasRisen}
 use Rattle.mk_outside.specs.declared.fleet.LogEntry.{LogEntry}
 use Rattle.mk_record_read.specs.declared.saved.Saved.{Saved}
 use Rattle.mk_scenario.specs.declared.parts.Scenario.{Scenario}
+use Rattle.mk_run_crew.specs.Attempts.{attempt}
 use Rattle.mk_local.specs.declared.turn.Turn.{Turn}
+use Rattle.mk_run_laws.specs.Exchanges.{exchange}
 use Rattle.mk_run_laws.specs.Handshake.{Request, sim_link}
 use Rattle.mk_run_laws.specs.Kinds.{Replies}
 use Rattle.mk_run_local.specs.Made.{kind_reply_of}
@@ -38,7 +40,7 @@ module _ (S : Scenario) (all : is_wholly_within S ≡ true) (started faults : �
   left J heard log (inl ungot) = absurd (never 0 ungot.sim ungot.link ungot.linked)
   left J heard log (inr awaited) = inr awaited
 
-  differs : (reply : Replies) (first J : List Entry) (heard : Counts) (log : List LogEntry) (sim : SimNo) (place : ℕ) (kept other : Message) → IsDiffering 0 S reply first J heard log sim place kept other → IsDiffering started S reply first J heard [] sim place kept other
+  differs : (reply : Replies) (first J : List Entry) (heard : Counts) (log : List LogEntry) (sim : SimNo) (place : ℕ) (kept other : Message) → IsDiffering (exchange 0 S reply log) first J heard sim place kept other → IsDiffering (exchange started S reply []) first J heard sim place kept other
   differs reply first J heard log sim place kept other d = record {
     at = d.at;
     early = d.early;
@@ -48,7 +50,7 @@ module _ (S : Scenario) (all : is_wholly_within S ≡ true) (started faults : �
     inside = d.inside;
   }
 
-  shown : (reply : Replies) (P : Plan) (first J : List Entry) (heard : Counts) (log : List LogEntry) (end : ResumeEnd) → ShownBy 0 S reply P first J heard log 0 0 end → ShownBy started S reply P first J heard [] faults faults end
+  shown : (reply : Replies) (P : Plan) (first J : List Entry) (heard : Counts) (log : List LogEntry) (end : ResumeEnd) → ShownBy (exchange 0 S reply log) P first J heard 0 0 end → ShownBy (exchange started S reply []) P first J heard faults faults end
   shown reply P first J heard log (ends.Outcome outcome.Done) is = is
   shown reply P first J heard log (ends.Outcome (outcome.Setup f)) is = is
   shown reply P first J heard log (ends.Outcome (outcome.Core f)) (inl last) = inl last
@@ -68,7 +70,7 @@ module _ (S : Scenario) (all : is_wholly_within S ≡ true) (started faults : �
   shown reply P first J heard log (ends.OtherEntry n) is = is
   shown reply P first J heard log (ends.Differs sim place kept other) is = differs reply first J heard log sim place kept other is
 
-  resumed : (reply : Replies) (P : Plan) (saved : Saved) (J : List Entry) (log : List LogEntry) (end : ResumeEnd) → IsResumed 0 S reply P saved J log 0 0 end → IsResumed started S reply P saved J [] faults faults end
+  resumed : (reply : Replies) (P : Plan) (saved : Saved) (J : List Entry) (log : List LogEntry) (end : ResumeEnd) → IsResumed (exchange 0 S reply log) P saved J 0 0 end → IsResumed (exchange started S reply []) P saved J faults faults end
   resumed reply P saved J log end r = record {
     replies = r.replies;
     valid = r.valid;
@@ -94,7 +96,7 @@ module _ (S : Scenario) (all : is_wholly_within S ≡ true) (started faults : �
   }
 
   module _ (ranks : List ℕ) (rows : List Turn) where
-    has_resumed : (saved : Saved) (P : Plan) (J : List Entry) (log : List LogEntry) (end : ResumeEnd) → HasResumed 0 S ranks rows saved P J log 0 0 end → HasResumed started S ranks rows saved P J [] faults faults end
+    has_resumed : (saved : Saved) (P : Plan) (J : List Entry) (log : List LogEntry) (end : ResumeEnd) → HasResumed (attempt 0 S ranks rows log) saved P J 0 0 end → HasResumed (attempt started S ranks rows []) saved P J faults faults end
     has_resumed saved P J log end h = record {
       answers = h.answers;
       made = h.made;
@@ -105,7 +107,7 @@ module _ (S : Scenario) (all : is_wholly_within S ≡ true) (started faults : �
       told = λ i l linked. absurd (never started i l linked);
     }
 
-    refused : (P : Plan) (log : List LogEntry) → HasRefused 0 S ranks rows P log (HasRisen 0 0) → HasRefused started S ranks rows P [] (HasRisen faults faults)
+    refused : (P : Plan) (log : List LogEntry) → HasRefused (attempt 0 S ranks rows log) P (HasRisen 0 0) → HasRefused (attempt started S ranks rows []) P (HasRisen faults faults)
     refused P log h = record {
       answers = h.answers;
       made = h.made;
@@ -121,7 +123,7 @@ module _ (S : Scenario) (all : is_wholly_within S ≡ true) (started faults : �
       on_links = tt;
     }
 
-    cause : (log : List LogEntry) (queued later : List Request) (h : Halt) → ShowsCause 0 S ranks rows log (HasRisen 0 0) queued later h → ShowsCause started S ranks rows [] (HasRisen faults faults) queued later h
+    cause : (log : List LogEntry) (queued later : List Request) (h : Halt) → ShowsCause (attempt 0 S ranks rows log) (HasRisen 0 0) queued later h → ShowsCause (attempt started S ranks rows []) (HasRisen faults faults) queued later h
     cause log queued later (halt.Setup fault) is = record {
       answers = is.answers;
       last = is.last;
@@ -135,7 +137,7 @@ module _ (S : Scenario) (all : is_wholly_within S ≡ true) (started faults : �
     cause log queued later (halt.LongItem sim n) is = absurd (never 0 sim.0 is.link is.linked)
     cause log queued later halt.Mem is = is
 
-    halted : (log : List LogEntry) (h : Halt) → HasHalted 0 S ranks rows log (HasRisen 0 0) h → HasHalted started S ranks rows [] (HasRisen faults faults) h
+    halted : (log : List LogEntry) (h : Halt) → HasHalted (attempt 0 S ranks rows log) (HasRisen 0 0) h → HasHalted (attempt started S ranks rows []) (HasRisen faults faults) h
     halted log h t = record {
       queued = t.queued;
       later = t.later;
@@ -147,10 +149,10 @@ module _ (S : Scenario) (all : is_wholly_within S ≡ true) (started faults : �
       on_links = tt;
     }
 
-    not_begun : (log : List LogEntry) (end : ResumeEnd) → HasNotBegun 0 S ranks rows log (HasRisen 0 0) end → HasNotBegun started S ranks rows [] (HasRisen faults faults) end
+    not_begun : (log : List LogEntry) (end : ResumeEnd) → HasNotBegun (attempt 0 S ranks rows log) (HasRisen 0 0) end → HasNotBegun (attempt started S ranks rows []) (HasRisen faults faults) end
     not_begun log end n = (n.0, n.1, record { halt = n.2.halt; is = n.2.is; halted = halted log n.2.halt n.2.halted })
 
-    pub over_any : (saved : Saved) (log : List LogEntry) (taken : Bool) (P : Option Plan) (J : Option Journal) (end : ResumeEnd) → ResumesAs 0 S ranks rows saved taken P J log 0 0 end → ResumesAs started S ranks rows saved taken P J [] faults faults end
+    pub over_any : (saved : Saved) (log : List LogEntry) (taken : Bool) (P : Option Plan) (J : Option Journal) (end : ResumeEnd) → ResumesAs (attempt 0 S ranks rows log) saved taken P J 0 0 end → ResumesAs (attempt started S ranks rows []) saved taken P J faults faults end
     over_any saved log true (Some P) (Some J) end r = has_resumed saved P J.entries log end r
     over_any saved log true (Some P) None end r = absurd r
     over_any saved log true None J end r = absurd r

@@ -14,6 +14,7 @@ use Rattle.mk_record_read.specs.Steps.{IsKnown}
 use Rattle.mk_plan_same.specs.Parts.{IsFirstOther}
 use Rattle.mk_record_restored.specs.Restored.{IsOnward, IsRestored}
 use Rattle.mk_sched.specs.Cores.{CoreState}
+use Rattle.mk_run_crew.specs.Attempts.{Attempt, attempt, longer}
 use Rattle.mk_setup.specs.Handshakes.{IsMade}
 use Rattle.mk_run_laws.specs.Handshake.{setup_requests, sim_link}
 use Rattle.mk_run_laws.specs.Running.{SetupReplies}
@@ -31,11 +32,10 @@ use Rattle.mk_run.proofs.ChannelsStopped.{stopped_by}
 use Rattle.mk_run.proofs.Turning.{risen_on}
 use Rattle.mk_resume_loop.specs.declared.ending.ResumeEnd.{ResumeEnd}
 use Rattle.mk_resume.specs.Resumed.{HasFaultySaved, HasRefused, ResumesAs}
-use Rattle.mk_run.specs.inner.Handshakes.{Start}
 use Rattle.mk_resume.specs.inner.Going.{GoesOnAs, IsStarted, PlanResumesAs, RefusesAs}
 use Rattle.mk_resume.proofs.Beginning.{begins_fresh, setting_at}
 
-module _ (A : Start) (C : CrewSeen) (P : Plan) (s : IsStarted A C P) (stops : List LogEntry) (some risen : Type 0) (rises : some → risen) (stop : AreStopped stops some (crew_of C)) (restless : IsRestless stops) (of_channels : AreOn (IsChannelLink C.channels) stops) where
+module _ (A : Attempt) (C : CrewSeen) (P : Plan) (s : IsStarted A C P) (stops : List LogEntry) (some risen : Type 0) (rises : some → risen) (stop : AreStopped stops some (crew_of C)) (restless : IsRestless stops) (of_channels : AreOn (IsChannelLink C.channels) stops) where
   stopped : AreStopped stops risen (crew_of C)
   stopped = stopped_by stops some risen (crew_of C) rises stop
 
@@ -44,7 +44,7 @@ module _ (A : Start) (C : CrewSeen) (P : Plan) (s : IsStarted A C P) (stops : Li
   link_over i l linked = link_ended A.started A.scenario s.begun.replies s.begun.counts [] A.log stops risen (crew_of C) stopped i l linked [] []
       ((run_begins A.started A.scenario A.ranks A.rows A.log C P s.begun s.prepared).running.channels i l linked) ([], refl) ([], refl)
 
-  pub has_refused : HasRefused A.started A.scenario A.ranks A.rows P (A.log ++ stops) risen
+  pub has_refused : HasRefused (longer A stops) P risen
   has_refused = record {
     answers = s.begun.answers;
     made = s.begun.made;
@@ -65,9 +65,9 @@ module _ (A : Start) (C : CrewSeen) (P : Plan) (s : IsStarted A C P) (stops : Li
   }
 
 -- what a call comes to whose record wasn't taken
-refuses : (A : Start) (P : Plan) (saved : Saved) (log : List LogEntry) (f0 f1 : ℕ) (Q : Option Plan) (J : Option Journal) (end : ResumeEnd) → HasRefused A.started A.scenario A.ranks A.rows P log (HasRisen f0 f1) → RefusesAs P saved Q J end
-    → ResumesAs A.started A.scenario A.ranks A.rows saved false Q J log f0 f1 end
-refuses A P saved log f0 f1 (Some Q) (Some J) end h r = subst (λ (X : Plan). HasFaultySaved X saved J.entries end × HasRefused A.started A.scenario A.ranks A.rows X log (HasRisen f0 f1)) (sym r.0) (r.1, h)
+refuses : (A : Attempt) (P : Plan) (saved : Saved) (log : List LogEntry) (f0 f1 : ℕ) (Q : Option Plan) (J : Option Journal) (end : ResumeEnd) → HasRefused (attempt A.started A.scenario A.ranks A.rows log) P (HasRisen f0 f1) → RefusesAs P saved Q J end
+    → ResumesAs (attempt A.started A.scenario A.ranks A.rows log) saved false Q J f0 f1 end
+refuses A P saved log f0 f1 (Some Q) (Some J) end h r = subst (λ (X : Plan). HasFaultySaved X saved J.entries end × HasRefused (attempt A.started A.scenario A.ranks A.rows log) X (HasRisen f0 f1)) (sym r.0) (r.1, h)
 refuses A P saved log f0 f1 (Some Q) None end h r = absurd r
 refuses A P saved log f0 f1 None (Some J) end h r = absurd r
 refuses A P saved log f0 f1 None None end h r = inl (P, r, h)

@@ -25,7 +25,7 @@ use Rattle.mk_run_laws.specs.Rests.{run_messages}
 use Rattle.mk_run_laws.specs.Hearing.{rest_heard}
 use Rattle.mk_run_laws.specs.inner.Running.{HasChannel}
 use Rattle.mk_run.specs.declared.outcome.Outcome.TheVariants as outcome
-use Rattle.mk_run.specs.inner.Underway.{Setting, reply_in}
+use Rattle.mk_run.specs.inner.Underway.{Setting, exchange_at}
 use Rattle.mk_run.proofs.ChannelsStopped.{all_heard, begins_itself, behind_ungot, heard_behind, held_heard, stopped_by}
 use Rattle.mk_run.proofs.Linked.{linked_outside}
 use Rattle.mk_run_links.specs.Entries.{AreOn, IsRunLink}
@@ -76,7 +76,7 @@ module _ (T : Setting) (P : Plan) (first J : List Entry) (heard : Counts) (log e
       (subst (λ (ms : List Message). BeginsWith (run_messages T.scenario (log ++ entries) s a.link) (ms ++ m ∷ [])) all (ahead_heard (record { 0 = s }) m a)))
   left (s, caught, inr awaits) = inr (record { sim = s; within = awaits.within; caught = caught; more = awaits.more })
 
-  differs : (s : SimNo) (place : ℕ) (kept other : Message) → DiffersNow T first J heard log C s place kept other → IsDiffering T.started T.scenario (reply_in T) first J heard (log ++ entries) s place kept other
+  differs : (s : SimNo) (place : ℕ) (kept other : Message) → DiffersNow T first J heard log C s place kept other → IsDiffering (exchange_at T (log ++ entries)) first J heard s place kept other
   differs s place kept other d = record {
     at = d.at;
     early = d.early;
@@ -93,7 +93,7 @@ module _ (T : Setting) (P : Plan) (first J : List Entry) (heard : Counts) (log e
     ];
   }
 
-  shown : (e : ResumeEnd) → EndsBy by_run T P first J heard log C e → ShownBy T.started T.scenario (reply_in T) P first J heard (log ++ entries) faults new_faults e
+  shown : (e : ResumeEnd) → EndsBy by_run T P first J heard log C e → ShownBy (exchange_at T (log ++ entries)) P first J heard faults new_faults e
   shown (ends.Outcome outcome.Done) is = is
   shown (ends.Outcome (outcome.Setup f)) is = is
   shown (ends.Outcome (outcome.Core f)) (inl last) = inl last
@@ -108,7 +108,7 @@ module _ (T : Setting) (P : Plan) (first J : List Entry) (heard : Counts) (log e
   shown (ends.OtherEntry n) is = is
   shown (ends.Differs s place kept other) is = differs s place kept other is
 
-  pub whole : (saved : Saved) → IsRestored P (map came saved.arrivals) first → IsOther (map came saved.arrivals) saved.asks first None → IsResumed T.started T.scenario (reply_in T) P saved J (log ++ entries) faults new_faults end
+  pub whole : (saved : Saved) → IsRestored P (map came saved.arrivals) first → IsOther (map came saved.arrivals) saved.asks first None → IsResumed (exchange_at T (log ++ entries)) P saved J faults new_faults end
   whole saved restored same = record {
     replies = T.replies;
     valid = ended.stands.valid;

@@ -25,8 +25,10 @@ use Rattle.mk_plan_same.specs.Parts.{IsFirstOther}
 use Rattle.mk_record_restored.specs.Restored.{IsFaulted, IsOtherIn}
 use Rattle.mk_sched.specs.declared.faults.CoreFault.{CoreFault}
 use Rattle.mk_sched.specs.Answers.{SomeReady}
+use Rattle.mk_run_crew.specs.Attempts.{attempt}
 use Rattle.mk_local.specs.declared.turn.Turn.{Turn}
 use Rattle.mk_setup.specs.Handshakes.{IsMade}
+use Rattle.mk_run_laws.specs.Exchanges.{exchange}
 use Rattle.mk_run_laws.specs.Hearing.{messages_heard, rest_heard}
 use Rattle.mk_run_laws.specs.Handshake.{setup_count, setup_requests, sim_link}
 use Rattle.mk_run_laws.specs.Payloads.{AreFramed, link_payloads}
@@ -63,25 +65,26 @@ pub record LinkSaysFree (S : Scenario) (P : Plan) (J : List Entry) (heard : Coun
 abbrev pub ResumedRunsSayRight : Type 0
 ResumedRunsSayRight = (started : ℕ) (S : Scenario) (reply : Replies) (P : Plan) (saved : Saved)
     (J : List Entry) (log : List LogEntry) (faults new_faults : ℕ) (end : ResumeEnd)
-    → (r : IsResumed started S reply P saved J log faults new_faults end)
+    → (r : IsResumed (exchange started S reply log) P saved J faults new_faults end)
     → (i : ℕ) (l : LinkNo) → sim_link started S i ≡ Some l
     → LinkSaysFree S P J r.heard log (HasRisen faults new_faults) end i l
 
 -- what holds of a run at whose end nothing is left to do
 pub record IsDoneRun (started : ℕ) (S : Scenario) (reply : Replies) (P : Plan) (J : List Entry)
     (log : List LogEntry) (risen : Type 0) : Type 0 where
-  pub journal : IsJournalOf started S reply P log J
+  pub journal : IsJournalOf (exchange started S reply log) P J
   pub agrees : Agrees P J
   pub links : (i : ℕ) (l : LinkNo) → sim_link started S i ≡ Some l
-      → LinkSaysRight started S reply P J log risen outcome.Done i l
-  pub done : HasSentAll started S reply P J log
-  pub promised : ArePromised started S reply P J log
+      → LinkSaysRight (exchange started S reply log) P J risen outcome.Done i l
+  pub done : HasSentAll (exchange started S reply log) P J
+  pub promised : ArePromised (exchange started S reply log) P J
 
 -- a resumed run at whose end nothing is left to do is such a run
 abbrev pub DoneResumedRunsAreRuns : Type 0
 DoneResumedRunsAreRuns = (started : ℕ) (S : Scenario) (reply : Replies) (P : Plan) (saved : Saved)
     (J : List Entry) (log : List LogEntry) (faults new_faults : ℕ)
-    → IsResumed started S reply P saved J log faults new_faults (ends.Outcome outcome.Done)
+    → IsResumed (exchange started S reply log) P saved J faults new_faults
+    (ends.Outcome outcome.Done)
     → IsDoneRun started S reply P J log (HasRisen faults new_faults)
 
 -- two journals of one plan: if they took the same messages in one order they are one; if each
@@ -95,10 +98,11 @@ pub record AreAlike (P : Plan) (J K : List Entry) : Type 0 where
 abbrev pub RunsAndResumedRunsAreAlike : Type 0
 RunsAndResumedRunsAreAlike = (started : ℕ) (S : Scenario) (reply : Replies) (P : Plan)
     (J : List Entry) (log : List LogEntry) (faults new_faults : ℕ)
-    → IsRun started S reply P J log faults new_faults outcome.Done
+    → IsRun (exchange started S reply log) P J faults new_faults outcome.Done
     → (again : ℕ) (S' : Scenario) (reply' : Replies) (saved : Saved) (K : List Entry)
     (log' : List LogEntry) (faults' new_faults' : ℕ)
-    → IsResumed again S' reply' P saved K log' faults' new_faults' (ends.Outcome outcome.Done)
+    → IsResumed (exchange again S' reply' log') P saved K faults' new_faults'
+    (ends.Outcome outcome.Done)
     → AreAlike P J K
 
 -- nothing went wrong that a resumed run can show: each simulator sent its saved messages again and
@@ -110,7 +114,7 @@ pub record IsFaultless (started : ℕ) (S : Scenario) (reply : Replies) (P : Pla
   pub roomy : length J ≡ P.entries
       → IsSome (view P J).owed ⊎ (SomeReady P J ⊎ SomeUntaken started S J heard log) → ⊥
   pub repeated : (sim : SimNo) (place : ℕ) (kept other : Message)
-      → IsDiffering started S reply first J heard log sim place kept other → ⊥
+      → IsDiffering (exchange started S reply log) first J heard sim place kept other → ⊥
   pub counts : HasRisen faults new_faults → ⊥
   pub open_links : (i : ℕ) (l : LinkNo) → sim_link started S i ≡ Some l → IsIn (Ended l) log → ⊥
   pub right_frames : (i : ℕ) (l : LinkNo) (n : ℕ) → sim_link started S i ≡ Some l
@@ -122,7 +126,7 @@ pub record IsFaultless (started : ℕ) (S : Scenario) (reply : Replies) (P : Pla
 abbrev pub ResumedRunsComplete : Type 0
 ResumedRunsComplete = (started : ℕ) (S : Scenario) (reply : Replies) (P : Plan) (saved : Saved)
     (J : List Entry) (log : List LogEntry) (faults new_faults : ℕ) (end : ResumeEnd)
-    → (r : IsResumed started S reply P saved J log faults new_faults end)
+    → (r : IsResumed (exchange started S reply log) P saved J faults new_faults end)
     → IsFaultless started S reply P r.first J r.heard log faults new_faults
     → (end ≡ ends.Outcome outcome.Done) ⊎ (end ≡ ends.Outcome outcome.Mem)
 
@@ -155,6 +159,6 @@ abbrev pub ResumeEndsExactly : Type 0
 ResumeEndsExactly = (started : ℕ) (S : Scenario) (ranks : List ℕ) (rows : List Turn)
     (saved : Saved) (taken : Bool) (P : Option Plan) (J : Option Journal) (log : List LogEntry)
     (faults new_faults : ℕ) (end : ResumeEnd)
-    → ResumesAs started S ranks rows saved taken P J log faults new_faults end
-    → HasNotBegun started S ranks rows log (HasRisen faults new_faults) end
+    → ResumesAs (attempt started S ranks rows log) saved taken P J faults new_faults end
+    → HasNotBegun (attempt started S ranks rows log) (HasRisen faults new_faults) end
     ⊎ HasEndedExactly started S ranks saved log end

@@ -27,8 +27,9 @@ use Rattle.mk_plan_same.specs.Parts.{IsFirstOther}
 use Rattle.mk_record_restored.specs.Restored.{IsRestored, IsFaulted, IsOtherIn}
 use Rattle.mk_sched.specs.declared.faults.CoreFault.{CoreFault}
 use Rattle.mk_sched.specs.Answers.{IsLastFaulty, SomeOpen, SomeReady}
-use Rattle.mk_local.specs.declared.turn.Turn.{Turn}
+use Rattle.mk_run_crew.specs.Attempts.{Attempt, exchange_of}
 use Rattle.mk_setup.specs.Handshakes.{IsMade}
+use Rattle.mk_run_laws.specs.Exchanges.{Exchange, exchange}
 use Rattle.mk_run_laws.specs.Hearing.{messages_heard, rest_heard}
 use Rattle.mk_run_laws.specs.Handshake.{setup_count, setup_requests, sim_link, is_within}
 use Rattle.mk_run_laws.specs.Kinds.{Replies}
@@ -36,7 +37,6 @@ use Rattle.mk_run_laws.specs.Rests.{run_messages, AllSetUp, IsWellInSetup}
 use Rattle.mk_run_laws.specs.Running.{SetupReplies}
 use Rattle.mk_run_laws.specs.Runs.{SaidWhole, SaysRight}
 use Rattle.mk_run_links.specs.Entries.{AreOn, IsRunLink}
-use Rattle.mk_run_local.specs.Made.{kind_reply_of}
 use Rattle.mk_run_crew.specs.Answers.{AreKindAnswers, answers_to}
 use Rattle.mk_run.specs.declared.outcome.Outcome.{Outcome}
 use Rattle.mk_run.specs.declared.outcome.Outcome.TheVariants as outcome
@@ -71,46 +71,41 @@ SomeUntaken started S J heard log = IsUngot started S J log ⊎ IsAwaitedWithin 
 
 -- message `place` of the simulator, from 0, isn't the saved one, which the journal has there: it
 -- was heard on its link behind those that it had sent again, or is its kind's reply
-pub record IsDiffering (started : ℕ) (S : Scenario) (reply : Replies) (first J : List Entry)
-    (heard : Counts) (log : List LogEntry) (sim : SimNo) (place : ℕ)
-    (kept other : Message) : Type 0 where
+pub record IsDiffering (X : Exchange) (first J : List Entry) (heard : Counts) (sim : SimNo)
+    (place : ℕ) (kept other : Message) : Type 0 where
   pub at : place ≡ heard sim.0
   pub early : place < length (got first sim.0)
   pub had : slice_get (got J sim.0) place ≡ Some kept
   pub apart : kept ≡ other → ⊥
-  pub on_link : (l : LinkNo) → sim_link started S sim.0 ≡ Some l
-      → BeginsWith (run_messages S log sim.0 l) (repeated J sim.0 place ++ other ∷ [])
-  pub inside : is_within S sim.0 ≡ true
-      → other ≡ reply sim.0 (map bare (free_items J sim.0 place))
+  pub on_link : (l : LinkNo) → sim_link X.started X.scenario sim.0 ≡ Some l
+      → BeginsWith (run_messages X.scenario X.log sim.0 l) (repeated J sim.0 place ++ other ∷ [])
+  pub inside : is_within X.scenario sim.0 ≡ true
+      → other ≡ X.reply sim.0 (map bare (free_items J sim.0 place))
 
 -- what the end of a resumed run with a journal shows
-abbrev pub ShownBy : ℕ → Scenario → Replies → Plan → List Entry → List Entry → Counts
-    → List LogEntry → ℕ → ℕ → ResumeEnd → Type 0
-ShownBy started S reply P first J heard log faults new_faults (ends.Outcome outcome.Done) = IsDone P
-    (view P J) × ((i : ℕ) → i < sim_count P → heard i ≡ length (got J i))
-ShownBy started S reply P first J heard log faults new_faults (ends.Outcome (outcome.Setup f)) = ⊥
-ShownBy started S reply P first J heard log faults new_faults
-    (ends.Outcome (outcome.Core f)) = IsLastFaulty P J f
-    ⊎ IsFull P J f (SomeUntaken started S J heard log)
-ShownBy started S reply P first J heard log faults new_faults
+abbrev pub ShownBy : Exchange → Plan → List Entry → List Entry → Counts → ℕ → ℕ → ResumeEnd → Type 0
+ShownBy X P first J heard faults new_faults (ends.Outcome outcome.Done) = IsDone P (view P J)
+    × ((i : ℕ) → i < sim_count P → heard i ≡ length (got J i))
+ShownBy X P first J heard faults new_faults (ends.Outcome (outcome.Setup f)) = ⊥
+ShownBy X P first J heard faults new_faults (ends.Outcome (outcome.Core f)) = IsLastFaulty P J f
+    ⊎ IsFull P J f (SomeUntaken X.started X.scenario J heard X.log)
+ShownBy X P first J heard faults new_faults
     (ends.Outcome outcome.Fleet) = HasRisen faults new_faults
-ShownBy started S reply P first J heard log faults new_faults
-    (ends.Outcome (outcome.Gone i)) = (l : LinkNo) × HasTakenAll started S log J heard i.0 l
-    × IsIn (Ended l) log
-ShownBy started S reply P first J heard log faults new_faults
-    (ends.Outcome (outcome.Garbled i n)) = (l : LinkNo) × HasTakenAll started S log J heard i.0 l
-    × BeginsGarbled (rest_heard (heard_on l log)) n
-ShownBy started S reply P first J heard log faults new_faults
-    (ends.Outcome (outcome.LongFrame i n)) = (l : LinkNo) × HasTakenAll started S log J heard i.0 l
-    × IsTooLong n (rest_heard (heard_on l log))
-ShownBy started S reply P first J heard log faults new_faults
-    (ends.Outcome (outcome.LongItem i n)) = IsLongFree started S P J heard i.0 n
-ShownBy started S reply P first J heard log faults new_faults (ends.Outcome outcome.Mem) = ⊤
-ShownBy started S reply P first J heard log faults new_faults (ends.OtherPlan n) = ⊥
-ShownBy started S reply P first J heard log faults new_faults (ends.OtherEntry n) = ⊥
-ShownBy started S reply P first J heard log faults new_faults
-    (ends.Differs sim place kept other) = IsDiffering started S reply first J heard log sim place
-    kept other
+ShownBy X P first J heard faults new_faults (ends.Outcome (outcome.Gone i)) = (l : LinkNo)
+    × HasTakenAll X.started X.scenario X.log J heard i.0 l × IsIn (Ended l) X.log
+ShownBy X P first J heard faults new_faults (ends.Outcome (outcome.Garbled i n)) = (l : LinkNo)
+    × HasTakenAll X.started X.scenario X.log J heard i.0 l
+    × BeginsGarbled (rest_heard (heard_on l X.log)) n
+ShownBy X P first J heard faults new_faults (ends.Outcome (outcome.LongFrame i n)) = (l : LinkNo)
+    × HasTakenAll X.started X.scenario X.log J heard i.0 l
+    × IsTooLong n (rest_heard (heard_on l X.log))
+ShownBy X P first J heard faults new_faults
+    (ends.Outcome (outcome.LongItem i n)) = IsLongFree X.started X.scenario P J heard i.0 n
+ShownBy X P first J heard faults new_faults (ends.Outcome outcome.Mem) = ⊤
+ShownBy X P first J heard faults new_faults (ends.OtherPlan n) = ⊥
+ShownBy X P first J heard faults new_faults (ends.OtherEntry n) = ⊥
+ShownBy X P first J heard faults new_faults
+    (ends.Differs sim place kept other) = IsDiffering X first J heard sim place kept other
 
 -- nobody is ready, and something is to come: a request is open, or a simulator hasn't sent again all
 -- that the journal has of it
@@ -124,12 +119,11 @@ IsWaiting P J heard = (SomeReady P J → ⊥)
 -- (`heard`): where it has sent all that the record has of it, these are all; those of a simulator
 -- within the program are its kind's replies; and each was sent what is free then, which is what
 -- stands in the journal before its next message. No link but the run's was read or written
-pub record IsResumed (started : ℕ) (S : Scenario) (reply : Replies) (P : Plan) (saved : Saved)
-    (J : List Entry) (log : List LogEntry) (faults new_faults : ℕ)
-    (end : ResumeEnd) : Type 0 where
+pub record IsResumed (X : Exchange) (P : Plan) (saved : Saved) (J : List Entry)
+    (faults new_faults : ℕ) (end : ResumeEnd) : Type 0 where
   pub replies : SetupReplies
   pub valid : IsValidPlan P
-  pub sims : sim_count P ≡ length S.sims
+  pub sims : sim_count P ≡ length X.scenario.sims
   pub first : List Entry
   pub restored : IsRestored P (map came saved.arrivals) first
   pub same : IsOther (map came saved.arrivals) saved.asks first None
@@ -141,55 +135,54 @@ pub record IsResumed (started : ℕ) (S : Scenario) (reply : Replies) (P : Plan)
   pub heard : Counts
   pub few : (i : ℕ) → heard i ≤ length (got J i)
   pub caught : (i : ℕ) → length (got first i) ≤ heard i → heard i ≡ length (got J i)
-  pub kinds : (i n : ℕ) (m : Message) → is_within S i ≡ true → n < heard i
-      → slice_get (got J i) n ≡ Some m → m ≡ reply i (map bare (free_items J i n))
-  pub links : (i : ℕ) (l : LinkNo) → sim_link started S i ≡ Some l → (items : List Item)
-      × IsLinkOfResumed S replies J log (HasRisen faults new_faults) i l (heard i) items
+  pub kinds : (i n : ℕ) (m : Message) → is_within X.scenario i ≡ true → n < heard i
+      → slice_get (got J i) n ≡ Some m → m ≡ X.reply i (map bare (free_items J i n))
+  pub links : (i : ℕ) (l : LinkNo) → sim_link X.started X.scenario i ≡ Some l → (items : List Item)
+      × IsLinkOfResumed X.scenario replies J X.log (HasRisen faults new_faults) i l (heard i) items
       × QueuedAllAt end (free_items J i (heard i)) items
-  pub rests : RestsWell (λ i. length (got first i)) started S P J log
-  pub setup_rests : SetupRestsWell started S log
-  pub on_links : AreOn (IsRunLink started S) log
-  pub shown : ShownBy started S reply P first J heard log faults new_faults end
+  pub rests : RestsWell (λ i. length (got first i)) X.started X.scenario P J X.log
+  pub setup_rests : SetupRestsWell X.started X.scenario X.log
+  pub on_links : AreOn (IsRunLink X.started X.scenario) X.log
+  pub shown : ShownBy X P first J heard faults new_faults end
   pub unfinished : IsCutOff end → IsWaiting P J heard
 
 -- the handshake was made, the plan is the record's but for the limit of entries, and the record's
 -- messages were taken: what came of it then
-pub record HasResumed (started : ℕ) (S : Scenario) (ranks : List ℕ) (rows : List Turn)
-    (saved : Saved) (P : Plan) (J : List Entry) (log : List LogEntry) (faults new_faults : ℕ)
-    (end : ResumeEnd) : Type 0 where
+pub record HasResumed (A : Attempt) (saved : Saved) (P : Plan) (J : List Entry)
+    (faults new_faults : ℕ) (end : ResumeEnd) : Type 0 where
   pub answers : List Message
-  pub made : IsMade S ranks answers P
-  pub kinds : AreKindAnswers rows S answers
+  pub made : IsMade A.scenario A.ranks answers P
+  pub kinds : AreKindAnswers A.rows A.scenario answers
   pub plans : IsFirstOther P saved.plan None
-  pub first : (i : ℕ) → i < sim_count P → first_id P i ≡ setup_count S i
-  pub run : IsResumed started S (kind_reply_of rows S) P saved J log faults new_faults end
-  pub told : (i : ℕ) (l : LinkNo) → sim_link started S i ≡ Some l
-      → run.replies i ≡ answers_to i (setup_requests S) answers
+  pub first : (i : ℕ) → i < sim_count P → first_id P i ≡ setup_count A.scenario i
+  pub run : IsResumed (exchange_of A) P saved J faults new_faults end
+  pub told : (i : ℕ) (l : LinkNo) → sim_link A.started A.scenario i ≡ Some l
+      → run.replies i ≡ answers_to i (setup_requests A.scenario) answers
 
 -- the handshake was made, with this plan, and the run went no further: the plan is made of the
 -- answers to all requests, and on each link the first messages that were heard are the answers to
 -- the simulator's requests; there the whole handshake was said and a stop, but where a write took
 -- nothing or the count of faults rose, and nothing else; where the fleet rested, not all had set
 -- up; and no link but the run's was read or written
-pub record HasRefused (started : ℕ) (S : Scenario) (ranks : List ℕ) (rows : List Turn) (P : Plan)
-    (log : List LogEntry) (risen : Type 0) : Type 0 where
+pub record HasRefused (A : Attempt) (P : Plan) (risen : Type 0) : Type 0 where
   pub answers : List Message
-  pub made : IsMade S ranks answers P
-  pub kinds : AreKindAnswers rows S answers
+  pub made : IsMade A.scenario A.ranks answers P
+  pub kinds : AreKindAnswers A.rows A.scenario answers
   pub replies : SetupReplies
-  pub replied : (i : ℕ) (l : LinkNo) → sim_link started S i ≡ Some l
-      → take (setup_count S i) (messages_heard (heard_on l log)) ≡ replies i
-  pub told : (i : ℕ) (l : LinkNo) → sim_link started S i ≡ Some l
-      → replies i ≡ answers_to i (setup_requests S) answers
+  pub replied : (i : ℕ) (l : LinkNo) → sim_link A.started A.scenario i ≡ Some l
+      → take (setup_count A.scenario i) (messages_heard (heard_on l A.log)) ≡ replies i
+  pub told : (i : ℕ) (l : LinkNo) → sim_link A.started A.scenario i ≡ Some l
+      → replies i ≡ answers_to i (setup_requests A.scenario) answers
   pub valid : IsValidPlan P
-  pub sims : sim_count P ≡ length S.sims
-  pub says : (reply : Replies) (i : ℕ) (l : LinkNo) → sim_link started S i ≡ Some l
-      → SaysRight started S reply None log i l (setup_count S i) [] true
-  pub whole : (i : ℕ) (l : LinkNo) → sim_link started S i ≡ Some l
-      → SaidWhole S log risen i l (setup_count S i) []
-  pub rests : (before after : List LogEntry) → log ≡ before ++ Rest ∷ after
-      → IsWellInSetup started S before × (AllSetUp started S before → ⊥)
-  pub on_links : AreOn (IsRunLink started S) log
+  pub sims : sim_count P ≡ length A.scenario.sims
+  pub says : (reply : Replies) (i : ℕ) (l : LinkNo) → sim_link A.started A.scenario i ≡ Some l
+      → SaysRight (exchange A.started A.scenario reply A.log) None i l
+      (setup_count A.scenario i) [] true
+  pub whole : (i : ℕ) (l : LinkNo) → sim_link A.started A.scenario i ≡ Some l
+      → SaidWhole A.scenario A.log risen i l (setup_count A.scenario i) []
+  pub rests : (before after : List LogEntry) → A.log ≡ before ++ Rest ∷ after
+      → IsWellInSetup A.started A.scenario before × (AllSetUp A.started A.scenario before → ⊥)
+  pub on_links : AreOn (IsRunLink A.started A.scenario) A.log
 
 -- why the record wasn't taken: its plan is another than this one; an entry of it isn't the
 -- journal's that its messages make; or memory was wanting
@@ -210,10 +203,8 @@ pub record HasFaultySaved (P : Plan) (saved : Saved) (J : List Entry)
   pub faulted : IsFaulted P (map came saved.arrivals) J fault
 
 -- the handshake ended early, or there was no memory for it
-abbrev pub HasNotBegun : ℕ → Scenario → List ℕ → List Turn → List LogEntry → Type 0 → ResumeEnd
-    → Type 0
-HasNotBegun started S ranks rows log risen end = (o : Outcome) × (end ≡ ends.Outcome o)
-    × HasNotRun started S ranks rows log risen o
+abbrev pub HasNotBegun : Attempt → Type 0 → ResumeEnd → Type 0
+HasNotBegun A risen end = (o : Outcome) × (end ≡ ends.Outcome o) × HasNotRun A risen o
 
 -- the run may have ended while its links were started: the fleet failed or memory was wanting, and
 -- nothing was read or written
@@ -223,17 +214,16 @@ EndsAtStart plan log end = (o : Outcome) × (end ≡ ends.Outcome o) × ran.Ends
 -- what a call of `resume` comes to. Where the record was taken, its plan and its journal are there;
 -- where its messages met a fault of the core, so are they; and else they aren't, since its plan or
 -- an entry is another, or memory was wanting, or the handshake ended early
-abbrev pub ResumesAs : ℕ → Scenario → List ℕ → List Turn → Saved → Bool → Option Plan
-    → Option Journal → List LogEntry → ℕ → ℕ → ResumeEnd → Type 0
-ResumesAs started S ranks rows saved true (Some P) (Some J) log faults new_faults end = HasResumed
-    started S ranks rows saved P J.entries log faults new_faults end
-ResumesAs started S ranks rows saved true (Some P) None log faults new_faults end = ⊥
-ResumesAs started S ranks rows saved true None J log faults new_faults end = ⊥
-ResumesAs started S ranks rows saved false (Some P) (Some J) log faults new_faults end =
-    HasFaultySaved P saved J.entries end
-    × HasRefused started S ranks rows P log (HasRisen faults new_faults)
-ResumesAs started S ranks rows saved false (Some P) None log faults new_faults end = ⊥
-ResumesAs started S ranks rows saved false None (Some J) log faults new_faults end = ⊥
-ResumesAs started S ranks rows saved false None None log faults new_faults end = ((P : Plan)
-    × IsRefusedBy P saved end × HasRefused started S ranks rows P log (HasRisen faults new_faults))
-    ⊎ HasNotBegun started S ranks rows log (HasRisen faults new_faults) end
+abbrev pub ResumesAs : Attempt → Saved → Bool → Option Plan → Option Journal → ℕ → ℕ → ResumeEnd
+    → Type 0
+ResumesAs A saved true (Some P) (Some J) faults new_faults end = HasResumed A saved P J.entries
+    faults new_faults end
+ResumesAs A saved true (Some P) None faults new_faults end = ⊥
+ResumesAs A saved true None J faults new_faults end = ⊥
+ResumesAs A saved false (Some P) (Some J) faults new_faults end =
+    HasFaultySaved P saved J.entries end × HasRefused A P (HasRisen faults new_faults)
+ResumesAs A saved false (Some P) None faults new_faults end = ⊥
+ResumesAs A saved false None (Some J) faults new_faults end = ⊥
+ResumesAs A saved false None None faults new_faults end = ((P : Plan)
+    × IsRefusedBy P saved end × HasRefused A P (HasRisen faults new_faults))
+    ⊎ HasNotBegun A (HasRisen faults new_faults) end

@@ -6,6 +6,7 @@ ghost use Rattle.mk_outside.specs.Logs.{Adds};
 ghost use Rattle.mk_scenario.specs.Wellformed.{IsWellformed};
 ghost use Rattle.mk_launch.specs.Ready.{IsPrepared};
 ghost use Rattle.mk_launch.specs.Starts.{AreNumbered, links_in};
+ghost use Rattle.mk_run_crew.specs.Attempts.{Attempt, attempt};
 ghost use Rattle.mk_local.specs.Kinds.{name_of};
 ghost use Rattle.mk_local.specs.Registries.{rows_in};
 ghost use Rattle.mk_record_read.specs.Seen.{came};
@@ -16,7 +17,6 @@ ghost use Rattle.mk_run_local.specs.Seen.{AreOf};
 ghost use Rattle.mk_run_crew.specs.Seen.{within_of};
 ghost use Rattle.mk_run_crew.specs.Started.{StartsLinks};
 ghost use Rattle.mk_run_crew.specs.Wholly.{is_wholly_within};
-ghost use Rattle.mk_run.specs.inner.Handshakes.{Start};
 ghost use Rattle.mk_run.specs.inner.Underway.{Setting};
 ghost use Rattle.mk_run.specs.inner.Turns.{AreLinksOpen, IsStill};
 ghost use Rattle.mk_resume_loop.specs.inner.Turns.{IsSized};
@@ -76,8 +76,8 @@ pub fn resume<F: Fleet, R: Wait>(
     requires known { All (IsKnown saved.plan) (map came saved.arrivals) }
     ensures count { F.faults fleet.old ≤ F.faults fleet.new }
     ensures ran { (entries : List LogEntry) × Adds entries (F.log fleet.old) (F.log fleet.new)
-        × ResumesAs (F.started fleet.old) scenario ranks
-        (rows_in kinds.now) saved result.taken result.plan result.journal entries
+        × ResumesAs (attempt (F.started fleet.old) scenario ranks (rows_in kinds.now) entries) saved
+        result.taken result.plan result.journal
         (F.faults fleet.old) (F.faults fleet.new) result.end
         × StartsLinks scenario (F.started fleet.old) (F.started fleet.new)
         (EndsAtStart result.plan entries result.end) }
@@ -107,8 +107,8 @@ pub fn resume_over<F: Fleet, R: Wait>(
     requires known { All (IsKnown saved.plan) (map came saved.arrivals) }
     ensures count { F.faults fleet.old ≤ F.faults fleet.new }
     ensures ran { (entries : List LogEntry) × Adds entries (F.log fleet.old) (F.log fleet.new)
-        × ResumesAs (F.started fleet.old) scenario ranks
-        (rows_in kinds.now) saved result.taken result.plan result.journal entries
+        × ResumesAs (attempt (F.started fleet.old) scenario ranks (rows_in kinds.now) entries) saved
+        result.taken result.plan result.journal
         (F.faults fleet.old) (F.faults fleet.new) result.end
         × StartsLinks scenario (F.started fleet.old) (F.started fleet.new)
         (EndsAtStart result.plan entries result.end) }
@@ -132,7 +132,7 @@ fn resume_plan<F: Fleet, R: Wait>(
     kinds: &Registry,
 ) -> ResumeRan
     requires known { All (IsKnown saved.plan) (map came saved.arrivals) }
-    requires started { (A : Start) × (A.rows ≡ rows_in kinds.now) × IsStarted A crew plan }
+    requires started { (A : Attempt) × (A.rows ≡ rows_in kinds.now) × IsStarted A crew plan }
     requires open { AreOpen crew.channels (F.open_links fleet.old) }
     ensures count { F.faults fleet.old ≤ F.faults fleet.new }
     ensures ran { (entries : List LogEntry) × Adds entries (F.log fleet.old) (F.log fleet.new)

@@ -1,6 +1,7 @@
 // A resumed run whose simulators are all within the program: over a fleet without links.
 ghost use Rattle.std.specs.Prelude.{◌≡◌, ℕ, [], All, map, true};
 ghost use Rattle.mk_launch.specs.Ready.{IsPrepared};
+ghost use Rattle.mk_run_crew.specs.Attempts.{attempt};
 ghost use Rattle.mk_local.specs.Kinds.{name_of};
 ghost use Rattle.mk_local.specs.Registries.{rows_in};
 ghost use Rattle.mk_record_read.specs.Seen.{came};
@@ -79,8 +80,9 @@ pub fn resume_within<R: Wait>(
     requires prepared { IsPrepared scenario (map name_of (rows_in kinds.now)) }
     requires known { All (IsKnown saved.plan) (map came saved.arrivals) }
     requires wholly { is_wholly_within scenario ≡ true }
-    ensures { (started faults : ℕ) → ResumesAs started scenario ranks
-        (rows_in kinds.now) saved result.taken result.plan result.journal [] faults faults
+    ensures { (started faults : ℕ)
+        → ResumesAs (attempt started scenario ranks (rows_in kinds.now) []) saved result.taken
+        result.plan result.journal faults faults
         result.end }
 {
     let mut none = NoFleet { link: None };

@@ -9,6 +9,7 @@ use Rattle.mk_plan.specs.Journals.{Arrival, arrival_of, arrivals}
 use Rattle.mk_outside.specs.declared.fleet.LogEntry.{LogEntry}
 use Rattle.mk_scenario.specs.declared.parts.Scenario.{Scenario}
 use Rattle.mk_launch.specs.Ready.{IsPrepared}
+use Rattle.mk_run_crew.specs.Attempts.{attempt}
 use Rattle.mk_local.specs.declared.turn.Turn.{Turn}
 use Rattle.mk_local.specs.Kinds.{name_of}
 use Rattle.mk_record_read.specs.Steps.{IsKnown}
@@ -42,7 +43,7 @@ known_in_range Q A J given known H s m more is =
     (all_there (IsKnown Q) A (arrivals H) (arrivals more) (record { sim = s.0; message = m })
     (sym given ∙ ap arrivals is ∙ filter_map_append arrival_of H (Got s m ∷ more)) known).in_range
 
-module _ (started : ℕ) (S : Scenario) (ranks : List ℕ) (rows : List Turn) (log : List LogEntry) (C : CrewSeen) (P : Plan) (b : HasBegun started S ranks rows log C P) (prepared : IsPrepared S (map name_of rows)) where
+module _ (started : ℕ) (S : Scenario) (ranks : List ℕ) (rows : List Turn) (log : List LogEntry) (C : CrewSeen) (P : Plan) (b : HasBegun (attempt started S ranks rows log) C P) (prepared : IsPrepared S (map name_of rows)) where
   none_yet : IsUnderway (setting_of started S ranks rows log C P b) P [] log (crew_of C) C.sims
   none_yet = run_begins started S ranks rows log C P b prepared
 

@@ -6,6 +6,7 @@ use Rattle.mk_base.specs.Lists.{IsIn}
 use Rattle.mk_plan.specs.declared.Plan.{Plan}
 use Rattle.mk_plan.specs.declared.Journal.{Journal}
 use Rattle.mk_outside.specs.Counts.{HasRisen}
+use Rattle.mk_run_crew.specs.Attempts.{attempt}
 use Rattle.mk_run_links.specs.Entries.{AreOn, IsRunLink}
 use Rattle.mk_run_links.specs.Places.{AreOpen, IsChannelLink}
 use Rattle.mk_run_links.proofs.OnEntries.{on_more, on_or_clock, on_run}
@@ -55,7 +56,7 @@ made_not rows S i outside = go (first_at rows S i) refl
     go None e = refl
     go (Some L) e = absurd (true≢false (sym (here_within rows S i L e) ∙ outside))
 
-module _ (started : ℕ) (S : Scenario) (ranks : List ℕ) (rows : List Turn) (log : List LogEntry) (C : CrewSeen) (P : Plan) (b : HasBegun started S ranks rows log C P) where
+module _ (started : ℕ) (S : Scenario) (ranks : List ℕ) (rows : List Turn) (log : List LogEntry) (C : CrewSeen) (P : Plan) (b : HasBegun (attempt started S ranks rows log) C P) where
   abbrev pub setting_of : Setting
   setting_of = record { started = started; scenario = S; rows = rows; replies = b.replies; plan = P }
 
@@ -74,7 +75,7 @@ module _ (started : ℕ) (S : Scenario) (ranks : List ℕ) (rows : List Turn) (l
   }
 
   -- or there is no memory for it: the whole handshake was said, and then a stop
-  pub run_halts : (entries : List LogEntry) (some risen : Type 0) → (some → risen) → AreStopped entries some (crew_of C) → IsRestless entries → AreOn (IsChannelLink C.channels) entries → HasHalted started S ranks rows (log ++ entries) risen halt.Mem
+  pub run_halts : (entries : List LogEntry) (some risen : Type 0) → (some → risen) → AreStopped entries some (crew_of C) → IsRestless entries → AreOn (IsChannelLink C.channels) entries → HasHalted (attempt started S ranks rows (log ++ entries)) risen halt.Mem
   run_halts entries some risen on stopped restless of_channels = record {
     queued = setup_requests S;
     later = [];
@@ -98,7 +99,7 @@ module _ (started : ℕ) (S : Scenario) (ranks : List ℕ) (rows : List Turn) (l
   run_first Q same i low = ap (λ (X : Plan). first_id X i) same ∙ b.first i (subst (λ (n : ℕ). i < n) b.sims (subst (λ (X : Plan). i < sim_count X) same low))
 
   -- what the run comes to
-  pub runs_so : IsPrepared S (map name_of rows) → (more : List LogEntry) (f0 f1 f2 : ℕ) → f0 ≤ f1 → (Q : Option Plan) (J : Option Journal) (end : Outcome) → PlanRunsAs P C more f1 f2 Q J end → RunsAs started S ranks rows Q J (log ++ more) f0 f2 end
+  pub runs_so : IsPrepared S (map name_of rows) → (more : List LogEntry) (f0 f1 f2 : ℕ) → f0 ≤ f1 → (Q : Option Plan) (J : Option Journal) (end : Outcome) → PlanRunsAs P C more f1 f2 Q J end → RunsAs (attempt started S ranks rows (log ++ more)) Q J f0 f2 end
   runs_so prepared more f0 f1 f2 low (Some Q) (Some J) end r =
       let t = r setting_of log f0 low (run_begins prepared) in
       record { answers = b.answers; made = subst (IsMade S ranks b.answers) (sym t.0) b.made; kinds = b.kinds; first = λ i lower. run_first Q t.0 i lower; run = t.1; told = λ i l linked. ap (λ (f : SetupReplies). f i) t.2 ∙ b.told i l linked }

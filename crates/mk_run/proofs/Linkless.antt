@@ -17,7 +17,7 @@ use Rattle.mk_run.specs.declared.outcome.Outcome.TheVariants as outcome
 use Rattle.mk_run.specs.Ends.{IsRun}
 use Rattle.mk_run.specs.Outcomes.{IsWithinOutcome, outcome_of}
 use Rattle.mk_run.specs.inner.Turns.{GoesOn, IsLinkedIfLong, IsStopping, TurnsAs, Waits}
-use Rattle.mk_run.specs.inner.Underway.{EndsBy, IsUnderway, Setting, reply_in}
+use Rattle.mk_run.specs.inner.Underway.{EndsBy, IsUnderway, Setting, exchange_at}
 use Rattle.mk_run.proofs.Turning.{may_hear, stopping_by}
 use Rattle.mk_run.proofs.WholeRuns.{new_core, run_whole}
 
@@ -61,7 +61,7 @@ module _ (T : Setting) (all : is_wholly_within T.scenario ≡ true) where
 -- a run from its first turn to its end
 pub run_within : (P : Plan) (old core : CoreState) (C D : CrewSeen) (faults : ℕ) (end : Outcome) → old ≡ new_core P → TurnsAs (Err end) [] ⊥ old C core D → ((i : ℕ) → at D.channels i ≡ None)
     → (T : Setting) (log : List LogEntry) (before : ℕ) → before ≤ faults → IsUnderway T P [] log (crew_of C) C.sims
-    → (core.plan ≡ P) × (r : IsRun T.started T.scenario (reply_in T) core.plan core.entries (log ++ []) before faults end) × (r.replies ≡ T.replies)
+    → (core.plan ≡ P) × (r : IsRun (exchange_at T (log ++ [])) core.plan core.entries before faults end) × (r.replies ≡ T.replies)
 run_within P old core C D faults end is ends none = run_whole P old core C D [] [] faults faults faults end is (omega arith) (omega arith)
     (λ T log u. stopping_by ⊥ (HasRisen faults faults) T core (log ++ []) D end (λ e. absurd e) (ends T log u)) (silently (HasRisen faults faults) D none) restless tt
 

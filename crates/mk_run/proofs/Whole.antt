@@ -31,7 +31,7 @@ use Rattle.mk_run_laws.proofs.Resting.{rests_well}
 use Rattle.mk_run.specs.declared.outcome.Outcome.{Outcome}
 use Rattle.mk_run.specs.declared.outcome.Outcome.TheVariants as outcome
 use Rattle.mk_run.specs.Ends.{ShownBy, SetupRestsWell, IsRun, IsUngot}
-use Rattle.mk_run.specs.inner.Underway.{Setting, reply_in, EndsBy, HasGiven, HasEnded, IsAhead, IsLastChannel}
+use Rattle.mk_run.specs.inner.Underway.{Setting, EndsBy, HasGiven, HasEnded, IsAhead, IsLastChannel, exchange_at}
 use Rattle.mk_run.proofs.ChannelsStopped.{all_heard, begins_itself, behind_ungot, full_still, heard_behind, held_heard, stopped_by}
 use Rattle.mk_run.proofs.Pushed.{got_last, sent_got}
 
@@ -79,7 +79,7 @@ module _ (T : Setting) (P : Plan) (J : List Entry) (log entries : List LogEntry)
   eager : IsEager P J
   eager = (ended.stands.orderly, ended.patient)
 
-  pub whole : IsRun T.started T.scenario (reply_in T) P J (log ++ entries) faults new_faults end
+  pub whole : IsRun (exchange_at T (log ++ entries)) P J faults new_faults end
   whole = record {
     replies = T.replies;
     valid = ended.stands.valid;

@@ -13,7 +13,7 @@ use Rattle.mk_run_crew.specs.Seen.{CrewSeen, crew_of}
 use Rattle.mk_run.specs.declared.outcome.Outcome.{Outcome}
 use Rattle.mk_run.specs.Ends.{IsRun}
 use Rattle.mk_run.specs.inner.Turns.{AreLinksOpen, GoesOn, IsStopping, TurnsAs}
-use Rattle.mk_run.specs.inner.Underway.{Setting, reply_in, IsUnderway}
+use Rattle.mk_run.specs.inner.Underway.{Setting, IsUnderway, exchange_at}
 use Rattle.mk_run.proofs.Turning.{risen_on, risen_later, are_open}
 use Rattle.mk_run.proofs.Whole.{whole, whole_replies}
 
@@ -28,12 +28,12 @@ open_first T P log C open_links u links = are_open T (new_core P) log C open_lin
 pub run_whole : (P : Plan) (old core : CoreState) (C D : CrewSeen) (entries stops : List LogEntry) (f0 f1 f2 : ℕ) (end : Outcome) → old ≡ new_core P → f0 ≤ f1 → f1 ≤ f2 → TurnsAs (Err end) entries (HasRisen f0 f1) old C core D
     → AreStopped stops (HasRisen f1 f2) (crew_of D) → IsRestless stops → AreOn (IsChannelLink D.channels) stops
     → (T : Setting) (log : List LogEntry) (before : ℕ) → before ≤ f0 → IsUnderway T P [] log (crew_of C) C.sims
-    → (core.plan ≡ P) × (r : IsRun T.started T.scenario (reply_in T) core.plan core.entries (log ++ (entries ++ stops)) before f2 end) × (r.replies ≡ T.replies)
+    → (core.plan ≡ P) × (r : IsRun (exchange_at T (log ++ (entries ++ stops))) core.plan core.entries before f2 end) × (r.replies ≡ T.replies)
 run_whole P old core C D entries stops f0 f1 f2 end is up later ends stopped restless of_channels T log before low u =
     let stopping : IsStopping (HasRisen f0 f1) T core (log ++ entries) D end = ends T log (subst (λ (k : CoreState). GoesOn T k log C) (sym is) u) in
     let made = whole T core.plan core.entries (log ++ entries) stops (crew_of D) end before f2 (HasRisen f0 f1) (HasRisen f1 f2) (λ r. risen_on before f0 f2 low (risen_later f0 f1 f2 later r)) (λ r. risen_on before f1 f2 (omega (arith, low, up)) r)
     stopping stopped restless of_channels in
-    let moved = subst (λ (l : List LogEntry). (r : IsRun T.started T.scenario (reply_in T) core.plan core.entries l before f2 end) × (r.replies ≡ T.replies)) (append_assoc log entries stops) (
+    let moved = subst (λ (l : List LogEntry). (r : IsRun (exchange_at T l) core.plan core.entries before f2 end) × (r.replies ≡ T.replies)) (append_assoc log entries stops) (
       made,
       whole_replies T core.plan core.entries (log ++ entries) stops
           (crew_of D) end before f2 (HasRisen f0 f1) (HasRisen f1 f2) (λ r. risen_on before f0 f2 low (risen_later f0 f1 f2 later r)) (λ r. risen_on before f1 f2 (omega (arith, low, up)) r) stopping stopped restless of_channels,
@@ -42,8 +42,8 @@ run_whole P old core C D entries stops f0 f1 f2 end is up later ends stopped res
 
 -- the same of the core's parts
 pub run_in_parts : (T : Setting) (P Q : Plan) (J K : List Entry) (log : List LogEntry) (before new_faults : ℕ) (end : Outcome) → Q ≡ P → K ≡ J → (first : Plan)
-    → (P ≡ first) × (r : IsRun T.started T.scenario (reply_in T) P J log before new_faults end) × (r.replies ≡ T.replies)
-    → (Q ≡ first) × (r : IsRun T.started T.scenario (reply_in T) Q K log before new_faults end) × (r.replies ≡ T.replies)
+    → (P ≡ first) × (r : IsRun (exchange_at T log) P J before new_faults end) × (r.replies ≡ T.replies)
+    → (Q ≡ first) × (r : IsRun (exchange_at T log) Q K before new_faults end) × (r.replies ≡ T.replies)
 run_in_parts T P Q J K log before new_faults end q k first t =
-    subst (λ (X : Plan). (X ≡ first) × (r : IsRun T.started T.scenario (reply_in T) X K log before new_faults end) × (r.replies ≡ T.replies)) (sym q)
-    (subst (λ (Y : List Entry). (P ≡ first) × (r : IsRun T.started T.scenario (reply_in T) P Y log before new_faults end) × (r.replies ≡ T.replies)) (sym k) t)
+    subst (λ (X : Plan). (X ≡ first) × (r : IsRun (exchange_at T log) X K before new_faults end) × (r.replies ≡ T.replies)) (sym q)
+    (subst (λ (Y : List Entry). (P ≡ first) × (r : IsRun (exchange_at T log) P Y before new_faults end) × (r.replies ≡ T.replies)) (sym k) t)

@@ -24,6 +24,7 @@ use Rattle.mk_session.specs.Fronts.{BeginsGarbled}
 use Rattle.mk_sched.specs.declared.faults.CoreFault.{CoreFault}
 use Rattle.mk_sched.specs.declared.faults.CoreFault.TheVariants.{TooLong}
 use Rattle.mk_sched.specs.Answers.{IsLastFaulty, SomeOpen, SomeReady, fault_in}
+use Rattle.mk_run_laws.specs.Exchanges.{Exchange, exchange}
 use Rattle.mk_run_laws.specs.Hearing.{rest_heard}
 use Rattle.mk_run_laws.specs.Handshake.{sim_link, is_within}
 use Rattle.mk_run_laws.specs.Kinds.{Replies}
@@ -157,23 +158,23 @@ AreInRange J = (H : List Entry) (s : SimNo) (m : Message) (more : List Entry)
 -- most as many entries as the plan allows, and no fault but one that the outcome names; where the
 -- run was broken off some request was open, and nobody was ready; and no link but the run's was
 -- read or written
-pub record IsRun (started : ℕ) (S : Scenario) (reply : Replies) (P : Plan) (J : List Entry)
-    (log : List LogEntry) (faults new_faults : ℕ) (end : Outcome) : Type 0 where
+pub record IsRun (X : Exchange) (P : Plan) (J : List Entry) (faults new_faults : ℕ)
+    (end : Outcome) : Type 0 where
   pub replies : SetupReplies
   pub valid : IsValidPlan P
-  pub journal : IsJournalOf started S reply P log J
+  pub journal : IsJournalOf X P J
   pub eager : IsEager P J
   pub within : length J ≤ P.entries
   pub in_range : AreInRange J
-  pub links : (i : ℕ) (l : LinkNo) → sim_link started S i ≡ Some l → (items : List Item)
-      × IsLinkOfRun S replies J log (HasRisen faults new_faults) i l items
+  pub links : (i : ℕ) (l : LinkNo) → sim_link X.started X.scenario i ≡ Some l → (items : List Item)
+      × IsLinkOfRun X.scenario replies J X.log (HasRisen faults new_faults) i l items
       × QueuedAll end (sent J i) items
-  pub rests : RestsWell started S P J log
-  pub setup_rests : SetupRestsWell started S log
-  pub shown : ShownBy started S P J log faults new_faults end
+  pub rests : RestsWell X.started X.scenario P J X.log
+  pub setup_rests : SetupRestsWell X.started X.scenario X.log
+  pub shown : ShownBy X.started X.scenario P J X.log faults new_faults end
   pub fault : (view P J).fault ≡ fault_named end
   pub unfinished : IsBrokenOff end → IsAwaiting P J
-  pub on_links : AreOn (IsRunLink started S) log
+  pub on_links : AreOn (IsRunLink X.started X.scenario) X.log
 
 -- nothing went wrong that a run can show
 pub record IsFaultless (started : ℕ) (S : Scenario) (P : Plan) (J : List Entry)
@@ -191,5 +192,5 @@ pub record IsFaultless (started : ℕ) (S : Scenario) (P : Plan) (J : List Entry
 abbrev pub Completes : Type 0
 Completes = (started : ℕ) (S : Scenario) (reply : Replies) (P : Plan) (J : List Entry)
     (log : List LogEntry) (faults new_faults : ℕ) (end : Outcome)
-    → IsRun started S reply P J log faults new_faults end
+    → IsRun (exchange started S reply log) P J faults new_faults end
     → IsFaultless started S P J log faults new_faults → (end ≡ outcome.Done) ⊎ (end ≡ outcome.Mem)

@@ -17,6 +17,8 @@ use Rattle.mk_plan.specs.Agreement.{Agrees, Continues, IsFinished}
 use Rattle.mk_scenario.specs.declared.parts.Scenario.{Scenario}
 use Rattle.mk_outside.specs.Counts.{HasRisen}
 use Rattle.mk_outside.specs.declared.fleet.LogEntry.{LogEntry}
+use Rattle.mk_run_crew.specs.Attempts.{attempt}
+use Rattle.mk_run_laws.specs.Exchanges.{Exchange, exchange}
 use Rattle.mk_run_laws.specs.Handshake.{setup_count, sim_link, is_within}
 use Rattle.mk_run_laws.specs.Kinds.{Replies, AnswersByKind, RepliesAreRight}
 use Rattle.mk_run_laws.specs.Rests.{RestsWell}
@@ -37,53 +39,53 @@ use Rattle.mk_run.specs.Ran.{HasRun}
 -- sends it, and a stop; all of it, but where a write took nothing or the count of faults rose; and
 -- the items are all of the journal's, but for the last where it was too long or there was no memory
 -- for it
-pub record LinkSaysRight (started : ℕ) (S : Scenario) (reply : Replies) (P : Plan) (J : List Entry)
-    (log : List LogEntry) (risen : Type 0) (end : Outcome) (i : ℕ) (l : LinkNo) : Type 0 where
+pub record LinkSaysRight (X : Exchange) (P : Plan) (J : List Entry) (risen : Type 0) (end : Outcome)
+    (i : ℕ) (l : LinkNo) : Type 0 where
   pub items : List Item
-  pub right : SaysRight started S reply (Some P) log i l (setup_count S i) items true
-  pub whole : SaidWhole S log risen i l (setup_count S i) items
+  pub right : SaysRight X (Some P) i l (setup_count X.scenario i) items true
+  pub whole : SaidWhole X.scenario X.log risen i l (setup_count X.scenario i) items
   pub all : QueuedAll end (sent J i) items
 
 -- where nothing is left to do, each simulator was sent all that sequential execution sends it over
 -- whatever may still come, in which no turn is cut; and there are such messages
-pub record HasSentAll (started : ℕ) (S : Scenario) (reply : Replies) (P : Plan) (J : List Entry)
-    (log : List LogEntry) : Type 0 where
-  pub all : (R : Messages) → IsPossible started S reply P log R → (i : ℕ)
+pub record HasSentAll (X : Exchange) (P : Plan) (J : List Entry) : Type 0 where
+  pub all : (R : Messages) → IsPossible X P R → (i : ℕ)
       → (map bare (sent J i) ≡ run_items P R i) × (all_ended (sequential P R i) ≡ true)
-  pub answers : (R : Messages) → Continues P J R → AnswersByKind reply (is_within S) P R
+  pub answers : (R : Messages) → Continues P J R → AnswersByKind X.reply (is_within X.scenario) P R
   pub finished : IsFinished P J
 
 -- no trigger from outside comes after a Step's time and at or before its max_advance, whatever may
 -- still come where its simulator sends nothing more
-abbrev pub ArePromised : ℕ → Scenario → Replies → Plan → List Entry → List LogEntry → Type 0
-ArePromised started S reply P J log = (H : List Entry) (s : SimNo) (x : Tier) (inputs : List Input)
+abbrev pub ArePromised : Exchange → Plan → List Entry → Type 0
+ArePromised X P J = (H : List Entry) (s : SimNo) (x : Tier) (inputs : List Input)
     (advance : ℤ) (more : List Entry) → J ≡ H ++ Sent s (Step x inputs advance) ∷ more
     → s.0 < sim_count P
-    → (R : Messages) → IsPossibleUpTo started S reply P log H s.0 R
+    → (R : Messages) → IsPossibleUpTo X P H s.0 R
     → IsPromised P R s.0 x.time advance
 
 -- what holds of a run
-pub record IsRightRun (started : ℕ) (S : Scenario) (reply : Replies) (P : Plan) (J : List Entry)
-    (log : List LogEntry) (risen : Type 0) (end : Outcome) : Type 0 where
+pub record IsRightRun (X : Exchange) (P : Plan) (J : List Entry) (risen : Type 0)
+    (end : Outcome) : Type 0 where
   pub agrees : Agrees P J
-  pub links : (i : ℕ) (l : LinkNo) → sim_link started S i ≡ Some l
-      → LinkSaysRight started S reply P J log risen end i l
-  pub done : end ≡ outcome.Done → HasSentAll started S reply P J log
-  pub promised : ArePromised started S reply P J log
-  pub rests : RestsWell started S P J log
+  pub links : (i : ℕ) (l : LinkNo) → sim_link X.started X.scenario i ≡ Some l
+      → LinkSaysRight X P J risen end i l
+  pub done : end ≡ outcome.Done → HasSentAll X P J
+  pub promised : ArePromised X P J
+  pub rests : RestsWell X.started X.scenario P J X.log
 
 -- every run is right
 abbrev pub RunsAreRight : Type 0
 RunsAreRight = (started : ℕ) (S : Scenario) (reply : Replies) (P : Plan) (J : List Entry)
     (log : List LogEntry) (faults new_faults : ℕ) (end : Outcome)
-    → IsRun started S reply P J log faults new_faults end
-    → IsRightRun started S reply P J log (HasRisen faults new_faults) end
+    → IsRun (exchange started S reply log) P J faults new_faults end
+    → IsRightRun (exchange started S reply log) P J (HasRisen faults new_faults) end
 
 -- in the plan of each run no reply of a simulator within the program is wrong
 abbrev pub KindsFit : Type 0
 KindsFit = (started : ℕ) (S : Scenario) (ranks : List ℕ) (rows : List Turn) (P : Plan)
     (J : List Entry) (log : List LogEntry) (faults new_faults : ℕ) (end : Outcome)
-    → IsPrepared S (map name_of rows) → HasRun started S ranks rows P J log faults new_faults end
+    → IsPrepared S (map name_of rows)
+    → HasRun (attempt started S ranks rows log) P J faults new_faults end
     → RepliesAreRight (kind_reply_of rows S) (is_within S) P
 
 -- a limit of the plan: that of loops within a time, or that of entries
@@ -98,4 +100,4 @@ abbrev pub WithinRunsEnd : Type 0
 WithinRunsEnd = (started : ℕ) (S : Scenario) (ranks : List ℕ) (rows : List Turn) (P : Plan)
     (J : List Entry) (log : List LogEntry) (faults new_faults : ℕ) (f : CoreFault)
     → IsPrepared S (map name_of rows) → is_wholly_within S ≡ true
-    → HasRun started S ranks rows P J log faults new_faults (outcome.Core f) → IsLimit f
+    → HasRun (attempt started S ranks rows log) P J faults new_faults (outcome.Core f) → IsLimit f

@@ -1,5 +1,4 @@
 -- What proofs alone need.
-pub mod Handshakes
 pub mod Sendings
 pub mod Shown
 pub mod Turns

@@ -5,6 +5,7 @@ ghost use Rattle.mk_outside.specs.Logs.{Adds};
 ghost use Rattle.mk_scenario.specs.Wellformed.{IsWellformed};
 ghost use Rattle.mk_launch.specs.Ready.{IsPrepared};
 ghost use Rattle.mk_launch.specs.Starts.{AreNumbered, links_in};
+ghost use Rattle.mk_run_crew.specs.Attempts.{attempt};
 ghost use Rattle.mk_local.specs.Kinds.{name_of};
 ghost use Rattle.mk_local.specs.Registries.{rows_in};
 ghost use Rattle.mk_run_links.specs.Places.{without_all};
@@ -51,8 +52,8 @@ pub fn run<F: Fleet, R: Wait>(
     requires prepared { IsPrepared scenario (map name_of (rows_in kinds.now)) }
     ensures count { F.faults fleet.old ≤ F.faults fleet.new }
     ensures ran { (entries : List LogEntry) × Adds entries (F.log fleet.old) (F.log fleet.new)
-        × RunsAs (F.started fleet.old) scenario ranks
-        (rows_in kinds.now) result.plan result.journal entries (F.faults fleet.old)
+        × RunsAs (attempt (F.started fleet.old) scenario ranks (rows_in kinds.now) entries)
+        result.plan result.journal (F.faults fleet.old)
         (F.faults fleet.new) result.outcome
         × StartsLinks scenario (F.started fleet.old) (F.started fleet.new)
         (EndsAtStart result.plan entries result.outcome) }

@@ -2,6 +2,7 @@
 ghost use Rattle.std.specs.Prelude.{◌≡◌, ℕ, [], true, None, Err, map, IfErr, OnOk};
 ghost use Rattle.mk_scenario.specs.Wellformed.{IsWellformed};
 ghost use Rattle.mk_launch.specs.Ready.{IsPrepared};
+ghost use Rattle.mk_run_crew.specs.Attempts.{attempt};
 ghost use Rattle.mk_local.specs.Kinds.{name_of};
 ghost use Rattle.mk_local.specs.Registries.{rows_in};
 ghost use Rattle.mk_plan.specs.Plans.{IsValidPlan};
@@ -114,8 +115,8 @@ pub fn run_local(alloc: Global, scenario: Scenario, ranks: List<u32>, kinds: &Re
     requires prepared { IsPrepared scenario (map name_of (rows_in kinds.now)) }
     requires wholly { is_wholly_within scenario ≡ true }
     ensures ran { (started faults : ℕ)
-        → RunsAs started scenario ranks
-        (rows_in kinds.now) result.plan result.journal [] faults faults result.outcome }
+        → RunsAs (attempt started scenario ranks (rows_in kinds.now) []) result.plan result.journal
+        faults faults result.outcome }
     ensures within { IsWithinOutcome result.outcome }
 {
     match Crew::begin_within(alloc, scenario, ranks, kinds) {

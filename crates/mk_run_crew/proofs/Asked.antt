@@ -1,5 +1,5 @@
 -- One request: what its calls add up to.
-use Rattle.std.proofs.Common.{◌≡◌, ℕ, ◌+◌, ◌<◌, true, false, List, [], ◌∷◌, ◌++◌, length, Option, Some, None, Ok, Err, refl, sym, ap, ◌∙◌, subst, inl, inr}
+use Rattle.std.proofs.Common.{◌≡◌, ℕ, ◌+◌, ◌<◌, true, false, List, [], length, None, refl, ap, ◌∙◌, subst, inl, inr}
 use Rattle.mk_base.specs.declared.SimNo.{SimNo}
 use Rattle.mk_frame.specs.Frames.{limit}
 use Rattle.mk_message.specs.Written.{call_text}
@@ -12,7 +12,7 @@ use Rattle.mk_run_laws.specs.Channels.{Channel, queued}
 use Rattle.mk_run_laws.specs.Payloads.{IsFramed}
 use Rattle.mk_run_laws.specs.Crews.{IsHeard}
 use Rattle.mk_run_links.specs.Entries.{AreOn}
-use Rattle.mk_run_links.specs.Places.{IsChannelLink, IsSet, Channels, at, crew}
+use Rattle.mk_run_links.specs.Places.{IsChannelLink, IsSet, Channels, crew}
 use Rattle.mk_local.specs.declared.turn.Turn.{Turn}
 use Rattle.mk_run_local.specs.Calls.{IsCalled}
 use Rattle.mk_run_local.specs.Seen.{AreOf}

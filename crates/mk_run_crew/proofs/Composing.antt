@@ -1,14 +1,14 @@
 -- The begin of a crew, from the start of its links to the first request.
-use Rattle.std.proofs.Common.{◌≡◌, ℕ, zero, suc, ◌<◌, ◌≤◌, ◌^◌, ◌+◌, List, [], ◌∷◌, ◌++◌, length, Option, Some, None, slice_get, refl, sym, ap, ◌∙◌, subst, arith}
+use Rattle.std.proofs.Common.{◌≡◌, ℕ, suc, ◌<◌, ◌≤◌, ◌^◌, ◌+◌, List, [], ◌∷◌, ◌++◌, length, Option, None, slice_get, refl, sym, ap, ◌∙◌, subst, arith}
 use Rattle.mk_base.specs.declared.LinkNo.{LinkNo}
-use Rattle.mk_base.specs.Lists.{IsIn, Each}
+use Rattle.mk_base.specs.Lists.{IsIn}
 use Rattle.mk_base.proofs.Lists.{in_back}
 use Rattle.mk_scenario.specs.declared.parts.SimPart.{SimPart}
 use Rattle.mk_scenario.specs.declared.parts.Scenario.{Scenario}
 use Rattle.mk_launch.specs.Starts.{link_count, links_in, place_of, places}
 use Rattle.mk_local.specs.declared.turn.Turn.{Turn}
 use Rattle.mk_setup.specs.Seen.{SetupState}
-use Rattle.mk_run_links.specs.Places.{AreDistinct, Channels, PlacesAreDistinct, new_channels}
+use Rattle.mk_run_links.specs.Places.{AreDistinct, PlacesAreDistinct, new_channels}
 use Rattle.mk_run_links.specs.Seen.{Seen}
 use Rattle.mk_run_local.specs.Seen.{AreOf, WithinState, new_within}
 use Rattle.mk_run_crew.specs.inner.Asking.{IsNewCrew}

@@ -14,6 +14,7 @@ use Rattle.mk_plan.specs.declared.Plan.{Plan}
 use Rattle.mk_plan.specs.Plans.{IsValidPlan, first_id, sim_count}
 use Rattle.mk_plan.specs.Journals.{Arrival}
 use Rattle.mk_scenario.specs.declared.parts.Scenario.{Scenario}
+use Rattle.mk_run_crew.specs.Attempts.{attempt}
 use Rattle.mk_local.specs.declared.turn.Turn.{Turn}
 use Rattle.mk_local.specs.Calls.{after_call}
 use Rattle.mk_local.specs.Simulators.{Simulator}
@@ -34,7 +35,7 @@ use Rattle.mk_run_links.specs.Entries.{AreOn, IsRunLink}
 use Rattle.mk_run_links.specs.Places.{IsChannelLink, at, crew}
 use Rattle.mk_run_links.proofs.OnEntries.{on_more, on_or_clock, on_run}
 use Rattle.mk_run_links.proofs.OnStops.{framed_is}
-use Rattle.mk_run_local.specs.Made.{first_at, made}
+use Rattle.mk_run_local.specs.Made.{first_at}
 use Rattle.mk_run_crew.specs.declared.halt.Halt.{Halt}
 use Rattle.mk_run_crew.specs.declared.halt.Halt.TheVariants as halt
 use Rattle.mk_run_crew.specs.Answers.{AreHeard}
@@ -50,7 +51,7 @@ module _ (started : ℕ) (S : Scenario) (ranks : List ℕ) (rows : List Turn) wh
   -- ---- a crew that has begun
 
   pub begun_now : (log : List LogEntry) (answers : List Message) (C : CrewSeen) (P : Plan) → IsAnswered started S rows log answers C → IsMade S ranks answers P → IsValidPlan P → sim_count P ≡ length S.sims → ((i : ℕ) → i < length S.sims → first_id P i ≡ setup_count S i)
-      → HasBegun started S ranks rows log C P
+      → HasBegun (attempt started S ranks rows log) C P
   begun_now log answers C P a m valid sims first = record {
     answers = answers;
     made = m;
@@ -97,7 +98,7 @@ module _ (started : ℕ) (S : Scenario) (ranks : List ℕ) (rows : List Turn) wh
   }
 
   cause_later : (log stop : List LogEntry) (risen later_risen : Type 0) (queued later : List Request) (h : Halt) → ((i : ℕ) (l : LinkNo) → sim_link started S i ≡ Some l → heard_on l (log ++ stop) ≡ heard_on l log) → (risen → later_risen)
-      → ShowsCause started S ranks rows log risen queued later h → ShowsCause started S ranks rows (log ++ stop) later_risen queued later h
+      → ShowsCause (attempt started S ranks rows log) risen queued later h → ShowsCause (attempt started S ranks rows (log ++ stop)) later_risen queued later h
   cause_later log stop risen later_risen queued later (halt.Setup fault) same on c = record { answers = c.answers; last = c.last; faulty = c.faulty; heard = heard_later log stop c.answers c.last same c.heard }
   cause_later log stop risen later_risen queued later halt.Fleet same on c = on c
   cause_later log stop risen later_risen queued later (halt.Gone sim) same on c = (c.0, c.1, in_front (Ended c.0) log stop c.2)
@@ -112,7 +113,7 @@ module _ (started : ℕ) (S : Scenario) (ranks : List ℕ) (rows : List Turn) wh
 
   -- the stop of a crew whose handshake has ended early
   pub halted : (log stop : List LogEntry) (risen later_risen : Type 0) (h : Halt) (C : CrewSeen) → IsHalting started S ranks rows log risen h C → AreStopped stop later_risen (crew_of C) → IsRestless stop → AreOn (IsChannelLink C.channels) stop → (risen → later_risen)
-      → HasHalted started S ranks rows (log ++ stop) later_risen h
+      → HasHalted (attempt started S ranks rows (log ++ stop)) later_risen h
   halted log stop risen later_risen h C g stopped restless of_channels on = record {
     queued = g.queued;
     later = g.later;
@@ -132,7 +133,7 @@ module _ (started : ℕ) (S : Scenario) (ranks : List ℕ) (rows : List Turn) wh
   first_stop = framed_is 0 (decimal 0) refl (let e = length-decimal-le_succ 0 (omega arith) in omega (arith, e))
 
   -- before any channel is there nothing is said
-  pub halted_silently : (risen : Type 0) (h : Halt) → (h ≡ halt.Mem) ⊎ ((h ≡ halt.Fleet) × risen) → HasHalted started S ranks rows [] risen h
+  pub halted_silently : (risen : Type 0) (h : Halt) → (h ≡ halt.Mem) ⊎ ((h ≡ halt.Fleet) × risen) → HasHalted (attempt started S ranks rows []) risen h
   halted_silently risen h why = record {
     queued = [];
     later = setup_requests S;
@@ -141,5 +142,5 @@ module _ (started : ℕ) (S : Scenario) (ranks : List ℕ) (rows : List Turn) wh
     whole = λ some i l e. elim why [ inl q ↦ absurd (some (q, refl)) | inr t ↦ inr (inr t.1) ];
     on_links = tt;
     rests = λ before after is. absurd (not_empty before after Rest is);
-    cause = elim why [ inl q ↦ subst (ShowsCause started S ranks rows [] risen [] (setup_requests S)) (sym q) tt | inr t ↦ subst (ShowsCause started S ranks rows [] risen [] (setup_requests S)) (sym t.0) t.1 ];
+    cause = elim why [ inl q ↦ subst (ShowsCause (attempt started S ranks rows []) risen [] (setup_requests S)) (sym q) tt | inr t ↦ subst (ShowsCause (attempt started S ranks rows []) risen [] (setup_requests S)) (sym t.0) t.1 ];
   }

@@ -1,39 +1,31 @@
 -- The handshake, request by request.
-use Rattle.std.proofs.Common.{◌≡◌, ℕ, zero, suc, ◌+◌, ◌==◌, ◌<◌, Bool, true, false, List, [], ◌∷◌, ◌++◌, length, take, drop, map, filter_map, fold, Option, Some, None, slice_get, slice_set, option_map, option_and_then, refl, sym, ap, ◌∙◌, subst, ◌⊎◌, inl, inr, append_assoc, true≢false, if◌then◌else◌}
-use Rattle.std.specs.Prelude.{is_some}
+use Rattle.std.proofs.Common.{◌≡◌, ℕ, zero, suc, ◌+◌, Bool, false, List, [], ◌∷◌, ◌++◌, length, take, drop, map, filter_map, fold, Option, Some, None, slice_get, slice_set, option_map, option_and_then, refl, sym, ap, ◌∙◌, subst, ◌⊎◌, inl, inr, true≢false, if◌then◌else◌}
 use Rattle.mk_base.specs.declared.LinkNo.{LinkNo}
-use Rattle.mk_base.specs.Lists.{IsIn}
 use Rattle.mk_base.proofs.Lists.{none_some, some_same, append_nil, set_here, set_else}
-use Rattle.mk_plan.specs.declared.Call.{Call}
 use Rattle.mk_plan.specs.declared.Message.{Message}
-use Rattle.mk_plan.specs.declared.Plan.{Plan}
 use Rattle.mk_message.specs.Written.{call_text}
 use Rattle.mk_outside.specs.declared.fleet.LogEntry.{LogEntry}
-use Rattle.mk_outside.specs.declared.fleet.LogEntry.TheVariants.{Rest}
 use Rattle.mk_scenario.specs.declared.parts.Scenario.{Scenario}
-use Rattle.mk_launch.specs.Starts.{places}
 use Rattle.mk_local.specs.declared.turn.Turn.{Turn}
 use Rattle.mk_local.specs.Calls.{after_call, call_reply}
 use Rattle.mk_local.specs.Simulators.{Simulator}
 use Rattle.mk_run_laws.specs.Payloads.{IsFramed}
 use Rattle.mk_run_laws.specs.Channels.{Channel, queued}
-use Rattle.mk_run_laws.specs.Crews.{CrewState, channel_at, AreMoved, AreParkedAtRests, IsHeard, on_link, given_by}
+use Rattle.mk_run_laws.specs.Crews.{CrewState, AreMoved, AreParkedAtRests, IsHeard, on_link, given_by}
 use Rattle.mk_run_laws.specs.Handshake.{Request, setup_requests, call_to, sim_link, is_within}
-use Rattle.mk_run_laws.specs.Rests.{AllSetUp, IsWellInSetup}
 use Rattle.mk_run_laws.specs.Running.{SetupReplies}
 use Rattle.mk_run_laws.specs.inner.Running.{IsBetween, IsSettingUp}
 use Rattle.mk_run_laws.proofs.Greeting.{fresh, requested, requested_within, replied}
-use Rattle.mk_run_laws.proofs.Stepping.{same_or_not, same_is, apart_is}
+use Rattle.mk_run_laws.proofs.Stepping.{same_or_not, apart_is}
 use Rattle.mk_setup.specs.Requests.{id_before}
 use Rattle.mk_run_links.specs.Entries.{AreOn, IsRunLink}
 use Rattle.mk_run_links.proofs.OnEntries.{on_more, on_run}
-use Rattle.mk_run_links.specs.Places.{IsChannelLink, Channels, IsSet, at, crew, new_channel, new_channels}
-use Rattle.mk_run_local.specs.Calls.{IsCalled}
+use Rattle.mk_run_links.specs.Places.{IsChannelLink, Channels, IsSet, at, crew}
 use Rattle.mk_run_local.specs.Made.{first_at}
 use Rattle.mk_run_local.specs.Seen.{WithinState, AreOf, first_of, new_within, sim_at}
-use Rattle.mk_run_crew.specs.Answers.{answers_to, sim_after, AreKindAnswers, IsKindAnswer}
+use Rattle.mk_run_crew.specs.Answers.{answers_to, sim_after}
 use Rattle.mk_run_crew.specs.inner.Asking.{AsksWithin, AsksOnLink, IsAnswered, IsNewCrew}
-use Rattle.mk_run_crew.specs.Seen.{CrewSeen, within_of, is_here}
+use Rattle.mk_run_crew.specs.Seen.{CrewSeen, within_of}
 use Rattle.mk_run_crew.proofs.Placing.{moved_back, new_at, new_was, set_back, set_there}
 use Rattle.mk_run_crew.proofs.Requests.{answers_none, answers_pushed, after_one_more, after_other, count_pushed, cut_at, kinds_pushed, still_none}
 use Rattle.mk_run_crew.proofs.Simulators.{link_placed, linked_away, placed_link, within_away}

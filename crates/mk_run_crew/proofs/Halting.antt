@@ -1,31 +1,29 @@
 -- A handshake that ends early: what is on the channels then, and what shows why.
-use Rattle.std.proofs.Common.{◌≡◌, ℕ, zero, suc, ◌+◌, ◌==◌, ◌<◌, Bool, true, false, List, [], ◌∷◌, ◌++◌, length, take, drop, map, filter_map, Option, Some, None, slice_get, option_map, refl, sym, ap, ◌∙◌, subst, ◌⊎◌, inl, inr, append_assoc, true≢false, if◌then◌else◌}
-use Rattle.std.specs.Prelude.{option_to_list}
+use Rattle.std.proofs.Common.{◌≡◌, ℕ, suc, ◌==◌, Bool, true, false, List, [], ◌∷◌, ◌++◌, length, take, drop, filter_map, Some, None, slice_get, refl, sym, ap, ◌∙◌, subst, ◌⊎◌, inl, inr, append_assoc, true≢false, if◌then◌else◌}
 use Rattle.std.specs.List.{cons_option}
 use Rattle.mk_base.specs.declared.LinkNo.{LinkNo}
-use Rattle.mk_base.specs.declared.SimNo.{SimNo}
 use Rattle.mk_base.specs.Lists.{IsIn, BeginsWith}
-use Rattle.mk_base.proofs.Lists.{none_some, some_same, append_nil, in_back, in_front}
-use Rattle.mk_frame.specs.Frames.{IsTooLong, limit}
+use Rattle.mk_base.proofs.Lists.{none_some, some_same, append_nil, in_back}
+use Rattle.mk_frame.specs.Frames.{IsTooLong}
 use Rattle.mk_message.specs.Written.{call_text}
 use Rattle.mk_outside.specs.declared.fleet.LogEntry.{LogEntry}
 use Rattle.mk_outside.specs.declared.fleet.LogEntry.TheVariants.{Rest, Ended}
 use Rattle.mk_outside.specs.Logs.{heard_on, last_that, later_of, is_read}
 use Rattle.mk_plan.specs.declared.Message.{Message}
-use Rattle.mk_plan.specs.Journals.{Arrival}
 use Rattle.mk_scenario.specs.declared.parts.Scenario.{Scenario}
+use Rattle.mk_run_crew.specs.Attempts.{attempt}
 use Rattle.mk_local.specs.declared.turn.Turn.{Turn}
 use Rattle.mk_session.specs.Fronts.{BeginsGarbled}
-use Rattle.mk_run_laws.specs.Channels.{Channel, IsChannelAt, IsMoved, queued}
-use Rattle.mk_run_laws.specs.Crews.{AreMoved, AreParkedAtRests, given_by, kept_of, kept_from}
-use Rattle.mk_run_laws.specs.Handshake.{Request, setup_requests, call_to, call_payloads, sim_link, is_within}
+use Rattle.mk_run_laws.specs.Channels.{Channel, IsChannelAt, queued}
+use Rattle.mk_run_laws.specs.Crews.{AreMoved, AreParkedAtRests, given_by, kept_of}
+use Rattle.mk_run_laws.specs.Handshake.{Request, setup_requests, call_to, call_payloads, sim_link}
 use Rattle.mk_run_laws.specs.Hearing.{messages_heard, rest_heard, first_message}
 use Rattle.mk_run_laws.specs.Rests.{AllSetUp, IsWellInSetup}
 use Rattle.mk_run_laws.specs.Running.{SetupReplies}
 use Rattle.mk_run_laws.specs.inner.Running.{IsBetween, IsSettingUp}
 use Rattle.mk_run_laws.proofs.Moving.{channel_moved}
 use Rattle.mk_run_laws.proofs.SettingUp.{well_in_setup, not_set_up}
-use Rattle.mk_run_laws.proofs.Stepping.{first_or_second, apart_is}
+use Rattle.mk_run_laws.proofs.Stepping.{first_or_second}
 use Rattle.mk_run_laws.proofs.Taking.{taken_heard, taken_rest, none_heard, garbled_none, long_none, none_first}
 use Rattle.mk_setup.specs.declared.fault.SetupFault.{SetupFault}
 use Rattle.mk_setup.specs.declared.fault.SetupFault.TheVariants as fault
@@ -37,11 +35,11 @@ use Rattle.mk_run_links.specs.Halts.{ShowsHalt}
 use Rattle.mk_run_links.specs.Places.{Channels, at, crew}
 use Rattle.mk_run_crew.specs.declared.halt.Halt.{Halt}
 use Rattle.mk_run_crew.specs.declared.halt.Halt.TheVariants as halt
-use Rattle.mk_run_crew.specs.Answers.{answers_to, AreHeard, AreKindAnswers, IsKindAnswer}
+use Rattle.mk_run_crew.specs.Answers.{answers_to, AreHeard, AreKindAnswers}
 use Rattle.mk_run_crew.specs.inner.Asking.{AsksNot, AsksInVain, AsksWithin, AsksOnLink, IsAnswered, IsHalting, IsTooLongToAsk, setup_halt}
 use Rattle.mk_run_crew.specs.Calls.{halt_of}
-use Rattle.mk_run_crew.specs.Halted.{IsLongRequest, IsSetupFault, ShowsCause, count_to}
-use Rattle.mk_run_crew.specs.Seen.{CrewSeen, is_here, within_of}
+use Rattle.mk_run_crew.specs.Halted.{IsSetupFault, ShowsCause, count_to}
+use Rattle.mk_run_crew.specs.Seen.{CrewSeen, is_here}
 use Rattle.mk_run_crew.proofs.Going.{asked_on, heard_moved, set_up_so, within_more}
 use Rattle.mk_run_crew.proofs.Placing.{moved_there, moved_back, set_back}
 use Rattle.mk_run_crew.proofs.Requests.{answers_pushed, cut_at, kinds_pushed}
@@ -83,7 +81,7 @@ module _ (started : ℕ) (S : Scenario) (ranks : List ℕ) (rows : List Turn) wh
   channels_at replies log L done later b i l e = let t = b.channels i l e in (replies i, t.0, t.1, t.2, t.3)
 
   pub between_halts : (log : List LogEntry) (risen : Type 0) (h : Halt) (answers : List Message) (C : CrewSeen) → IsAnswered started S rows log answers C
-      → ShowsCause started S ranks rows log risen (take (length answers) (setup_requests S)) (drop (length answers) (setup_requests S)) h → IsHalting started S ranks rows log risen h C
+      → ShowsCause (attempt started S ranks rows log) risen (take (length answers) (setup_requests S)) (drop (length answers) (setup_requests S)) h → IsHalting started S ranks rows log risen h C
   between_halts log risen h answers C a cause = record {
     queued = take (length answers) (setup_requests S);
     later = drop (length answers) (setup_requests S);
@@ -96,7 +94,7 @@ module _ (started : ℕ) (S : Scenario) (ranks : List ℕ) (rows : List Turn) wh
   }
 
   -- a fault is a cause, unless memory was wanting
-  pub fault_causes : (log : List LogEntry) (risen : Type 0) (queued later : List Request) (e : SetupFault) → ((e ≡ fault.Mem → ⊥) → IsSetupFault started S ranks rows log e) → ShowsCause started S ranks rows log risen queued later (setup_halt e)
+  pub fault_causes : (log : List LogEntry) (risen : Type 0) (queued later : List Request) (e : SetupFault) → ((e ≡ fault.Mem → ⊥) → IsSetupFault (attempt started S ranks rows log) e) → ShowsCause (attempt started S ranks rows log) risen queued later (setup_halt e)
   fault_causes log risen queued later (fault.Meta sim f) shown = shown (λ q. cc)
   fault_causes log risen queued later (fault.Create sim f) shown = shown (λ q. cc)
   fault_causes log risen queued later (fault.Connect f) shown = shown (λ q. cc)
@@ -124,9 +122,9 @@ module _ (started : ℕ) (S : Scenario) (ranks : List ℕ) (rows : List Turn) wh
       subst (λ (x : List LogEntry). IsHalting started S ranks rows x risen h D) (sym (ap (λ (x : List LogEntry). log ++ x) n.quiet ∙ append_nil log))
       (subst (λ (X : CrewSeen). IsHalting started S ranks rows log risen h X) (sym n.same) (between_halts log risen h answers C a (cause n.cause)))
     where
-      cause : (h ≡ halt.Mem) ⊎ IsTooLongToAsk h r.sim r.call id C → ShowsCause started S ranks rows log risen (take (length answers) (setup_requests S)) (drop (length answers) (setup_requests S)) h
-      cause (inl e) = subst (ShowsCause started S ranks rows log risen (take (length answers) (setup_requests S)) (drop (length answers) (setup_requests S))) (sym e) tt
-      cause (inr t) = subst (ShowsCause started S ranks rows log risen (take (length answers) (setup_requests S)) (drop (length answers) (setup_requests S))) (sym t.is) (record {
+      cause : (h ≡ halt.Mem) ⊎ IsTooLongToAsk h r.sim r.call id C → ShowsCause (attempt started S ranks rows log) risen (take (length answers) (setup_requests S)) (drop (length answers) (setup_requests S)) h
+      cause (inl e) = subst (ShowsCause (attempt started S ranks rows log) risen (take (length answers) (setup_requests S)) (drop (length answers) (setup_requests S))) (sym e) tt
+      cause (inr t) = subst (ShowsCause (attempt started S ranks rows log) risen (take (length answers) (setup_requests S)) (drop (length answers) (setup_requests S))) (sym t.is) (record {
         now = r;
         more = drop (suc (length answers)) (setup_requests S);
         first = (cut_at (length answers) r (setup_requests S) asked).1;
@@ -157,7 +155,7 @@ module _ (started : ℕ) (S : Scenario) (ranks : List ℕ) (rows : List Turn) wh
 
   -- what the links show is the cause
   link_causes : (log entries : List LogEntry) (risen : Type 0) (queued later : List Request) (N : Channels) (why : LinkHalt) → ShowsHalt why entries N → AreAt started S (log ++ entries) queued N → ((i : ℕ) (w : Channel) → at N i ≡ Some w → (l : LinkNo) × (sim_link started S i ≡ Some l))
-      → (why ≡ link_halt.Fleet → risen) → ShowsCause started S ranks rows (log ++ entries) risen queued later (halt_of why)
+      → (why ≡ link_halt.Fleet → risen) → ShowsCause (attempt started S ranks rows (log ++ entries)) risen queued later (halt_of why)
   link_causes log entries risen queued later N link_halt.Fleet shown at_log back rose = rose refl
   link_causes log entries risen queued later N (link_halt.Gone sim) shown at_log back rose =
       let b = back sim.0 shown.0 shown.1 in
@@ -190,7 +188,7 @@ module _ (started : ℕ) (S : Scenario) (ranks : List ℕ) (rows : List Turn) wh
     parts = up.parts ∙ sym (append_assoc done (r ∷ []) later);
     channels = at_log;
     rests = rests_on a.replies log entries v.mid done r later up (a.between).rests (v.unheard).parked;
-    cause = subst (ShowsCause started S ranks rows (log ++ entries) risen (done ++ r ∷ []) later) (sym v.is)
+    cause = subst (ShowsCause (attempt started S ranks rows (log ++ entries)) risen (done ++ r ∷ []) later) (sym v.is)
         (link_causes log entries risen (done ++ r ∷ []) later D.channels v.why v.shown at_log back (λ q. rose (v.is ∙ ap halt_of q)));
     back = back;
     on_links = asked_on started S rows log entries a.replies (take (length answers) (setup_requests S)) (drop (length answers) (setup_requests S)) C v.mid r.sim v.channel _ a.on_links a.between a.back v.set refl v.on_links;

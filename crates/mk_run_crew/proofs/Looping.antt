@@ -1,19 +1,17 @@
 -- The handshake as a loop: what each of its steps leaves.
-use Rattle.std.proofs.Common.{◌≡◌, ℕ, ◌<◌, ◌≤◌, Bool, true, false, List, [], ◌∷◌, ◌++◌, length, Option, Some, None, Ok, Err, slice_get, option_map, refl, sym, ap, ◌∙◌, subst, inl, inr, arith, true≢false, fold, map, take, filter_map}
+use Rattle.std.proofs.Common.{◌≡◌, ℕ, ◌<◌, false, List, [], ◌∷◌, ◌++◌, length, Option, Some, None, slice_get, option_map, refl, sym, ap, ◌∙◌, subst, inl, inr, true≢false, fold, map, take, filter_map}
 use Rattle.std.specs.Prelude.{is_some}
 use Rattle.mk_base.specs.declared.LinkNo.{LinkNo}
 use Rattle.mk_base.specs.declared.SimNo.{SimNo}
-use Rattle.mk_base.proofs.Lists.{none_some, some_same}
+use Rattle.mk_base.proofs.Lists.{some_same}
 use Rattle.mk_outside.specs.declared.fleet.LogEntry.{LogEntry}
-use Rattle.mk_outside.specs.Counts.{HasRisen}
 use Rattle.mk_outside.specs.Logs.{Adds}
 use Rattle.mk_outside.proofs.OnLogs.{adds_more}
 use Rattle.mk_plan.specs.declared.Call.{Call}
-use Rattle.mk_plan.specs.declared.Message.{Message}
 use Rattle.mk_plan.specs.declared.Plan.{Plan}
-use Rattle.mk_plan.specs.Journals.{Arrival}
 use Rattle.mk_scenario.specs.declared.parts.Scenario.{Scenario}
 use Rattle.mk_launch.specs.Ready.{IsPrepared}
+use Rattle.mk_run_crew.specs.Attempts.{attempt}
 use Rattle.mk_local.specs.declared.turn.Turn.{Turn}
 use Rattle.mk_local.specs.Calls.{after_call, IsCallReplied}
 use Rattle.mk_local.specs.Kinds.{name_of}
@@ -22,21 +20,18 @@ use Rattle.mk_run_laws.specs.Channels.{Channel}
 use Rattle.mk_run_laws.specs.Handshake.{Request, setup_requests, setup_count, call_to, sim_link}
 use Rattle.mk_setup.specs.declared.fault.SetupFault.{SetupFault}
 use Rattle.mk_setup.specs.declared.fault.SetupFault.TheVariants as fault
-use Rattle.mk_setup.specs.Answers.{IsReady, IsRefused, IsRequested, GivesNoRequest}
-use Rattle.mk_setup.specs.Handshakes.{IsFaultyAfter, IsMade, IsReached, begun}
+use Rattle.mk_setup.specs.Answers.{IsReady, IsRequested, GivesNoRequest}
+use Rattle.mk_setup.specs.Handshakes.{IsFaultyAfter, IsReached, begun}
 use Rattle.mk_setup.specs.Laws.{IsOfReplies, RepliesMake}
-use Rattle.mk_setup.specs.Replies.{after_reply, arrival}
+use Rattle.mk_setup.specs.Replies.{arrival}
 use Rattle.mk_setup.specs.Requests.{id_before, request_of}
 use Rattle.mk_setup.specs.Seen.{SetupState}
 use Rattle.mk_run_links.specs.Places.{AreOpen, Channels, at}
 use Rattle.mk_run_local.specs.Made.{first_at}
-use Rattle.mk_run_local.specs.Seen.{sim_at}
 use Rattle.mk_run_crew.specs.declared.halt.Halt.{Halt}
-use Rattle.mk_run_crew.specs.declared.halt.Halt.TheVariants as halt
-use Rattle.mk_run_crew.specs.Answers.{sim_after}
-use Rattle.mk_run_crew.specs.inner.Asking.{Answers, AnswersNot, Asks, AsksFail, AsksOnLink, AsksWithin, CanAsk, GoesSoFar, IsAnswered, IsHalting, IsNewCrew, IsNotTaken, IsStepped, StepsNot, StepsTo, setup_halt}
+use Rattle.mk_run_crew.specs.inner.Asking.{Answers, AnswersNot, CanAsk, GoesSoFar, IsHalting, IsNewCrew, IsStepped, StepsNot, StepsTo, setup_halt}
 use Rattle.mk_run_crew.specs.Begun.{HasBegun}
-use Rattle.mk_run_crew.specs.Seen.{CrewSeen, is_here, within_of}
+use Rattle.mk_run_crew.specs.Seen.{CrewSeen, is_here}
 use Rattle.mk_run_crew.proofs.Ending.{begun_now}
 use Rattle.mk_run_crew.proofs.Going.{none_answered, on_link_more, within_more}
 use Rattle.mk_run_crew.proofs.Halting.{next_halts, refused_on_link, refused_within, unasked_halts, unheard_halts}
@@ -62,7 +57,7 @@ module _ (started : ℕ) (S : Scenario) (ranks : List ℕ) (rows : List Turn) (l
   }
 
   -- all have answered
-  pub ends : (old new : Option (List LogEntry)) (C : CrewSeen) (U V : SetupState) (P : Plan) → GoesSoFar started S ranks rows old new C U → IsReady U P V → (entries : List LogEntry) × Adds entries old new × HasBegun started S ranks rows entries C P
+  pub ends : (old new : Option (List LogEntry)) (C : CrewSeen) (U V : SetupState) (P : Plan) → GoesSoFar started S ranks rows old new C U → IsReady U P V → (entries : List LogEntry) × Adds entries old new × HasBegun (attempt started S ranks rows entries) C P
   ends old new C U V P g ready =
       let same : U.scenario ≡ S = (laws.stands S ranks g.answers U g.reached).scenario in (
         g.entries,
@@ -167,12 +162,12 @@ module _ (started : ℕ) (S : Scenario) (ranks : List ℕ) (rows : List Turn) (l
     steps_on new entries D V adds s same_places = goes_on old mid C U s.state s.sim s.call s.id g s.requested new entries D V prepared adds s.answers same_places
 
     -- all were made
-    pub steps_end : (new : Option (List LogEntry)) (entries : List LogEntry) (D : CrewSeen) (V : SetupState) (P : Plan) → Adds entries mid new → StepsTo (Some P) entries C D U V → (all : List LogEntry) × Adds all old new × HasBegun started S ranks rows all D P
+    pub steps_end : (new : Option (List LogEntry)) (entries : List LogEntry) (D : CrewSeen) (V : SetupState) (P : Plan) → Adds entries mid new → StepsTo (Some P) entries C D U V → (all : List LogEntry) × Adds all old new × HasBegun (attempt started S ranks rows all) D P
     steps_end new entries D V P adds s =
         let t = ends old mid C U V P g s.2 in (
           t.0,
           adds_no_more t.0 old mid new t.1 (subst (λ (more : List LogEntry). Adds more mid new) s.0 adds),
-          subst (λ (X : CrewSeen). HasBegun started S ranks rows t.0 X P) (sym s.1) t.2,
+          subst (λ (X : CrewSeen). HasBegun (attempt started S ranks rows t.0) X P) (sym s.1) t.2,
         )
 
     -- it wasn't made, or in vain

@@ -1,5 +1,5 @@
 -- The places of a crew's links, and the channels there.
-use Rattle.std.proofs.Common.{◌≡◌, ℕ, ◌+◌, ◌≤◌, ◌<◌, Bool, true, false, List, [], ◌∷◌, ◌++◌, map, Option, Some, None, slice_get, option_map, option_and_then, refl, sym, ap, ◌∙◌, subst, inl, inr, arith, zero, suc}
+use Rattle.std.proofs.Common.{◌≡◌, ℕ, ◌≤◌, List, [], ◌∷◌, map, Option, Some, None, slice_get, option_map, option_and_then, refl, sym, ap, ◌∙◌, subst, inl, inr, arith, zero, suc}
 use Rattle.std.specs.Prelude.{option_to_list}
 use Rattle.mk_base.specs.declared.LinkNo.{LinkNo}
 use Rattle.mk_base.specs.Lists.{IsIn, Each}
@@ -10,8 +10,8 @@ use Rattle.mk_outside.specs.Logs.{Adds}
 use Rattle.mk_outside.proofs.OnLogs.{adds_more}
 use Rattle.mk_plan.specs.declared.Message.{Message}
 use Rattle.mk_launch.specs.Starts.{links_in}
-use Rattle.mk_run_laws.specs.Channels.{Channel, IsMoved, IsStopped}
-use Rattle.mk_run_laws.specs.Crews.{CrewState, channel_at, IsMovedAt, AreMoved, AreStopped, IsRestless}
+use Rattle.mk_run_laws.specs.Channels.{Channel, IsMoved}
+use Rattle.mk_run_laws.specs.Crews.{CrewState, IsMovedAt, AreMoved, AreStopped}
 use Rattle.mk_run_laws.proofs.Stepping.{same_or_not}
 use Rattle.mk_run_links.specs.Places.{AreDistinct, AreOpen, IsSet, Channels, at, crew, new_channel, new_channels}
 use Rattle.mk_run_crew.specs.inner.Placed.{IsPlaced}

@@ -2,8 +2,8 @@
 use Rattle.std.proofs.Common.{◌≡◌, ℕ, zero, suc, ◌+◌, ◌==◌, Bool, true, false, List, [], ◌∷◌, ◌++◌, length, take, drop, map, filter_map, fold, Option, Some, None, slice_get, refl, sym, ap, ◌∙◌, subst, ◌⊎◌, inl, inr, if◌then◌else◌}
 use Rattle.std.specs.Prelude.{option_map}
 use Rattle.std.specs.List.{cons_option, enumerate_from}
-use Rattle.mk_base.specs.Lists.{IsIn, Each}
-use Rattle.mk_base.proofs.Lists.{none_some, some_same, append_nil, filter_map_append, in_either, in_each}
+use Rattle.mk_base.specs.Lists.{IsIn}
+use Rattle.mk_base.proofs.Lists.{none_some, some_same, append_nil, filter_map_append, in_either}
 use Rattle.mk_plan.specs.declared.Call.{Call}
 use Rattle.mk_plan.specs.declared.Call.TheVariants.{Init, Create, SetupDone}
 use Rattle.mk_plan.specs.declared.Message.{Message}

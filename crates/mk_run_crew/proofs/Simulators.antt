@@ -1,15 +1,13 @@
 -- Which simulators have a link, and which are within the program.
-use Rattle.std.proofs.Common.{◌≡◌, ℕ, zero, suc, ◌+◌, ◌<◌, ◌||◌, not, Bool, true, false, cond, List, [], ◌∷◌, ◌++◌, length, map, Option, Some, None, slice_get, refl, sym, ap, ◌∙◌, subst, inl, inr, arith, if◌then◌else◌}
+use Rattle.std.proofs.Common.{◌≡◌, ℕ, zero, suc, ◌+◌, ◌<◌, ◌||◌, not, Bool, true, false, List, [], ◌∷◌, length, map, Option, Some, None, slice_get, refl, sym, ap, ◌∙◌, subst, inl, arith, if◌then◌else◌}
 use Rattle.std.specs.Prelude.{option_map, option_and_then, option_to_list, unwrap_or, take, filter}
-use Rattle.std.specs.List.{list_any, find}
 use Rattle.mk_base.specs.declared.LinkNo.{LinkNo}
-use Rattle.mk_base.specs.Lists.{IsIn, Each, same_text, is_among}
+use Rattle.mk_base.specs.Lists.{IsIn, same_text, is_among}
 use Rattle.mk_base.proofs.Lists.{none_some, some_same, at_in, below_get, get_is, in_each, flat_map_in}
 use Rattle.mk_scenario.specs.declared.parts.Begin.{Begin}
 use Rattle.mk_scenario.specs.declared.parts.Begin.TheVariants.{Command, Connect, Local}
 use Rattle.mk_scenario.specs.declared.parts.SimPart.{SimPart}
 use Rattle.mk_scenario.specs.declared.parts.Scenario.{Scenario}
-use Rattle.mk_launch.specs.declared.faults.LaunchFault.{LaunchFault}
 use Rattle.mk_launch.specs.declared.faults.LaunchFault.TheVariants.{NoKind}
 use Rattle.mk_launch.specs.Ready.{IsPrepared, CanBegin, begin_fault}
 use Rattle.mk_launch.specs.Starts.{places, links_in, place_of, link_count}

@@ -13,7 +13,7 @@ use Rattle.mk_launch.specs.Starts.{AllStarted, Links, link_count, links_in, plac
 use Rattle.mk_run_laws.specs.Handshake.{has_link, is_local}
 use Rattle.mk_run_crew.specs.declared.halt.Halt.{Halt}
 use Rattle.mk_run_crew.specs.declared.halt.Halt.TheVariants as halt
-use Rattle.mk_run_crew.specs.Started.{IsOfStart, StartsLinks, link_total}
+use Rattle.mk_run_crew.specs.Started.{IsOfStart, StartsLinks}
 use Rattle.mk_run_crew.specs.Wholly.{is_wholly_within}
 
 one_at_most : (n : ℕ) (b : Begin) → link_count (place_of n b) ≤ 1

@@ -1,6 +1,6 @@
 -- The links that a start leaves, and their end.
-use Rattle.std.proofs.Common.{◌≡◌, ℕ, ◌+◌, ◌<◌, ◌||◌, not, Bool, true, false, cond, List, [], ◌∷◌, ◌++◌, take, length, Option, Some, None, slice_get, Ok, Err, refl, sym, ap, ◌∙◌, subst, ◌⊎◌, inl, inr, arith, zero, suc, true≢false}
-use Rattle.std.specs.Prelude.{option_to_list, filter}
+use Rattle.std.proofs.Common.{◌≡◌, ℕ, ◌+◌, ◌<◌, ◌||◌, not, Bool, true, false, cond, List, [], ◌∷◌, ◌++◌, take, length, Option, Some, None, slice_get, Err, refl, sym, ap, ◌∙◌, subst, ◌⊎◌, inl, inr, arith, zero, suc, true≢false}
+use Rattle.std.specs.Prelude.{option_to_list}
 use Rattle.std.specs.List.{list_any}
 use Rattle.mk_base.specs.declared.LinkNo.{LinkNo}
 use Rattle.mk_base.specs.Lists.{IsIn, Each}
@@ -12,7 +12,7 @@ use Rattle.mk_scenario.specs.declared.parts.Begin.{Begin}
 use Rattle.mk_scenario.specs.declared.parts.Begin.TheVariants.{Command, Connect, Local}
 use Rattle.mk_launch.specs.declared.faults.StartFault.{StartFault}
 use Rattle.mk_launch.specs.declared.faults.StartFault.TheVariants.{Failed, Mem}
-use Rattle.mk_launch.specs.Starts.{AllStarted, AreNumbered, AreStarted, AreStartedAndOneClosed, Links, link_count, link_of, links_in, place_of, places}
+use Rattle.mk_launch.specs.Starts.{AllStarted, AreNumbered, Links, link_count, link_of, links_in, place_of, places}
 use Rattle.mk_launch.proofs.Placing.{higher, numbered, without_lower}
 use Rattle.mk_run_laws.proofs.Stepping.{same_or_not, same_is, apart_is}
 use Rattle.mk_run_links.specs.Places.{without_all}

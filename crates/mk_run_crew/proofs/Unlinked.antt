@@ -18,11 +18,11 @@ use Rattle.mk_scenario.specs.declared.parts.SimPart.{SimPart}
 use Rattle.mk_scenario.specs.declared.parts.Scenario.{Scenario}
 use Rattle.mk_launch.specs.Ready.{IsPrepared}
 use Rattle.mk_launch.specs.Starts.{link_count, links_in, place_of, places}
+use Rattle.mk_run_crew.specs.Attempts.{attempt}
 use Rattle.mk_local.specs.declared.turn.Turn.{Turn}
 use Rattle.mk_local.specs.Calls.{IsCallReplied}
 use Rattle.mk_local.specs.Kinds.{name_of}
-use Rattle.mk_run_laws.specs.Channels.{Channel}
-use Rattle.mk_run_laws.specs.Crews.{AreStopped, IsRestless, channel_at}
+use Rattle.mk_run_laws.specs.Crews.{AreStopped, IsRestless}
 use Rattle.mk_run_laws.specs.Handshake.{has_link, is_local, is_within, setup_requests, sim_link}
 use Rattle.mk_run_laws.proofs.Stepping.{not_empty}
 use Rattle.mk_setup.specs.declared.fault.SetupFault.{SetupFault}
@@ -32,7 +32,7 @@ use Rattle.mk_setup.specs.Handshakes.{begun}
 use Rattle.mk_setup.specs.Laws.{IsOfReplies, RepliesMake}
 use Rattle.mk_setup.specs.Replies.{arrival}
 use Rattle.mk_setup.specs.Seen.{SetupState}
-use Rattle.mk_run_links.specs.Places.{Channels, at, new_channels}
+use Rattle.mk_run_links.specs.Places.{at, new_channels}
 use Rattle.mk_run_crew.specs.declared.halt.Halt.{Halt}
 use Rattle.mk_run_crew.specs.inner.Asking.{Answers, AnswersNot, CanAskWithin, GoesSoFar, IsHalting, IsNewCrew, IsStepped, StepsNot, StepsTo, setup_halt}
 use Rattle.mk_run_crew.specs.Begun.{HasBegun}
@@ -139,10 +139,10 @@ module _ (S : Scenario) (ranks : List ℕ) (rows : List Turn) (laws : RepliesMak
   pub starts_within : (C : CrewSeen) (U : SetupState) → ((started : ℕ) → IsNewCrew started rows S [] C) → U ≡ begun S ranks → GoesWithin S ranks rows C U
   starts_within C U new is started = starts started S ranks rows laws [] (Some []) C U (new started) is (adds_none (Some []))
 
-  pub ends_within : (C : CrewSeen) (U V : SetupState) (P : Plan) → GoesWithin S ranks rows C U → IsReady U P V → (started : ℕ) → HasBegun started S ranks rows [] C P
+  pub ends_within : (C : CrewSeen) (U V : SetupState) (P : Plan) → GoesWithin S ranks rows C U → IsReady U P V → (started : ℕ) → HasBegun (attempt started S ranks rows []) C P
   ends_within C U V P g ready started =
       let t = ends started S ranks rows laws (Some []) (Some []) C U V P (g started) ready in
-      subst (λ (log : List LogEntry). HasBegun started S ranks rows log C P) (nothing_added t.0 t.1) t.2
+      subst (λ (log : List LogEntry). HasBegun (attempt started S ranks rows log) C P) (nothing_added t.0 t.1) t.2
 
   pub stops_within : (C : CrewSeen) (U V : SetupState) (e : SetupFault) → GoesWithin S ranks rows C U → GivesNoRequest U e V → (started : ℕ) → IsHalting started S ranks rows [] ⊥ (setup_halt e) C
   stops_within C U V e g unready started =
@@ -197,8 +197,8 @@ module _ (S : Scenario) (ranks : List ℕ) (rows : List Turn) (laws : RepliesMak
     pub steps_on_within : (D : CrewSeen) (V : SetupState) → IsStepped [] C D U V → D.places ≡ C.places → GoesWithin S ranks rows D V
     steps_on_within D V s same_places = goes_within C U s.state s.sim s.call s.id g s.requested prepared D V s.answers same_places
 
-    pub steps_end_within : (D : CrewSeen) (V : SetupState) (P : Plan) → StepsTo (Some P) [] C D U V → (started : ℕ) → HasBegun started S ranks rows [] D P
-    steps_end_within D V P s started = subst (λ (X : CrewSeen). HasBegun started S ranks rows [] X P) (sym s.1) (ends_within C U V P g s.2 started)
+    pub steps_end_within : (D : CrewSeen) (V : SetupState) (P : Plan) → StepsTo (Some P) [] C D U V → (started : ℕ) → HasBegun (attempt started S ranks rows []) D P
+    steps_end_within D V P s started = subst (λ (X : CrewSeen). HasBegun (attempt started S ranks rows []) X P) (sym s.1) (ends_within C U V P g s.2 started)
 
     pub steps_not_within : (h : Halt) (D : CrewSeen) → StepsNot ⊥ h [] C D U → D.places ≡ C.places → (started : ℕ) → IsHalting started S ranks rows [] ⊥ h D
     steps_not_within h D (inl s) same_places started = halts_within C U s.state s.sim s.call s.id g s.requested prepared h D s.failed same_places started
@@ -211,5 +211,5 @@ module _ (S : Scenario) (ranks : List ℕ) (rows : List Turn) (laws : RepliesMak
 -- ---- what is left behind it
 
 -- the handshake ended early
-pub halted_within : (started : ℕ) (S : Scenario) (ranks : List ℕ) (rows : List Turn) (faults new_faults : ℕ) (h : Halt) (C : CrewSeen) → ((i : ℕ) → at C.channels i ≡ None) → IsHalting started S ranks rows [] ⊥ h C → HasHalted started S ranks rows [] (HasRisen faults new_faults) h
+pub halted_within : (started : ℕ) (S : Scenario) (ranks : List ℕ) (rows : List Turn) (faults new_faults : ℕ) (h : Halt) (C : CrewSeen) → ((i : ℕ) → at C.channels i ≡ None) → IsHalting started S ranks rows [] ⊥ h C → HasHalted (attempt started S ranks rows []) (HasRisen faults new_faults) h
 halted_within started S ranks rows faults new_faults h C none g = halted started S ranks rows [] [] ⊥ (HasRisen faults new_faults) h C g (silently (HasRisen faults new_faults) C none) restless tt (λ e. absurd e)

@@ -8,6 +8,7 @@ use Rattle.mk_outside.specs.declared.fleet.LogEntry.{LogEntry}
 use Rattle.mk_outside.specs.declared.fleet.LogEntry.TheVariants.{Ended}
 use Rattle.mk_outside.specs.Logs.{heard_on}
 use Rattle.mk_scenario.specs.declared.parts.Scenario.{Scenario}
+use Rattle.mk_run_crew.specs.Attempts.{attempt}
 use Rattle.mk_local.specs.declared.turn.Turn.{Turn}
 use Rattle.mk_session.specs.Fronts.{BeginsGarbled}
 use Rattle.mk_run_laws.specs.Handshake.{Request, setup_requests, sim_link}
@@ -21,7 +22,8 @@ use Rattle.mk_run_crew.specs.Halted.{HasHalted, IsLongRequest, IsSetupFault}
 -- that ended or brought no message, and no request that is too long
 pub record IsFaultlessHandshake (started : ℕ) (S : Scenario) (ranks : List ℕ) (rows : List Turn)
     (log : List LogEntry) (risen : Type 0) : Type 0 where
-  pub right_replies : (fault : SetupFault) → IsSetupFault started S ranks rows log fault → ⊥
+  pub right_replies : (fault : SetupFault) → IsSetupFault (attempt started S ranks rows log) fault
+      → ⊥
   pub counts : risen → ⊥
   pub open_links : (i : ℕ) (l : LinkNo) → sim_link started S i ≡ Some l → IsIn (Ended l) log → ⊥
   pub right_frames : (i : ℕ) (l : LinkNo) (n : ℕ) → sim_link started S i ≡ Some l
@@ -34,5 +36,5 @@ pub record IsFaultlessHandshake (started : ℕ) (S : Scenario) (ranks : List ℕ
 abbrev pub HandshakesComplete : Type 0
 HandshakesComplete = (started : ℕ) (S : Scenario) (ranks : List ℕ) (rows : List Turn)
     (log : List LogEntry) (faults new_faults : ℕ) (h : Halt)
-    → HasHalted started S ranks rows log (HasRisen faults new_faults) h
+    → HasHalted (attempt started S ranks rows log) (HasRisen faults new_faults) h
     → IsFaultlessHandshake started S ranks rows log (HasRisen faults new_faults) → h ≡ halt.Mem

@@ -7,11 +7,12 @@ use Rattle.mk_message.specs.Written.{call_text}
 use Rattle.mk_outside.specs.declared.fleet.LogEntry.{LogEntry}
 use Rattle.mk_outside.specs.declared.fleet.LogEntry.TheVariants.{Ended, Rest}
 use Rattle.mk_outside.specs.Logs.{heard_on}
+use Rattle.mk_run_crew.specs.Attempts.{Attempt}
 use Rattle.mk_plan.specs.declared.Message.{Message}
 use Rattle.mk_plan.specs.Journals.{Arrival}
 use Rattle.mk_scenario.specs.declared.parts.Scenario.{Scenario}
-use Rattle.mk_local.specs.declared.turn.Turn.{Turn}
 use Rattle.mk_session.specs.Fronts.{BeginsGarbled}
+use Rattle.mk_run_laws.specs.Exchanges.{exchange}
 use Rattle.mk_run_laws.specs.Handshake.{Request, setup_requests, call_to, sim_link}
 use Rattle.mk_run_laws.specs.Hearing.{rest_heard}
 use Rattle.mk_run_laws.specs.Kinds.{Replies}
@@ -29,12 +30,11 @@ abbrev pub count_to : ℕ → List Request → ℕ
 count_to i requests = length (filter_map (call_to i) requests)
 
 -- what was heard makes this fault of the handshake
-pub record IsSetupFault (started : ℕ) (S : Scenario) (ranks : List ℕ) (rows : List Turn)
-    (log : List LogEntry) (fault : SetupFault) : Type 0 where
+pub record IsSetupFault (A : Attempt) (fault : SetupFault) : Type 0 where
   pub answers : List Message
   pub last : Option Arrival
-  pub faulty : IsFaultyAfter S ranks answers last fault
-  pub heard : AreHeard started S rows log answers last
+  pub faulty : IsFaultyAfter A.scenario A.ranks answers last fault
+  pub heard : AreHeard A.started A.scenario A.rows A.log answers last
 
 -- the payload of the first of the requests that are left, to simulator s with a link, has n bytes,
 -- which is more than a frame may have
@@ -52,36 +52,35 @@ pub record IsLongRequest (started : ℕ) (S : Scenario) (queued later : List Req
 -- why there is no crew: the handshake has a fault; the count of faults rose; a link ended, or what
 -- came on it behind its messages begins with something else; a request was too long; or memory was
 -- wanting
-abbrev pub ShowsCause : ℕ → Scenario → List ℕ → List Turn → List LogEntry → Type 0 → List Request
-    → List Request → Halt → Type 0
-ShowsCause started S ranks rows log risen queued later
-    (halt.Setup fault) = IsSetupFault started S ranks rows log fault
-ShowsCause started S ranks rows log risen queued later halt.Fleet = risen
-ShowsCause started S ranks rows log risen queued later (halt.Gone sim) = (l : LinkNo)
-    × (sim_link started S sim.0 ≡ Some l) × IsIn (Ended l) log
-ShowsCause started S ranks rows log risen queued later (halt.Garbled sim test) = (l : LinkNo)
-    × (sim_link started S sim.0 ≡ Some l) × BeginsGarbled (rest_heard (heard_on l log)) test
-ShowsCause started S ranks rows log risen queued later (halt.LongFrame sim n) = (l : LinkNo)
-    × (sim_link started S sim.0 ≡ Some l) × IsTooLong n (rest_heard (heard_on l log))
-ShowsCause started S ranks rows log risen queued later
-    (halt.LongItem sim n) = IsLongRequest started S queued later sim.0 n
-ShowsCause started S ranks rows log risen queued later halt.Mem = ⊤
+abbrev pub ShowsCause : Attempt → Type 0 → List Request → List Request → Halt → Type 0
+ShowsCause A risen queued later (halt.Setup fault) = IsSetupFault A fault
+ShowsCause A risen queued later halt.Fleet = risen
+ShowsCause A risen queued later (halt.Gone sim) = (l : LinkNo)
+    × (sim_link A.started A.scenario sim.0 ≡ Some l) × IsIn (Ended l) A.log
+ShowsCause A risen queued later (halt.Garbled sim test) = (l : LinkNo)
+    × (sim_link A.started A.scenario sim.0 ≡ Some l)
+    × BeginsGarbled (rest_heard (heard_on l A.log)) test
+ShowsCause A risen queued later (halt.LongFrame sim n) = (l : LinkNo)
+    × (sim_link A.started A.scenario sim.0 ≡ Some l) × IsTooLong n (rest_heard (heard_on l A.log))
+ShowsCause A risen queued later (halt.LongItem sim n) = IsLongRequest A.started A.scenario queued
+    later sim.0 n
+ShowsCause A risen queued later halt.Mem = ⊤
 
 -- the handshake ended early: on each link a beginning of the frames of the first requests and of a
 -- stop was said, none with a payload longer than a frame's may be, and all of it, unless a write
 -- took nothing or the count of faults rose, or memory was wanting before anything was said or heard
 -- on any link; where the fleet rested, what was asked by then had been said, and not all had set
 -- up; and no link but the run's was read or written
-pub record HasHalted (started : ℕ) (S : Scenario) (ranks : List ℕ) (rows : List Turn)
-    (log : List LogEntry) (risen : Type 0) (h : Halt) : Type 0 where
+pub record HasHalted (A : Attempt) (risen : Type 0) (h : Halt) : Type 0 where
   pub queued : List Request
   pub later : List Request
-  pub parts : setup_requests S ≡ queued ++ later
-  pub says : (reply : Replies) (i : ℕ) (l : LinkNo) → sim_link started S i ≡ Some l
-      → SaysRight started S reply None log i l (count_to i queued) [] true
-  pub whole : ((h ≡ halt.Mem) × (log ≡ []) → ⊥) → (i : ℕ) (l : LinkNo)
-      → sim_link started S i ≡ Some l → SaidWhole S log risen i l (count_to i queued) []
-  pub rests : (before after : List LogEntry) → log ≡ before ++ Rest ∷ after
-      → IsWellInSetup started S before × (AllSetUp started S before → ⊥)
-  pub cause : ShowsCause started S ranks rows log risen queued later h
-  pub on_links : AreOnOrOfClock (IsRunLink started S) log
+  pub parts : setup_requests A.scenario ≡ queued ++ later
+  pub says : (reply : Replies) (i : ℕ) (l : LinkNo) → sim_link A.started A.scenario i ≡ Some l
+      → SaysRight (exchange A.started A.scenario reply A.log) None i l (count_to i queued) [] true
+  pub whole : ((h ≡ halt.Mem) × (A.log ≡ []) → ⊥) → (i : ℕ) (l : LinkNo)
+      → sim_link A.started A.scenario i ≡ Some l
+      → SaidWhole A.scenario A.log risen i l (count_to i queued) []
+  pub rests : (before after : List LogEntry) → A.log ≡ before ++ Rest ∷ after
+      → IsWellInSetup A.started A.scenario before × (AllSetUp A.started A.scenario before → ⊥)
+  pub cause : ShowsCause A risen queued later h
+  pub on_links : AreOnOrOfClock (IsRunLink A.started A.scenario) A.log

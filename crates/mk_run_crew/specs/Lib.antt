@@ -1,3 +1,4 @@
+pub mod Attempts
 pub mod Seen
 pub mod Calls
 pub mod Answers

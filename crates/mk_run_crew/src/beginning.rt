@@ -9,6 +9,7 @@ ghost use Rattle.mk_scenario.specs.Wellformed.{IsWellformed};
 ghost use Rattle.mk_launch.specs.Ready.{IsPrepared};
 ghost use Rattle.mk_launch.specs.Starts.{AreNumbered, AreStarted, links_in};
 ghost use Rattle.mk_launch.specs.Starts as starts;
+ghost use Rattle.mk_run_crew.specs.Attempts.{attempt};
 ghost use Rattle.mk_local.specs.Calls.{IsCallReplied};
 ghost use Rattle.mk_local.specs.Kinds.{name_of};
 ghost use Rattle.mk_local.specs.Registries.{rows_in};
@@ -354,8 +355,8 @@ impl Crew {
             → IsNewCrew started (rows_in kinds.now) setup.old.scenario
             (F.open_links fleet.old) self.old
             → (entries : List LogEntry) × Adds entries (F.log fleet.old) (F.log fleet.new)
-            × HasBegun started setup.old.scenario setup.old.ranks
-            (rows_in kinds.now) entries self.new P) }
+            × HasBegun (attempt started setup.old.scenario setup.old.ranks
+            (rows_in kinds.now) entries) self.new P) }
         ensures err { IfErr result (λ h. (started : ℕ)
             → IsNewCrew started (rows_in kinds.now) setup.old.scenario
             (F.open_links fleet.old) self.old
@@ -395,11 +396,12 @@ impl Crew {
         ensures ok { IfOk result (λ r. (started : ℕ)
             → IsNewCrew started (rows_in kinds.now) setup.scenario (F.open_links fleet.old) self
             → (entries : List LogEntry) × Adds entries (F.log fleet.old) (F.log fleet.new)
-            × HasBegun started setup.scenario setup.ranks (rows_in kinds.now) entries r.0 r.1) }
+            × HasBegun (attempt started setup.scenario setup.ranks (rows_in kinds.now) entries) r.0
+            r.1) }
         ensures err { IfErr result (λ h. (started faults : ℕ) → faults ≤ F.faults fleet.old
             → IsNewCrew started (rows_in kinds.now) setup.scenario (F.open_links fleet.old) self
             → (entries : List LogEntry) × Adds entries (F.log fleet.old) (F.log fleet.new)
-            × HasHalted started setup.scenario setup.ranks (rows_in kinds.now) entries
+            × HasHalted (attempt started setup.scenario setup.ranks (rows_in kinds.now) entries)
             (HasRisen faults (F.faults fleet.new)) h × IsClockless entries) }
         ensures closed { OnErr result (F.open_links fleet.new
             ≡ without_all (links_in self.places) (F.open_links fleet.old)) }
@@ -437,7 +439,8 @@ impl Crew {
         ensures count { F.faults fleet.old ≤ F.faults fleet.new }
         ensures begun { IfOk result (λ r. (entries : List LogEntry)
             × Adds entries (F.log fleet.old) (F.log fleet.new)
-            × HasBegun (F.started fleet.old) scenario ranks (rows_in kinds.now) entries r.0 r.1) }
+            × HasBegun (attempt (F.started fleet.old) scenario ranks (rows_in kinds.now) entries)
+            r.0 r.1) }
         ensures started { IfOk result (λ r. AreStarted scenario.sims
             (record { started = F.started fleet.old; links = F.open_links fleet.old })
             (record { started = F.started fleet.new; links = F.open_links fleet.new }) r.0.places) }
@@ -447,7 +450,7 @@ impl Crew {
         ensures open { IfOk result (λ r. AreOpen r.0.channels (F.open_links fleet.new)) }
         ensures halted { IfErr result (λ h. (entries : List LogEntry)
             × Adds entries (F.log fleet.old) (F.log fleet.new)
-            × HasHalted (F.started fleet.old) scenario ranks (rows_in kinds.now) entries
+            × HasHalted (attempt (F.started fleet.old) scenario ranks (rows_in kinds.now) entries)
             (HasRisen (F.faults fleet.old) (F.faults fleet.new)) h × IsClockless entries
             × StartsLinks scenario (F.started fleet.old) (F.started fleet.new)
             (IsOfStart h entries)) }

@@ -3,6 +3,7 @@ ghost use Rattle.std.specs.Prelude.{◌≡◌, ℕ, [], true, false, None, map, 
 ghost use Rattle.mk_outside.specs.Counts.{HasRisen};
 ghost use Rattle.mk_scenario.specs.Wellformed.{IsWellformed};
 ghost use Rattle.mk_launch.specs.Ready.{IsPrepared};
+ghost use Rattle.mk_run_crew.specs.Attempts.{attempt};
 ghost use Rattle.mk_local.specs.Calls.{IsCallReplied};
 ghost use Rattle.mk_local.specs.Kinds.{name_of};
 ghost use Rattle.mk_local.specs.Registries.{rows_in};
@@ -138,8 +139,8 @@ impl Crew {
         requires new { (started : ℕ)
             → IsNewCrew started (rows_in kinds.now) setup.old.scenario [] self.old }
         ensures ok { IfOk result (λ P. (started : ℕ)
-            → HasBegun started setup.old.scenario setup.old.ranks
-            (rows_in kinds.now) [] self.new P) }
+            → HasBegun (attempt started setup.old.scenario setup.old.ranks (rows_in kinds.now) [])
+            self.new P) }
         ensures err { IfErr result (λ h. (started : ℕ)
             → IsHalting started setup.old.scenario setup.old.ranks
             (rows_in kinds.now) [] ⊥ h self.new) }
@@ -166,10 +167,11 @@ impl Crew {
             → IsNewCrew started (rows_in kinds.now) setup.scenario [] self }
         requires linkless { (i : ℕ) → at self.channels i ≡ None }
         ensures begun { IfOk result (λ r. (started : ℕ)
-            → HasBegun started setup.scenario setup.ranks (rows_in kinds.now) [] r.0 r.1) }
+            → HasBegun (attempt started setup.scenario setup.ranks (rows_in kinds.now) []) r.0
+            r.1) }
         ensures linkless { IfOk result (λ r. (i : ℕ) → at r.0.channels i ≡ None) }
         ensures halted { IfErr result (λ h. (started faults new_faults : ℕ)
-            → HasHalted started setup.scenario setup.ranks (rows_in kinds.now) []
+            → HasHalted (attempt started setup.scenario setup.ranks (rows_in kinds.now) [])
             (HasRisen faults new_faults) h) }
         ensures cause { IfErr result IsWithinHalt }
     {
@@ -203,10 +205,10 @@ impl Crew {
         requires prepared { IsPrepared scenario (map name_of (rows_in kinds.now)) }
         requires wholly { is_wholly_within scenario ≡ true }
         ensures begun { IfOk result (λ r. (started : ℕ)
-            → HasBegun started scenario ranks (rows_in kinds.now) [] r.0 r.1) }
+            → HasBegun (attempt started scenario ranks (rows_in kinds.now) []) r.0 r.1) }
         ensures linkless { IfOk result (λ r. (i : ℕ) → at r.0.channels i ≡ None) }
         ensures halted { IfErr result (λ h. (started faults new_faults : ℕ)
-            → HasHalted started scenario ranks (rows_in kinds.now) []
+            → HasHalted (attempt started scenario ranks (rows_in kinds.now) [])
             (HasRisen faults new_faults) h) }
         ensures cause { IfErr result IsWithinHalt }
     {

@@ -21,6 +21,7 @@ use Rattle.mk_frame.specs.Frames.{frames_of}
 use Rattle.mk_scenario.specs.declared.parts.Scenario.{Scenario}
 use Rattle.mk_outside.specs.declared.fleet.LogEntry.{LogEntry}
 use Rattle.mk_outside.specs.Logs.{said_on}
+use Rattle.mk_run_laws.specs.Exchanges.{exchange}
 use Rattle.mk_run_laws.specs.Handshake.{Request, setup_requests, call_to, calls_to, call_payloads, setup_payloads, setup_count, sim_link, is_within}
 use Rattle.mk_run_laws.specs.Payloads.{AreFramed, link_payloads}
 use Rattle.mk_run_laws.specs.Channels.{Channel, IsChannelAt, IsStopped}
@@ -34,14 +35,14 @@ use Rattle.mk_run_laws.proofs.Saying.{items_begin}
 -- a run's link says what it should
 pub run_says : (P : Plan) → IsValidPlan P → (started : ℕ) (S : Scenario) → sim_count P ≡ length S.sims → (reply : Replies) (log : List LogEntry) (J : List Entry) → IsOrderlySoFar IsReady IsAdvance P J → KeepsToKinds reply (is_within S) P J
     → ((i : ℕ) (l : LinkNo) → sim_link started S i ≡ Some l → BeginsWith (run_messages S log i l) (got J i)) → (replies : SetupReplies) (risen : Type 0) (i : ℕ) (l : LinkNo) (items : List Item) → IsLinkOfRun S replies J log risen i l items
-    → SaysRight started S reply (Some P) log i l (setup_count S i) items true
+    → SaysRight (exchange started S reply log) (Some P) i l (setup_count S i) items true
 run_says P valid started S sims reply log J orderly kinds links replies risen i l items run = record {
   handshake = omega arith;
   behind = inr (refl, there P);
   said = run.said;
   framed = run.framed;
   as_executed = λ Q same R may low. let e : P ≡ Q = some_same same in subst (λ (G : Plan). BeginsWith (run_items G R i) (map bare items)) e
-      (items_begin P valid started S sims reply log J orderly kinds links R (subst (λ (G : Plan). IsPossible started S reply G log R) (sym e) may) i (subst (λ (G : Plan). i < sim_count G) (sym e) low) items run.items_sent);
+      (items_begin P valid started S sims reply log J orderly kinds links R (subst (λ (G : Plan). IsPossible (exchange started S reply log) G R) (sym e) may) i (subst (λ (G : Plan). i < sim_count G) (sym e) low) items run.items_sent);
 }
   where
     there : (P : Plan) → IsSome (Some P)
@@ -66,7 +67,7 @@ first_requests S i queued later is =
 -- where the handshake ended early, a link says the first of its requests and a stop
 pub handshake_says : (started : ℕ) (S : Scenario) (reply : Replies) (log entries : List LogEntry) (risen : Type 0) (i : ℕ) (l : LinkNo) (queued later : List Request) → setup_requests S ≡ queued ++ later → (ms : List Message) (w : Channel) → w.link ≡ l
     → IsChannelAt log ms (call_payloads 0 (filter_map (call_to i) queued)) (length (filter_map (call_to i) queued)) w → IsStopped entries risen w
-    → SaysRight started S reply None (log ++ entries) i l (length (filter_map (call_to i) queued)) [] true
+    → SaysRight (exchange started S reply (log ++ entries)) None i l (length (filter_map (call_to i) queued)) [] true
 handshake_says started S reply log entries risen i l queued later is ms w link at stopped = record {
   handshake = let e : length (calls_to S i) ≡ length (filter_map (call_to i) queued) + length (filter_map (call_to i) later) = ap (λ (rs : List Request). length (filter_map (call_to i) rs)) is ∙ ap length (filter_map_append (call_to i) queued later)
       ∙ length-append (filter_map (call_to i) queued) (filter_map (call_to i) later) in omega (arith, e);
@@ -85,5 +86,5 @@ handshake_says started S reply log entries risen i l queued later is ms w link a
         ∙ ap (λ (k : ℕ). (take (length (filter_map (call_to i) queued)) (setup_payloads S i) ++ []) ++ call_text k Stop ∷ []) (let e : length (filter_map (call_to i) queued) ≡ length (filter_map (call_to i) queued) + 0 = omega arith in e)
 
 -- a link that was only closed, or not started, says nothing
-pub silence_says : (started : ℕ) (S : Scenario) (reply : Replies) (log : List LogEntry) (i : ℕ) (l : LinkNo) → said_on l log ≡ [] → SaysRight started S reply None log i l 0 [] false
+pub silence_says : (started : ℕ) (S : Scenario) (reply : Replies) (log : List LogEntry) (i : ℕ) (l : LinkNo) → said_on l log ≡ [] → SaysRight (exchange started S reply log) None i l 0 [] false
 silence_says started S reply log i l silent = record { handshake = omega arith; behind = inl refl; said = ([], sym silent ∙ sym (append_nil (said_on l log))); framed = tt; as_executed = λ P e. absurd (none_some e) }

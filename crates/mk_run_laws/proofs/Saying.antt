@@ -27,6 +27,7 @@ use Rattle.mk_order.proofs.Agreeing.{agreeing}
 use Rattle.mk_order.proofs.Headlines.{advance_promised}
 use Rattle.mk_order.proofs.Seen.{reached_sound}
 use Rattle.mk_order.proofs.Pushing.{orderly_front}
+use Rattle.mk_run_laws.specs.Exchanges.{exchange}
 use Rattle.mk_run_laws.specs.Handshake.{is_local, has_link, is_within, sim_link}
 use Rattle.mk_run_laws.specs.Kinds.{Replies, KeepsToKinds}
 use Rattle.mk_run_laws.specs.Rests.{run_messages}
@@ -56,7 +57,7 @@ module _ (P : Plan) (valid : IsValidPlan P) (started : ℕ) (S : Scenario) (sims
     low_link : (i : ℕ) → i < sim_count P → is_within S i ≡ false → (l : LinkNo) × (sim_link started S i ≡ Some l)
     low_link i low out = link_there started S i (subst (λ (n : ℕ). i < n) sims low) out
 
-    module _ (R : Messages) (may : IsPossible started S reply P log R) where
+    module _ (R : Messages) (may : IsPossible (exchange started S reply log) P R) where
       -- what may come goes on with what came
       pub goes_on : Continues P J R
       goes_on = followed P valid reply (is_within S) R may.by_kind J orderly kinds (λ i low out. let t = low_link i low out in begins_twice (R i) (run_messages S log i t.0) (got J i) (may.links i t.0 t.1) (links i t.0 t.1))
@@ -96,7 +97,7 @@ module _ (P : Plan) (valid : IsValidPlan P) (started : ℕ) (S : Scenario) (sims
       got_before i = (got (Sent s (Step x ins advance) ∷ more) i, ap (λ (G : List Entry). got G i) parts_are ∙ filter_map_append (got_from i) H (Sent s (Step x ins advance) ∷ more))
 
       -- its max_advance is a promise, whatever else may come, where s sends nothing more
-      pub step_promised : s.0 < sim_count P → (R : Messages) → IsPossibleUpTo started S reply P log H s.0 R → IsPromised P R s.0 x.time advance
+      pub step_promised : s.0 < sim_count P → (R : Messages) → IsPossibleUpTo (exchange started S reply log) P H s.0 R → IsPromised P R s.0 x.time advance
       step_promised low R may = advance_promised P valid H front.0 front.1.0 s.0 x advance low next_alone.0.0 next_alone.2 R cont may.ends
         where
           same_or_not : (a b : ℕ) → (a ≡ b) ⊎ (a ≡ b → ⊥)

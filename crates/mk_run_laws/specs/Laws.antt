@@ -22,6 +22,7 @@ use Rattle.mk_scenario.specs.declared.parts.Scenario.{Scenario}
 use Rattle.mk_outside.specs.Counts.{HasRisen}
 use Rattle.mk_outside.specs.declared.fleet.LogEntry.{LogEntry}
 use Rattle.mk_launch.specs.Starts.{places}
+use Rattle.mk_run_laws.specs.Exchanges.{Exchange, exchange}
 use Rattle.mk_run_laws.specs.Hearing.{messages_heard, rest_heard, Takes}
 use Rattle.mk_run_laws.specs.Handshake.{setup_count, sim_link, is_within}
 use Rattle.mk_run_laws.specs.Kinds.{Replies, AnswersByKind, KeepsToKinds, RepliesAreRight, AreThere}
@@ -36,44 +37,44 @@ TakenAreHeard = (held : List ℕ) (ms : List Message) (left : List ℕ) → Take
 
 -- the journal J of a run of S over the log: it is orderly, it keeps to the kinds, and of each link
 -- it got the first messages of the run
-pub record IsJournalOf (started : ℕ) (S : Scenario) (reply : Replies) (P : Plan)
-    (log : List LogEntry) (J : List Entry) : Type 0 where
-  pub sims : sim_count P ≡ length S.sims
+pub record IsJournalOf (X : Exchange) (P : Plan) (J : List Entry) : Type 0 where
+  pub sims : sim_count P ≡ length X.scenario.sims
   pub orderly : IsOrderlySoFar IsReady IsAdvance P J
-  pub kinds : KeepsToKinds reply (is_within S) P J
-  pub links : (i : ℕ) (l : LinkNo) → sim_link started S i ≡ Some l
-      → BeginsWith (run_messages S log i l) (got J i)
+  pub kinds : KeepsToKinds X.reply (is_within X.scenario) P J
+  pub links : (i : ℕ) (l : LinkNo) → sim_link X.started X.scenario i ≡ Some l
+      → BeginsWith (run_messages X.scenario X.log i l) (got J i)
 
 -- what is said on a run's link is right
 abbrev pub LinksSayRight : Plan → Type 0
 LinksSayRight P = (started : ℕ) (S : Scenario) (reply : Replies) (log : List LogEntry)
-    (J : List Entry) → IsJournalOf started S reply P log J
+    (J : List Entry) → IsJournalOf (exchange started S reply log) P J
     → (replies : SetupReplies) (faults new_faults i : ℕ) (l : LinkNo) (items : List Item)
     → IsLinkOfRun S replies J log (HasRisen faults new_faults) i l items
-    → SaysRight started S reply (Some P) log i l (setup_count S i) items true
+    → SaysRight (exchange started S reply log) (Some P) i l (setup_count S i) items true
 
 -- where nothing is left to do, sequential execution over all messages that may come sends what was
 -- sent, and cuts no turn
 abbrev pub DoneIsAll : Plan → Type 0
 DoneIsAll P = (started : ℕ) (S : Scenario) (reply : Replies) (log : List LogEntry) (J : List Entry)
-    → IsJournalOf started S reply P log J → IsDone P (view P J) → (R : Messages)
-    → IsPossible started S reply P log R
+    → IsJournalOf (exchange started S reply log) P J → IsDone P (view P J) → (R : Messages)
+    → IsPossible (exchange started S reply log) P R
     → (i : ℕ) → (map bare (sent J i) ≡ run_items P R i) × (all_ended (sequential P R i) ≡ true)
 
 -- and whatever goes on with the journal answers by kind, so there are such messages
 abbrev pub DoneAnswers : Plan → Type 0
 DoneAnswers P = (started : ℕ) (S : Scenario) (reply : Replies) (log : List LogEntry)
-    (J : List Entry) → IsJournalOf started S reply P log J → IsDone P (view P J) → (R : Messages)
+    (J : List Entry) → IsJournalOf (exchange started S reply log) P J → IsDone P (view P J)
+    → (R : Messages)
     → Continues P J R → AnswersByKind reply (is_within S) P R
 
 -- the max_advance of each Step is a promise over all messages that may come
 abbrev pub StepsPromise : Plan → Type 0
 StepsPromise P = (started : ℕ) (S : Scenario) (reply : Replies) (log : List LogEntry)
-    (J : List Entry) → IsJournalOf started S reply P log J
+    (J : List Entry) → IsJournalOf (exchange started S reply log) P J
     → (H : List Entry) (s : SimNo) (x : Tier) (inputs : List Input) (advance : ℤ)
     (more : List Entry)
     → J ≡ H ++ Sent s (Step x inputs advance) ∷ more → s.0 < sim_count P → (R : Messages)
-    → IsPossibleUpTo started S reply P log H s.0 R → IsPromised P R s.0 x.time advance
+    → IsPossibleUpTo (exchange started S reply log) P H s.0 R → IsPromised P R s.0 x.time advance
 
 -- what stood at each rest of a run, said of the run's own journal
 abbrev pub RestsAreWell : Type 0

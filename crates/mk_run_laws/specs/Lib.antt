@@ -6,6 +6,7 @@ pub mod Kinds
 pub mod Rests
 pub mod Crews
 pub mod Running
+pub mod Exchanges
 pub mod Runs
 pub mod Laws
 pub mod inner

@@ -14,27 +14,27 @@ use Rattle.mk_scenario.specs.declared.parts.Scenario.{Scenario}
 use Rattle.mk_outside.specs.declared.fleet.LogEntry.{LogEntry}
 use Rattle.mk_outside.specs.declared.fleet.LogEntry.TheVariants.{NotSaid}
 use Rattle.mk_outside.specs.Logs.{heard_on, said_on, last_write}
+use Rattle.mk_run_laws.specs.Exchanges.{Exchange}
 use Rattle.mk_run_laws.specs.Hearing.{messages_heard}
 use Rattle.mk_run_laws.specs.Handshake.{setup_count, sim_link, is_within}
 use Rattle.mk_run_laws.specs.Payloads.{AreFramed, link_payloads}
-use Rattle.mk_run_laws.specs.Kinds.{Replies, AnswersByKind}
+use Rattle.mk_run_laws.specs.Kinds.{AnswersByKind}
 use Rattle.mk_run_laws.specs.Rests.{run_messages}
 use Rattle.mk_run_laws.specs.Running.{SetupReplies}
 
 -- messages that may come: on each link those that were heard, and whatever goes on; of the
 -- simulators within the program what their kinds answer
-pub record IsPossible (started : ℕ) (S : Scenario) (reply : Replies) (P : Plan)
-    (log : List LogEntry) (R : Messages) : Type 0 where
-  pub by_kind : AnswersByKind reply (is_within S) P R
-  pub links : (i : ℕ) (l : LinkNo) → sim_link started S i ≡ Some l
-      → BeginsWith (R i) (run_messages S log i l)
+pub record IsPossible (X : Exchange) (P : Plan) (R : Messages) : Type 0 where
+  pub by_kind : AnswersByKind X.reply (is_within X.scenario) P R
+  pub links : (i : ℕ) (l : LinkNo) → sim_link X.started X.scenario i ≡ Some l
+      → BeginsWith (R i) (run_messages X.scenario X.log i l)
 
 -- the same, but that simulator s, on link k, sends no more than its messages in J
-pub record IsPossibleUpTo (started : ℕ) (S : Scenario) (reply : Replies) (P : Plan)
-    (log : List LogEntry) (J : List Entry) (s : ℕ) (R : Messages) : Type 0 where
-  pub by_kind : AnswersByKind reply (is_within S) P R
-  pub links : (i : ℕ) (l : LinkNo) → sim_link started S i ≡ Some l → (i ≡ s → ⊥)
-      → BeginsWith (R i) (run_messages S log i l)
+pub record IsPossibleUpTo (X : Exchange) (P : Plan) (J : List Entry) (s : ℕ)
+    (R : Messages) : Type 0 where
+  pub by_kind : AnswersByKind X.reply (is_within X.scenario) P R
+  pub links : (i : ℕ) (l : LinkNo) → sim_link X.started X.scenario i ≡ Some l → (i ≡ s → ⊥)
+      → BeginsWith (R i) (run_messages X.scenario X.log i l)
   pub ends : R s ≡ got J s
 
 -- the frames of a handshake, of these items and of a stop
@@ -60,14 +60,14 @@ pub record IsLinkOfRun (S : Scenario) (replies : SetupReplies) (J : List Entry)
 -- being longer than a frame's may be; items
 -- only behind the whole handshake and where the plan is there, and these begin what sequential
 -- execution sends it
-pub record SaysRight (started : ℕ) (S : Scenario) (reply : Replies) (plan : Option Plan)
-    (log : List LogEntry) (i : ℕ) (l : LinkNo) (asked : ℕ) (items : List Item)
-    (stopped : Bool) : Type 0 where
-  pub handshake : asked ≤ setup_count S i
-  pub behind : (items ≡ []) ⊎ ((asked ≡ setup_count S i) × IsSome plan)
-  pub said : BeginsWith (frames_of (link_payloads S i asked items stopped)) (said_on l log)
-  pub framed : AreFramed (link_payloads S i asked items stopped)
-  pub as_executed : (P : Plan) → plan ≡ Some P → (R : Messages) → IsPossible started S reply P log R
+pub record SaysRight (X : Exchange) (plan : Option Plan) (i : ℕ) (l : LinkNo) (asked : ℕ)
+    (items : List Item) (stopped : Bool) : Type 0 where
+  pub handshake : asked ≤ setup_count X.scenario i
+  pub behind : (items ≡ []) ⊎ ((asked ≡ setup_count X.scenario i) × IsSome plan)
+  pub said : BeginsWith (frames_of (link_payloads X.scenario i asked items stopped))
+      (said_on l X.log)
+  pub framed : AreFramed (link_payloads X.scenario i asked items stopped)
+  pub as_executed : (P : Plan) → plan ≡ Some P → (R : Messages) → IsPossible X P R
       → i < sim_count P → BeginsWith (run_items P R i) (map bare items)
 
 -- all of it was said, but where a write took nothing or the count of faults rose

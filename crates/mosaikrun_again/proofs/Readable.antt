@@ -18,6 +18,7 @@ use Rattle.mk_plan.specs.Journals.{bare, sent, sent_to}
 use Rattle.mk_plan.specs.Plans.{IsValidPlan, first_id, sim_count}
 use Rattle.mk_outside.specs.declared.fleet.LogEntry.{LogEntry}
 use Rattle.mk_scenario.specs.declared.parts.Scenario.{Scenario}
+use Rattle.mk_run_crew.specs.Attempts.{attempt}
 use Rattle.mk_local.specs.declared.turn.Turn.{Turn}
 use Rattle.mk_run_laws.specs.Handshake.{is_within, setup_count}
 use Rattle.mk_run_laws.proofs.Saying.{link_there}
@@ -59,7 +60,7 @@ first_low P valid i low =
     let few : t.0.first_id ≤ 1000000 = all_at (λ (s : PlanSim). s.first_id ≤ 1000000) P.sims i t.0 valid.well_formed.limits.first_ids t.1 in
     omega (arith, same, few)
 
-module _ (started : ℕ) (S : Scenario) (ranks : List ℕ) (rows : List Turn) (P : Plan) (J : List Entry) (log : List LogEntry) (faults new_faults : ℕ) (end : Outcome) (h : HasRun started S ranks rows P J log faults new_faults end) (shallow : IsShallow S J) where
+module _ (started : ℕ) (S : Scenario) (ranks : List ℕ) (rows : List Turn) (P : Plan) (J : List Entry) (log : List LogEntry) (faults new_faults : ℕ) (end : Outcome) (h : HasRun (attempt started S ranks rows log) P J faults new_faults end) (shallow : IsShallow S J) where
   -- the ids of a simulator's requests in a run are below 2^63
   ids_low : (H : List Entry) (s : SimNo) (m : Message) (more : List Entry) → J ≡ H ++ Got s m ∷ more → s.0 < sim_count P → setup_count S s.0 + length (map bare (sent H s.0)) < 2 ^ 63
   ids_low H s m more is low =

@@ -19,6 +19,7 @@ use Rattle.mk_order.proofs.SameEnd.{IsAtEnd, faulty, full, quiet, done_is_quiet,
 use Rattle.mk_scenario.specs.declared.parts.Scenario.{Scenario}
 use Rattle.mk_sched.specs.declared.faults.CoreFault.{CoreFault}
 use Rattle.mk_sched.specs.Answers.{SomeReady, fault_in}
+use Rattle.mk_run_laws.specs.Exchanges.{exchange}
 use Rattle.mk_run_laws.specs.Kinds.{Replies}
 use Rattle.mk_run.specs.declared.outcome.Outcome.{Outcome}
 use Rattle.mk_run.specs.declared.outcome.Outcome.TheVariants as outcome
@@ -108,10 +109,10 @@ module _ (started : ℕ) (S : Scenario) (reply : Replies) (P : Plan) (J : List E
   by_limit : IsEager P J → (SomeReady P J → ⊥) → IsSentAll P J
   by_limit eager nobody = elim eager.0.1 [ inl paid ↦ inr (inr (paid, nobody)) | inr long ↦ inr (inl long) ]
 
-  broken : (end : Outcome) → IsBrokenOff end → IsRun started S reply P J log faults new_faults end → IsSentAll P J
+  broken : (end : Outcome) → IsBrokenOff end → IsRun (exchange started S reply log) P J faults new_faults end → IsSentAll P J
   broken end off run = by_limit run.eager (run.unfinished off).1
 
-  run_ended : (end : Outcome) → IsSaidToTheEnd end → IsRun started S reply P J log faults new_faults end → IsSentAll P J
+  run_ended : (end : Outcome) → IsSaidToTheEnd end → IsRun (exchange started S reply log) P J faults new_faults end → IsSentAll P J
   run_ended outcome.Done said run = by_limit run.eager (λ ready. done_is_quiet P (view P J) run.shown ready.0 ready.1 ready.2)
   run_ended (outcome.Setup f) said run = absurd run.shown
   run_ended (outcome.Core f) said run = elim run.shown [
@@ -149,7 +150,7 @@ module _ (started : ℕ) (S : Scenario) (reply : Replies) (P : Plan) (J : List E
       | inr t ↦ inr (ap fault_in long.named, (t.0, by_short t.0 t.1))
     ]
 
-    ends_alike : (e : Outcome) → IsRun started S reply P J log faults new_faults e → EndsAlike e end
+    ends_alike : (e : Outcome) → IsRun (exchange started S reply log) P J faults new_faults e → EndsAlike e end
     ends_alike outcome.Done run = done_again (whole P run.valid J run.eager run.shown)
     ends_alike (outcome.Setup f) run = tt
     ends_alike (outcome.Core f) run = faulty_again f run.shown
@@ -160,7 +161,7 @@ module _ (started : ℕ) (S : Scenario) (reply : Replies) (P : Plan) (J : List E
     ends_alike (outcome.LongItem i n) run = tt
     ends_alike outcome.Mem run = tt
 
-  ends_or_not : (e : Outcome) (K : List Entry) (end : ReplayEnd) → IsRun started S reply P J log faults new_faults e → (IsSaidToTheEnd e → K ≡ J) → IsEndOf P (arrivals J) (Some (steps_of J)) K end → EndsAlike e end
+  ends_or_not : (e : Outcome) (K : List Entry) (end : ReplayEnd) → IsRun (exchange started S reply log) P J faults new_faults e → (IsSaidToTheEnd e → K ≡ J) → IsEndOf P (arrivals J) (Some (steps_of J)) K end → EndsAlike e end
   ends_or_not outcome.Done K end run same by = ends_alike K end (same tt) by outcome.Done run
   ends_or_not (outcome.Setup f) K end run same by = tt
   ends_or_not (outcome.Core f) K end run same by = ends_alike K end (same tt) by (outcome.Core f) run

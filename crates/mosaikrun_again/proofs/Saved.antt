@@ -20,7 +20,7 @@ use Rattle.mosaikrun_records.specs.Reports.{IsOutcome}
 use Rattle.mosaikrun_sayings.specs.Sayings.{ids_of}
 use Rattle.mosaikrun_run.specs.declared.sayings.Form.{Form}
 use Rattle.mosaikrun_run.specs.declared.sayings.Form.TheVariants.{Report}
-use Rattle.mosaikrun_run.specs.Outcomes.{IsSaid, Outside}
+use Rattle.mosaikrun_run.specs.Outcomes.{IsSaid, Outside, attempt_in, exchange_in}
 use Rattle.mosaikrun_run.specs.Records.{HasRecord, EndsOfItself}
 use Rattle.mosaikrun_run.specs.Sayings.{saying_of}
 use Rattle.mosaikrun_again.specs.Readable.{IsShallow}
@@ -29,10 +29,10 @@ use Rattle.mosaikrun_again.proofs.Readable.{runs_are_readable}
 use Rattle.mosaikrun_again.proofs.Replaying.{replays_are_runs}
 use Rattle.mosaikrun_again.proofs.Saying.{replays_say_the_same}
 
-limit_saved : (O : Outside) (S : Scenario) (ranks : List ℕ) (P : Plan) (J : List Entry) (end : Outcome) → HasRun O.started S ranks O.kinds P J O.log O.faults O.new_faults end → IsReadAs P J → (f : CoreFault) → end ≡ outcome.Core f → fault_in f ≡ None
+limit_saved : (O : Outside) (S : Scenario) (ranks : List ℕ) (P : Plan) (J : List Entry) (end : Outcome) → HasRun (attempt_in O S ranks) P J O.faults O.new_faults end → IsReadAs P J → (f : CoreFault) → end ≡ outcome.Core f → fault_in f ≡ None
     → (ids : List (List ℕ)) (o : Result (List ℕ) Ending) → IsOutcome (record_text P J) None o → (o ≡ Err ends.Mem → ⊥) → IsLimitAgain (saying_of Report ids P J end) o
 limit_saved O S ranks P J end h read f is none ids o comes not = subst (λ (e : Outcome). IsLimitAgain (saying_of Report ids P J e) o) (sym is)
-    (replays_say_the_same.limit O.started S (kind_reply_of O.kinds S) P J O.log O.faults O.new_faults f (subst (λ (e : Outcome). IsRun O.started S (kind_reply_of O.kinds S) P J O.log O.faults O.new_faults e) is h.run) read none ids o comes not)
+    (replays_say_the_same.limit O.started S (kind_reply_of O.kinds S) P J O.log O.faults O.new_faults f (subst (λ (e : Outcome). IsRun (exchange_in O S) P J O.faults O.new_faults e) is h.run) read none ids o comes not)
 
 saved : (O : Outside) (form : Form) (S : Scenario) (text : Result (List ℕ) Ending) (kept : Option (List ℕ)) → (h : HasRecord O form S text kept) → IsShallow S h.journal → IsRecordOfRun (ids_of S) h.plan h.journal h.outcome
 saved O form S text kept h shallow =

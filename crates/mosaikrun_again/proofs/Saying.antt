@@ -15,6 +15,7 @@ use Rattle.mk_sched.specs.declared.faults.CoreFault.TheVariants as core
 use Rattle.mk_sched.specs.Answers.{fault_in, IsLastFaulty}
 use Rattle.mk_outside.specs.declared.fleet.LogEntry.{LogEntry}
 use Rattle.mk_scenario.specs.declared.parts.Scenario.{Scenario}
+use Rattle.mk_run_laws.specs.Exchanges.{exchange}
 use Rattle.mk_run_laws.specs.Kinds.{Replies}
 use Rattle.mk_run.specs.declared.outcome.Outcome.{Outcome}
 use Rattle.mk_run.specs.declared.outcome.Outcome.TheVariants as outcome
@@ -140,7 +141,7 @@ not_mem ids P J (core.Failed s place) e = cc
 not_mem ids P J (core.LoopLimit s time) e = cc
 not_mem ids P J (core.TooLong n) e = cc
 
-said_again : (started : ℕ) (S : Scenario) (reply : Replies) (P : Plan) (J : List Entry) (log : List LogEntry) (faults new_faults : ℕ) (end : Outcome) → IsRun started S reply P J log faults new_faults end → IsReadAs P J → IsSaidAgain end
+said_again : (started : ℕ) (S : Scenario) (reply : Replies) (P : Plan) (J : List Entry) (log : List LogEntry) (faults new_faults : ℕ) (end : Outcome) → IsRun (exchange started S reply log) P J faults new_faults end → IsReadAs P J → IsSaidAgain end
     → (ids : List (List ℕ)) (o : Result (List ℕ) Ending) → IsOutcome (record_text P J) None o → (o ≡ Err Mem → ⊥) → o ≡ saying_of Report ids P J end
 said_again started S reply P J log faults new_faults outcome.Done run read said ids o is not =
     one_outcome (record_text P J) None o (saying_of Report ids P J outcome.Done) is (own_report P J run.valid run.eager run.within read run.shown) not (λ e. cc)
@@ -158,7 +159,7 @@ said_again started S reply P J log faults new_faults (outcome.LongFrame i n) run
 said_again started S reply P J log faults new_faults (outcome.LongItem i n) run read said ids o is not = absurd said
 said_again started S reply P J log faults new_faults outcome.Mem run read said ids o is not = absurd said
 
-limit_again : (started : ℕ) (S : Scenario) (reply : Replies) (P : Plan) (J : List Entry) (log : List LogEntry) (faults new_faults : ℕ) (f : CoreFault) → IsRun started S reply P J log faults new_faults (outcome.Core f) → IsReadAs P J → fault_in f ≡ None
+limit_again : (started : ℕ) (S : Scenario) (reply : Replies) (P : Plan) (J : List Entry) (log : List LogEntry) (faults new_faults : ℕ) (f : CoreFault) → IsRun (exchange started S reply log) P J faults new_faults (outcome.Core f) → IsReadAs P J → fault_in f ≡ None
     → (ids : List (List ℕ)) (o : Result (List ℕ) Ending) → IsOutcome (record_text P J) None o → (o ≡ Err Mem → ⊥) → IsLimitAgain (saying_of Report ids P J (outcome.Core f)) o
 limit_again started S reply P J log faults new_faults f run read none ids o is not = by_shown run.shown
   where

@@ -8,6 +8,7 @@ use Rattle.mk_plan.specs.Journals.{arrivals, view}
 use Rattle.mk_scenario.specs.declared.parts.Scenario.{Scenario}
 use Rattle.mk_sched.specs.declared.faults.CoreFault.{CoreFault}
 use Rattle.mk_sched.specs.Answers.{SomeReady, fault_in}
+use Rattle.mk_run_laws.specs.Exchanges.{exchange}
 use Rattle.mk_run_laws.specs.Kinds.{Replies}
 use Rattle.mk_run.specs.declared.outcome.Outcome.{Outcome}
 use Rattle.mk_run.specs.declared.outcome.Outcome.TheVariants as outcome
@@ -77,7 +78,7 @@ pub record IsRunAgain (P : Plan) (J : List Entry) (end : Outcome) (K : List Entr
 abbrev pub ReplaysAreRuns : Type 0
 ReplaysAreRuns = (started : ℕ) (S : Scenario) (reply : Replies) (P : Plan) (J : List Entry)
     (log : List LogEntry) (faults new_faults : ℕ) (end : Outcome)
-    → IsRun started S reply P J log faults new_faults end
+    → IsRun (exchange started S reply log) P J faults new_faults end
     → (K : List Entry) (replay_end : ReplayEnd)
     → IsReplayBy P (arrivals J) (Some (steps_of J)) None K replay_end
     → IsRunAgain P J end K replay_end

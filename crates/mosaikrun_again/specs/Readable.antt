@@ -9,6 +9,7 @@ use Rattle.mk_plan.specs.declared.Entry.{Entry}
 use Rattle.mk_plan.specs.declared.Entry.TheVariants.{Got}
 use Rattle.mk_message.specs.Written.{message_tree}
 use Rattle.mk_scenario.specs.declared.parts.Scenario.{Scenario}
+use Rattle.mk_run_crew.specs.Attempts.{attempt}
 use Rattle.mk_local.specs.declared.turn.Turn.{Turn}
 use Rattle.mk_run_laws.specs.Handshake.{is_within}
 use Rattle.mk_run.specs.declared.outcome.Outcome.{Outcome}
@@ -25,4 +26,5 @@ IsShallow S J = (H : List Entry) (s : SimNo) (m : Message) (more : List Entry)
 abbrev pub RunsAreReadable : Type 0
 RunsAreReadable = (started : ℕ) (S : Scenario) (ranks : List ℕ) (rows : List Turn) (P : Plan)
     (J : List Entry) (log : List LogEntry) (faults new_faults : ℕ) (end : Outcome)
-    → HasRun started S ranks rows P J log faults new_faults end → IsShallow S J → IsReadable P J
+    → HasRun (attempt started S ranks rows log) P J faults new_faults end → IsShallow S J
+    → IsReadable P J

@@ -7,6 +7,7 @@ use Rattle.mk_plan.specs.Journals.{arrivals}
 use Rattle.mk_scenario.specs.declared.parts.Scenario.{Scenario}
 use Rattle.mk_sched.specs.declared.faults.CoreFault.{CoreFault}
 use Rattle.mk_sched.specs.Answers.{fault_in}
+use Rattle.mk_run_laws.specs.Exchanges.{exchange}
 use Rattle.mk_run_laws.specs.Kinds.{Replies}
 use Rattle.mk_run.specs.declared.outcome.Outcome.{Outcome}
 use Rattle.mk_run.specs.declared.outcome.Outcome.TheVariants as outcome
@@ -55,13 +56,13 @@ IsLimitAgain line o = (o ≡ line) ⊎ ((n : ℕ) × (o ≡ Err (ends.Short n)))
 pub record ReplaysSayTheSame : Type 0 where
   pub same : (started : ℕ) (S : Scenario) (reply : Replies) (P : Plan) (J : List Entry)
       (log : List LogEntry) (faults new_faults : ℕ) (end : Outcome)
-      → IsRun started S reply P J log faults new_faults end
+      → IsRun (exchange started S reply log) P J faults new_faults end
       → IsReadAs P J → IsSaidAgain end → (ids : List (List ℕ)) (o : Result (List ℕ) Ending)
       → IsOutcome (record_text P J) None o → (o ≡ Err ends.Mem → ⊥)
       → o ≡ saying_of Report ids P J end
   pub limit : (started : ℕ) (S : Scenario) (reply : Replies) (P : Plan) (J : List Entry)
       (log : List LogEntry) (faults new_faults : ℕ) (f : CoreFault)
-      → IsRun started S reply P J log faults new_faults (outcome.Core f)
+      → IsRun (exchange started S reply log) P J faults new_faults (outcome.Core f)
       → IsReadAs P J → fault_in f ≡ None → (ids : List (List ℕ)) (o : Result (List ℕ) Ending)
       → IsOutcome (record_text P J) None o → (o ≡ Err ends.Mem → ⊥)
       → IsLimitAgain (saying_of Report ids P J (outcome.Core f)) o

@@ -5,6 +5,7 @@ use Rattle.mk_plan.specs.declared.Plan.{Plan}
 use Rattle.mk_plan.specs.declared.Entry.{Entry}
 use Rattle.mk_outside.specs.declared.fleet.LogEntry.{LogEntry}
 use Rattle.mk_scenario.specs.declared.parts.Scenario.{Scenario}
+use Rattle.mk_run_crew.specs.Attempts.{attempt}
 use Rattle.mk_local.specs.declared.turn.Turn.{Turn}
 use Rattle.mk_local.specs.Kinds.{name_of}
 use Rattle.mk_run_laws.specs.Handshake.{Request, sim_link}
@@ -20,7 +21,7 @@ use Rattle.mk_run.specs.declared.outcome.Outcome.TheVariants as outcome
 use Rattle.mk_run.specs.Ends.{ShownBy}
 use Rattle.mosaikrun_endings.specs.declared.links.LinkFault.{LinkFault}
 use Rattle.mosaikrun_endings.specs.declared.ending.Ending.{Ending}
-use Rattle.mosaikrun_endings.specs.declared.ending.Ending.TheVariants.{Link, Mem}
+use Rattle.mosaikrun_endings.specs.declared.ending.Ending.TheVariants.{Link}
 use Rattle.mosaikrun_sayings.specs.Sayings.{ids_of, setup_ending}
 use Rattle.mosaikrun_sayings.specs.Stops.{stop_of}
 use Rattle.mosaikrun_check.specs.Runnable.{IsUnrunnable}
@@ -68,7 +69,7 @@ module _ (sim : List ℕ) (why : LinkFault) where
   stop_not P J (core.TooLong count) wrong = cc
 
   halt_not : (started size : ℕ) (ranks : List ℕ) (rows : List Turn) (log : List LogEntry) (risen : Type 0) (queued later : List Request) (ids : List (List ℕ)) (h : Halt)
-      → ShowsCause started (demo_scenario size) ranks rows log risen queued later h → halt_ending ids h ≡ link → ⊥
+      → ShowsCause (attempt started (demo_scenario size) ranks rows log) risen queued later h → halt_ending ids h ≡ link → ⊥
   halt_not started size ranks rows log risen queued later ids (halt.Setup e) cause wrong = setup_not ids e wrong
   halt_not started size ranks rows log risen queued later ids halt.Fleet cause wrong = cc
   halt_not started size ranks rows log risen queued later ids (halt.Gone s) cause wrong = not_linked started size s.0 cause.0 cause.1

@@ -22,7 +22,7 @@ use Rattle.mosaikrun_check.specs.Runnable.{IsRunnable, IsUnrunnable}
 use Rattle.mosaikrun_endings.specs.declared.ending.Ending.{Ending}
 use Rattle.mosaikrun_endings.specs.declared.ending.Ending.TheVariants as endings
 use Rattle.mosaikrun_sayings.specs.Sayings.{ids_of}
-use Rattle.mosaikrun_run.specs.Outcomes.{IsReadAgain, IsSaid, Outside}
+use Rattle.mosaikrun_run.specs.Outcomes.{IsReadAgain, IsSaid, Outside, attempt_in}
 use Rattle.mosaikrun_run.specs.Sayings.{halt_ending, record_of}
 use Rattle.mosaikrun_run.proofs.Telling.{idle, writable}
 use Rattle.mosaikrun_paced.specs.Outcomes.{IsPacedOutcome, IsPacedScenario}
@@ -36,7 +36,7 @@ rising_none (x ∷ before) after n is = cc
 
 module _ (O : Outside) (S : Scenario) (ranks : List ℕ) (factor : ℕ) (strict : Option ℕ) (moments : List Moment) (end : PaceEnd) where
   abbrev Paces : Option Plan → Option Journal → Type 0
-  Paces plan journal = PacesAs O.started S ranks O.kinds factor strict plan journal moments O.log O.faults O.new_faults end
+  Paces plan journal = PacesAs (attempt_in O S ranks) factor strict plan journal moments O.faults O.new_faults end
 
   moved : (plan : Option Plan) (journal : Option Journal) → Paces plan journal → (p : Option Plan) (j : Option Journal) → plan ≡ p → journal ≡ j → Paces p j
   moved plan journal run p j is also = subst (λ (x : Option Journal). Paces p x) also (subst (λ (x : Option Plan). Paces x journal) is run)
@@ -44,7 +44,7 @@ module _ (O : Outside) (S : Scenario) (ranks : List ℕ) (factor : ℕ) (strict 
   -- what the journal has may be written
   pub may_be_written : (plan : Option Plan) (journal : Option Journal) (P : Plan) (J : Journal) → plan ≡ Some P → journal ≡ Some J → Paces plan journal → list_all is_writable J.entries ≡ true
   may_be_written plan journal P J is also run =
-      let h : HasPaced O.started S ranks O.kinds factor strict P J.entries moments O.log O.faults O.new_faults end = moved plan journal run (Some P) (Some J) is also in
+      let h : HasPaced (attempt_in O S ranks) factor strict P J.entries moments O.faults O.new_faults end = moved plan journal run (Some P) (Some J) is also in
       writable J.entries h.run.in_range
 
   -- a plan without a journal, or a journal without a plan, there is none
@@ -55,7 +55,7 @@ module _ (O : Outside) (S : Scenario) (ranks : List ℕ) (factor : ℕ) (strict 
   not_other plan journal J is also run = moved plan journal run None (Some J) is also
 
   -- without both, it halted
-  without : (plan : Option Plan) (journal : Option Journal) → plan ≡ None → journal ≡ None → Paces plan journal → HasNotPaced O.started S ranks O.kinds O.log (HasRisen O.faults O.new_faults) end
+  without : (plan : Option Plan) (journal : Option Journal) → plan ≡ None → journal ≡ None → Paces plan journal → HasNotPaced (attempt_in O S ranks) (HasRisen O.faults O.new_faults) end
   without plan journal is also run = let none : Paces None None = moved plan journal run None None is also in none.0
 
   pub is_halt : (plan : Option Plan) (journal : Option Journal) → plan ≡ None → journal ≡ None → Paces plan journal → IsHaltEnd end

@@ -6,12 +6,11 @@ use Rattle.mk_plan.specs.Report.{report}
 use Rattle.mk_plan.specs.Sequential.{Messages, all_ended, run_items, sequential}
 use Rattle.mk_scenario.specs.declared.parts.Scenario.{Scenario}
 use Rattle.mk_run_laws.specs.Runs.{IsPossible}
-use Rattle.mk_run_local.specs.Made.{kind_reply_of}
 use Rattle.mk_pace_laws.specs.Paced.{IsAwake}
 use Rattle.mosaikrun_endings.specs.declared.ending.Ending.{Ending}
 use Rattle.mosaikrun_endings.specs.declared.ending.Ending.TheVariants.{Mem}
 use Rattle.mosaikrun_run.specs.declared.sayings.Form.TheVariants.{Report}
-use Rattle.mosaikrun_run.specs.Outcomes.{IsPlayed, Outside}
+use Rattle.mosaikrun_run.specs.Outcomes.{IsPlayed, Outside, exchange_in}
 use Rattle.mosaikrun_run.specs.Records.{IsStepSaid}
 use Rattle.mosaikrun_paced.specs.Outcomes.{IsPacedRun, IsPacedScenario}
 use Rattle.mosaikrun_paced.specs.Records.{HasPaceRecord, EndsOfItselfPaced}
@@ -23,7 +22,7 @@ abbrev pub PacedTextsAreSequential : Type 0
 PacedTextsAreSequential = (O : Outside) (factor : ℕ) (strict : Option ℕ) (wanted : Bool)
     (S : Scenario) (text : List ℕ) (kept : Option (List ℕ))
     → (paced : IsPacedRun O factor strict wanted S (Ok text) kept) → (R : Messages)
-    → IsPossible O.started S (kind_reply_of O.kinds S) paced.plan O.log R
+    → IsPossible (exchange_in O S) paced.plan R
     → (text ≡ report paced.plan (run_items paced.plan R))
     × ((i : ℕ) → i < sim_count paced.plan → all_ended (sequential paced.plan R i) ≡ true)
 
@@ -35,8 +34,8 @@ PacesAreOneText = (O Q : Outside) (factor : ℕ) (strict : Option ℕ) (wanted a
     (S T : Scenario) (text other : List ℕ) (kept saved : Option (List ℕ))
     → (p : IsPlayed O Report wanted S (Ok text) kept)
     → (q : IsPacedRun Q factor strict also T (Ok other) saved) → q.plan ≡ p.plan → (R U : Messages)
-    → IsPossible O.started S (kind_reply_of O.kinds S) p.plan O.log R
-    → IsPossible Q.started T (kind_reply_of Q.kinds T) q.plan Q.log U → Alike p.plan R U
+    → IsPossible (exchange_in O S) p.plan R
+    → IsPossible (exchange_in Q T) q.plan U → Alike p.plan R U
     → text ≡ other
 
 -- where a record is wanted and memory isn't wanting: it is there where there is a report, where the

@@ -13,7 +13,7 @@ use Rattle.mk_pace_laws.specs.Paced.{HasPaced, IsAwake}
 use Rattle.mosaikrun_check.specs.Runnable.{IsRunnable}
 use Rattle.mosaikrun_endings.specs.declared.ending.Ending.{Ending}
 use Rattle.mosaikrun_endings.specs.declared.ending.Ending.TheVariants as endings
-use Rattle.mosaikrun_run.specs.Outcomes.{IsNoScenario, IsReadAgain, IsSaid, IsUnrunnableScenario, IsUnrun, Outside}
+use Rattle.mosaikrun_run.specs.Outcomes.{IsNoScenario, IsReadAgain, IsSaid, IsUnrunnableScenario, IsUnrun, Outside, attempt_in}
 use Rattle.mosaikrun_run.specs.Sayings.{record_of}
 use Rattle.mosaikrun_sayings.specs.Sayings.{ids_of}
 use Rattle.mosaikrun_paced.specs.Sayings.{pace_saying}
@@ -37,7 +37,7 @@ pub record IsPacedRun (O : Outside) (factor : ℕ) (strict : Option ℕ) (wanted
   pub journal : List Entry
   pub moments : List Moment
   pub end : PaceEnd
-  pub run : HasPaced O.started S ranks O.kinds factor strict plan journal moments O.log O.faults
+  pub run : HasPaced (attempt_in O S ranks) factor strict plan journal moments O.faults
       O.new_faults end
   pub said : IsSaid (pace_saying (ids_of S) plan journal end) text
   pub recorded : (kept ≡ record_of wanted plan journal)

@@ -9,7 +9,7 @@ use Rattle.mk_pace_laws.specs.declared.end.PaceEnd.{PaceEnd}
 use Rattle.mk_pace_laws.specs.Paced.{HasPaced}
 use Rattle.mosaikrun_endings.specs.declared.ending.Ending.{Ending}
 use Rattle.mosaikrun_endings.specs.declared.ending.Ending.TheVariants.{Late}
-use Rattle.mosaikrun_run.specs.Outcomes.{IsReadAgain, IsSaid, Outside}
+use Rattle.mosaikrun_run.specs.Outcomes.{IsReadAgain, IsSaid, Outside, attempt_in}
 use Rattle.mosaikrun_run.specs.Records.{IsRunFault}
 use Rattle.mosaikrun_sayings.specs.Sayings.{ids_of}
 use Rattle.mosaikrun_paced.specs.Sayings.{pace_saying}
@@ -36,7 +36,7 @@ pub record HasPaceRecord (O : Outside) (factor : ℕ) (strict : Option ℕ) (S :
   pub journal : List Entry
   pub moments : List Moment
   pub end : PaceEnd
-  pub run : HasPaced O.started S ranks O.kinds factor strict plan journal moments O.log O.faults
+  pub run : HasPaced (attempt_in O S ranks) factor strict plan journal moments O.faults
       O.new_faults end
   pub said : IsSaid (pace_saying (ids_of S) plan journal end) text
   pub is : kept ≡ Some (record_text plan journal)

@@ -6,6 +6,7 @@ use Rattle.mk_outside.specs.Folders.{Files, file_limit}
 use Rattle.mk_scenario.specs.declared.parts.Scenario.{Scenario}
 use Rattle.mk_scenario.specs.Scenarios.{scenario_of}
 use Rattle.mk_launch.specs.Ready.{IsPrepared}
+use Rattle.mosaikrun_run.specs.Outcomes.{attempt_in}
 use Rattle.mk_local.specs.Kinds.{name_of}
 use Rattle.mk_run_crew.specs.Completing.{HandshakesComplete, IsFaultlessHandshake}
 use Rattle.mk_run_local.specs.Made.{kind_reply_of}
@@ -45,7 +46,7 @@ use Rattle.mosaikrun_program.proofs.Playing.{WasPaced, was_paced}
 module _ (C : Around) (factor : ℕ) (strict : Option ℕ) (name : Option (List ℕ)) (bytes : List ℕ) (text : Result (List ℕ) Ending) (kept : Option (List ℕ)) (r : Result (Unit {0}) Ending) (said : RunAnswer C.folder C.output name text kept r) where
   -- what a faultless study says of each paced run of this scenario
   abbrev ShowsFaultless : Scenario → Type 0
-  ShowsFaultless S = (any : List ℕ) (P : Plan) (J : List Entry) (moments : List Moment) (end : PaceEnd) → (h : HasPaced C.outside.started S any C.outside.kinds factor strict P J moments C.outside.log C.outside.faults C.outside.new_faults end)
+  ShowsFaultless S = (any : List ℕ) (P : Plan) (J : List Entry) (moments : List Moment) (end : PaceEnd) → (h : HasPaced (attempt_in C.outside S any) factor strict P J moments C.outside.faults C.outside.new_faults end)
       → IsFaultlessPace C.outside.started S P J (record { origin = h.origin; factor = factor }) strict moments C.outside.log C.outside.faults C.outside.new_faults
 
   -- where nothing goes wrong

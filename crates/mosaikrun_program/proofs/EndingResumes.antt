@@ -11,6 +11,7 @@ use Rattle.mk_plan_same.specs.declared.plans.Part.{Part}
 use Rattle.mk_plan_same.specs.declared.plans.Part.TheVariants.{Bounds, Sims, Models, Entities, Conns, Asyncs}
 use Rattle.mk_plan_same.specs.Parts.{IsFirstPart}
 use Rattle.mk_scenario.specs.declared.parts.Scenario.{Scenario}
+use Rattle.mosaikrun_run.specs.Outcomes.{attempt_in}
 use Rattle.mk_local.specs.Kinds.{name_of}
 use Rattle.mk_record.specs.Reading.{Reading, reading, Said, Faulty}
 use Rattle.mk_record.specs.Seen.{came}
@@ -139,10 +140,10 @@ module _ (C : Around) (name : Option (List ℕ)) (bytes recorded : List ℕ) (te
 
   -- no fault is shown by what follows on this scenario and this record
   abbrev ShowsRight : Scenario → Saved → Type 0
-  ShowsRight S old = (any : List ℕ) (P : Plan) → HasRefused C.outside.started S any C.outside.kinds P C.outside.log (HasRisen C.outside.faults C.outside.new_faults) → IsRightRecord P old
+  ShowsRight S old = (any : List ℕ) (P : Plan) → HasRefused (attempt_in C.outside S any) P (HasRisen C.outside.faults C.outside.new_faults) → IsRightRecord P old
 
   abbrev ShowsFaultless : Scenario → Saved → Type 0
-  ShowsFaultless S old = (any : List ℕ) (P : Plan) (J : List Entry) (end : ResumeEnd) → (h : HasResumed C.outside.started S any C.outside.kinds old P J C.outside.log C.outside.faults C.outside.new_faults end)
+  ShowsFaultless S old = (any : List ℕ) (P : Plan) (J : List Entry) (end : ResumeEnd) → (h : HasResumed (attempt_in C.outside S any) old P J C.outside.faults C.outside.new_faults end)
       → IsFaultless C.outside.started S (kind_reply_of C.outside.kinds S) P h.run.first J h.run.heard C.outside.log C.outside.faults C.outside.new_faults
 
   abbrev ShowsHandshake : Scenario → Type 0

@@ -27,7 +27,7 @@ use Rattle.mosaikrun_check.specs.Checks.{IsUnchecked}
 use Rattle.mosaikrun_check.specs.Runnable.{AreRanks}
 use Rattle.mosaikrun_check.proofs.OneRanking.{fault_status, runnable_or_not}
 use Rattle.mosaikrun_run.specs.declared.sayings.Form.TheVariants.{Report}
-use Rattle.mosaikrun_run.specs.Outcomes.{IsRunOutcome, IsScenarioOutcome}
+use Rattle.mosaikrun_run.specs.Outcomes.{IsRunOutcome, IsScenarioOutcome, attempt_in}
 use Rattle.mosaikrun_run.specs.Sayings.{halt_ending, saying_of, text_of}
 use Rattle.mosaikrun_run.proofs.Telling.{one_scenario}
 use Rattle.mosaikrun_program.specs.Around.{Around}
@@ -90,7 +90,7 @@ module _ (C : Around) (name : Option (List ℕ)) (bytes : List ℕ) (text : Resu
           let mem = law C.outside.started has.scenario u.ranks C.outside.kinds C.outside.log C.outside.faults C.outside.new_faults u.halt u.halted fine in
           status_of_none C name text kept r said Mem (elim u.said [ inl is ↦ is ∙ ap (λ h. Err (halt_ending (ids_of has.scenario) h)) mem | inr is ↦ is ]) 0 (inl refl)
       go (inr (inr p)) =
-          let fine = subst (λ (X : Scenario). (any : List ℕ) (P : Plan) (J : List Entry) (end : Outcome) → HasRun C.outside.started X any C.outside.kinds P J C.outside.log C.outside.faults C.outside.new_faults end → IsFaultless C.outside.started X P J C.outside.log C.outside.faults C.outside.new_faults) same f.run p.ranks p.plan p.journal p.outcome p.run in
+          let fine = subst (λ (X : Scenario). (any : List ℕ) (P : Plan) (J : List Entry) (end : Outcome) → HasRun (attempt_in C.outside X any) P J C.outside.faults C.outside.new_faults end → IsFaultless C.outside.started X P J C.outside.log C.outside.faults C.outside.new_faults) same f.run p.ranks p.plan p.journal p.outcome p.run in
           elim (run_completes C.outside.started has.scenario (kind_reply_of C.outside.kinds has.scenario) p.plan p.journal C.outside.log C.outside.faults C.outside.new_faults p.outcome p.run.run fine) [
             | inl done ↦ elim p.said [
               | inl is ↦ status_of_text C name text kept r said (text_of Report p.plan (sent p.journal)) (is ∙ ap (saying_of Report (ids_of has.scenario) p.plan p.journal) done)

@@ -33,7 +33,7 @@ use Rattle.mosaikrun_endings.specs.declared.ending.Ending.TheVariants as ends
 use Rattle.mosaikrun_check.specs.Checks.{IsUnchecked}
 use Rattle.mosaikrun_check.specs.Runnable.{AreRanks}
 use Rattle.mosaikrun_records.specs.Saved.{IsUnread}
-use Rattle.mosaikrun_run.specs.Outcomes.{Outside}
+use Rattle.mosaikrun_run.specs.Outcomes.{Outside, attempt_in}
 use Rattle.mosaikrun_program.specs.Around.{Around}
 use Rattle.mosaikrun_program.specs.Commands.{IsAsked}
 use Rattle.mosaikrun_program.specs.Program.{IsStatusOr}
@@ -50,7 +50,7 @@ pub record IsFaultlessStudy (O : Outside) (bytes : List ℕ) : Type 0 where
   pub handshake : (any : List ℕ) → AreRanks scenario any
       → IsFaultlessHandshake O.started scenario any O.kinds O.log (HasRisen O.faults O.new_faults)
   pub run : (any : List ℕ) (P : Plan) (J : List Entry) (end : Outcome)
-      → HasRun O.started scenario any O.kinds P J O.log O.faults O.new_faults end
+      → HasRun (attempt_in O scenario any) P J O.faults O.new_faults end
       → IsFaultless O.started scenario P J O.log O.faults O.new_faults
 
 -- a run of a file's bytes, where nothing goes wrong, comes to its end: its status is 0, or that of a
@@ -87,10 +87,10 @@ pub record IsFaultlessResume (O : Outside) (bytes recorded : List ℕ) : Type 0 
       → IsFaultlessHandshake O.started scenario any O.kinds O.log (HasRisen O.faults O.new_faults)
   pub old : Saved
   pub old_read : reading recorded ≡ Said old.plan (map came old.arrivals) old.asks
-  pub right : (any : List ℕ) (P : Plan) → HasRefused O.started scenario any O.kinds P O.log
+  pub right : (any : List ℕ) (P : Plan) → HasRefused (attempt_in O scenario any) P
       (HasRisen O.faults O.new_faults) → IsRightRecord P old
   pub run : (any : List ℕ) (P : Plan) (J : List Entry) (end : ResumeEnd)
-      → (h : HasResumed O.started scenario any O.kinds old P J O.log O.faults O.new_faults end)
+      → (h : HasResumed (attempt_in O scenario any) old P J O.faults O.new_faults end)
       → onward.IsFaultless O.started scenario (kind_reply_of O.kinds scenario) P h.run.first J
       h.run.heard O.log O.faults O.new_faults
 
@@ -121,7 +121,7 @@ pub record IsFaultlessPacedStudy (O : Outside) (factor : ℕ) (strict : Option �
   pub handshake : (any : List ℕ) → AreRanks scenario any
       → IsFaultlessHandshake O.started scenario any O.kinds O.log (HasRisen O.faults O.new_faults)
   pub run : (any : List ℕ) (P : Plan) (J : List Entry) (moments : List Moment) (end : PaceEnd)
-      → (h : HasPaced O.started scenario any O.kinds factor strict P J moments O.log O.faults
+      → (h : HasPaced (attempt_in O scenario any) factor strict P J moments O.faults
       O.new_faults end)
       → IsFaultlessPace O.started scenario P J (record { origin = h.origin; factor = factor })
       strict moments O.log O.faults O.new_faults

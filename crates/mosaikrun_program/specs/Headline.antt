@@ -21,7 +21,6 @@ use Rattle.mk_run_laws.specs.Rests.{RestsWell}
 use Rattle.mk_run_laws.specs.Runs.{IsPossible, SaidWhole, SaysRight}
 use Rattle.mk_outside.specs.Logs.{heard_on}
 use Rattle.mk_run_links.specs.Entries.{AreOnOrOfClock, IsRunLink}
-use Rattle.mk_run_local.specs.Made.{kind_reply_of}
 use Rattle.mk_run_crew.specs.Answers.{AreKindAnswers, answers_to}
 use Rattle.mk_run.specs.Ends.{SetupRestsWell}
 use Rattle.mk_run.specs.Laws.{ArePromised}
@@ -32,7 +31,7 @@ use Rattle.mosaikrun_words.specs.declared.request.FileCommand.{FileCommand}
 use Rattle.mosaikrun_words.specs.declared.request.Request.TheVariants.{Files, Run, Resume, Paced, Demo}
 use Rattle.mosaikrun_run.specs.declared.sayings.Form.{Form}
 use Rattle.mosaikrun_run.specs.declared.sayings.Form.TheVariants.{Report, Summary}
-use Rattle.mosaikrun_run.specs.Outcomes.{Outside}
+use Rattle.mosaikrun_run.specs.Outcomes.{Outside, exchange_in}
 use Rattle.mosaikrun_run.specs.Sayings.{text_of}
 use Rattle.mosaikrun_program.specs.Around.{Around}
 use Rattle.mosaikrun_program.specs.Commands.{AreHeld, IsAsked, HasBytes, IsOutcomeOf, read_by, target_of}
@@ -42,7 +41,7 @@ use Rattle.mosaikrun_program.specs.Pacing.{IsRightPaced}
 -- messages of the simulators that may come: on each link those that were heard there, and whatever
 -- goes on; of simulators within the program what their kinds answer
 abbrev pub MayCome : Outside → Scenario → Plan → Messages → Type 0
-MayCome O S P R = IsPossible O.started S (kind_reply_of O.kinds S) P O.log R
+MayCome O S P R = IsPossible (exchange_in O S) P R
 
 -- what was said to simulator i on its link, by a call that ended with status n: the frames of the
 -- first requests of its handshake, of items, and of a stop, or a beginning of these bytes, and none
@@ -54,7 +53,7 @@ pub record IsRightLink (O : Outside) (S : Scenario) (plan : Option Plan) (n i : 
     (l : LinkNo) : Type 0 where
   pub asked : ℕ
   pub items : List Item
-  pub right : SaysRight O.started S (kind_reply_of O.kinds S) plan O.log i l asked items true
+  pub right : SaysRight (exchange_in O S) plan i l asked items true
   pub all : n ≡ 0 → (P : Plan) → plan ≡ Some P → (R : Messages) → MayCome O S P R
       → map bare items ≡ run_items P R i
   pub whole : ((n ≡ 8) × (O.log ≡ []) → ⊥)
@@ -77,8 +76,7 @@ pub record IsRightRunBy (C : Around) (form : Form) (S : Scenario) (saved : Optio
       ≡ answers_to i (setup_requests S) answers
   pub within : AreKindAnswers C.outside.kinds S answers
   pub journal : List Entry
-  pub promised : ArePromised C.outside.started S (kind_reply_of C.outside.kinds S) P journal
-      C.outside.log
+  pub promised : ArePromised (exchange_in C.outside S) P journal
   pub setup_rests : SetupRestsWell C.outside.started S C.outside.log
   pub rests : RestsWell C.outside.started S P journal C.outside.log
   pub possible : n ≡ 0 → (R : Messages) × MayCome C.outside S P R

@@ -12,14 +12,13 @@ use Rattle.mk_scenario.specs.declared.parts.Scenario.{Scenario}
 use Rattle.mk_scenario.specs.Scenarios.{scenario_of}
 use Rattle.mk_record.specs.Texts.{record_text}
 use Rattle.mk_run_laws.specs.Runs.{IsPossible}
-use Rattle.mk_run_local.specs.Made.{kind_reply_of}
 use Rattle.mk_pace_laws.specs.declared.end.Moment.{Moment}
 use Rattle.mk_pace_laws.specs.declared.end.PaceEnd.{PaceEnd}
 use Rattle.mk_pace_laws.specs.Laws.{IsRightPace}
 use Rattle.mk_pace_laws.specs.Paced.{HasPaced, IsAwake}
 use Rattle.mosaikrun_words.specs.declared.request.Request.TheVariants.{Paced}
 use Rattle.mosaikrun_endings.specs.declared.ending.Ending.{Ending}
-use Rattle.mosaikrun_run.specs.Outcomes.{Outside}
+use Rattle.mosaikrun_run.specs.Outcomes.{Outside, attempt_in, exchange_in}
 use Rattle.mosaikrun_run.specs.Records.{IsStepSaid}
 use Rattle.mosaikrun_paced.specs.Outcomes.{IsUnpaced}
 use Rattle.mosaikrun_paced.specs.Records.{HasPaceRecord, EndsOfItselfPaced}
@@ -39,14 +38,12 @@ pub record IsRightPacedRun (C : Around) (factor : ℕ) (strict : Option ℕ) (S 
   pub journal : List Entry
   pub moments : List Moment
   pub end : PaceEnd
-  pub run : HasPaced C.outside.started S ranks C.outside.kinds factor strict plan journal moments
-      C.outside.log C.outside.faults C.outside.new_faults end
-  pub right : IsRightPace C.outside.started S (kind_reply_of C.outside.kinds S) plan journal moments
-      C.outside.log (HasRisen C.outside.faults C.outside.new_faults) end
-  pub possible : n ≡ 0 → (R : Messages) × IsPossible C.outside.started S
-      (kind_reply_of C.outside.kinds S) plan C.outside.log R
-  pub text : n ≡ 0 → (R : Messages) → IsPossible C.outside.started S
-      (kind_reply_of C.outside.kinds S) plan C.outside.log R
+  pub run : HasPaced (attempt_in C.outside S ranks) factor strict plan journal moments
+      C.outside.faults C.outside.new_faults end
+  pub right : IsRightPace (exchange_in C.outside S) plan journal moments
+      (HasRisen C.outside.faults C.outside.new_faults) end
+  pub possible : n ≡ 0 → (R : Messages) × IsPossible (exchange_in C.outside S) plan R
+  pub text : n ≡ 0 → (R : Messages) → IsPossible (exchange_in C.outside S) plan R
       → C.output.after ≡ appended (report plan (run_items plan R)) C.output.before
   pub recorded : n ≡ 0 → (name : List ℕ) → saved ≡ Some name → C.folder.files_after
       ≡ option_map (with_file name (record_text plan journal)) C.folder.files

@@ -26,7 +26,7 @@ use Rattle.mk_resume.specs.Resumed.{HasResumed}
 use Rattle.mosaikrun_words.specs.declared.request.Request.TheVariants.{Resume}
 use Rattle.mosaikrun_endings.specs.declared.ending.Ending.{Ending}
 use Rattle.mosaikrun_records.specs.Saved.{IsRecord}
-use Rattle.mosaikrun_run.specs.Outcomes.{IsUnrun, Outside}
+use Rattle.mosaikrun_run.specs.Outcomes.{IsUnrun, Outside, attempt_in}
 use Rattle.mosaikrun_resume.specs.Outcomes.{HasGoneOn, IsNotTaken, IsStudy}
 use Rattle.mosaikrun_program.specs.Around.{Around}
 use Rattle.mosaikrun_program.specs.Commands.{IsAsked, HasBytes}
@@ -42,7 +42,7 @@ pub record IsRightOnward (C : Around) (S : Scenario) (ranks : List ℕ) (old : S
   pub plan : Plan
   pub journal : List Entry
   pub end : ResumeEnd
-  pub run : HasResumed C.outside.started S ranks C.outside.kinds old plan journal C.outside.log
+  pub run : HasResumed (attempt_in C.outside S ranks) old plan journal
       C.outside.faults C.outside.new_faults end
   pub text : n ≡ 0 → (R : Messages) → Continues plan journal R
       → C.output.after ≡ appended (report plan (run_items plan R)) C.output.before

@@ -16,14 +16,13 @@ use Rattle.mk_record_report.proofs.Bare.{report_bare}
 use Rattle.mk_run.specs.declared.outcome.Outcome.TheVariants as outcome
 use Rattle.mk_run_laws.specs.Rests.{run_messages}
 use Rattle.mk_run_laws.proofs.Following.{IsAllOf, all_done}
-use Rattle.mk_run_local.specs.Made.{kind_reply_of}
 use Rattle.mk_resume_walk.proofs.UpTo.{up_to_all}
 use Rattle.mk_resume_loop.specs.declared.ending.ResumeEnd.{ResumeEnd}
 use Rattle.mk_resume_loop.specs.declared.ending.ResumeEnd.TheVariants as ends
 use Rattle.mk_resume.specs.Resumed.{ShownBy}
 use Rattle.mosaikrun_sayings.specs.Sayings.{ids_of}
 use Rattle.mosaikrun_run.specs.declared.sayings.Form.TheVariants.{Report}
-use Rattle.mosaikrun_run.specs.Outcomes.{IsPlayed, IsSaid, Outside}
+use Rattle.mosaikrun_run.specs.Outcomes.{IsPlayed, IsSaid, Outside, exchange_in}
 use Rattle.mosaikrun_run.proofs.Reporting.{said_is_done}
 use Rattle.mk_run.specs.Ends as runs
 use Rattle.mosaikrun_resume.specs.Laws.{IsWholeReport, ResumedTextsAreSequential, SameMessagesAreOneText}
@@ -51,7 +50,7 @@ module _ (O : Outside) (wanted : Bool) (S : Scenario) (ranks : List ℕ) (saved 
   done = done_alone (ids_of S) gone.plan gone.journal gone.end text gone.said
 
   over : IsDone gone.plan (view gone.plan gone.journal) × ((i : ℕ) → i < sim_count gone.plan → gone.run.run.heard i ≡ length (got gone.journal i))
-  over = subst (ShownBy O.started S (kind_reply_of O.kinds S) gone.plan gone.run.run.first gone.journal gone.run.run.heard O.log O.faults O.new_faults) done.0 gone.run.run.shown
+  over = subst (ShownBy (exchange_in O S) gone.plan gone.run.run.first gone.journal gone.run.run.heard O.faults O.new_faults) done.0 gone.run.run.shown
 
   pub all : (R : Messages) → Continues gone.plan gone.journal R → (i : ℕ) → IsAllOf gone.plan gone.run.run.valid gone.journal R i
   all R goes i = all_done gone.plan gone.run.run.valid gone.journal gone.run.run.eager.0.0 over.0 R goes i

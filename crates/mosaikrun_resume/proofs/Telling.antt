@@ -10,8 +10,6 @@ use Rattle.mk_record_read.specs.declared.saved.Saved.{Saved}
 use Rattle.mk_record.specs.Reading.{reading, Said}
 use Rattle.mk_record.specs.Seen.{came}
 use Rattle.mk_record.specs.Writable.{is_writable}
-use Rattle.mk_run.specs.declared.outcome.Outcome.{Outcome}
-use Rattle.mk_run.specs.declared.outcome.Outcome.TheVariants as outcome
 use Rattle.mk_run.specs.Outcomes.{outcome_of}
 use Rattle.mk_run_crew.specs.declared.halt.Halt.{Halt}
 use Rattle.mk_run_crew.specs.declared.halt.Halt.TheVariants as halt
@@ -23,7 +21,7 @@ use Rattle.mosaikrun_endings.specs.declared.ending.Ending.{Ending}
 use Rattle.mosaikrun_endings.specs.declared.ending.Ending.TheVariants as endings
 use Rattle.mosaikrun_records.specs.Saved.{IsUnread}
 use Rattle.mosaikrun_sayings.specs.Sayings.{ids_of}
-use Rattle.mosaikrun_run.specs.Outcomes.{IsReadAgain, IsSaid, Outside}
+use Rattle.mosaikrun_run.specs.Outcomes.{IsReadAgain, IsSaid, Outside, attempt_in}
 use Rattle.mosaikrun_run.specs.Sayings.{halt_ending, record_of}
 use Rattle.mosaikrun_run.proofs.Telling.{idle, writable}
 use Rattle.mosaikrun_resume.specs.Outcomes.{IsSavedOutcome, IsStudyOutcome}
@@ -32,7 +30,7 @@ use Rattle.mosaikrun_resume.specs.inner.Refusals.{IsRefusalEnd}
 
 module _ (O : Outside) (S : Scenario) (ranks : List ℕ) (saved : Saved) (end : ResumeEnd) where
   abbrev Resumes : Bool → Option Plan → Option Journal → Type 0
-  Resumes taken plan journal = ResumesAs O.started S ranks O.kinds saved taken plan journal O.log O.faults O.new_faults end
+  Resumes taken plan journal = ResumesAs (attempt_in O S ranks) saved taken plan journal O.faults O.new_faults end
 
   module _ (taken : Bool) (plan : Option Plan) (journal : Option Journal) (run : Resumes taken plan journal) where
     moved : (t : Bool) (p : Option Plan) (j : Option Journal) → taken ≡ t → plan ≡ p → journal ≡ j → Resumes t p j
@@ -40,7 +38,7 @@ module _ (O : Outside) (S : Scenario) (ranks : List ℕ) (saved : Saved) (end : 
 
     -- what the journal has may be written, where the record was taken
     pub may_be_written : (P : Plan) (J : Journal) → plan ≡ Some P → journal ≡ Some J → taken ≡ true → list_all is_writable J.entries ≡ true
-    may_be_written P J also too is = let h : HasResumed O.started S ranks O.kinds saved P J.entries O.log O.faults O.new_faults end = moved true (Some P) (Some J) is also too in writable J.entries h.run.in_range
+    may_be_written P J also too is = let h : HasResumed (attempt_in O S ranks) saved P J.entries O.faults O.new_faults end = moved true (Some P) (Some J) is also too in writable J.entries h.run.in_range
 
     -- a plan without a journal, or a journal without a plan, there is none
     pub not_one : (P : Plan) → plan ≡ Some P → journal ≡ None → ⊥

@@ -17,7 +17,7 @@ use Rattle.mosaikrun_check.specs.Runnable.{IsRunnable}
 use Rattle.mosaikrun_endings.specs.declared.ending.Ending.{Ending}
 use Rattle.mosaikrun_endings.specs.declared.ending.Ending.TheVariants as endings
 use Rattle.mosaikrun_records.specs.Saved.{IsUnread}
-use Rattle.mosaikrun_run.specs.Outcomes.{IsIdle, IsReadAgain, IsSaid, IsUnrun, Outside}
+use Rattle.mosaikrun_run.specs.Outcomes.{IsIdle, IsReadAgain, IsSaid, IsUnrun, Outside, attempt_in}
 use Rattle.mosaikrun_run.specs.Sayings.{record_of}
 use Rattle.mosaikrun_sayings.specs.Sayings.{ids_of}
 use Rattle.mosaikrun_resume.specs.Sayings.{resume_saying}
@@ -32,7 +32,7 @@ pub record IsNotTaken (O : Outside) (S : Scenario) (ranks : List ℕ) (saved : S
   pub journal : List Entry
   pub end : ResumeEnd
   pub cause : IsRefusedBy plan saved end ⊎ HasFaultySaved plan saved journal end
-  pub refused : HasRefused O.started S ranks O.kinds plan O.log (HasRisen O.faults O.new_faults)
+  pub refused : HasRefused (attempt_in O S ranks) plan (HasRisen O.faults O.new_faults)
   pub said : IsSaid (resume_saying (ids_of S) plan journal end) text
   pub unrecorded : kept ≡ None
 
@@ -45,7 +45,7 @@ pub record HasGoneOn (O : Outside) (wanted : Bool) (S : Scenario) (ranks : List 
   pub plan : Plan
   pub journal : List Entry
   pub end : ResumeEnd
-  pub run : HasResumed O.started S ranks O.kinds saved plan journal O.log O.faults O.new_faults end
+  pub run : HasResumed (attempt_in O S ranks) saved plan journal O.faults O.new_faults end
   pub said : IsSaid (resume_saying (ids_of S) plan journal end) text
   pub recorded : (kept ≡ record_of wanted plan journal)
       ⊎ ((kept ≡ None) × (text ≡ Err endings.Mem))

@@ -41,7 +41,7 @@ use Rattle.mosaikrun_sayings.specs.Sayings.{ids_of}
 use Rattle.mosaikrun_run.specs.declared.sayings.Form.{Form}
 use Rattle.mosaikrun_run.specs.declared.sayings.Form.TheVariants.{Report}
 use Rattle.mosaikrun_run.specs.Laws.{AlikeIsOneText, WithinIsOneText}
-use Rattle.mosaikrun_run.specs.Outcomes.{IsPlayed, IsRunOutcome, IsScenarioOutcome, Outside}
+use Rattle.mosaikrun_run.specs.Outcomes.{IsPlayed, IsRunOutcome, IsScenarioOutcome, Outside, exchange_in}
 use Rattle.mosaikrun_run.specs.Sayings.{text_of}
 use Rattle.mosaikrun_run.proofs.Reporting.{said_is_done, texts_sequential}
 
@@ -165,10 +165,10 @@ module _ (fits : KindsFit) (O Q : Outside) (form : Form) (wanted also : Bool) (S
   talks : (i : ℕ) → run_talk p.plan (got p.journal) i ≡ run_talk q.plan (got q.journal) i
   talks i = same_runs p.plan p.run.run.valid (got p.journal) (got q.journal) (λ j low. (ours.finished j low).ended) ended alike i ∙ ap (λ (P : Plan). run_talk P (got q.journal) i) (sym plan)
     where
-      ours : HasSentAll O.started S (kind_reply_of O.kinds S) p.plan p.journal O.log
+      ours : HasSentAll (exchange_in O S) p.plan p.journal
       ours = (runs_right O.started S (kind_reply_of O.kinds S) p.plan p.journal O.log O.faults O.new_faults p.outcome p.run.run).done (said_is_done form (ids_of S) p.plan p.journal p.outcome text p.said).0
 
-      theirs : HasSentAll Q.started S (kind_reply_of Q.kinds S) q.plan q.journal Q.log
+      theirs : HasSentAll (exchange_in Q S) q.plan q.journal
       theirs = (runs_right Q.started S (kind_reply_of Q.kinds S) q.plan q.journal Q.log Q.faults Q.new_faults q.outcome q.run.run).done (said_is_done form (ids_of S) q.plan q.journal q.outcome other q.said).0
 
       ended : (j : ℕ) → j < sim_count p.plan → all_ended (sequential p.plan (got q.journal) j) ≡ true

@@ -13,6 +13,7 @@ use Rattle.mk_plan.specs.declared.Call.TheVariants.{Stop}
 use Rattle.mk_plan.specs.declared.Item.TheVariants.{Step}
 use Rattle.mk_plan.specs.Sequential.{id_after}
 use Rattle.mk_scenario.specs.declared.parts.Scenario.{Scenario}
+use Rattle.mk_run_crew.specs.Attempts.{attempt}
 use Rattle.mk_local.specs.declared.turn.Turn.{Turn}
 use Rattle.mk_local.specs.Kinds.{name_of}
 use Rattle.mk_run_laws.specs.Handshake.{call_payloads, calls_to, setup_payloads}
@@ -46,7 +47,7 @@ nothing_said started S log quiet h =
     frames_there (take s.requests (setup_payloads S h.sim)) (item_text s.id (Step s.at s.inputs s.advance)) s.said.0 (sym s.said.1 ∙ ap (said_on h.link) quiet)
 
 -- or what a handshake says that ended early
-halted_said : (started : ℕ) (S : Scenario) (ranks : List ℕ) (rows : List Turn) (log : List LogEntry) (risen : Type 0) (h : Halt) → HasHalted started S ranks rows log risen h → IsStepSaid started S log → ⊥
+halted_said : (started : ℕ) (S : Scenario) (ranks : List ℕ) (rows : List Turn) (log : List LogEntry) (risen : Type 0) (h : Halt) → HasHalted (attempt started S ranks rows log) risen h → IsStepSaid started S log → ⊥
 halted_said started S ranks rows log risen h halted said =
     let s = said.step in
     let n = count_to said.sim halted.queued in

@@ -25,7 +25,7 @@ use Rattle.mosaikrun_sayings.specs.Sayings.{ids_of}
 use Rattle.mosaikrun_run.specs.Sayings.{IsHalt, halt_ending, record_of, saying_of}
 use Rattle.mosaikrun_run.specs.declared.sayings.Form.{Form}
 use Rattle.mosaikrun_run.specs.declared.sayings.Form.TheVariants.{Report}
-use Rattle.mosaikrun_run.specs.Outcomes.{IsIdle, IsReadAgain, IsRunOutcome, IsSaid, IsScenarioOutcome, Outside}
+use Rattle.mosaikrun_run.specs.Outcomes.{IsIdle, IsReadAgain, IsRunOutcome, IsSaid, IsScenarioOutcome, Outside, attempt_in}
 
 -- bytes are one scenario
 pub one_scenario : (bytes : List ℕ) (S T : Scenario) → scenario_of bytes ≡ Ok S → scenario_of bytes ≡ Ok T → S ≡ T
@@ -71,10 +71,10 @@ said_ending {V} wanted text told (inr none) h = subst (λ (r : Result V Ending).
 
 module _ (O : Outside) (S : Scenario) (ranks : List ℕ) (end : Outcome) where
   abbrev Runs : Option Plan → Option Journal → Type 0
-  Runs plan journal = RunsAs O.started S ranks O.kinds plan journal O.log O.faults O.new_faults end
+  Runs plan journal = RunsAs (attempt_in O S ranks) plan journal O.faults O.new_faults end
 
   -- a run with a plan and a journal
-  pub has_run : (plan : Option Plan) (journal : Option Journal) (P : Plan) (J : Journal) → plan ≡ Some P → journal ≡ Some J → Runs plan journal → HasRun O.started S ranks O.kinds P J.entries O.log O.faults O.new_faults end
+  pub has_run : (plan : Option Plan) (journal : Option Journal) (P : Plan) (J : Journal) → plan ≡ Some P → journal ≡ Some J → Runs plan journal → HasRun (attempt_in O S ranks) P J.entries O.faults O.new_faults end
   has_run plan journal P J is also run = subst (λ (j : Option Journal). Runs (Some P) j) also (subst (λ (p : Option Plan). Runs p journal) is run)
 
   -- a plan without a journal, or a journal without a plan, there is none

@@ -8,12 +8,11 @@ use Rattle.mk_scenario.specs.declared.parts.Scenario.{Scenario}
 use Rattle.mk_scenario.specs.Scenarios.{scenario_of}
 use Rattle.mk_scenario.specs.Wellformed.{IsWellformed}
 use Rattle.mk_run_laws.specs.Runs.{IsPossible}
-use Rattle.mk_run_local.specs.Made.{kind_reply_of}
 use Rattle.mk_run_crew.specs.Wholly.{is_wholly_within}
 use Rattle.mosaikrun_endings.specs.declared.ending.Ending.{Ending}
 use Rattle.mosaikrun_endings.specs.declared.ending.Ending.TheVariants.{Mem}
 use Rattle.mosaikrun_run.specs.declared.sayings.Form.{Form}
-use Rattle.mosaikrun_run.specs.Outcomes.{IsPlayed, IsRunOutcome, IsScenarioOutcome, Outside}
+use Rattle.mosaikrun_run.specs.Outcomes.{IsPlayed, IsRunOutcome, IsScenarioOutcome, Outside, exchange_in}
 use Rattle.mosaikrun_run.specs.Records.{HasRecord, EndsOfItself, IsStepSaid}
 use Rattle.mosaikrun_run.specs.Sayings.{text_of}
 
@@ -23,7 +22,7 @@ use Rattle.mosaikrun_run.specs.Sayings.{text_of}
 abbrev pub TextsAreSequential : Type 0
 TextsAreSequential = (O : Outside) (form : Form) (wanted : Bool) (S : Scenario) (text : List ℕ)
     (record_ : Option (List ℕ)) → (played : IsPlayed O form wanted S (Ok text) record_)
-    → (R : Messages) → IsPossible O.started S (kind_reply_of O.kinds S) played.plan O.log R
+    → (R : Messages) → IsPossible (exchange_in O S) played.plan R
     → (text ≡ text_of form played.plan (run_items played.plan R))
     × ((i : ℕ) → i < sim_count played.plan → all_ended (sequential played.plan R i) ≡ true)
 
@@ -35,8 +34,8 @@ AlikeIsOneText = (O Q : Outside) (form : Form) (wanted also : Bool) (S : Scenari
     (text other : List ℕ) (kept saved : Option (List ℕ))
     → (p : IsPlayed O form wanted S (Ok text) kept)
     → (q : IsPlayed Q form also S (Ok other) saved) → q.run.answers ≡ p.run.answers
-    → (R T : Messages) → IsPossible O.started S (kind_reply_of O.kinds S) p.plan O.log R
-    → IsPossible Q.started S (kind_reply_of Q.kinds S) q.plan Q.log T → Alike p.plan R T
+    → (R T : Messages) → IsPossible (exchange_in O S) p.plan R
+    → IsPossible (exchange_in Q S) q.plan T → Alike p.plan R T
     → text ≡ other
 
 -- where a record is wanted and memory isn't wanting: it is there where there is a text, where the

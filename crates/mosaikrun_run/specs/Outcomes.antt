@@ -16,6 +16,7 @@ use Rattle.mk_local.specs.declared.turn.Turn.{Turn}
 use Rattle.mk_local.specs.Kinds.{name_of}
 use Rattle.mosaikrun_check.specs.Checks.{IsUnread}
 use Rattle.mosaikrun_check.specs.Runnable.{IsRunnable, IsUnrunnable}
+use Rattle.mk_run_crew.specs.Attempts.{Attempt, attempt}
 use Rattle.mk_run.specs.declared.outcome.Outcome.{Outcome}
 use Rattle.mk_run_crew.specs.declared.halt.Halt.{Halt}
 use Rattle.mk_run_crew.specs.Halted.{HasHalted}
@@ -26,6 +27,8 @@ use Rattle.mosaikrun_sayings.specs.Sayings.{ids_of}
 use Rattle.mosaikrun_run.specs.declared.sayings.Form.{Form}
 use Rattle.mosaikrun_run.specs.declared.sayings.Form.TheVariants.{Report}
 use Rattle.mosaikrun_run.specs.Sayings.{halt_ending, record_of, saying_of}
+use Rattle.mk_run_laws.specs.Exchanges.{Exchange, exchange}
+use Rattle.mk_run_local.specs.Made.{kind_reply_of}
 
 -- what lies around a run: the kinds within the program, how many links the fleet had started, the
 -- entries by which its log grew, and its counts of faults before and after
@@ -46,6 +49,14 @@ outside started faults kinds old new entries = record {
   faults = faults old;
   new_faults = faults new;
 }
+
+-- the attempt to run this scenario, with these ranks, that these are of
+abbrev pub attempt_in : Outside → Scenario → List ℕ → Attempt
+attempt_in O S ranks = attempt O.started S ranks O.kinds O.log
+
+-- what passed between the program, which ran this scenario, and the simulators
+abbrev pub exchange_in : Outside → Scenario → Exchange
+exchange_in O S = exchange O.started S (kind_reply_of O.kinds S) O.log
 
 -- over some entries by which the log of a fleet grew in a call with these kinds this holds of what
 -- lies around it; the fleet tells its log, how many links it started, and its count of faults
@@ -78,7 +89,7 @@ pub record IsUnrun (O : Outside) (S : Scenario) (text : Result (List ℕ) Ending
   pub ranks : List ℕ
   pub runnable : IsRunnable (map name_of O.kinds) S ranks
   pub halt : Halt
-  pub halted : HasHalted O.started S ranks O.kinds O.log (HasRisen O.faults O.new_faults) halt
+  pub halted : HasHalted (attempt_in O S ranks) (HasRisen O.faults O.new_faults) halt
   pub said : IsSaid (Err (halt_ending (ids_of S) halt)) text
   pub unrecorded : record_ ≡ None
 
@@ -97,7 +108,7 @@ pub record IsPlayed (O : Outside) (form : Form) (wanted : Bool) (S : Scenario)
   pub plan : Plan
   pub journal : List Entry
   pub outcome : Outcome
-  pub run : HasRun O.started S ranks O.kinds plan journal O.log O.faults O.new_faults outcome
+  pub run : HasRun (attempt_in O S ranks) plan journal O.faults O.new_faults outcome
   pub said : IsSaid (saying_of form (ids_of S) plan journal outcome) text
   pub recorded : (record_ ≡ record_of wanted plan journal)
       ⊎ ((record_ ≡ None) × (text ≡ Err ends.Mem))

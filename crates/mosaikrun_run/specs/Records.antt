@@ -20,7 +20,7 @@ use Rattle.mosaikrun_endings.specs.declared.ending.Ending.{Ending}
 use Rattle.mosaikrun_endings.specs.declared.ending.Ending.TheVariants as ends
 use Rattle.mosaikrun_sayings.specs.Sayings.{ids_of}
 use Rattle.mosaikrun_run.specs.declared.sayings.Form.{Form}
-use Rattle.mosaikrun_run.specs.Outcomes.{IsReadAgain, IsSaid, Outside}
+use Rattle.mosaikrun_run.specs.Outcomes.{IsReadAgain, IsSaid, Outside, attempt_in}
 use Rattle.mosaikrun_run.specs.Sayings.{saying_of}
 
 -- the whole frame of a Step was said on a link of simulator i: what was said there begins with the
@@ -83,7 +83,7 @@ pub record HasRecord (O : Outside) (form : Form) (S : Scenario) (text : Result (
   pub plan : Plan
   pub journal : List Entry
   pub outcome : Outcome
-  pub run : HasRun O.started S ranks O.kinds plan journal O.log O.faults O.new_faults outcome
+  pub run : HasRun (attempt_in O S ranks) plan journal O.faults O.new_faults outcome
   pub said : IsSaid (saying_of form (ids_of S) plan journal outcome) text
   pub is : kept ≡ Some (record_text plan journal)
   pub again : IsReadAgain plan journal (record_text plan journal)

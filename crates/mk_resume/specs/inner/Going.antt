@@ -5,6 +5,7 @@ use Rattle.mk_plan.specs.declared.Plan.{Plan}
 use Rattle.mk_plan.specs.declared.Journal.{Journal}
 use Rattle.mk_outside.specs.declared.fleet.LogEntry.{LogEntry}
 use Rattle.mk_launch.specs.Ready.{IsPrepared}
+use Rattle.mk_run_crew.specs.Attempts.{Attempt, longer}
 use Rattle.mk_local.specs.Kinds.{name_of}
 use Rattle.mk_record_read.specs.declared.saved.Saved.{Saved}
 use Rattle.mk_record_read.specs.Seen.{came}
@@ -14,8 +15,7 @@ use Rattle.mk_record_restored.specs.Restored.{IsOnward, IsRestored}
 use Rattle.mk_sched.specs.Cores.{CoreState}
 use Rattle.mk_run_crew.specs.Begun.{HasBegun}
 use Rattle.mk_run_crew.specs.Seen.{CrewSeen, crew_of}
-use Rattle.mk_run.specs.inner.Handshakes.{Start}
-use Rattle.mk_run.specs.inner.Underway.{Setting, reply_in}
+use Rattle.mk_run.specs.inner.Underway.{Setting, exchange_at}
 use Rattle.mk_resume_links.specs.inner.Touching.{RestsOver}
 use Rattle.mk_resume_loop.specs.declared.ending.ResumeEnd.{ResumeEnd}
 use Rattle.mk_resume_loop.specs.inner.Turns.{IsSized, IsStopping}
@@ -25,9 +25,9 @@ use Rattle.mk_resume.specs.declared.accepting.Accepted.TheVariants as accepted
 use Rattle.mk_resume.specs.Resumed.{HasFaultySaved, IsRefusedBy, IsResumed, ResumesAs}
 
 -- the handshake is over, and the crew stands for what came of it
-pub record IsStarted (A : Start) (C : CrewSeen) (P : Plan) : Type 0 where
+pub record IsStarted (A : Attempt) (C : CrewSeen) (P : Plan) : Type 0 where
   pub prepared : IsPrepared A.scenario (map name_of A.rows)
-  pub begun : HasBegun A.started A.scenario A.ranks A.rows A.log C P
+  pub begun : HasBegun A C P
 
 -- a core has taken a record's messages, and nothing was sent behind the handshake
 pub record IsFresh (T : Setting) (core : CoreState) (log : List LogEntry)
@@ -50,8 +50,9 @@ GoesOnAs core C entries faults new_faults (Some P) (Some J) end = (saved : Saved
     → IsRestored core.plan (map came saved.arrivals) core.entries
     → IsOther (map came saved.arrivals) saved.asks core.entries None → (T : Setting)
     (log : List LogEntry) (before : ℕ) → before ≤ faults → IsFresh T core log C
-    → (P ≡ core.plan) × (r : IsResumed T.started T.scenario (reply_in T) P saved J.entries (log
-    ++ entries) before new_faults end) × (r.replies ≡ T.replies)
+    → (P ≡ core.plan) × (r : IsResumed
+    (exchange_at T (log ++ entries)) P saved J.entries before new_faults end)
+    × (r.replies ≡ T.replies)
 GoesOnAs core C entries faults new_faults (Some P) None end = ⊥
 GoesOnAs core C entries faults new_faults None J end = ⊥
 
@@ -72,7 +73,6 @@ AcceptsAs plan saved (accepted.Refused ran) = (ran.taken ≡ false)
 -- what comes of the plan that a handshake was made of, whatever came before
 abbrev pub PlanResumesAs : Plan → Saved → CrewSeen → List LogEntry → ℕ → ℕ → Bool → Option Plan
     → Option Journal → ResumeEnd → Type 0
-PlanResumesAs plan saved C entries faults new_faults taken P J end = (A : Start) (before : ℕ)
+PlanResumesAs plan saved C entries faults new_faults taken P J end = (A : Attempt) (before : ℕ)
     → before ≤ faults → IsStarted A C plan
-    → ResumesAs A.started A.scenario A.ranks A.rows saved taken P J (A.log
-    ++ entries) before new_faults end
+    → ResumesAs (longer A entries) saved taken P J before new_faults end

@@ -21,7 +21,7 @@ use Rattle.mk_run_crew.specs.Seen.{CrewSeen, crew_of, within_of}
 use Rattle.mk_run.specs.declared.outcome.Outcome.{Outcome}
 use Rattle.mk_run.specs.declared.outcome.Outcome.TheVariants as outcome
 use Rattle.mk_run.specs.Ends.{IsRun}
-use Rattle.mk_run.specs.inner.Underway.{Setting, reply_in, IsUnderway, HasHeard, HasEnded}
+use Rattle.mk_run.specs.inner.Underway.{Setting, IsUnderway, HasHeard, HasEnded, exchange_at}
 
 -- the log of a fleet grew by some entries of which this holds, its count of faults having risen or
 -- not
@@ -102,8 +102,8 @@ abbrev pub PlanRunsAs : Plan → CrewSeen → List LogEntry → ℕ → ℕ → 
 PlanRunsAs plan C entries faults new_faults (Some P) (Some J) end = (T : Setting)
     (log : List LogEntry) (before : ℕ) → before ≤ faults
     → IsUnderway T plan [] log (crew_of C) C.sims
-    → (P ≡ plan) × (r : IsRun T.started T.scenario (reply_in T) P J.entries (log
-    ++ entries) before new_faults end) × (r.replies ≡ T.replies)
+    → (P ≡ plan) × (r : IsRun (exchange_at T (log ++ entries)) P J.entries before new_faults end)
+    × (r.replies ≡ T.replies)
 PlanRunsAs plan C entries faults new_faults (Some P) None end = ⊥
 PlanRunsAs plan C entries faults new_faults None (Some J) end = ⊥
 PlanRunsAs plan C entries faults new_faults None None end = (end ≡ outcome.Mem)

@@ -32,6 +32,7 @@ use Rattle.mk_run_local.specs.Made.{kind_reply_of}
 use Rattle.mk_run.specs.declared.outcome.Outcome.{Outcome}
 use Rattle.mk_run.specs.Ends.{AreInRange, QueuedAll, IsAwaiting, IsBrokenOff, IsOpenWithin, IsFull, IsLongItem, SetupRestsWell, fault_named}
 use Rattle.mk_run.specs.inner.Shown.{EndsAs}
+use Rattle.mk_run_laws.specs.Exchanges.{Exchange, exchange}
 
 -- how many links were started before the run, its scenario, the kinds at hand, the replies of each
 -- simulator to its handshake, and the plan that these make
@@ -45,6 +46,10 @@ pub record Setting : Type 0 where
 -- what the kinds reply
 abbrev pub reply_in : Setting → Replies
 reply_in T = kind_reply_of T.rows T.scenario
+
+-- what passes between the run and the simulators, by the log
+abbrev pub exchange_at : Setting → List LogEntry → Exchange
+exchange_at T log = exchange T.started T.scenario (reply_in T) log
 
 -- the plan is that of the setting: it has the scenario's simulators, and each one's run begins
 -- behind its handshake

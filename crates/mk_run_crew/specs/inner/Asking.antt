@@ -13,6 +13,7 @@ use Rattle.mk_plan.specs.declared.Message.{Message}
 use Rattle.mk_plan.specs.declared.Plan.{Plan}
 use Rattle.mk_scenario.specs.declared.parts.Scenario.{Scenario}
 use Rattle.mk_launch.specs.Starts.{places}
+use Rattle.mk_run_crew.specs.Attempts.{attempt}
 use Rattle.mk_local.specs.declared.turn.Turn.{Turn}
 use Rattle.mk_local.specs.Calls.{IsCallReplied}
 use Rattle.mk_run_laws.specs.Channels.{Channel, IsChannelAt, queued}
@@ -260,5 +261,5 @@ pub record IsHalting (started : ℕ) (S : Scenario) (ranks : List ℕ) (rows : L
       × (sim_link started S i ≡ Some l)
   pub rests : (before after : List LogEntry) → log ≡ before ++ Rest ∷ after
       → IsWellInSetup started S before × (AllSetUp started S before → ⊥)
-  pub cause : ShowsCause started S ranks rows log risen queued later h
+  pub cause : ShowsCause (attempt started S ranks rows log) risen queued later h
   pub on_links : AreOn (IsRunLink started S) log

@@ -4,6 +4,7 @@ use Rattle.mk_base.specs.Lists.{Each, IsIn}
 use Rattle.mk_outside.specs.Counts.{HasRisen}
 use Rattle.mk_outside.proofs.OnLogs.{adds_more}
 use Rattle.mk_launch.specs.Starts.{links_in}
+use Rattle.mk_run_crew.specs.Attempts.{attempt}
 use Rattle.mk_local.specs.Registries.{rows_in}
 use Rattle.mk_setup.specs.Seen.{SetupState}
 use Rattle.mk_run_links.specs.Places.{AreDistinct, without_all}
@@ -62,7 +63,7 @@ returns-in-Ok-shake-clause-begun g c =
     let b = c.in-Ok-shake.ensures.ok n (c.in-Ok-new_crew.ensures.new n (g.F.Fleet.open_links c.args.fleet.now) _ c.in-Ok.ensures.started.places c.in-Ok.ensures.started.links) in (
       b.0,
       adds_more [] b.0 _ _ _ c.in-Ok.ensures.logged b.1,
-      subst (λ (U : SetupState). HasBegun n U.scenario U.ranks (rows_in c.args.kinds.now) b.0 (c.in-Ok-shake.begun).0 (c.in-Ok-shake.begun).1) c.in-Ok-new_crew.ensures.begun b.2,
+      subst (λ (U : SetupState). HasBegun (attempt n U.scenario U.ranks (rows_in c.args.kinds.now) b.0) (c.in-Ok-shake.begun).0 (c.in-Ok-shake.begun).1) c.in-Ok-new_crew.ensures.begun b.2,
     )
 
 pub returns-in-Ok-shake-clause-started : goal.returns-in-Ok-shake-clause-started
@@ -88,7 +89,7 @@ returns-in-Err-shake-clause-halted g c =
     let b = c.in-Err-shake.ensures.err n f0 c.in-Ok.ensures.count (c.in-Ok-new_crew.ensures.new n (g.F.Fleet.open_links c.args.fleet.now) _ c.in-Ok.ensures.started.places c.in-Ok.ensures.started.links) in (
       b.0,
       adds_more [] b.0 _ _ _ c.in-Ok.ensures.logged b.1,
-      subst (λ (U : SetupState). HasHalted n U.scenario U.ranks (rows_in c.args.kinds.now) b.0 (HasRisen f0 f2) c.in-Err-shake.halt) c.in-Ok-new_crew.ensures.begun b.2,
+      subst (λ (U : SetupState). HasHalted (attempt n U.scenario U.ranks (rows_in c.args.kinds.now) b.0) (HasRisen f0 f2) c.in-Err-shake.halt) c.in-Ok-new_crew.ensures.begun b.2,
       b.3,
       all_started c.args.scenario _ _ c.in-Ok.places _ c.in-Ok.ensures.started.places (c.in-Err-shake.ensures.same_count ∙ c.in-Ok.ensures.started.started),
     )

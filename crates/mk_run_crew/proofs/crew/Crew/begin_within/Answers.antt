@@ -1,5 +1,6 @@
 use Rattle.std.proofs.Common.{[], inl, refl, sym, subst, ap, ◌∙◌}
 use Rattle.mk_launch.specs.Starts.{links_in}
+use Rattle.mk_run_crew.specs.Attempts.{attempt}
 use Rattle.mk_local.specs.Registries.{rows_in}
 use Rattle.mk_outside.specs.Counts.{HasRisen}
 use Rattle.mk_setup.specs.Seen.{SetupState}
@@ -27,8 +28,8 @@ returns-in-Err-new_crew-clause-halted g c started faults new_faults = halted_sil
 
 pub returns-in-Ok-shake_within-clause-begun : goal.returns-in-Ok-shake_within-clause-begun
 returns-in-Ok-shake_within-clause-begun g c started =
-    subst (λ (U : SetupState). HasBegun started U.scenario U.ranks (rows_in c.args.kinds.now) [] (c.in-Ok-shake_within.begun).0 (c.in-Ok-shake_within.begun).1) c.in-Ok-new_crew.ensures.begun (c.in-Ok-shake_within.ensures.begun started)
+    subst (λ (U : SetupState). HasBegun (attempt started U.scenario U.ranks (rows_in c.args.kinds.now) []) (c.in-Ok-shake_within.begun).0 (c.in-Ok-shake_within.begun).1) c.in-Ok-new_crew.ensures.begun (c.in-Ok-shake_within.ensures.begun started)
 
 pub returns-in-Err-shake_within-clause-halted : goal.returns-in-Err-shake_within-clause-halted
 returns-in-Err-shake_within-clause-halted g c started faults new_faults =
-    subst (λ (U : SetupState). HasHalted started U.scenario U.ranks (rows_in c.args.kinds.now) [] (HasRisen faults new_faults) c.in-Err-shake_within.halt) c.in-Ok-new_crew.ensures.begun (c.in-Err-shake_within.ensures.halted started faults new_faults)
+    subst (λ (U : SetupState). HasHalted (attempt started U.scenario U.ranks (rows_in c.args.kinds.now) []) (HasRisen faults new_faults) c.in-Err-shake_within.halt) c.in-Ok-new_crew.ensures.begun (c.in-Err-shake_within.ensures.halted started faults new_faults)

@@ -1,4 +1,4 @@
-use Rattle.std.proofs.Common.{Option, refl, sym, subst, ap, ◌∙◌, arith}
+use Rattle.std.proofs.Common.{Option, refl, subst, ◌∙◌, arith}
 use Rattle.mk_outside.specs.Counts.{HasRisen}
 use Rattle.mk_outside.proofs.OnLogs.{adds_none}
 use Rattle.mk_plan.specs.declared.Plan.{Plan}

@@ -1,5 +1,4 @@
-use Rattle.std.proofs.Common.{List, Ok, Err, sym, subst, ap, ◌∙◌}
-use Rattle.mk_plan.specs.Journals.{Arrival}
+use Rattle.std.proofs.Common.{Ok, Err, sym, subst, ap, ◌∙◌}
 use Rattle.mk_run_links.specs.Places.{AreOpen}
 use Rattle.mk_run_local.specs.Seen.{WithinState}
 use Rattle.mk_run_crew.specs.declared.halt.Halt.{Halt}
