@@ -86,7 +86,7 @@ module _ (S : Setting) (T : Tempo) (strict : Option ℕ) (P : Plan) (J : List En
   ungot a = behind_ungot S.started S.scenario J (log ++ entries) a.sim a.message a.link a.linked
       (heard_behind S.started S.scenario S.replies out.suits.counts log entries (HasRisen faults new_faults) C stopped J a.sim a.message a.link a.linked a.items a.channel a.queued)
 
-  outcome_shown : (e : Outcome) → EndsOutcome by_run S P J log C e → ShowsOutcome S.started S.scenario P J (log ++ entries) faults new_faults e
+  outcome_shown : (e : Outcome) → EndsOutcome by_run S P J log C e → ShowsOutcome (exchange_at S (log ++ entries)) P J faults new_faults e
   outcome_shown outcome.Done is = is
   outcome_shown (outcome.Setup f) is = is
   outcome_shown (outcome.Core f) (inl last) = inl last
@@ -109,7 +109,7 @@ module _ (S : Setting) (T : Tempo) (strict : Option ℕ) (P : Plan) (J : List En
     beyond = is.beyond;
   }
 
-  shown : (e : PaceEnd) → EndsPace by_run S P T strict J moments log C e → Shows S.started S.scenario P T strict J moments (log ++ entries) faults new_faults e
+  shown : (e : PaceEnd) → EndsPace by_run S P T strict J moments log C e → Shows (exchange_at S (log ++ entries)) P J T strict moments faults new_faults e
   shown (pace.Outcome e) is = outcome_shown e is
   shown (pace.Late sim time late allowed) is = late_still sim time late allowed is
 

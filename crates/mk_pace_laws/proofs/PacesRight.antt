@@ -36,4 +36,4 @@ paces_right started S reply P J T strict moments log faults new_faults end run =
     j = run.journal
 
     over : end ≡ Outcome Done → IsDone P (view P J)
-    over e = subst (Shows started S P T strict J moments log faults new_faults) e run.shown
+    over e = subst (Shows (exchange started S reply log) P J T strict moments faults new_faults) e run.shown

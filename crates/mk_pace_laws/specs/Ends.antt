@@ -16,6 +16,7 @@ use Rattle.mk_frame.specs.Frames.{limit}
 use Rattle.mk_message.specs.Written.{item_text}
 use Rattle.mk_scenario.specs.declared.parts.Scenario.{Scenario}
 use Rattle.mk_outside.specs.declared.fleet.LogEntry.{LogEntry}
+use Rattle.mk_run_laws.specs.Exchanges.{Exchange}
 use Rattle.mk_run_laws.specs.Handshake.{sim_link}
 use Rattle.mk_run.specs.declared.outcome.Outcome.{Outcome}
 use Rattle.mk_run.specs.declared.outcome.Outcome.TheVariants as outcome
@@ -65,34 +66,30 @@ pub record IsLate (T : Tempo) (strict : Option ℕ) (J : List Entry) (moments : 
   pub beyond : allowed < late
 
 -- what an outcome shows
-abbrev pub ShowsOutcome : ℕ → Scenario → Plan → List Entry → List LogEntry → ℕ → ℕ → Outcome
-    → Type 0
-ShowsOutcome started S P J log faults new_faults outcome.Done = ShownBy started S P J log faults
-    new_faults outcome.Done
-ShowsOutcome started S P J log faults new_faults
-    (outcome.Setup f) = ShownBy started S P J log faults new_faults (outcome.Setup f)
-ShowsOutcome started S P J log faults new_faults
-    (outcome.Core f) = ShownBy started S P J log faults new_faults (outcome.Core f)
-ShowsOutcome started S P J log faults new_faults outcome.Fleet = ShownBy started S P J log faults
-    new_faults outcome.Fleet
-ShowsOutcome started S P J log faults new_faults
-    (outcome.Gone i) = ShownBy started S P J log faults new_faults (outcome.Gone i)
-ShowsOutcome started S P J log faults new_faults
-    (outcome.Garbled i n) = ShownBy started S P J log faults new_faults (outcome.Garbled i n)
-ShowsOutcome started S P J log faults new_faults
-    (outcome.LongFrame i n) = ShownBy started S P J log faults new_faults (outcome.LongFrame i n)
-ShowsOutcome started S P J log faults new_faults
-    (outcome.LongItem i n) = IsLongAmong started S P J i.0 n
-ShowsOutcome started S P J log faults new_faults outcome.Mem = ShownBy started S P J log faults
-    new_faults outcome.Mem
+abbrev pub ShowsOutcome : Exchange → Plan → List Entry → ℕ → ℕ → Outcome → Type 0
+ShowsOutcome X P J faults new_faults outcome.Done = ShownBy X P J faults new_faults outcome.Done
+ShowsOutcome X P J faults new_faults (outcome.Setup f) = ShownBy X P J faults new_faults
+    (outcome.Setup f)
+ShowsOutcome X P J faults new_faults (outcome.Core f) = ShownBy X P J faults new_faults
+    (outcome.Core f)
+ShowsOutcome X P J faults new_faults outcome.Fleet = ShownBy X P J faults new_faults outcome.Fleet
+ShowsOutcome X P J faults new_faults (outcome.Gone i) = ShownBy X P J faults new_faults
+    (outcome.Gone i)
+ShowsOutcome X P J faults new_faults (outcome.Garbled i n) = ShownBy X P J faults new_faults
+    (outcome.Garbled i n)
+ShowsOutcome X P J faults new_faults (outcome.LongFrame i n) = ShownBy X P J faults new_faults
+    (outcome.LongFrame i n)
+ShowsOutcome X P J faults new_faults (outcome.LongItem i n) = IsLongAmong X.started X.scenario P J
+    i.0 n
+ShowsOutcome X P J faults new_faults outcome.Mem = ShownBy X P J faults new_faults outcome.Mem
 
 -- what an end shows
-abbrev pub Shows : ℕ → Scenario → Plan → Tempo → Option ℕ → List Entry → List Moment → List LogEntry
-    → ℕ → ℕ → PaceEnd → Type 0
-Shows started S P T strict J moments log faults new_faults
-    (pace.Outcome end) = ShowsOutcome started S P J log faults new_faults end
-Shows started S P T strict J moments log faults new_faults
-    (pace.Late sim time late allowed) = IsLate T strict J moments log sim time late allowed
+abbrev pub Shows : Exchange → Plan → List Entry → Tempo → Option ℕ → List Moment → ℕ → ℕ → PaceEnd
+    → Type 0
+Shows X P J T strict moments faults new_faults (pace.Outcome end) = ShowsOutcome X P J faults
+    new_faults end
+Shows X P J T strict moments faults new_faults
+    (pace.Late sim time late allowed) = IsLate T strict J moments X.log sim time late allowed
 
 -- every item that was to be sent was queued; but for the last ones, where one was too long or there
 -- was no memory for it

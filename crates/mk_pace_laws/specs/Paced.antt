@@ -85,7 +85,7 @@ pub record IsPaced (X : Exchange) (P : Plan) (J : List Entry) (T : Tempo) (stric
   pub on_links : AreOnOrOfClock (IsRunLink X.started X.scenario) X.log
   pub naps : IsRising X.log → AreAllLinked X.scenario → NapsWell X.started X.scenario P T J X.log
   pub looks : NapsLook X.started X.scenario X.log
-  pub shown : Shows X.started X.scenario P T strict J moments X.log faults new_faults end
+  pub shown : Shows X P J T strict moments faults new_faults end
   pub fault : (view P J).fault ≡ fault_of end
   pub unfinished : IsBroken end → IsAwaiting P J
 

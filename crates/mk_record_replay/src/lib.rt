@@ -2,6 +2,7 @@
 //! ready is asked before.
 #![tactic(auto)]
 
+mod asking;
 mod ordering;
 mod replaying;
 

@@ -10,11 +10,12 @@ ghost use Rattle.mk_record_replay.specs.inner.Loops.{IsUnready};
 ghost use Rattle.mk_record_replay.specs.Orders.{after_draw, chosen, drawn, next_number};
 ghost use Rattle.mk_record_replay.specs.inner.Rounds.{AreFit, AreWaiting, CanGoOn, GivenMessage, GivenNext, HasEnded, HasMoved, IsBetween, IsPopped, RoundOf, next_among};
 
-use crate::replaying::{ReplayEnd, ask_all, open_count, take};
+use crate::asking::{Rest, ask_all};
+use crate::replaying::{ReplayEnd, open_count, take};
 use mk_base::{List, Mem, SimNo};
 use mk_plan::Message;
 use mk_record_read::Arrival;
-use mk_sched::{Core, CoreFault, Next};
+use mk_sched::{Core, CoreFault};
 use std::alloc::Global;
 
 // What comes of giving a message: one was given; none is left; or a fault ended the replay.
@@ -109,14 +110,13 @@ fn round(
     ensures moved { IfOk result (λ end. end ≡ None → HasMoved core.old core.new waiting.new.items) }
 {
     match ask_all(core)? {
-        Next::Fault(fault) => Ok(Some(ReplayEnd::Core(fault))),
-        Next::Ask(_) => unreachable!(),
-        Next::Done => match give_next(alloc, core, waiting, number)? {
+        Rest::Full(fault) => Ok(Some(ReplayEnd::Core(fault))),
+        Rest::Over => match give_next(alloc, core, waiting, number)? {
             Given::Going => Ok(None),
             Given::Nothing => Ok(Some(ReplayEnd::Done)),
             Given::Stopped(fault) => Ok(Some(ReplayEnd::Core(fault))),
         },
-        Next::Wait => match give_next(alloc, core, waiting, number)? {
+        Rest::Waiting => match give_next(alloc, core, waiting, number)? {
             Given::Going => Ok(None),
             Given::Nothing => Ok(Some(ReplayEnd::Short(open_count(core)))),
             Given::Stopped(fault) => Ok(Some(ReplayEnd::Core(fault))),

@@ -14,14 +14,15 @@ ghost use Rattle.mk_record_replay.specs.Replays.{IsReplay, IsEndOf, end_with};
 ghost use Rattle.mk_record_replay.specs.Orders.{IsReplayBy, IsReplayInOrder};
 ghost use Rattle.mk_record_replay.specs.inner.Rounds.{GrownBy};
 ghost use Rattle.mk_record_replay.specs.Runs.{CanArrive, HasReplayed};
-ghost use Rattle.mk_record_replay.specs.inner.Loops.{GivenBy, IsOnWay, HasAskedAll, IsUnready};
+ghost use Rattle.mk_record_replay.specs.inner.Loops.{GivenBy, IsOnWay, IsUnready};
 
+use crate::asking::{Rest, ask_all};
 use crate::ordering::{run_in_order, split};
 use mk_base::{List, Mem, SimNo};
 use mk_plan::{Journal, Plan};
 use mk_record_compare::first_other_step;
 use mk_record_read::{Arrival, Saved};
-use mk_sched::{Core, CoreFault, Next, Taken};
+use mk_sched::{Core, CoreFault, Taken};
 use std::alloc::Global;
 
 /// How a replay ends: nothing is left to do; the core met a fault; all messages were given, and this many simulators still
@@ -209,18 +210,17 @@ fn give(core: &mut Core, arrival: Arrival) -> Result<Option<CoreFault>, Mem>
     requires known { CanArrive core.old.plan arrival }
     ensures { IfOk result (λ fault. GivenBy core.old (came arrival) fault core.new) }
 {
-    let Ok(next) = ask_all(core) else {
+    let Ok(rest) = ask_all(core) else {
         drop(arrival);
         return Err(Mem);
     };
-    match next {
-        Next::Fault(fault) => {
+    match rest {
+        Rest::Full(fault) => {
             drop(arrival);
             Ok(Some(fault))
         }
-        Next::Ask(_) => unreachable!(),
-        Next::Wait => take(core, arrival),
-        Next::Done => take(core, arrival),
+        Rest::Waiting => take(core, arrival),
+        Rest::Over => take(core, arrival),
     }
 }
 
@@ -247,25 +247,9 @@ fn finish(core: &mut Core) -> Result<ReplayEnd, Mem>
         → IfOk result (λ end. HasReplayed core.old.plan A end core.new) }
 {
     match ask_all(core)? {
-        Next::Fault(fault) => Ok(ReplayEnd::Core(fault)),
-        Next::Done => Ok(ReplayEnd::Done),
-        Next::Ask(_) => unreachable!(),
-        Next::Wait => Ok(ReplayEnd::Short(open_count(core))),
-    }
-}
-
-// Asks whoever is ready, until nobody is.
-pub fn ask_all(core: &mut Core) -> Result<Next, Mem>
-    requires going { core.old.ended ≡ None }
-    ensures { IfOk result (λ next. HasAskedAll core.old next core.new) }
-{
-    'asking: loop {
-        match core.next()? {
-            Next::Ask(_) => {}
-            Next::Wait => return Ok(Next::Wait),
-            Next::Done => return Ok(Next::Done),
-            Next::Fault(fault) => return Ok(Next::Fault(fault)),
-        }
+        Rest::Full(fault) => Ok(ReplayEnd::Core(fault)),
+        Rest::Over => Ok(ReplayEnd::Done),
+        Rest::Waiting => Ok(ReplayEnd::Short(open_count(core))),
     }
 }
 

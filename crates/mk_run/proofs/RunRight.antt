@@ -36,4 +36,4 @@ runs_right started S reply P J log faults new_faults end run = record {
     j = run.journal
 
     over : end ≡ Done → IsDone P (view P J)
-    over e = subst (ShownBy started S P J log faults new_faults) e run.shown
+    over e = subst (ShownBy (exchange started S reply log) P J faults new_faults) e run.shown

@@ -64,7 +64,7 @@ module _ (T : Setting) (P : Plan) (J : List Entry) (log entries : List LogEntry)
       (subst (λ (ms : List Message). HasChannel T.scenario T.replies log a.sim.0 a.link ms (sent (J ++ Got a.sim a.message ∷ []) a.sim.0) C) (got_last J a.sim a.message) a.channel)
       (subst (BeginsWith (sent J a.sim.0)) (sym (sent_got J a.sim a.message a.sim.0)) (begins_itself (sent J a.sim.0))))
 
-  shown : (e : Outcome) → EndsBy by_run T P J log C e → ShownBy T.started T.scenario P J (log ++ entries) faults new_faults e
+  shown : (e : Outcome) → EndsBy by_run T P J log C e → ShownBy (exchange_at T (log ++ entries)) P J faults new_faults e
   shown outcome.Done is = is
   shown (outcome.Setup f) is = is
   shown (outcome.Core f) (inl last) = inl last

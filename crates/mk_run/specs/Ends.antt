@@ -105,20 +105,21 @@ pub record IsLongItem (started : ℕ) (S : Scenario) (P : Plan) (J : List Entry)
   pub beyond : limit < n
 
 -- what the outcome shows
-abbrev pub ShownBy : ℕ → Scenario → Plan → List Entry → List LogEntry → ℕ → ℕ → Outcome → Type 0
-ShownBy started S P J log faults new_faults outcome.Done = IsDone P (view P J)
-ShownBy started S P J log faults new_faults (outcome.Setup f) = ⊥
-ShownBy started S P J log faults new_faults (outcome.Core f) = IsLastFaulty P J f
-    ⊎ IsFull P J f (IsMessageLeft started S P J log)
-ShownBy started S P J log faults new_faults outcome.Fleet = HasRisen faults new_faults
-ShownBy started S P J log faults new_faults (outcome.Gone i) = (l : LinkNo)
-    × HasGotAll started S log J i.0 l × IsIn (Ended l) log
-ShownBy started S P J log faults new_faults (outcome.Garbled i n) = (l : LinkNo)
-    × HasGotAll started S log J i.0 l × BeginsGarbled (rest_heard (heard_on l log)) n
-ShownBy started S P J log faults new_faults (outcome.LongFrame i n) = (l : LinkNo)
-    × HasGotAll started S log J i.0 l × IsTooLong n (rest_heard (heard_on l log))
-ShownBy started S P J log faults new_faults (outcome.LongItem i n) = IsLongItem started S P J i.0 n
-ShownBy started S P J log faults new_faults outcome.Mem = ⊤
+abbrev pub ShownBy : Exchange → Plan → List Entry → ℕ → ℕ → Outcome → Type 0
+ShownBy X P J faults new_faults outcome.Done = IsDone P (view P J)
+ShownBy X P J faults new_faults (outcome.Setup f) = ⊥
+ShownBy X P J faults new_faults (outcome.Core f) = IsLastFaulty P J f
+    ⊎ IsFull P J f (IsMessageLeft X.started X.scenario P J X.log)
+ShownBy X P J faults new_faults outcome.Fleet = HasRisen faults new_faults
+ShownBy X P J faults new_faults (outcome.Gone i) = (l : LinkNo)
+    × HasGotAll X.started X.scenario X.log J i.0 l × IsIn (Ended l) X.log
+ShownBy X P J faults new_faults (outcome.Garbled i n) = (l : LinkNo)
+    × HasGotAll X.started X.scenario X.log J i.0 l
+    × BeginsGarbled (rest_heard (heard_on l X.log)) n
+ShownBy X P J faults new_faults (outcome.LongFrame i n) = (l : LinkNo)
+    × HasGotAll X.started X.scenario X.log J i.0 l × IsTooLong n (rest_heard (heard_on l X.log))
+ShownBy X P J faults new_faults (outcome.LongItem i n) = IsLongItem X.started X.scenario P J i.0 n
+ShownBy X P J faults new_faults outcome.Mem = ⊤
 
 -- the run was broken off: the fleet failed, or a link ended or brought no message
 abbrev pub IsBrokenOff : Outcome → Type 0
@@ -171,7 +172,7 @@ pub record IsRun (X : Exchange) (P : Plan) (J : List Entry) (faults new_faults :
       × QueuedAll end (sent J i) items
   pub rests : RestsWell X.started X.scenario P J X.log
   pub setup_rests : SetupRestsWell X.started X.scenario X.log
-  pub shown : ShownBy X.started X.scenario P J X.log faults new_faults end
+  pub shown : ShownBy X P J faults new_faults end
   pub fault : (view P J).fault ≡ fault_named end
   pub unfinished : IsBrokenOff end → IsAwaiting P J
   pub on_links : AreOn (IsRunLink X.started X.scenario) X.log

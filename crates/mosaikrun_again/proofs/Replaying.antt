@@ -143,7 +143,7 @@ module _ (started : ℕ) (S : Scenario) (reply : Replies) (P : Plan) (J : List E
         let other : None ≡ by.other = one_other (arrivals J) (Some (steps_of J)) J None by.other (own_other J) (subst (λ (L : List Entry). IsOther (arrivals J) (Some (steps_of J)) L by.other) same by.compared) in
         by.is ∙ ap (λ (e : ReplayEnd). end_with e by.other) (sym (one_end P (arrivals J) J (Short n) by.messages_end ends here)) ∙ ap (end_with (Short n)) (sym other)
 
-    faulty_again : (f : CoreFault) → ShownBy started S P J log faults new_faults (outcome.Core f) → IsFaultAgain f end
+    faulty_again : (f : CoreFault) → ShownBy (exchange started S reply log) P J faults new_faults (outcome.Core f) → IsFaultAgain f end
     faulty_again f (inl last) = inl (by_fault f (inl (record { before = last.before; sim = last.sim; message = last.message; is = last.is; right_before = last.right_before; named = last.named; fault = last.fault })))
     faulty_again f (inr long) = elim (full_again P J f (IsMessageLeft started S P J log) long) [
       | inl ends ↦ inl (by_fault f ends)

@@ -7,8 +7,8 @@ use Rattle.mk_scenario.specs.declared.parts.Scenario.{Scenario}
 use Rattle.mk_sched.specs.declared.faults.CoreFault.{CoreFault}
 use Rattle.mk_sched.specs.declared.faults.CoreFault.TheVariants as core
 use Rattle.mk_sched.specs.Answers.{fault_in}
+use Rattle.mk_run_laws.specs.Exchanges.{Exchange}
 use Rattle.mk_run_local.specs.Made.{kind_reply_of}
-use Rattle.mk_outside.specs.declared.fleet.LogEntry.{LogEntry}
 use Rattle.mk_run.specs.declared.outcome.Outcome.{Outcome}
 use Rattle.mk_run.specs.declared.outcome.Outcome.TheVariants as outcome
 use Rattle.mk_run.specs.Ends.{IsRun, ShownBy}
@@ -60,8 +60,8 @@ ends_faulty ids P J (core.Failed s place) = inl refl
 ends_faulty ids P J (core.LoopLimit s time) = inl refl
 ends_faulty ids P J (core.TooLong n) = inr (record { fault = core.TooLong n; is = refl; none = refl; entries = n; line = refl })
 
-module _ (started : ℕ) (S : Scenario) (P : Plan) (J : List Entry) (log : List LogEntry) (faults new_faults : ℕ) (ids : List (List ℕ)) where
-  ends_as : (end : Outcome) → ShownBy started S P J log faults new_faults end → EndsOfItself (saying_of Report ids P J end) → IsSaidAgain end ⊎ IsLimited ids P J end
+module _ (X : Exchange) (P : Plan) (J : List Entry) (faults new_faults : ℕ) (ids : List (List ℕ)) where
+  ends_as : (end : Outcome) → ShownBy X P J faults new_faults end → EndsOfItself (saying_of Report ids P J end) → IsSaidAgain end ⊎ IsLimited ids P J end
   ends_as outcome.Done shown of_itself = inl tt
   ends_as (outcome.Setup f) shown of_itself = absurd shown
   ends_as (outcome.Core f) shown of_itself = ends_faulty ids P J f
@@ -90,7 +90,7 @@ one_text O S text bytes h shallow of_itself o comes not = by_said h.said
     by_end same (inr l) = by_limit l same (all.limited l.fault l.is l.none o these not)
 
     by_said : IsSaid (saying_of Report (ids_of S) h.plan h.journal h.outcome) text → IsToldAgain text o
-    by_said (inl same) = by_end same (ends_as O.started S h.plan h.journal O.log O.faults O.new_faults (ids_of S) h.outcome h.run.run.shown (subst (λ (t : Result (List ℕ) Ending). EndsOfItself t) same of_itself))
+    by_said (inl same) = by_end same (ends_as _ h.plan h.journal O.faults O.new_faults (ids_of S) h.outcome h.run.run.shown (subst (λ (t : Result (List ℕ) Ending). EndsOfItself t) same of_itself))
     by_said (inr mem) = absurd (subst (λ (t : Result (List ℕ) Ending). EndsOfItself t) mem of_itself)
 
 pub records_say_the_same : RecordsSayTheSame

@@ -5,6 +5,8 @@ use Rattle.mk_plan.specs.declared.Plan.{Plan}
 use Rattle.mk_plan.specs.declared.Entry.{Entry}
 use Rattle.mk_outside.specs.declared.fleet.LogEntry.{LogEntry}
 use Rattle.mk_scenario.specs.declared.parts.Scenario.{Scenario}
+use Rattle.mk_run_laws.specs.Kinds.{Replies}
+use Rattle.mk_run_laws.specs.Exchanges.{exchange}
 use Rattle.mk_run_crew.specs.Attempts.{attempt}
 use Rattle.mk_local.specs.declared.turn.Turn.{Turn}
 use Rattle.mk_local.specs.Kinds.{name_of}
@@ -29,7 +31,7 @@ use Rattle.mk_scenario_demo.specs.Demo.{demo_scenario}
 use Rattle.mosaikrun_run.specs.declared.sayings.Form.{Form}
 use Rattle.mosaikrun_run.specs.declared.sayings.Form.TheVariants.{Summary}
 use Rattle.mosaikrun_run.specs.Sayings.{halt_ending, saying_of}
-use Rattle.mosaikrun_run.specs.Outcomes.{IsSaid, Outside}
+use Rattle.mosaikrun_run.specs.Outcomes.{IsSaid, Outside, exchange_in}
 use Rattle.mosaikrun_demo.specs.Outcomes.{IsDemoOutcome}
 
 no_link : (started size i : ℕ) → sim_link started (demo_scenario size) i ≡ None
@@ -78,17 +80,17 @@ module _ (sim : List ℕ) (why : LinkFault) where
   halt_not started size ranks rows log risen queued later ids (halt.LongItem s n) cause wrong = cc
   halt_not started size ranks rows log risen queued later ids halt.Mem cause wrong = cc
 
-  saying_not : (started size : ℕ) (form : Form) (ids : List (List ℕ)) (P : Plan) (J : List Entry) (log : List LogEntry) (faults new_faults : ℕ) (o : Outcome)
-      → ShownBy started (demo_scenario size) P J log faults new_faults o → saying_of form ids P J o ≡ Err link → ⊥
-  saying_not started size form ids P J log faults new_faults outcome.Done shown wrong = cc
-  saying_not started size form ids P J log faults new_faults (outcome.Setup e) shown wrong = shown
-  saying_not started size form ids P J log faults new_faults (outcome.Core e) shown wrong = stop_not P J e cc
-  saying_not started size form ids P J log faults new_faults outcome.Fleet shown wrong = cc
-  saying_not started size form ids P J log faults new_faults (outcome.Gone s) shown wrong = not_linked started size s.0 shown.0 shown.1.linked
-  saying_not started size form ids P J log faults new_faults (outcome.Garbled s test) shown wrong = not_linked started size s.0 shown.0 shown.1.linked
-  saying_not started size form ids P J log faults new_faults (outcome.LongFrame s n) shown wrong = not_linked started size s.0 shown.0 shown.1.linked
-  saying_not started size form ids P J log faults new_faults (outcome.LongItem s n) shown wrong = cc
-  saying_not started size form ids P J log faults new_faults outcome.Mem shown wrong = cc
+  saying_not : (started size : ℕ) (reply : Replies) (form : Form) (ids : List (List ℕ)) (P : Plan) (J : List Entry) (log : List LogEntry) (faults new_faults : ℕ) (o : Outcome)
+      → ShownBy (exchange started (demo_scenario size) reply log) P J faults new_faults o → saying_of form ids P J o ≡ Err link → ⊥
+  saying_not started size reply form ids P J log faults new_faults outcome.Done shown wrong = cc
+  saying_not started size reply form ids P J log faults new_faults (outcome.Setup e) shown wrong = shown
+  saying_not started size reply form ids P J log faults new_faults (outcome.Core e) shown wrong = stop_not P J e cc
+  saying_not started size reply form ids P J log faults new_faults outcome.Fleet shown wrong = cc
+  saying_not started size reply form ids P J log faults new_faults (outcome.Gone s) shown wrong = not_linked started size s.0 shown.0 shown.1.linked
+  saying_not started size reply form ids P J log faults new_faults (outcome.Garbled s test) shown wrong = not_linked started size s.0 shown.0 shown.1.linked
+  saying_not started size reply form ids P J log faults new_faults (outcome.LongFrame s n) shown wrong = not_linked started size s.0 shown.0 shown.1.linked
+  saying_not started size reply form ids P J log faults new_faults (outcome.LongItem s n) shown wrong = cc
+  saying_not started size reply form ids P J log faults new_faults outcome.Mem shown wrong = cc
 
   said_not : (wanted : Result (List ℕ) Ending) → IsSaid wanted (Err link) → (wanted ≡ Err link → ⊥) → ⊥
   said_not wanted (inl same) not = not (sym same)
@@ -101,4 +103,4 @@ module _ (sim : List ℕ) (why : LinkFault) where
   outcome_not O size (inl unready) =
       unrunnable_not _ _ (subst (λ (e : Ending). IsUnrunnable (map name_of O.kinds) (demo_scenario size) e) (err_is unready.ending (Err link) unready.is refl) unready.cause)
   outcome_not O size (inr (inl unrun)) = said_not _ unrun.said (λ w. halt_not O.started size unrun.ranks O.kinds O.log _ unrun.halted.queued unrun.halted.later (ids_of (demo_scenario size)) unrun.halt unrun.halted.cause (err_is _ (Err (halt_ending (ids_of (demo_scenario size)) unrun.halt)) refl w))
-  outcome_not O size (inr (inr played)) = said_not _ played.said (saying_not O.started size Summary (ids_of (demo_scenario size)) played.plan played.journal O.log O.faults O.new_faults played.outcome played.run.run.shown)
+  outcome_not O size (inr (inr played)) = said_not _ played.said (saying_not O.started size (exchange_in O (demo_scenario size)).reply Summary (ids_of (demo_scenario size)) played.plan played.journal O.log O.faults O.new_faults played.outcome played.run.run.shown)

@@ -77,7 +77,7 @@ module _ (O Q : Outside) (wanted also : Bool) (S T : Scenario) (ranks : List ℕ
   ran = said_is_done Report (ids_of S) p.plan p.journal p.outcome text p.said
 
   ran_over : IsDone p.plan (view p.plan p.journal)
-  ran_over = subst (runs.ShownBy O.started S p.plan p.journal O.log O.faults O.new_faults) ran.0 p.run.run.shown
+  ran_over = subst (runs.ShownBy (exchange_in O S) p.plan p.journal O.faults O.new_faults) ran.0 p.run.run.shown
 
   goes : Continues p.plan p.journal R
   unfolding R

@@ -2,7 +2,7 @@ use Rattle.std.proofs.Common.{subst}
 use Rattle.mk_sched.specs.declared.faults.Next.{Next}
 use Rattle.mk_sched.specs.Answers.{NextOf, IsAsked}
 use Rattle.mk_record_replay.proofs.Giving.{asked_goes, goes_on_asked, asked_full}
-use Rattle.mk_record_replay.proofs.replaying.ask_all.Goals as goal
+use Rattle.mk_record_replay.proofs.asking.ask_all.Goals as goal
 
 pub asking-preserved : goal.asking-preserved
 asking-preserved c = let asked : IsAsked c.asking.core c.in-Ask.field-0 c.next.new.self = subst (λ (n : Next). NextOf c.asking.core n c.next.new.self) c.in-Ask.is c.in_ok-next.ensures.ok in record {

@@ -1,6 +1,6 @@
 use Rattle.std.proofs.Common.{◌≡◌, None, ◌-◌, length}
 use Rattle.mk_record_replay.specs.inner.Loops.{GoesOn}
-use Rattle.mk_record_replay.proofs.replaying.ask_all.Given as goal
+use Rattle.mk_record_replay.proofs.asking.ask_all.Given as goal
 
 abbrev pub invariant-asking : goal.invariant-asking
 invariant-asking l = record { going : l.core.ended ≡ None; goes : GoesOn l.fn.core l.core }
