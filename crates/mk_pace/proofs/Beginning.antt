@@ -35,7 +35,7 @@ use Rattle.mk_pace_laws.specs.Clocks.{is_told}
 use Rattle.mk_pace_laws.specs.Paced.{IsAwake}
 use Rattle.mk_pace_loop.specs.inner.Pacing.{BeginsWithStep, IsPacing, held_at, replies_kept}
 use Rattle.mk_pace_loop.specs.inner.Turns.{IsStopping}
-use Rattle.mk_pace_loop.specs.inner.Waiting.{WaitingSeen}
+use Rattle.mk_pace_loop.specs.inner.Waiting.{WaitingSeen, waiting_seen}
 use Rattle.mk_pace_loop.proofs.Passing.{no_naps}
 use Rattle.mk_pace_loop.proofs.Queueing.{has_channel_moved, told_moved}
 use Rattle.mk_pace.specs.inner.Going.{IsStarted}
@@ -113,7 +113,7 @@ module _ (A : Attempt) (C : CrewSeen) (P : Plan) (s : IsStarted A C P) where
     none_kept : (i : ℕ) → is_within A.scenario i ≡ true → length (kept_of i (crew_of C).kept) ≡ 0
     none_kept i within = ap (λ (k : List Arrival). length (kept_of i k)) s.begun.begun.none_kept
 
-    pub begins : IsPacing setting_at (record { origin = origin; factor = factor }) strict P [] (A.log ++ Told origin ∷ []) (crew_of C) C.sims (replicate (sim_count P) []) []
+    pub begins : IsPacing setting_at P [] (A.log ++ Told origin ∷ []) (crew_of C) C.sims (waiting_seen (record { origin = origin; factor = factor }) strict (replicate (sim_count P) []) [])
     begins = record {
       suits = underway.suits;
       stands = underway.stands;

@@ -30,10 +30,10 @@ use Rattle.mk_pace_held.specs.declared.held.Held.{Held}
 use Rattle.mk_pace_held.specs.Firsts.{IsChanged}
 use Rattle.mk_pace_laws.specs.declared.end.PaceEnd.TheVariants as pace
 use Rattle.mk_pace_laws.specs.Moments.{Tempo}
-use Rattle.mk_pace_loop.specs.inner.Pacing.{DueAs, IsPacing, IsPacingBut, IsPacingFor}
+use Rattle.mk_pace_loop.specs.inner.Pacing.{IsPacing, IsPacingBut, IsPacingFor}
 use Rattle.mk_pace_loop.specs.inner.Sendings.{IsItemAt}
 use Rattle.mk_pace_loop.specs.inner.Turns.{AnswersAs, GoesOn, IsPast, IsStopping, TakesAs}
-use Rattle.mk_pace_loop.specs.inner.Waiting.{HasTime, IsHeldLast, IsSomeHeld, WaitingSeen}
+use Rattle.mk_pace_loop.specs.inner.Waiting.{DueAs, HasTime, IsHeldLast, IsSomeHeld, WaitingSeen, waiting_seen}
 use Rattle.mk_pace_loop.proofs.Asking.{as_seen, asked_unheld}
 use Rattle.mk_pace_loop.proofs.Following.{follower_sent, follower_taken, follower_unsent, mem_ends, same_item}
 use Rattle.mk_pace_loop.proofs.Grown.{changed_set, get_last}
@@ -70,7 +70,7 @@ module _ (S : Setting) (core new : CoreState) (log : List LogEntry) (s : SimNo) 
   past_low = met_low S W.tempo W.strict core.plan core.entries h.before h.entries h.crew (crew_of C) C.sims W.holds W.moments h.pacing s m h.nobody h.of_links h.fit h.heard
 
   pub quiet_goes : IsQuiet core s m new → GoesOn S new log C W
-  quiet_goes q = subst (λ (c : CoreState). GoesOn S c log C W) (sym q.moved) (subst (λ (l : List LogEntry). IsPacing S W.tempo W.strict core.plan (core.entries ++ Got s m ∷ []) l (crew_of C) C.sims W.holds W.moments) (sym h.parts)
+  quiet_goes q = subst (λ (c : CoreState). GoesOn S c log C W) (sym q.moved) (subst (λ (l : List LogEntry). IsPacing S core.plan (core.entries ++ Got s m ∷ []) l (crew_of C) C.sims W) (sym h.parts)
       (quiet_on S W.tempo W.strict core.plan core.entries h.before h.entries h.crew (crew_of C) C.sims W.holds W.moments h.pacing s m h.nobody h.of_links h.fit h.heard (none_owed core.plan core.entries (h.pacing).stands q.room.room) q.no_fault
       (subst (λ (c : CoreState). Stands c.plan c.entries) q.moved stands) q.none_owed))
 
@@ -109,13 +109,13 @@ module _ (S : Setting) (core new : CoreState) (log : List LogEntry) (s : SimNo) 
 
     -- it waits
     module _ (begins : ℕ → Type 0) (after : List (List Held)) (was : List Held) (k : Held) (ch : IsChanged s.0 was (was ++ k ∷ []) W.holds after) (place : k.place + 1 ≡ length L) (id_is : k.id ≡ opened.0) (due : DueAs W.tempo a.item k.due) (only : begins s.0 → was ≡ [] → ⊥) where
-      waits : IsPacingFor begins S W.tempo W.strict core.plan L (h.before ++ h.entries) (crew_of C) C.sims after W.moments
+      waits : IsPacingFor begins S core.plan L (h.before ++ h.entries) (crew_of C) C.sims (waiting_seen W.tempo W.strict after W.moments)
       waits = owed_waits S W.tempo W.strict core.plan core.entries h.before h.entries h.crew (crew_of C) C.sims W.holds W.moments h.pacing s m h.nobody h.of_links h.fit h.heard (none_owed core.plan core.entries (h.pacing).stands a.room.room) a.no_fault
           a.item stands_so a.owed begins after was k ch place (λ takes. id_is ∙ answered_id core new s m opened.0 (h.pacing).stands standing a opened.1 takes) due only
 
-      waits_over : IsPacingFor begins S W.tempo W.strict new.plan new.entries log (crew_of C) C.sims after W.moments
-      waits_over = subst (λ (c : CoreState). IsPacingFor begins S W.tempo W.strict c.plan c.entries log (crew_of C) C.sims after W.moments) (sym a.moved)
-          (subst (λ (l : List LogEntry). IsPacingFor begins S W.tempo W.strict core.plan L l (crew_of C) C.sims after W.moments) (sym h.parts) waits)
+      waits_over : IsPacingFor begins S new.plan new.entries log (crew_of C) C.sims (waiting_seen W.tempo W.strict after W.moments)
+      waits_over = subst (λ (c : CoreState). IsPacingFor begins S c.plan c.entries log (crew_of C) C.sims (waiting_seen W.tempo W.strict after W.moments)) (sym a.moved)
+          (subst (λ (l : List LogEntry). IsPacingFor begins S core.plan L l (crew_of C) C.sims (waiting_seen W.tempo W.strict after W.moments)) (sym h.parts) waits)
 
     -- it waits by itself, and is about to be sent
     abbrev here : List Held
@@ -130,7 +130,7 @@ module _ (S : Setting) (core new : CoreState) (log : List LogEntry) (s : SimNo) 
     abbrev with_it : List Held → List (List Held)
     with_it was = slice_set W.holds s.0 (was ++ ghost_held ∷ [])
 
-    but_it : (was : List Held) → slice_get W.holds s.0 ≡ Some was → IsPacingBut s.0 S W.tempo W.strict new.plan new.entries log (crew_of C) C.sims (with_it was) W.moments
+    but_it : (was : List Held) → slice_get W.holds s.0 ≡ Some was → IsPacingBut s.0 S new.plan new.entries log (crew_of C) C.sims (waiting_seen W.tempo W.strict (with_it was) W.moments)
     but_it was there = waits_over (λ i. i ≡ s.0 → ⊥) (with_it was) was ghost_held (changed_set W.holds s.0 was (was ++ ghost_held ∷ []) there) (sym (length-append K (Sent s a.item ∷ []))) refl (late_due W.tempo a.item late) (λ apart none. apart refl)
 
     there_now : IsItemAt new.entries (length K) a.item
@@ -162,7 +162,7 @@ module _ (S : Setting) (core new : CoreState) (log : List LogEntry) (s : SimNo) 
         back : IsChanged s.0 (ghost_held ∷ []) [] (with_it []) W.holds
         back = let c = changed_set W.holds s.0 [] (ghost_held ∷ []) none in record { there = c.here; here = none; others = λ i apart. sym (c.others i apart); count = sym c.count }
 
-        whole : IsPacingBut s.0 S W.tempo W.strict new.plan new.entries log (crew_of D) D.sims W.holds W.moments → GoesOn S new log D W
+        whole : IsPacingBut s.0 S new.plan new.entries log (crew_of D) D.sims W → GoesOn S new log D W
         whole p = all_again s.0 S W.tempo W.strict new.plan new.entries log (crew_of D) D.sims W.holds W.moments [] none tt p
 
     -- there was no memory for it

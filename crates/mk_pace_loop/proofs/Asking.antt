@@ -34,12 +34,12 @@ use Rattle.mk_pace_held.specs.declared.held.Held.{Held}
 use Rattle.mk_pace_held.specs.Firsts.{IsChanged}
 use Rattle.mk_pace_laws.specs.declared.end.Moment.{Moment}
 use Rattle.mk_pace_laws.specs.Moments.{Tempo, moment_at}
-use Rattle.mk_pace_loop.specs.inner.Pacing.{AreHeldItems, BeginsWithStep, DueAs, IsHolding, IsOneAtMost, IsPacing, held_at, replies_kept}
+use Rattle.mk_pace_loop.specs.inner.Pacing.{AreHeldItems, BeginsWithStep, IsHolding, IsOneAtMost, IsPacing, held_at, replies_kept}
 use Rattle.mk_pace_loop.specs.inner.Turns.{GoesOn}
-use Rattle.mk_pace_loop.specs.inner.Waiting.{HasTime, IsHeldLast, WaitingSeen}
+use Rattle.mk_pace_loop.specs.inner.Waiting.{DueAs, HasTime, IsHeldLast, WaitingSeen, waiting_seen}
 use Rattle.mk_pace_loop.proofs.Grown.{begins_push, changed_set, get_last, held_longer, held_push, kept_sent, moments_longer, naps_longer, none_pushed, none_shut, one_moved, open_sent, step_opens}
 
-module _ (S : Setting) (T : Tempo) (strict : Option ℕ) (P : Plan) (J : List Entry) (log : List LogEntry) (C : CrewState) (sims : List (Option Simulator)) (holds after : List (List Held)) (moments : List Moment) (p : IsPacing S T strict P J log C sims holds moments)
+module _ (S : Setting) (T : Tempo) (strict : Option ℕ) (P : Plan) (J : List Entry) (log : List LogEntry) (C : CrewState) (sims : List (Option Simulator)) (holds after : List (List Held)) (moments : List Moment) (p : IsPacing S P J log C sims (waiting_seen T strict holds moments))
     (s : SimNo) (x : Tier) (inputs : List Input) (advance : ℤ) (ready : IsReady P (view P J) s.0 x) (stands : Stands P (J ++ Sent s (Step x inputs advance) ∷ []))
     (was : List Held) (h : Held) (ch : IsChanged s.0 was (was ++ h ∷ []) holds after) (place : h.place + 1 ≡ length (J ++ Sent s (Step x inputs advance) ∷ [])) (numbered : h.id ≡ id_after (first_id P s.0) (sent J s.0)) (due : DueAs T (Step x inputs advance) h.due) where
   abbrev item : Item
@@ -108,7 +108,7 @@ module _ (S : Setting) (T : Tempo) (strict : Option ℕ) (P : Plan) (J : List En
     | inr apart ↦ p.kept i ∙ sym (kept_sent S P J s item i (held_at holds i) apart) ∙ ap (λ (o : Option (List Held)). replies_kept S P K i (unwrap_or o [])) (sym (ch.others i apart))
   ]
 
-  pub asked_waits : IsPacing S T strict P (J ++ Sent s (Step x inputs advance) ∷ []) log C sims after moments
+  pub asked_waits : IsPacing S P (J ++ Sent s (Step x inputs advance) ∷ []) log C sims (waiting_seen T strict after moments)
   asked_waits = record {
     suits = p.suits;
     stands = stands;
@@ -141,11 +141,11 @@ module _ (S : Setting) (T : Tempo) (strict : Option ℕ) (P : Plan) (J : List En
 
 -- what waits is seen with its other parts as they were
 pub as_seen : (S : Setting) (P : Plan) (J : List Entry) (log : List LogEntry) (C : CrewState) (sims : List (Option Simulator)) (W V : WaitingSeen) → V.tempo ≡ W.tempo → V.strict ≡ W.strict → V.moments ≡ W.moments
-    → IsPacing S W.tempo W.strict P J log C sims V.holds W.moments → IsPacing S V.tempo V.strict P J log C sims V.holds V.moments
+    → IsPacing S P J log C sims (waiting_seen W.tempo W.strict V.holds W.moments) → IsPacing S P J log C sims V
 as_seen S P J log C sims W V tempo strict moments p =
-    subst (λ (m : List Moment). IsPacing S V.tempo V.strict P J log C sims V.holds m) (sym moments)
-    (subst (λ (o : Option ℕ). IsPacing S V.tempo o P J log C sims V.holds W.moments) (sym strict)
-    (subst (λ (t : Tempo). IsPacing S t W.strict P J log C sims V.holds W.moments) (sym tempo) p))
+    subst (λ (m : List Moment). IsPacing S P J log C sims (waiting_seen V.tempo V.strict V.holds m)) (sym moments)
+    (subst (λ (o : Option ℕ). IsPacing S P J log C sims (waiting_seen V.tempo o V.holds W.moments)) (sym strict)
+    (subst (λ (t : Tempo). IsPacing S P J log C sims (waiting_seen t W.strict V.holds W.moments)) (sym tempo) p))
 
 module _ (S : Setting) (old new : CoreState) (log : List LogEntry) (C : CrewSeen) (W : WaitingSeen) (s : SimNo) (p : GoesOn S old log C W) (stands : Stands new.plan new.entries) (a : IsAsked old s new) where
   abbrev step : Item
@@ -183,12 +183,12 @@ module _ (S : Setting) (old new : CoreState) (log : List LogEntry) (C : CrewSeen
   abbrev ghost_held : Held
   ghost_held = record { place = length old.entries; id = id_after (first_id old.plan s.0) (sent old.entries s.0); due = Some (record { at = a.at; moment = moment_at W.tempo (a.at).time }) }
 
-  pub asked_unheld : (after : List (List Held)) × IsPacing S W.tempo W.strict new.plan new.entries log (crew_of C) C.sims after W.moments
+  pub asked_unheld : (after : List (List Held)) × IsPacing S new.plan new.entries log (crew_of C) C.sims (waiting_seen W.tempo W.strict after W.moments)
   asked_unheld =
       let b = below_get W.holds s.0 low_so in
       let after : List (List Held) = slice_set W.holds s.0 (b.0 ++ ghost_held ∷ []) in (
         after,
-        subst (λ (c : CoreState). IsPacing S W.tempo W.strict c.plan c.entries log (crew_of C) C.sims after W.moments) (sym a.moved)
+        subst (λ (c : CoreState). IsPacing S c.plan c.entries log (crew_of C) C.sims (waiting_seen W.tempo W.strict after W.moments)) (sym a.moved)
             (asked_waits S W.tempo W.strict old.plan old.entries log (crew_of C) C.sims W.holds after W.moments p s a.at a.inputs a.advance ready_so stands_so b.0 ghost_held
             (changed_set W.holds s.0 b.0 (b.0 ++ ghost_held ∷ []) b.1) (sym (length-append old.entries (Sent s (Step a.at a.inputs a.advance) ∷ []))) refl refl),
       )

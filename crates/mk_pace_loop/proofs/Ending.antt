@@ -35,7 +35,7 @@ use Rattle.mk_pace_laws.proofs.SentOut.{WaitsByStep, sent_out_is}
 use Rattle.mk_pace_loop.specs.inner.PacedOut.{EndsOutcome, EndsPace, HasPacedOut, IsLastPacedChannel}
 use Rattle.mk_pace_loop.specs.inner.Pacing.{AreHeldItems, BeginsWithStep, IsPacing}
 use Rattle.mk_pace_loop.specs.inner.Turns.{GoesOn, IsStopping}
-use Rattle.mk_pace_loop.specs.inner.Waiting.{WaitingSeen}
+use Rattle.mk_pace_loop.specs.inner.Waiting.{WaitingSeen, waiting_seen}
 
 -- all is queued of what was queued
 pub queued_itself : (end : PaceEnd) (items : List Item) → QueuedOut end items items
@@ -52,7 +52,7 @@ waits_by_step P T J s before (h ∷ held) (GetData wanted ∷ items) are begins 
 waits_by_step P T J s before (h ∷ held) (Answer id content ∷ items) are begins = absurd (none_some (sym (are.0).due ∙ begins.1))
 waits_by_step P T J s before (h ∷ held) (Refuse id reason ∷ items) are begins = absurd (none_some (sym (are.0).due ∙ begins.1))
 
-module _ (S : Setting) (T : Tempo) (strict : Option ℕ) (P : Plan) (J : List Entry) (log : List LogEntry) (C : CrewState) (sims : List (Option Simulator)) (holds : List (List Held)) (moments : List Moment) (p : IsPacing S T strict P J log C sims holds moments) where
+module _ (S : Setting) (T : Tempo) (strict : Option ℕ) (P : Plan) (J : List Entry) (log : List LogEntry) (C : CrewState) (sims : List (Option Simulator)) (holds : List (List Held)) (moments : List Moment) (p : IsPacing S P J log C sims (waiting_seen T strict holds moments)) where
   -- what was sent out is what was queued
   pub sent_is : (i : ℕ) → i < sim_count P → sent_out J moments i ≡ p.queued i
   sent_is i low = let t = p.holding i low in sent_out_is J moments i (p.queued i) t.waiting t.items (waits_by_step P T J i (p.queued i) t.held t.waiting t.are (p.steps i t.held tt t.there)) (p.counts i low)

@@ -40,9 +40,10 @@ use Rattle.mk_pace_laws.specs.declared.end.PaceEnd.TheVariants as pace
 use Rattle.mk_pace_laws.specs.Ends.{IsBroken, IsLongAmong, QueuedOut, fault_of}
 use Rattle.mk_pace_laws.specs.Moments.{Tempo, before_step, moments_of, sent_out}
 use Rattle.mk_pace_laws.specs.Naps.{AreTold}
-use Rattle.mk_pace_loop.specs.inner.Pacing.{DueAs, IsPacingBut, IsPacingFor}
+use Rattle.mk_pace_loop.specs.inner.Pacing.{IsPacingBut, IsPacingFor}
 use Rattle.mk_pace_loop.specs.inner.PacedOut.{EndsPace, HasPacedOut}
 use Rattle.mk_pace_loop.specs.inner.Sendings.{IsItemAt}
+use Rattle.mk_pace_loop.specs.inner.Waiting.{DueAs, waiting_seen}
 use Rattle.mk_pace_loop.proofs.HeldFirst.{IsFront, front_is}
 use Rattle.mk_pace_loop.proofs.OneSent.{can_take, sent_on}
 use Rattle.mk_pace_loop.proofs.Placed.{sent_at}
@@ -81,7 +82,7 @@ before_more (Answer id content ∷ queued) waiting = let t = before_more queued 
 before_more (Refuse id reason ∷ queued) waiting = let t = before_more queued waiting in (t.0, ap (λ (l : List Item). Refuse id reason ∷ l) t.1)
 
 module _ (begins : ℕ → Type 0) (S : Setting) (T : Tempo) (strict : Option ℕ) (P : Plan) (J : List Entry) (log : List LogEntry) (C : CrewSeen) (holds : List (List Held)) (moments : List Moment)
-    (p : IsPacingFor begins S T strict P J log (crew_of C) C.sims holds moments) where
+    (p : IsPacingFor begins S P J log (crew_of C) C.sims (waiting_seen T strict holds moments)) where
   -- at least what was queued was sent out
   out_more : (i : ℕ) → i < sim_count P → BeginsWith (sent_out J moments i) (p.queued i)
   out_more i low =
@@ -161,7 +162,7 @@ module _ (begins : ℕ → Type 0) (S : Setting) (T : Tempo) (strict : Option �
 -- ---- what waits first of a simulator, whatever it is
 
 module _ (S : Setting) (T : Tempo) (strict : Option ℕ) (P : Plan) (J : List Entry) (log : List LogEntry) (C : CrewSeen) (holds : List (List Held)) (moments : List Moment) (s : ℕ) (low : s < sim_count P) (h : Held) (q : List Held)
-    (p : IsPacingBut s S T strict P J log (crew_of C) C.sims holds moments) (there : slice_get holds s ≡ Some (h ∷ q)) where
+    (p : IsPacingBut s S P J log (crew_of C) C.sims (waiting_seen T strict holds moments)) (there : slice_get holds s ≡ Some (h ∷ q)) where
   front : (item : Item) × (rest : List Item) × IsFront P T J s (p.queued s) (p.holding s low).waiting h q item rest
   front = front_is P T J holds s (p.queued s) h q (p.holding s low) there
 
@@ -175,7 +176,7 @@ module _ (S : Setting) (T : Tempo) (strict : Option ℕ) (P : Plan) (J : List En
   follower_unsent end unsent = unsent_ends (λ i. i ≡ s → ⊥) S T strict P J log C holds moments p s low front.0 front.1 front.2.items end (unsent front.0 front_at)
 
   -- an item that is no Step
-  pub follower_sent : h.due ≡ None → RepliesAreKinds → (D : CrewSeen) → ((item : Item) → IsItemAt J h.place item → SendsAs s item h.id C D) → (new : List (List Held)) → IsChanged s (h ∷ q) q holds new → IsPacingBut s S T strict P J log (crew_of D) D.sims new moments
+  pub follower_sent : h.due ≡ None → RepliesAreKinds → (D : CrewSeen) → ((item : Item) → IsItemAt J h.place item → SendsAs s item h.id C D) → (new : List (List Held)) → IsChanged s (h ∷ q) q holds new → IsPacingBut s S P J log (crew_of D) D.sims (waiting_seen T strict new moments)
   follower_sent none law D so new changed =
       sent_on S T strict P J log C holds moments s low h q front.0 front.1 p front.2 law D (so front.0 front_at) new changed moments p.moments_are counts (none_told T log front.0 late)
     where

@@ -21,7 +21,8 @@ use Rattle.mk_pace_held.specs.declared.held.Held.{Held}
 use Rattle.mk_pace_held.specs.Firsts.{IsFirst, first_at}
 use Rattle.mk_pace_laws.specs.declared.end.Moment.{Moment}
 use Rattle.mk_pace_laws.specs.Moments.{Tempo, moment_at}
-use Rattle.mk_pace_loop.specs.inner.Pacing.{AreHeldItems, BeginsWithStep, DueAs, IsHeldItem, IsHolding, IsPacing, IsPacingBut, IsPacingFor}
+use Rattle.mk_pace_loop.specs.inner.Pacing.{AreHeldItems, BeginsWithStep, IsHeldItem, IsHolding, IsPacing, IsPacingBut, IsPacingFor}
+use Rattle.mk_pace_loop.specs.inner.Waiting.{DueAs, waiting_seen}
 
 -- behind what was queued of simulator s this item waits first, and then the rest
 pub record IsFront (P : Plan) (T : Tempo) (J : List Entry) (s : ℕ) (queued waiting : List Item) (h : Held) (q : List Held) (item : Item) (rest : List Item) : Type 0 where
@@ -92,7 +93,7 @@ first_below f holds first = (get_is holds f.sim.0 first.items first.there).0
 -- ---- a run, and the same but for one simulator
 
 abbrev as_it_is : (some all : ℕ → Type 0) (S : Setting) (T : Tempo) (strict : Option ℕ) (P : Plan) (J : List Entry) (log : List LogEntry) (C : CrewState) (sims : List (Option Simulator)) (holds : List (List Held)) (moments : List Moment)
-    → IsPacingFor some S T strict P J log C sims holds moments → ((i : ℕ) (q : List Held) → all i → slice_get holds i ≡ Some q → BeginsWithStep q) → IsPacingFor all S T strict P J log C sims holds moments
+    → IsPacingFor some S P J log C sims (waiting_seen T strict holds moments) → ((i : ℕ) (q : List Held) → all i → slice_get holds i ≡ Some q → BeginsWithStep q) → IsPacingFor all S P J log C sims (waiting_seen T strict holds moments)
 as_it_is some all S T strict P J log C sims holds moments p steps = record {
   suits = p.suits;
   stands = p.stands;
@@ -124,11 +125,11 @@ as_it_is some all S T strict P J log C sims holds moments p steps = record {
 }
 
 module _ (s : ℕ) (S : Setting) (T : Tempo) (strict : Option ℕ) (P : Plan) (J : List Entry) (log : List LogEntry) (C : CrewState) (sims : List (Option Simulator)) (holds : List (List Held)) (moments : List Moment) where
-  pub but_one : IsPacing S T strict P J log C sims holds moments → IsPacingBut s S T strict P J log C sims holds moments
+  pub but_one : IsPacing S P J log C sims (waiting_seen T strict holds moments) → IsPacingBut s S P J log C sims (waiting_seen T strict holds moments)
   but_one p = as_it_is (λ i. ⊤) (λ i. i ≡ s → ⊥) S T strict P J log C sims holds moments p (λ i q apart there. p.steps i q tt there)
 
   -- all was sent that stands right behind the Step
-  pub all_again : (q : List Held) → slice_get holds s ≡ Some q → BeginsWithStep q → IsPacingBut s S T strict P J log C sims holds moments → IsPacing S T strict P J log C sims holds moments
+  pub all_again : (q : List Held) → slice_get holds s ≡ Some q → BeginsWithStep q → IsPacingBut s S P J log C sims (waiting_seen T strict holds moments) → IsPacing S P J log C sims (waiting_seen T strict holds moments)
   all_again q there step p = as_it_is (λ i. i ≡ s → ⊥) (λ i. ⊤) S T strict P J log C sims holds moments p (λ i r all at. elim (same_or_not i s) [
     | inl e ↦ subst BeginsWithStep (some_same (sym there ∙ ap (slice_get holds) (sym e) ∙ at)) step
     | inr apart ↦ p.steps i r apart at

@@ -40,6 +40,7 @@ use Rattle.mk_pace_laws.specs.Moments.{AreMoments, Tempo}
 use Rattle.mk_pace_laws.specs.Naps.{AreAllLinked, AreNaps, AreTold, IsTimely, NapsLook}
 use Rattle.mk_pace_laws.proofs.Timely.{timely_more, told_later}
 use Rattle.mk_pace_loop.specs.inner.Pacing.{IsPacing, held_at, replies_kept}
+use Rattle.mk_pace_loop.specs.inner.Waiting.{waiting_seen}
 use Rattle.mk_pace_loop.proofs.Grown.{moments_longer, naps_longer}
 use Rattle.mk_pace_loop.proofs.Passing.{looks_later, moments_later, naps_later, no_naps, still_none}
 use Rattle.mk_pace_loop.proofs.Queueing.{has_channel_moved}
@@ -96,7 +97,7 @@ taken_reply S P J s m [] left e = by_cases (is_within S.scenario s) ((view P J).
       none_left = (heads h).1;
     }
 
-module _ (S : Setting) (T : Tempo) (strict : Option ℕ) (P : Plan) (J : List Entry) (before entries : List LogEntry) (C D : CrewState) (sims : List (Option Simulator)) (holds : List (List Held)) (moments : List Moment) (p : IsPacing S T strict P J before C sims holds moments)
+module _ (S : Setting) (T : Tempo) (strict : Option ℕ) (P : Plan) (J : List Entry) (before entries : List LogEntry) (C D : CrewState) (sims : List (Option Simulator)) (holds : List (List Held)) (moments : List Moment) (p : IsPacing S P J before C sims (waiting_seen T strict holds moments))
     (s : SimNo) (m : Message) (nobody : SomeReady P J → ⊥) (of_links : AreOfLinks (IsRunLink S.started S.scenario) entries) (fit : (k : Arrival) (more : List Arrival) → C.kept ≡ k ∷ more → IsFitSuccess m) (heard : IsHeard entries s.0 m C D) where
   -- where it was kept
   pub taken_kept : C.kept ≡ record { sim = s.0; message = m } ∷ D.kept → IsTakenReply S P J s.0 m (held_at holds s.0) (kept_of s.0 D.kept)

@@ -41,6 +41,7 @@ use Rattle.mk_pace_laws.specs.Moments.{AreMoments, Tempo, moments_of}
 use Rattle.mk_pace_laws.specs.Naps.{AreTold, IsTimely}
 use Rattle.mk_pace_laws.proofs.Timely.{timely_queued, told_queued}
 use Rattle.mk_pace_loop.specs.inner.Pacing.{AreHeldItems, IsHolding, IsOneAtMost, IsPacingBut, held_at, replies_kept}
+use Rattle.mk_pace_loop.specs.inner.Waiting.{waiting_seen}
 use Rattle.mk_pace_loop.proofs.HeldFirst.{IsFront}
 use Rattle.mk_pace_loop.proofs.Queueing.{channel_sent}
 
@@ -63,7 +64,7 @@ one_alone P J s item [] one = (refl, one.0, one.1)
 one_alone P J s item (other ∷ more) one = absurd one
 
 module _ (S : Setting) (T : Tempo) (strict : Option ℕ) (P : Plan) (J : List Entry) (log : List LogEntry) (C : CrewSeen) (holds : List (List Held)) (moments : List Moment) (s : ℕ) (low : s < sim_count P) (h : Held) (q : List Held) (item : Item) (rest : List Item)
-    (p : IsPacingBut s S T strict P J log (crew_of C) C.sims holds moments) (f : IsFront P T J s (p.queued s) (p.holding s low).waiting h q item rest) where
+    (p : IsPacingBut s S P J log (crew_of C) C.sims (waiting_seen T strict holds moments)) (f : IsFront P T J s (p.queued s) (p.holding s low).waiting h q item rest) where
   numbered : takes_id item ≡ true → h.id ≡ id_after (setup_count S.scenario s) (p.queued s)
   numbered takes = f.is.id takes ∙ ap (λ (n : ℕ). id_after n (p.queued s)) (p.suits.first s low)
 
@@ -265,7 +266,7 @@ module _ (S : Setting) (T : Tempo) (strict : Option ℕ) (P : Plan) (J : List En
     ]
 
     -- where the moments are such, the run goes on
-    pub sent_on : (notes : List Moment) → AreMoments T strict J log notes → ((i : ℕ) → i < sim_count P → length (moments_of i notes) ≡ length (filter is_step (Y i))) → AreTold T log (item ∷ []) → IsPacingBut s S T strict P J log (crew_of D) D.sims new notes
+    pub sent_on : (notes : List Moment) → AreMoments T strict J log notes → ((i : ℕ) → i < sim_count P → length (moments_of i notes) ≡ length (filter is_step (Y i))) → AreTold T log (item ∷ []) → IsPacingBut s S P J log (crew_of D) D.sims (waiting_seen T strict new notes)
     sent_on notes are counts it = record {
       suits = p.suits;
       stands = p.stands;

@@ -35,6 +35,7 @@ use Rattle.mk_pace_laws.specs.Moments.{AreMoments, Tempo}
 use Rattle.mk_pace_laws.specs.Naps.{AreAllLinked, AreNaps, IsEarly, IsNapOf, NapsLook}
 use Rattle.mk_pace_laws.specs.Paced.{IsOrigin}
 use Rattle.mk_pace_loop.specs.inner.Pacing.{IsPacing}
+use Rattle.mk_pace_loop.specs.inner.Waiting.{waiting_seen}
 use Rattle.mk_pace_loop.proofs.Queueing.{has_channel_moved, nap_moved, told_moved}
 use Rattle.mk_pace_laws.proofs.Ordering.{in_order_later}
 use Rattle.mk_pace_laws.proofs.Timely.{timely_more, told_later}
@@ -118,10 +119,10 @@ linked_low started S i l e = go (slice_get S.sims i) refl e
     go None is q = absurd (none_some q)
     go (Some s) is q = (get_is S.sims i s is).0
 
-module _ (S : Setting) (T : Tempo) (strict : Option ℕ) (P : Plan) (J : List Entry) (log : List LogEntry) (C : CrewState) (sims : List (Option Simulator)) (holds : List (List Held)) (moments : List Moment) (p : IsPacing S T strict P J log C sims holds moments) where
+module _ (S : Setting) (T : Tempo) (strict : Option ℕ) (P : Plan) (J : List Entry) (log : List LogEntry) (C : CrewState) (sims : List (Option Simulator)) (holds : List (List Held)) (moments : List Moment) (p : IsPacing S P J log C sims (waiting_seen T strict holds moments)) where
   -- entries by which no channel gives a message
   pub passes : (entries : List LogEntry) (D : CrewState) → AreMoved entries (λ i. []) C D → D.kept ≡ C.kept → ((less after : List LogEntry) → entries ≡ less ++ Rest ∷ after → ⊥) → AreOnOrOfClock (IsRunLink S.started S.scenario) entries → (AreAllLinked S.scenario → AreNaps S.started S.scenario S.replies P T J (log ++ entries)) → NapsLook S.started S.scenario (log ++ entries)
-      → IsPacing S T strict P J (log ++ entries) D sims holds moments
+      → IsPacing S P J (log ++ entries) D sims (waiting_seen T strict holds moments)
   passes entries D moved kept restless on naps looks = record {
     suits = p.suits;
     stands = p.stands;
@@ -155,15 +156,15 @@ module _ (S : Setting) (T : Tempo) (strict : Option ℕ) (P : Plan) (J : List En
 
   -- and no nap is taken
   pub passes_awake : (entries : List LogEntry) (D : CrewState) → AreMoved entries (λ i. []) C D → D.kept ≡ C.kept → ((less after : List LogEntry) → entries ≡ less ++ Rest ∷ after → ⊥) → AreOnOrOfClock (IsRunLink S.started S.scenario) entries → ((less after : List LogEntry) → entries ≡ less ++ Nap ∷ after → ⊥)
-      → IsPacing S T strict P J (log ++ entries) D sims holds moments
+      → IsPacing S P J (log ++ entries) D sims (waiting_seen T strict holds moments)
   passes_awake entries D moved kept restless on awake = passes entries D moved kept restless on (λ linked. naps_later S.started S.scenario S.replies P T J log entries awake (p.naps linked)) (looks_later S.started S.scenario log entries awake p.looks)
 
   -- the clock is read
-  pub reads : (n : ℕ) → IsPacing S T strict P J (log ++ Told n ∷ []) C sims holds moments
+  pub reads : (n : ℕ) → IsPacing S P J (log ++ Told n ∷ []) C sims (waiting_seen T strict holds moments)
   reads n = passes_awake (Told n ∷ []) C (told_moved n C) refl (λ less after is. alone (Told n) Rest less after (λ e. cc) is) (tt, tt) (λ less after is. alone (Told n) Nap less after (λ e. cc) is)
 
   -- the links are looked at, and nothing is heard
-  pub looks_around : (entries : List LogEntry) (D : CrewState) → IsUnheard entries C D → AreOfLinks (IsChannelLink C.channels) entries → IsPacing S T strict P J (log ++ entries) D sims holds moments
+  pub looks_around : (entries : List LogEntry) (D : CrewState) → IsUnheard entries C D → AreOfLinks (IsChannelLink C.channels) entries → IsPacing S P J (log ++ entries) D sims (waiting_seen T strict holds moments)
   looks_around entries D u of_links = passes_awake entries D u.moved u.kept (λ less after is. no_rests (IsChannelLink C.channels) entries of_links less after is)
       (on_or_clock (IsRunLink S.started S.scenario) entries (on_these (IsRunLink S.started S.scenario) entries (of_run S.started S.scenario C.channels entries (λ i l linked. let g = p.channels i l linked in (g.channel, g.there, g.link)) p.no_other of_links)))
       (λ less after is. no_naps entries less after (no_clock (IsChannelLink C.channels) entries of_links) is)
@@ -194,7 +195,7 @@ module _ (S : Setting) (T : Tempo) (strict : Option ℕ) (P : Plan) (J : List En
   }
 
   -- it is taken
-  pub sleeps : IsNapOf S.started S.scenario S.replies P T J log → ((i : ℕ) (l : LinkNo) → sim_link S.started S.scenario i ≡ Some l → last_read l log ≡ Some (NotHeard l)) → IsPacing S T strict P J (log ++ Nap ∷ []) C sims holds moments
+  pub sleeps : IsNapOf S.started S.scenario S.replies P T J log → ((i : ℕ) (l : LinkNo) → sim_link S.started S.scenario i ≡ Some l → last_read l log ≡ Some (NotHeard l)) → IsPacing S P J (log ++ Nap ∷ []) C sims (waiting_seen T strict holds moments)
   sleeps here found = passes (Nap ∷ []) C (nap_moved C) refl (λ less after is. alone Nap Rest less after (λ e. cc) is) (tt, tt) naps looks
     where
       ends : (less after before : List LogEntry) → Nap ∷ [] ≡ less ++ Nap ∷ after → before ≡ log ++ less → before ≡ log

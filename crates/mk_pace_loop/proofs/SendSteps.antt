@@ -25,7 +25,7 @@ use Rattle.mk_pace_loop.specs.inner.Pacing.{BeginsWithStep, IsPacingBut}
 use Rattle.mk_pace_loop.specs.inner.PacedOut.{HasPacedOut}
 use Rattle.mk_pace_loop.specs.inner.Sendings.{GoesOnBut, IsItemAt, SendsBehindAs, SendsFirstAs, SendsNextAs, SendsStepAs}
 use Rattle.mk_pace_loop.specs.inner.Turns.{GoesOn, HasJustTold, IsStopping, SendsDueAs}
-use Rattle.mk_pace_loop.specs.inner.Waiting.{IsHeldAnew, IsOnTempo, IsTooLate, WaitingSeen}
+use Rattle.mk_pace_loop.specs.inner.Waiting.{IsHeldAnew, IsOnTempo, IsTooLate, WaitingSeen, waiting_seen}
 use Rattle.mk_pace_loop.proofs.Following.{follower_sent, follower_taken, follower_unsent, mem_ends}
 use Rattle.mk_pace_loop.proofs.HeldFirst.{all_again, but_one}
 use Rattle.mk_pace_loop.proofs.StepSent.{late_ends, step_sent}
@@ -75,7 +75,7 @@ module _ (core : CoreState) (C : CrewSeen) (W : WaitingSeen) (s : ℕ) (h : Held
   pub next_so : (D : CrewSeen) (r : Result (Unit {0}) Outcome) → h.due ≡ None → RepliesAreKinds → OnOk r ((item : Item) → IsItemAt core.entries h.place item → SendsAs s item h.id C D)
       → IfErr r (λ end. (item : Item) → IsItemAt core.entries h.place item → IsUnsent end s item C) → OnErr r (D ≡ C) → SendsNextAs r s core C W D V
   next_so D (Ok done) late law sent unsent same = λ S log p.
-      same_of (λ t b m. IsPacingBut s S t b core.plan core.entries log (crew_of D) D.sims V.holds m) W V W.moments anew.same anew.moments
+      same_of (λ t b m. IsPacingBut s S core.plan core.entries log (crew_of D) D.sims (waiting_seen t b V.holds m)) W V W.moments anew.same anew.moments
       (follower_sent S W.tempo W.strict core.plan core.entries log C W.holds W.moments s (subst (λ (n : ℕ). s < n) p.count (get_is W.holds s (h ∷ q) anew.changed.there).0) h q p anew.changed.there late law D sent V.holds anew.changed)
   next_so D (Err end) late law sent unsent same = λ S log p.
       same_of (λ t b m. HasPacedOut ⊥ S t b core.plan core.entries m log (crew_of D) (pace.Outcome end)) W V W.moments anew.same anew.moments
@@ -125,7 +125,7 @@ module _ (core : CoreState) (C : CrewSeen) (W : WaitingSeen) (f : First) (told :
 
   pub step_so : (D : CrewSeen) → f.due.moment ≤ told → ((allowed : ℕ) → W.strict ≡ Some allowed → told ≤ f.due.moment + allowed) → RepliesAreKinds → ((item : Item) → IsItemAt core.entries h.place item → SendsAs s item h.id C D) → SendsStepAs (Ok tt) s told core C W D V
   step_so D due in_time law sent = λ S log p just.
-      same_of (λ k b m. IsPacingBut s S k b core.plan core.entries log (crew_of D) D.sims V.holds m) W V (W.moments ++ record { sim = f.sim; at = f.due.at; moment = f.due.moment; told = told } ∷ []) t.same t.moments
+      same_of (λ k b m. IsPacingBut s S core.plan core.entries log (crew_of D) D.sims (waiting_seen k b V.holds m)) W V (W.moments ++ record { sim = f.sim; at = f.due.at; moment = f.due.moment; told = told } ∷ []) t.same t.moments
       (step_sent S W.tempo W.strict core.plan core.entries log C W.holds W.moments p f first h q V.holds t.changed told due in_time just law D sent)
 
   -- it wasn't sent, and its moment was taken back

@@ -36,10 +36,11 @@ use Rattle.mk_pace_laws.specs.Ends.{IsAskedBefore, IsLate, IsNextStep}
 use Rattle.mk_pace_laws.specs.Moments.{Tempo, moment_at, moments_of, sent_out}
 use Rattle.mk_pace_laws.specs.Naps.{AreTold}
 use Rattle.mk_pace_laws.proofs.SentOut.{WaitsByStep, sent_out_is}
-use Rattle.mk_pace_loop.specs.inner.Pacing.{AreHeldItems, BeginsWithStep, DueAs, IsHeldItem, IsPacing, IsPacingBut}
+use Rattle.mk_pace_loop.specs.inner.Pacing.{AreHeldItems, BeginsWithStep, IsHeldItem, IsPacing, IsPacingBut}
 use Rattle.mk_pace_loop.specs.inner.PacedOut.{HasPacedOut}
 use Rattle.mk_pace_loop.specs.inner.Sendings.{IsItemAt}
 use Rattle.mk_pace_loop.specs.inner.Turns.{HasJustTold}
+use Rattle.mk_pace_loop.specs.inner.Waiting.{DueAs, waiting_seen}
 use Rattle.mk_pace_loop.proofs.Following.{ends_here}
 use Rattle.mk_pace_loop.proofs.HeldFirst.{IsFirstOf, IsFront, IsStepDue, but_one, due_step, first_below, first_parts, first_taken, front_is}
 use Rattle.mk_pace_loop.proofs.Noted.{moments_away, moments_here, noted}
@@ -64,7 +65,7 @@ waits_by P T J s before (h ∷ q) (item ∷ waiting) step are =
     let d = due_step T item step.0 (subst (DueAs T item) step.1 are.0.due) in
     inr (step.0.at, d.inputs, d.advance, waiting, ap (λ (i : Item). i ∷ waiting) d.item_is)
 
-module _ (S : Setting) (T : Tempo) (strict : Option ℕ) (P : Plan) (J : List Entry) (log : List LogEntry) (C : CrewSeen) (holds : List (List Held)) (moments : List Moment) (p : IsPacing S T strict P J log (crew_of C) C.sims holds moments) where
+module _ (S : Setting) (T : Tempo) (strict : Option ℕ) (P : Plan) (J : List Entry) (log : List LogEntry) (C : CrewSeen) (holds : List (List Held)) (moments : List Moment) (p : IsPacing S P J log (crew_of C) C.sims (waiting_seen T strict holds moments)) where
   -- the items that were queued are those that were sent out
   pub out_is : (i : ℕ) → i < sim_count P → sent_out J moments i ≡ p.queued i
   out_is i low =
@@ -180,7 +181,7 @@ module _ (S : Setting) (T : Tempo) (strict : Option ℕ) (P : Plan) (J : List En
       abbrev note : Moment
       note = record { sim = f.sim; at = f.due.at; moment = f.due.moment; told = told }
 
-      abbrev but : IsPacingBut s S T strict P J log (crew_of C) C.sims holds moments
+      abbrev but : IsPacingBut s S P J log (crew_of C) C.sims (waiting_seen T strict holds moments)
       but = but_one s S T strict P J log (crew_of C) C.sims holds moments p
 
       taken : (item : Item) × (rest : List Item) × IsFront P T J s (but.queued s) (but.holding s first_low).waiting h q item rest
@@ -220,7 +221,7 @@ module _ (S : Setting) (T : Tempo) (strict : Option ℕ) (P : Plan) (J : List En
       taken_at = (taken.2.is.sim, taken.2.is.there)
 
       pub step_sent : f.due.moment ≤ told → ((allowed : ℕ) → strict ≡ Some allowed → told ≤ f.due.moment + allowed) → HasJustTold told log → RepliesAreKinds → (D : CrewSeen) → ((item : Item) → IsItemAt J h.place item → SendsAs s item h.id C D)
-          → IsPacingBut s S T strict P J log (crew_of D) D.sims new (moments ++ note ∷ [])
+          → IsPacingBut s S P J log (crew_of D) D.sims (waiting_seen T strict new (moments ++ note ∷ []))
       step_sent due in_time just law D so =
           sent_on S T strict P J log C holds moments s first_low h q taken.0 taken.1 but taken.2 law D (so taken.0 taken_at) new changed (moments ++ note ∷ [])
           (noted T strict J log moments note (but.queued s) taken.1 taken_step.inputs taken_step.advance but.moments_are (but.counts s first_low) taken_next taken_step.moment_is due (just_in told log just) in_time (sym (just_last told log just)))

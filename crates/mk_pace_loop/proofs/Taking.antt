@@ -32,12 +32,13 @@ use Rattle.mk_pace_held.specs.Firsts.{IsChanged}
 use Rattle.mk_pace_laws.specs.declared.end.Moment.{Moment}
 use Rattle.mk_pace_laws.specs.Moments.{Tempo}
 use Rattle.mk_pace_laws.specs.Naps.{AreNaps}
-use Rattle.mk_pace_loop.specs.inner.Pacing.{AreHeldItems, BeginsWithStep, DueAs, IsHolding, IsOneAtMost, IsPacing, IsPacingFor, held_at, replies_kept}
+use Rattle.mk_pace_loop.specs.inner.Pacing.{AreHeldItems, BeginsWithStep, IsHolding, IsOneAtMost, IsPacing, IsPacingFor, held_at, replies_kept}
+use Rattle.mk_pace_loop.specs.inner.Waiting.{DueAs, waiting_seen}
 use Rattle.mk_pace_loop.proofs.Grown.{begins_push, get_last, held_longer, held_push, kept_got, kept_sent, moments_longer, none_pushed, none_shut, none_waits, one_moved, open_got, open_sent}
 use Rattle.mk_pace_loop.proofs.Meeting.{met_fits, met_kept_away, met_kept_here, met_kinds, met_channels, met_looks, met_moments, met_naps, met_no_channel, met_no_other, met_replied, met_timely, met_told, met_within}
 use Rattle.mk_pace_loop.proofs.Passing.{on_later, origin_later, setup_later}
 
-module _ (S : Setting) (T : Tempo) (strict : Option ℕ) (P : Plan) (J : List Entry) (before entries : List LogEntry) (C D : CrewState) (sims : List (Option Simulator)) (holds : List (List Held)) (moments : List Moment) (p : IsPacing S T strict P J before C sims holds moments)
+module _ (S : Setting) (T : Tempo) (strict : Option ℕ) (P : Plan) (J : List Entry) (before entries : List LogEntry) (C D : CrewState) (sims : List (Option Simulator)) (holds : List (List Held)) (moments : List Moment) (p : IsPacing S P J before C sims (waiting_seen T strict holds moments))
     (s : SimNo) (m : Message) (nobody : SomeReady P J → ⊥) (of_links : AreOfLinks (IsRunLink S.started S.scenario) entries) (fit : (k : Arrival) (more : List Arrival) → C.kept ≡ k ∷ more → IsFitSuccess m) (heard : IsHeard entries s.0 m C D)
     (owes : (view P J).owed ≡ None) (fine : (view P (J ++ Got s m ∷ [])).fault ≡ None) where
   abbrev K : List Entry
@@ -72,7 +73,7 @@ module _ (S : Setting) (T : Tempo) (strict : Option ℕ) (P : Plan) (J : List En
   kept_still i apart = met_kept_away S T strict P J before entries C D sims holds moments p s m nobody of_links fit heard i apart ∙ p.kept i ∙ sym (kept_got S P J s m i (held_at holds i) apart)
 
   -- nothing is owed
-  pub quiet_on : Stands P (J ++ Got s m ∷ []) → (view P (J ++ Got s m ∷ [])).owed ≡ None → IsPacing S T strict P (J ++ Got s m ∷ []) (before ++ entries) D sims holds moments
+  pub quiet_on : Stands P (J ++ Got s m ∷ []) → (view P (J ++ Got s m ∷ [])).owed ≡ None → IsPacing S P (J ++ Got s m ∷ []) (before ++ entries) D sims (waiting_seen T strict holds moments)
   quiet_on stands none = record {
     suits = p.suits;
     stands = stands;
@@ -178,7 +179,7 @@ module _ (S : Setting) (T : Tempo) (strict : Option ℕ) (P : Plan) (J : List En
       | inr apart ↦ kept_still i apart ∙ sym (kept_sent S P K s item i (held_at holds i) apart) ∙ ap (λ (o : Option (List Held)). replies_kept S P L i (unwrap_or o [])) (sym (ch.others i apart))
     ]
 
-    pub owed_waits : IsPacingFor begins S T strict P ((J ++ Got s m ∷ []) ++ Sent s item ∷ []) (before ++ entries) D sims after moments
+    pub owed_waits : IsPacingFor begins S P ((J ++ Got s m ∷ []) ++ Sent s item ∷ []) (before ++ entries) D sims (waiting_seen T strict after moments)
     owed_waits = record {
       suits = p.suits;
       stands = stands;

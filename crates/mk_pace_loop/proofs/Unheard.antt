@@ -38,7 +38,7 @@ use Rattle.mk_pace_loop.proofs.Passing.{looks_around}
 module _ (S : Setting) (core : CoreState) (log entries : List LogEntry) (C D : CrewSeen) (W : WaitingSeen) (risen : Type 0) (p : GoesOn S core log C W) (waits : Waits core) (sims : D.sims ≡ C.sims) where
   -- nothing came by these entries
   pub unheard_on : IsUnheard entries (crew_of C) (crew_of D) → AreOfLinks (IsChannelLink C.channels) entries → GoesOn S core (log ++ entries) D W
-  unheard_on un of_links = looks_around S W.tempo W.strict core.plan core.entries log (crew_of C) D.sims W.holds W.moments (subst (λ (l : List (Option Simulator)). IsPacing S W.tempo W.strict core.plan core.entries log (crew_of C) l W.holds W.moments) (sym sims) p)
+  unheard_on un of_links = looks_around S W.tempo W.strict core.plan core.entries log (crew_of C) D.sims W.holds W.moments (subst (λ (l : List (Option Simulator)). IsPacing S core.plan core.entries log (crew_of C) l W) (sym sims) p)
       entries (crew_of D) un of_links
 
   module _ (q : GoesOn S core (log ++ entries) D W) where

@@ -56,7 +56,7 @@ module _ (S : Setting) (core : CoreState) (log : List LogEntry) (s : SimNo) (m :
   abbrev L : List LogEntry
   L = h.before ++ h.entries
 
-  p : IsPacing S W.tempo W.strict core.plan core.entries h.before h.crew D.sims W.holds W.moments
+  p : IsPacing S core.plan core.entries h.before h.crew D.sims W
   p = h.pacing
 
   channels_now : (i : ℕ) (l : LinkNo) → sim_link S.started S.scenario i ≡ Some l → HasChannel S.scenario S.replies L i l (got K i) (p.queued i) (crew_of D)

@@ -5,8 +5,7 @@ ghost use Rattle.mk_pace_held.specs.declared.held.Held.{Held};
 ghost use Rattle.mk_pace_held.specs.Firsts.{IsFirst, first_at};
 ghost use Rattle.mk_pace_laws.specs.declared.end.Moment.{Moment};
 ghost use Rattle.mk_pace_laws.specs.Moments.{moment_at};
-ghost use Rattle.mk_pace_loop.specs.inner.Pacing.{DueAs};
-ghost use Rattle.mk_pace_loop.specs.inner.Waiting.{HasTime, IsHeldAnew, IsOnTempo, IsTooLate};
+ghost use Rattle.mk_pace_loop.specs.inner.Waiting.{DueAs, HasTime, IsHeldAnew, IsOnTempo, IsTooLate};
 
 use mk_base::{List, Mem, SimNo};
 use mk_pace_held::{Due, First, Held, Holds};

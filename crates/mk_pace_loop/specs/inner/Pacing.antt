@@ -5,7 +5,6 @@ use Rattle.mk_base.specs.declared.SimNo.{SimNo}
 use Rattle.mk_plan.specs.declared.Entry.{Entry}
 use Rattle.mk_plan.specs.declared.Entry.TheVariants.{Sent}
 use Rattle.mk_plan.specs.declared.Item.{Item}
-use Rattle.mk_plan.specs.declared.Item.TheVariants.{Step, GetData, Answer, Refuse}
 use Rattle.mk_plan.specs.declared.Message.{Message}
 use Rattle.mk_plan.specs.declared.Plan.{Plan}
 use Rattle.mk_plan.specs.Journals.{view, sent, got}
@@ -29,17 +28,10 @@ use Rattle.mk_run_local.specs.Laws.{HasCome}
 use Rattle.mk_run.specs.Ends.{AreInRange}
 use Rattle.mk_sched.specs.inner.Patient.{IsPatient}
 use Rattle.mk_run.specs.inner.Underway.{HasNoOther, Setting, Suits, local_at, reply_in}
-use Rattle.mk_pace_laws.specs.declared.end.Moment.{Moment}
-use Rattle.mk_pace_laws.specs.Moments.{AreMoments, Tempo, moment_at, moments_of}
+use Rattle.mk_pace_laws.specs.Moments.{AreMoments, Tempo, moments_of}
 use Rattle.mk_pace_laws.specs.Naps.{AreTold, AreNaps, AreAllLinked, IsTimely, NapsLook}
 use Rattle.mk_pace_laws.specs.Paced.{IsOrigin}
-
--- when an item is due, if it is a Step
-abbrev pub DueAs : Tempo → Item → Option Due → Type 0
-DueAs T (Step x inputs advance) due = due ≡ Some (record { at = x; moment = moment_at T x.time })
-DueAs T (GetData wanted) due = due ≡ None
-DueAs T (Answer id content) due = due ≡ None
-DueAs T (Refuse id reason) due = due ≡ None
+use Rattle.mk_pace_loop.specs.inner.Waiting.{DueAs, WaitingSeen}
 
 -- at this place the journal has an item to simulator s, which goes with this id behind those before
 -- it where it takes one, and which is due so
@@ -91,26 +83,25 @@ replies_kept S P J s (h ∷ held) = []
 
 -- core, crew and what is held have come about together over the log; what is held of these
 -- simulators begins with a Step
-pub record IsPacingFor (begins : ℕ → Type 0) (S : Setting) (T : Tempo) (strict : Option ℕ)
-    (P : Plan) (J : List Entry)
+pub record IsPacingFor (begins : ℕ → Type 0) (S : Setting) (P : Plan) (J : List Entry)
     (log : List LogEntry) (C : CrewState) (sims : List (Option Simulator))
-    (holds : List (List Held)) (moments : List Moment) : Type 0 where
+    (W : WaitingSeen) : Type 0 where
   pub suits : Suits S P
   pub stands : Stands P J
   pub patient : IsPatient P J
   pub in_range : AreInRange J
   pub no_fault : (view P J).fault ≡ None
-  pub count : length holds ≡ sim_count P
+  pub count : length W.holds ≡ sim_count P
   pub queued : ℕ → List Item
-  pub holding : (s : ℕ) → s < sim_count P → IsHolding P T J holds s (queued s)
-  pub steps : (s : ℕ) (h : List Held) → begins s → slice_get holds s ≡ Some h → BeginsWithStep h
+  pub holding : (s : ℕ) → s < sim_count P → IsHolding P W.tempo J W.holds s (queued s)
+  pub steps : (s : ℕ) (h : List Held) → begins s → slice_get W.holds s ≡ Some h → BeginsWithStep h
   pub fit : (s : ℕ) (low : s < sim_count P) → is_within S.scenario s ≡ true
       → IsOneAtMost P J s (holding s low).waiting
   pub channels : (i : ℕ) (l : LinkNo) → sim_link S.started S.scenario i ≡ Some l
       → HasChannel S.scenario S.replies log i l (got J i) (queued i) C
   pub no_channel : (i : ℕ) → is_within S.scenario i ≡ true → channel_at C i ≡ None
   pub no_other : HasNoOther S C
-  pub kept : (s : ℕ) → kept_of s C.kept ≡ replies_kept S P J s (held_at holds s)
+  pub kept : (s : ℕ) → kept_of s C.kept ≡ replies_kept S P J s (held_at W.holds s)
   pub kinds : KeepsToKinds (reply_in S) (is_within S.scenario) P J
   pub come : (i : ℕ) → is_within S.scenario i ≡ true → (L : Simulator) × (local_at sims i ≡ Some L)
       × HasCome S.rows S.scenario i (queued i) L
@@ -118,24 +109,24 @@ pub record IsPacingFor (begins : ℕ → Type 0) (S : Setting) (T : Tempo) (stri
   pub setup_rests : (before after : List LogEntry) → log ≡ before ++ Rest ∷ after
       → IsWellInSetup S.started S.scenario before × (AllSetUp S.started S.scenario before → ⊥)
   pub on_links : AreOnOrOfClock (IsRunLink S.started S.scenario) log
-  pub origin : IsOrigin S.started S.scenario log T.origin
-  pub told : (s : ℕ) → AreTold T log (queued s)
+  pub origin : IsOrigin S.started S.scenario log W.tempo.origin
+  pub told : (s : ℕ) → AreTold W.tempo log (queued s)
   pub timely : (i : ℕ) (l : LinkNo) → sim_link S.started S.scenario i ≡ Some l
-      → IsTimely T S.scenario i l (queued i) log
-  pub moments_are : AreMoments T strict J log moments
+      → IsTimely W.tempo S.scenario i l (queued i) log
+  pub moments_are : AreMoments W.tempo W.strict J log W.moments
   pub counts : (s : ℕ) → s < sim_count P
-      → length (moments_of s moments) ≡ length (filter is_step (queued s))
+      → length (moments_of s W.moments) ≡ length (filter is_step (queued s))
   pub replied : (i : ℕ) → is_within S.scenario i ≡ true
       → length (got J i) + length (kept_of i C.kept) ≡ length (filter takes_id (queued i))
-  pub naps : AreAllLinked S.scenario → AreNaps S.started S.scenario S.replies P T J log
+  pub naps : AreAllLinked S.scenario → AreNaps S.started S.scenario S.replies P W.tempo J log
   pub looks : NapsLook S.started S.scenario log
 
 -- all begin with one
-abbrev pub IsPacing : Setting → Tempo → Option ℕ → Plan → List Entry → List LogEntry → CrewState
-    → List (Option Simulator) → List (List Held) → List Moment → Type 0
+abbrev pub IsPacing : Setting → Plan → List Entry → List LogEntry → CrewState
+    → List (Option Simulator) → WaitingSeen → Type 0
 IsPacing = IsPacingFor (λ s. ⊤)
 
 -- all but simulator s, whose next items are about to be sent
-abbrev pub IsPacingBut : ℕ → Setting → Tempo → Option ℕ → Plan → List Entry → List LogEntry
-    → CrewState → List (Option Simulator) → List (List Held) → List Moment → Type 0
+abbrev pub IsPacingBut : ℕ → Setting → Plan → List Entry → List LogEntry → CrewState
+    → List (Option Simulator) → WaitingSeen → Type 0
 IsPacingBut s = IsPacingFor (λ i. i ≡ s → ⊥)

@@ -26,8 +26,7 @@ held_count (q ∷ holds) = length q + held_count holds
 
 -- so over the log, but for simulator s
 abbrev pub GoesOnBut : ℕ → Setting → CoreState → List LogEntry → CrewSeen → WaitingSeen → Type 0
-GoesOnBut s S core log C W = IsPacingBut s S W.tempo W.strict core.plan core.entries log (crew_of C)
-    C.sims W.holds W.moments
+GoesOnBut s S core log C W = IsPacingBut s S core.plan core.entries log (crew_of C) C.sims W
 
 -- a Step of simulator s was sent; or the run came to an end
 abbrev pub SendsStepAs : Result (Unit {0}) Outcome → ℕ → ℕ → CoreState → CrewSeen → WaitingSeen

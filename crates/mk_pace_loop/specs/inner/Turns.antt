@@ -22,19 +22,15 @@ use Rattle.mk_run.specs.declared.outcome.Outcome.TheVariants as outcome
 use Rattle.mk_run.specs.inner.Sendings.{IsUnsent}
 use Rattle.mk_run.specs.inner.Underway.{Setting}
 use Rattle.mk_run.specs.inner.Turns.{Waits}
-use Rattle.mk_pace_held.specs.declared.held.Held.{Held}
-use Rattle.mk_pace_laws.specs.declared.end.Moment.{Moment}
 use Rattle.mk_pace_laws.specs.declared.end.PaceEnd.{PaceEnd}
 use Rattle.mk_pace_laws.specs.declared.end.PaceEnd.TheVariants as pace
-use Rattle.mk_pace_laws.specs.Moments.{Tempo}
 use Rattle.mk_pace_loop.specs.inner.Pacing.{IsPacing}
 use Rattle.mk_pace_loop.specs.inner.PacedOut.{HasPacedOut}
 use Rattle.mk_pace_loop.specs.inner.Waiting.{AreEarly, IsHeldLast, IsSomeHeld, WaitingSeen}
 
 -- core, crew and what waits have come about together over the log
 abbrev pub GoesOn : Setting → CoreState → List LogEntry → CrewSeen → WaitingSeen → Type 0
-GoesOn S core log C W = IsPacing S W.tempo W.strict core.plan core.entries log (crew_of C) C.sims
-    W.holds W.moments
+GoesOn S core log C W = IsPacing S core.plan core.entries log (crew_of C) C.sims W
 
 -- core, crew and what waits have come to this end
 abbrev pub IsStopping : Type 0 → Setting → CoreState → List LogEntry → CrewSeen → WaitingSeen
@@ -48,14 +44,13 @@ HasJustTold told log = (before : List LogEntry) × (log ≡ before ++ Told told 
 
 -- some request was open, nobody was ready, and a message was heard that the core hasn't taken: the
 -- oldest reply that was kept, which is a success, or a message of a link
-pub record HasMet (S : Setting) (T : Tempo) (strict : Option ℕ) (P : Plan) (J : List Entry)
-    (log : List LogEntry) (s : ℕ) (m : Message) (D : CrewState) (sims : List (Option Simulator))
-    (holds : List (List Held)) (moments : List Moment) : Type 0 where
+pub record HasMet (S : Setting) (P : Plan) (J : List Entry) (log : List LogEntry) (s : ℕ)
+    (m : Message) (D : CrewState) (sims : List (Option Simulator)) (W : WaitingSeen) : Type 0 where
   pub before : List LogEntry
   pub entries : List LogEntry
   pub parts : log ≡ before ++ entries
   pub crew : CrewState
-  pub pacing : IsPacing S T strict P J before crew sims holds moments
+  pub pacing : IsPacing S P J before crew sims W
   pub opened : SomeOpen P J
   pub nobody : SomeReady P J → ⊥
   pub heard : IsHeard entries s m crew D
@@ -65,8 +60,7 @@ pub record HasMet (S : Setting) (T : Tempo) (strict : Option ℕ) (P : Plan) (J 
 -- a message was heard besides, which the core hasn't taken
 abbrev pub IsPast : Setting → CoreState → List LogEntry → SimNo → Message → CrewSeen → WaitingSeen
     → Type 0
-IsPast S core log sim m C W = HasMet S W.tempo W.strict core.plan core.entries log sim.0 m
-    (crew_of C) C.sims W.holds W.moments
+IsPast S core log sim m C W = HasMet S core.plan core.entries log sim.0 m (crew_of C) C.sims W
 
 -- whoever was ready was asked, and what he is to be sent waits; or the run came to an end
 abbrev pub AsksAs : Result (Unit {0}) Outcome → CoreState → WaitingSeen → CoreState → WaitingSeen

@@ -1,17 +1,17 @@
 -- What waits of a paced run. For proofs alone.
-use Rattle.std.specs.Prelude.{◌≡◌, ℕ, ◌+◌, ◌<◌, ◌≤◌, ⊤, pos, ◌≤ℤ◌, List, [], ◌∷◌, ◌++◌, length, Option, Some, slice_get}
+use Rattle.std.specs.Prelude.{◌≡◌, ℕ, ◌+◌, ◌<◌, ◌≤◌, ⊤, pos, ◌≤ℤ◌, List, [], ◌∷◌, ◌++◌, length, Option, Some, None, slice_get}
 use Rattle.mk_base.specs.declared.SimNo.{SimNo}
 use Rattle.mk_plan.specs.declared.Item.{Item}
 use Rattle.mk_plan.specs.declared.Item.TheVariants.{Step, GetData, Answer, Refuse}
 use Rattle.mk_sched.specs.Cores.{CoreState}
+use Rattle.mk_pace_held.specs.declared.held.Due.{Due}
 use Rattle.mk_pace_held.specs.declared.held.First.{First}
 use Rattle.mk_pace_held.specs.declared.held.Held.{Held}
 use Rattle.mk_pace_held.specs.Firsts.{IsChanged, first_at}
 use Rattle.mk_pace_laws.specs.declared.end.Moment.{Moment}
 use Rattle.mk_pace_laws.specs.declared.end.PaceEnd.{PaceEnd}
 use Rattle.mk_pace_laws.specs.declared.end.PaceEnd.TheVariants as pace
-use Rattle.mk_pace_laws.specs.Moments.{Tempo}
-use Rattle.mk_pace_loop.specs.inner.Pacing.{DueAs}
+use Rattle.mk_pace_laws.specs.Moments.{Tempo, moment_at}
 
 -- for each simulator what waits of its items, the moments of what was sent, the tempo, and how many
 -- milliseconds late a Step may be
@@ -20,6 +20,22 @@ pub record WaitingSeen : Type 0 where
   pub moments : List Moment
   pub tempo : Tempo
   pub strict : Option ℕ
+
+-- what waits, by its parts
+abbrev pub waiting_seen : Tempo → Option ℕ → List (List Held) → List Moment → WaitingSeen
+waiting_seen T strict holds moments = record {
+  holds = holds;
+  moments = moments;
+  tempo = T;
+  strict = strict;
+}
+
+-- when an item is due, if it is a Step
+abbrev pub DueAs : Tempo → Item → Option Due → Type 0
+DueAs T (Step x inputs advance) due = due ≡ Some (record { at = x; moment = moment_at T x.time })
+DueAs T (GetData wanted) due = due ≡ None
+DueAs T (Answer id content) due = due ≡ None
+DueAs T (Refuse id reason) due = due ≡ None
 
 -- the tempo and the bound are as they were
 pub record IsOnTempo (old new : WaitingSeen) : Type 0 where
