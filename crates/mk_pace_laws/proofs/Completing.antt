@@ -1,7 +1,6 @@
 -- A paced run in which nothing went wrong and no Step was late ends with everything done, or for want of memory.
 use Rattle.std.proofs.Common.{◌≡◌, Option, is_some, refl, sym, ap, ◌∙◌, ◌⊎◌, inl, inr, true≢false}
 use Rattle.mk_plan.specs.Journals as journals
-use Rattle.mk_run_laws.specs.Exchanges.{exchange}
 use Rattle.mk_run.specs.declared.outcome.Outcome.{Outcome}
 use Rattle.mk_run.specs.declared.outcome.Outcome.TheVariants.{Done, Setup, Core, Fleet, Gone, Garbled, LongFrame, LongItem, Mem}
 use Rattle.mk_pace_laws.specs.declared.end.PaceEnd.{PaceEnd}
@@ -10,9 +9,9 @@ use Rattle.mk_pace_laws.specs.Ends.{Shows, ShowsOutcome}
 use Rattle.mk_pace_laws.specs.Laws.{PacesComplete}
 
 pub completes : PacesComplete
-completes started S reply P J T strict moments log faults new_faults end run fine = whole end run.shown
+completes X P J T strict moments faults new_faults end run fine = whole end run.shown
   where
-    go : (e : Outcome) → ShowsOutcome (exchange started S reply log) P J faults new_faults e → (pace.Outcome e ≡ pace.Outcome Done) ⊎ (pace.Outcome e ≡ pace.Outcome Mem)
+    go : (e : Outcome) → ShowsOutcome X P J faults new_faults e → (pace.Outcome e ≡ pace.Outcome Done) ⊎ (pace.Outcome e ≡ pace.Outcome Mem)
     go Done shown = inl refl
     go (Core f) (inl wrong) = absurd (true≢false (sym wrong.named ∙ ap (λ (o : Option journals.Fault). is_some o) (sym wrong.fault) ∙ ap (λ (o : Option journals.Fault). is_some o) fine.no_fault))
     go (Core f) (inr full) = absurd (fine.roomy full.full full.more)
@@ -24,6 +23,6 @@ completes started S reply P J T strict moments log faults new_faults end run fin
     go (LongItem i n) shown = absurd (fine.short_items i.0 n shown)
     go Mem shown = inr refl
 
-    whole : (e : PaceEnd) → Shows (exchange started S reply log) P J T strict moments faults new_faults e → (e ≡ pace.Outcome Done) ⊎ (e ≡ pace.Outcome Mem)
+    whole : (e : PaceEnd) → Shows X P J T strict moments faults new_faults e → (e ≡ pace.Outcome Done) ⊎ (e ≡ pace.Outcome Mem)
     whole (pace.Outcome o) shown = go o shown
     whole (pace.Late sim time late allowed) shown = absurd (fine.in_time sim time late allowed shown)

@@ -15,10 +15,9 @@ use Rattle.mk_outside.specs.declared.fleet.LogEntry.TheVariants.{Ended}
 use Rattle.mk_outside.specs.Logs.{heard_on}
 use Rattle.mk_session.specs.Fronts.{BeginsGarbled}
 use Rattle.mk_scenario.specs.declared.parts.Scenario.{Scenario}
-use Rattle.mk_run_laws.specs.Exchanges.{Exchange, exchange}
+use Rattle.mk_run_laws.specs.Exchanges.{Exchange}
 use Rattle.mk_run_laws.specs.Handshake.{setup_count, sim_link}
 use Rattle.mk_run_laws.specs.Hearing.{rest_heard}
-use Rattle.mk_run_laws.specs.Kinds.{Replies}
 use Rattle.mk_run_laws.specs.Running.{SetupReplies}
 use Rattle.mk_run_laws.specs.Runs.{SaidWhole, SaysRight}
 use Rattle.mk_run.specs.declared.outcome.Outcome.TheVariants as outcome
@@ -55,11 +54,10 @@ pub record IsRightPace (X : Exchange) (P : Plan) (J : List Entry) (moments : Lis
 
 -- every paced run is right
 abbrev pub PacesAreRight : Type 0
-PacesAreRight = (started : ℕ) (S : Scenario) (reply : Replies) (P : Plan) (J : List Entry)
-    (T : Tempo) (strict : Option ℕ) (moments : List Moment) (log : List LogEntry)
-    (faults new_faults : ℕ) (end : PaceEnd)
-    → IsPaced (exchange started S reply log) P J T strict moments faults new_faults end
-    → IsRightPace (exchange started S reply log) P J moments (HasRisen faults new_faults) end
+PacesAreRight = (X : Exchange) (P : Plan) (J : List Entry) (T : Tempo) (strict : Option ℕ)
+    (moments : List Moment) (faults new_faults : ℕ) (end : PaceEnd)
+    → IsPaced X P J T strict moments faults new_faults end
+    → IsRightPace X P J moments (HasRisen faults new_faults) end
 
 -- what stood at each sleep, said of the run's own journal
 abbrev pub NapsAreWell : Type 0
@@ -69,25 +67,23 @@ NapsAreWell = (started : ℕ) (S : Scenario) (replies : SetupReplies)
     → IsRising log → AreNaps started S replies P T J log → NapsWell started S P T J log
 
 -- nothing went wrong that a paced run can show
-pub record IsFaultlessPace (started : ℕ) (S : Scenario) (P : Plan) (J : List Entry) (T : Tempo)
-    (strict : Option ℕ) (moments : List Moment) (log : List LogEntry)
-    (faults new_faults : ℕ) : Type 0 where
+pub record IsFaultlessPace (X : Exchange) (P : Plan) (J : List Entry) (T : Tempo)
+    (strict : Option ℕ) (moments : List Moment) (faults new_faults : ℕ) : Type 0 where
   pub no_fault : (view P J).fault ≡ None
-  pub roomy : length J ≡ P.entries → NeedsMore P J (IsMessageLeft started S P J log) → ⊥
+  pub roomy : length J ≡ P.entries → NeedsMore P J (IsMessageLeft X.started X.scenario P J X.log) → ⊥
   pub counts : HasRisen faults new_faults → ⊥
-  pub open_links : (i : ℕ) (l : LinkNo) → sim_link started S i ≡ Some l → IsIn (Ended l) log → ⊥
-  pub right_frames : (i : ℕ) (l : LinkNo) (n : ℕ) → sim_link started S i ≡ Some l
-      → BeginsGarbled (rest_heard (heard_on l log)) n ⊎ IsTooLong n (rest_heard (heard_on l log))
+  pub open_links : (i : ℕ) (l : LinkNo) → sim_link X.started X.scenario i ≡ Some l → IsIn (Ended l) X.log → ⊥
+  pub right_frames : (i : ℕ) (l : LinkNo) (n : ℕ) → sim_link X.started X.scenario i ≡ Some l
+      → BeginsGarbled (rest_heard (heard_on l X.log)) n ⊎ IsTooLong n (rest_heard (heard_on l X.log))
       → ⊥
-  pub short_items : (i n : ℕ) → IsLongAmong started S P J i n → ⊥
+  pub short_items : (i n : ℕ) → IsLongAmong X.started X.scenario P J i n → ⊥
   pub in_time : (sim : SimNo) (time : ℤ) (late allowed : ℕ)
-      → IsLate T strict J moments log sim time late allowed → ⊥
+      → IsLate T strict J moments X.log sim time late allowed → ⊥
 
 -- then it ended because nothing was left to do, or for want of memory
 abbrev pub PacesComplete : Type 0
-PacesComplete = (started : ℕ) (S : Scenario) (reply : Replies) (P : Plan) (J : List Entry)
-    (T : Tempo) (strict : Option ℕ) (moments : List Moment) (log : List LogEntry)
-    (faults new_faults : ℕ) (end : PaceEnd)
-    → IsPaced (exchange started S reply log) P J T strict moments faults new_faults end
-    → IsFaultlessPace started S P J T strict moments log faults new_faults
+PacesComplete = (X : Exchange) (P : Plan) (J : List Entry) (T : Tempo) (strict : Option ℕ)
+    (moments : List Moment) (faults new_faults : ℕ) (end : PaceEnd)
+    → IsPaced X P J T strict moments faults new_faults end
+    → IsFaultlessPace X P J T strict moments faults new_faults
     → (end ≡ pace.Outcome outcome.Done) ⊎ (end ≡ pace.Outcome outcome.Mem)

@@ -19,4 +19,4 @@ alike P valid J K eager_j eager_k within_j within_k done_j done_k = record {
 }
 
 pub runs_alike : RunsAndResumedRunsAreAlike
-runs_alike started S reply P J log faults new_faults run again S' reply' saved K log' faults' new_faults' r = alike P run.valid J K run.eager r.eager run.within r.within run.shown r.shown.0
+runs_alike X P J faults new_faults run Y saved K faults' new_faults' r = alike P run.valid J K run.eager r.eager run.within r.within run.shown r.shown.0

@@ -1,7 +1,6 @@
 -- A resumed run in which nothing went wrong ends with everything done, or for want of memory.
 use Rattle.std.proofs.Common.{◌≡◌, ◌⊎◌, inl, inr, Option, is_some, refl, sym, ap, ◌∙◌, true≢false}
 use Rattle.mk_plan.specs.Journals as journals
-use Rattle.mk_run_laws.specs.Exchanges.{exchange}
 use Rattle.mk_run.specs.declared.outcome.Outcome.TheVariants.{Done, Setup, Core, Fleet, Gone, Garbled, LongFrame, LongItem, Mem}
 use Rattle.mk_resume_loop.specs.declared.ending.ResumeEnd.{ResumeEnd}
 use Rattle.mk_resume_loop.specs.declared.ending.ResumeEnd.TheVariants.{Outcome, OtherPlan, OtherEntry, Differs}
@@ -9,9 +8,9 @@ use Rattle.mk_resume.specs.Resumed.{ShownBy}
 use Rattle.mk_resume.specs.Laws.{ResumedRunsComplete}
 
 pub completes : ResumedRunsComplete
-completes started S reply P saved J log faults new_faults end run fine = go end run.shown
+completes X P saved J faults new_faults end run fine = go end run.shown
   where
-    go : (e : ResumeEnd) → ShownBy (exchange started S reply log) P run.first J run.heard faults new_faults e → (e ≡ Outcome Done) ⊎ (e ≡ Outcome Mem)
+    go : (e : ResumeEnd) → ShownBy X P run.first J run.heard faults new_faults e → (e ≡ Outcome Done) ⊎ (e ≡ Outcome Mem)
     go (Outcome Done) shown = inl refl
     go (Outcome (Core f)) (inl wrong) = absurd (true≢false (sym wrong.named ∙ ap (λ (o : Option journals.Fault). is_some o) (sym wrong.fault) ∙ ap (λ (o : Option journals.Fault). is_some o) fine.no_fault))
     go (Outcome (Core f)) (inr full) = absurd (fine.roomy full.full full.more)

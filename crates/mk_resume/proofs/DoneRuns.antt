@@ -18,10 +18,9 @@ use Rattle.mk_order.proofs.Headlines.{orderly_finished}
 use Rattle.mk_order.proofs.Pushing.{orderly_front}
 use Rattle.mk_plan.specs.Orderly.{IsOrderlySoFar}
 use Rattle.mk_outside.specs.Counts.{HasRisen}
-use Rattle.mk_outside.specs.declared.fleet.LogEntry.{LogEntry}
 use Rattle.mk_scenario.specs.declared.parts.Scenario.{Scenario}
 use Rattle.mk_record_read.specs.declared.saved.Saved.{Saved}
-use Rattle.mk_run_laws.specs.Exchanges.{exchange}
+use Rattle.mk_run_laws.specs.Exchanges.{Exchange}
 use Rattle.mk_run_laws.specs.Handshake.{is_within, sim_link}
 use Rattle.mk_run_laws.specs.Kinds.{KeepsToKinds, Replies}
 use Rattle.mk_run_laws.specs.Runs.{IsLinkOfRun}
@@ -98,44 +97,44 @@ keeps P S reply J heard sims orderly fine all kinds H s m more is within = recor
 
 -- ---- the whole run
 
-module _ (started : ℕ) (S : Scenario) (reply : Replies) (P : Plan) (saved : Saved) (J : List Entry) (log : List LogEntry) (faults new_faults : ℕ) (r : IsResumed (exchange started S reply log) P saved J faults new_faults (ends.Outcome outcome.Done)) where
+module _ (X : Exchange) (P : Plan) (saved : Saved) (J : List Entry) (faults new_faults : ℕ) (r : IsResumed X P saved J faults new_faults (ends.Outcome outcome.Done)) where
   done : IsDone P (view P J)
   done = r.shown.0
 
   orderly : IsOrderlySoFar IsReady IsAdvance P J
   orderly = r.eager.0.0
 
-  all_of : (i : ℕ) (l : LinkNo) → sim_link started S i ≡ Some l → up_to i (r.heard i) J ≡ J
-  all_of i l linked = up_to_all i (r.heard i) J (let e = r.shown.1 i (subst (λ (k : ℕ). i < k) (sym r.sims) (linked_outside started S i l linked).1) in omega (arith, e))
+  all_of : (i : ℕ) (l : LinkNo) → sim_link X.started X.scenario i ≡ Some l → up_to i (r.heard i) J ≡ J
+  all_of i l linked = up_to_all i (r.heard i) J (let e = r.shown.1 i (subst (λ (k : ℕ). i < k) (sym r.sims) (linked_outside X.started X.scenario i l linked).1) in omega (arith, e))
 
-  link_of : (i : ℕ) (l : LinkNo) → sim_link started S i ≡ Some l → (items : List Item) → IsLinkOfRun S r.replies (up_to i (r.heard i) J) log (HasRisen faults new_faults) i l items → IsLinkOfRun S r.replies J log (HasRisen faults new_faults) i l items
-  link_of i l linked items t = subst (λ (K : List Entry). IsLinkOfRun S r.replies K log (HasRisen faults new_faults) i l items) (all_of i l linked) t
+  link_of : (i : ℕ) (l : LinkNo) → sim_link X.started X.scenario i ≡ Some l → (items : List Item) → IsLinkOfRun X.scenario r.replies (up_to i (r.heard i) J) X.log (HasRisen faults new_faults) i l items → IsLinkOfRun X.scenario r.replies J X.log (HasRisen faults new_faults) i l items
+  link_of i l linked items t = subst (λ (K : List Entry). IsLinkOfRun X.scenario r.replies K X.log (HasRisen faults new_faults) i l items) (all_of i l linked) t
 
-  journal : IsJournalOf (exchange started S reply log) P J
+  journal : IsJournalOf X P J
   journal = record {
     sims = r.sims;
     orderly = orderly;
-    kinds = keeps P S reply J r.heard r.sims orderly done.no_fault r.shown.1 r.kinds;
+    kinds = keeps P X.scenario X.reply J r.heard r.sims orderly done.no_fault r.shown.1 r.kinds;
     links = λ i l linked. let t = r.links i l linked in (link_of i l linked t.0 t.1).got;
   }
 
 pub done_runs : DoneResumedRunsAreRuns
-done_runs started S reply P saved J log faults new_faults r = record {
+done_runs X P saved J faults new_faults r = record {
   journal = j;
   agrees = r.agrees;
-  links = λ i l linked. let t = r.links i l linked in let k = link_of started S reply P saved J log faults new_faults r i l linked t.0 t.1 in record {
+  links = λ i l linked. let t = r.links i l linked in let k = link_of X P saved J faults new_faults r i l linked t.0 t.1 in record {
     items = t.0;
-    right = run_says P r.valid started S j.sims reply log J j.orderly j.kinds j.links r.replies (HasRisen faults new_faults) i l t.0 k;
+    right = run_says P r.valid X.started X.scenario j.sims X.reply X.log J j.orderly j.kinds j.links r.replies (HasRisen faults new_faults) i l t.0 k;
     whole = k.whole;
-    all = t.2 ∙ ap (λ (K : List Entry). sent K i) (all_of started S reply P saved J log faults new_faults r i l linked);
+    all = t.2 ∙ ap (λ (K : List Entry). sent K i) (all_of X P saved J faults new_faults r i l linked);
   };
   done = record {
-    all = λ R may i. items_all P r.valid started S j.sims reply log J j.orderly j.kinds j.links R may r.shown.0 i;
-    answers = λ R goes. done_answers P reply (is_within S) r.valid J j.orderly j.kinds r.shown.0 R goes;
+    all = λ R may i. items_all P r.valid X.started X.scenario j.sims X.reply X.log J j.orderly j.kinds j.links R may r.shown.0 i;
+    answers = λ R goes. done_answers P X.reply (is_within X.scenario) r.valid J j.orderly j.kinds r.shown.0 R goes;
     finished = orderly_finished P r.valid J r.eager.0 r.shown.0;
   };
-  promised = λ H s x inputs advance more parts low R may. step_promised P r.valid started S j.sims reply log J j.orderly j.kinds j.links H s x inputs advance more parts low R may;
+  promised = λ H s x inputs advance more parts low R may. step_promised P r.valid X.started X.scenario j.sims X.reply X.log J j.orderly j.kinds j.links H s x inputs advance more parts low R may;
 }
   where
-    j : IsJournalOf (exchange started S reply log) P J
-    j = journal started S reply P saved J log faults new_faults r
+    j : IsJournalOf X P J
+    j = journal X P saved J faults new_faults r

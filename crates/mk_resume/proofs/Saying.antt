@@ -26,7 +26,7 @@ free_begins J i n = elim (few_or_all n (length (got J i))) [
 ]
 
 pub says_right : ResumedRunsSayRight
-says_right started S reply P saved J log faults new_faults end r i l linked =
+says_right X P saved J faults new_faults end r i l linked =
     let t = r.links i l linked in
     record {
       items = t.0;

@@ -13,9 +13,7 @@ use Rattle.mk_plan.specs.Sequential.{Messages, run_items}
 use Rattle.mk_plan.specs.Journals.{arrivals, view, sent, got, bare}
 use Rattle.mk_plan.specs.Agreement.{Agrees, Continues}
 use Rattle.mk_frame.specs.Frames.{IsTooLong}
-use Rattle.mk_scenario.specs.declared.parts.Scenario.{Scenario}
 use Rattle.mk_outside.specs.Counts.{HasRisen}
-use Rattle.mk_outside.specs.declared.fleet.LogEntry.{LogEntry}
 use Rattle.mk_outside.specs.declared.fleet.LogEntry.TheVariants.{Ended}
 use Rattle.mk_outside.specs.Logs.{heard_on, said_on}
 use Rattle.mk_session.specs.Fronts.{BeginsGarbled}
@@ -25,14 +23,12 @@ use Rattle.mk_plan_same.specs.Parts.{IsFirstOther}
 use Rattle.mk_record_restored.specs.Restored.{IsFaulted, IsOtherIn}
 use Rattle.mk_sched.specs.declared.faults.CoreFault.{CoreFault}
 use Rattle.mk_sched.specs.Answers.{SomeReady}
-use Rattle.mk_run_crew.specs.Attempts.{attempt}
-use Rattle.mk_local.specs.declared.turn.Turn.{Turn}
+use Rattle.mk_run_crew.specs.Attempts.{Attempt}
 use Rattle.mk_setup.specs.Handshakes.{IsMade}
-use Rattle.mk_run_laws.specs.Exchanges.{exchange}
+use Rattle.mk_run_laws.specs.Exchanges.{Exchange}
 use Rattle.mk_run_laws.specs.Hearing.{messages_heard, rest_heard}
 use Rattle.mk_run_laws.specs.Handshake.{setup_count, setup_requests, sim_link}
 use Rattle.mk_run_laws.specs.Payloads.{AreFramed, link_payloads}
-use Rattle.mk_run_laws.specs.Kinds.{Replies}
 use Rattle.mk_run_laws.specs.Runs.{SaidWhole, run_frames}
 use Rattle.mk_run_laws.specs.Laws.{IsJournalOf}
 use Rattle.mk_run_crew.specs.Answers.{answers_to}
@@ -50,42 +46,40 @@ use Rattle.mk_resume.specs.Resumed.{HasNotBegun, IsDiffering, SomeUntaken, IsRes
 -- and a stop, no payload being longer than a frame's may be; all of it, but where a write took
 -- nothing or the count of faults rose; and these items begin what sequential execution sends it over
 -- all messages that go on from the journal's
-pub record LinkSaysFree (S : Scenario) (P : Plan) (J : List Entry) (heard : Counts)
-    (log : List LogEntry) (risen : Type 0) (end : ResumeEnd) (i : ℕ) (l : LinkNo) : Type 0 where
+pub record LinkSaysFree (X : Exchange) (P : Plan) (J : List Entry) (heard : Counts)
+    (risen : Type 0) (end : ResumeEnd) (i : ℕ) (l : LinkNo) : Type 0 where
   pub items : List Item
   pub free : BeginsWith (free_items J i (heard i)) items
-  pub said : BeginsWith (run_frames S i items) (said_on l log)
-  pub framed : AreFramed (link_payloads S i (setup_count S i) items true)
-  pub whole : SaidWhole S log risen i l (setup_count S i) items
+  pub said : BeginsWith (run_frames X.scenario i items) (said_on l X.log)
+  pub framed : AreFramed (link_payloads X.scenario i (setup_count X.scenario i) items true)
+  pub whole : SaidWhole X.scenario X.log risen i l (setup_count X.scenario i) items
   pub all : QueuedAllAt end (free_items J i (heard i)) items
   pub as_executed : (R : Messages) → Continues P J R → i < sim_count P
       → BeginsWith (run_items P R i) (map bare items)
 
 -- so it is on each link of a resumed run
 abbrev pub ResumedRunsSayRight : Type 0
-ResumedRunsSayRight = (started : ℕ) (S : Scenario) (reply : Replies) (P : Plan) (saved : Saved)
-    (J : List Entry) (log : List LogEntry) (faults new_faults : ℕ) (end : ResumeEnd)
-    → (r : IsResumed (exchange started S reply log) P saved J faults new_faults end)
-    → (i : ℕ) (l : LinkNo) → sim_link started S i ≡ Some l
-    → LinkSaysFree S P J r.heard log (HasRisen faults new_faults) end i l
+ResumedRunsSayRight = (X : Exchange) (P : Plan) (saved : Saved) (J : List Entry)
+    (faults new_faults : ℕ) (end : ResumeEnd)
+    → (r : IsResumed X P saved J faults new_faults end)
+    → (i : ℕ) (l : LinkNo) → sim_link X.started X.scenario i ≡ Some l
+    → LinkSaysFree X P J r.heard (HasRisen faults new_faults) end i l
 
 -- what holds of a run at whose end nothing is left to do
-pub record IsDoneRun (started : ℕ) (S : Scenario) (reply : Replies) (P : Plan) (J : List Entry)
-    (log : List LogEntry) (risen : Type 0) : Type 0 where
-  pub journal : IsJournalOf (exchange started S reply log) P J
+pub record IsDoneRun (X : Exchange) (P : Plan) (J : List Entry) (risen : Type 0) : Type 0 where
+  pub journal : IsJournalOf X P J
   pub agrees : Agrees P J
-  pub links : (i : ℕ) (l : LinkNo) → sim_link started S i ≡ Some l
-      → LinkSaysRight (exchange started S reply log) P J risen outcome.Done i l
-  pub done : HasSentAll (exchange started S reply log) P J
-  pub promised : ArePromised (exchange started S reply log) P J
+  pub links : (i : ℕ) (l : LinkNo) → sim_link X.started X.scenario i ≡ Some l
+      → LinkSaysRight X P J risen outcome.Done i l
+  pub done : HasSentAll X P J
+  pub promised : ArePromised X P J
 
 -- a resumed run at whose end nothing is left to do is such a run
 abbrev pub DoneResumedRunsAreRuns : Type 0
-DoneResumedRunsAreRuns = (started : ℕ) (S : Scenario) (reply : Replies) (P : Plan) (saved : Saved)
-    (J : List Entry) (log : List LogEntry) (faults new_faults : ℕ)
-    → IsResumed (exchange started S reply log) P saved J faults new_faults
-    (ends.Outcome outcome.Done)
-    → IsDoneRun started S reply P J log (HasRisen faults new_faults)
+DoneResumedRunsAreRuns = (X : Exchange) (P : Plan) (saved : Saved) (J : List Entry)
+    (faults new_faults : ℕ)
+    → IsResumed X P saved J faults new_faults (ends.Outcome outcome.Done)
+    → IsDoneRun X P J (HasRisen faults new_faults)
 
 -- two journals of one plan: if they took the same messages in one order they are one; if each
 -- simulator sent the same messages it was sent the same items, but for their max_advance
@@ -96,38 +90,34 @@ pub record AreAlike (P : Plan) (J K : List Entry) : Type 0 where
 
 -- so it is of a run and a resumed run of one plan, at whose ends nothing is left to do
 abbrev pub RunsAndResumedRunsAreAlike : Type 0
-RunsAndResumedRunsAreAlike = (started : ℕ) (S : Scenario) (reply : Replies) (P : Plan)
-    (J : List Entry) (log : List LogEntry) (faults new_faults : ℕ)
-    → IsRun (exchange started S reply log) P J faults new_faults outcome.Done
-    → (again : ℕ) (S' : Scenario) (reply' : Replies) (saved : Saved) (K : List Entry)
-    (log' : List LogEntry) (faults' new_faults' : ℕ)
-    → IsResumed (exchange again S' reply' log') P saved K faults' new_faults'
-    (ends.Outcome outcome.Done)
+RunsAndResumedRunsAreAlike = (X : Exchange) (P : Plan) (J : List Entry) (faults new_faults : ℕ)
+    → IsRun X P J faults new_faults outcome.Done
+    → (Y : Exchange) (saved : Saved) (K : List Entry) (faults' new_faults' : ℕ)
+    → IsResumed Y P saved K faults' new_faults' (ends.Outcome outcome.Done)
     → AreAlike P J K
 
 -- nothing went wrong that a resumed run can show: each simulator sent its saved messages again and
 -- then right ones, no limit was met, no link ended or brought no message, and no count rose
-pub record IsFaultless (started : ℕ) (S : Scenario) (reply : Replies) (P : Plan)
-    (first J : List Entry) (heard : Counts) (log : List LogEntry)
+pub record IsFaultless (X : Exchange) (P : Plan) (first J : List Entry) (heard : Counts)
     (faults new_faults : ℕ) : Type 0 where
   pub no_fault : (view P J).fault ≡ None
   pub roomy : length J ≡ P.entries
-      → IsSome (view P J).owed ⊎ (SomeReady P J ⊎ SomeUntaken started S J heard log) → ⊥
+      → IsSome (view P J).owed ⊎ (SomeReady P J ⊎ SomeUntaken X.started X.scenario J heard X.log) → ⊥
   pub repeated : (sim : SimNo) (place : ℕ) (kept other : Message)
-      → IsDiffering (exchange started S reply log) first J heard sim place kept other → ⊥
+      → IsDiffering X first J heard sim place kept other → ⊥
   pub counts : HasRisen faults new_faults → ⊥
-  pub open_links : (i : ℕ) (l : LinkNo) → sim_link started S i ≡ Some l → IsIn (Ended l) log → ⊥
-  pub right_frames : (i : ℕ) (l : LinkNo) (n : ℕ) → sim_link started S i ≡ Some l
-      → BeginsGarbled (rest_heard (heard_on l log)) n ⊎ IsTooLong n (rest_heard (heard_on l log))
+  pub open_links : (i : ℕ) (l : LinkNo) → sim_link X.started X.scenario i ≡ Some l → IsIn (Ended l) X.log → ⊥
+  pub right_frames : (i : ℕ) (l : LinkNo) (n : ℕ) → sim_link X.started X.scenario i ≡ Some l
+      → BeginsGarbled (rest_heard (heard_on l X.log)) n ⊎ IsTooLong n (rest_heard (heard_on l X.log))
       → ⊥
-  pub short_items : (i n : ℕ) → IsLongFree started S P J heard i n → ⊥
+  pub short_items : (i n : ℕ) → IsLongFree X.started X.scenario P J heard i n → ⊥
 
 -- then it ended because nothing was left to do, or for want of memory
 abbrev pub ResumedRunsComplete : Type 0
-ResumedRunsComplete = (started : ℕ) (S : Scenario) (reply : Replies) (P : Plan) (saved : Saved)
-    (J : List Entry) (log : List LogEntry) (faults new_faults : ℕ) (end : ResumeEnd)
-    → (r : IsResumed (exchange started S reply log) P saved J faults new_faults end)
-    → IsFaultless started S reply P r.first J r.heard log faults new_faults
+ResumedRunsComplete = (X : Exchange) (P : Plan) (saved : Saved) (J : List Entry)
+    (faults new_faults : ℕ) (end : ResumeEnd)
+    → (r : IsResumed X P saved J faults new_faults end)
+    → IsFaultless X P r.first J r.heard faults new_faults
     → (end ≡ ends.Outcome outcome.Done) ⊎ (end ≡ ends.Outcome outcome.Mem)
 
 -- each end of a record that isn't taken comes exactly where its cause is there: the plan is another
@@ -144,21 +134,18 @@ pub record EndsExactly (P : Plan) (saved : Saved) (end : ResumeEnd) : Type 0 whe
 
 -- the handshake made a plan of answers, which on each link are the first messages that were heard,
 -- and over it the ends are those
-pub record HasEndedExactly (started : ℕ) (S : Scenario) (ranks : List ℕ) (saved : Saved)
-    (log : List LogEntry) (end : ResumeEnd) : Type 0 where
+pub record HasEndedExactly (A : Attempt) (saved : Saved) (end : ResumeEnd) : Type 0 where
   pub plan : Plan
   pub answers : List Message
-  pub made : IsMade S ranks answers plan
-  pub heard : (i : ℕ) (l : LinkNo) → sim_link started S i ≡ Some l
-      → take (setup_count S i) (messages_heard (heard_on l log))
-      ≡ answers_to i (setup_requests S) answers
+  pub made : IsMade A.scenario A.ranks answers plan
+  pub heard : (i : ℕ) (l : LinkNo) → sim_link A.started A.scenario i ≡ Some l
+      → take (setup_count A.scenario i) (messages_heard (heard_on l A.log))
+      ≡ answers_to i (setup_requests A.scenario) answers
   pub exactly : EndsExactly plan saved end
 
 -- so it is of each call, but where the handshake ended early
 abbrev pub ResumeEndsExactly : Type 0
-ResumeEndsExactly = (started : ℕ) (S : Scenario) (ranks : List ℕ) (rows : List Turn)
-    (saved : Saved) (taken : Bool) (P : Option Plan) (J : Option Journal) (log : List LogEntry)
-    (faults new_faults : ℕ) (end : ResumeEnd)
-    → ResumesAs (attempt started S ranks rows log) saved taken P J faults new_faults end
-    → HasNotBegun (attempt started S ranks rows log) (HasRisen faults new_faults) end
-    ⊎ HasEndedExactly started S ranks saved log end
+ResumeEndsExactly = (A : Attempt) (saved : Saved) (taken : Bool) (P : Option Plan)
+    (J : Option Journal) (faults new_faults : ℕ) (end : ResumeEnd)
+    → ResumesAs A saved taken P J faults new_faults end
+    → HasNotBegun A (HasRisen faults new_faults) end ⊎ HasEndedExactly A saved end

@@ -1,15 +1,14 @@
 -- A run in which nothing went wrong ends with everything done, or for want of memory.
 use Rattle.std.proofs.Common.{◌≡◌, Option, is_some, refl, sym, ap, ◌∙◌, ◌⊎◌, inl, inr, true≢false}
 use Rattle.mk_plan.specs.Journals as journals
-use Rattle.mk_run_laws.specs.Exchanges.{exchange}
 use Rattle.mk_run.specs.declared.outcome.Outcome.{Outcome}
 use Rattle.mk_run.specs.declared.outcome.Outcome.TheVariants.{Done, Setup, Core, Fleet, Gone, Garbled, LongFrame, LongItem, Mem}
 use Rattle.mk_run.specs.Ends.{ShownBy, Completes}
 
 pub completes : Completes
-completes started S reply P J log faults new_faults end run fine = go end run.shown
+completes X P J faults new_faults end run fine = go end run.shown
   where
-    go : (e : Outcome) → ShownBy (exchange started S reply log) P J faults new_faults e → (e ≡ Done) ⊎ (e ≡ Mem)
+    go : (e : Outcome) → ShownBy X P J faults new_faults e → (e ≡ Done) ⊎ (e ≡ Mem)
     go Done shown = inl refl
     go (Core f) (inl wrong) = absurd (true≢false (sym wrong.named ∙ ap (λ (o : Option journals.Fault). is_some o) (sym wrong.fault) ∙ ap (λ (o : Option journals.Fault). is_some o) fine.no_fault))
     go (Core f) (inr full) = absurd (fine.roomy full.full full.more)

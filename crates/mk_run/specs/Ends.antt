@@ -24,10 +24,9 @@ use Rattle.mk_session.specs.Fronts.{BeginsGarbled}
 use Rattle.mk_sched.specs.declared.faults.CoreFault.{CoreFault}
 use Rattle.mk_sched.specs.declared.faults.CoreFault.TheVariants.{TooLong}
 use Rattle.mk_sched.specs.Answers.{IsLastFaulty, SomeOpen, SomeReady, fault_in}
-use Rattle.mk_run_laws.specs.Exchanges.{Exchange, exchange}
+use Rattle.mk_run_laws.specs.Exchanges.{Exchange}
 use Rattle.mk_run_laws.specs.Hearing.{rest_heard}
 use Rattle.mk_run_laws.specs.Handshake.{sim_link, is_within}
-use Rattle.mk_run_laws.specs.Kinds.{Replies}
 use Rattle.mk_run_laws.specs.Rests.{run_messages, AllSetUp, IsWellInSetup, RestsWell}
 use Rattle.mk_run_laws.specs.Running.{SetupReplies}
 use Rattle.mk_run_laws.specs.Runs.{IsLinkOfRun}
@@ -178,20 +177,19 @@ pub record IsRun (X : Exchange) (P : Plan) (J : List Entry) (faults new_faults :
   pub on_links : AreOn (IsRunLink X.started X.scenario) X.log
 
 -- nothing went wrong that a run can show
-pub record IsFaultless (started : ℕ) (S : Scenario) (P : Plan) (J : List Entry)
-    (log : List LogEntry) (faults new_faults : ℕ) : Type 0 where
+pub record IsFaultless (X : Exchange) (P : Plan) (J : List Entry)
+    (faults new_faults : ℕ) : Type 0 where
   pub no_fault : (view P J).fault ≡ None
-  pub roomy : length J ≡ P.entries → NeedsMore P J (IsMessageLeft started S P J log) → ⊥
+  pub roomy : length J ≡ P.entries → NeedsMore P J (IsMessageLeft X.started X.scenario P J X.log) → ⊥
   pub counts : HasRisen faults new_faults → ⊥
-  pub open_links : (i : ℕ) (l : LinkNo) → sim_link started S i ≡ Some l → IsIn (Ended l) log → ⊥
-  pub right_frames : (i : ℕ) (l : LinkNo) (n : ℕ) → sim_link started S i ≡ Some l
-      → BeginsGarbled (rest_heard (heard_on l log)) n ⊎ IsTooLong n (rest_heard (heard_on l log))
+  pub open_links : (i : ℕ) (l : LinkNo) → sim_link X.started X.scenario i ≡ Some l → IsIn (Ended l) X.log → ⊥
+  pub right_frames : (i : ℕ) (l : LinkNo) (n : ℕ) → sim_link X.started X.scenario i ≡ Some l
+      → BeginsGarbled (rest_heard (heard_on l X.log)) n ⊎ IsTooLong n (rest_heard (heard_on l X.log))
       → ⊥
-  pub short_items : (i n : ℕ) → IsLongItem started S P J i n → ⊥
+  pub short_items : (i n : ℕ) → IsLongItem X.started X.scenario P J i n → ⊥
 
 -- then it ended because nothing was left to do, or for want of memory
 abbrev pub Completes : Type 0
-Completes = (started : ℕ) (S : Scenario) (reply : Replies) (P : Plan) (J : List Entry)
-    (log : List LogEntry) (faults new_faults : ℕ) (end : Outcome)
-    → IsRun (exchange started S reply log) P J faults new_faults end
-    → IsFaultless started S P J log faults new_faults → (end ≡ outcome.Done) ⊎ (end ≡ outcome.Mem)
+Completes = (X : Exchange) (P : Plan) (J : List Entry) (faults new_faults : ℕ) (end : Outcome)
+    → IsRun X P J faults new_faults end → IsFaultless X P J faults new_faults
+    → (end ≡ outcome.Done) ⊎ (end ≡ outcome.Mem)

@@ -14,17 +14,14 @@ use Rattle.mk_plan.specs.Sequential.{Messages, sequential, run_items, all_ended}
 use Rattle.mk_plan.specs.Journals.{sent, bare}
 use Rattle.mk_plan.specs.Advance.{IsPromised}
 use Rattle.mk_plan.specs.Agreement.{Agrees, Continues, IsFinished}
-use Rattle.mk_scenario.specs.declared.parts.Scenario.{Scenario}
 use Rattle.mk_outside.specs.Counts.{HasRisen}
-use Rattle.mk_outside.specs.declared.fleet.LogEntry.{LogEntry}
-use Rattle.mk_run_crew.specs.Attempts.{attempt}
-use Rattle.mk_run_laws.specs.Exchanges.{Exchange, exchange}
+use Rattle.mk_run_crew.specs.Attempts.{Attempt}
+use Rattle.mk_run_laws.specs.Exchanges.{Exchange}
 use Rattle.mk_run_laws.specs.Handshake.{setup_count, sim_link, is_within}
-use Rattle.mk_run_laws.specs.Kinds.{Replies, AnswersByKind, RepliesAreRight}
+use Rattle.mk_run_laws.specs.Kinds.{AnswersByKind, RepliesAreRight}
 use Rattle.mk_run_laws.specs.Rests.{RestsWell}
 use Rattle.mk_run_laws.specs.Runs.{IsPossible, IsPossibleUpTo, SaysRight, SaidWhole}
 use Rattle.mk_launch.specs.Ready.{IsPrepared}
-use Rattle.mk_local.specs.declared.turn.Turn.{Turn}
 use Rattle.mk_local.specs.Kinds.{name_of}
 use Rattle.mk_sched.specs.declared.faults.CoreFault.{CoreFault}
 use Rattle.mk_sched.specs.declared.faults.CoreFault.TheVariants.{Failed, LoopLimit, TooLong, Wrong}
@@ -75,18 +72,14 @@ pub record IsRightRun (X : Exchange) (P : Plan) (J : List Entry) (risen : Type 0
 
 -- every run is right
 abbrev pub RunsAreRight : Type 0
-RunsAreRight = (started : ℕ) (S : Scenario) (reply : Replies) (P : Plan) (J : List Entry)
-    (log : List LogEntry) (faults new_faults : ℕ) (end : Outcome)
-    → IsRun (exchange started S reply log) P J faults new_faults end
-    → IsRightRun (exchange started S reply log) P J (HasRisen faults new_faults) end
+RunsAreRight = (X : Exchange) (P : Plan) (J : List Entry) (faults new_faults : ℕ) (end : Outcome)
+    → IsRun X P J faults new_faults end → IsRightRun X P J (HasRisen faults new_faults) end
 
 -- in the plan of each run no reply of a simulator within the program is wrong
 abbrev pub KindsFit : Type 0
-KindsFit = (started : ℕ) (S : Scenario) (ranks : List ℕ) (rows : List Turn) (P : Plan)
-    (J : List Entry) (log : List LogEntry) (faults new_faults : ℕ) (end : Outcome)
-    → IsPrepared S (map name_of rows)
-    → HasRun (attempt started S ranks rows log) P J faults new_faults end
-    → RepliesAreRight (kind_reply_of rows S) (is_within S) P
+KindsFit = (A : Attempt) (P : Plan) (J : List Entry) (faults new_faults : ℕ) (end : Outcome)
+    → IsPrepared A.scenario (map name_of A.rows) → HasRun A P J faults new_faults end
+    → RepliesAreRight (kind_reply_of A.rows A.scenario) (is_within A.scenario) P
 
 -- a limit of the plan: that of loops within a time, or that of entries
 abbrev pub IsLimit : CoreFault → Type 0
@@ -97,7 +90,6 @@ IsLimit (TooLong entries) = ⊤
 
 -- where all simulators are within the program, the core meets no fault but a limit
 abbrev pub WithinRunsEnd : Type 0
-WithinRunsEnd = (started : ℕ) (S : Scenario) (ranks : List ℕ) (rows : List Turn) (P : Plan)
-    (J : List Entry) (log : List LogEntry) (faults new_faults : ℕ) (f : CoreFault)
-    → IsPrepared S (map name_of rows) → is_wholly_within S ≡ true
-    → HasRun (attempt started S ranks rows log) P J faults new_faults (outcome.Core f) → IsLimit f
+WithinRunsEnd = (A : Attempt) (P : Plan) (J : List Entry) (faults new_faults : ℕ) (f : CoreFault)
+    → IsPrepared A.scenario (map name_of A.rows) → is_wholly_within A.scenario ≡ true
+    → HasRun A P J faults new_faults (outcome.Core f) → IsLimit f

@@ -1,16 +1,15 @@
 -- A handshake in which nothing went wrong ends early for want of memory alone.
 use Rattle.std.proofs.Common.{◌≡◌, refl, inl, inr}
 use Rattle.mk_outside.specs.Counts.{HasRisen}
-use Rattle.mk_run_crew.specs.Attempts.{attempt}
 use Rattle.mk_run_crew.specs.declared.halt.Halt.{Halt}
 use Rattle.mk_run_crew.specs.declared.halt.Halt.TheVariants.{Setup, Fleet, Gone, Garbled, LongFrame, LongItem, Mem}
 use Rattle.mk_run_crew.specs.Halted.{ShowsCause}
 use Rattle.mk_run_crew.specs.Completing.{HandshakesComplete}
 
 pub completes : HandshakesComplete
-completes started S ranks rows log faults new_faults h halted fine = go h halted.cause
+completes A faults new_faults h halted fine = go h halted.cause
   where
-    go : (e : Halt) → ShowsCause (attempt started S ranks rows log) (HasRisen faults new_faults) halted.queued halted.later e → e ≡ Mem
+    go : (e : Halt) → ShowsCause A (HasRisen faults new_faults) halted.queued halted.later e → e ≡ Mem
     go (Setup fault) shown = absurd (fine.right_replies fault shown)
     go Fleet shown = absurd (fine.counts shown)
     go (Gone sim) shown = absurd (fine.open_links sim.0 shown.0 shown.1 shown.2)

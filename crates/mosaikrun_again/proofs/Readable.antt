@@ -16,10 +16,7 @@ use Rattle.mk_plan.specs.declared.Item.TheVariants.{Step, GetData, Answer, Refus
 use Rattle.mk_plan.specs.declared.Message.{Message}
 use Rattle.mk_plan.specs.Journals.{bare, sent, sent_to}
 use Rattle.mk_plan.specs.Plans.{IsValidPlan, first_id, sim_count}
-use Rattle.mk_outside.specs.declared.fleet.LogEntry.{LogEntry}
-use Rattle.mk_scenario.specs.declared.parts.Scenario.{Scenario}
-use Rattle.mk_run_crew.specs.Attempts.{attempt}
-use Rattle.mk_local.specs.declared.turn.Turn.{Turn}
+use Rattle.mk_run_crew.specs.Attempts.{Attempt}
 use Rattle.mk_run_laws.specs.Handshake.{is_within, setup_count}
 use Rattle.mk_run_laws.proofs.Saying.{link_there}
 use Rattle.mk_record_read.specs.Entries.{entries_of}
@@ -60,11 +57,11 @@ first_low P valid i low =
     let few : t.0.first_id ≤ 1000000 = all_at (λ (s : PlanSim). s.first_id ≤ 1000000) P.sims i t.0 valid.well_formed.limits.first_ids t.1 in
     omega (arith, same, few)
 
-module _ (started : ℕ) (S : Scenario) (ranks : List ℕ) (rows : List Turn) (P : Plan) (J : List Entry) (log : List LogEntry) (faults new_faults : ℕ) (end : Outcome) (h : HasRun (attempt started S ranks rows log) P J faults new_faults end) (shallow : IsShallow S J) where
+module _ (A : Attempt) (P : Plan) (J : List Entry) (faults new_faults : ℕ) (end : Outcome) (h : HasRun A P J faults new_faults end) (shallow : IsShallow A.scenario J) where
   -- the ids of a simulator's requests in a run are below 2^63
-  ids_low : (H : List Entry) (s : SimNo) (m : Message) (more : List Entry) → J ≡ H ++ Got s m ∷ more → s.0 < sim_count P → setup_count S s.0 + length (map bare (sent H s.0)) < 2 ^ 63
+  ids_low : (H : List Entry) (s : SimNo) (m : Message) (more : List Entry) → J ≡ H ++ Got s m ∷ more → s.0 < sim_count P → setup_count A.scenario s.0 + length (map bare (sent H s.0)) < 2 ^ 63
   ids_low H s m more is low =
-      let first : setup_count S s.0 ≤ 1000000 = subst (λ (n : ℕ). n ≤ 1000000) (h.first s.0 low) (first_low P h.run.valid s.0 low) in
+      let first : setup_count A.scenario s.0 ≤ 1000000 = subst (λ (n : ℕ). n ≤ 1000000) (h.first s.0 low) (first_low P h.run.valid s.0 low) in
       let items : length (map bare (sent H s.0)) ≡ length (sent H s.0) = length-map (sent H s.0) bare in
       let few : length (sent H s.0) ≤ length H = kept_few (sent_to s.0) H in
       let part : length J ≡ length H + length (Got s m ∷ more) = ap length is ∙ length-append H (Got s m ∷ more) in
@@ -73,11 +70,11 @@ module _ (started : ℕ) (S : Scenario) (ranks : List ℕ) (rows : List Turn) (P
       omega (arith, first, items, few, part, within, limit)
 
   heard : (H : List Entry) (s : SimNo) (m : Message) (more : List Entry) → J ≡ H ++ Got s m ∷ more → s.0 < sim_count P → IsHeard m
-  heard H s m more is low = elim (bool_or_not (is_within S s.0)) [
-    | inl inside ↦ kind_heard rows S s.0 (map bare (sent H s.0)) m (ids_low H s m more is low) (h.run.journal.kinds H s m more is inside).is (h.run.in_range H s m more is)
+  heard H s m more is low = elim (bool_or_not (is_within A.scenario s.0)) [
+    | inl inside ↦ kind_heard A.rows A.scenario s.0 (map bare (sent H s.0)) m (ids_low H s m more is low) (h.run.journal.kinds H s m more is inside).is (h.run.in_range H s m more is)
     | inr outside ↦
-        let l = link_there started S s.0 (subst (λ (n : ℕ). s.0 < n) h.run.journal.sims low) outside in
-        let t = link_read S log l.0 J H s m more (h.run.journal.links s.0 l.0 l.1) is in
+        let l = link_there A.started A.scenario s.0 (subst (λ (n : ℕ). s.0 < n) h.run.journal.sims low) outside in
+        let t = link_read A.scenario A.log l.0 J H s m more (h.run.journal.links s.0 l.0 l.1) is in
         record { payload = t.0; read = t.1; shallow = shallow H s m more is outside }
   ]
 
@@ -94,4 +91,4 @@ module _ (started : ℕ) (S : Scenario) (ranks : List ℕ) (rows : List Turn) (P
   readable = record { valid = h.run.valid; entries = may_stand [] J refl (steps_fit P h.run.valid J h.run.eager.0.0) }
 
 pub runs_are_readable : RunsAreReadable
-runs_are_readable started S ranks rows P J log faults new_faults end h shallow = readable started S ranks rows P J log faults new_faults end h shallow
+runs_are_readable A P J faults new_faults end h shallow = readable A P J faults new_faults end h shallow

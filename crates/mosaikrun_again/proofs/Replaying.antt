@@ -3,7 +3,6 @@ use Rattle.std.proofs.Common.{◌≡◌, ℕ, ◌<◌, ◌≤◌, List, [], Opti
 use Rattle.std.specs.Prelude.{IsSome}
 use Rattle.mk_base.specs.Lists.{BeginsWith}
 use Rattle.mk_base.proofs.Lists.{append_nil, none_some}
-use Rattle.mk_outside.specs.declared.fleet.LogEntry.{LogEntry}
 use Rattle.mk_plan.specs.declared.Plan.{Plan}
 use Rattle.mk_plan.specs.declared.Entry.{Entry}
 use Rattle.mk_plan.specs.Plans.{IsValidPlan, sim_count}
@@ -16,11 +15,9 @@ use Rattle.mk_order.proofs.Headlines.{orderly_finished}
 use Rattle.mk_order.proofs.Seen.{reached_sound}
 use Rattle.mk_order.proofs.Tables.{start_beyond}
 use Rattle.mk_order.proofs.SameEnd.{IsAtEnd, faulty, full, quiet, done_is_quiet, replay_is_longest, replay_is_one}
-use Rattle.mk_scenario.specs.declared.parts.Scenario.{Scenario}
 use Rattle.mk_sched.specs.declared.faults.CoreFault.{CoreFault}
 use Rattle.mk_sched.specs.Answers.{SomeReady, fault_in}
-use Rattle.mk_run_laws.specs.Exchanges.{exchange}
-use Rattle.mk_run_laws.specs.Kinds.{Replies}
+use Rattle.mk_run_laws.specs.Exchanges.{Exchange}
 use Rattle.mk_run.specs.declared.outcome.Outcome.{Outcome}
 use Rattle.mk_run.specs.declared.outcome.Outcome.TheVariants as outcome
 use Rattle.mk_run.specs.Ends as runs
@@ -104,15 +101,15 @@ full_again P J f left at_limit = by_more at_limit.more
 pub own_other : (J : List Entry) → IsOther (arrivals J) (Some (steps_of J)) J None
 own_other J = ([], sym (append_nil (entries_in (arrivals J) (steps_of J)) ∙ entries_again J))
 
-module _ (started : ℕ) (S : Scenario) (reply : Replies) (P : Plan) (J : List Entry) (log : List LogEntry) (faults new_faults : ℕ) where
+module _ (X : Exchange) (P : Plan) (J : List Entry) (faults new_faults : ℕ) where
   -- at the end of a run that was said to the end nothing is to be sent
   by_limit : IsEager P J → (SomeReady P J → ⊥) → IsSentAll P J
   by_limit eager nobody = elim eager.0.1 [ inl paid ↦ inr (inr (paid, nobody)) | inr long ↦ inr (inl long) ]
 
-  broken : (end : Outcome) → IsBrokenOff end → IsRun (exchange started S reply log) P J faults new_faults end → IsSentAll P J
+  broken : (end : Outcome) → IsBrokenOff end → IsRun X P J faults new_faults end → IsSentAll P J
   broken end off run = by_limit run.eager (run.unfinished off).1
 
-  run_ended : (end : Outcome) → IsSaidToTheEnd end → IsRun (exchange started S reply log) P J faults new_faults end → IsSentAll P J
+  run_ended : (end : Outcome) → IsSaidToTheEnd end → IsRun X P J faults new_faults end → IsSentAll P J
   run_ended outcome.Done said run = by_limit run.eager (λ ready. done_is_quiet P (view P J) run.shown ready.0 ready.1 ready.2)
   run_ended (outcome.Setup f) said run = absurd run.shown
   run_ended (outcome.Core f) said run = elim run.shown [
@@ -143,14 +140,14 @@ module _ (started : ℕ) (S : Scenario) (reply : Replies) (P : Plan) (J : List E
         let other : None ≡ by.other = one_other (arrivals J) (Some (steps_of J)) J None by.other (own_other J) (subst (λ (L : List Entry). IsOther (arrivals J) (Some (steps_of J)) L by.other) same by.compared) in
         by.is ∙ ap (λ (e : ReplayEnd). end_with e by.other) (sym (one_end P (arrivals J) J (Short n) by.messages_end ends here)) ∙ ap (end_with (Short n)) (sym other)
 
-    faulty_again : (f : CoreFault) → ShownBy (exchange started S reply log) P J faults new_faults (outcome.Core f) → IsFaultAgain f end
+    faulty_again : (f : CoreFault) → ShownBy X P J faults new_faults (outcome.Core f) → IsFaultAgain f end
     faulty_again f (inl last) = inl (by_fault f (inl (record { before = last.before; sim = last.sim; message = last.message; is = last.is; right_before = last.right_before; named = last.named; fault = last.fault })))
-    faulty_again f (inr long) = elim (full_again P J f (IsMessageLeft started S P J log) long) [
+    faulty_again f (inr long) = elim (full_again P J f (IsMessageLeft X.started X.scenario P J X.log) long) [
       | inl ends ↦ inl (by_fault f ends)
       | inr t ↦ inr (ap fault_in long.named, (t.0, by_short t.0 t.1))
     ]
 
-    ends_alike : (e : Outcome) → IsRun (exchange started S reply log) P J faults new_faults e → EndsAlike e end
+    ends_alike : (e : Outcome) → IsRun X P J faults new_faults e → EndsAlike e end
     ends_alike outcome.Done run = done_again (whole P run.valid J run.eager run.shown)
     ends_alike (outcome.Setup f) run = tt
     ends_alike (outcome.Core f) run = faulty_again f run.shown
@@ -161,7 +158,7 @@ module _ (started : ℕ) (S : Scenario) (reply : Replies) (P : Plan) (J : List E
     ends_alike (outcome.LongItem i n) run = tt
     ends_alike outcome.Mem run = tt
 
-  ends_or_not : (e : Outcome) (K : List Entry) (end : ReplayEnd) → IsRun (exchange started S reply log) P J faults new_faults e → (IsSaidToTheEnd e → K ≡ J) → IsEndOf P (arrivals J) (Some (steps_of J)) K end → EndsAlike e end
+  ends_or_not : (e : Outcome) (K : List Entry) (end : ReplayEnd) → IsRun X P J faults new_faults e → (IsSaidToTheEnd e → K ≡ J) → IsEndOf P (arrivals J) (Some (steps_of J)) K end → EndsAlike e end
   ends_or_not outcome.Done K end run same by = ends_alike K end (same tt) by outcome.Done run
   ends_or_not (outcome.Setup f) K end run same by = tt
   ends_or_not (outcome.Core f) K end run same by = ends_alike K end (same tt) by (outcome.Core f) run
@@ -173,7 +170,7 @@ module _ (started : ℕ) (S : Scenario) (reply : Replies) (P : Plan) (J : List E
   ends_or_not outcome.Mem K end run same by = tt
 
 pub replays_are_runs : ReplaysAreRuns
-replays_are_runs started S reply P J log faults new_faults end run K replay_end (replay, by) =
+replays_are_runs X P J faults new_faults end run K replay_end (replay, by) =
     let law = replayed P J K run.eager run.within (replay, (by.messages_end, by.ends)) in
-    let same : IsSaidToTheEnd end → K ≡ J = λ said. law.same (run_ended started S reply P J log faults new_faults end said run) in
-    record { begins = law.begins; same = same; ends = ends_or_not started S reply P J log faults new_faults end K replay_end run same by }
+    let same : IsSaidToTheEnd end → K ≡ J = λ said. law.same (run_ended X P J faults new_faults end said run) in
+    record { begins = law.begins; same = same; ends = ends_or_not X P J faults new_faults end K replay_end run same by }

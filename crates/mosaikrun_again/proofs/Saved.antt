@@ -8,7 +8,6 @@ use Rattle.mk_sched.specs.declared.faults.CoreFault.{CoreFault}
 use Rattle.mk_sched.specs.declared.faults.CoreFault.TheVariants as core
 use Rattle.mk_sched.specs.Answers.{fault_in}
 use Rattle.mk_run_laws.specs.Exchanges.{Exchange}
-use Rattle.mk_run_local.specs.Made.{kind_reply_of}
 use Rattle.mk_run.specs.declared.outcome.Outcome.{Outcome}
 use Rattle.mk_run.specs.declared.outcome.Outcome.TheVariants as outcome
 use Rattle.mk_run.specs.Ends.{IsRun, ShownBy}
@@ -32,16 +31,15 @@ use Rattle.mosaikrun_again.proofs.Saying.{replays_say_the_same}
 limit_saved : (O : Outside) (S : Scenario) (ranks : List ℕ) (P : Plan) (J : List Entry) (end : Outcome) → HasRun (attempt_in O S ranks) P J O.faults O.new_faults end → IsReadAs P J → (f : CoreFault) → end ≡ outcome.Core f → fault_in f ≡ None
     → (ids : List (List ℕ)) (o : Result (List ℕ) Ending) → IsOutcome (record_text P J) None o → (o ≡ Err ends.Mem → ⊥) → IsLimitAgain (saying_of Report ids P J end) o
 limit_saved O S ranks P J end h read f is none ids o comes not = subst (λ (e : Outcome). IsLimitAgain (saying_of Report ids P J e) o) (sym is)
-    (replays_say_the_same.limit O.started S (kind_reply_of O.kinds S) P J O.log O.faults O.new_faults f (subst (λ (e : Outcome). IsRun (exchange_in O S) P J O.faults O.new_faults e) is h.run) read none ids o comes not)
+    (replays_say_the_same.limit (exchange_in O S) P J O.faults O.new_faults f (subst (λ (e : Outcome). IsRun (exchange_in O S) P J O.faults O.new_faults e) is h.run) read none ids o comes not)
 
 saved : (O : Outside) (form : Form) (S : Scenario) (text : Result (List ℕ) Ending) (kept : Option (List ℕ)) → (h : HasRecord O form S text kept) → IsShallow S h.journal → IsRecordOfRun (ids_of S) h.plan h.journal h.outcome
 saved O form S text kept h shallow =
-    let reply = kind_reply_of O.kinds S in
-    let read = h.again (runs_are_readable O.started S h.ranks O.kinds h.plan h.journal O.log O.faults O.new_faults h.outcome h.run shallow) in record {
+    let read = h.again (runs_are_readable (attempt_in O S h.ranks) h.plan h.journal O.faults O.new_faults h.outcome h.run shallow) in record {
       read = read;
-      replayed = λ K replay_end by. replays_are_runs O.started S reply h.plan h.journal O.log O.faults O.new_faults h.outcome h.run.run K replay_end by;
+      replayed = λ K replay_end by. replays_are_runs (exchange_in O S) h.plan h.journal O.faults O.new_faults h.outcome h.run.run K replay_end by;
       limited = λ f is none o comes not. limit_saved O S h.ranks h.plan h.journal h.outcome h.run read f is none (ids_of S) o comes not;
-      said = λ again o is not. replays_say_the_same.same O.started S reply h.plan h.journal O.log O.faults O.new_faults h.outcome h.run.run read again (ids_of S) o is not;
+      said = λ again o is not. replays_say_the_same.same (exchange_in O S) h.plan h.journal O.faults O.new_faults h.outcome h.run.run read again (ids_of S) o is not;
     }
 
 -- ---- what was told names how the run ended
@@ -90,7 +88,7 @@ one_text O S text bytes h shallow of_itself o comes not = by_said h.said
     by_end same (inr l) = by_limit l same (all.limited l.fault l.is l.none o these not)
 
     by_said : IsSaid (saying_of Report (ids_of S) h.plan h.journal h.outcome) text → IsToldAgain text o
-    by_said (inl same) = by_end same (ends_as _ h.plan h.journal O.faults O.new_faults (ids_of S) h.outcome h.run.run.shown (subst (λ (t : Result (List ℕ) Ending). EndsOfItself t) same of_itself))
+    by_said (inl same) = by_end same (ends_as (exchange_in O S) h.plan h.journal O.faults O.new_faults (ids_of S) h.outcome h.run.run.shown (subst (λ (t : Result (List ℕ) Ending). EndsOfItself t) same of_itself))
     by_said (inr mem) = absurd (subst (λ (t : Result (List ℕ) Ending). EndsOfItself t) mem of_itself)
 
 pub records_say_the_same : RecordsSayTheSame

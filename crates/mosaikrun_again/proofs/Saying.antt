@@ -13,10 +13,7 @@ use Rattle.mk_order.proofs.Headlines.{orderly_agrees, orderly_finished}
 use Rattle.mk_sched.specs.declared.faults.CoreFault.{CoreFault}
 use Rattle.mk_sched.specs.declared.faults.CoreFault.TheVariants as core
 use Rattle.mk_sched.specs.Answers.{fault_in, IsLastFaulty}
-use Rattle.mk_outside.specs.declared.fleet.LogEntry.{LogEntry}
-use Rattle.mk_scenario.specs.declared.parts.Scenario.{Scenario}
-use Rattle.mk_run_laws.specs.Exchanges.{exchange}
-use Rattle.mk_run_laws.specs.Kinds.{Replies}
+use Rattle.mk_run_laws.specs.Exchanges.{Exchange}
 use Rattle.mk_run.specs.declared.outcome.Outcome.{Outcome}
 use Rattle.mk_run.specs.declared.outcome.Outcome.TheVariants as outcome
 use Rattle.mk_run.specs.Ends as runs
@@ -141,35 +138,35 @@ not_mem ids P J (core.Failed s place) e = cc
 not_mem ids P J (core.LoopLimit s time) e = cc
 not_mem ids P J (core.TooLong n) e = cc
 
-said_again : (started : ℕ) (S : Scenario) (reply : Replies) (P : Plan) (J : List Entry) (log : List LogEntry) (faults new_faults : ℕ) (end : Outcome) → IsRun (exchange started S reply log) P J faults new_faults end → IsReadAs P J → IsSaidAgain end
+said_again : (X : Exchange) (P : Plan) (J : List Entry) (faults new_faults : ℕ) (end : Outcome) → IsRun X P J faults new_faults end → IsReadAs P J → IsSaidAgain end
     → (ids : List (List ℕ)) (o : Result (List ℕ) Ending) → IsOutcome (record_text P J) None o → (o ≡ Err Mem → ⊥) → o ≡ saying_of Report ids P J end
-said_again started S reply P J log faults new_faults outcome.Done run read said ids o is not =
+said_again X P J faults new_faults outcome.Done run read said ids o is not =
     one_outcome (record_text P J) None o (saying_of Report ids P J outcome.Done) is (own_report P J run.valid run.eager run.within read run.shown) not (λ e. cc)
-said_again started S reply P J log faults new_faults (outcome.Core f) run read said ids o is not =
+said_again X P J faults new_faults (outcome.Core f) run read said ids o is not =
     one_outcome (record_text P J) None o (saying_of Report ids P J (outcome.Core f)) is (own_ending P J run.valid run.eager run.within read ids f said (by_last run.shown)) not (not_mem ids P J f)
   where
-    by_last : (IsLastFaulty P J f ⊎ runs.IsFull P J f (runs.IsMessageLeft started S P J log)) → IsLastFaulty P J f
+    by_last : (IsLastFaulty P J f ⊎ runs.IsFull P J f (runs.IsMessageLeft X.started X.scenario P J X.log)) → IsLastFaulty P J f
     by_last (inl last) = record { before = last.before; sim = last.sim; message = last.message; is = last.is; right_before = last.right_before; named = last.named; fault = last.fault }
     by_last (inr long) = absurd (let none : IsSome (fault_in (core.TooLong P.entries)) = subst (λ (g : CoreFault). IsSome (fault_in g)) long.named said in cc)
-said_again started S reply P J log faults new_faults (outcome.Setup f) run read said ids o is not = absurd said
-said_again started S reply P J log faults new_faults outcome.Fleet run read said ids o is not = absurd said
-said_again started S reply P J log faults new_faults (outcome.Gone i) run read said ids o is not = absurd said
-said_again started S reply P J log faults new_faults (outcome.Garbled i n) run read said ids o is not = absurd said
-said_again started S reply P J log faults new_faults (outcome.LongFrame i n) run read said ids o is not = absurd said
-said_again started S reply P J log faults new_faults (outcome.LongItem i n) run read said ids o is not = absurd said
-said_again started S reply P J log faults new_faults outcome.Mem run read said ids o is not = absurd said
+said_again X P J faults new_faults (outcome.Setup f) run read said ids o is not = absurd said
+said_again X P J faults new_faults outcome.Fleet run read said ids o is not = absurd said
+said_again X P J faults new_faults (outcome.Gone i) run read said ids o is not = absurd said
+said_again X P J faults new_faults (outcome.Garbled i n) run read said ids o is not = absurd said
+said_again X P J faults new_faults (outcome.LongFrame i n) run read said ids o is not = absurd said
+said_again X P J faults new_faults (outcome.LongItem i n) run read said ids o is not = absurd said
+said_again X P J faults new_faults outcome.Mem run read said ids o is not = absurd said
 
-limit_again : (started : ℕ) (S : Scenario) (reply : Replies) (P : Plan) (J : List Entry) (log : List LogEntry) (faults new_faults : ℕ) (f : CoreFault) → IsRun (exchange started S reply log) P J faults new_faults (outcome.Core f) → IsReadAs P J → fault_in f ≡ None
+limit_again : (X : Exchange) (P : Plan) (J : List Entry) (faults new_faults : ℕ) (f : CoreFault) → IsRun X P J faults new_faults (outcome.Core f) → IsReadAs P J → fault_in f ≡ None
     → (ids : List (List ℕ)) (o : Result (List ℕ) Ending) → IsOutcome (record_text P J) None o → (o ≡ Err Mem → ⊥) → IsLimitAgain (saying_of Report ids P J (outcome.Core f)) o
-limit_again started S reply P J log faults new_faults f run read none ids o is not = by_shown run.shown
+limit_again X P J faults new_faults f run read none ids o is not = by_shown run.shown
   where
     by_end : EndsBy P (arrivals J) J (ends.Core f) ⊎ ((n : ℕ) × EndsBy P (arrivals J) J (ends.Short n)) → IsLimitAgain (saying_of Report ids P J (outcome.Core f)) o
     by_end (inl limit) = inl (one_outcome (record_text P J) None o (saying_of Report ids P J (outcome.Core f)) is (own_limit P J run.valid run.eager run.within read ids f none limit) not (not_mem ids P J f))
     by_end (inr (n, short)) = inr (n, one_outcome (record_text P J) None o (Err (endings.Short n)) is (own_short P J run.valid run.eager run.within read n short) not (λ e. cc))
 
-    by_shown : (IsLastFaulty P J f ⊎ runs.IsFull P J f (runs.IsMessageLeft started S P J log)) → IsLimitAgain (saying_of Report ids P J (outcome.Core f)) o
+    by_shown : (IsLastFaulty P J f ⊎ runs.IsFull P J f (runs.IsMessageLeft X.started X.scenario P J X.log)) → IsLimitAgain (saying_of Report ids P J (outcome.Core f)) o
     by_shown (inl last) = absurd (true≢false (sym last.named ∙ ap (λ (x : Option Fault). is_some x) none))
-    by_shown (inr long) = by_end (full_again P J f (runs.IsMessageLeft started S P J log) long)
+    by_shown (inr long) = by_end (full_again P J f (runs.IsMessageLeft X.started X.scenario P J X.log) long)
 
 pub replays_say_the_same : ReplaysSayTheSame
 replays_say_the_same = record { same = said_again; limit = limit_again }

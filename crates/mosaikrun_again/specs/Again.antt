@@ -1,15 +1,12 @@
 -- A run's journal, and the journal of a replay of its messages.
 use Rattle.std.specs.Prelude.{◌≡◌, ℕ, ◌⊎◌, ⊤, List, length, None, Some, IsSome}
 use Rattle.mk_base.specs.Lists.{BeginsWith}
-use Rattle.mk_outside.specs.declared.fleet.LogEntry.{LogEntry}
 use Rattle.mk_plan.specs.declared.Plan.{Plan}
 use Rattle.mk_plan.specs.declared.Entry.{Entry}
 use Rattle.mk_plan.specs.Journals.{arrivals, view}
-use Rattle.mk_scenario.specs.declared.parts.Scenario.{Scenario}
 use Rattle.mk_sched.specs.declared.faults.CoreFault.{CoreFault}
 use Rattle.mk_sched.specs.Answers.{SomeReady, fault_in}
-use Rattle.mk_run_laws.specs.Exchanges.{exchange}
-use Rattle.mk_run_laws.specs.Kinds.{Replies}
+use Rattle.mk_run_laws.specs.Exchanges.{Exchange}
 use Rattle.mk_run.specs.declared.outcome.Outcome.{Outcome}
 use Rattle.mk_run.specs.declared.outcome.Outcome.TheVariants as outcome
 use Rattle.mk_run.specs.Ends.{IsRun}
@@ -76,9 +73,8 @@ pub record IsRunAgain (P : Plan) (J : List Entry) (end : Outcome) (K : List Entr
 
 -- so it is of each run
 abbrev pub ReplaysAreRuns : Type 0
-ReplaysAreRuns = (started : ℕ) (S : Scenario) (reply : Replies) (P : Plan) (J : List Entry)
-    (log : List LogEntry) (faults new_faults : ℕ) (end : Outcome)
-    → IsRun (exchange started S reply log) P J faults new_faults end
+ReplaysAreRuns = (X : Exchange) (P : Plan) (J : List Entry) (faults new_faults : ℕ)
+    (end : Outcome) → IsRun X P J faults new_faults end
     → (K : List Entry) (replay_end : ReplayEnd)
     → IsReplayBy P (arrivals J) (Some (steps_of J)) None K replay_end
     → IsRunAgain P J end K replay_end

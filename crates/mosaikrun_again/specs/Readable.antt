@@ -2,15 +2,13 @@
 use Rattle.std.specs.Prelude.{◌≡◌, ℕ, ◌≤◌, false, List, ◌∷◌, ◌++◌}
 use Rattle.mk_base.specs.declared.SimNo.{SimNo}
 use Rattle.mk_base.specs.Trees.{nesting}
-use Rattle.mk_outside.specs.declared.fleet.LogEntry.{LogEntry}
 use Rattle.mk_plan.specs.declared.Plan.{Plan}
 use Rattle.mk_plan.specs.declared.Message.{Message}
 use Rattle.mk_plan.specs.declared.Entry.{Entry}
 use Rattle.mk_plan.specs.declared.Entry.TheVariants.{Got}
 use Rattle.mk_message.specs.Written.{message_tree}
 use Rattle.mk_scenario.specs.declared.parts.Scenario.{Scenario}
-use Rattle.mk_run_crew.specs.Attempts.{attempt}
-use Rattle.mk_local.specs.declared.turn.Turn.{Turn}
+use Rattle.mk_run_crew.specs.Attempts.{Attempt}
 use Rattle.mk_run_laws.specs.Handshake.{is_within}
 use Rattle.mk_run.specs.declared.outcome.Outcome.{Outcome}
 use Rattle.mk_run.specs.Ran.{HasRun}
@@ -24,7 +22,6 @@ IsShallow S J = (H : List Entry) (s : SimNo) (m : Message) (more : List Entry)
 -- then the plan and the journal of a run may stand in a record: each message that came on a link is
 -- read of a payload, and each reply of a simulator within the program is read of its own text
 abbrev pub RunsAreReadable : Type 0
-RunsAreReadable = (started : ℕ) (S : Scenario) (ranks : List ℕ) (rows : List Turn) (P : Plan)
-    (J : List Entry) (log : List LogEntry) (faults new_faults : ℕ) (end : Outcome)
-    → HasRun (attempt started S ranks rows log) P J faults new_faults end → IsShallow S J
+RunsAreReadable = (A : Attempt) (P : Plan) (J : List Entry) (faults new_faults : ℕ)
+    (end : Outcome) → HasRun A P J faults new_faults end → IsShallow A.scenario J
     → IsReadable P J

@@ -1,14 +1,12 @@
 -- What `replay` says of the record of a run.
 use Rattle.std.specs.Prelude.{◌≡◌, ◌⊎◌, ℕ, ⊤, List, Option, Some, None, IsSome, Result, Err}
-use Rattle.mk_outside.specs.declared.fleet.LogEntry.{LogEntry}
 use Rattle.mk_plan.specs.declared.Plan.{Plan}
 use Rattle.mk_plan.specs.declared.Entry.{Entry}
 use Rattle.mk_plan.specs.Journals.{arrivals}
 use Rattle.mk_scenario.specs.declared.parts.Scenario.{Scenario}
 use Rattle.mk_sched.specs.declared.faults.CoreFault.{CoreFault}
 use Rattle.mk_sched.specs.Answers.{fault_in}
-use Rattle.mk_run_laws.specs.Exchanges.{exchange}
-use Rattle.mk_run_laws.specs.Kinds.{Replies}
+use Rattle.mk_run_laws.specs.Exchanges.{Exchange}
 use Rattle.mk_run.specs.declared.outcome.Outcome.{Outcome}
 use Rattle.mk_run.specs.declared.outcome.Outcome.TheVariants as outcome
 use Rattle.mk_run.specs.Ends.{IsRun}
@@ -54,15 +52,13 @@ IsLimitAgain line o = (o ≡ line) ⊎ ((n : ℕ) × (o ≡ Err (ends.Short n)))
 -- what `replay` makes of the record is what was said of the run, its report or the same ending; and
 -- where it ended by the limit of entries, it says that again
 pub record ReplaysSayTheSame : Type 0 where
-  pub same : (started : ℕ) (S : Scenario) (reply : Replies) (P : Plan) (J : List Entry)
-      (log : List LogEntry) (faults new_faults : ℕ) (end : Outcome)
-      → IsRun (exchange started S reply log) P J faults new_faults end
+  pub same : (X : Exchange) (P : Plan) (J : List Entry) (faults new_faults : ℕ) (end : Outcome)
+      → IsRun X P J faults new_faults end
       → IsReadAs P J → IsSaidAgain end → (ids : List (List ℕ)) (o : Result (List ℕ) Ending)
       → IsOutcome (record_text P J) None o → (o ≡ Err ends.Mem → ⊥)
       → o ≡ saying_of Report ids P J end
-  pub limit : (started : ℕ) (S : Scenario) (reply : Replies) (P : Plan) (J : List Entry)
-      (log : List LogEntry) (faults new_faults : ℕ) (f : CoreFault)
-      → IsRun (exchange started S reply log) P J faults new_faults (outcome.Core f)
+  pub limit : (X : Exchange) (P : Plan) (J : List Entry) (faults new_faults : ℕ) (f : CoreFault)
+      → IsRun X P J faults new_faults (outcome.Core f)
       → IsReadAs P J → fault_in f ≡ None → (ids : List (List ℕ)) (o : Result (List ℕ) Ending)
       → IsOutcome (record_text P J) None o → (o ≡ Err ends.Mem → ⊥)
       → IsLimitAgain (saying_of Report ids P J (outcome.Core f)) o

@@ -10,13 +10,12 @@ use Rattle.mk_plan.specs.Sequential.{all_ended, items, run_items, sequential}
 use Rattle.mk_order.proofs.Going.{same_runs}
 use Rattle.mk_record_report.proofs.Bare.{report_bare}
 use Rattle.mk_run.specs.declared.outcome.Outcome.TheVariants as outcome
-use Rattle.mk_run_local.specs.Made.{kind_reply_of}
 use Rattle.mk_pace_laws.specs.declared.end.PaceEnd.{PaceEnd}
 use Rattle.mk_pace_laws.specs.declared.end.PaceEnd.TheVariants as ends
 use Rattle.mk_pace_laws.specs.Laws.{PacesAreRight}
 use Rattle.mosaikrun_sayings.specs.Sayings.{ids_of}
 use Rattle.mosaikrun_run.specs.declared.sayings.Form.TheVariants.{Report}
-use Rattle.mosaikrun_run.specs.Outcomes.{IsSaid}
+use Rattle.mosaikrun_run.specs.Outcomes.{IsSaid, exchange_in}
 use Rattle.mosaikrun_run.proofs.Reporting as runs
 use Rattle.mosaikrun_paced.specs.Laws.{PacedTextsAreSequential, PacesAreOneText}
 use Rattle.mosaikrun_paced.specs.Sayings.{pace_saying}
@@ -30,7 +29,7 @@ done_alone ids P J (ends.Late sim time late allowed) text (inr wanting) = absurd
 pub texts_sequential : PacesAreRight → PacedTextsAreSequential
 texts_sequential rights O factor strict wanted S text kept p R possible =
     let done = done_alone (ids_of S) p.plan p.journal p.end text p.said in
-    let right = rights O.started S (kind_reply_of O.kinds S) p.plan p.journal (record { origin = p.run.origin; factor = factor }) strict p.moments O.log O.faults O.new_faults p.end p.run.run in
+    let right = rights (exchange_in O S) p.plan p.journal (record { origin = p.run.origin; factor = factor }) strict p.moments O.faults O.new_faults p.end p.run.run in
     let all = (right.done done.0).all R possible in
     (done.1 ∙ report_bare p.plan (sent p.journal) (run_items p.plan R) (λ i low. (all i).0), λ i low. (all i).1)
 

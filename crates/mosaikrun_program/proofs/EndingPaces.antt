@@ -6,10 +6,9 @@ use Rattle.mk_outside.specs.Folders.{Files, file_limit}
 use Rattle.mk_scenario.specs.declared.parts.Scenario.{Scenario}
 use Rattle.mk_scenario.specs.Scenarios.{scenario_of}
 use Rattle.mk_launch.specs.Ready.{IsPrepared}
-use Rattle.mosaikrun_run.specs.Outcomes.{attempt_in}
+use Rattle.mosaikrun_run.specs.Outcomes.{attempt_in, exchange_in}
 use Rattle.mk_local.specs.Kinds.{name_of}
 use Rattle.mk_run_crew.specs.Completing.{HandshakesComplete, IsFaultlessHandshake}
-use Rattle.mk_run_local.specs.Made.{kind_reply_of}
 use Rattle.mk_plan.specs.declared.Plan.{Plan}
 use Rattle.mk_plan.specs.declared.Entry.{Entry}
 use Rattle.mk_plan.specs.Journals.{sent}
@@ -18,9 +17,9 @@ use Rattle.mk_pace_laws.specs.declared.end.Moment.{Moment}
 use Rattle.mk_pace_laws.specs.declared.end.PaceEnd.{PaceEnd}
 use Rattle.mk_pace_laws.specs.Laws.{IsFaultlessPace}
 use Rattle.mk_pace_laws.specs.Paced.{HasPaced}
-use Rattle.mk_pace_laws.proofs.Completing.{completes as pace_completes}
 use Rattle.mosaikrun_sayings.specs.Sayings.{ids_of}
 use Rattle.mosaikrun_words.specs.declared.request.Request.{Request}
+use Rattle.mk_pace_laws.proofs.Completing.{completes as pace_completes}
 use Rattle.mosaikrun_words.specs.declared.request.Request.TheVariants.{Files as Reads, Paced}
 use Rattle.mosaikrun_endings.specs.declared.ending.Ending.{Ending}
 use Rattle.mosaikrun_endings.specs.declared.ending.Ending.TheVariants.{Mem}
@@ -47,7 +46,7 @@ module _ (C : Around) (factor : ℕ) (strict : Option ℕ) (name : Option (List 
   -- what a faultless study says of each paced run of this scenario
   abbrev ShowsFaultless : Scenario → Type 0
   ShowsFaultless S = (any : List ℕ) (P : Plan) (J : List Entry) (moments : List Moment) (end : PaceEnd) → (h : HasPaced (attempt_in C.outside S any) factor strict P J moments C.outside.faults C.outside.new_faults end)
-      → IsFaultlessPace C.outside.started S P J (record { origin = h.origin; factor = factor }) strict moments C.outside.log C.outside.faults C.outside.new_faults
+      → IsFaultlessPace (exchange_in C.outside S) P J (record { origin = h.origin; factor = factor }) strict moments C.outside.faults C.outside.new_faults
 
   -- where nothing goes wrong
   ended : HandshakesComplete → IsPacedOutcome C.outside factor strict (is_some name) bytes text kept → IsFaultlessPacedStudy C.outside factor strict bytes → IsStatusOr 0 (status r)
@@ -65,12 +64,12 @@ module _ (C : Around) (factor : ℕ) (strict : Option ℕ) (name : Option (List 
           (inl (runnable_or_not (map name_of C.outside.kinds) has.scenario f.ranks unready.ending (subst (λ (X : Scenario). AreRanks X f.ranks) same f.ranked) (subst (λ (X : Scenario). IsPrepared X (map name_of C.outside.kinds)) same f.prepared) unready.cause))
       go (inr (inl unpaced)) =
           let u = unpaced.unrun in
-          let fine = subst (λ (X : Scenario). (any : List ℕ) → AreRanks X any → IsFaultlessHandshake C.outside.started X any C.outside.kinds C.outside.log (HasRisen C.outside.faults C.outside.new_faults)) same f.handshake u.ranks u.runnable.ranked in
-          let mem = law C.outside.started has.scenario u.ranks C.outside.kinds C.outside.log C.outside.faults C.outside.new_faults u.halt u.halted fine in
+          let fine = subst (λ (X : Scenario). (any : List ℕ) → AreRanks X any → IsFaultlessHandshake (attempt_in C.outside X any) (HasRisen C.outside.faults C.outside.new_faults)) same f.handshake u.ranks u.runnable.ranked in
+          let mem = law (attempt_in C.outside has.scenario u.ranks) C.outside.faults C.outside.new_faults u.halt u.halted fine in
           status_of_none C name text kept r said Mem (elim u.said [ inl is ↦ is ∙ ap (λ h. Err (halt_ending (ids_of has.scenario) h)) mem | inr is ↦ is ]) 0 (inl refl)
       go (inr (inr p)) =
           let fine = subst ShowsFaultless same f.run p.ranks p.plan p.journal p.moments p.end p.run in
-          elim (pace_completes C.outside.started has.scenario (kind_reply_of C.outside.kinds has.scenario) p.plan p.journal (record { origin = p.run.origin; factor = factor }) strict p.moments C.outside.log C.outside.faults C.outside.new_faults p.end p.run.run fine) [
+          elim (pace_completes (exchange_in C.outside has.scenario) p.plan p.journal (record { origin = p.run.origin; factor = factor }) strict p.moments C.outside.faults C.outside.new_faults p.end p.run.run fine) [
             | inl done ↦ elim p.said [
               | inl is ↦ status_of_text C name text kept r said (report p.plan (sent p.journal)) (is ∙ ap (pace_saying (ids_of has.scenario) p.plan p.journal) done)
               | inr is ↦ status_of_none C name text kept r said Mem is 0 (inl refl)

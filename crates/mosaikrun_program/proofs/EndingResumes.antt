@@ -11,7 +11,7 @@ use Rattle.mk_plan_same.specs.declared.plans.Part.{Part}
 use Rattle.mk_plan_same.specs.declared.plans.Part.TheVariants.{Bounds, Sims, Models, Entities, Conns, Asyncs}
 use Rattle.mk_plan_same.specs.Parts.{IsFirstPart}
 use Rattle.mk_scenario.specs.declared.parts.Scenario.{Scenario}
-use Rattle.mosaikrun_run.specs.Outcomes.{attempt_in}
+use Rattle.mosaikrun_run.specs.Outcomes.{attempt_in, exchange_in}
 use Rattle.mk_local.specs.Kinds.{name_of}
 use Rattle.mk_record.specs.Reading.{Reading, reading, Said, Faulty}
 use Rattle.mk_record.specs.Seen.{came}
@@ -19,14 +19,13 @@ use Rattle.mk_record_read.specs.declared.saved.Arrival.{Arrival}
 use Rattle.mk_record_read.specs.declared.saved.Asked.{Asked}
 use Rattle.mk_record_read.specs.declared.saved.Saved.{Saved}
 use Rattle.mk_run_crew.specs.Completing.{HandshakesComplete, IsFaultlessHandshake}
-use Rattle.mk_run_local.specs.Made.{kind_reply_of}
 use Rattle.mk_run.specs.declared.outcome.Outcome.TheVariants as outcome
 use Rattle.mk_resume_loop.specs.declared.ending.ResumeEnd.{ResumeEnd}
 use Rattle.mk_resume_loop.specs.declared.ending.ResumeEnd.TheVariants.{Outcome, OtherPlan, OtherEntry, Differs}
 use Rattle.mk_resume.specs.Laws.{IsFaultless}
 use Rattle.mk_resume.specs.Resumed.{HasFaultySaved, HasRefused, HasResumed, IsRefusedBy}
-use Rattle.mk_resume.proofs.Completing.{completes as resume_completes}
 use Rattle.mosaikrun_words.specs.declared.request.Request.{Request}
+use Rattle.mk_resume.proofs.Completing.{completes as resume_completes}
 use Rattle.mosaikrun_words.specs.declared.request.Request.TheVariants.{Files as Reads, Resume}
 use Rattle.mosaikrun_endings.specs.declared.ending.Ending.{Ending}
 use Rattle.mosaikrun_endings.specs.declared.ending.Ending.TheVariants.{Mem}
@@ -144,20 +143,20 @@ module _ (C : Around) (name : Option (List ℕ)) (bytes recorded : List ℕ) (te
 
   abbrev ShowsFaultless : Scenario → Saved → Type 0
   ShowsFaultless S old = (any : List ℕ) (P : Plan) (J : List Entry) (end : ResumeEnd) → (h : HasResumed (attempt_in C.outside S any) old P J C.outside.faults C.outside.new_faults end)
-      → IsFaultless C.outside.started S (kind_reply_of C.outside.kinds S) P h.run.first J h.run.heard C.outside.log C.outside.faults C.outside.new_faults
+      → IsFaultless (exchange_in C.outside S) P h.run.first J h.run.heard C.outside.faults C.outside.new_faults
 
   abbrev ShowsHandshake : Scenario → Type 0
-  ShowsHandshake S = (any : List ℕ) → AreRanks S any → IsFaultlessHandshake C.outside.started S any C.outside.kinds C.outside.log (HasRisen C.outside.faults C.outside.new_faults)
+  ShowsHandshake S = (any : List ℕ) → AreRanks S any → IsFaultlessHandshake (attempt_in C.outside S any) (HasRisen C.outside.faults C.outside.new_faults)
 
   went : HandshakesComplete → (S : Scenario) (ranks : List ℕ) (old : Saved) → ShowsHandshake S → ShowsRight S old → ShowsFaultless S old → IsSavedOutcome C.outside (is_some name) S ranks old text kept → IsStatusOr 0 (status r)
   went law S ranks old handshake right fine (inl u) =
-      let mem = law C.outside.started S u.ranks C.outside.kinds C.outside.log C.outside.faults C.outside.new_faults u.halt u.halted (handshake u.ranks u.runnable.ranked) in
+      let mem = law (attempt_in C.outside S u.ranks) C.outside.faults C.outside.new_faults u.halt u.halted (handshake u.ranks u.runnable.ranked) in
       status_of_none C name text kept r said Mem (elim u.said [ inl is ↦ is ∙ ap (λ h. Err (halt_ending (ids_of S) h)) mem | inr is ↦ is ]) 0 (inl refl)
   went law S ranks old handshake right fine (inr (inl n)) =
       let mem = untaken_for_memory n.plan old n.journal n.end (right ranks n.plan n.refused) n.cause in
       status_of_none C name text kept r said Mem (elim n.said [ inl is ↦ is ∙ ap (resume_saying (ids_of S) n.plan n.journal) mem | inr is ↦ is ]) 0 (inl refl)
   went law S ranks old handshake right fine (inr (inr g)) =
-      elim (resume_completes C.outside.started S (kind_reply_of C.outside.kinds S) g.plan old g.journal C.outside.log C.outside.faults C.outside.new_faults g.end g.run.run (fine ranks g.plan g.journal g.end g.run)) [
+      elim (resume_completes (exchange_in C.outside S) g.plan old g.journal C.outside.faults C.outside.new_faults g.end g.run.run (fine ranks g.plan g.journal g.end g.run)) [
         | inl done ↦ elim g.said [
           | inl is ↦ status_of_text C name text kept r said (text_of Report g.plan (journals.sent g.journal)) (is ∙ ap (resume_saying (ids_of S) g.plan g.journal) done)
           | inr is ↦ status_of_none C name text kept r said Mem is 0 (inl refl)

@@ -12,13 +12,12 @@ use Rattle.mk_run_crew.specs.Completing.{HandshakesComplete, IsFaultlessHandshak
 use Rattle.mk_run.specs.declared.outcome.Outcome.{Outcome}
 use Rattle.mk_run.specs.Ends.{IsFaultless}
 use Rattle.mk_run.specs.Ran.{HasRun}
-use Rattle.mk_run_local.specs.Made.{kind_reply_of}
 use Rattle.mk_plan.specs.declared.Plan.{Plan}
 use Rattle.mk_plan.specs.declared.Entry.{Entry}
 use Rattle.mk_plan.specs.Journals.{sent}
 use Rattle.mosaikrun_sayings.specs.Sayings.{ids_of}
-use Rattle.mk_run.proofs.Completing.{completes as run_completes}
 use Rattle.mosaikrun_words.specs.declared.request.Request.{Request}
+use Rattle.mk_run.proofs.Completing.{completes as run_completes}
 use Rattle.mosaikrun_words.specs.declared.request.Request.TheVariants.{Files as Reads, Run}
 use Rattle.mosaikrun_endings.specs.declared.ending.Ending.{Ending}
 use Rattle.mosaikrun_endings.specs.declared.ending.Ending.TheVariants.{Mem}
@@ -27,7 +26,7 @@ use Rattle.mosaikrun_check.specs.Checks.{IsUnchecked}
 use Rattle.mosaikrun_check.specs.Runnable.{AreRanks}
 use Rattle.mosaikrun_check.proofs.OneRanking.{fault_status, runnable_or_not}
 use Rattle.mosaikrun_run.specs.declared.sayings.Form.TheVariants.{Report}
-use Rattle.mosaikrun_run.specs.Outcomes.{IsRunOutcome, IsScenarioOutcome, attempt_in}
+use Rattle.mosaikrun_run.specs.Outcomes.{IsRunOutcome, IsScenarioOutcome, attempt_in, exchange_in}
 use Rattle.mosaikrun_run.specs.Sayings.{halt_ending, saying_of, text_of}
 use Rattle.mosaikrun_run.proofs.Telling.{one_scenario}
 use Rattle.mosaikrun_program.specs.Around.{Around}
@@ -86,12 +85,12 @@ module _ (C : Around) (name : Option (List ℕ)) (bytes : List ℕ) (text : Resu
       go (inl unready) = status_of_none C name text kept r said unready.ending unready.is 0
           (inl (runnable_or_not (map name_of C.outside.kinds) has.scenario f.ranks unready.ending (subst (λ (X : Scenario). AreRanks X f.ranks) same f.ranked) (subst (λ (X : Scenario). IsPrepared X (map name_of C.outside.kinds)) same f.prepared) unready.cause))
       go (inr (inl u)) =
-          let fine = subst (λ (X : Scenario). (any : List ℕ) → AreRanks X any → IsFaultlessHandshake C.outside.started X any C.outside.kinds C.outside.log (HasRisen C.outside.faults C.outside.new_faults)) same f.handshake u.ranks u.runnable.ranked in
-          let mem = law C.outside.started has.scenario u.ranks C.outside.kinds C.outside.log C.outside.faults C.outside.new_faults u.halt u.halted fine in
+          let fine = subst (λ (X : Scenario). (any : List ℕ) → AreRanks X any → IsFaultlessHandshake (attempt_in C.outside X any) (HasRisen C.outside.faults C.outside.new_faults)) same f.handshake u.ranks u.runnable.ranked in
+          let mem = law (attempt_in C.outside has.scenario u.ranks) C.outside.faults C.outside.new_faults u.halt u.halted fine in
           status_of_none C name text kept r said Mem (elim u.said [ inl is ↦ is ∙ ap (λ h. Err (halt_ending (ids_of has.scenario) h)) mem | inr is ↦ is ]) 0 (inl refl)
       go (inr (inr p)) =
-          let fine = subst (λ (X : Scenario). (any : List ℕ) (P : Plan) (J : List Entry) (end : Outcome) → HasRun (attempt_in C.outside X any) P J C.outside.faults C.outside.new_faults end → IsFaultless C.outside.started X P J C.outside.log C.outside.faults C.outside.new_faults) same f.run p.ranks p.plan p.journal p.outcome p.run in
-          elim (run_completes C.outside.started has.scenario (kind_reply_of C.outside.kinds has.scenario) p.plan p.journal C.outside.log C.outside.faults C.outside.new_faults p.outcome p.run.run fine) [
+          let fine = subst (λ (X : Scenario). (any : List ℕ) (P : Plan) (J : List Entry) (end : Outcome) → HasRun (attempt_in C.outside X any) P J C.outside.faults C.outside.new_faults end → IsFaultless (exchange_in C.outside X) P J C.outside.faults C.outside.new_faults) same f.run p.ranks p.plan p.journal p.outcome p.run in
+          elim (run_completes (exchange_in C.outside has.scenario) p.plan p.journal C.outside.faults C.outside.new_faults p.outcome p.run.run fine) [
             | inl done ↦ elim p.said [
               | inl is ↦ status_of_text C name text kept r said (text_of Report p.plan (sent p.journal)) (is ∙ ap (saying_of Report (ids_of has.scenario) p.plan p.journal) done)
               | inr is ↦ status_of_none C name text kept r said Mem is 0 (inl refl)

@@ -32,7 +32,7 @@ use Rattle.mosaikrun_endings.specs.Endings.{status_of}
 use Rattle.mosaikrun_sayings.specs.Sayings.{ids_of}
 use Rattle.mosaikrun_run.specs.declared.sayings.Form.{Form}
 use Rattle.mosaikrun_run.specs.declared.sayings.Form.TheVariants.{Report, Summary}
-use Rattle.mosaikrun_run.specs.Outcomes.{IsPlayed, IsSaid, IsScenarioOutcome, IsUnrun}
+use Rattle.mosaikrun_run.specs.Outcomes.{IsPlayed, IsSaid, IsScenarioOutcome, IsUnrun, exchange_in}
 use Rattle.mosaikrun_run.specs.Sayings.{halt_ending, record_of, text_of}
 use Rattle.mosaikrun_run.proofs.Reporting.{said_is_done, texts_sequential}
 use Rattle.mk_local.specs.Kinds.{name_of}
@@ -122,7 +122,7 @@ module _ (C : Around) (form : Form) (wanted : Bool) (S : Scenario) (saved : Opti
       → Filed C saved n p.plan p.journal → IsRightStudy C form S saved n
   played text kept p over told filed =
       let O = C.outside in
-      let right = runs_right O.started S (kind_reply_of O.kinds S) p.plan p.journal O.log O.faults O.new_faults p.outcome p.run.run in
+      let right = runs_right (exchange_in O S) p.plan p.journal O.faults O.new_faults p.outcome p.run.run in
       let come : Messages = λ i. coming (sim_link O.started S i) (run_messages S O.log i) (got p.journal i) in
       record {
         plan = Some p.plan;
@@ -338,7 +338,7 @@ module _ (C : Around) (factor : ℕ) (strict : Option ℕ) (S : Scenario) (name 
       → Filed C name n p.plan p.journal → IsRightPacedRun C factor strict S name n
   paced text kept n p over told filed =
       let O = C.outside in
-      let right = paces_right O.started S (kind_reply_of O.kinds S) p.plan p.journal (record { origin = p.run.origin; factor = factor }) strict p.moments O.log O.faults O.new_faults p.end p.run.run in
+      let right = paces_right (exchange_in O S) p.plan p.journal (record { origin = p.run.origin; factor = factor }) strict p.moments O.faults O.new_faults p.end p.run.run in
       let come : Messages = λ i. coming (sim_link O.started S i) (run_messages S O.log i) (got p.journal i) in
       record {
         ranks = p.ranks;

@@ -13,7 +13,6 @@ use Rattle.mk_run_crew.specs.Completing.{IsFaultlessHandshake}
 use Rattle.mk_run.specs.declared.outcome.Outcome.{Outcome}
 use Rattle.mk_run.specs.Ends.{IsFaultless}
 use Rattle.mk_run.specs.Ran.{HasRun}
-use Rattle.mk_run_local.specs.Made.{kind_reply_of}
 use Rattle.mk_plan_same.specs.Parts.{IsFirstOther}
 use Rattle.mk_sched.specs.declared.faults.CoreFault.{CoreFault}
 use Rattle.mk_record.specs.Reading.{reading, Said}
@@ -33,7 +32,7 @@ use Rattle.mosaikrun_endings.specs.declared.ending.Ending.TheVariants as ends
 use Rattle.mosaikrun_check.specs.Checks.{IsUnchecked}
 use Rattle.mosaikrun_check.specs.Runnable.{AreRanks}
 use Rattle.mosaikrun_records.specs.Saved.{IsUnread}
-use Rattle.mosaikrun_run.specs.Outcomes.{Outside, attempt_in}
+use Rattle.mosaikrun_run.specs.Outcomes.{Outside, attempt_in, exchange_in}
 use Rattle.mosaikrun_program.specs.Around.{Around}
 use Rattle.mosaikrun_program.specs.Commands.{IsAsked}
 use Rattle.mosaikrun_program.specs.Program.{IsStatusOr}
@@ -48,10 +47,10 @@ pub record IsFaultlessStudy (O : Outside) (bytes : List ℕ) : Type 0 where
   pub ranked : AreRanks scenario ranks
   pub prepared : IsPrepared scenario (map name_of O.kinds)
   pub handshake : (any : List ℕ) → AreRanks scenario any
-      → IsFaultlessHandshake O.started scenario any O.kinds O.log (HasRisen O.faults O.new_faults)
+      → IsFaultlessHandshake (attempt_in O scenario any) (HasRisen O.faults O.new_faults)
   pub run : (any : List ℕ) (P : Plan) (J : List Entry) (end : Outcome)
       → HasRun (attempt_in O scenario any) P J O.faults O.new_faults end
-      → IsFaultless O.started scenario P J O.log O.faults O.new_faults
+      → IsFaultless (exchange_in O scenario) P J O.faults O.new_faults
 
 -- a run of a file's bytes, where nothing goes wrong, comes to its end: its status is 0, or that of a
 -- folder or an output that failed, or of want of memory. Where the bytes are refused, by a test of
@@ -84,15 +83,15 @@ pub record IsFaultlessResume (O : Outside) (bytes recorded : List ℕ) : Type 0 
   pub ranked : AreRanks scenario ranks
   pub prepared : IsPrepared scenario (map name_of O.kinds)
   pub handshake : (any : List ℕ) → AreRanks scenario any
-      → IsFaultlessHandshake O.started scenario any O.kinds O.log (HasRisen O.faults O.new_faults)
+      → IsFaultlessHandshake (attempt_in O scenario any) (HasRisen O.faults O.new_faults)
   pub old : Saved
   pub old_read : reading recorded ≡ Said old.plan (map came old.arrivals) old.asks
   pub right : (any : List ℕ) (P : Plan) → HasRefused (attempt_in O scenario any) P
       (HasRisen O.faults O.new_faults) → IsRightRecord P old
   pub run : (any : List ℕ) (P : Plan) (J : List Entry) (end : ResumeEnd)
       → (h : HasResumed (attempt_in O scenario any) old P J O.faults O.new_faults end)
-      → onward.IsFaultless O.started scenario (kind_reply_of O.kinds scenario) P h.run.first J
-      h.run.heard O.log O.faults O.new_faults
+      → onward.IsFaultless (exchange_in O scenario) P h.run.first J h.run.heard O.faults
+      O.new_faults
 
 -- a run that goes on from a record's bytes, where nothing goes wrong, comes to its end: its status is
 -- 0, or that of a folder or an output that failed, or of want of memory. Where the bytes of the
@@ -119,12 +118,12 @@ pub record IsFaultlessPacedStudy (O : Outside) (factor : ℕ) (strict : Option �
   pub ranked : AreRanks scenario ranks
   pub prepared : IsPrepared scenario (map name_of O.kinds)
   pub handshake : (any : List ℕ) → AreRanks scenario any
-      → IsFaultlessHandshake O.started scenario any O.kinds O.log (HasRisen O.faults O.new_faults)
+      → IsFaultlessHandshake (attempt_in O scenario any) (HasRisen O.faults O.new_faults)
   pub run : (any : List ℕ) (P : Plan) (J : List Entry) (moments : List Moment) (end : PaceEnd)
       → (h : HasPaced (attempt_in O scenario any) factor strict P J moments O.faults
       O.new_faults end)
-      → IsFaultlessPace O.started scenario P J (record { origin = h.origin; factor = factor })
-      strict moments O.log O.faults O.new_faults
+      → IsFaultlessPace (exchange_in O scenario) P J
+      (record { origin = h.origin; factor = factor }) strict moments O.faults O.new_faults
 
 -- a paced run of a file's bytes, where nothing goes wrong, comes to its end: its status is 0, or that of
 -- a folder or an output that failed, or of want of memory. Where the bytes are refused, as by a run, it

@@ -41,7 +41,7 @@ use Rattle.mosaikrun_sayings.specs.Sayings.{ids_of}
 use Rattle.mosaikrun_run.specs.declared.sayings.Form.{Form}
 use Rattle.mosaikrun_run.specs.declared.sayings.Form.TheVariants.{Report}
 use Rattle.mosaikrun_run.specs.Laws.{AlikeIsOneText, WithinIsOneText}
-use Rattle.mosaikrun_run.specs.Outcomes.{IsPlayed, IsRunOutcome, IsScenarioOutcome, Outside, exchange_in}
+use Rattle.mosaikrun_run.specs.Outcomes.{IsPlayed, IsRunOutcome, IsScenarioOutcome, Outside, attempt_in, exchange_in}
 use Rattle.mosaikrun_run.specs.Sayings.{text_of}
 use Rattle.mosaikrun_run.proofs.Reporting.{said_is_done, texts_sequential}
 
@@ -149,7 +149,7 @@ module _ (fits : KindsFit) (O Q : Outside) (form : Form) (wanted also : Bool) (S
 
   -- there are messages that answer by kind, and all messages are such
   there : (R : Messages) × AnswersByKind (kind_reply_of O.kinds S) (is_within S) p.plan R × ((i : ℕ) → is_within S i ≡ false → R i ≡ [])
-  there = there_are p.plan (kind_reply_of O.kinds S) (is_within S) (fits O.started S p.ranks O.kinds p.plan p.journal O.log O.faults O.new_faults p.outcome p.runnable.prepared p.run) (λ i. [])
+  there = there_are p.plan (kind_reply_of O.kinds S) (is_within S) (fits (attempt_in O S p.ranks) p.plan p.journal O.faults O.new_faults p.outcome p.runnable.prepared p.run) (λ i. [])
 
   answered : AnswersByKind (kind_reply_of Q.kinds S) (is_within S) q.plan there.0
   answered = subst (λ (P : Plan). AnswersByKind (kind_reply_of Q.kinds S) (is_within S) P there.0) (sym plan)
@@ -166,10 +166,10 @@ module _ (fits : KindsFit) (O Q : Outside) (form : Form) (wanted also : Bool) (S
   talks i = same_runs p.plan p.run.run.valid (got p.journal) (got q.journal) (λ j low. (ours.finished j low).ended) ended alike i ∙ ap (λ (P : Plan). run_talk P (got q.journal) i) (sym plan)
     where
       ours : HasSentAll (exchange_in O S) p.plan p.journal
-      ours = (runs_right O.started S (kind_reply_of O.kinds S) p.plan p.journal O.log O.faults O.new_faults p.outcome p.run.run).done (said_is_done form (ids_of S) p.plan p.journal p.outcome text p.said).0
+      ours = (runs_right (exchange_in O S) p.plan p.journal O.faults O.new_faults p.outcome p.run.run).done (said_is_done form (ids_of S) p.plan p.journal p.outcome text p.said).0
 
       theirs : HasSentAll (exchange_in Q S) q.plan q.journal
-      theirs = (runs_right Q.started S (kind_reply_of Q.kinds S) q.plan q.journal Q.log Q.faults Q.new_faults q.outcome q.run.run).done (said_is_done form (ids_of S) q.plan q.journal q.outcome other q.said).0
+      theirs = (runs_right (exchange_in Q S) q.plan q.journal Q.faults Q.new_faults q.outcome q.run.run).done (said_is_done form (ids_of S) q.plan q.journal q.outcome other q.said).0
 
       ended : (j : ℕ) → j < sim_count p.plan → all_ended (sequential p.plan (got q.journal) j) ≡ true
       ended j low = subst (λ (P : Plan). j < sim_count P → all_ended (sequential P (got q.journal) j) ≡ true) plan (λ l. (theirs.finished j l).ended) low

@@ -10,11 +10,10 @@ use Rattle.mk_run.specs.declared.outcome.Outcome.TheVariants as outcome
 use Rattle.mk_run.proofs.RunRight.{runs_right}
 use Rattle.mk_record_report.proofs.Bare.{report_bare}
 use Rattle.mosaikrun_sayings.specs.Sayings.{ids_of}
-use Rattle.mk_run_local.specs.Made.{kind_reply_of}
 use Rattle.mosaikrun_run.specs.declared.sayings.Form.{Form}
 use Rattle.mosaikrun_run.specs.declared.sayings.Form.TheVariants.{Report, Summary}
 use Rattle.mosaikrun_run.specs.Laws.{TextsAreSequential}
-use Rattle.mosaikrun_run.specs.Outcomes.{IsSaid}
+use Rattle.mosaikrun_run.specs.Outcomes.{IsSaid, exchange_in}
 use Rattle.mosaikrun_run.specs.Sayings.{saying_of, text_of}
 use Rattle.mosaikrun_run.proofs.Summarizing.{summary_bare}
 
@@ -42,6 +41,6 @@ text_bare Summary P one other same = summary_bare P one other same
 pub texts_sequential : TextsAreSequential
 texts_sequential O form wanted S text record_ played R possible =
     let done = said_is_done form (ids_of S) played.plan played.journal played.outcome text played.said in
-    let right = runs_right O.started S (kind_reply_of O.kinds S) played.plan played.journal O.log O.faults O.new_faults played.outcome played.run.run in
+    let right = runs_right (exchange_in O S) played.plan played.journal O.faults O.new_faults played.outcome played.run.run in
     let all = (right.done done.0).all R possible in
     (done.1 ∙ text_bare form played.plan (sent played.journal) _ (λ i within. (all i).0), λ i within. (all i).1)

@@ -8,8 +8,8 @@ use Rattle.mk_run.proofs.WithinRuns.{only_limits}
 use Rattle.mk_run.proofs.laws.within_runs_end.Goals as goal
 
 pub returns : goal.returns
-returns c started S ranks rows P J log faults new_faults f prepared all h = elim h.run.shown [
-  | inl last ↦ only_limits P h.run.valid (kind_reply_of rows S) (is_within S) (c.kinds_fit.ensures started S ranks rows P J log faults new_faults (outcome.Core f) prepared h)
-      (λ i low. within_low S all i (subst (λ (n : ℕ). i < n) h.run.journal.sims low)) J h.run.journal.orderly h.run.journal.kinds f last
+returns c A P J faults new_faults f prepared all h = elim h.run.shown [
+  | inl last ↦ only_limits P h.run.valid (kind_reply_of A.rows A.scenario) (is_within A.scenario) (c.kinds_fit.ensures A P J faults new_faults (outcome.Core f) prepared h)
+      (λ i low. within_low A.scenario all i (subst (λ (n : ℕ). i < n) h.run.journal.sims low)) J h.run.journal.orderly h.run.journal.kinds f last
   | inr full ↦ subst IsLimit (sym full.named) tt
 ]
