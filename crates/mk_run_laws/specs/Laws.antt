@@ -22,7 +22,7 @@ use Rattle.mk_scenario.specs.declared.parts.Scenario.{Scenario}
 use Rattle.mk_outside.specs.Counts.{HasRisen}
 use Rattle.mk_outside.specs.declared.fleet.LogEntry.{LogEntry}
 use Rattle.mk_launch.specs.Starts.{places}
-use Rattle.mk_run_laws.specs.Exchanges.{Exchange, exchange}
+use Rattle.mk_run_laws.specs.Exchanges.{Exchange}
 use Rattle.mk_run_laws.specs.Hearing.{messages_heard, rest_heard, Takes}
 use Rattle.mk_run_laws.specs.Handshake.{setup_count, sim_link, is_within}
 use Rattle.mk_run_laws.specs.Kinds.{Replies, AnswersByKind, KeepsToKinds, RepliesAreRight, AreThere}
@@ -46,35 +46,30 @@ pub record IsJournalOf (X : Exchange) (P : Plan) (J : List Entry) : Type 0 where
 
 -- what is said on a run's link is right
 abbrev pub LinksSayRight : Plan → Type 0
-LinksSayRight P = (started : ℕ) (S : Scenario) (reply : Replies) (log : List LogEntry)
-    (J : List Entry) → IsJournalOf (exchange started S reply log) P J
+LinksSayRight P = (X : Exchange) (J : List Entry) → IsJournalOf X P J
     → (replies : SetupReplies) (faults new_faults i : ℕ) (l : LinkNo) (items : List Item)
-    → IsLinkOfRun S replies J log (HasRisen faults new_faults) i l items
-    → SaysRight (exchange started S reply log) (Some P) i l (setup_count S i) items true
+    → IsLinkOfRun X.scenario replies J X.log (HasRisen faults new_faults) i l items
+    → SaysRight X (Some P) i l (setup_count X.scenario i) items true
 
 -- where nothing is left to do, sequential execution over all messages that may come sends what was
 -- sent, and cuts no turn
 abbrev pub DoneIsAll : Plan → Type 0
-DoneIsAll P = (started : ℕ) (S : Scenario) (reply : Replies) (log : List LogEntry) (J : List Entry)
-    → IsJournalOf (exchange started S reply log) P J → IsDone P (view P J) → (R : Messages)
-    → IsPossible (exchange started S reply log) P R
+DoneIsAll P = (X : Exchange) (J : List Entry) → IsJournalOf X P J → IsDone P (view P J)
+    → (R : Messages) → IsPossible X P R
     → (i : ℕ) → (map bare (sent J i) ≡ run_items P R i) × (all_ended (sequential P R i) ≡ true)
 
 -- and whatever goes on with the journal answers by kind, so there are such messages
 abbrev pub DoneAnswers : Plan → Type 0
-DoneAnswers P = (started : ℕ) (S : Scenario) (reply : Replies) (log : List LogEntry)
-    (J : List Entry) → IsJournalOf (exchange started S reply log) P J → IsDone P (view P J)
-    → (R : Messages)
-    → Continues P J R → AnswersByKind reply (is_within S) P R
+DoneAnswers P = (X : Exchange) (J : List Entry) → IsJournalOf X P J → IsDone P (view P J)
+    → (R : Messages) → Continues P J R → AnswersByKind X.reply (is_within X.scenario) P R
 
 -- the max_advance of each Step is a promise over all messages that may come
 abbrev pub StepsPromise : Plan → Type 0
-StepsPromise P = (started : ℕ) (S : Scenario) (reply : Replies) (log : List LogEntry)
-    (J : List Entry) → IsJournalOf (exchange started S reply log) P J
+StepsPromise P = (X : Exchange) (J : List Entry) → IsJournalOf X P J
     → (H : List Entry) (s : SimNo) (x : Tier) (inputs : List Input) (advance : ℤ)
     (more : List Entry)
     → J ≡ H ++ Sent s (Step x inputs advance) ∷ more → s.0 < sim_count P → (R : Messages)
-    → IsPossibleUpTo (exchange started S reply log) P H s.0 R → IsPromised P R s.0 x.time advance
+    → IsPossibleUpTo X P H s.0 R → IsPromised P R s.0 x.time advance
 
 -- what stood at each rest of a run, said of the run's own journal
 abbrev pub RestsAreWell : Type 0

@@ -3,4 +3,4 @@ use Rattle.mk_run_laws.proofs.Answering as answering
 use Rattle.mk_run_laws.proofs.done_answers.Goals as goal
 
 pub returns : goal.returns
-returns c started S reply log J j done R goes = answering.done_answers c.args.plan.now reply (is_within S) c.requires J j.orderly j.kinds done R goes
+returns c X J j done R goes = answering.done_answers c.args.plan.now X.reply (is_within X.scenario) c.requires J j.orderly j.kinds done R goes

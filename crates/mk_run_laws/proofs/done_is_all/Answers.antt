@@ -2,4 +2,4 @@ use Rattle.mk_run_laws.proofs.Saying.{items_all}
 use Rattle.mk_run_laws.proofs.done_is_all.Goals as goal
 
 pub returns : goal.returns
-returns c started S reply log J j done R may i = items_all c.args.plan.now c.requires started S j.sims reply log J j.orderly j.kinds j.links R may done i
+returns c X J j done R may i = items_all c.args.plan.now c.requires X.started X.scenario j.sims X.reply X.log J j.orderly j.kinds j.links R may done i

@@ -3,4 +3,4 @@ use Rattle.mk_run_laws.proofs.Clauses.{run_says}
 use Rattle.mk_run_laws.proofs.links_say_right.Goals as goal
 
 pub returns : goal.returns
-returns c started S reply log J j replies faults new_faults = run_says c.args.plan.now c.requires started S j.sims reply log J j.orderly j.kinds j.links replies (HasRisen faults new_faults)
+returns c X J j replies faults new_faults = run_says c.args.plan.now c.requires X.started X.scenario j.sims X.reply X.log J j.orderly j.kinds j.links replies (HasRisen faults new_faults)
