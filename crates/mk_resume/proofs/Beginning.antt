@@ -21,7 +21,7 @@ use Rattle.mk_run.proofs.Beginning.{links_open, setting_of}
 use Rattle.mk_resume_links.proofs.Waiting.{none_yet}
 use Rattle.mk_resume_loop.specs.declared.ending.ResumeEnd.{ResumeEnd}
 use Rattle.mk_resume_loop.specs.inner.Turns.{IsStopping}
-use Rattle.mk_resume_loop.specs.inner.Underway.{IsResumingWith, saved_of}
+use Rattle.mk_resume_loop.specs.inner.Underway.{IsResumingWith, course_of, saved_of}
 use Rattle.mk_resume_loop.proofs.Beginning.{resuming_begins}
 use Rattle.mk_resume.specs.inner.Going.{IsFresh, IsStarted}
 
@@ -31,7 +31,7 @@ setting_at A C P s = setting_of A.started A.scenario A.ranks A.rows A.log C P s.
 pub begins_fresh : (A : Attempt) (C : CrewSeen) (P : Plan) (s : IsStarted A C P) (saved : Saved) (core : CoreState) → IsOnward P (map came saved.arrivals) saved.asks core → All (IsKnown saved.plan) (map came saved.arrivals) → IsFresh (setting_at A C P s) core A.log C
 begins_fresh A C P s saved core on known =
     let T = setting_at A C P s in record {
-      resuming = subst (λ (X : Plan). IsResumingWith (λ i. []) (λ i. []) (setting_at A C P s) X core.entries core.entries (λ i. 0) A.log (crew_of C) C.sims) (sym on.plan)
+      resuming = subst (λ (X : Plan). IsResumingWith (course_of (setting_at A C P s) core.entries (λ i. 0) (λ i. []) (λ i. []) A.log) X core.entries (crew_of C) C.sims) (sym on.plan)
           (resuming_begins A.started A.scenario A.ranks A.rows A.log C P s.begun s.prepared saved.plan (map came saved.arrivals) core.entries on.restored known);
       over = none_yet (saved_of core.entries) A.started A.scenario s.begun.replies core.plan core.entries A.log (crew_of C) s.begun.begun;
     }

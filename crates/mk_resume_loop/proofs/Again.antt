@@ -17,13 +17,13 @@ use Rattle.mk_resume_links.specs.inner.Touching.{RestsOver}
 use Rattle.mk_resume_links.proofs.Catching.{again_on_link, again_within, one_more}
 use Rattle.mk_resume_links.proofs.Closing.{seen}
 use Rattle.mk_resume_links.proofs.Touching.{linked_out}
-use Rattle.mk_resume_loop.specs.inner.Underway.{IsMet, IsResuming, IsResumingWith, saved_of}
+use Rattle.mk_resume_loop.specs.inner.Underway.{IsMet, IsResuming, IsResumingWith, course_of, saved_of}
 use Rattle.mk_resume_loop.proofs.Resting.{resting}
 use Rattle.mk_resume_loop.proofs.Hearing.{met_back, met_no_other, met_log_right}
 
 -- what a message that was sent again leaves: nothing of simulator s is kept, of the others what was, and where it runs within the program a message has come since each rest
 pub record IsRepeated (T : Setting) (P : Plan) (first J : List Entry) (heard : Counts) (log : List LogEntry) (s : ℕ) (D : CrewState) (sims : List (Option Simulator)) : Type 0 where
-  pub resuming : IsResumingWith (λ i. free_items J i (heard i)) (λ i. kept_of i D.kept) T P first J (one_more heard s) log D sims
+  pub resuming : IsResumingWith (course_of T first (one_more heard s) (λ i. free_items J i (heard i)) (λ i. kept_of i D.kept) log) P J D sims
   pub none : kept_of s D.kept ≡ []
   pub others : (i : ℕ) → (i ≡ s → ⊥) → kept_of i D.kept ≡ awaited T.scenario (reply_in T) J heard i
   pub over : is_within T.scenario s ≡ true → RestsOver (saved_of first) T.started T.scenario T.replies P J log
@@ -33,7 +33,7 @@ module _ (T : Setting) (P : Plan) (first J : List Entry) (heard : Counts) (log :
   u = h.resuming
 
   with_catching : IsCatchingWith (λ i. free_items J i (heard i)) (λ i. kept_of i D.kept) (saved_of first) T.started T.scenario T.replies (reply_in T) P J (one_more heard s.0) log D
-      → IsResumingWith (λ i. free_items J i (heard i)) (λ i. kept_of i D.kept) T P first J (one_more heard s.0) log D sims
+      → IsResumingWith (course_of T first (one_more heard s.0) (λ i. free_items J i (heard i)) (λ i. kept_of i D.kept) log) P J D sims
   with_catching c = record {
     suits = u.suits;
     stands = u.stands;

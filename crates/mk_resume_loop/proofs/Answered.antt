@@ -33,7 +33,7 @@ use Rattle.mk_resume_loop.specs.declared.ending.ResumeEnd.{ResumeEnd}
 use Rattle.mk_resume_loop.specs.declared.ending.ResumeEnd.TheVariants as ends
 use Rattle.mk_resume_loop.specs.inner.Ending.{HasEnded}
 use Rattle.mk_resume_loop.specs.inner.Turns.{TakesAs}
-use Rattle.mk_resume_loop.specs.inner.Underway.{BehindSeen, IsMet, IsResuming, IsResumingWith, saved_of}
+use Rattle.mk_resume_loop.specs.inner.Underway.{BehindSeen, IsMet, IsResuming, IsResumingWith, course_of, saved_of}
 use Rattle.mk_resume_loop.proofs.Asked.{longer_begins, paid_by_sent}
 use Rattle.mk_resume_loop.proofs.Resting.{resting}
 use Rattle.mk_resume_loop.proofs.Hearing.{met_back, met_fits, met_low, met_no_other, met_log_right}
@@ -91,7 +91,7 @@ module _ (T : Setting) (core new : CoreState) (first : List Entry) (heard : Coun
           let l = (catching_sent (saved_of first) T.started T.scenario T.replies (reply_in T) core.plan free (awaited T.scenario (reply_in T) core.entries heard) before next (h.before ++ h.entries) (crew_of C) s a.item t.0 t.1).0 in
           seen (saved_of first) T.started T.scenario T.replies (reply_in T) core.plan free free (awaited T.scenario (reply_in T) core.entries heard) kept after next (h.before ++ h.entries) (crew_of C) l (λ i k linked. refl) (λ i. sym (l.touch.kept i))
 
-  owed_stands : IsResumingWith free kept T core.plan first after next log (crew_of C) C.sims
+  owed_stands : IsResumingWith (course_of T first next free kept log) core.plan after (crew_of C) C.sims
   owed_stands = record {
     suits = v.suits;
     stands = subst (λ (c : CoreState). Stands c.plan c.entries) a.moved stands;

@@ -35,7 +35,7 @@ use Rattle.mk_resume_loop.specs.declared.ending.ResumeEnd.TheVariants as ends
 use Rattle.mk_resume_loop.specs.inner.Asking.{AsksAs, IsSentLast, IsUnsentLast}
 use Rattle.mk_resume_loop.specs.inner.Ending.{HasEnded}
 use Rattle.mk_resume_loop.specs.inner.Turns.{GoesOn, IsStopping}
-use Rattle.mk_resume_loop.specs.inner.Underway.{BehindSeen, IsResuming, IsResumingWith, saved_of}
+use Rattle.mk_resume_loop.specs.inner.Underway.{BehindSeen, IsResuming, IsResumingWith, course_of, saved_of}
 use Rattle.mk_resume_loop.proofs.Asked.{asked_low, longer_begins, paid_by_sent}
 use Rattle.mk_resume_loop.proofs.Standing.{next_behind}
 use Rattle.mk_resume_loop.proofs.Turning.{asked_later, asked_on, ends_with_step}
@@ -58,7 +58,7 @@ module _ (T : Setting) (old new : CoreState) (first : List Entry) (heard : Count
   awaits = awaited T.scenario (reply_in T) J heard
 
   -- the journal has the Step, and nothing was sent yet
-  with_step : IsResumingWith queued awaits T old.plan first K heard log (crew_of C) C.sims
+  with_step : IsResumingWith (course_of T first heard queued awaits log) old.plan K (crew_of C) C.sims
   with_step = record {
     suits = u.suits;
     stands = subst (λ (c : CoreState). Stands c.plan c.entries) a.moved stands;

@@ -22,7 +22,7 @@ use Rattle.mk_run.specs.inner.Underway.{IsUnderway, put, reply_in}
 use Rattle.mk_run.proofs.Beginning.{run_begins, setting_of}
 use Rattle.mk_resume_links.proofs.Catching.{catching_begun}
 use Rattle.mk_run.proofs.Putting.{put_away, put_here}
-use Rattle.mk_resume_loop.specs.inner.Underway.{IsResumingWith, saved_of}
+use Rattle.mk_resume_loop.specs.inner.Underway.{IsResumingWith, course_of, saved_of}
 
 -- ---- what all members of a list are
 
@@ -48,7 +48,7 @@ module _ (started : ℕ) (S : Scenario) (ranks : List ℕ) (rows : List Turn) (l
   none_yet = run_begins started S ranks rows log C P b prepared
 
   -- nothing was sent behind the handshake
-  pub resuming_begins : (Q : Plan) (A : List Arrival) (J : List Entry) → IsRestored P A J → All (IsKnown Q) A → IsResumingWith (λ i. []) (λ i. []) (setting_of started S ranks rows log C P b) P J J (λ i. 0) log (crew_of C) C.sims
+  pub resuming_begins : (Q : Plan) (A : List Arrival) (J : List Entry) → IsRestored P A J → All (IsKnown Q) A → IsResumingWith (course_of (setting_of started S ranks rows log C P b) J (λ i. 0) (λ i. []) (λ i. []) log) P J (crew_of C) C.sims
   resuming_begins Q A J restored known = record {
     suits = none_yet.suits;
     stands = record { valid = b.valid; orderly = restored.replay.eager.0; agrees = restored.replay.agrees; within = restored.replay.within };

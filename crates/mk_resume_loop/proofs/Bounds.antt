@@ -12,7 +12,7 @@ use Rattle.mk_plan.specs.Sequential.{takes_id}
 use Rattle.mk_sched.specs.Cores.{CoreState}
 use Rattle.mk_run_crew.specs.Seen.{CrewSeen}
 use Rattle.mk_resume_walk.specs.Walks.{IsFirstOwn, is_of}
-use Rattle.mk_resume_loop.specs.inner.Turns.{Course, IsDue}
+use Rattle.mk_resume_loop.specs.inner.Turns.{IsDue, Walk}
 use Rattle.mk_resume_loop.proofs.Standing.{get_dropped}
 
 -- ---- lists
@@ -56,7 +56,7 @@ few_sims P valid = valid.well_formed.limits.sims.1
 pub place_low : (J : List Entry) (i from : ℕ) (p : ℕ) → IsFirstOwn J i from (Some p) → p < length J
 place_low J i from p (between, e, later, is, none, own, at) = (get_is J p e (ap (slice_get J) at ∙ get_dropped from J between later e is)).0
 
-module _ (R : Course) (core : CoreState) (C : CrewSeen) (s gone id : ℕ) (d : IsDue R core C s gone id) where
+module _ (R : Walk) (core : CoreState) (C : CrewSeen) (s gone id : ℕ) (d : IsDue R core C s gone id) where
   few_entries : length core.entries ≤ 20000000
   few_entries = let w = d.resuming.stands.within in let n = d.resuming.stands.valid.well_formed.limits.entries.1 in omega (arith, w, n)
 
@@ -71,7 +71,7 @@ module _ (R : Course) (core : CoreState) (C : CrewSeen) (s gone id : ℕ) (d : I
   pub id_low : s < sim_count core.plan → id ≤ 21000000
   id_low low =
       let first = low_first core.plan d.resuming.stands.valid s low in
-      let taken = few_passed takes_id (R.queued s) in
+      let taken = few_passed takes_id (R.course.queued s) in
       let queued = ap length d.passing.was_sent in
       let few = few_sent d.passing.gone.gone s in
       let parts : length core.entries ≡ length d.passing.gone.gone + length d.passing.gone.left = ap length d.passing.gone.parts ∙ length-append d.passing.gone.gone d.passing.gone.left in

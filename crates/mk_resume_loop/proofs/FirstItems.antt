@@ -26,8 +26,8 @@ use Rattle.mk_resume_links.specs.inner.Catching.{awaited}
 use Rattle.mk_resume_links.specs.inner.Touching.{RestsOver}
 use Rattle.mk_resume_loop.specs.declared.behind.Standing.{Standing}
 use Rattle.mk_resume_loop.specs.declared.ending.ResumeEnd.{ResumeEnd}
-use Rattle.mk_resume_loop.specs.inner.Turns.{BeginsAs, Course, IsDue, IsSized, PassesAs}
-use Rattle.mk_resume_loop.specs.inner.Underway.{BehindSeen, IsPassed, IsResuming, IsResumingWith, StandsAt, saved_of}
+use Rattle.mk_resume_loop.specs.inner.Turns.{BeginsAs, IsDue, IsSized, PassesAs, Walk}
+use Rattle.mk_resume_loop.specs.inner.Underway.{BehindSeen, IsPassed, IsResuming, IsResumingWith, StandsAt, course_of, saved_of}
 use Rattle.mk_resume_loop.proofs.Beginning.{first_above, first_below, first_here, first_more, first_of}
 use Rattle.mk_resume_loop.proofs.Passing.{awaited_outside, resuming_as}
 
@@ -46,12 +46,12 @@ module _ (T : Setting) (core : CoreState) (log : List LogEntry) (over : RestsOve
 
   -- the first k simulators were sent their first items
   abbrev pub HaveFirst : ℕ → CrewSeen → Type 0
-  HaveFirst k C = IsResumingWith (first_of k free) (first_of k awaits) T core.plan J J (λ i. 0) log (crew_of C) C.sims
+  HaveFirst k C = IsResumingWith (course_of T J (λ i. 0) (first_of k free) (first_of k awaits) log) core.plan J (crew_of C) C.sims
 
-  abbrev pub course : ℕ → Course
-  course k = record { setting = T; first = J; heard = λ i. 0; queued = first_of k free; awaits = first_of k awaits; log = log; from = 0 }
+  abbrev pub walk : ℕ → Walk
+  walk k = record { course = course_of T J (λ i. 0) (first_of k free) (first_of k awaits) log; from = 0 }
 
-  pub first_due : (k : ℕ) (C : CrewSeen) → HaveFirst k C → IsDue (course k) core C k 0 (first_id core.plan k)
+  pub first_due : (k : ℕ) (C : CrewSeen) → HaveFirst k C → IsDue (walk k) core C k 0 (first_id core.plan k)
   first_due k C u = record {
     resuming = u;
     passing = record {
@@ -68,7 +68,7 @@ module _ (T : Setting) (core : CoreState) (log : List LogEntry) (over : RestsOve
   }
 
   -- one more was
-  pub first_passed : (k : ℕ) (D : CrewSeen) → IsPassed (first_of k free) (first_of k awaits) T core.plan J J (λ i. 0) log k D → HaveFirst (k + 1) D
+  pub first_passed : (k : ℕ) (D : CrewSeen) → IsPassed (course_of T J (λ i. 0) (first_of k free) (first_of k awaits) log) core.plan J k D → HaveFirst (k + 1) D
   first_passed k D passed = resuming_as (put (first_of k free) k (free k)) (first_of (k + 1) free) (put (first_of k awaits) k (awaits k)) (first_of (k + 1) awaits) T core.plan J J (λ i. 0) log (crew_of D) D.sims
       (λ i low. first_more k free i) (first_more k awaits) passed
 
@@ -96,7 +96,7 @@ module _ (T : Setting) (core : CoreState) (log : List LogEntry) (over : RestsOve
 
 -- nothing was sent behind the handshake
 abbrev pub IsStarting : Setting → CoreState → List LogEntry → CrewSeen → Type 0
-IsStarting T core log C = IsResumingWith (λ i. []) (λ i. []) T core.plan core.entries core.entries (λ i. 0) log (crew_of C) C.sims
+IsStarting T core log C = IsResumingWith (course_of T core.entries (λ i. 0) (λ i. []) (λ i. []) log) core.plan core.entries (crew_of C) C.sims
 
 -- after each rest the journal got a message of a link next
 abbrev pub IsOver : Setting → CoreState → List LogEntry → Type 0
@@ -119,8 +119,8 @@ none_begun core C B T log starting over = (
 
 module _ (core : CoreState) (C D : CrewSeen) (B : BehindSeen) (k : ℕ) (so_far : HaveBegun core C k D B) where
   -- the next one is due its first item
-  pub due_first : (T : Setting) (log : List LogEntry) → IsStarting T core log C → IsOver T core log → (R : Course) × IsDue R core D k 0 (first_id core.plan k)
-  due_first T log starting over = (course T core log over k, first_due T core log over k D (so_far T log starting over).0)
+  pub due_first : (T : Setting) (log : List LogEntry) → IsStarting T core log C → IsOver T core log → (R : Walk) × IsDue R core D k 0 (first_id core.plan k)
+  due_first T log starting over = (walk T core log over k, first_due T core log over k D (so_far T log starting over).0)
 
   -- it was sent it
   pub one_begun : (E : CrewSeen) (F : BehindSeen) → PassesAs (Ok tt) core k 0 (first_id core.plan k) D E F → ((i : ℕ) → (i ≡ k → ⊥) → slice_get F.sims i ≡ slice_get B.sims i) → HaveBegun core C (k + 1) E F
@@ -129,8 +129,8 @@ module _ (core : CoreState) (C D : CrewSeen) (B : BehindSeen) (k : ℕ) (so_far 
       t : HaveFirst T core log over k D × ((i : ℕ) (o : Option Standing) → i < k → slice_get B.sims i ≡ Some o → StandsAt core.plan core.entries i 0 o)
       t = so_far T log starting over
 
-      p : IsPassed (first_of k (λ i. free_items core.entries i 0)) (first_of k (awaited T.scenario (reply_in T) core.entries (λ i. 0))) T core.plan core.entries core.entries (λ i. 0) log k E × ((o : Option Standing) → slice_get F.sims k ≡ Some o → StandsAt core.plan core.entries k 0 o)
-      p = passes (course T core log over k) (first_due T core log over k D t.0)
+      p : IsPassed (course_of T core.entries (λ i. 0) (first_of k (λ i. free_items core.entries i 0)) (first_of k (awaited T.scenario (reply_in T) core.entries (λ i. 0))) log) core.plan core.entries k E × ((o : Option Standing) → slice_get F.sims k ≡ Some o → StandsAt core.plan core.entries k 0 o)
+      p = passes (walk T core log over k) (first_due T core log over k D t.0)
 
       each : (i : ℕ) (o : Option Standing) → i < k + 1 → slice_get F.sims i ≡ Some o → StandsAt core.plan core.entries i 0 o
       each i o low is = elim (same_or_not i k) [
@@ -140,7 +140,7 @@ module _ (core : CoreState) (C D : CrewSeen) (B : BehindSeen) (k : ℕ) (so_far 
 
   -- or it wasn't, and the run ends
   pub not_begun : (E : CrewSeen) (F : BehindSeen) (end : ResumeEnd) → PassesAs (Err end) core k 0 (first_id core.plan k) D E F → BeginsAs (Err end) core C E F
-  not_begun E F end passes T log starting over = ((λ i. 0), passes (course T core log over k) (first_due T core log over k D (so_far T log starting over).0))
+  not_begun E F end passes T log starting over = ((λ i. 0), passes (walk T core log over k) (first_due T core log over k D (so_far T log starting over).0))
 
 -- all were
 pub all_begun : (core : CoreState) (C D : CrewSeen) (B : BehindSeen) (k : ℕ) → k ≡ sim_count core.plan → IsSized core B → HaveBegun core C k D B → BeginsAs (Ok tt) core C D B

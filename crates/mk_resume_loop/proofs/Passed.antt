@@ -53,11 +53,11 @@ module _ (core : CoreState) (C : CrewSeen) (s : SimNo) (gone id : ℕ) (low : s.
   pub passes_quietly : (r : Option ℕ) (E : BehindSeen) → LooksUp gone r → ((p : ℕ) → r ≡ Some p → (t : SimNo) × (m : Message) × (slice_get core.entries p ≡ Some (Got t m))) → slice_get E.sims s.0 ≡ Some (standing_at r gone id) → PassesAs (Ok tt) core s.0 gone id C C E
   passes_quietly None E looks entry stands R d =
       let t = due_ends R core C s gone id low d (looks R.from d.counted) in
-      (t.0, λ o is. subst (StandsAt core.plan core.entries s.0 (R.heard s.0)) (some_same (sym stands ∙ is)) t.1)
+      (t.0, λ o is. subst (StandsAt core.plan core.entries s.0 (R.course.heard s.0)) (some_same (sym stands ∙ is)) t.1)
   passes_quietly (Some p) E looks entry stands R d =
       let e = entry p refl in
       let t = due_waits R core C s gone id low d p e.0 e.1 (looks R.from d.counted) e.2 in
-      (t.0, λ o is. subst (StandsAt core.plan core.entries s.0 (R.heard s.0)) (some_same (sym stands ∙ is)) t.1)
+      (t.0, λ o is. subst (StandsAt core.plan core.entries s.0 (R.course.heard s.0)) (some_same (sym stands ∙ is)) t.1)
 
   module _ (p : ℕ) (t : SimNo) (item : Item) (looks : LooksUp gone (Some p)) (there : slice_get core.entries p ≡ Some (Sent t item)) where
     -- it is an item, which was sent
@@ -66,17 +66,17 @@ module _ (core : CoreState) (C : CrewSeen) (s : SimNo) (gone id : ℕ) (low : s.
         let first = looks R.from d.counted in
         let count : own_count s.0 (take (p + 1) core.entries) ≡ gone + 1 = counted_behind core.entries s.0 R.from p first ∙ ap (λ (k : ℕ). k + 1) (sym d.counted) in
         let w = due_sent R core C s gone id low d p t item first there law D so later (further (p + 1) (sym count)) in
-        (w.0, λ o is. subst (StandsAt core.plan core.entries s.0 (R.heard s.0)) (some_same (sym stands ∙ is)) w.1)
+        (w.0, λ o is. subst (StandsAt core.plan core.entries s.0 (R.course.heard s.0)) (some_same (sym stands ∙ is)) w.1)
 
     -- it is an item, which wasn't sent
     pub passes_not : (h : Halt) (E : BehindSeen) → ShowsUnsent h s.0 item C → PassesAs (Err (ends.Outcome (outcome_of h))) core s.0 gone id C C E
     passes_not h E shown R d =
         let first = looks R.from d.counted in
-        let k = gone_sent core.entries s.0 (R.heard s.0) R.from d.passing.gone p t item first there in
+        let k = gone_sent core.entries s.0 (R.course.heard s.0) R.from d.passing.gone p t item first there in
         let rest : List Item = sent (up_to s.0 0 k.0.left) s.0 in
-        let next : free_items core.entries s.0 (R.heard s.0) ≡ R.queued s.0 ++ item ∷ rest = free_begins core.entries s.0 (R.heard s.0) (p + 1) k.0
-        ∙ ap (λ (l : List Item). l ++ rest) (k.1 ∙ ap (λ (l : List Item). l ++ item ∷ []) d.passing.was_sent) ∙ append_assoc (R.queued s.0) (item ∷ []) rest in
-        unsent_ends ⊥ R.queued R.awaits R.setting core.plan R.first core.entries R.heard R.log C C.sims s item rest low d.resuming d.passing.firsts next h shown
+        let next : free_items core.entries s.0 (R.course.heard s.0) ≡ R.course.queued s.0 ++ item ∷ rest = free_begins core.entries s.0 (R.course.heard s.0) (p + 1) k.0
+        ∙ ap (λ (l : List Item). l ++ rest) (k.1 ∙ ap (λ (l : List Item). l ++ item ∷ []) d.passing.was_sent) ∙ append_assoc (R.course.queued s.0) (item ∷ []) rest in
+        unsent_ends ⊥ R.course.queued R.course.awaits R.course.setting core.plan R.course.first core.entries R.course.heard R.course.log C C.sims s item rest low d.resuming d.passing.firsts next h shown
 
   -- there was no memory for the index
   pub passes_for_memory : (E : BehindSeen) → PassesAs (Err (ends.Outcome outcome.Mem)) core s.0 gone id C C E
@@ -89,15 +89,15 @@ module _ (core : CoreState) (C : CrewSeen) (s : SimNo) (gone id : ℕ) (low : s.
     counts = d.resuming.catching.counts;
     kinds = d.resuming.catching.kinds;
     channels = λ i l linked. record {
-      messages = repeated core.entries i (R.heard i);
-      items = R.queued i;
+      messages = repeated core.entries i (R.course.heard i);
+      items = R.course.queued i;
       channel = d.resuming.catching.touch.channels i l linked;
-      given = ([], sym (append_nil (repeated core.entries i (R.heard i))));
+      given = ([], sym (append_nil (repeated core.entries i (R.course.heard i))));
       queued = d.passing.firsts i;
       queued_all = tt;
     };
     no_other = d.resuming.no_other;
-    rests = so_far_end (saved_of R.first) R.setting.started R.setting.scenario R.setting.replies core.plan core.entries R.log C.kept d.resuming.catching.rests;
+    rests = so_far_end (saved_of R.course.first) R.course.setting.started R.course.setting.scenario R.course.setting.replies core.plan core.entries R.course.log C.kept d.resuming.catching.rests;
     log_right = d.resuming.log_right;
     ends = tt;
     unfinished = λ broken. absurd broken;

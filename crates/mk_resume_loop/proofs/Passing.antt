@@ -34,7 +34,7 @@ use Rattle.mk_resume_links.proofs.Growing.{given_away, given_here}
 use Rattle.mk_resume_links.proofs.Touching.{linked_out}
 use Rattle.mk_run.proofs.ItemSent.{come_sent, kept_so, no_other_after, not_here_is_outside, only_sent}
 use Rattle.mk_run.proofs.Putting.{put_away, put_here, put_same}
-use Rattle.mk_resume_loop.specs.inner.Underway.{IsPassed, IsPassing, IsResumingWith, saved_of}
+use Rattle.mk_resume_loop.specs.inner.Underway.{IsPassed, IsPassing, IsResumingWith, course_of, saved_of}
 
 -- ---- what is awaited of a simulator
 
@@ -64,7 +64,7 @@ module _ (S : Scenario) (reply : Replies) (J : List Entry) (heard : Counts) (i :
 -- ---- by other names
 
 pub resuming_as : (X Y : ℕ → List Item) (A B : ℕ → List Message) (T : Setting) (P : Plan) (first J : List Entry) (heard : Counts) (log : List LogEntry) (C : CrewState) (sims : List (Option Simulator)) → ((i : ℕ) → i < sim_count P → X i ≡ Y i) → ((i : ℕ) → A i ≡ B i)
-    → IsResumingWith X A T P first J heard log C sims → IsResumingWith Y B T P first J heard log C sims
+    → IsResumingWith (course_of T first heard X A log) P J C sims → IsResumingWith (course_of T first heard Y B log) P J C sims
 resuming_as X Y A B T P first J heard log C sims items awaits u = record {
   suits = u.suits;
   stands = u.stands;
@@ -86,7 +86,7 @@ resuming_as X Y A B T P first J heard log C sims items awaits u = record {
 few_all : (k n : ℕ) → k ≡ n → k ≤ n
 few_all k n is = omega (arith, is)
 
-module _ (T : Setting) (P : Plan) (first J : List Entry) (heard : Counts) (X : ℕ → List Item) (A : ℕ → List Message) (log : List LogEntry) (s from : ℕ) (C : CrewSeen) (u : IsResumingWith X A T P first J heard log (crew_of C) C.sims) (p : IsPassing X A T P first J heard log s from) where
+module _ (T : Setting) (P : Plan) (first J : List Entry) (heard : Counts) (X : ℕ → List Item) (A : ℕ → List Message) (log : List LogEntry) (s from : ℕ) (C : CrewSeen) (u : IsResumingWith (course_of T first heard X A log) P J (crew_of C) C.sims) (p : IsPassing (course_of T first heard X A log) P J s from) where
   abbrev free : List Item
   free = free_items J s (heard s)
 
@@ -94,7 +94,7 @@ module _ (T : Setting) (P : Plan) (first J : List Entry) (heard : Counts) (X : �
   awaits = awaited T.scenario (reply_in T) J heard s
 
   -- nothing more is free
-  pub passed_quietly : free ≡ X s → IsPassed X A T P first J heard log s C
+  pub passed_quietly : free ≡ X s → IsPassed (course_of T first heard X A log) P J s C
   passed_quietly is = resuming_as X (put X s free) A (put A s awaits) T P first J heard log (crew_of C) C.sims (λ i low. put_same X s free (sym is) i)
       (put_same A s awaits (p.none ∙ sym (awaited_none T.scenario (reply_in T) J heard s (few_all (length free) (heard s) (ap length is ∙ p.answered))))) u
 
@@ -155,7 +155,7 @@ module _ (T : Setting) (P : Plan) (first J : List Entry) (heard : Counts) (X : �
                 let h = u.catching.touch.channels s l linked in
                 right takes_one ∙ sym h.in_step.next_id ∙ ap (λ (v : Channel). v.next) (some_same (sym h.there ∙ there))
 
-    pub passed_sent : IsPassed X A T P first J heard log s D
+    pub passed_sent : IsPassed (course_of T first heard X A log) P J s D
     passed_sent = record {
       suits = u.suits;
       stands = u.stands;

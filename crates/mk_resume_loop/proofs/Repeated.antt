@@ -14,7 +14,7 @@ use Rattle.mk_resume_loop.specs.declared.ending.ResumeEnd.{ResumeEnd}
 use Rattle.mk_resume_loop.specs.Resumed.{IsCutOff, QueuedAllAt}
 use Rattle.mk_resume_loop.specs.inner.Comparisons.{IsApart}
 use Rattle.mk_resume_loop.specs.inner.Ending.{EndsBy}
-use Rattle.mk_resume_loop.specs.inner.Turns.{Course, IsDue, IsPast, IsSized, IsStopping, PassesAs, TakesAs}
+use Rattle.mk_resume_loop.specs.inner.Turns.{IsDue, IsPast, IsSized, IsStopping, PassesAs, TakesAs, Walk}
 use Rattle.mk_resume_loop.specs.inner.Underway.{BehindSeen, StandsAt}
 use Rattle.mk_resume_loop.proofs.Endings.{untaken_ends}
 use Rattle.mk_resume_loop.proofs.Numbered.{entry_there, next_number}
@@ -40,7 +40,7 @@ module _ (T : Setting) (core : CoreState) (first : List Entry) (heard : Counts) 
   all_sized = record { sims = h.1.sims; indexed = h.1.indexed }
 
   -- it came again: its simulator is due what stands behind it
-  pub due_again : (x : SimNo) (kept : Message) → slice_get core.entries c.place ≡ Some (Got x kept) → kept ≡ m → (R : Course) × IsDue R core C s.0 c.gone c.id
+  pub due_again : (x : SimNo) (kept : Message) → slice_get core.entries c.place ≡ Some (Got x kept) → kept ≡ m → (R : Walk) × IsDue R core C s.0 c.gone c.id
   due_again x kept at same = (_, again_due T first heard core log s m C h.0 c stand x (subst (λ (k : Message). slice_get core.entries c.place ≡ Some (Got x k)) same at))
 
 -- another came

@@ -26,8 +26,8 @@ use Rattle.mk_resume_links.specs.Rests.{Counts}
 use Rattle.mk_resume_links.specs.inner.Catching.{awaited}
 use Rattle.mk_resume_links.proofs.Catching.{more_away, more_here, one_more}
 use Rattle.mk_resume_loop.specs.declared.behind.Standing.{Standing}
-use Rattle.mk_resume_loop.specs.inner.Underway.{BehindSeen, IsMet, IsPassed, IsResuming, StandsAt}
-use Rattle.mk_resume_loop.specs.inner.Turns.{Course, IsDue}
+use Rattle.mk_resume_loop.specs.inner.Underway.{BehindSeen, Course, IsMet, IsPassed, IsResuming, StandsAt, course_of}
+use Rattle.mk_resume_loop.specs.inner.Turns.{IsDue, Walk}
 use Rattle.mk_resume_loop.proofs.Again.{IsRepeated, repeated_goes}
 use Rattle.mk_resume_loop.proofs.Hearing.{met_success}
 use Rattle.mk_run.proofs.Putting.{put_away, put_here}
@@ -77,7 +77,10 @@ module _ (T : Setting) (first : List Entry) (heard : Counts) (core : CoreState) 
   next = one_more heard s.0
 
   abbrev course : Course
-  course = record { setting = T; first = first; heard = next; queued = λ i. free_items J i (heard i); awaits = λ i. kept_of i C.kept; log = log; from = c.place + 1 }
+  course = course_of T first next (λ i. free_items J i (heard i)) (λ i. kept_of i C.kept) log
+
+  abbrev walk : Walk
+  walk = record { course = course; from = c.place + 1 }
 
   pub again : IsRepeated T core.plan first J heard log s.0 (crew_of C) C.sims
   again = repeated_goes T core.plan first J heard log s m (crew_of C) C.sims h (next_message J s.0 (heard s.0) c.place stand.0 x m there)
@@ -98,7 +101,7 @@ module _ (T : Setting) (first : List Entry) (heard : Counts) (core : CoreState) 
     | inr apart ↦ subst (λ (k : ℕ). BeginsWith (free_items J i k) (free_items J i (heard i))) (sym (more_away heard s.0 i apart)) ([], sym (append_nil (free_items J i (heard i))))
   ]
 
-  pub again_due : IsDue course core C s.0 c.gone c.id
+  pub again_due : IsDue walk core C s.0 c.gone c.id
   again_due = record {
     resuming = again.resuming;
     passing = record {
@@ -119,7 +122,7 @@ module _ (T : Setting) (first : List Entry) (heard : Counts) (core : CoreState) 
   awaited_same : (i : ℕ) → heard i ≡ next i → awaited T.scenario (reply_in T) J heard i ≡ awaited T.scenario (reply_in T) J next i
   awaited_same i same = ap (λ (k : ℕ). if is_within T.scenario i && nat_lt k (length (free_items J i k)) then reply_in T i (map bare (free_items J i k)) ∷ [] else []) same
 
-  pub again_goes : (D : CrewSeen) → IsPassed course.queued course.awaits T core.plan first J next log s.0 D → IsResuming T core.plan first J next log (crew_of D) D.sims
+  pub again_goes : (D : CrewSeen) → IsPassed course core.plan J s.0 D → IsResuming T core.plan first J next log (crew_of D) D.sims
   again_goes D passed = resuming_as (put course.queued s.0 (free_items J s.0 (next s.0))) (λ i. free_items J i (next i)) (put course.awaits s.0 (awaited T.scenario (reply_in T) J next s.0)) (awaited T.scenario (reply_in T) J next)
       T core.plan first J next log (crew_of D) D.sims (λ i low. items i) awaits passed
     where

@@ -9,7 +9,7 @@ use Rattle.mk_run_crew.specs.Seen.{CrewSeen}
 use Rattle.mk_resume_walk.specs.Walks.{IsFirstOwn}
 use Rattle.mk_resume_walk.specs.Index.{Indexed, IsIndexOf, own_count}
 use Rattle.mk_resume_loop.specs.declared.behind.Standing.{Standing}
-use Rattle.mk_resume_loop.specs.inner.Turns.{Course, IsDue, IsSized}
+use Rattle.mk_resume_loop.specs.inner.Turns.{IsDue, IsSized, Walk}
 use Rattle.mk_resume_loop.specs.inner.Underway.{BehindSeen, IsIndexed}
 use Rattle.mk_resume_loop.proofs.Bounds.{place_low}
 
@@ -55,6 +55,6 @@ module _ (core : CoreState) (B E : BehindSeen) (sized : IsSized core B) where
       set_others i apart = ap (λ (l : List (Option Standing)). slice_get l i) set ∙ set_else E.sims s i o apart ∙ ap (λ (l : List (Option Standing)). slice_get l i) h.sims
 
 -- the place that was looked up is one of the journal's
-pub place_there : (core : CoreState) (C : CrewSeen) (s gone id : ℕ) (entries : List Entry) (r : Option ℕ) → entries ≡ core.entries → (R : Course) → IsDue R core C s gone id → ((from : ℕ) → gone ≡ own_count s (take from core.entries) → IsFirstOwn core.entries s from r) → IfSome r (λ p. p < length entries)
+pub place_there : (core : CoreState) (C : CrewSeen) (s gone id : ℕ) (entries : List Entry) (r : Option ℕ) → entries ≡ core.entries → (R : Walk) → IsDue R core C s gone id → ((from : ℕ) → gone ≡ own_count s (take from core.entries) → IsFirstOwn core.entries s from r) → IfSome r (λ p. p < length entries)
 place_there core C s gone id entries None same R d looks = tt
 place_there core C s gone id entries (Some p) same R d looks = subst (λ (J : List Entry). p < length J) (sym same) (place_low core.entries s R.from p (looks R.from d.counted))

@@ -27,11 +27,11 @@ use Rattle.mk_resume_links.proofs.Waiting.{so_far_end}
 use Rattle.mk_resume_loop.specs.declared.ending.ResumeEnd.TheVariants as ends
 use Rattle.mk_resume_loop.specs.Resumed.{IsCutOff, IsLongFree, QueuedAllAt}
 use Rattle.mk_resume_loop.specs.inner.Ending.{EndsBy, HasEnded, IsWaiting}
-use Rattle.mk_resume_loop.specs.inner.Underway.{IsResumingWith, saved_of}
+use Rattle.mk_resume_loop.specs.inner.Underway.{IsResumingWith, course_of, saved_of}
 
 -- these items were queued, those that are free go on with this one
 module _ (risen : Type 0) (X : ℕ → List Item) (A : ℕ → List Message) (T : Setting) (P : Plan) (first J : List Entry) (heard : Counts) (log : List LogEntry) (C : CrewSeen) (sims : List (Option Simulator)) (s : SimNo) (item : Item) (later : List Item) (low : s.0 < sim_count P)
-    (u : IsResumingWith X A T P first J heard log (crew_of C) sims) (firsts : (i : ℕ) → BeginsWith (free_items J i (heard i)) (X i)) (next : free_items J s.0 (heard s.0) ≡ X s.0 ++ item ∷ later) where
+    (u : IsResumingWith (course_of T first heard X A log) P J (crew_of C) sims) (firsts : (i : ℕ) → BeginsWith (free_items J i (heard i)) (X i)) (next : free_items J s.0 (heard s.0) ≡ X s.0 ++ item ∷ later) where
   long_free : (n : ℕ) → IsLengthOf n item s.0 C.channels → limit < n → IsLongFree T.started T.scenario P J heard s.0 n
   long_free n size beyond =
       let t = u.no_other s.0 size.0 size.1 in

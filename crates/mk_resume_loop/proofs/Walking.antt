@@ -25,7 +25,7 @@ use Rattle.mk_resume_walk.proofs.Indexing.{counted_behind}
 use Rattle.mk_resume_loop.specs.declared.behind.Standing.{Standing}
 use Rattle.mk_resume_loop.specs.inner.Standings.{id_behind, standing_at}
 use Rattle.mk_resume_loop.specs.inner.Underway.{IsPassed, StandsAt}
-use Rattle.mk_resume_loop.specs.inner.Turns.{Course, IsDue}
+use Rattle.mk_resume_loop.specs.inner.Turns.{IsDue, Walk}
 use Rattle.mk_resume_loop.proofs.Passing.{passed_quietly, passed_sent, passing_linked}
 use Rattle.mk_resume_loop.proofs.Replied.{replied_anew}
 use Rattle.mk_resume_loop.proofs.Standing.{at_most_one, get_dropped, gone_all, gone_got, gone_sent, take_front}
@@ -50,12 +50,12 @@ drop_front : (U X : List Entry) → drop (length U) (U ++ X) ≡ X
 drop_front [] X = refl
 drop_front (x ∷ U) X = drop_front U X
 
-module _ (R : Course) (core : CoreState) (C : CrewSeen) (s : SimNo) (gone id : ℕ) (low : s.0 < sim_count core.plan) (d : IsDue R core C s.0 gone id) where
+module _ (R : Walk) (core : CoreState) (C : CrewSeen) (s : SimNo) (gone id : ℕ) (low : s.0 < sim_count core.plan) (d : IsDue R core C s.0 gone id) where
   abbrev J : List Entry
   J = core.entries
 
   abbrev n : ℕ
-  n = R.heard s.0
+  n = R.course.heard s.0
 
   abbrev g : IsGoneTo J s.0 n R.from
   g = d.passing.gone
@@ -64,10 +64,10 @@ module _ (R : Course) (core : CoreState) (C : CrewSeen) (s : SimNo) (gone id : �
   Stands o = StandsAt core.plan J s.0 n o
 
   abbrev Passed : CrewSeen → Type 0
-  Passed D = IsPassed R.queued R.awaits R.setting core.plan R.first J R.heard R.log s.0 D
+  Passed D = IsPassed R.course core.plan J s.0 D
 
   quietly : free_items J s.0 n ≡ sent g.gone s.0 → Passed C
-  quietly is = passed_quietly R.setting core.plan R.first J R.heard R.queued R.awaits R.log s.0 R.from C d.resuming d.passing (is ∙ d.passing.was_sent)
+  quietly is = passed_quietly R.course.setting core.plan R.course.first J R.course.heard R.course.queued R.course.awaits R.course.log s.0 R.from C d.resuming d.passing (is ∙ d.passing.was_sent)
 
   counted_to : (p : ℕ) → IsFirstOwn J s.0 R.from (Some p) → own_count s.0 (take (p + 1) J) ≡ gone + 1
   counted_to p first = counted_behind J s.0 R.from p first ∙ ap (λ (k : ℕ). k + 1) (sym d.counted)
@@ -84,17 +84,17 @@ module _ (R : Course) (core : CoreState) (C : CrewSeen) (s : SimNo) (gone id : �
 
   -- the next one is an item: the crew takes it
   module _ (p : ℕ) (t : SimNo) (item : Item) (first : IsFirstOwn J s.0 R.from (Some p)) (there : slice_get J p ≡ Some (Sent t item)) where
-    right : takes_id item ≡ true → id ≡ id_after (setup_count R.setting.scenario s.0) (R.queued s.0)
-    right takes = d.numbered ∙ ap (λ (k : ℕ). id_after k (R.queued s.0)) (d.resuming.suits.first s.0 low)
+    right : takes_id item ≡ true → id ≡ id_after (setup_count R.course.setting.scenario s.0) (R.course.queued s.0)
+    right takes = d.numbered ∙ ap (λ (k : ℕ). id_after k (R.course.queued s.0)) (d.resuming.suits.first s.0 low)
 
     pub due_linked : is_here C s.0 ≡ false → HasNext item id s.0 C
-    due_linked = passing_linked R.setting core.plan R.first J R.heard R.queued R.awaits R.log s.0 R.from C d.resuming d.passing item id low right
+    due_linked = passing_linked R.course.setting core.plan R.course.first J R.course.heard R.course.queued R.course.awaits R.course.log s.0 R.from C d.resuming d.passing item id low right
 
     pub due_replied : is_here C s.0 ≡ true → IsItemReplied item
     due_replied here = go first
       where
-        inside : is_within R.setting.scenario s.0 ≡ true
-        inside = here_is_within R.setting C.sims s.0 d.resuming.only_within here
+        inside : is_within R.course.setting.scenario s.0 ≡ true
+        inside = here_is_within R.course.setting C.sims s.0 d.resuming.only_within here
 
         taken : take R.from J ≡ g.gone
         taken = ap (take R.from) g.parts ∙ ap (λ (k : ℕ). take k (g.gone ++ g.left)) (sym g.at) ∙ take_front g.gone g.left
@@ -115,14 +115,14 @@ module _ (R : Course) (core : CoreState) (C : CrewSeen) (s : SimNo) (gone id : �
       h : (k : IsGoneTo J s.0 n (p + 1)) × (sent k.gone s.0 ≡ sent g.gone s.0 ++ item ∷ [])
       h = gone_sent J s.0 n R.from g p t item first there
 
-      all : sent h.0.gone s.0 ≡ R.queued s.0 ++ item ∷ []
+      all : sent h.0.gone s.0 ≡ R.course.queued s.0 ++ item ∷ []
       all = h.1 ∙ ap (λ (l : List Item). l ++ item ∷ []) d.passing.was_sent
 
       sent_so : free_items J s.0 n ≡ sent h.0.gone s.0 → Passed D
-      sent_so is = passed_sent R.setting core.plan R.first J R.heard R.queued R.awaits R.log s.0 R.from C d.resuming d.passing law item id D right (λ here. replied_takes item (due_replied here)) so (is ∙ all)
+      sent_so is = passed_sent R.course.setting core.plan R.course.first J R.course.heard R.course.queued R.course.awaits R.course.log s.0 R.from C d.resuming d.passing law item id D right (λ here. replied_takes item (due_replied here)) so (is ∙ all)
 
       one : length (sent h.0.gone s.0) ≡ n + 1
-      one = ap length all ∙ length-append (R.queued s.0) (item ∷ []) ∙ ap (λ (k : ℕ). k + 1) d.passing.answered
+      one = ap length all ∙ length-append (R.course.queued s.0) (item ∷ []) ∙ ap (λ (k : ℕ). k + 1) d.passing.answered
 
       -- behind it comes a message, if anything
       by_entry : (q : ℕ) (e : Entry) → IsFirstOwn J s.0 (p + 1) (Some q) → slice_get J q ≡ Some e → Passed D × Stands (Some (record { place = q; gone = (gone + 1) + 1; id = id_behind item id }))
@@ -136,7 +136,7 @@ module _ (R : Course) (core : CoreState) (C : CrewSeen) (s : SimNo) (gone id : �
             (
               w.0,
               counted_behind J s.0 (p + 1) q next ∙ ap (λ (k : ℕ). k + 1) (counted_to p first),
-              next_id (first_id core.plan s.0) id (R.queued s.0) item d.numbered ∙ ap (id_after (first_id core.plan s.0)) (sym (w.1 ∙ all)),
+              next_id (first_id core.plan s.0) id (R.course.queued s.0) item d.numbered ∙ ap (id_after (first_id core.plan s.0)) (sym (w.1 ∙ all)),
             ),
           )
 

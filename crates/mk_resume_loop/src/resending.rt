@@ -11,8 +11,8 @@ ghost use Rattle.mk_run_crew.specs.Seen.{crew_of, within_of};
 ghost use Rattle.mk_run.specs.inner.Underway.{Setting};
 ghost use Rattle.mk_run.specs.inner.Turns.{IsStill};
 ghost use Rattle.mk_resume_links.specs.inner.Touching.{RestsOver};
-ghost use Rattle.mk_resume_loop.specs.inner.Underway.{IsResumingWith, saved_of};
-ghost use Rattle.mk_resume_loop.specs.inner.Turns.{BeginsAs, Course, IsDue, IsSized, PassesAs};
+ghost use Rattle.mk_resume_loop.specs.inner.Underway.{IsResumingWith, course_of, saved_of};
+ghost use Rattle.mk_resume_loop.specs.inner.Turns.{BeginsAs, IsDue, IsSized, PassesAs, Walk};
 ghost use Rattle.mk_resume_loop.specs.inner.Standings.{id_behind, standing_at};
 
 use crate::behind::{Behind, Standing};
@@ -82,7 +82,7 @@ pub fn go_on(
     requires there { sim.0 < sim_count core.now.plan }
     requires known { AreOf (rows_in kinds.now) (within_of crew.old) }
     requires sized { IsSized core.now behind.old }
-    requires due { (R : Course) × IsDue R core.now crew.old sim.0 gone id }
+    requires due { (R : Walk) × IsDue R core.now crew.old sim.0 gone id }
     ensures passed { PassesAs result core.now sim.0 gone id crew.old crew.new behind.new }
     ensures sized { OnOk result (IsSized core.now behind.new) }
     ensures others { (i : ℕ) → (i ≡ sim.0 → ⊥)
@@ -120,8 +120,8 @@ pub fn begin(
     requires known { AreOf (rows_in kinds.now) (within_of crew.old) }
     requires sized { IsSized core.now behind.old }
     requires underway { (T : Setting) × (log : List LogEntry)
-        × IsResumingWith (λ i. []) (λ i. []) T core.now.plan core.now.entries core.now.entries
-        (λ i. 0) log (crew_of crew.old) crew.old.sims
+        × IsResumingWith (course_of T core.now.entries (λ i. 0) (λ i. []) (λ i. []) log)
+        core.now.plan core.now.entries (crew_of crew.old) crew.old.sims
         × RestsOver (saved_of core.now.entries) T.started T.scenario T.replies core.now.plan
         core.now.entries log }
     ensures begun { BeginsAs result core.now crew.old crew.new behind.new }

@@ -19,7 +19,7 @@ use Rattle.mk_run.specs.inner.Underway.{Setting, exchange_at}
 use Rattle.mk_resume_links.specs.inner.Touching.{RestsOver}
 use Rattle.mk_resume_loop.specs.declared.ending.ResumeEnd.{ResumeEnd}
 use Rattle.mk_resume_loop.specs.inner.Turns.{IsSized, IsStopping}
-use Rattle.mk_resume_loop.specs.inner.Underway.{IsResumingWith, saved_of}
+use Rattle.mk_resume_loop.specs.inner.Underway.{IsResumingWith, course_of, saved_of}
 use Rattle.mk_resume.specs.declared.accepting.Accepted.{Accepted}
 use Rattle.mk_resume.specs.declared.accepting.Accepted.TheVariants as accepted
 use Rattle.mk_resume.specs.Resumed.{HasFaultySaved, IsRefusedBy, IsResumed, ResumesAs}
@@ -32,8 +32,8 @@ pub record IsStarted (A : Attempt) (C : CrewSeen) (P : Plan) : Type 0 where
 -- a core has taken a record's messages, and nothing was sent behind the handshake
 pub record IsFresh (T : Setting) (core : CoreState) (log : List LogEntry)
     (C : CrewSeen) : Type 0 where
-  pub resuming : IsResumingWith (λ i. []) (λ i. []) T core.plan core.entries core.entries (λ i. 0)
-      log (crew_of C) C.sims
+  pub resuming : IsResumingWith (course_of T core.entries (λ i. 0) (λ i. []) (λ i. []) log) core.plan
+      core.entries (crew_of C) C.sims
   pub over : RestsOver (saved_of core.entries) T.started T.scenario T.replies core.plan core.entries
       log
 

@@ -1,7 +1,6 @@
 -- For proofs alone. What the turns of a resumed run's loop come to.
 use Rattle.std.specs.Prelude.{◌≡◌, ◌⊎◌, ℕ, true, List, [], ◌∷◌, ◌++◌, length, take, Option, Some, None, slice_get, Result, Ok, Err}
 use Rattle.mk_base.specs.declared.SimNo.{SimNo}
-use Rattle.mk_plan.specs.declared.Item.{Item}
 use Rattle.mk_plan.specs.declared.Message.{Message}
 use Rattle.mk_plan.specs.declared.Entry.{Entry}
 use Rattle.mk_plan.specs.declared.Entry.TheVariants.{Got}
@@ -23,7 +22,7 @@ use Rattle.mk_resume_loop.specs.declared.ending.ResumeEnd.{ResumeEnd}
 use Rattle.mk_resume_loop.specs.declared.ending.Pause.{Pause}
 use Rattle.mk_resume_loop.specs.declared.ending.Pause.TheVariants as pause
 use Rattle.mk_resume_loop.specs.inner.Ending.{HasEnded}
-use Rattle.mk_resume_loop.specs.inner.Underway.{AreBehind, BehindSeen, IsIndexed, IsMet, IsPassed, IsPassing, IsResuming, IsResumingWith, StandsAt, saved_of}
+use Rattle.mk_resume_loop.specs.inner.Underway.{AreBehind, BehindSeen, Course, IsIndexed, IsMet, IsPassed, IsPassing, IsResuming, IsResumingWith, StandsAt, course_of, saved_of}
 use Rattle.mk_resume_links.specs.inner.Touching.{RestsOver}
 use Rattle.mk_resume_links.proofs.Catching.{one_more}
 
@@ -50,50 +49,47 @@ abbrev pub IsStopping : Type 0 → Setting → List Entry → CoreState → List
 IsStopping risen T first core log C end = (heard : Counts)
     × HasEnded risen T core.plan first core.entries heard log (crew_of C) end
 
--- what a simulator that is to be sent its items anew is seen by
-pub record Course : Type 0 where
-  pub setting : Setting
-  pub first : List Entry
-  pub heard : Counts
-  pub queued : ℕ → List Item
-  pub awaits : ℕ → List Message
-  pub log : List LogEntry
+-- a simulator is to be sent its items anew: the course of the run, and the place of the journal
+-- before which its entries were gone through
+pub record Walk : Type 0 where
+  pub course : Course
   pub from : ℕ
 
 -- so many entries of the simulator were gone through, those before a place of the journal; the id
 -- is that of its next request; and where it runs within the program and its message stands before
 -- that place, that one is a success
-pub record IsDue (R : Course) (core : CoreState) (C : CrewSeen) (s gone id : ℕ) : Type 0 where
-  pub resuming : IsResumingWith R.queued R.awaits R.setting core.plan R.first core.entries R.heard
-      R.log (crew_of C) C.sims
-  pub passing : IsPassing R.queued R.awaits R.setting core.plan R.first core.entries R.heard R.log s
-      R.from
+pub record IsDue (R : Walk) (core : CoreState) (C : CrewSeen) (s gone id : ℕ) : Type 0 where
+  pub resuming : IsResumingWith R.course core.plan core.entries (crew_of C) C.sims
+  pub passing : IsPassing R.course core.plan core.entries s R.from
   pub counted : gone ≡ own_count s (take R.from core.entries)
-  pub numbered : id ≡ id_after (first_id core.plan s) (R.queued s)
-  pub fit : is_within R.setting.scenario s ≡ true → (H : List Entry) (t : SimNo) (m : Message)
-      → take R.from core.entries ≡ H ++ Got t m ∷ [] → t.0 ≡ s → IsFitSuccess m
+  pub numbered : id ≡ id_after (first_id core.plan s) (R.course.queued s)
+  pub fit : is_within R.course.setting.scenario s ≡ true → (H : List Entry) (t : SimNo)
+      (m : Message) → take R.from core.entries ≡ H ++ Got t m ∷ [] → t.0 ≡ s → IsFitSuccess m
 
 -- the simulator was sent what is free, and stands there now; or the run came to an end
 abbrev pub PassesAs : Result (Unit {0}) ResumeEnd → CoreState → ℕ → ℕ → ℕ → CrewSeen → CrewSeen
     → BehindSeen → Type 0
-PassesAs (Ok done) core s gone id C D B = (R : Course) → IsDue R core C s gone id
-    → IsPassed R.queued R.awaits R.setting core.plan R.first core.entries R.heard R.log s D
+PassesAs (Ok done) core s gone id C D B = (R : Walk) → IsDue R core C s gone id
+    → IsPassed R.course core.plan core.entries s D
     × ((o : Option Standing) → slice_get B.sims s ≡ Some o
-    → StandsAt core.plan core.entries s (R.heard s) o)
-PassesAs (Err end) core s gone id C D B = (R : Course) → IsDue R core C s gone id
-    → HasEnded ⊥ R.setting core.plan R.first core.entries R.heard R.log (crew_of D) end
+    → StandsAt core.plan core.entries s (R.course.heard s) o)
+PassesAs (Err end) core s gone id C D B = (R : Walk) → IsDue R core C s gone id
+    → HasEnded ⊥ R.course.setting core.plan R.course.first core.entries R.course.heard R.course.log
+    (crew_of D) end
 
 -- each simulator was sent its first items; or the run came to an end
 abbrev pub BeginsAs : Result (Unit {0}) ResumeEnd → CoreState → CrewSeen → CrewSeen → BehindSeen
     → Type 0
 BeginsAs (Ok done) core C D B = (T : Setting) (log : List LogEntry)
-    → IsResumingWith (λ i. []) (λ i. []) T core.plan core.entries core.entries (λ i. 0) log
-    (crew_of C) C.sims → RestsOver (saved_of core.entries) T.started T.scenario T.replies core.plan
-    core.entries log → GoesOn T core.entries (λ i. 0) core log D B
+    → IsResumingWith (course_of T core.entries (λ i. 0) (λ i. []) (λ i. []) log) core.plan
+    core.entries (crew_of C) C.sims
+    → RestsOver (saved_of core.entries) T.started T.scenario T.replies core.plan core.entries log
+    → GoesOn T core.entries (λ i. 0) core log D B
 BeginsAs (Err end) core C D B = (T : Setting) (log : List LogEntry)
-    → IsResumingWith (λ i. []) (λ i. []) T core.plan core.entries core.entries (λ i. 0) log
-    (crew_of C) C.sims → RestsOver (saved_of core.entries) T.started T.scenario T.replies core.plan
-    core.entries log → IsStopping ⊥ T core.entries core log D end
+    → IsResumingWith (course_of T core.entries (λ i. 0) (λ i. []) (λ i. []) log) core.plan
+    core.entries (crew_of C) C.sims
+    → RestsOver (saved_of core.entries) T.started T.scenario T.replies core.plan core.entries log
+    → IsStopping ⊥ T core.entries core log D end
 
 -- nobody is ready: a request is open, or nothing is left to do
 abbrev pub IsPausing : Pause → CoreState → Type 0

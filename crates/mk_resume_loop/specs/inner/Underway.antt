@@ -33,31 +33,52 @@ use Rattle.mk_resume_loop.specs.declared.behind.Standing.{Standing}
 abbrev pub saved_of : List Entry → Counts
 saved_of first i = length (got first i)
 
--- a journal that goes on from one after a record's messages, a log and a crew have come about
--- together, each simulator having sent so many messages in this call, there is no fault, and
--- nothing is owed; these items were sent behind the handshake, and these replies are kept
-pub record IsResumingWith (queued : ℕ → List Item) (awaits : ℕ → List Message) (T : Setting)
-    (P : Plan) (first J : List Entry) (heard : Counts) (log : List LogEntry) (C : CrewState)
+-- how far a resumed run came, in this setting and from a record's entries: how many messages each
+-- simulator sent in this call, what it was sent behind the handshake, which replies of it are kept,
+-- and what was logged
+pub record Course : Type 0 where
+  pub setting : Setting
+  pub first : List Entry
+  pub heard : Counts
+  pub queued : ℕ → List Item
+  pub awaits : ℕ → List Message
+  pub log : List LogEntry
+
+-- the course of these parts
+abbrev pub course_of : Setting → List Entry → Counts → (ℕ → List Item) → (ℕ → List Message)
+    → List LogEntry → Course
+course_of T first heard queued awaits log = record {
+  setting = T;
+  first = first;
+  heard = heard;
+  queued = queued;
+  awaits = awaits;
+  log = log;
+}
+
+-- a journal that goes on from one after a record's messages, the course and a crew have come about
+-- together, there is no fault, and nothing is owed
+pub record IsResumingWith (R : Course) (P : Plan) (J : List Entry) (C : CrewState)
     (sims : List (Option Simulator)) : Type 0 where
-  pub suits : Suits T P
+  pub suits : Suits R.setting P
   pub stands : Stands P J
-  pub begins : BeginsWith J first
+  pub begins : BeginsWith J R.first
   pub patient : IsPatient P J
   pub in_range : AreInRange J
   pub no_fault : (view P J).fault ≡ None
   pub paid : (view P J).owed ≡ None
-  pub catching : IsCatchingWith queued awaits (saved_of first) T.started T.scenario T.replies
-      (reply_in T) P J heard log C
-  pub no_other : HasNoOther T C
-  pub come : HaveComeBy T queued sims
-  pub only_within : IsOnlyWithin T sims
-  pub log_right : IsLogRight T log
+  pub catching : IsCatchingWith R.queued R.awaits (saved_of R.first) R.setting.started
+      R.setting.scenario R.setting.replies (reply_in R.setting) P J R.heard R.log C
+  pub no_other : HasNoOther R.setting C
+  pub come : HaveComeBy R.setting R.queued sims
+  pub only_within : IsOnlyWithin R.setting sims
+  pub log_right : IsLogRight R.setting R.log
 
 -- what is free was sent, and what is awaited is kept
 abbrev pub IsResuming : Setting → Plan → List Entry → List Entry → Counts → List LogEntry
     → CrewState → List (Option Simulator) → Type 0
-IsResuming T P first J heard = IsResumingWith (λ i. free_items J i (heard i))
-    (awaited T.scenario (reply_in T) J heard) T P first J heard
+IsResuming T P first J heard log C sims = IsResumingWith (course_of T first heard
+    (λ i. free_items J i (heard i)) (awaited T.scenario (reply_in T) J heard) log) P J C sims
 
 -- nobody was ready, and a message was heard that wasn't taken: the oldest reply that was kept,
 -- which is a success, or a message of a link
@@ -76,25 +97,24 @@ pub record IsMet (T : Setting) (P : Plan) (first J : List Entry) (heard : Counts
 
 -- simulator s was sent what is free to it, and what is awaited of it then is kept; the others stand
 -- as before
-abbrev pub IsPassed : (ℕ → List Item) → (ℕ → List Message) → Setting → Plan → List Entry
-    → List Entry → Counts → List LogEntry → ℕ → CrewSeen → Type 0
-IsPassed queued awaits T P first J heard log s C = IsResumingWith
-    (put queued s (free_items J s (heard s)))
-    (put awaits s (awaited T.scenario (reply_in T) J heard s)) T P first J heard log (crew_of C)
-    C.sims
+abbrev pub IsPassed : Course → Plan → List Entry → ℕ → CrewSeen → Type 0
+IsPassed R P J s C = IsResumingWith (course_of R.setting R.first R.heard
+    (put R.queued s (free_items J s (R.heard s)))
+    (put R.awaits s (awaited R.setting.scenario (reply_in R.setting) J R.heard s)) R.log) P J
+    (crew_of C) C.sims
 
 -- simulator s has sent its messages so far, all that it was sent was answered, and its entries
 -- before this place were gone through; what was sent to each is a beginning of what is free to it;
 -- where it runs within the program a message has come since each rest
-pub record IsPassing (queued : ℕ → List Item) (awaits : ℕ → List Message) (T : Setting) (P : Plan)
-    (first J : List Entry) (heard : Counts) (log : List LogEntry) (s from : ℕ) : Type 0 where
-  pub gone : IsGoneTo J s (heard s) from
-  pub was_sent : sent gone.gone s ≡ queued s
-  pub answered : length (queued s) ≡ heard s
-  pub none : awaits s ≡ []
-  pub firsts : (i : ℕ) → BeginsWith (free_items J i (heard i)) (queued i)
-  pub over : is_within T.scenario s ≡ true
-      → RestsOver (saved_of first) T.started T.scenario T.replies P J log
+pub record IsPassing (R : Course) (P : Plan) (J : List Entry) (s from : ℕ) : Type 0 where
+  pub gone : IsGoneTo J s (R.heard s) from
+  pub was_sent : sent gone.gone s ≡ R.queued s
+  pub answered : length (R.queued s) ≡ R.heard s
+  pub none : R.awaits s ≡ []
+  pub firsts : (i : ℕ) → BeginsWith (free_items J i (R.heard i)) (R.queued i)
+  pub over : is_within R.setting.scenario s ≡ true
+      → RestsOver (saved_of R.first) R.setting.started R.setting.scenario R.setting.replies P J
+      R.log
 
 -- simulator i, which has sent n messages in this call, stands there; or it has caught up
 abbrev pub StandsAt : Plan → List Entry → ℕ → ℕ → Option Standing → Type 0

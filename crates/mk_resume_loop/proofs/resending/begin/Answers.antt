@@ -5,7 +5,7 @@ use Rattle.mk_plan.specs.declared.Plan.{Plan}
 use Rattle.mk_plan.specs.declared.PlanSim.{PlanSim}
 use Rattle.mk_plan.specs.Plans.{sim_count}
 use Rattle.mk_resume_loop.specs.declared.ending.ResumeEnd.{ResumeEnd}
-use Rattle.mk_resume_loop.specs.inner.Turns.{BeginsAs, Course, IsDue, PassesAs}
+use Rattle.mk_resume_loop.specs.inner.Turns.{BeginsAs, IsDue, PassesAs, Walk}
 use Rattle.mk_resume_loop.proofs.FirstItems.{all_begun, due_first, id_of_sim, none_begun, not_begun, one_begun}
 use Rattle.mk_resume_loop.proofs.resending.begin.Goals as goal
 
@@ -26,7 +26,7 @@ go_on-requires-clause-due g c =
     let t = c.requires.underway in
     let same : c.as_slice-sims.result.now ≡ c.args.core.now.plan.sims = c.as_slice-sims.ensures ∙ ap (λ (P : Plan). P.sims) c.plan.ensures in
     let id = id_of_sim c.args.core.now.plan c.loop-sim.sim c.index-sims-sim.result (subst (λ (l : List PlanSim). c.loop-sim.sim < length l) same c.loop-sim-test.true) (c.index-sims-sim.is ∙ ap (λ (l : List PlanSim). get_or l c.loop-sim.sim c.index-sims-sim.result) same) in
-    subst (λ (n : ℕ). (R : Course) × IsDue R c.args.core.now c.loop-sim.crew c.loop-sim.sim 0 n) (id ∙ ap (λ (x : PlanSim). x.first_id) c.index-sims-sim.is) (due_first c.args.core.now c.args.crew.now c.loop-sim.crew c.loop-sim.behind c.loop-sim.sim c.loop-sim.invariant.so_far t.0 t.1 t.2 t.3)
+    subst (λ (n : ℕ). (R : Walk) × IsDue R c.args.core.now c.loop-sim.crew c.loop-sim.sim 0 n) (id ∙ ap (λ (x : PlanSim). x.first_id) c.index-sims-sim.is) (due_first c.args.core.now c.args.crew.now c.loop-sim.crew c.loop-sim.behind c.loop-sim.sim c.loop-sim.invariant.so_far t.0 t.1 t.2 t.3)
 
 pub loop-sim-preserved : goal.loop-sim-preserved
 loop-sim-preserved g c =
