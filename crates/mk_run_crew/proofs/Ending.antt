@@ -108,11 +108,11 @@ module _ (started : ℕ) (S : Scenario) (ranks : List ℕ) (rows : List Turn) wh
   cause_later log stop risen later_risen queued later halt.Mem same on c = tt
 
   -- the entries of the stop are on the run's links
-  pub halted_on : (log stop : List LogEntry) (risen : Type 0) (h : Halt) (C : CrewSeen) → IsHalting started S ranks rows log risen h C → AreOn (IsChannelLink C.channels) stop → AreOn (IsRunLink started S) (log ++ stop)
+  pub halted_on : (log stop : List LogEntry) (risen : Type 0) (h : Halt) (C : CrewSeen) → IsHalting (attempt started S ranks rows log) risen h C → AreOn (IsChannelLink C.channels) stop → AreOn (IsRunLink started S) (log ++ stop)
   halted_on log stop risen h C g of_channels = on_more (IsRunLink started S) log stop g.on_links (on_run started S C.channels stop (λ i l e. let t = g.channels i l e in (t.1, t.2, t.3)) g.back of_channels)
 
   -- the stop of a crew whose handshake has ended early
-  pub halted : (log stop : List LogEntry) (risen later_risen : Type 0) (h : Halt) (C : CrewSeen) → IsHalting started S ranks rows log risen h C → AreStopped stop later_risen (crew_of C) → IsRestless stop → AreOn (IsChannelLink C.channels) stop → (risen → later_risen)
+  pub halted : (log stop : List LogEntry) (risen later_risen : Type 0) (h : Halt) (C : CrewSeen) → IsHalting (attempt started S ranks rows log) risen h C → AreStopped stop later_risen (crew_of C) → IsRestless stop → AreOn (IsChannelLink C.channels) stop → (risen → later_risen)
       → HasHalted (attempt started S ranks rows (log ++ stop)) later_risen h
   halted log stop risen later_risen h C g stopped restless of_channels on = record {
     queued = g.queued;

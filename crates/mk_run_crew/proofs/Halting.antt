@@ -81,7 +81,7 @@ module _ (started : ℕ) (S : Scenario) (ranks : List ℕ) (rows : List Turn) wh
   channels_at replies log L done later b i l e = let t = b.channels i l e in (replies i, t.0, t.1, t.2, t.3)
 
   pub between_halts : (log : List LogEntry) (risen : Type 0) (h : Halt) (answers : List Message) (C : CrewSeen) → IsAnswered started S rows log answers C
-      → ShowsCause (attempt started S ranks rows log) risen (take (length answers) (setup_requests S)) (drop (length answers) (setup_requests S)) h → IsHalting started S ranks rows log risen h C
+      → ShowsCause (attempt started S ranks rows log) risen (take (length answers) (setup_requests S)) (drop (length answers) (setup_requests S)) h → IsHalting (attempt started S ranks rows log) risen h C
   between_halts log risen h answers C a cause = record {
     queued = take (length answers) (setup_requests S);
     later = drop (length answers) (setup_requests S);
@@ -111,16 +111,16 @@ module _ (started : ℕ) (S : Scenario) (ranks : List ℕ) (rows : List Turn) wh
   }
 
   -- the next request can't be made
-  pub next_halts : (log : List LogEntry) (risen : Type 0) (answers : List Message) (C : CrewSeen) (e : SetupFault) → IsAnswered started S rows log answers C → ((e ≡ fault.Mem → ⊥) → IsFaultyAfter S ranks answers None e) → IsHalting started S ranks rows log risen (setup_halt e) C
+  pub next_halts : (log : List LogEntry) (risen : Type 0) (answers : List Message) (C : CrewSeen) (e : SetupFault) → IsAnswered started S rows log answers C → ((e ≡ fault.Mem → ⊥) → IsFaultyAfter S ranks answers None e) → IsHalting (attempt started S ranks rows log) risen (setup_halt e) C
   next_halts log risen answers C e a faulty = between_halts log risen (setup_halt e) answers C a
       (fault_causes log risen (take (length answers) (setup_requests S)) (drop (length answers) (setup_requests S)) e (λ some. record { answers = answers; last = None; faulty = faulty some; heard = heard_so_far log answers C a }))
 
   -- the next request isn't made
   pub unasked_halts : (log entries : List LogEntry) (risen : Type 0) (h : Halt) (answers : List Message) (C D : CrewSeen) (r : Request) (id : ℕ) → IsAnswered started S rows log answers C → slice_get (setup_requests S) (length answers) ≡ Some r
-      → id ≡ id_before S (length answers) r.sim → (is_here C r.sim ≡ false → (l : LinkNo) × (sim_link started S r.sim ≡ Some l)) → AsksNot h r.sim r.call id entries C D → IsHalting started S ranks rows (log ++ entries) risen h D
+      → id ≡ id_before S (length answers) r.sim → (is_here C r.sim ≡ false → (l : LinkNo) × (sim_link started S r.sim ≡ Some l)) → AsksNot h r.sim r.call id entries C D → IsHalting (attempt started S ranks rows (log ++ entries)) risen h D
   unasked_halts log entries risen h answers C D r id a asked numbered linked n =
-      subst (λ (x : List LogEntry). IsHalting started S ranks rows x risen h D) (sym (ap (λ (x : List LogEntry). log ++ x) n.quiet ∙ append_nil log))
-      (subst (λ (X : CrewSeen). IsHalting started S ranks rows log risen h X) (sym n.same) (between_halts log risen h answers C a (cause n.cause)))
+      subst (λ (x : List LogEntry). IsHalting (attempt started S ranks rows x) risen h D) (sym (ap (λ (x : List LogEntry). log ++ x) n.quiet ∙ append_nil log))
+      (subst (λ (X : CrewSeen). IsHalting (attempt started S ranks rows log) risen h X) (sym n.same) (between_halts log risen h answers C a (cause n.cause)))
     where
       cause : (h ≡ halt.Mem) ⊎ IsTooLongToAsk h r.sim r.call id C → ShowsCause (attempt started S ranks rows log) risen (take (length answers) (setup_requests S)) (drop (length answers) (setup_requests S)) h
       cause (inl e) = subst (ShowsCause (attempt started S ranks rows log) risen (take (length answers) (setup_requests S)) (drop (length answers) (setup_requests S))) (sym e) tt
@@ -181,7 +181,7 @@ module _ (started : ℕ) (S : Scenario) (ranks : List ℕ) (rows : List Turn) wh
 
   -- the request was queued, and nothing was heard
   pub unheard_halts : (log entries : List LogEntry) (risen : Type 0) (h : Halt) (answers : List Message) (C D : CrewSeen) (r : Request) (id : ℕ) (l : LinkNo) → IsAnswered started S rows log answers C → slice_get (setup_requests S) (length answers) ≡ Some r
-      → id ≡ id_before S (length answers) r.sim → sim_link started S r.sim ≡ Some l → (h ≡ halt.Fleet → risen) → AsksInVain h r.sim r.call id entries C D → IsHalting started S ranks rows (log ++ entries) risen h D
+      → id ≡ id_before S (length answers) r.sim → sim_link started S r.sim ≡ Some l → (h ≡ halt.Fleet → risen) → AsksInVain h r.sim r.call id entries C D → IsHalting (attempt started S ranks rows (log ++ entries)) risen h D
   unheard_halts log entries risen h answers C D r id l a asked numbered linked rose v = record {
     queued = done ++ r ∷ [];
     later = later;
@@ -217,7 +217,7 @@ module _ (started : ℕ) (S : Scenario) (ranks : List ℕ) (rows : List Turn) wh
   -- it came of a link
   pub refused_on_link : (log entries : List LogEntry) (risen : Type 0) (answers : List Message) (C D : CrewSeen) (r : Request) (id from : ℕ) (l : LinkNo) (m : Message) (e : SetupFault) → IsAnswered started S rows log answers C → slice_get (setup_requests S) (length answers) ≡ Some r
       → id ≡ id_before S (length answers) r.sim → sim_link started S r.sim ≡ Some l → AsksOnLink r.sim r.call id from m entries C D → ((e ≡ fault.Mem → ⊥) → IsFaultyAfter S ranks answers (Some (record { sim = from; message = m })) e)
-      → IsHalting started S ranks rows (log ++ entries) risen (setup_halt e) D
+      → IsHalting (attempt started S ranks rows (log ++ entries)) risen (setup_halt e) D
   refused_on_link log entries risen answers C D r id from l m e a asked numbered linked v faulty = record {
     queued = done ++ r ∷ [];
     later = later;
@@ -261,7 +261,7 @@ module _ (started : ℕ) (S : Scenario) (ranks : List ℕ) (rows : List Turn) wh
   -- it came of a simulator within the program
   pub refused_within : (log entries : List LogEntry) (risen : Type 0) (answers : List Message) (C D : CrewSeen) (r : Request) (id from : ℕ) (m : Message) (e : SetupFault) → IsAnswered started S rows log answers C → slice_get (setup_requests S) (length answers) ≡ Some r
       → id ≡ id_before S (length answers) r.sim → AsksWithin r.sim r.call id from m entries C D → D.places ≡ C.places → ((e ≡ fault.Mem → ⊥) → IsFaultyAfter S ranks answers (Some (record { sim = from; message = m })) e)
-      → IsHalting started S ranks rows (log ++ entries) risen (setup_halt e) D
+      → IsHalting (attempt started S ranks rows (log ++ entries)) risen (setup_halt e) D
   refused_within log entries risen answers C D r id from m e a asked numbered v same_places faulty = between_halts (log ++ entries) risen (setup_halt e) (answers ++ m ∷ []) D b
       (fault_causes (log ++ entries) risen (take (length (answers ++ m ∷ [])) (setup_requests S)) (drop (length (answers ++ m ∷ [])) (setup_requests S)) e
       (λ some. record { answers = answers; last = Some (record { sim = from; message = m }); faulty = faulty some; heard = record { links = links; kinds = b.kinds } }))

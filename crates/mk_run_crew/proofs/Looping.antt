@@ -68,7 +68,7 @@ module _ (started : ℕ) (S : Scenario) (ranks : List ℕ) (rows : List Turn) (l
 
   -- the next request can't be made
   pub stops : (old new : Option (List LogEntry)) (risen : Type 0) (C : CrewSeen) (U V : SetupState) (e : SetupFault) → GoesSoFar started S ranks rows old new C U → GivesNoRequest U e V
-      → (entries : List LogEntry) × Adds entries old new × IsHalting started S ranks rows entries risen (setup_halt e) C
+      → (entries : List LogEntry) × Adds entries old new × IsHalting (attempt started S ranks rows entries) risen (setup_halt e) C
   stops old new risen C U V e g unready = (
     g.entries,
     g.adds,
@@ -127,7 +127,7 @@ module _ (started : ℕ) (S : Scenario) (ranks : List ℕ) (rows : List Turn) (l
 
     -- it wasn't made, or wasn't answered rightly
     pub halts : (new : Option (List LogEntry)) (entries : List LogEntry) (risen all_risen : Type 0) (h : Halt) (D : CrewSeen) → IsPrepared S (map name_of rows) → Adds entries mid new → (risen → all_risen) → AnswersNot risen h sim.0 call id entries C D W → D.places ≡ C.places
-        → (entries : List LogEntry) × Adds entries old new × IsHalting started S ranks rows entries all_risen h D
+        → (entries : List LogEntry) × Adds entries old new × IsHalting (attempt started S ranks rows entries) all_risen h D
     halts new entries risen all_risen h D prepared adds on (inl fails) same_places = (
       g.entries ++ entries,
       adds_more g.entries entries old mid new g.adds adds,
@@ -139,7 +139,7 @@ module _ (started : ℕ) (S : Scenario) (ranks : List ℕ) (rows : List Turn) (l
     halts new entries risen all_risen h D prepared adds on (inr n) same_places = (
       g.entries ++ entries,
       adds_more g.entries entries old mid new g.adds adds,
-      subst (λ (x : Halt). IsHalting started S ranks rows (g.entries ++ entries) all_risen x D) (sym n.is) (elim n.asks [
+      subst (λ (x : Halt). IsHalting (attempt started S ranks rows (g.entries ++ entries)) all_risen x D) (sym n.is) (elim n.asks [
         | inl w ↦ refused_within started S ranks rows g.entries entries all_risen g.answers C D (record { sim = sim.0; call = call }) id (n.from).0 n.message n.fault g.answered asked numbered w same_places faulty
         | inr k ↦ let l = next_linked prepared k.away in refused_on_link started S ranks rows g.entries entries all_risen g.answers C D (record { sim = sim.0; call = call }) id (n.from).0 l.0 n.message n.fault g.answered asked numbered l.1 k faulty
       ]),
@@ -171,11 +171,11 @@ module _ (started : ℕ) (S : Scenario) (ranks : List ℕ) (rows : List Turn) (l
         )
 
     -- it wasn't made, or in vain
-    pub steps_not : (new : Option (List LogEntry)) (entries : List LogEntry) (risen all_risen : Type 0) (h : Halt) (D : CrewSeen) → Adds entries mid new → (risen → all_risen) → StepsNot risen h entries C D U → D.places ≡ C.places → (all : List LogEntry) × Adds all old new × IsHalting started S ranks rows all all_risen h D
+    pub steps_not : (new : Option (List LogEntry)) (entries : List LogEntry) (risen all_risen : Type 0) (h : Halt) (D : CrewSeen) → Adds entries mid new → (risen → all_risen) → StepsNot risen h entries C D U → D.places ≡ C.places → (all : List LogEntry) × Adds all old new × IsHalting (attempt started S ranks rows all) all_risen h D
     steps_not new entries risen all_risen h D adds on (inl s) same_places = halts old mid C U s.state s.sim s.call s.id g s.requested new entries risen all_risen h D prepared adds on s.failed same_places
     steps_not new entries risen all_risen h D adds on (inr u) same_places =
         let t = stops old mid all_risen C U u.state u.fault g u.unready in (
           t.0,
           adds_no_more t.0 old mid new t.1 (subst (λ (more : List LogEntry). Adds more mid new) u.quiet adds),
-          subst (λ (X : CrewSeen). IsHalting started S ranks rows t.0 all_risen h X) (sym u.same) (subst (λ (x : Halt). IsHalting started S ranks rows t.0 all_risen x C) (sym u.is) t.2),
+          subst (λ (X : CrewSeen). IsHalting (attempt started S ranks rows t.0) all_risen h X) (sym u.same) (subst (λ (x : Halt). IsHalting (attempt started S ranks rows t.0) all_risen x C) (sym u.is) t.2),
         )

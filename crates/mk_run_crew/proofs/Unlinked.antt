@@ -144,10 +144,10 @@ module _ (S : Scenario) (ranks : List ℕ) (rows : List Turn) (laws : RepliesMak
       let t = ends started S ranks rows laws (Some []) (Some []) C U V P (g started) ready in
       subst (λ (log : List LogEntry). HasBegun (attempt started S ranks rows log) C P) (nothing_added t.0 t.1) t.2
 
-  pub stops_within : (C : CrewSeen) (U V : SetupState) (e : SetupFault) → GoesWithin S ranks rows C U → GivesNoRequest U e V → (started : ℕ) → IsHalting started S ranks rows [] ⊥ (setup_halt e) C
+  pub stops_within : (C : CrewSeen) (U V : SetupState) (e : SetupFault) → GoesWithin S ranks rows C U → GivesNoRequest U e V → (started : ℕ) → IsHalting (attempt started S ranks rows []) ⊥ (setup_halt e) C
   stops_within C U V e g unready started =
       let t = stops started S ranks rows laws (Some []) (Some []) ⊥ C U V e (g started) unready in
-      subst (λ (log : List LogEntry). IsHalting started S ranks rows log ⊥ (setup_halt e) C) (nothing_added t.0 t.1) t.2
+      subst (λ (log : List LogEntry). IsHalting (attempt started S ranks rows log) ⊥ (setup_halt e) C) (nothing_added t.0 t.1) t.2
 
   module _ (C : CrewSeen) (U W : SetupState) (sim : SimNo) (call : Call) (id : ℕ) (g : GoesWithin S ranks rows C U) (q : IsRequested U sim call id W) (prepared : IsPrepared S (map name_of rows)) where
     -- the request goes to a simulator within the program
@@ -164,10 +164,10 @@ module _ (S : Scenario) (ranks : List ℕ) (rows : List Turn) (laws : RepliesMak
     pub goes_within : (D : CrewSeen) (V : SetupState) → Answers sim.0 call id [] C D W V → D.places ≡ C.places → GoesWithin S ranks rows D V
     goes_within D V a same_places started = goes_on started S ranks rows laws (Some []) (Some []) C U W sim call id (g started) q (Some []) [] D V prepared (adds_none (Some [])) a same_places
 
-    pub halts_within : (h : Halt) (D : CrewSeen) → AnswersNot ⊥ h sim.0 call id [] C D W → D.places ≡ C.places → (started : ℕ) → IsHalting started S ranks rows [] ⊥ h D
+    pub halts_within : (h : Halt) (D : CrewSeen) → AnswersNot ⊥ h sim.0 call id [] C D W → D.places ≡ C.places → (started : ℕ) → IsHalting (attempt started S ranks rows []) ⊥ h D
     halts_within h D a same_places started =
         let t = halts started S ranks rows laws (Some []) (Some []) C U W sim call id (g started) q (Some []) [] ⊥ ⊥ h D prepared (adds_none (Some [])) (λ r. r) a same_places in
-        subst (λ (log : List LogEntry). IsHalting started S ranks rows log ⊥ h D) (nothing_added t.0 t.1) t.2
+        subst (λ (log : List LogEntry). IsHalting (attempt started S ranks rows log) ⊥ h D) (nothing_added t.0 t.1) t.2
 
     -- one request less is left
     pub fewer_left : (D : CrewSeen) (V : SetupState) → Answers sim.0 call id [] C D W V → length (setup_requests S) - V.answered < length (setup_requests S) - U.answered
@@ -200,10 +200,10 @@ module _ (S : Scenario) (ranks : List ℕ) (rows : List Turn) (laws : RepliesMak
     pub steps_end_within : (D : CrewSeen) (V : SetupState) (P : Plan) → StepsTo (Some P) [] C D U V → (started : ℕ) → HasBegun (attempt started S ranks rows []) D P
     steps_end_within D V P s started = subst (λ (X : CrewSeen). HasBegun (attempt started S ranks rows []) X P) (sym s.1) (ends_within C U V P g s.2 started)
 
-    pub steps_not_within : (h : Halt) (D : CrewSeen) → StepsNot ⊥ h [] C D U → D.places ≡ C.places → (started : ℕ) → IsHalting started S ranks rows [] ⊥ h D
+    pub steps_not_within : (h : Halt) (D : CrewSeen) → StepsNot ⊥ h [] C D U → D.places ≡ C.places → (started : ℕ) → IsHalting (attempt started S ranks rows []) ⊥ h D
     steps_not_within h D (inl s) same_places started = halts_within C U s.state s.sim s.call s.id g s.requested prepared h D s.failed same_places started
     steps_not_within h D (inr u) same_places started =
-        subst (λ (X : CrewSeen). IsHalting started S ranks rows [] ⊥ h X) (sym u.same) (subst (λ (x : Halt). IsHalting started S ranks rows [] ⊥ x C) (sym u.is) (stops_within C U u.state u.fault g u.unready started))
+        subst (λ (X : CrewSeen). IsHalting (attempt started S ranks rows []) ⊥ h X) (sym u.same) (subst (λ (x : Halt). IsHalting (attempt started S ranks rows []) ⊥ x C) (sym u.is) (stops_within C U u.state u.fault g u.unready started))
 
     pub steps_fewer : (D : CrewSeen) (V : SetupState) → IsStepped [] C D U V → length (setup_requests S) - V.answered < length (setup_requests S) - U.answered
     steps_fewer D V s = fewer_left C U s.state s.sim s.call s.id g s.requested prepared D V s.answers
@@ -211,5 +211,5 @@ module _ (S : Scenario) (ranks : List ℕ) (rows : List Turn) (laws : RepliesMak
 -- ---- what is left behind it
 
 -- the handshake ended early
-pub halted_within : (started : ℕ) (S : Scenario) (ranks : List ℕ) (rows : List Turn) (faults new_faults : ℕ) (h : Halt) (C : CrewSeen) → ((i : ℕ) → at C.channels i ≡ None) → IsHalting started S ranks rows [] ⊥ h C → HasHalted (attempt started S ranks rows []) (HasRisen faults new_faults) h
+pub halted_within : (started : ℕ) (S : Scenario) (ranks : List ℕ) (rows : List Turn) (faults new_faults : ℕ) (h : Halt) (C : CrewSeen) → ((i : ℕ) → at C.channels i ≡ None) → IsHalting (attempt started S ranks rows []) ⊥ h C → HasHalted (attempt started S ranks rows []) (HasRisen faults new_faults) h
 halted_within started S ranks rows faults new_faults h C none g = halted started S ranks rows [] [] ⊥ (HasRisen faults new_faults) h C g (silently (HasRisen faults new_faults) C none) restless tt (λ e. absurd e)

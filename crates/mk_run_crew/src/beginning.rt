@@ -361,8 +361,8 @@ impl Crew {
             → IsNewCrew started (rows_in kinds.now) setup.old.scenario
             (F.open_links fleet.old) self.old
             → (entries : List LogEntry) × Adds entries (F.log fleet.old) (F.log fleet.new)
-            × IsHalting started setup.old.scenario setup.old.ranks (rows_in kinds.now) entries
-            (HasRisen (F.faults fleet.old) (F.faults fleet.new)) h self.new) }
+            × IsHalting (attempt started setup.old.scenario setup.old.ranks (rows_in kinds.now)
+            entries) (HasRisen (F.faults fleet.old) (F.faults fleet.new)) h self.new) }
     {
         replies_make();
         for _ in rt.forever() {

@@ -142,8 +142,8 @@ impl Crew {
             → HasBegun (attempt started setup.old.scenario setup.old.ranks (rows_in kinds.now) [])
             self.new P) }
         ensures err { IfErr result (λ h. (started : ℕ)
-            → IsHalting started setup.old.scenario setup.old.ranks
-            (rows_in kinds.now) [] ⊥ h self.new) }
+            → IsHalting (attempt started setup.old.scenario setup.old.ranks (rows_in kinds.now) [])
+            ⊥ h self.new) }
         ensures cause { IfErr result IsWithinHalt }
         ensures same_channels { self.new.channels ≡ self.old.channels }
         ensures same_places { self.new.places ≡ self.old.places }

@@ -13,7 +13,7 @@ use Rattle.mk_plan.specs.declared.Message.{Message}
 use Rattle.mk_plan.specs.declared.Plan.{Plan}
 use Rattle.mk_scenario.specs.declared.parts.Scenario.{Scenario}
 use Rattle.mk_launch.specs.Starts.{places}
-use Rattle.mk_run_crew.specs.Attempts.{attempt}
+use Rattle.mk_run_crew.specs.Attempts.{Attempt}
 use Rattle.mk_local.specs.declared.turn.Turn.{Turn}
 use Rattle.mk_local.specs.Calls.{IsCallReplied}
 use Rattle.mk_run_laws.specs.Channels.{Channel, IsChannelAt, queued}
@@ -249,17 +249,16 @@ pub record GoesSoFar (started : ℕ) (S : Scenario) (ranks : List ℕ) (rows : L
   pub answered : IsAnswered started S rows entries answers C
 
 -- the handshake has ended early, and the crew is still to be stopped
-pub record IsHalting (started : ℕ) (S : Scenario) (ranks : List ℕ) (rows : List Turn)
-    (log : List LogEntry) (risen : Type 0) (h : Halt) (C : CrewSeen) : Type 0 where
+pub record IsHalting (A : Attempt) (risen : Type 0) (h : Halt) (C : CrewSeen) : Type 0 where
   pub queued : List Request
   pub later : List Request
-  pub parts : setup_requests S ≡ queued ++ later
-  pub channels : (i : ℕ) (l : LinkNo) → sim_link started S i ≡ Some l
+  pub parts : setup_requests A.scenario ≡ queued ++ later
+  pub channels : (i : ℕ) (l : LinkNo) → sim_link A.started A.scenario i ≡ Some l
       → (ms : List Message) × (w : Channel) × (at C.channels i ≡ Some w) × (w.link ≡ l)
-      × IsChannelAt log ms (call_payloads 0 (filter_map (call_to i) queued)) (count_to i queued) w
+      × IsChannelAt A.log ms (call_payloads 0 (filter_map (call_to i) queued)) (count_to i queued) w
   pub back : (i : ℕ) (w : Channel) → at C.channels i ≡ Some w → (l : LinkNo)
-      × (sim_link started S i ≡ Some l)
-  pub rests : (before after : List LogEntry) → log ≡ before ++ Rest ∷ after
-      → IsWellInSetup started S before × (AllSetUp started S before → ⊥)
-  pub cause : ShowsCause (attempt started S ranks rows log) risen queued later h
-  pub on_links : AreOn (IsRunLink started S) log
+      × (sim_link A.started A.scenario i ≡ Some l)
+  pub rests : (before after : List LogEntry) → A.log ≡ before ++ Rest ∷ after
+      → IsWellInSetup A.started A.scenario before × (AllSetUp A.started A.scenario before → ⊥)
+  pub cause : ShowsCause A risen queued later h
+  pub on_links : AreOn (IsRunLink A.started A.scenario) A.log
