@@ -23,20 +23,20 @@ use Rattle.mk_run_crew.specs.Calls.{SendsAs}
 use Rattle.mk_run_crew.specs.Seen.{CrewSeen, crew_of}
 use Rattle.mk_run.specs.declared.outcome.Outcome.{Outcome}
 use Rattle.mk_run.specs.declared.outcome.Outcome.TheVariants as outcome
-use Rattle.mk_run.specs.inner.Sendings.{CanSend, CanTake, EndsWithItem, IsUnsent}
+use Rattle.mk_run.specs.inner.Sendings.{CanSend, CanTake, EndsWithItem, IsItemAt, IsUnsent}
 use Rattle.mk_run.specs.inner.Underway.{Setting}
 use Rattle.mk_run.proofs.LoopSteps.{answered_id, answered_opens, none_owed}
+use Rattle.mk_run.proofs.LastItem.{get_last}
 use Rattle.mk_pace_held.specs.declared.held.Held.{Held}
 use Rattle.mk_pace_held.specs.Firsts.{IsChanged}
 use Rattle.mk_pace_laws.specs.declared.end.PaceEnd.TheVariants as pace
 use Rattle.mk_pace_laws.specs.Moments.{Tempo}
 use Rattle.mk_pace_loop.specs.inner.Pacing.{IsPacing, IsPacingBut, IsPacingFor}
-use Rattle.mk_pace_loop.specs.inner.Sendings.{IsItemAt}
 use Rattle.mk_pace_loop.specs.inner.Turns.{AnswersAs, GoesOn, IsPast, IsStopping, TakesAs}
 use Rattle.mk_pace_loop.specs.inner.Waiting.{DueAs, HasTime, IsHeldLast, IsSomeHeld, WaitingSeen, waiting_seen}
 use Rattle.mk_pace_loop.proofs.Asking.{as_seen, asked_unheld}
 use Rattle.mk_pace_loop.proofs.Following.{follower_sent, follower_taken, follower_unsent, mem_ends, same_item}
-use Rattle.mk_pace_loop.proofs.Grown.{changed_set, get_last}
+use Rattle.mk_pace_loop.proofs.Grown.{changed_set}
 use Rattle.mk_pace_loop.proofs.HeldFirst.{all_again}
 use Rattle.mk_pace_loop.proofs.Meeting.{met_low}
 use Rattle.mk_pace_loop.proofs.Taking.{owed_waits, quiet_on}

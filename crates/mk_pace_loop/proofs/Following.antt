@@ -27,7 +27,7 @@ use Rattle.mk_run_crew.specs.Seen.{CrewSeen, crew_of}
 use Rattle.mk_run_crew.specs.Calls.{SendsAs, ShowsUnsent}
 use Rattle.mk_run.specs.declared.outcome.Outcome.{Outcome}
 use Rattle.mk_run.specs.Outcomes.{outcome_of}
-use Rattle.mk_run.specs.inner.Sendings.{CanTake, IsUnsent}
+use Rattle.mk_run.specs.inner.Sendings.{CanTake, IsItemAt, IsUnsent}
 use Rattle.mk_run.specs.inner.Underway.{Setting, put}
 use Rattle.mk_run.proofs.Linked.{linked_outside, within_below}
 use Rattle.mk_run.proofs.Putting.{put_away, put_here}
@@ -42,7 +42,6 @@ use Rattle.mk_pace_laws.specs.Moments.{Tempo, before_step, moments_of, sent_out}
 use Rattle.mk_pace_laws.specs.Naps.{AreTold}
 use Rattle.mk_pace_loop.specs.inner.Pacing.{IsPacingBut, IsPacingFor}
 use Rattle.mk_pace_loop.specs.inner.PacedOut.{EndsPace, HasPacedOut}
-use Rattle.mk_pace_loop.specs.inner.Sendings.{IsItemAt}
 use Rattle.mk_pace_loop.specs.inner.Waiting.{DueAs, waiting_seen}
 use Rattle.mk_pace_loop.proofs.HeldFirst.{IsFront, front_is}
 use Rattle.mk_pace_loop.proofs.OneSent.{can_take, sent_on}

@@ -1,5 +1,5 @@
 -- What one more entry of the journal changes of what waits, of what is awaited, and of naps.
-use Rattle.std.proofs.Common.{◌≡◌, ◌⊎◌, inl, inr, ℕ, zero, suc, ◌+◌, ℤ, Bool, true, false, ◌&&◌, List, [], ◌∷◌, ◌++◌, length, map, filter_map, Option, Some, None, is_some, slice_get, slice_set, refl, sym, ap, ◌∙◌, subst, append_assoc, arith, if◌then◌else◌}
+use Rattle.std.proofs.Common.{◌≡◌, ◌⊎◌, inl, inr, ℕ, zero, suc, ◌+◌, ℤ, Bool, true, false, ◌&&◌, List, [], ◌∷◌, ◌++◌, map, filter_map, Option, Some, None, is_some, slice_get, slice_set, refl, sym, ap, ◌∙◌, subst, append_assoc, if◌then◌else◌}
 use Rattle.mk_base.specs.declared.SimNo.{SimNo}
 use Rattle.mk_base.specs.declared.tier.Tier.{Tier}
 use Rattle.mk_base.specs.Lists.{BeginsWith}
@@ -40,17 +40,6 @@ pub get_longer : {X : Type 0} (xs : List X) (i : ℕ) (x e : X) → slice_get xs
 get_longer [] i x e is = cc
 get_longer (y ∷ xs) zero x e is = is
 get_longer (y ∷ xs) (suc i) x e is = get_longer xs i x e is
-
--- the last stands at the end
-pub get_last : {X : Type 0} (xs : List X) (e : X) (i : ℕ) → i + 1 ≡ length (xs ++ e ∷ []) → slice_get (xs ++ e ∷ []) i ≡ Some e
-get_last [] e zero is = refl
-get_last [] e (suc i) is = absurd (omega (arith, is))
-get_last (y ∷ xs) e zero is = absurd (longer xs is)
-  where
-    longer : (xs : List _) → 1 ≡ suc (length (xs ++ e ∷ [])) → ⊥
-    longer [] q = omega (arith, q)
-    longer (x ∷ xs) q = omega (arith, q)
-get_last (y ∷ xs) e (suc i) is = get_last xs e i (omega (arith, is))
 
 -- ---- held items
 

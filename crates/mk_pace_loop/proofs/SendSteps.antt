@@ -11,7 +11,7 @@ use Rattle.mk_run_crew.specs.Seen.{CrewSeen, crew_of}
 use Rattle.mk_run_crew.specs.Calls.{SendsAs}
 use Rattle.mk_run.specs.declared.outcome.Outcome.{Outcome}
 use Rattle.mk_run.specs.declared.outcome.Outcome.TheVariants as outcome
-use Rattle.mk_run.specs.inner.Sendings.{CanTake, IsUnsent}
+use Rattle.mk_run.specs.inner.Sendings.{CanTake, IsItemAt, IsUnsent}
 use Rattle.mk_run.specs.inner.Underway.{Setting}
 use Rattle.mk_pace_held.specs.declared.held.Due.{Due}
 use Rattle.mk_pace_held.specs.declared.held.First.{First}
@@ -23,7 +23,7 @@ use Rattle.mk_pace_laws.specs.declared.end.PaceEnd.TheVariants as pace
 use Rattle.mk_pace_laws.specs.Moments.{Tempo}
 use Rattle.mk_pace_loop.specs.inner.Pacing.{BeginsWithStep, IsPacingBut}
 use Rattle.mk_pace_loop.specs.inner.PacedOut.{HasPacedOut}
-use Rattle.mk_pace_loop.specs.inner.Sendings.{GoesOnBut, IsItemAt, SendsBehindAs, SendsFirstAs, SendsNextAs, SendsStepAs}
+use Rattle.mk_pace_loop.specs.inner.Sendings.{GoesOnBut, SendsBehindAs, SendsFirstAs, SendsNextAs, SendsStepAs}
 use Rattle.mk_pace_loop.specs.inner.Turns.{GoesOn, HasJustTold, IsStopping, SendsDueAs}
 use Rattle.mk_pace_loop.specs.inner.Waiting.{IsHeldAnew, IsOnTempo, IsTooLate, WaitingSeen, waiting_seen}
 use Rattle.mk_pace_loop.proofs.Following.{follower_sent, follower_taken, follower_unsent, mem_ends}

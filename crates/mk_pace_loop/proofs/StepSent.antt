@@ -23,6 +23,7 @@ use Rattle.mk_run_laws.proofs.Stepping.{same_or_not}
 use Rattle.mk_run_local.specs.Laws.{RepliesAreKinds}
 use Rattle.mk_run_crew.specs.Seen.{CrewSeen, crew_of}
 use Rattle.mk_run_crew.specs.Calls.{SendsAs}
+use Rattle.mk_run.specs.inner.Sendings.{IsItemAt}
 use Rattle.mk_run.specs.inner.Underway.{Setting, put}
 use Rattle.mk_run.proofs.Putting.{put_away, put_here}
 use Rattle.mk_pace_held.specs.declared.held.Due.{Due}
@@ -38,7 +39,6 @@ use Rattle.mk_pace_laws.specs.Naps.{AreTold}
 use Rattle.mk_pace_laws.proofs.SentOut.{WaitsByStep, sent_out_is}
 use Rattle.mk_pace_loop.specs.inner.Pacing.{AreHeldItems, BeginsWithStep, IsHeldItem, IsPacing, IsPacingBut}
 use Rattle.mk_pace_loop.specs.inner.PacedOut.{HasPacedOut}
-use Rattle.mk_pace_loop.specs.inner.Sendings.{IsItemAt}
 use Rattle.mk_pace_loop.specs.inner.Turns.{HasJustTold}
 use Rattle.mk_pace_loop.specs.inner.Waiting.{DueAs, waiting_seen}
 use Rattle.mk_pace_loop.proofs.Following.{ends_here}

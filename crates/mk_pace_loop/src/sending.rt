@@ -1,19 +1,16 @@
 // What waits is sent: Steps whose moments have come, and what stands right behind them.
-ghost use Rattle.std.specs.Prelude.{◌≡◌, ◌≤◌, ◌<◌, ◌+◌, ℕ, List, ◌∷◌, IfErr, None, OnErr, OnOk, Some, false, length, slice_get, true};
+ghost use Rattle.std.specs.Prelude.{◌≡◌, ◌≤◌, ◌<◌, ◌+◌, ℕ, List, ◌∷◌, None, OnOk, Some, false, length, slice_get, true};
 ghost use Rattle.mk_outside.specs.declared.fleet.LogEntry.{LogEntry};
 ghost use Rattle.mk_local.specs.Registries.{rows_in};
-ghost use Rattle.mk_plan.specs.declared.Item.{Item};
 ghost use Rattle.mk_pace_held.specs.declared.held.Held.{Held};
 ghost use Rattle.mk_pace_held.specs.Firsts.{IsFirst};
 ghost use Rattle.mk_run_local.specs.Seen.{AreOf};
-ghost use Rattle.mk_run_crew.specs.Calls.{SendsAs};
 ghost use Rattle.mk_run_crew.specs.Seen.{within_of};
-ghost use Rattle.mk_run.specs.inner.Sendings.{CanTake, IsUnsent};
 ghost use Rattle.mk_run.specs.inner.Turns.{IsStill};
 ghost use Rattle.mk_run.specs.inner.Underway.{Setting};
 ghost use Rattle.mk_pace_loop.specs.inner.Pacing.{BeginsWithStep};
 ghost use Rattle.mk_pace_loop.specs.inner.Turns.{GoesOn, HasJustTold, SendsDueAs};
-ghost use Rattle.mk_pace_loop.specs.inner.Sendings.{GoesOnBut, IsFewer, IsItemAt, IsNoMore, SendsBehindAs, SendsFirstAs, SendsNextAs, SendsStepAs};
+ghost use Rattle.mk_pace_loop.specs.inner.Sendings.{GoesOnBut, IsFewer, IsNoMore, SendsBehindAs, SendsFirstAs, SendsNextAs, SendsStepAs};
 ghost use Rattle.mk_pace_loop.specs.inner.Waiting.{IsOnTempo};
 
 use crate::waiting::Waiting;
@@ -21,49 +18,10 @@ use mk_base::SimNo;
 use mk_local::Registry;
 use mk_pace_held::{First, Held};
 use mk_pace_laws::{Moment, PaceEnd};
-use mk_plan::{Entry, Item};
-use mk_run::Outcome;
+use mk_run::{Outcome, send_at};
 use mk_run_crew::Crew;
 use mk_run_local::replies_are_kinds;
 use mk_sched::Core;
-
-// The item at a place among these entries.
-fn item_at(entries: &[Entry], place: usize) -> &Item
-    requires { (item : Item) × IsItemAt entries.now place item }
-    ensures { IsItemAt entries.now place result.now }
-{
-    match &entries[place] {
-        Entry::Sent(_, item) => item,
-        Entry::Got(_, _) => unreachable!(),
-    }
-}
-
-// Sends the simulator the item at a place of the journal, with its id. What stands in the way is an
-// outcome, and the crew is then as it was.
-fn send_held(
-    core: &Core,
-    crew: &mut Crew,
-    kinds: &Registry,
-    sim: SimNo,
-    held: Held,
-) -> Result<(), Outcome>
-    requires known { AreOf (rows_in kinds.now) (within_of crew.old) }
-    requires due { (item : Item) × IsItemAt core.now.entries held.place item
-        × CanTake sim.0 item held.id crew.old }
-    ensures sent { OnOk result ((item : Item) → IsItemAt core.now.entries held.place item
-        → SendsAs sim.0 item held.id crew.old crew.new) }
-    ensures unsent { IfErr result (λ end. (item : Item)
-        → IsItemAt core.now.entries held.place item → IsUnsent end sim.0 item crew.old) }
-    ensures err { OnErr result (crew.new ≡ crew.old) }
-    ensures still { IsStill crew.old crew.new }
-    ensures same_halt { crew.new.halt ≡ crew.old.halt }
-{
-    let item = item_at(core.journal().entries.as_slice(), held.place);
-    match crew.send(kinds, sim, item, held.id) {
-        Ok(()) => Ok(()),
-        Err(halt) => Err(Outcome::from(halt)),
-    }
-}
 
 // Whether no Step waits first of a simulator, but something that stands right behind one.
 fn is_behind(waiting: &Waiting, sim: SimNo) -> bool
@@ -101,7 +59,7 @@ fn send_next(
     let Some(held) = waiting.take(sim) else {
         unreachable!()
     };
-    send_held(core, crew, kinds, sim, held)
+    send_at(core, crew, kinds, sim, held.place, held.id)
 }
 
 // Sends what waits of a simulator before its next Step.
@@ -168,7 +126,7 @@ fn send_step(
     let Some(held) = waiting.take(first.sim) else {
         unreachable!()
     };
-    match send_held(core, crew, kinds, first.sim, held) {
+    match send_at(core, crew, kinds, first.sim, held.place, held.id) {
         Ok(()) => Ok(()),
         Err(end) => {
             waiting.pop();

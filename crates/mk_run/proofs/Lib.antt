@@ -10,6 +10,7 @@ pub mod Inside
 pub mod ItemSent
 pub mod LimitFaults
 pub mod ChannelsStopped
+pub mod LastItem
 pub mod Linked
 pub mod Linkless
 pub mod LoopSteps

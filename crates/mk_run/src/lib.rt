@@ -12,5 +12,5 @@ mod wholly;
 pub use laws::{kinds_fit, runs_are_right, runs_complete, within_runs_end};
 pub use outcome::{Outcome, Ran};
 pub use running::run;
-pub use sending::send_last;
+pub use sending::{send_at, send_last};
 pub use wholly::run_local;

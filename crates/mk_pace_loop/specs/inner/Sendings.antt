@@ -1,9 +1,5 @@
 -- What is sent of what waits in a paced run. For proofs alone.
-use Rattle.std.specs.Prelude.{◌≡◌, ℕ, ◌+◌, ◌<◌, ◌≤◌, List, [], ◌∷◌, length, Some, Result, Ok, Err, slice_get}
-use Rattle.mk_base.specs.declared.SimNo.{SimNo}
-use Rattle.mk_plan.specs.declared.Entry.{Entry}
-use Rattle.mk_plan.specs.declared.Entry.TheVariants.{Sent}
-use Rattle.mk_plan.specs.declared.Item.{Item}
+use Rattle.std.specs.Prelude.{◌≡◌, ℕ, ◌+◌, ◌<◌, ◌≤◌, List, [], ◌∷◌, length, Result, Ok, Err}
 use Rattle.mk_outside.specs.declared.fleet.LogEntry.{LogEntry}
 use Rattle.mk_sched.specs.Cores.{CoreState}
 use Rattle.mk_run_crew.specs.Seen.{CrewSeen, crew_of}
@@ -14,10 +10,6 @@ use Rattle.mk_pace_laws.specs.declared.end.PaceEnd.TheVariants as pace
 use Rattle.mk_pace_loop.specs.inner.Pacing.{IsPacingBut}
 use Rattle.mk_pace_loop.specs.inner.Turns.{GoesOn, HasJustTold, IsStopping}
 use Rattle.mk_pace_loop.specs.inner.Waiting.{IsOnTempo, WaitingSeen}
-
--- the journal has this item at this place
-abbrev pub IsItemAt : List Entry → ℕ → Item → Type 0
-IsItemAt J place item = (to : SimNo) × (slice_get J place ≡ Some (Sent to item))
 
 -- how many items wait of all simulators
 abbrev pub held_count : List (List Held) → ℕ

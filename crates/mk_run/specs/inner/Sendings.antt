@@ -1,5 +1,5 @@
 -- What is sent after an answer of the core. For proofs alone.
-use Rattle.std.specs.Prelude.{◌≡◌, ℕ, true, false, List, [], ◌∷◌, ◌++◌, Some}
+use Rattle.std.specs.Prelude.{◌≡◌, ℕ, true, false, List, [], ◌∷◌, ◌++◌, Some, slice_get}
 use Rattle.mk_base.specs.declared.SimNo.{SimNo}
 use Rattle.mk_plan.specs.declared.Item.{Item}
 use Rattle.mk_plan.specs.declared.Entry.{Entry}
@@ -12,6 +12,10 @@ use Rattle.mk_run_crew.specs.Calls.{HasNext, ShowsUnsent}
 use Rattle.mk_run_crew.specs.Seen.{CrewSeen, is_here}
 use Rattle.mk_run.specs.declared.outcome.Outcome.{Outcome}
 use Rattle.mk_run.specs.Outcomes.{outcome_of}
+
+-- the journal has this item at this place
+abbrev pub IsItemAt : List Entry → ℕ → Item → Type 0
+IsItemAt J place item = (to : SimNo) × (slice_get J place ≡ Some (Sent to item))
 
 -- the journal ends with this item to simulator s, which goes with the id of what is open there
 pub record EndsWithItem (core : CoreState) (s : SimNo) (item : Item) (id : ℕ) : Type 0 where

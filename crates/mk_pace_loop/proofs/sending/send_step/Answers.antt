@@ -11,8 +11,8 @@ returns-in-Err-clause-sent g c = step_for_memory c.args.core.now c.args.crew.now
 pub take-requires : goal.take-requires
 take-requires g c = subst (λ (l : List (List Held)). c.args.first.sim.0 < length l) (sym c.in_default.ensures.ok.1) (first_below c.args.first c.args.waiting.now.holds c.requires.first)
 
-pub send_held-requires-clause-due : goal.send_held-requires-clause-due
-send_held-requires-clause-due g c =
+pub send_at-requires-clause-due : goal.send_at-requires-clause-due
+send_at-requires-clause-due g c =
     let t = c.requires.goes in
     let taken = c.in-Some.ensures in
     step_can c.args.core.now c.args.crew.now c.args.waiting.now c.args.first c.args.told c.in-Some.held taken.0 c.take.new.self c.requires.first
@@ -22,7 +22,7 @@ pub returns-in-Ok-clause-sent : goal.returns-in-Ok-clause-sent
 returns-in-Ok-clause-sent g c =
     let taken = c.in-Some.ensures in
     step_so c.args.core.now c.args.crew.now c.args.waiting.now c.args.first c.args.told c.in-Some.held taken.0 c.take.new.self c.requires.first
-    (step_taken c.args.first c.args.told c.args.waiting.now c.push.new.self c.take.new.self c.in-Some.held taken.0 c.in_default.ensures.ok taken.1) c.send_held.new.crew c.requires.due c.requires.in_time c.replies_are_kinds.ensures
+    (step_taken c.args.first c.args.told c.args.waiting.now c.push.new.self c.take.new.self c.in-Some.held taken.0 c.in_default.ensures.ok taken.1) c.send_at.new.crew c.requires.due c.requires.in_time c.replies_are_kinds.ensures
     c.in-Ok.ensures.sent
 
 pub returns-in-Ok-clause-fewer : goal.returns-in-Ok-clause-fewer
@@ -31,9 +31,9 @@ returns-in-Ok-clause-fewer g c =
     let t = step_taken c.args.first c.args.told c.args.waiting.now c.push.new.self c.take.new.self c.in-Some.held taken.0 c.in_default.ensures.ok taken.1 in
     step_fewer c.args.first.sim.0 c.in-Some.held taken.0 c.args.waiting.now c.take.new.self t.changed t.same
 
-pub returns-in-Err-send_held-clause-sent : goal.returns-in-Err-send_held-clause-sent
-returns-in-Err-send_held-clause-sent g c =
+pub returns-in-Err-send_at-clause-sent : goal.returns-in-Err-send_at-clause-sent
+returns-in-Err-send_at-clause-sent g c =
     let taken = c.in-Some.ensures in
     step_not c.args.core.now c.args.crew.now c.args.waiting.now c.args.first c.args.told c.in-Some.held taken.0 c.take.new.self c.requires.first
-    (step_taken c.args.first c.args.told c.args.waiting.now c.push.new.self c.take.new.self c.in-Some.held taken.0 c.in_default.ensures.ok taken.1) c.send_held.new.crew c.pop.new.self c.in-Err-send_held.end c.in-Err-send_held.ensures.unsent
-    c.in-Err-send_held.ensures.err c.pop.ensures.moments c.pop.ensures.same
+    (step_taken c.args.first c.args.told c.args.waiting.now c.push.new.self c.take.new.self c.in-Some.held taken.0 c.in_default.ensures.ok taken.1) c.send_at.new.crew c.pop.new.self c.in-Err-send_at.end c.in-Err-send_at.ensures.unsent
+    c.in-Err-send_at.ensures.err c.pop.ensures.moments c.pop.ensures.same
