@@ -113,7 +113,7 @@ module _ (S : Setting) (T : Tempo) (strict : Option ℕ) (P : Plan) (J : List En
   shown (pace.Outcome e) is = outcome_shown e is
   shown (pace.Late sim time late allowed) is = late_still sim time late allowed is
 
-  link_is : (i : ℕ) (l : LinkNo) → sim_link S.started S.scenario i ≡ Some l → IsPacedLink S.started S.scenario S.replies T J moments (log ++ entries) (HasRisen faults new_faults) end i l
+  link_is : (i : ℕ) (l : LinkNo) → sim_link S.started S.scenario i ≡ Some l → IsPacedLink (exchange_at S (log ++ entries)) S.replies T J moments (HasRisen faults new_faults) end i l
   link_is i l linked =
       let t = out.channels i l linked in
       record {

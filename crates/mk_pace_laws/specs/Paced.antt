@@ -52,13 +52,12 @@ pub record IsOrigin (started : ℕ) (S : Scenario) (log : List LogEntry) (origin
 
 -- what is said on a link: of the journal's items those before the first Step that was never sent,
 -- and no Step before its moment was told
-pub record IsPacedLink (started : ℕ) (S : Scenario) (replies : SetupReplies) (T : Tempo)
-    (J : List Entry) (moments : List Moment) (log : List LogEntry) (risen : Type 0) (end : PaceEnd)
-    (i : ℕ) (l : LinkNo) : Type 0 where
+pub record IsPacedLink (X : Exchange) (replies : SetupReplies) (T : Tempo) (J : List Entry)
+    (moments : List Moment) (risen : Type 0) (end : PaceEnd) (i : ℕ) (l : LinkNo) : Type 0 where
   pub items : List Item
-  pub run : IsLinkOfRun S replies J log risen i l items
+  pub run : IsLinkOfRun X.scenario replies J X.log risen i l items
   pub queued : QueuedOut end (sent_out J moments i) items
-  pub timely : IsTimely T S i l items log
+  pub timely : IsTimely T X.scenario i l items X.log
 
 -- a paced run with a plan and a journal, over the entries that it added to the log: what holds of a
 -- run holds of it, but for items that were never sent; a simulator within the program replied to
@@ -75,8 +74,7 @@ pub record IsPaced (X : Exchange) (P : Plan) (J : List Entry) (T : Tempo) (stric
   pub in_range : AreInRange J
   pub origin : IsOrigin X.started X.scenario X.log T.origin
   pub links : (i : ℕ) (l : LinkNo) → sim_link X.started X.scenario i ≡ Some l
-      → IsPacedLink X.started X.scenario replies T J moments X.log
-      (HasRisen faults new_faults) end i l
+      → IsPacedLink X replies T J moments (HasRisen faults new_faults) end i l
   pub moments_are : AreMoments T strict J X.log moments
   pub replied : (i : ℕ) → is_within X.scenario i ≡ true
       → length (got J i) ≤ length (filter takes_id (sent_out J moments i))
