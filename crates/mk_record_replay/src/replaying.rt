@@ -16,7 +16,7 @@ ghost use Rattle.mk_record_replay.specs.inner.Rounds.{GrownBy};
 ghost use Rattle.mk_record_replay.specs.Runs.{CanArrive, HasReplayed};
 ghost use Rattle.mk_record_replay.specs.inner.Loops.{GivenBy, IsOnWay, IsUnready};
 
-use crate::asking::{Rest, ask_all};
+use crate::asking::{Pause, ask_all};
 use crate::ordering::{run_in_order, split};
 use mk_base::{List, Mem, SimNo};
 use mk_plan::{Journal, Plan};
@@ -210,17 +210,17 @@ fn give(core: &mut Core, arrival: Arrival) -> Result<Option<CoreFault>, Mem>
     requires known { CanArrive core.old.plan arrival }
     ensures { IfOk result (λ fault. GivenBy core.old (came arrival) fault core.new) }
 {
-    let Ok(rest) = ask_all(core) else {
+    let Ok(pause) = ask_all(core) else {
         drop(arrival);
         return Err(Mem);
     };
-    match rest {
-        Rest::Full(fault) => {
+    match pause {
+        Pause::Full(fault) => {
             drop(arrival);
             Ok(Some(fault))
         }
-        Rest::Waiting => take(core, arrival),
-        Rest::Over => take(core, arrival),
+        Pause::Waiting => take(core, arrival),
+        Pause::Over => take(core, arrival),
     }
 }
 
@@ -247,9 +247,9 @@ fn finish(core: &mut Core) -> Result<ReplayEnd, Mem>
         → IfOk result (λ end. HasReplayed core.old.plan A end core.new) }
 {
     match ask_all(core)? {
-        Rest::Full(fault) => Ok(ReplayEnd::Core(fault)),
-        Rest::Over => Ok(ReplayEnd::Done),
-        Rest::Waiting => Ok(ReplayEnd::Short(open_count(core))),
+        Pause::Full(fault) => Ok(ReplayEnd::Core(fault)),
+        Pause::Over => Ok(ReplayEnd::Done),
+        Pause::Waiting => Ok(ReplayEnd::Short(open_count(core))),
     }
 }
 
