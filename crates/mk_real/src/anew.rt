@@ -13,9 +13,10 @@ const PART_LIMIT: u32 = 100;
 /// Makes these the bytes of the file of this name. Where a regular file stands there, or nothing, a failure leaves it
 /// so. What is no regular file, as a pipe, is written as it stands.
 pub fn write_anew<R: Files + AllocGlobal>(rt: &R, name: &str, bytes: &[u8]) -> io::Result<()> {
-    match find_file(rt, name)? {
-        Some(path) => replace(rt, path.as_str(), bytes),
-        None => fs::write(rt, name, bytes),
+    let mut path = PathBuf::from_str(rt.alloc(), name)?;
+    match follow_all(rt, &mut path)? {
+        There::File => replace(rt, path.as_str(), bytes),
+        There::Link | There::Other => fs::write(rt, name, bytes),
     }
 }
 
@@ -62,16 +63,6 @@ fn follow_all<R: Files + AllocGlobal>(rt: &R, path: &mut PathBuf) -> io::Result<
     Err(io::Error::from(ErrorKind::FilesystemLoop))
 }
 
-// The path of the regular file to which a name leads by symbolic links, or of one where nothing stands. There is none
-// where something else stands.
-fn find_file<R: Files + AllocGlobal>(rt: &R, name: &str) -> io::Result<Option<PathBuf>> {
-    let mut path = PathBuf::from_str(rt.alloc(), name)?;
-    match follow_all(rt, &mut path)? {
-        There::File => Ok(Some(path)),
-        There::Link | There::Other => Ok(None),
-    }
-}
-
 // Puts a file with these bytes and the old one's rights in the place of the file at this path.
 fn replace<R: Files + AllocGlobal>(rt: &R, path: &str, bytes: &[u8]) -> io::Result<()> {
     let rights = rights_of(rt, path)?;
@@ -86,7 +77,8 @@ fn replace<R: Files + AllocGlobal>(rt: &R, path: &str, bytes: &[u8]) -> io::Resu
     placed
 }
 
-// Fills a new file that has the name of a part, and puts it at this path.
+// Gives a new file, which has the name of a part, its rights and its bytes, waits until they are on the disk, and puts it
+// at this path.
 fn place<R: Files>(
     rt: &R,
     part: &str,
@@ -95,7 +87,12 @@ fn place<R: Files>(
     bytes: &[u8],
     path: &str,
 ) -> io::Result<()> {
-    fill(file, rights, bytes)?;
+    if let Some(rights) = rights {
+        file.set_permissions(rights)?;
+    }
+    file.write_all(bytes)?;
+    file.flush()?;
+    file.sync_all()?;
     fs::rename(rt, part, path)
 }
 
@@ -140,20 +137,6 @@ fn open_part<R: Files + AllocGlobal>(rt: &R, path: &str) -> io::Result<(String, 
         }
     }
     Err(io::Error::from(ErrorKind::AlreadyExists))
-}
-
-// Gives a new file its rights and its bytes, and waits until they are on the disk.
-fn fill<F: Write + OpenFile>(
-    file: &mut F,
-    rights: Option<Permissions>,
-    bytes: &[u8],
-) -> io::Result<()> {
-    if let Some(rights) = rights {
-        file.set_permissions(rights)?;
-    }
-    file.write_all(bytes)?;
-    file.flush()?;
-    file.sync_all()
 }
 
 // Waits until the names of the folder around this path are on the disk.

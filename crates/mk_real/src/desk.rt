@@ -1,13 +1,13 @@
 // What all links share: the system's set of sockets, and a buffer.
 ghost use Rattle.std.specs.Prelude.{◌≡◌, ◌≢◌, ◌<◌, ◌≤◌, ◌++◌, [], true, IfOk, IfSome, length, drop};
 ghost use Rattle.mk_base.specs.Lists.{IsIn};
-ghost use Rattle.mk_outside.specs.Fleets.{IsWritten, ReadAs};
+ghost use Rattle.mk_outside.specs.Fleets.{ReadAs};
 
 use crate::socket::Socket;
 use mio::event::Event;
 use mio::{Events, Poll, Registry};
 use mk_base::LinkNo;
-use mk_outside::{ReadLink, WriteLink};
+use mk_outside::ReadLink;
 use std::alloc::Global;
 use std::io;
 use std::io::ErrorKind;
@@ -45,9 +45,9 @@ impl Desk {
         })
     }
 
-    /// Has the system tell of the socket's changes.
-    pub fn register<P: OpenProcess + Drop>(&self, socket: &mut Socket<P>) -> io::Result<()> {
-        socket.register(self.poll.registry())
+    /// Where sockets are registered whose changes the system is to tell.
+    pub fn registry(&self) -> &Registry {
+        self.poll.registry()
     }
 
     /// Reads from a socket into the front of a buffer.
@@ -67,19 +67,6 @@ impl Desk {
             put_front(into, &buffer[..count]);
         }
         answer
-    }
-
-    /// Writes the front of these bytes to a socket.
-    pub fn write<R: Clock, P: OpenProcess + Drop>(
-        &self,
-        rt: &R,
-        socket: &mut Socket<P>,
-        bytes: &[u8],
-    ) -> WriteLink
-        requires { bytes.now ≢ [] }
-        ensures { IsWritten result bytes.now }
-    {
-        socket.write(rt, self.poll.registry(), bytes)
     }
 
     /// Waits until one of these links is ready, and gives its place.
@@ -123,7 +110,7 @@ impl Desk {
         sockets: &mut [Option<Socket<P>>],
         links: &[LinkNo],
     ) -> io::Result<()> {
-        if links.iter().any(|link| is_awaited(sockets, *link)) {
+        if is_one_awaited(sockets, links) {
             self.take_changes(sockets, Some(Duration::from_millis(GLANCE)))?;
             notice_all(rt, sockets, links);
             Ok(())
@@ -149,8 +136,19 @@ impl Desk {
 
 // Has the socket that an event speaks of take it in.
 fn take_change<P: OpenProcess + Drop>(sockets: &mut [Option<Socket<P>>], event: &Event) {
-    if let Some(Some(socket)) = sockets.get_mut(event.token().0) {
+    if let Some(socket) = socket_at(sockets, event.token().0) {
         socket.note(event);
+    }
+}
+
+/// The open socket of the link of this number.
+pub fn socket_at<P: OpenProcess + Drop>(
+    sockets: &mut [Option<Socket<P>>],
+    number: usize,
+) -> Option<&mut Socket<P>> {
+    match sockets.get_mut(number) {
+        Some(Some(socket)) => Some(socket),
+        _ => None,
     }
 }
 
@@ -162,12 +160,16 @@ fn is_ready<P: OpenProcess + Drop>(sockets: &[Option<Socket<P>>], link: LinkNo) 
     }
 }
 
-// Whether the child of the link of this number has still to connect.
-fn is_awaited<P: OpenProcess + Drop>(sockets: &[Option<Socket<P>>], link: LinkNo) -> bool {
-    match sockets.get(link.0 as usize) {
-        Some(Some(socket)) => socket.is_awaited(),
-        _ => false,
+// Whether the child of one of these links has still to connect.
+fn is_one_awaited<P: OpenProcess + Drop>(sockets: &[Option<Socket<P>>], links: &[LinkNo]) -> bool {
+    for link in links {
+        if let Some(Some(socket)) = sockets.get(link.0 as usize) {
+            if socket.is_awaited() {
+                return true;
+            }
+        }
     }
+    false
 }
 
 // Makes those of these links ready whose child is awaited and is late, or has failed.
@@ -177,7 +179,7 @@ fn notice_all<R: Clock, P: OpenProcess + Drop>(
     links: &[LinkNo],
 ) {
     for link in links {
-        if let Some(Some(socket)) = sockets.get_mut(link.0 as usize) {
+        if let Some(socket) = socket_at(sockets, link.0 as usize) {
             socket.notice(rt);
         }
     }
@@ -191,7 +193,7 @@ fn take_in_all<R: Clock, P: OpenProcess + Drop>(
 ) -> io::Result<bool> {
     let mut awaits = false;
     for number in 0..sockets.len() {
-        if let Some(Some(socket)) = sockets.get_mut(number) {
+        if let Some(socket) = socket_at(sockets, number) {
             socket.take_in(rt, registry)?;
             awaits = awaits || socket.is_awaited();
         }
@@ -206,7 +208,12 @@ fn first_ready<P: OpenProcess + Drop>(
 ) -> Option<usize>
     ensures { IfSome result (λ place. place < length links.now) }
 {
-    links.iter().position(|link| is_ready(sockets, *link))
+    for (place, link) in links.iter().enumerate() {
+        if is_ready(sockets, *link) {
+            return Some(place);
+        }
+    }
+    None
 }
 
 /// Marks each link that is ready, and the one at this place, which was found to be.

@@ -41,12 +41,6 @@ impl Watch {
         let events = Events::with_capacity(alloc, 1)?;
         Ok(Watch { poll, events })
     }
-
-    // Waits for a change, within so long a time since a start.
-    fn wait<R: Clock>(&mut self, rt: &R, start: &Instant, patience: Duration) -> io::Result<()> {
-        let left = time_left(rt, start, patience)?;
-        self.poll.poll(&mut self.events, Some(left))
-    }
 }
 
 // Whether the socket at the other side has answered. It is an error where it has refused.
@@ -69,7 +63,8 @@ fn await_answer<R: Clock>(
         if has_answered(stream)? {
             return Ok(());
         }
-        watch.wait(rt, &start, patience)?;
+        let left = time_left(rt, &start, patience)?;
+        watch.poll.poll(&mut watch.events, Some(left))?;
     }
     Err(io::Error::from(ErrorKind::TimedOut))
 }
@@ -99,16 +94,17 @@ pub fn connect<R: Net + Clock>(
     Ok(stream)
 }
 
-/// A listening socket on this machine, for one connection.
-#[derive(Drop)]
-pub struct Door {
-    listener: TcpListener,
+/// Listens at a port of this machine that was free, and gives the port.
+pub fn open_door<R: Net>(rt: &R) -> io::Result<(TcpListener, u16)> {
+    let door = TcpListener::bind(rt, address(0))?;
+    let port = door.local_addr()?.port();
+    Ok((door, port))
 }
 
 // The connection that has come, if one has.
-fn take_connection(listener: &TcpListener) -> io::Result<Option<TcpStream>> {
+fn take_connection(door: &TcpListener) -> io::Result<Option<TcpStream>> {
     for _ in 0..u64::MAX {
-        match listener.accept() {
+        match door.accept() {
             Ok((stream, _)) => return Ok(Some(stream)),
             Err(e) => match e.kind() {
                 ErrorKind::WouldBlock => return Ok(None),
@@ -120,40 +116,17 @@ fn take_connection(listener: &TcpListener) -> io::Result<Option<TcpStream>> {
     Ok(None)
 }
 
-impl Door {
-    /// Listens at a port that was free, and gives the port.
-    pub fn open<R: Net>(rt: &R) -> io::Result<(Door, u16)> {
-        let listener = TcpListener::bind(rt, address(0))?;
-        let port = listener.local_addr()?.port();
-        Ok((Door { listener }, port))
-    }
-
-    /// Has the system tell when somebody connects, under this number.
-    pub fn register(&mut self, registry: &Registry, number: usize) -> io::Result<()> {
-        registry.register(&mut self.listener, Token(number), Interest::READABLE)
-    }
-
-    /// The first that has connected, if one has. It waits for nobody.
-    pub fn admit(&self) -> io::Result<Option<TcpStream>> {
-        let Some(stream) = take_connection(&self.listener)? else {
-            return Ok(None);
-        };
-        stream.set_nodelay(true)?;
-        Ok(Some(stream))
-    }
-}
-
 /// A door at which a child is awaited, for so long a time since its start.
 #[derive(Drop)]
 pub struct AwaitedAt {
-    door: Door,
+    door: TcpListener,
     start: Instant,
     patience: Duration,
 }
 
 impl AwaitedAt {
     /// A child that is started now is awaited at this door.
-    pub fn new<R: Clock>(rt: &R, door: Door, patience: Duration) -> io::Result<AwaitedAt> {
+    pub fn new<R: Clock>(rt: &R, door: TcpListener, patience: Duration) -> io::Result<AwaitedAt> {
         let start = Instant::now(rt)?;
         Ok(AwaitedAt {
             door,
@@ -164,12 +137,16 @@ impl AwaitedAt {
 
     /// Has the system tell when somebody connects, under this number.
     pub fn register(&mut self, registry: &Registry, number: usize) -> io::Result<()> {
-        self.door.register(registry, number)
+        registry.register(&mut self.door, Token(number), Interest::READABLE)
     }
 
     /// The first that has connected, if one has. It waits for nobody.
     pub fn admit(&self) -> io::Result<Option<TcpStream>> {
-        self.door.admit()
+        let Some(stream) = take_connection(&self.door)? else {
+            return Ok(None);
+        };
+        stream.set_nodelay(true)?;
+        Ok(Some(stream))
     }
 
     /// Whether its time is over, or can't be told.

@@ -1,14 +1,15 @@
 // Links to simulators over sockets on this machine.
-ghost use Rattle.std.specs.Prelude.{◌≡◌, ◌≢◌, ℕ, ◌<◌, ◌≤◌, [], length};
+ghost use Rattle.std.specs.Prelude.{◌≡◌, ◌≢◌, ◌<◌, ◌≤◌, [], IfOk, length};
 ghost use Rattle.mk_base.specs.Links.{without};
 ghost use Rattle.mk_outside.specs.Counts.{HasRisen};
 ghost use Rattle.mk_outside.specs.Fleets.{IsWritten, ReadAs, StartedAs};
-ghost use Rattle.mk_real.specs.declared.fleet.Found.TheVariants as found;
 
-use crate::desk::{Desk, mark};
-use crate::door::{AwaitedAt, Door, connect};
-use crate::socket::{Socket, spawn};
+use crate::desk::{Desk, mark, socket_at};
+use crate::door::{AwaitedAt, connect, open_door};
+use crate::errors::is_want_of_memory;
+use crate::socket::{Side, Socket, spawn};
 use crate::ticks::Ticks;
+use mio::net::TcpListener;
 use mk_base::{LinkNo, List, Text};
 use mk_outside::{Fleet, Listened, Now, Paced, ReadLink, Slept, Start, Started, Waited, WriteLink};
 use std::alloc::Global;
@@ -36,7 +37,7 @@ struct Host<R> {
 #[derive(Drop)]
 pub struct MioFleet<R: Net + Processes + Clock> {
     host: Host<R>,
-    door: Option<Door>,
+    door: Option<TcpListener>,
     desk: Option<Desk>,
     // By the links' numbers; none where the link is closed.
     sockets: Vec<Option<Socket<R::Started>>>,
@@ -86,7 +87,7 @@ impl<'a> MioFleet<&'a HostRuntime> {
 // Starts a child, which is awaited at the door. It waits for nobody.
 fn start_child<R: Net + Processes + Clock>(
     host: &Host<R>,
-    door: Option<Door>,
+    door: Option<TcpListener>,
     words: &List<Text>,
     number: usize,
 ) -> io::Result<Socket<R::Started>> {
@@ -95,13 +96,13 @@ fn start_child<R: Net + Processes + Clock>(
     };
     let awaited = AwaitedAt::new(&host.rt, door, host.patience)?;
     let child = spawn(&host.rt, host.alloc, words.as_slice(), host.output)?;
-    Ok(Socket::of_child(number, awaited, child))
+    Ok(Socket::new(number, Side::Awaited(awaited), Some(child)))
 }
 
 // The socket of a new link, which has this number.
 fn begin<R: Net + Processes + Clock>(
     host: &Host<R>,
-    door: &mut Option<Door>,
+    door: &mut Option<TcpListener>,
     start: &Start,
     number: usize,
 ) -> io::Result<Socket<R::Started>> {
@@ -109,7 +110,7 @@ fn begin<R: Net + Processes + Clock>(
         Start::Command(words) => start_child(host, door.take(), words, number),
         Start::Connect(port) => {
             let stream = connect(&host.rt, host.alloc, *port, host.patience)?;
-            Ok(Socket::of_stream(number, stream))
+            Ok(Socket::new(number, Side::Stream(stream), None))
         }
     }
 }
@@ -142,7 +143,7 @@ fn await_children<R: Clock, P: OpenProcess + Drop>(
 // Has the system tell of a new link's changes.
 fn register<P: OpenProcess + Drop>(desk: &Option<Desk>, socket: &mut Socket<P>) -> io::Result<()> {
     match desk {
-        Some(desk) => desk.register(socket),
+        Some(desk) => socket.register(desk.registry()),
         None => Err(io::Error::from(ErrorKind::NotFound)),
     }
 }
@@ -150,7 +151,7 @@ fn register<P: OpenProcess + Drop>(desk: &Option<Desk>, socket: &mut Socket<P>) 
 // Opens the link of this number.
 fn open<R: Net + Processes + Clock>(
     host: &Host<R>,
-    door: &mut Option<Door>,
+    door: &mut Option<TcpListener>,
     desk: &mut Option<Desk>,
     start: &Start,
     number: usize,
@@ -166,12 +167,12 @@ fn open<R: Net + Processes + Clock>(
     }
 }
 
-// Reads on the link of this number.
+// Reads on a link.
 fn read_on<R: Clock, P: OpenProcess + Drop>(
     rt: &R,
     desk: &mut Option<Desk>,
     sockets: &mut [Option<Socket<P>>],
-    number: usize,
+    link: LinkNo,
     into: &mut [u8],
 ) -> ReadLink
     requires { into.old ≢ [] }
@@ -180,18 +181,18 @@ fn read_on<R: Clock, P: OpenProcess + Drop>(
     let Some(desk) = desk else {
         return ReadLink::Failed;
     };
-    match sockets.get_mut(number) {
-        Some(Some(socket)) => desk.read(rt, socket, into),
-        _ => ReadLink::Failed,
+    match socket_at(sockets, link.0 as usize) {
+        Some(socket) => desk.read(rt, socket, into),
+        None => ReadLink::Failed,
     }
 }
 
-// Writes on the link of this number.
+// Writes on a link.
 fn write_on<R: Clock, P: OpenProcess + Drop>(
     rt: &R,
     desk: &Option<Desk>,
     sockets: &mut [Option<Socket<P>>],
-    number: usize,
+    link: LinkNo,
     bytes: &[u8],
 ) -> WriteLink
     requires { bytes.now ≢ [] }
@@ -200,17 +201,10 @@ fn write_on<R: Clock, P: OpenProcess + Drop>(
     let Some(desk) = desk else {
         return WriteLink::Failed;
     };
-    match sockets.get_mut(number) {
-        Some(Some(socket)) => desk.write(rt, socket, bytes),
-        _ => WriteLink::Failed,
+    match socket_at(sockets, link.0 as usize) {
+        Some(socket) => socket.write(rt, desk.registry(), bytes),
+        None => WriteLink::Failed,
     }
-}
-
-// What a look for a link that is ready comes to: its place, want of memory, or an error of the system.
-enum Found {
-    At(usize),
-    Mem,
-    Failed,
 }
 
 // Waits until one of these links is ready, and gives its place.
@@ -219,16 +213,26 @@ fn find_ready<R: Clock, P: OpenProcess + Drop>(
     desk: &mut Option<Desk>,
     sockets: &mut [Option<Socket<P>>],
     links: &[LinkNo],
-) -> Found
-    ensures { (place : ℕ) → result ≡ found.At place → place < length links.now }
+) -> io::Result<usize>
+    ensures { IfOk result (λ place. place < length links.now) }
 {
-    let Some(desk) = desk else {
-        return Found::Failed;
+    match desk {
+        Some(desk) => desk.find_ready(rt, sockets, links),
+        None => Err(io::Error::from(ErrorKind::NotFound)),
+    }
+}
+
+// Closes a link, if it is open, and waits until its child has ended.
+fn close_on<P: OpenProcess + Drop>(
+    sockets: &mut [Option<Socket<P>>],
+    link: LinkNo,
+) -> io::Result<()> {
+    let Some(socket) = sockets.get_mut(link.0 as usize) else {
+        return Ok(());
     };
-    match desk.find_ready(rt, sockets, links) {
-        Ok(place) => Found::At(place),
-        Err(e) if e.kind() == ErrorKind::OutOfMemory => Found::Mem,
-        Err(_) => Found::Failed,
+    match socket.take() {
+        Some(socket) => socket.close(),
+        None => Ok(()),
     }
 }
 
@@ -241,57 +245,6 @@ impl<R: Net + Processes + Clock> MioFleet<R> {
         ensures same_links { self.new.links.items ≡ self.old.links.items }
     {
         self.faults = self.faults.saturating_add(1);
-    }
-
-    // Reads on a link.
-    fn read_link(&mut self, link: LinkNo, into: &mut [u8]) -> ReadLink
-        requires { into.old ≢ [] }
-        ensures same_faults { self.new.faults ≡ self.old.faults }
-        ensures same_count { length self.new.sockets.items ≡ length self.old.sockets.items }
-        ensures same_links { self.new.links.items ≡ self.old.links.items }
-        ensures got { ReadAs result into.old into.new }
-    {
-        let sockets = self.sockets.as_mut_slice();
-        read_on(
-            &self.host.rt,
-            &mut self.desk,
-            sockets,
-            link.0 as usize,
-            into,
-        )
-    }
-
-    // Writes on a link.
-    fn write_link(&mut self, link: LinkNo, bytes: &[u8]) -> WriteLink
-        requires { bytes.now ≢ [] }
-        ensures same_faults { self.new.faults ≡ self.old.faults }
-        ensures same_count { length self.new.sockets.items ≡ length self.old.sockets.items }
-        ensures same_links { self.new.links.items ≡ self.old.links.items }
-        ensures put { IsWritten result bytes.now }
-    {
-        let sockets = self.sockets.as_mut_slice();
-        write_on(&self.host.rt, &self.desk, sockets, link.0 as usize, bytes)
-    }
-
-    // Waits until one of these links is ready.
-    fn await_ready(&mut self, links: &[LinkNo]) -> Found
-        ensures same_faults { self.new.faults ≡ self.old.faults }
-        ensures same_count { length self.new.sockets.items ≡ length self.old.sockets.items }
-        ensures same_links { self.new.links.items ≡ self.old.links.items }
-        ensures place { (place : ℕ) → result ≡ found.At place → place < length links.now }
-    {
-        let sockets = self.sockets.as_mut_slice();
-        find_ready(&self.host.rt, &mut self.desk, sockets, links)
-    }
-
-    // Waits for the children that this start needs; false where one of them is late, or has failed.
-    fn await_children(&mut self, start: &Start) -> bool
-        ensures same_faults { self.new.faults ≡ self.old.faults }
-        ensures same_count { length self.new.sockets.items ≡ length self.old.sockets.items }
-        ensures same_links { self.new.links.items ≡ self.old.links.items }
-    {
-        let sockets = self.sockets.as_mut_slice();
-        await_children(&self.host.rt, &mut self.desk, sockets, start).is_ok()
     }
 
     // Starts a link.
@@ -315,8 +268,10 @@ impl<R: Net + Processes + Clock> MioFleet<R> {
                 self.links.push_reserved(link);
                 Started::Link(link)
             }
-            Err(e) if e.kind() == ErrorKind::OutOfMemory => Started::Mem,
-            Err(_) => {
+            Err(e) => {
+                if is_want_of_memory(e) {
+                    return Started::Mem;
+                }
                 self.count_fault();
                 Started::Failed
             }
@@ -339,13 +294,15 @@ impl<R: Net + Processes + Clock> Fleet for MioFleet<R> {
 
     fn listen(&mut self) -> Listened {
         self.door = None;
-        match Door::open(&self.host.rt) {
+        match open_door(&self.host.rt) {
             Ok((door, port)) => {
                 self.door = Some(door);
                 Listened::At(port)
             }
-            Err(e) if e.kind() == ErrorKind::OutOfMemory => Listened::Mem,
-            Err(_) => {
+            Err(e) => {
+                if is_want_of_memory(e) {
+                    return Listened::Mem;
+                }
                 self.count_fault();
                 Listened::Failed
             }
@@ -353,7 +310,8 @@ impl<R: Net + Processes + Clock> Fleet for MioFleet<R> {
     }
 
     fn start(&mut self, start: &Start) -> Started {
-        if !self.await_children(start) {
+        let sockets = self.sockets.as_mut_slice();
+        if await_children(&self.host.rt, &mut self.desk, sockets, start).is_err() {
             self.count_fault();
             return Started::Failed;
         }
@@ -361,29 +319,38 @@ impl<R: Net + Processes + Clock> Fleet for MioFleet<R> {
     }
 
     fn read(&mut self, link: LinkNo, into: &mut [u8]) -> ReadLink {
-        let answer = self.read_link(link, into);
-        if let ReadLink::Failed = answer {
-            self.count_fault();
+        let sockets = self.sockets.as_mut_slice();
+        match read_on(&self.host.rt, &mut self.desk, sockets, link, into) {
+            ReadLink::Failed => {
+                self.count_fault();
+                ReadLink::Failed
+            }
+            answer => answer,
         }
-        answer
     }
 
     fn write(&mut self, link: LinkNo, bytes: &[u8]) -> WriteLink {
-        let answer = self.write_link(link, bytes);
-        if let WriteLink::Failed = answer {
-            self.count_fault();
+        let sockets = self.sockets.as_mut_slice();
+        match write_on(&self.host.rt, &self.desk, sockets, link, bytes) {
+            WriteLink::Failed => {
+                self.count_fault();
+                WriteLink::Failed
+            }
+            answer => answer,
         }
-        answer
     }
 
     fn wait(&mut self, links: &[LinkNo], ready: &mut [bool]) -> Waited {
-        match self.await_ready(links) {
-            Found::At(first) => {
+        let sockets = self.sockets.as_mut_slice();
+        match find_ready(&self.host.rt, &mut self.desk, sockets, links) {
+            Ok(first) => {
                 mark(self.sockets.as_slice(), links, ready, first);
                 Waited::Marked
             }
-            Found::Mem => Waited::Mem,
-            Found::Failed => {
+            Err(e) => {
+                if is_want_of_memory(e) {
+                    return Waited::Mem;
+                }
                 self.count_fault();
                 Waited::Failed
             }
@@ -392,14 +359,8 @@ impl<R: Net + Processes + Clock> Fleet for MioFleet<R> {
 
     fn close(&mut self, link: LinkNo) {
         leave(&mut self.links, link);
-        let socket = match self.sockets.get_mut(link.0 as usize) {
-            Some(socket) => socket.take(),
-            None => None,
-        };
-        if let Some(socket) = socket {
-            if socket.close().is_err() {
-                self.count_fault();
-            }
+        if close_on(self.sockets.as_mut_slice(), link).is_err() {
+            self.count_fault();
         }
     }
 }

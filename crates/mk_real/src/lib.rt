@@ -5,6 +5,7 @@
 mod anew;
 mod desk;
 mod door;
+mod errors;
 mod fleet;
 mod folder;
 mod sink;

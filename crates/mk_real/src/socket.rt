@@ -1,5 +1,6 @@
 // The socket of a link, and the child program at its other side, awaited until it has connected.
-ghost use Rattle.std.specs.Prelude.{◌≡◌, ◌≢◌, ◌≤◌, ◌<◌, ℕ, length};
+ghost use Rattle.std.specs.Prelude.{◌≡◌, ◌≢◌, ◌≤◌, ◌<◌, ℕ, [], length};
+ghost use Rattle.mk_outside.specs.Fleets.{IsWritten};
 
 use crate::door::AwaitedAt;
 use mio::event::Event;
@@ -13,9 +14,9 @@ use std::io::{ErrorKind, Read, Stderr, Write};
 use std::process::{Child, Command, OpenProcess, Processes, Stdio};
 use std::time::Clock;
 
-// What a link has at this side: a door at which its child is awaited, or the stream.
+/// What a link has at this side: a door at which its child is awaited, or the stream.
 #[derive(Drop)]
-enum Side {
+pub enum Side {
     Awaited(AwaitedAt),
     Stream(TcpStream),
 }
@@ -39,20 +40,6 @@ pub struct Socket<P: OpenProcess> {
 fn register(registry: &Registry, stream: &mut TcpStream, number: usize) -> io::Result<()> {
     let both = Interest::READABLE | Interest::WRITABLE;
     registry.register(stream, Token(number), both)
-}
-
-// The stream of a child that is awaited, if it has connected. The system tells of its changes
-// under this number.
-fn admit_at(
-    awaited: &AwaitedAt,
-    registry: &Registry,
-    number: usize,
-) -> io::Result<Option<TcpStream>> {
-    let Some(mut stream) = awaited.admit()? else {
-        return Ok(None);
-    };
-    register(registry, &mut stream, number)?;
-    Ok(Some(stream))
 }
 
 // Reads what is there, and tells whether that was nothing. Whoever has broken the connection off
@@ -107,7 +94,8 @@ fn has_failed<P: OpenProcess + Drop>(child: &mut Option<Child<P>>) -> bool {
 }
 
 impl<P: OpenProcess + Drop> Socket<P> {
-    fn new(number: usize, side: Side, child: Option<Child<P>>) -> Socket<P> {
+    /// The socket of the link of this number.
+    pub fn new(number: usize, side: Side, child: Option<Child<P>>) -> Socket<P> {
         Socket {
             number,
             side,
@@ -116,16 +104,6 @@ impl<P: OpenProcess + Drop> Socket<P> {
             full: false,
             freed: false,
         }
-    }
-
-    /// The socket of the link of this number, over a stream.
-    pub fn of_stream(number: usize, stream: TcpStream) -> Socket<P> {
-        Socket::new(number, Side::Stream(stream), None)
-    }
-
-    /// The socket of the link of this number, to a child that is awaited.
-    pub fn of_child(number: usize, awaited: AwaitedAt, child: Child<P>) -> Socket<P> {
-        Socket::new(number, Side::Awaited(awaited), Some(child))
     }
 
     /// Has the system tell of changes.
@@ -184,31 +162,30 @@ impl<P: OpenProcess + Drop> Socket<P> {
         self.full = false;
     }
 
-    // The stream of a child that is awaited, if it has connected.
+    // The stream of a child that is awaited, if it has connected. The system tells of its changes.
     fn arrival(&self, registry: &Registry) -> io::Result<Option<TcpStream>> {
-        match &self.side {
-            Side::Awaited(awaited) => admit_at(awaited, registry, self.number),
-            Side::Stream(_) => Ok(None),
-        }
+        let Side::Awaited(awaited) = &self.side else {
+            return Ok(None);
+        };
+        let Some(mut stream) = awaited.admit()? else {
+            return Ok(None);
+        };
+        register(registry, &mut stream, self.number)?;
+        Ok(Some(stream))
     }
 
-    // Takes in a child that is awaited, if it has connected; else the link isn't ready. It is an
-    // error where the child is late, or has failed.
-    fn admit<R: Clock>(&mut self, rt: &R, registry: &Registry) -> io::Result<()> {
+    /// Takes in the child where one is awaited and has connected; where it has not, the link isn't ready. It is an error
+    /// where the child is late, or has failed.
+    pub fn take_in<R: Clock>(&mut self, rt: &R, registry: &Registry) -> io::Result<()> {
+        if !self.is_awaited() {
+            return Ok(());
+        }
         // what connected before it was over is taken in
         let over = self.is_over(rt);
         match self.arrival(registry)? {
             Some(stream) => self.open(stream),
             None if over => return Err(io::Error::from(ErrorKind::TimedOut)),
             None => self.silent = true,
-        }
-        Ok(())
-    }
-
-    /// Takes in the child where one is awaited and has connected.
-    pub fn take_in<R: Clock>(&mut self, rt: &R, registry: &Registry) -> io::Result<()> {
-        if self.is_awaited() {
-            self.admit(rt, registry)?;
         }
         Ok(())
     }
@@ -229,8 +206,8 @@ impl<P: OpenProcess + Drop> Socket<P> {
 
     /// Writes as much as there is room for.
     pub fn write<R: Clock>(&mut self, rt: &R, registry: &Registry, bytes: &[u8]) -> WriteLink
-        requires { 0 < length bytes.now }
-        ensures { (n : ℕ) → result ≡ WriteLink.Put n → (0 < n) × (n ≤ length bytes.now) }
+        requires { bytes.now ≢ [] }
+        ensures { IsWritten result bytes.now }
     {
         if self.take_in(rt, registry).is_err() {
             return WriteLink::Failed;
@@ -314,18 +291,24 @@ pub fn spawn<R: Processes>(
         return Err(io::Error::from(ErrorKind::InvalidInput));
     };
     let mut command = Command::new(alloc, text_of(program)?)?;
-    add_words(&mut command, rest)?;
-    command.stdin(Stdio::null());
-    command.stdout(output);
-    command.spawn(rt)
+    let child = spawn_with(rt, &mut command, rest, output);
+    drop(command);
+    child
 }
 
-// Adds the words behind a program's name.
-fn add_words(command: &mut Command, words: &[Text]) -> io::Result<()> {
+// Adds the words behind a program's name, and starts it.
+fn spawn_with<R: Processes>(
+    rt: &R,
+    command: &mut Command,
+    words: &[Text],
+    output: Stderr,
+) -> io::Result<Child<R::Started>> {
     for word in words {
         command.arg(text_of(word)?)?;
     }
-    Ok(())
+    command.stdin(Stdio::null());
+    command.stdout(output);
+    command.spawn(rt)
 }
 
 fn text_of(word: &Text) -> io::Result<&str> {
