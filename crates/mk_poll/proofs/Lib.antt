@@ -1,3 +1,2 @@
 pub mod Apart
-mod Filtering
 pub mod OnLinks

@@ -1,6 +1,6 @@
 use Rattle.std.proofs.Common.{rules, ◌≡◌, not, refl}
 use Rattle.mk_base.specs.Links.{same_link}
-use Rattle.mk_real.proofs.Filtering.{filtered}
+use Rattle.mk_base.proofs.Filtering.{filtered}
 use Rattle.mk_real.proofs.fleet.leave.Goals as goal
 
 pub returns : goal.returns
