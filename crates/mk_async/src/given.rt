@@ -10,7 +10,6 @@ ghost use Rattle.mk_async.specs.inner.Given.{is_source, members_of, values_from,
 use crate::known::entity_of;
 use crate::request::Asked;
 use mk_base::{Datum, Json, List, Mem, Members, Text};
-use mk_json::{DatumFault, datum};
 use mk_plan::{Plan, SetValue};
 use mk_plan_names::Names;
 use std::alloc::Global;
@@ -222,9 +221,5 @@ pub fn datum_of(alloc: Global, value: &Json) -> Result<Datum, Mem>
     requires { is_value value.now ≡ true }
     ensures { IfOk result (λ text. text ≡ text_of value.now) }
 {
-    match datum(alloc, value) {
-        Ok(text) => Ok(text),
-        Err(DatumFault::Mem) => Err(Mem),
-        Err(_) => unreachable!(),
-    }
+    mk_json::datum_of(alloc, value)
 }

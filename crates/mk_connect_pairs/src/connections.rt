@@ -17,7 +17,7 @@ use crate::fault::ConnectFault;
 use crate::made::Made;
 use crate::study::Study;
 use mk_base::{Datum, Json, List, Mem, Text, Via};
-use mk_json::datum;
+use mk_json::datum_of;
 use mk_plan::Conn;
 use mk_scenario::{AttrPair, Block};
 use std::alloc::Global;
@@ -304,17 +304,5 @@ fn initial_text(alloc: Global, initial: &Json, attr: &Text) -> Result<Option<Dat
     match initial.member(attr.as_str()) {
         Some(value) => Ok(Some(datum_of(alloc, value)?)),
         None => Ok(None),
-    }
-}
-
-// The text of an initial value: it is a datum in range, so nothing but memory can be wanting.
-fn datum_of(alloc: Global, value: &Json) -> Result<Datum, Mem>
-    requires in_range { is_in_range value.now ≡ true }
-    requires value { is_datum value.now ≡ true }
-    ensures { IfOk result (λ text. text ≡ text_of value.now) }
-{
-    match datum(alloc, value) {
-        Ok(text) => Ok(text),
-        Err(_) => Err(Mem),
     }
 }

@@ -22,6 +22,20 @@ pub enum DatumFault {
     Mem,
 }
 
+/// The text of a value that a simulator may give or get, whose whole numbers are in range: it is a
+/// datum, so nothing but memory can be wanting.
+pub fn datum_of(alloc: Global, value: &Json) -> Result<Datum, Mem>
+    requires in_range { is_in_range value.now ≡ true }
+    requires value { is_datum value.now ≡ true }
+    ensures { IfOk result (λ text. text ≡ text_of value.now) }
+{
+    match datum(alloc, value) {
+        Ok(text) => Ok(text),
+        Err(DatumFault::Mem) => Err(Mem),
+        Err(_) => unreachable!(),
+    }
+}
+
 /// The datum whose bytes are the compact text of a tree. `NotWhole` comes where a number in the
 /// tree isn't whole, and else `TooDeep` where it nests deeper than 100.
 pub fn datum(alloc: Global, tree: &Json) -> Result<Datum, DatumFault>

@@ -9,7 +9,7 @@ mod read;
 mod scratch;
 mod write;
 
-pub use data::{DatumFault, datum};
+pub use data::{DatumFault, datum, datum_of};
 pub use quotes::put_text;
 pub use read::{JsonFault, read_json, read_json_in};
 pub use scratch::Scratch;

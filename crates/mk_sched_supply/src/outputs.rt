@@ -1,14 +1,11 @@
 // What the data of a reply give.
 ghost use Rattle.std.specs.Prelude.{◌≡◌, map, true, IfOk, option_map};
-ghost use Rattle.mk_base.specs.Texts.{text_of};
-ghost use Rattle.mk_base.specs.Trees.{is_datum, is_in_range};
 ghost use Rattle.mk_plan.specs.Turns.{value_for};
 ghost use Rattle.mk_sched_supply.specs.Outputs.{found_values};
 ghost use Rattle.mk_sched_supply.specs.inner.Making.{are_given, is_given};
 
 use crate::feeds::Feed;
-use mk_base::{Datum, Json, Mem};
-use mk_json::datum;
+use mk_base::{Json, Mem};
 use mk_plan_judge::values_for;
 use std::alloc::Global;
 
@@ -61,17 +58,5 @@ fn is_given(values: &[Option<&Json>], place: usize) -> bool
     match values.get(place) {
         Some(value) => value.is_some(),
         None => false,
-    }
-}
-
-// The text of a value that a simulator may give.
-pub fn datum_of(alloc: Global, value: &Json) -> Result<Datum, Mem>
-    requires in_range { is_in_range value.now ≡ true }
-    requires value { is_datum value.now ≡ true }
-    ensures { IfOk result (λ text. text ≡ text_of value.now) }
-{
-    match datum(alloc, value) {
-        Ok(text) => Ok(text),
-        Err(_) => Err(Mem),
     }
 }
