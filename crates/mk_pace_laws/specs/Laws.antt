@@ -70,12 +70,14 @@ NapsAreWell = (started : ℕ) (S : Scenario) (replies : SetupReplies)
 pub record IsFaultlessPace (X : Exchange) (P : Plan) (J : List Entry) (T : Tempo)
     (strict : Option ℕ) (moments : List Moment) (faults new_faults : ℕ) : Type 0 where
   pub no_fault : (view P J).fault ≡ None
-  pub roomy : length J ≡ P.entries → NeedsMore P J (IsMessageLeft X.started X.scenario P J X.log) → ⊥
+  pub roomy : length J ≡ P.entries
+      → NeedsMore P J (IsMessageLeft X.started X.scenario P J X.log) → ⊥
   pub counts : HasRisen faults new_faults → ⊥
-  pub open_links : (i : ℕ) (l : LinkNo) → sim_link X.started X.scenario i ≡ Some l → IsIn (Ended l) X.log → ⊥
+  pub open_links : (i : ℕ) (l : LinkNo) → sim_link X.started X.scenario i ≡ Some l
+      → IsIn (Ended l) X.log → ⊥
   pub right_frames : (i : ℕ) (l : LinkNo) (n : ℕ) → sim_link X.started X.scenario i ≡ Some l
-      → BeginsGarbled (rest_heard (heard_on l X.log)) n ⊎ IsTooLong n (rest_heard (heard_on l X.log))
-      → ⊥
+      → BeginsGarbled (rest_heard (heard_on l X.log)) n
+      ⊎ IsTooLong n (rest_heard (heard_on l X.log)) → ⊥
   pub short_items : (i n : ℕ) → IsLongAmong X.started X.scenario P J i n → ⊥
   pub in_time : (sim : SimNo) (time : ℤ) (late allowed : ℕ)
       → IsLate T strict J moments X.log sim time late allowed → ⊥

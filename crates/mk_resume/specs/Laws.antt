@@ -102,14 +102,16 @@ pub record IsFaultless (X : Exchange) (P : Plan) (first J : List Entry) (heard :
     (faults new_faults : ℕ) : Type 0 where
   pub no_fault : (view P J).fault ≡ None
   pub roomy : length J ≡ P.entries
-      → IsSome (view P J).owed ⊎ (SomeReady P J ⊎ SomeUntaken X.started X.scenario J heard X.log) → ⊥
+      → IsSome (view P J).owed
+      ⊎ (SomeReady P J ⊎ SomeUntaken X.started X.scenario J heard X.log) → ⊥
   pub repeated : (sim : SimNo) (place : ℕ) (kept other : Message)
       → IsDiffering X first J heard sim place kept other → ⊥
   pub counts : HasRisen faults new_faults → ⊥
-  pub open_links : (i : ℕ) (l : LinkNo) → sim_link X.started X.scenario i ≡ Some l → IsIn (Ended l) X.log → ⊥
+  pub open_links : (i : ℕ) (l : LinkNo) → sim_link X.started X.scenario i ≡ Some l
+      → IsIn (Ended l) X.log → ⊥
   pub right_frames : (i : ℕ) (l : LinkNo) (n : ℕ) → sim_link X.started X.scenario i ≡ Some l
-      → BeginsGarbled (rest_heard (heard_on l X.log)) n ⊎ IsTooLong n (rest_heard (heard_on l X.log))
-      → ⊥
+      → BeginsGarbled (rest_heard (heard_on l X.log)) n
+      ⊎ IsTooLong n (rest_heard (heard_on l X.log)) → ⊥
   pub short_items : (i n : ℕ) → IsLongFree X.started X.scenario P J heard i n → ⊥
 
 -- then it ended because nothing was left to do, or for want of memory

@@ -180,12 +180,14 @@ pub record IsRun (X : Exchange) (P : Plan) (J : List Entry) (faults new_faults :
 pub record IsFaultless (X : Exchange) (P : Plan) (J : List Entry)
     (faults new_faults : ℕ) : Type 0 where
   pub no_fault : (view P J).fault ≡ None
-  pub roomy : length J ≡ P.entries → NeedsMore P J (IsMessageLeft X.started X.scenario P J X.log) → ⊥
+  pub roomy : length J ≡ P.entries
+      → NeedsMore P J (IsMessageLeft X.started X.scenario P J X.log) → ⊥
   pub counts : HasRisen faults new_faults → ⊥
-  pub open_links : (i : ℕ) (l : LinkNo) → sim_link X.started X.scenario i ≡ Some l → IsIn (Ended l) X.log → ⊥
+  pub open_links : (i : ℕ) (l : LinkNo) → sim_link X.started X.scenario i ≡ Some l
+      → IsIn (Ended l) X.log → ⊥
   pub right_frames : (i : ℕ) (l : LinkNo) (n : ℕ) → sim_link X.started X.scenario i ≡ Some l
-      → BeginsGarbled (rest_heard (heard_on l X.log)) n ⊎ IsTooLong n (rest_heard (heard_on l X.log))
-      → ⊥
+      → BeginsGarbled (rest_heard (heard_on l X.log)) n
+      ⊎ IsTooLong n (rest_heard (heard_on l X.log)) → ⊥
   pub short_items : (i n : ℕ) → IsLongItem X.started X.scenario P J i n → ⊥
 
 -- then it ended because nothing was left to do, or for want of memory

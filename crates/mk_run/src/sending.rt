@@ -1,4 +1,5 @@
-// The items of the journal that are sent: the one that an answer of the core left last, or one that waited.
+// The items of the journal that are sent: the one that an answer of the core left last, or one that
+// waited.
 ghost use Rattle.std.specs.Prelude.{◌≡◌, ◌<◌, ℕ, List, IfErr, None, OnErr, OnOk};
 ghost use Rattle.mk_local.specs.declared.turn.Turn.{Turn};
 ghost use Rattle.mk_local.specs.Registries.{rows_in};
@@ -52,8 +53,8 @@ fn item_at(entries: &[Entry], place: usize) -> &Item
     }
 }
 
-/// Sends the simulator the item at this place of the journal, with this id. What stands in the way is an outcome, and the crew
-/// is then as it was.
+/// Sends the simulator the item at this place of the journal, with this id. What stands in the way is
+/// an outcome, and the crew is then as it was.
 pub fn send_at(
     core: &Core,
     crew: &mut Crew,

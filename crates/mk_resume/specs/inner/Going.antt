@@ -32,8 +32,8 @@ pub record IsStarted (A : Attempt) (C : CrewSeen) (P : Plan) : Type 0 where
 -- a core has taken a record's messages, and nothing was sent behind the handshake
 pub record IsFresh (T : Setting) (core : CoreState) (log : List LogEntry)
     (C : CrewSeen) : Type 0 where
-  pub resuming : IsResumingWith (course_of T core.entries (λ i. 0) (λ i. []) (λ i. []) log) core.plan
-      core.entries (crew_of C) C.sims
+  pub resuming : IsResumingWith (course_of T core.entries (λ i. 0) (λ i. []) (λ i. []) log)
+      core.plan core.entries (crew_of C) C.sims
   pub over : RestsOver (saved_of core.entries) T.started T.scenario T.replies core.plan core.entries
       log
 
