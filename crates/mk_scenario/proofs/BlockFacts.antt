@@ -10,7 +10,7 @@ use Rattle.mk_base.specs.Tiers.{HasWidth}
 use Rattle.mk_base.specs.Trees.{member}
 use Rattle.mk_scenario_keys.specs.Spelling.{spelled}
 use Rattle.mk_scenario_keys.specs.Tests.{found, key_in}
-use Rattle.mk_scenario_keys.specs.Keys.{required, optional, first_unknown, is_among, members_of, text, truth, some_width, values}
+use Rattle.mk_scenario_keys.specs.Keys.{IsObjectOfData, required, optional, first_unknown, is_among, members_of, text, truth, some_width, values}
 use Rattle.mk_scenario_keys.specs.Known.{block_keys}
 use Rattle.mk_scenario_keys.specs.declared.fault.ScenarioFault.TheVariants.{UnknownKey, UnknownGroup, OutOfRange, TwoKinds, Uneven}
 use Rattle.mk_scenario_keys.proofs.Passing.{ok_same, passed_ok, held_ok, no_text_ok, found_ok, and_then_some, none_found}
@@ -90,6 +90,31 @@ fed_ok attrs initial e =
     let all = none_found (is_among sources) (map (λ (m : List ℕ × Json). m.0) (members_of initial)) e in
     each_of_map (λ n. IsIn n sources) (λ (m : List ℕ × Json). m.0) (members_of initial) (each_then (λ n. is_among sources n ≡ true) (λ n. IsIn n sources) (map (λ (m : List ℕ × Json). m.0) (members_of initial)) (among_in sources) all)
 
+-- the block that a table says by these words
+made_ok : (sims : List (List ℕ)) (groups : List Group) (path from_text to_text : List ℕ) (attrs : List AttrPair) (width : Option ℕ) (weak asks : Bool) (initial : Json) (b : Block) → IfSome width (λ d. (1 ≤ d) × (d ≤ 1000000)) → IsObjectOfData initial
+    → block_made sims groups path (record { from = from_text; to = to_text; attrs = attrs; manner = record { width = width; weak = weak; asks = asks }; initial = initial }) ≡ Ok b → IsWellformedBlock (length sims) groups b
+made_ok sims groups path from_text to_text attrs width weak asks initial b wide object e =
+    let words : BlockSaid = record { from = from_text; to = to_text; attrs = attrs; manner = record { width = width; weak = weak; asks = asks }; initial = initial } in
+    let from = passed_ok (place_of sims groups (key_in path (codes "from")) from_text) _ _ e in
+    let to = passed_ok (place_of sims groups (key_in path (codes "to")) to_text) _ _ from.2 in
+    let fit = passed_ok (block_fits groups path words from.0 to.0) _ _ to.2 in
+    let kind = held_ok (TwoKinds path) (at_most_one (is_some width) weak asks) _ _ fit.1 in
+    let fits = passed_ok (initial_fits (key_in path (codes "initial_data")) (is_some width || weak) attrs initial) _ _ kind.1 in
+    let delayed = held_ok (UnknownKey (key_in path (codes "initial_data"))) (is_some width || weak || length (members_of initial) == 0) _ _ fits.1 in
+    let fed = no_text_ok (λ key. UnknownKey (key_in (key_in path (codes "initial_data")) key)) (first_unfed attrs initial) _ _ delayed.1 in
+    let sides = held_ok (Uneven path (size_of groups from.0) (size_of groups to.0)) (sides_pair (size_of groups from.0) (size_of groups to.0)) _ _ fits.2 in
+    let same = ok_same initial fits.0 fed.1 ∙ ok_same fits.0 fit.0 sides.1 in
+    subst (IsWellformedBlock (length sims) groups) (ok_same _ b fit.2) (subst (λ (i : Json). IsWellformedBlock (length sims) groups (record { from = from.0; to = to.0; attrs = attrs; via = via_of width weak; async_requests = asks; initial = i })) same (record {
+      from = place_of_ok sims groups (key_in path (codes "from")) from_text from.0 from.1;
+      to = place_of_ok sims groups (key_in path (codes "to")) to_text to.0 to.1;
+      sides = sides.0;
+      kind = one_kind width weak asks kind.0;
+      width = width_is width weak wide;
+      initial = object;
+      delayed = λ plain. empty_is (members_of initial) (subst (λ d. (d || length (members_of initial) == 0) ≡ true) (plain_is width weak plain) delayed.0);
+      fed = fed_ok attrs initial fed.0;
+    }))
+
 pub block_ok : (sims : List (List ℕ)) (groups : List Group) (path : List ℕ) (table : Json) (b : Block) → InRange table → block_at sims groups path table ≡ Ok b → IsWellformedBlock (length sims) groups b
 unfolding block_at
 block_ok sims groups path table b all e =
@@ -107,23 +132,7 @@ block_ok sims groups path table b all e =
     let said_is = ok_same (record { from = from_text.0; to = to_text.0; attrs = attrs.0; manner = manner.0; initial = initial.0 }) said.0 initial.2 in
     let said_so = subst (λ (s : BlockSaid). block_made sims groups path s ≡ Ok b) (sym said_is) said.2 in
     let made = subst (λ (m : Manner). block_made sims groups path (record { from = from_text.0; to = to_text.0; attrs = attrs.0; manner = m; initial = initial.0 }) ≡ Ok b) (sym manner_is) said_so in
-    let from = passed_ok (place_of sims groups (key_in path (codes "from")) from_text.0) _ _ made in
-    let to = passed_ok (place_of sims groups (key_in path (codes "to")) to_text.0) _ _ from.2 in
-    let words : BlockSaid = record { from = from_text.0; to = to_text.0; attrs = attrs.0; manner = record { width = width.0; weak = weak.0; asks = asks.0 }; initial = initial.0 } in
-    let fit = passed_ok (block_fits groups path words from.0 to.0) _ _ to.2 in
-    let kind = held_ok (TwoKinds path) (at_most_one (is_some width.0) weak.0 asks.0) _ _ fit.1 in
-    let fits = passed_ok (initial_fits (key_in path (codes "initial_data")) (is_some width.0 || weak.0) attrs.0 initial.0) _ _ kind.1 in
-    let delayed = held_ok (UnknownKey (key_in path (codes "initial_data"))) (is_some width.0 || weak.0 || length (members_of initial.0) == 0) _ _ fits.1 in
-    let fed = no_text_ok (λ key. UnknownKey (key_in (key_in path (codes "initial_data")) key)) (first_unfed attrs.0 initial.0) _ _ delayed.1 in
-    let sides = held_ok (Uneven path (size_of groups from.0) (size_of groups to.0)) (sides_pair (size_of groups from.0) (size_of groups to.0)) _ _ fits.2 in
-    let same = ok_same initial.0 fits.0 fed.1 ∙ ok_same fits.0 fit.0 sides.1 in
-    subst (IsWellformedBlock (length sims) groups) (ok_same _ b fit.2) (subst (λ (i : Json). IsWellformedBlock (length sims) groups (record { from = from.0; to = to.0; attrs = attrs.0; via = via_of width.0 weak.0; async_requests = asks.0; initial = i })) same (record {
-      from = place_of_ok sims groups (key_in path (codes "from")) from_text.0 from.0 from.1;
-      to = place_of_ok sims groups (key_in path (codes "to")) to_text.0 to.0 to.1;
-      sides = sides.0;
-      kind = one_kind width.0 weak.0 asks.0 kind.0;
-      width = width_is width.0 weak.0 (left_out_width (key_in path (codes "time_shifted")) (member (codes "time_shifted") table) width.0 width.1);
-      initial = left_out_values (key_in path (codes "initial_data")) (member (codes "initial_data") table) initial.0 (under_range table (codes "initial_data") all) initial.1;
-      delayed = λ plain. empty_is (members_of initial.0) (subst (λ d. (d || length (members_of initial.0) == 0) ≡ true) (plain_is width.0 weak.0 plain) delayed.0);
-      fed = fed_ok attrs.0 initial.0 fed.0;
-    }))
+    made_ok sims groups path from_text.0 to_text.0 attrs.0 width.0 weak.0 asks.0 initial.0 b
+    (left_out_width (key_in path (codes "time_shifted")) (member (codes "time_shifted") table) width.0 width.1)
+    (left_out_values (key_in path (codes "initial_data")) (member (codes "initial_data") table) initial.0 (under_range table (codes "initial_data") all) initial.1)
+    made

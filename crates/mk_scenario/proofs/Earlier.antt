@@ -1,32 +1,39 @@
 -- The ids that earlier tables have.
-use Rattle.std.proofs.Common.{◌≡◌, ℕ, ◌+◌, ◌<◌, Bool, true, false, List, [], ◌∷◌, ◌++◌, take, length, get_or, codes, Option, Some, None, Ok, ap, ◌∙◌, sym}
+use Rattle.std.proofs.Common.{◌≡◌, ℕ, ◌+◌, ◌<◌, List, [], ◌∷◌, ◌++◌, take, length, get_or, codes, Some, Ok, ap, ◌∙◌, sym}
 use Rattle.std.proofs.lemmas.List.{take_more}
 use Rattle.std.proofs.lemmas.List.Elements.{filter_map-append}
-use Rattle.std.specs.Prelude.{option_and_then}
 use Rattle.std.specs.List.{filter_map, cons_option}
 use Rattle.mk_base.specs.declared.json.Json.{Json}
-use Rattle.mk_base.specs.Trees.{text_in}
-use Rattle.mk_base.specs.Verdicts.{held, passed}
-use Rattle.mk_scenario_keys.specs.Keys.{required, name}
-use Rattle.mk_scenario_keys.specs.Spelling.{is_name}
-use Rattle.mk_scenario_keys.specs.Tests.{found}
-use Rattle.mk_scenario_keys.specs.declared.fault.ScenarioFault.{ScenarioFault}
-use Rattle.mk_scenario_keys.specs.declared.fault.ScenarioFault.TheVariants.{WrongKind, OutOfRange}
+use Rattle.mk_base.specs.declared.json.Json as tree
+use Rattle.mk_base.specs.Trees.{member}
+use Rattle.mk_scenario_keys.specs.Known.{group_keys}
+use Rattle.mk_scenario_keys.specs.Keys.{required, optional, first_unknown, count_within, text, name, values}
+use Rattle.mk_scenario_keys.specs.Tests.{key_in}
+use Rattle.mk_scenario_keys.specs.declared.fault.ScenarioFault.TheVariants.{UnknownKey}
+use Rattle.mk_scenario_keys.proofs.KeyFacts.{name_under}
+use Rattle.mk_scenario_keys.proofs.Passing.{ok_same, passed_ok, no_text_ok}
 use Rattle.mk_scenario.specs.inner.Groups.{id_in}
+use Rattle.mk_scenario.specs.Groups.{group_said, said_sim, group_after}
 use Rattle.mk_scenario.specs.Sims.{texts_under}
+use Rattle.mk_scenario.specs.declared.parts.Group.{Group}
+use Rattle.mk_scenario.specs.declared.groups.GroupSaid.{GroupSaid}
 
-spelled_so : (fault : ScenarioFault) (well : Bool) (text id : List ℕ) → held fault well (Ok text) ≡ Ok id → text ≡ id
-spelled_so fault true text id h = cc
-spelled_so fault false text id h = cc
+said_id : (path : List ℕ) (table : Json) (s : GroupSaid) → group_said path table ≡ Ok s → id_in table ≡ Some s.id
+said_id path table s e =
+    let known = no_text_ok (λ key. UnknownKey (key_in path key)) (first_unknown group_keys table) _ _ e in
+    let id = passed_ok (required (key_in path (codes "id")) name (member (codes "id") table)) _ _ known.1 in
+    let sim = passed_ok (required (key_in path (codes "sim")) text (member (codes "sim") table)) _ _ id.2 in
+    let model = passed_ok (required (key_in path (codes "model")) text (member (codes "model") table)) _ _ sim.2 in
+    let num = passed_ok (optional 1 (key_in path (codes "num")) (count_within 1 10000) (member (codes "num") table)) _ _ model.2 in
+    let params = passed_ok (optional (tree.Object []) (key_in path (codes "params")) values (member (codes "params") table)) _ _ num.2 in
+    (name_under (codes "id") (key_in path (codes "id")) table id.0 id.1).0 ∙ ap (λ (t : GroupSaid). Some t.id) (ok_same _ s params.2)
 
-there : (wrong : ScenarioFault) (range : List ℕ → ScenarioFault) (text : Option (List ℕ)) (id : List ℕ) → passed (found wrong text) (λ t. held (range t) (is_name t) (Ok t)) ≡ Ok id → text ≡ Some id
-there wrong range None id h = cc
-there wrong range (Some t) id h = ap Some (spelled_so (range t) (is_name t) t id h)
-
--- what was read as a name is the text that stands there
-pub name_read : (path : List ℕ) (value : Option Json) (id : List ℕ) → required path name value ≡ Ok id → option_and_then text_in value ≡ Some id
-name_read path None id h = cc
-name_read path (Some value) id h = there (WrongKind path) (OutOfRange path) (text_in value) id h
+-- a group that was read has the id that stands in its table
+pub group_named : (ids taken : List (List ℕ)) (path : List ℕ) (table : Json) (g : Group) → group_after ids taken path table ≡ Ok g → id_in table ≡ Some g.id
+group_named ids taken path table g e =
+    let said = passed_ok (group_said path table) _ _ e in
+    let sim = passed_ok (said_sim ids taken path said.0) _ _ said.2 in
+    said_id path table said.0 said.1 ∙ ap (λ (h : Group). Some h.id) (ok_same _ g sim.2)
 
 -- the ids of one more table
 pub ids_more : (tables : List Json) (i : ℕ) (table : Json) (id : List ℕ) → i < length tables → table ≡ get_or tables i table → id_in table ≡ Some id → texts_under (codes "id") (take (i + 1) tables) ≡ texts_under (codes "id") (take i tables) ++ id ∷ []

@@ -1,4 +1,5 @@
 pub mod Referring
+pub mod Refusing
 pub mod Earlier
 pub mod Placing
 pub mod Naming

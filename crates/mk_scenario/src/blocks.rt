@@ -10,11 +10,12 @@ ghost use Rattle.mk_scenario.specs.Blocks as blocks;
 ghost use Rattle.mk_scenario.specs.Blocks.{source_names};
 ghost use Rattle.mk_scenario.specs.References.{group_ids, place_of};
 ghost use Rattle.mk_scenario.specs.Scenarios.{ids_of};
-ghost use Rattle.mk_scenario.specs.inner.Blocks.{block_of, said_between};
+ghost use Rattle.mk_scenario.specs.inner.Blocks.{block_of, initial_fits, is_delayed, said_between};
 
 use crate::groups::ids_of;
 use crate::names::Names;
 use crate::parts::{AttrPair, Block, Group, Place, SimPart};
+use crate::paths::table_path;
 use crate::references::{place_of, size_of};
 use mk_base::{Json, List, Mem, Members, Text, Via};
 use mk_scenario_keys::{
@@ -62,8 +63,14 @@ pub fn blocks_of(
 {
     let sims = ids_of(alloc, sims.as_slice())?;
     let groups = groups.as_slice();
-    let ids = group_ids(alloc, groups)?;
-    blocks_among(alloc, &sims, &ids, groups, tables)
+    let Ok(ids) = group_ids(alloc, groups) else {
+        drop(sims);
+        return Err(ScenarioFault::Mem);
+    };
+    let blocks = blocks_among(alloc, &sims, &ids, groups, tables);
+    drop(sims);
+    drop(ids);
+    blocks
 }
 
 // The ids of the groups.
@@ -112,8 +119,10 @@ fn block_in(
     ensures refused { IfErr result
         (λ e. IsFaultOf (blocks.block_in sims.now groups.now i table.now) e) }
 {
-    let path = item_in(alloc, &Text::of(alloc, "connect")?, i)?;
-    block_at(alloc, sims, ids, groups, &path, table)
+    let path = table_path(alloc, "connect", i)?;
+    let block = block_at(alloc, sims, ids, groups, &path, table);
+    drop(path);
+    block
 }
 
 // The block of the table of this path.
@@ -135,7 +144,10 @@ fn block_at(
     let said = block_said(alloc, path, table)?;
     match ends_fitting(alloc, sims, ids, groups, path, &said) {
         Ok(ends) => Ok(block_of(said, ends)),
-        Err(fault) => Err(fault),
+        Err(fault) => {
+            drop(said);
+            Err(fault)
+        }
     }
 }
 
@@ -201,7 +213,11 @@ fn said_of(
           initial = initial;
         }) }
 {
-    let (from, to) = copies(from, to)?;
+    let Ok((from, to)) = copies(from, to) else {
+        drop(attrs);
+        drop(initial);
+        return Err(Mem);
+    };
     Ok(BlockSaid {
         from,
         to,
@@ -327,33 +343,21 @@ fn ends_fitting(
     ensures refused { IfErr result
         (λ e. IsFaultOf (blocks.block_made sims.now groups.now path.now said.now) e) }
 {
-    let ends = ends_of(alloc, sims, ids, groups, path, said)?;
-    match block_fits(alloc, groups, path, said, &ends.from, &ends.to) {
-        Ok(()) => Ok(ends),
-        Err(fault) => Err(fault),
-    }
-}
-
-// What a table of this path refers to on either side.
-fn ends_of(
-    alloc: Global,
-    sims: &Names,
-    ids: &Names,
-    groups: &[Group],
-    path: &Text,
-    said: &BlockSaid,
-) -> Result<Ends, ScenarioFault>
-    requires { ids.now ≡ group_ids groups.now }
-    ensures ok { IfOk result
-        (λ ends. blocks.block_made sims.now groups.now path.now said.now
-        ≡ blocks.block_between groups.now path.now said.now ends.from ends.to) }
-    ensures refused { IfErr result
-        (λ e. IsFaultOf (blocks.block_made sims.now groups.now path.now said.now) e) }
-{
     let from = place_under(alloc, sims, ids, groups, path, "from", &said.from)?;
-    match place_under(alloc, sims, ids, groups, path, "to", &said.to) {
-        Ok(to) => Ok(Ends { from, to }),
-        Err(fault) => Err(fault),
+    let to = match place_under(alloc, sims, ids, groups, path, "to", &said.to) {
+        Ok(to) => to,
+        Err(fault) => {
+            drop(from);
+            return Err(fault);
+        }
+    };
+    match block_fits(alloc, groups, path, said, &from, &to) {
+        Ok(()) => Ok(Ends { from, to }),
+        Err(fault) => {
+            drop(from);
+            drop(to);
+            Err(fault)
+        }
     }
 }
 
@@ -394,13 +398,7 @@ fn block_fits(
     if !at_most_one(manner.width.is_some(), manner.weak, manner.asks) {
         return Err(ScenarioFault::TwoKinds(path.copy()?));
     }
-    initial_fits(
-        alloc,
-        &key_in(alloc, path, "initial_data")?,
-        manner.width.is_some() || manner.weak,
-        said.attrs.as_slice(),
-        &said.initial,
-    )?;
+    initial_fits(alloc, path, said)?;
     let (m, n) = (size_of(groups, from), size_of(groups, to));
     if !sides_pair(m, n) {
         return Err(ScenarioFault::Uneven(path.copy()?, m, n));
@@ -431,26 +429,25 @@ fn sides_pair(m: u32, n: u32) -> bool
     n == 1 || m == 1 || m == n
 }
 
-// Initial values, under the key of this path, stand only where the delivery is delayed, and only under source attributes.
-fn initial_fits(
-    alloc: Global,
-    path: &Text,
-    delayed: bool,
-    attrs: &[AttrPair],
-    initial: &Json,
-) -> Result<(), ScenarioFault>
-    ensures ok { IfOk result (λ _. blocks.initial_fits path.now delayed attrs.now initial.now
-        ≡ Ok initial.now) }
-    ensures refused { IfErr result
-        (λ e. IsFaultOf (blocks.initial_fits path.now delayed attrs.now initial.now) e) }
+// Initial values that a table of this path says stand only where the delivery is delayed, and only under source attributes.
+fn initial_fits(alloc: Global, path: &Text, said: &BlockSaid) -> Result<(), ScenarioFault>
+    ensures ok { IfOk result (λ _. initial_fits path.now said.now ≡ Ok said.now.initial) }
+    ensures refused { IfErr result (λ e. IsFaultOf (initial_fits path.now said.now) e) }
 {
-    if !(delayed || is_empty(initial)) {
-        return Err(ScenarioFault::UnknownKey(path.copy()?));
+    let path = key_in(alloc, path, "initial_data")?;
+    if !(is_delayed(said.manner) || is_empty(&said.initial)) {
+        return Err(ScenarioFault::UnknownKey(path));
     }
-    match first_unfed(attrs, initial) {
-        Some(name) => Err(ScenarioFault::UnknownKey(key_in(alloc, path, name.as_str())?)),
+    match first_unfed(said.attrs.as_slice(), &said.initial) {
+        Some(name) => Err(ScenarioFault::UnknownKey(key_in(alloc, &path, name.as_str())?)),
         None => Ok(()),
     }
+}
+
+fn is_delayed(manner: Manner) -> bool
+    ensures { result ≡ is_delayed manner }
+{
+    manner.width.is_some() || manner.weak
 }
 
 fn is_empty(table: &Json) -> bool

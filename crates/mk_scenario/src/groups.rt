@@ -1,17 +1,18 @@
 // The `entities` tables.
-ghost use Rattle.std.specs.Prelude.{◌≡◌, codes, IfOk, IfErr, Ok, Some};
+ghost use Rattle.std.specs.Prelude.{◌≡◌, codes, IfOk, IfErr, Ok};
 ghost use Rattle.mk_base.specs.Trees.{member};
 ghost use Rattle.mk_scenario_keys.specs.Keys as keys;
 ghost use Rattle.mk_scenario_keys.specs.Tests.{IsFaultOf, each_after, key_in};
 ghost use Rattle.mk_scenario.specs.Groups as groups;
-ghost use Rattle.mk_scenario.specs.inner.Groups.{id_in};
+ghost use Rattle.mk_scenario.specs.inner.Groups.{IsGroupAdded};
 ghost use Rattle.mk_scenario.specs.Scenarios.{ids_of};
 
 use crate::names::Names;
 use crate::parts::{Group, SimPart};
+use crate::paths::{path_and, table_path};
 use mk_base::{Json, List, Mem, SimNo, Text};
 use mk_scenario_keys::{
-    ScenarioFault, Table, count_or, first_unknown, item_in, key_in, required_name, required_text,
+    ScenarioFault, Table, count_or, first_unknown, key_in, required_name, required_text,
     values_or_none,
 };
 use std::alloc::Global;
@@ -65,11 +66,42 @@ fn groups_among(alloc: Global, sims: &Names, tables: &[Json]) -> Result<List<Gro
     let mut taken = Names::new(alloc);
     let mut found = List::new(alloc);
     for (i, table) in tables.iter().enumerate() {
-        let group = group_next(alloc, sims, &taken, i, table)?;
-        taken = taken.with(alloc, &group.id)?;
-        found.push(group)?;
+        taken = add_group(alloc, sims, taken, &mut found, i, table)?;
     }
+    drop(taken);
     Ok(found)
+}
+
+// Puts the group of the table at place i, where these ids are taken, behind those found; the ids with its own.
+fn add_group(
+    alloc: Global,
+    sims: &Names,
+    taken: Names,
+    found: &mut List<Group>,
+    i: usize,
+    table: &Json,
+) -> Result<Names, ScenarioFault>
+    ensures ok { IfOk result
+        (IsGroupAdded (groups.group_next sims.now taken i table.now) found.old found.new taken) }
+    ensures refused { IfErr result
+        (λ e. IsFaultOf (groups.group_next sims.now taken i table.now) e) }
+{
+    let group = match group_next(alloc, sims, &taken, i, table) {
+        Ok(group) => group,
+        Err(fault) => {
+            drop(taken);
+            return Err(fault);
+        }
+    };
+    let Ok(taken) = taken.with(alloc, &group.id) else {
+        drop(group);
+        return Err(ScenarioFault::Mem);
+    };
+    let Ok(()) = found.push(group) else {
+        drop(taken);
+        return Err(ScenarioFault::Mem);
+    };
+    Ok(taken)
 }
 
 // The group of the table at place i, where these ids are taken.
@@ -84,10 +116,11 @@ fn group_next(
         ≡ Ok group) }
     ensures refused { IfErr result
         (λ e. IsFaultOf (groups.group_next sims.now taken.now i table.now) e) }
-    ensures named { IfOk result (λ group. id_in table.now ≡ Some group.id) }
 {
-    let path = item_in(alloc, &Text::of(alloc, "entities")?, i)?;
-    group_after(alloc, sims, taken, &path, table)
+    let path = table_path(alloc, "entities", i)?;
+    let group = group_after(alloc, sims, taken, &path, table);
+    drop(path);
+    group
 }
 
 // The group of the table of this path, where these ids are taken.
@@ -102,7 +135,6 @@ fn group_after(
         ≡ Ok group) }
     ensures refused { IfErr result
         (λ e. IsFaultOf (groups.group_after sims.now taken.now path.now table.now) e) }
-    ensures named { IfOk result (λ group. id_in table.now ≡ Some group.id) }
 {
     let said = group_said(alloc, path, table)?;
     group_made(alloc, sims, taken, path, said)
@@ -112,7 +144,6 @@ fn group_after(
 fn group_said(alloc: Global, path: &Text, table: &Json) -> Result<GroupSaid, ScenarioFault>
     ensures ok { IfOk result (λ said. groups.group_said path.now table.now ≡ Ok said) }
     ensures refused { IfErr result (λ e. IsFaultOf (groups.group_said path.now table.now) e) }
-    ensures named { IfOk result (λ said. id_in table.now ≡ Some said.id) }
 {
     if let Some(key) = first_unknown(Table::Group, table) {
         return Err(ScenarioFault::UnknownKey(key_in(alloc, path, key.as_str())?));
@@ -172,7 +203,10 @@ pub fn sim_of_id(alloc: Global, sims: &Names, path: &Text, id: &str) -> Result<S
 {
     match sims.place_of(id) {
         Some(place) => Ok(SimNo(place)),
-        None => Err(ScenarioFault::UnknownSim(path.copy()?, Text::of(alloc, id)?)),
+        None => {
+            let (path, id) = path_and(alloc, path, id)?;
+            Err(ScenarioFault::UnknownSim(path, id))
+        }
     }
 }
 
@@ -206,14 +240,18 @@ fn group_made(
         ≡ Ok group) }
     ensures refused { IfErr result
         (λ e. IsFaultOf (groups.group_made sims.now taken.now path.now said) e) }
-    ensures named { IfOk result (λ group. group.id ≡ said.id) }
 {
-    let sim = said_sim(alloc, sims, taken, path, &said)?;
-    Ok(Group {
-        id: said.id,
-        sim,
-        model: said.model,
-        num: said.num,
-        params: said.params,
-    })
+    match said_sim(alloc, sims, taken, path, &said) {
+        Ok(sim) => Ok(Group {
+            id: said.id,
+            sim,
+            model: said.model,
+            num: said.num,
+            params: said.params,
+        }),
+        Err(fault) => {
+            drop(said);
+            Err(fault)
+        }
+    }
 }

@@ -5,6 +5,7 @@ mod blocks;
 mod groups;
 mod names;
 mod parts;
+mod paths;
 mod read;
 mod references;
 mod sims;

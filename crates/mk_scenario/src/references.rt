@@ -7,6 +7,7 @@ ghost use Rattle.mk_scenario.specs.inner.References.{IsAround};
 use crate::groups::sim_of_id;
 use crate::names::Names;
 use crate::parts::{Group, Place};
+use crate::paths::path_and;
 use mk_base::Text;
 use mk_scenario_keys::{ScenarioFault, spelled};
 use std::alloc::Global;
@@ -142,7 +143,10 @@ fn entity_at(
     let n = group_of_id(alloc, ids, path, id)?;
     match index_below(num_at(groups, n), digits) {
         Some(i) => Ok(Place::One(n, i)),
-        None => Err(ScenarioFault::OutOfRange(path.copy()?, text.copy()?)),
+        None => {
+            let (path, text) = path_and(alloc, path, text.as_str())?;
+            Err(ScenarioFault::OutOfRange(path, text))
+        }
     }
 }
 
@@ -162,7 +166,10 @@ fn group_of_id(alloc: Global, ids: &Names, path: &Text, id: &str) -> Result<u32,
 {
     match ids.place_of(id) {
         Some(n) => Ok(n),
-        None => Err(ScenarioFault::UnknownGroup(path.copy()?, Text::of(alloc, id)?)),
+        None => {
+            let (path, id) = path_and(alloc, path, id)?;
+            Err(ScenarioFault::UnknownGroup(path, id))
+        }
     }
 }
 

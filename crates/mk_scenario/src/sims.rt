@@ -8,10 +8,11 @@ ghost use Rattle.mk_scenario_keys.specs.Tests.{IsFaultOf, each_after, key_in};
 ghost use Rattle.mk_scenario.specs.Sims as sims;
 
 use crate::parts::{Begin, SimPart};
+use crate::paths::table_path;
 use mk_base::{Json, List, Mem, Text};
 use mk_scenario_keys::{
-    ScenarioFault, Table, first_unknown, item_in, key_in, optional_port, optional_text,
-    required_name, times_or_none, values_or_none,
+    ScenarioFault, Table, first_unknown, key_in, optional_port, optional_text, required_name,
+    times_or_none, values_or_none,
 };
 use std::alloc::Global;
 
@@ -32,8 +33,10 @@ fn sim_in(alloc: Global, earlier: &[Json], i: usize, table: &Json) -> Result<Sim
     ensures ok { IfOk result (λ part. sims.sim_in earlier.now i table.now ≡ Ok part) }
     ensures refused { IfErr result (λ e. IsFaultOf (sims.sim_in earlier.now i table.now) e) }
 {
-    let path = item_in(alloc, &Text::of(alloc, "sim")?, i)?;
-    sim_at(alloc, &path, earlier, table)
+    let path = table_path(alloc, "sim", i)?;
+    let part = sim_at(alloc, &path, earlier, table);
+    drop(path);
+    part
 }
 
 // The simulator of the table of this path, after these tables.
@@ -76,7 +79,13 @@ fn sim_made(
         (option_map (λ t. t.now) command.entry) port (option_map (λ t. t.now) local.entry)) e) }
 {
     let params = values_or_none(alloc, path, "params", table)?;
-    let initial = times_or_none(alloc, path, "initial_events", table)?;
+    let initial = match times_or_none(alloc, path, "initial_events", table) {
+        Ok(initial) => initial,
+        Err(fault) => {
+            drop(params);
+            return Err(fault);
+        }
+    };
     match begun(alloc, path, earlier, name, command, port, local, &params) {
         Ok((id, begin)) => Ok(SimPart {
             id,
@@ -84,7 +93,11 @@ fn sim_made(
             params,
             initial,
         }),
-        Err(fault) => Err(fault),
+        Err(fault) => {
+            drop(params);
+            drop(initial);
+            Err(fault)
+        }
     }
 }
 
@@ -110,9 +123,18 @@ fn begun(
         (sims.begin_of path.now (option_map (λ t. t.now) command.entry) port
         (option_map (λ t. t.now) local.entry)) (λ _. sims.own_params path.now params.now)) e) }
 {
-    let begin = begin_of(alloc, path, command, port, local)?;
-    own_params(alloc, path, params)?;
-    let id = sim_id(alloc, earlier, name)?;
+    let begin = match begin_of(alloc, path, command, port, local) {
+        Ok(begin) => begin,
+        Err(fault) => return Err(fault),
+    };
+    if let Err(fault) = own_params(alloc, path, params) {
+        drop(begin);
+        return Err(fault);
+    }
+    let Ok(id) = sim_id(alloc, earlier, name) else {
+        drop(begin);
+        return Err(ScenarioFault::Mem);
+    };
     Ok((id, begin))
 }
 

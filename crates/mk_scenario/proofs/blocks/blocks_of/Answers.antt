@@ -16,9 +16,9 @@ same sims ids groups among tables named listed = ap (λ names. each_at (block_in
 pub returns-clause-ok : goal.returns-clause-ok
 returns-clause-ok c =
     let is = same c.args.sims.now c.in_ok-sims.sims c.args.groups.now c.as_slice-groups.result.now c.args.tables.now (c.in_ok-sims.ensures ∙ ap ids_of c.as_slice.ensures) c.as_slice-groups.ensures in
-    subst (λ (verdict : Result (List Block) ScenarioFault). IfOk c.blocks_among.result (λ found. verdict ≡ Ok found)) is c.blocks_among.ensures.ok
+    subst (λ (verdict : Result (List Block) ScenarioFault). IfOk c.blocks_among-blocks.result (λ found. verdict ≡ Ok found)) is c.blocks_among-blocks.ensures.ok
 
 pub returns-clause-refused : goal.returns-clause-refused
 returns-clause-refused c =
     let is = same c.args.sims.now c.in_ok-sims.sims c.args.groups.now c.as_slice-groups.result.now c.args.tables.now (c.in_ok-sims.ensures ∙ ap ids_of c.as_slice.ensures) c.as_slice-groups.ensures in
-    subst (λ (verdict : Result (List Block) ScenarioFault). IfErr c.blocks_among.result (λ e. IsFaultOf verdict e)) is c.blocks_among.ensures.refused
+    subst (λ (verdict : Result (List Block) ScenarioFault). IfErr c.blocks_among-blocks.result (λ e. IsFaultOf verdict e)) is c.blocks_among-blocks.ensures.refused
