@@ -12,7 +12,7 @@ use Rattle.mk_plan.specs.declared.PlanSim.{PlanSim}
 use Rattle.mk_plan.specs.Plans.{HasDistinctNames, dot}
 use Rattle.mk_meta.specs.declared.meta.Meta.{Meta}
 use Rattle.mk_entities.specs.declared.entities.EntityInfo.{EntityInfo}
-use Rattle.mk_entities.specs.Creation.{number_of}
+use Rattle.mk_entities.specs.Creation.{entity_number}
 use Rattle.mk_entities.specs.Sound.{AreSound, IsSound}
 use Rattle.mk_entities.specs.Tied.{AreFirst}
 use Rattle.mk_scenario.specs.declared.parts.Scenario.{Scenario}
@@ -82,7 +82,7 @@ module _ (S : Scenario) (ranks : List ℕ) (metas : List Meta) (es : List Entity
         let second = owner_is S ranks metas es first_ids conns e b.0 b.1 (in_each (IsOfModel metas) b.0 es known.of_models (at_in b.0 es e b.1)) in
         let sim : a.0.sim.0 ≡ b.0.sim.0 = sym first ∙ own ∙ second in
         let eid : a.0.eid ≡ b.0.eid = sym (eid_is S ranks metas es first_ids conns d a.0 a.1) ∙ same ∙ eid_is S ranks metas es first_ids conns e b.0 b.1 in
-        let numbers : Some d ≡ Some e = sym (found d a.0 a.1) ∙ (λ i. number_of es (record { 0 = sim i }) (eid i)) ∙ found e b.0 b.1 in
+        let numbers : Some d ≡ Some e = sym (found d a.0 a.1) ∙ (λ i. entity_number es (record { 0 = sim i }) (eid i)) ∙ found e b.0 b.1 in
         let place : d ≡ e = some_same numbers in
         absurd (omega arith);
     named = all_of (λ (n : PlanEntity). (n.eid ≢ []) × (n.eid ≢ codes "time")) P.entities (λ i x is.

@@ -15,7 +15,7 @@ use Rattle.mk_plan.specs.Plans.{eid_of, kind_of, owner, rank_of, sim_count}
 use Rattle.mk_meta.specs.declared.meta.ModelMeta.{ModelMeta}
 use Rattle.mk_meta.specs.declared.meta.Meta.{Meta}
 use Rattle.mk_entities.specs.declared.entities.EntityInfo.{EntityInfo}
-use Rattle.mk_entities.specs.Creation.{is_named, number_of}
+use Rattle.mk_entities.specs.Creation.{is_named, entity_number}
 use Rattle.mk_entities.proofs.Lookups.{place_first, place_later}
 use Rattle.mk_scenario.specs.declared.parts.Group.{Group}
 use Rattle.mk_scenario.specs.declared.parts.Place.{Place}
@@ -183,7 +183,7 @@ pub end_is : (groups : List Group) (es : List EntityInfo) (place : Place) (i : â
 end_is groups es (Whole g) i of inside = of_member groups es g i of inside
 end_is groups es (One g n) i of inside = of_member groups es g i of (at_in i (members_from g 0 es) n (in_option i (slice_get (members_from g 0 es) n) inside))
 end_is groups es (Full sim eid) i of inside =
-    let t = there_passes (is_named sim eid) es i (in_option i (number_of es sim eid) inside) in
+    let t = there_passes (is_named sim eid) es i (in_option i (entity_number es sim eid) inside) in
     (t.0, t.1, sym (eq_of t.0.sim.0 sim.0 (and_parts (nat_eq t.0.sim.0 sim.0) (same_text t.0.eid eid) t.2).0))
 
 -- ---- the plan's parts

@@ -2,7 +2,7 @@
 use Rattle.std.specs.Prelude.{ℕ, suc, Bool, false, nat_eq, List, [], ◌∷◌, ◌++◌, map, codes, Option, Some, None, is_some, option_map, unwrap_or, slice_get, if◌then◌else◌}
 use Rattle.std.specs.List.{cons_option, zip}
 use Rattle.mk_entities.specs.declared.entities.EntityInfo.{EntityInfo}
-use Rattle.mk_entities.specs.Creation.{number_of}
+use Rattle.mk_entities.specs.Creation.{entity_number}
 use Rattle.mk_scenario.specs.declared.parts.SimPart.{SimPart}
 use Rattle.mk_scenario.specs.declared.parts.Place.{Place}
 use Rattle.mk_scenario.specs.declared.parts.Place.TheVariants.{Whole, One, Full}
@@ -28,7 +28,7 @@ members entities group = members_from group 0 entities
 abbrev pub ends_at : List EntityInfo → Place → List ℕ
 ends_at entities (Whole group) = members entities group
 ends_at entities (One group i) = cons_option (slice_get (members entities group) i) []
-ends_at entities (Full sim eid) = cons_option (number_of entities sim eid) []
+ends_at entities (Full sim eid) = cons_option (entity_number entities sim eid) []
 
 -- an entity's name in the whole plan: its simulator's id, a dot, its eid
 abbrev pub name_of : List SimPart → ℕ → List ℕ → List ℕ
@@ -42,7 +42,7 @@ full_id sims entities i = unwrap_or
 abbrev pub place_fault : List SimPart → List EntityInfo → Place → Option ConnectFault
 place_fault sims entities (Whole group) = None
 place_fault sims entities (One group i) = None
-place_fault sims entities (Full sim eid) = if is_some (number_of entities sim eid) then None
+place_fault sims entities (Full sim eid) = if is_some (entity_number entities sim eid) then None
     else Some (NoEntity (name_of sims sim.0 eid))
 
 -- which entities are connected: where one side has one entity, it and each of the other; else one

@@ -1,9 +1,7 @@
 //! The connections that a scenario makes, or the first test that one of them fails.
 ghost use Rattle.std.specs.Prelude.{◌≡◌, ◌++◌, ◌∷◌, [], Ok, None, true, length, IfOk, IfErr, false};
 ghost use Rattle.std.specs.List.{list_any};
-ghost use Rattle.mk_base.specs.Trees.{is_datum, is_in_range};
 ghost use Rattle.mk_base.specs.Lists.{Each};
-ghost use Rattle.mk_base.specs.Texts.{text_of};
 ghost use Rattle.mk_scenario_keys.specs.Keys.{IsObjectOfData};
 ghost use Rattle.mk_connect_pairs.specs.Connections.{attrs_fault, block_made, block_pairs, conn_between, conn_fault, connected, conns_made, has_initial, initial_text, is_way, pair_made};
 ghost use Rattle.mk_connect_pairs.specs.Ends.{full_id};

@@ -56,7 +56,7 @@ impl Models {
     }
 
     // The number of the simulator's model of this name.
-    fn number_of(&self, alloc: Global, sim: SimNo, name: &Text) -> Result<Option<u32>, Mem>
+    fn named(&self, alloc: Global, sim: SimNo, name: &Text) -> Result<Option<u32>, Mem>
         ensures { IfOk result (λ n. n ≡ position (is_model sim name.now) self.now) }
     {
         let key = key(alloc, sim, name)?;
@@ -218,7 +218,7 @@ pub fn numbers_of(
 {
     let mut numbers = List::new(alloc);
     for entity in entities {
-        numbers.push(models.number_of(alloc, entity.sim, &entity.model)?)?;
+        numbers.push(models.named(alloc, entity.sim, &entity.model)?)?;
     }
     Ok(numbers)
 }

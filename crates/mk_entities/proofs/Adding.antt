@@ -11,7 +11,7 @@ use Rattle.mk_meta.specs.declared.meta.Meta.{Meta}
 use Rattle.mk_entities.specs.declared.described.Described.{Described}
 use Rattle.mk_entities.specs.declared.entities.EntityInfo.{EntityInfo}
 use Rattle.mk_entities.specs.declared.fault.CreateFault.{CreateFault}
-use Rattle.mk_entities.specs.Creation.{added, draft, drafts, entity_fault, first_entity_fault, first_there, is_named, number_of, rel_fault, with_entities}
+use Rattle.mk_entities.specs.Creation.{added, draft, drafts, entity_fault, first_entity_fault, first_there, is_named, entity_number, rel_fault, with_entities}
 use Rattle.mk_entities.specs.inner.Making.{fault_at, first_fault, made_by, named_from, number_in}
 use Rattle.mk_entities.specs.inner.Tied.{numbered}
 use Rattle.mk_entities.proofs.Lookups.{number_is, place_below}
@@ -63,7 +63,7 @@ module _ (old : List EntityInfo) (sim : SimNo) (group : ℕ) (es : List Describe
       zero_more n = omega arith
 
   -- the names so far number the entities so far
-  pub numbers_so_far : (names : List (List ℕ × ℕ)) → names ≡ numbered sim.0 0 old ++ named_from (length old) es → number_in names ≡ number_of all sim
+  pub numbers_so_far : (names : List (List ℕ × ℕ)) → names ≡ numbered sim.0 0 old ++ named_from (length old) es → number_in names ≡ entity_number all sim
   numbers_so_far names are = ap number_in (are ∙ sym drafts_are) ∙ (λ i text. number_is sim all text i)
 
 -- the n-th test over the names is that over the entities
@@ -71,12 +71,12 @@ module _ (old : List EntityInfo) (sim : SimNo) (group : ℕ) (model : List ℕ) 
   drafts_before : (n : ℕ) → take (length old + n) (drafts old sim group es) ≡ drafts old sim group (take n es)
   drafts_before n = take-append-add old (map (draft sim group) es) n ∙ ap (λ l. old ++ l) (take-map (draft sim group) n es)
 
-  same_number : (n : ℕ) → number_in (numbered sim.0 0 old ++ named_from (length old) (take n es)) ≡ number_of (take (length old + n) (drafts old sim group es)) sim
-  same_number n = numbers_so_far old sim group (take n es) (numbered sim.0 0 old ++ named_from (length old) (take n es)) refl ∙ ap (λ before. number_of before sim) (sym (drafts_before n))
+  same_number : (n : ℕ) → number_in (numbered sim.0 0 old ++ named_from (length old) (take n es)) ≡ entity_number (take (length old + n) (drafts old sim group es)) sim
+  same_number n = numbers_so_far old sim group (take n es) (numbered sim.0 0 old ++ named_from (length old) (take n es)) refl ∙ ap (λ before. entity_number before sim) (sym (drafts_before n))
 
   pub same_fault : first_fault (numbered sim.0 0 old) (length old) model meta es ≡ first_entity_fault old sim group model meta es
   same_fault = ap first_there (map_same (fault_at (numbered sim.0 0 old) (length old) model meta es)
-      (λ n. option_and_then (entity_fault (number_of (take (length old + n) (drafts old sim group es)) sim) (length old + n) model meta n) (slice_get es n))
+      (λ n. option_and_then (entity_fault (entity_number (take (length old + n) (drafts old sim group es)) sim) (length old + n) model meta n) (slice_get es n))
       (range_with_len 0 (length es))
       (λ n m. ap (λ number. option_and_then (entity_fault number (length old + n) model meta n) (slice_get es n)) (same_number n)))
 
@@ -85,14 +85,14 @@ module _ (old : List EntityInfo) (sim : SimNo) (group : ℕ) (model : List ℕ) 
     first_is = ap (λ ns. first_fault ns count model meta es) tied ∙ ap (λ k. first_fault (numbered sim.0 0 old) k model meta es) long ∙ same_fault
 
     pub entity_refused : (fault : CreateFault) → first_fault names count model meta es ≡ Some fault → with_entities old sim group model meta es ≡ Err fault
-    entity_refused fault is = ap (λ f. unless f (unless (first_there (map (rel_fault (number_of (drafts old sim group es) sim)) es)) (Ok (old ++ map (added (number_of (drafts old sim group es) sim) (length old + length es) sim group) es)))) (sym first_is ∙ is)
+    entity_refused fault is = ap (λ f. unless f (unless (first_there (map (rel_fault (entity_number (drafts old sim group es) sim)) es)) (Ok (old ++ map (added (entity_number (drafts old sim group es) sim) (length old + length es) sim group) es)))) (sym first_is ∙ is)
 
     module _ (now : List (List ℕ × ℕ)) (named : now ≡ names ++ named_from count es) (passed : first_fault names count model meta es ≡ None) where
-      numbers_are : number_in now ≡ number_of (drafts old sim group es) sim
+      numbers_are : number_in now ≡ entity_number (drafts old sim group es) sim
       numbers_are = numbers_so_far old sim group es now (named ∙ ap (λ ns. ns ++ named_from count es) tied ∙ ap (λ k. numbered sim.0 0 old ++ named_from k es) long)
 
       then_rel : with_entities old sim group model meta es ≡ unless (first_there (map (rel_fault (number_in now)) es)) (Ok (old ++ map (added (number_in now) (length old + length es) sim group) es))
-      then_rel = ap (λ f. unless f (unless (first_there (map (rel_fault (number_of (drafts old sim group es) sim)) es)) (Ok (old ++ map (added (number_of (drafts old sim group es) sim) (length old + length es) sim group) es)))) (sym first_is ∙ passed)
+      then_rel = ap (λ f. unless f (unless (first_there (map (rel_fault (entity_number (drafts old sim group es) sim)) es)) (Ok (old ++ map (added (entity_number (drafts old sim group es) sim) (length old + length es) sim group) es)))) (sym first_is ∙ passed)
           ∙ ap (λ number. unless (first_there (map (rel_fault number) es)) (Ok (old ++ map (added number (length old + length es) sim group) es))) (sym numbers_are)
 
       pub rel_refused : (fault : CreateFault) → first_there (map (rel_fault (number_in now)) es) ≡ Some fault → with_entities old sim group model meta es ≡ Err fault

@@ -12,7 +12,7 @@ use Rattle.mk_entities.specs.declared.described.Described.{Described}
 use Rattle.mk_entities.specs.declared.entities.EntityInfo.{EntityInfo}
 use Rattle.mk_entities.specs.declared.fault.CreateFault.{CreateFault}
 use Rattle.mk_entities.specs.declared.fault.CreateFault.TheVariants.{NoEid, TwiceEid, OfType, TooMany}
-use Rattle.mk_entities.specs.Creation.{entity_fault, first_there, after_text, has_type, is_named, most_entities, number_of}
+use Rattle.mk_entities.specs.Creation.{entity_fault, first_there, after_text, has_type, is_named, most_entities, entity_number}
 use Rattle.mk_entities.specs.inner.Making.{fault_at, first_fault, named_from, number_in}
 use Rattle.mk_entities.specs.Tied.{AreFirst}
 use Rattle.mk_entities.specs.inner.Tied.{numbered}
@@ -103,14 +103,14 @@ same_itself (x ∷ a) = let h : nat_eq x x ≡ true = grind arith in rw h (same_
 module _ (old : List EntityInfo) (sim : SimNo) (model : List ℕ) (meta : Meta) (es : List Described) (make : Described → EntityInfo)
     (own_sim : (e : Described) → (make e).sim ≡ sim) (own_eid : (e : Described) → (make e).eid ≡ unwrap_or e.eid []) (found_old : AreFirst old)
     (passed : first_fault (numbered sim.0 0 old) (length old) model meta es ≡ None) where
-  so_far : (n : ℕ) (text : List ℕ) → number_of (old ++ map make (take n es)) sim text ≡ number_in (numbered sim.0 0 old ++ named_from (length old) (take n es)) text
+  so_far : (n : ℕ) (text : List ℕ) → entity_number (old ++ map make (take n es)) sim text ≡ number_in (numbered sim.0 0 old ++ named_from (length old) (take n es)) text
   so_far n text = sym (number_is sim (old ++ map make (take n es)) text)
       ∙ ap (λ names. number_in names text) (numbered_append sim.0 0 old (map make (take n es)) ∙ ap (λ l. numbered sim.0 0 old ++ l) (numbered_own sim make (λ e. ap (λ (s : SimNo). s.0) (own_sim e)) own_eid (0 + length old) (take n es) ∙ ap (λ k. named_from k (take n es)) (zero_more (length old))))
     where
       zero_more : (n : ℕ) → 0 + n ≡ n
       zero_more n = omega arith
 
-  not_before : (n : ℕ) (e : Described) → slice_get es n ≡ Some e → number_of (old ++ map make (take n es)) sim (unwrap_or e.eid []) ≡ None
+  not_before : (n : ℕ) (e : Described) → slice_get es n ≡ Some e → entity_number (old ++ map make (take n es)) sim (unwrap_or e.eid []) ≡ None
   not_before n e is =
       let number = number_in (numbered sim.0 0 old ++ named_from (length old) (take n es)) in
       let below = (parted es n e is).0 in
@@ -123,7 +123,7 @@ module _ (old : List EntityInfo) (sim : SimNo) (model : List ℕ) (meta : Meta) 
       let eid_is : same_text (make e).eid (unwrap_or e.eid []) ≡ true = ap (λ t. same_text t (unwrap_or e.eid [])) (own_eid e) ∙ same_itself (unwrap_or e.eid []) in
       rw sim_is eid_is
 
-  made_found : (n : ℕ) (e : Described) → slice_get es n ≡ Some e → number_of (old ++ map make es) sim (unwrap_or e.eid []) ≡ Some (length old + n)
+  made_found : (n : ℕ) (e : Described) → slice_get es n ≡ Some e → entity_number (old ++ map make es) sim (unwrap_or e.eid []) ≡ Some (length old + n)
   made_found n e is =
       let t = parted es n e is in
       let front = map make (take n es) in
@@ -137,13 +137,13 @@ module _ (old : List EntityInfo) (sim : SimNo) (model : List ℕ) (meta : Meta) 
   pub still_found : AreFirst (old ++ map make es)
   still_found i x is = at (get_split old (map make es) i x is)
     where
-      made : (n : ℕ) → i ≡ length old + n → (e : Described) → slice_get es n ≡ Some e → make e ≡ x → number_of (old ++ map make es) x.sim x.eid ≡ Some i
+      made : (n : ℕ) → i ≡ length old + n → (e : Described) → slice_get es n ≡ Some e → make e ≡ x → entity_number (old ++ map make es) x.sim x.eid ≡ Some i
       made n place e there same =
-          ap (λ (y : EntityInfo). number_of (old ++ map make es) y.sim y.eid) (sym same)
-          ∙ ap (λ s. number_of (old ++ map make es) s (make e).eid) (own_sim e)
-          ∙ ap (number_of (old ++ map make es) sim) (own_eid e)
+          ap (λ (y : EntityInfo). entity_number (old ++ map make es) y.sim y.eid) (sym same)
+          ∙ ap (λ s. entity_number (old ++ map make es) s (make e).eid) (own_sim e)
+          ∙ ap (entity_number (old ++ map make es) sim) (own_eid e)
           ∙ made_found n e there ∙ ap Some (sym place)
 
-      at : (slice_get old i ≡ Some x) ⊎ ((n : ℕ) × (i ≡ length old + n) × (slice_get (map make es) n ≡ Some x)) → number_of (old ++ map make es) x.sim x.eid ≡ Some i
+      at : (slice_get old i ≡ Some x) ⊎ ((n : ℕ) × (i ≡ length old + n) × (slice_get (map make es) n ≡ Some x)) → entity_number (old ++ map make es) x.sim x.eid ≡ Some i
       at (inl h) = there_still (is_named x.sim x.eid) old (map make es) i (found_old i x h)
       at (inr t) = let m = get_map make es t.0 x t.2 in made t.0 t.1 m.0 m.1 m.2

@@ -9,7 +9,7 @@ use Rattle.std.specs.String.{string_bytes}
 use Rattle.mk_base.specs.declared.SimNo.{SimNo}
 use Rattle.mk_base.specs.Lists.{same_text, value_under}
 use Rattle.mk_entities.specs.declared.entities.EntityInfo.{EntityInfo}
-use Rattle.mk_entities.specs.Creation.{is_named, number_of}
+use Rattle.mk_entities.specs.Creation.{is_named, entity_number}
 use Rattle.mk_entities.specs.inner.Making.{number_in}
 use Rattle.mk_entities.specs.inner.Names.{texts_of}
 use Rattle.mk_entities.specs.inner.Tied.{names_at, numbered}
@@ -86,19 +86,19 @@ from_zero None = refl
 from_zero (Some i) = ap Some (omega arith)
 
 module _ (sim : SimNo) (eid : List ℕ) where
-  number_from : (n : ℕ) (es : List EntityInfo) → value_under eid (numbered sim.0 n es) ≡ option_map (λ i. n + i) (number_of es sim eid)
+  number_from : (n : ℕ) (es : List EntityInfo) → value_under eid (numbered sim.0 n es) ≡ option_map (λ i. n + i) (entity_number es sim eid)
   number_from n [] = refl
   number_from n (e ∷ es) = at (e.sim.0 == sim.0) (same_text e.eid eid) refl refl (number_from (suc n) es)
     where
-      at : (b c : Bool) → (e.sim.0 == sim.0) ≡ b → same_text e.eid eid ≡ c → value_under eid (numbered sim.0 (suc n) es) ≡ option_map (λ i. suc n + i) (number_of es sim eid)
-          → value_under eid (if (e.sim.0 == sim.0) then (e.eid, n) ∷ numbered sim.0 (suc n) es else numbered sim.0 (suc n) es) ≡ option_map (λ i. n + i) (number_of (e ∷ es) sim eid)
+      at : (b c : Bool) → (e.sim.0 == sim.0) ≡ b → same_text e.eid eid ≡ c → value_under eid (numbered sim.0 (suc n) es) ≡ option_map (λ i. suc n + i) (entity_number es sim eid)
+          → value_under eid (if (e.sim.0 == sim.0) then (e.eid, n) ∷ numbered sim.0 (suc n) es else numbered sim.0 (suc n) es) ≡ option_map (λ i. n + i) (entity_number (e ∷ es) sim eid)
       at true true own here rest = rw own (rw here (ap Some (omega arith))) ∙ ap (option_map (λ i. n + i)) (sym (place_first (is_named sim eid) e es (rw own here)))
-      at true false own here rest = rw own (rw here (rest ∙ along n (number_of es sim eid))) ∙ ap (option_map (λ i. n + i)) (sym (place_later (is_named sim eid) e es (rw own here)))
-      at false c own here rest = rw own (rest ∙ along n (number_of es sim eid)) ∙ ap (option_map (λ i. n + i)) (sym (place_later (is_named sim eid) e es (rw own refl)))
+      at true false own here rest = rw own (rw here (rest ∙ along n (entity_number es sim eid))) ∙ ap (option_map (λ i. n + i)) (sym (place_later (is_named sim eid) e es (rw own here)))
+      at false c own here rest = rw own (rest ∙ along n (entity_number es sim eid)) ∙ ap (option_map (λ i. n + i)) (sym (place_later (is_named sim eid) e es (rw own refl)))
 
 -- the number that a simulator's names give is that of its first entity with this eid
-pub number_is : (sim : SimNo) (es : List EntityInfo) (eid : List ℕ) → number_in (numbered sim.0 0 es) eid ≡ number_of es sim eid
-number_is sim es eid = number_from sim eid 0 es ∙ from_zero (number_of es sim eid)
+pub number_is : (sim : SimNo) (es : List EntityInfo) (eid : List ℕ) → number_in (numbered sim.0 0 es) eid ≡ entity_number es sim eid
+number_is sim es eid = number_from sim eid 0 es ∙ from_zero (entity_number es sim eid)
 
 -- ---- names by the place of their simulator
 

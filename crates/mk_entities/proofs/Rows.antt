@@ -9,7 +9,7 @@ use Rattle.mk_meta.specs.declared.meta.Meta.{Meta}
 use Rattle.mk_meta.specs.declared.meta.ModelMeta.{ModelMeta}
 use Rattle.mk_entities.specs.declared.entities.EntityInfo.{EntityInfo}
 use Rattle.mk_entities.specs.declared.fault.CreateFault.TheVariants.{Count, NoEid, TwiceEid, OfType, Related}
-use Rattle.mk_entities.specs.Creation.{entities_added, number_of}
+use Rattle.mk_entities.specs.Creation.{entities_added, entity_number}
 
 abbrev model : List ℕ → ModelMeta
 model name = record { name = name; public = true; params = []; attrs = []; any_inputs = false; trigger = []; events = [] }
@@ -51,7 +51,7 @@ unfolding trees_compute
 children_follow = refl
 
 -- an eid is looked for among its simulator's entities
-pub number_by_simulator : number_of nested_added (sim 0) (codes "a") ≡ Some 1
+pub number_by_simulator : entity_number nested_added (sim 0) (codes "a") ≡ Some 1
 number_by_simulator = refl
 
 -- one of two

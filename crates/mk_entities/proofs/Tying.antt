@@ -9,7 +9,7 @@ use Rattle.mk_meta.specs.declared.meta.Meta.{Meta}
 use Rattle.mk_entities.specs.declared.described.Described.{Described}
 use Rattle.mk_entities.specs.declared.entities.EntityInfo.{EntityInfo}
 use Rattle.mk_entities.specs.declared.fault.CreateFault.{CreateFault}
-use Rattle.mk_entities.specs.Creation.{added, drafts, first_entity_fault, first_there, most_entities, number_of, rel_fault, with_entities}
+use Rattle.mk_entities.specs.Creation.{added, drafts, first_entity_fault, first_there, most_entities, entity_number, rel_fault, with_entities}
 use Rattle.mk_entities.specs.Tied.{AreFirst}
 use Rattle.mk_entities.specs.inner.Tied.{IsTied, names_at, numbered}
 use Rattle.mk_entities.proofs.Adding.{numbered_append, numbered_other, same_fault}
@@ -24,10 +24,10 @@ passes (Some e) g x y is = cc
 
 module _ (old new : List EntityInfo) (sim : SimNo) (group : ℕ) (model : List ℕ) (meta : Meta) (es : List Described) (is : with_entities old sim group model meta es ≡ Ok new) where
   abbrev make : Described → EntityInfo
-  make = added (number_of (drafts old sim group es) sim) (length old + length es) sim group
+  make = added (entity_number (drafts old sim group es) sim) (length old + length es) sim group
 
   passed : (first_entity_fault old sim group model meta es ≡ None) × (old ++ map make es ≡ new)
-  passed = passes (first_entity_fault old sim group model meta es) (first_there (map (rel_fault (number_of (drafts old sim group es) sim)) es)) (old ++ map make es) new is
+  passed = passes (first_entity_fault old sim group model meta es) (first_there (map (rel_fault (entity_number (drafts old sim group es) sim)) es)) (old ++ map make es) new is
 
   -- what is added of one simulator leaves the names of another as they are
   others_stay : (s : ℕ) → (sim.0 == s) ≡ false → numbered s 0 new ≡ numbered s 0 old
@@ -40,7 +40,7 @@ module _ (old new : List EntityInfo) (sim : SimNo) (group : ℕ) (model : List �
 
   -- each new entity has what it must have
   sound_again : AreSound old → Each IsNamed es → AreSound new
-  sound_again sound named = subst AreSound passed.1 (still_sound old (number_of (drafts old sim group es) sim) sim group es sound (eids_there (numbered sim.0 0 old) (length old) model meta es (same_fault old sim group model meta es ∙ passed.0) named))
+  sound_again sound named = subst AreSound passed.1 (still_sound old (entity_number (drafts old sim group es) sim) sim group es sound (eids_there (numbered sim.0 0 old) (length old) model meta es (same_fault old sim group model meta es ∙ passed.0) named))
 
 same_or_other : (s i : ℕ) → (s ≡ i) ⊎ ((i == s) ≡ false)
 same_or_other s i = grind arith

@@ -23,8 +23,8 @@ abbrev pub is_named : SimNo → List ℕ → EntityInfo → Bool
 is_named sim eid entity = (entity.sim.0 == sim.0) && same_text entity.eid eid
 
 -- the number of the first entity of the simulator with this eid
-abbrev pub number_of : List EntityInfo → SimNo → List ℕ → Option ℕ
-number_of entities sim eid = position (is_named sim eid) entities
+abbrev pub entity_number : List EntityInfo → SimNo → List ℕ → Option ℕ
+entity_number entities sim eid = position (is_named sim eid) entities
 
 -- the first that is there
 abbrev pub first_there : {X : Type 0} → List (Option X) → Option X
@@ -102,7 +102,7 @@ abbrev pub first_entity_fault : List EntityInfo → SimNo → ℕ → List ℕ �
 first_entity_fault old sim group model meta entities =
     let before : ℕ → List EntityInfo = λ n. take (length old + n) (drafts old sim group entities) in
     first_there (map (λ n.
-    option_and_then (entity_fault (number_of (before n) sim) (length old + n) model meta n)
+    option_and_then (entity_fault (entity_number (before n) sim) (length old + n) model meta n)
     (slice_get entities n)) (range_with_len 0 (length entities)))
 
 -- the reply has as many entities as were asked for
@@ -114,7 +114,7 @@ count_fault num reply = let count : ℕ = length (unwrap_or (items_in reply) [])
 abbrev pub with_entities : List EntityInfo → SimNo → ℕ → List ℕ → Meta → List Described
     → Result (List EntityInfo) CreateFault
 with_entities old sim group model meta entities =
-    let number : List ℕ → Option ℕ = number_of (drafts old sim group entities) sim in
+    let number : List ℕ → Option ℕ = entity_number (drafts old sim group entities) sim in
     unless (first_entity_fault old sim group model meta entities) (
     unless (first_there (map (rel_fault number) entities)) (
     Ok (old ++ map (added number (length old + length entities) sim group) entities)))

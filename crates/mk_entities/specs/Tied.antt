@@ -1,9 +1,9 @@
 -- The eids of each simulator, with the numbers of their entities.
 use Rattle.std.specs.Prelude.{◌≡◌, ℕ, List, Some, slice_get}
 use Rattle.mk_entities.specs.declared.entities.EntityInfo.{EntityInfo}
-use Rattle.mk_entities.specs.Creation.{number_of}
+use Rattle.mk_entities.specs.Creation.{entity_number}
 
 -- each entity is the first of its simulator with its eid
 abbrev pub AreFirst : List EntityInfo → Type 0
 AreFirst entities = (i : ℕ) (entity : EntityInfo) → slice_get entities i ≡ Some entity
-    → number_of entities entity.sim entity.eid ≡ Some i
+    → entity_number entities entity.sim entity.eid ≡ Some i

@@ -1,7 +1,7 @@
 // The entities of all simulators: the list of them, and how replies to `create` add to it.
 ghost use Rattle.std.specs.Prelude.{◌≡◌, ◌<◌, ◌≤◌, [], Some, Ok, Err, length, slice_get, option_map, OnOk, IfErr, ◌⊎◌};
 ghost use Rattle.mk_base.specs.Lists.{BeginsWith};
-ghost use Rattle.mk_entities.specs.Creation.{entities_added, most_entities, number_of};
+ghost use Rattle.mk_entities.specs.Creation.{entities_added, most_entities, entity_number};
 ghost use Rattle.mk_entities.specs.Sound.{AreSound};
 ghost use Rattle.mk_entities.specs.Tied.{AreFirst};
 
@@ -123,14 +123,14 @@ impl Entities {
     pub fn at(&self, i: usize) -> &EntityInfo
         requires { i < length self.now }
         ensures entity { slice_get self.now i ≡ Some result.now }
-        ensures distinct { number_of self.now result.now.sim result.now.eid ≡ Some i }
+        ensures distinct { entity_number self.now result.now.sim result.now.eid ≡ Some i }
     {
         &self.kept[i]
     }
 
     /// The number of the entity of the simulator with this eid.
     pub fn find(&self, sim: SimNo, eid: &str) -> Option<u32>
-        ensures { result ≡ number_of self.now sim eid.now }
+        ensures { result ≡ entity_number self.now sim eid.now }
     {
         match self.names.get(sim.0 as usize) {
             Some(names) => names.get(eid),

@@ -53,11 +53,11 @@ fits_word (negsuc n) h = grind (arith, ints)
 whole_fits : (z : ℤ) → is_in_range (tree.Whole z) ≡ true → FitsWord z
 whole_fits z h = fits_word z (sym (range-Whole z) ∙ h)
 
-is_half : (n : Num) × (number_of (codes "0.5") ≡ Some n) × (made.number_of n ≡ tree.Odd)
+is_half : (n : Num) × (number_of (codes "0.5") ≡ Some n) × (made.tree_of_number n ≡ tree.Odd)
 unfolding serde_json_on_literals
 is_half = (_, refl, refl)
 
-whole_back : (z : ℤ) → FitsWord z → (n : Num) × (number_of (signed_decimal z) ≡ Some n) × (made.number_of n ≡ tree.Whole z)
+whole_back : (z : ℤ) → FitsWord z → (n : Num) × (number_of (signed_decimal z) ≡ Some n) × (made.tree_of_number n ≡ tree.Whole z)
 whole_back (pos n) h = (unsigned n, number_of-decimal n h, refl)
 whole_back (negsuc n) h = (negative (negsuc n), number_of-negative n h, refl)
 

@@ -100,11 +100,11 @@ module _ (p : Parse json.Json) where
     pub members_over : (n : ℕ) (ts r : List Token) → length ts ≤ n → read_key ts ≡ Some (None, r) → converted (λ ms. of_members ms old) (members p n ts) ≡ Some (old, r)
     members_over n ts r enough e = ap (converted (λ ms. of_members ms old)) (members_end p n ts r enough e)
 
-pub number_found : (t : tree.Json) (o : Option Num) → Some t ≡ option_map made.number_of o → (x : Num) × (o ≡ Some x) × (t ≡ made.number_of x)
+pub number_found : (t : tree.Json) (o : Option Num) → Some t ≡ option_map made.tree_of_number o → (x : Num) × (o ≡ Some x) × (t ≡ made.tree_of_number x)
 number_found t None e = absurd (cc)
 number_found t (Some x) e = (x, refl, some_same e)
 
-pub number_missing : (o : Option Num) → None ≡ option_map made.number_of o → o ≡ None
+pub number_missing : (o : Option Num) → None ≡ option_map made.tree_of_number o → o ≡ None
 number_missing None e = refl
 number_missing (Some x) e = absurd (cc)
 

@@ -66,7 +66,7 @@ Fits-then p q f k None h = tt
 Fits-then p q f k (Some x) h = k x h
 
 abbrev number_fits : Num → Bool
-number_fits n = is_in_range (made.number_of n)
+number_fits n = is_in_range (made.tree_of_number n)
 
 float_fits : (sign : Bool) (p : Parts) (b : Bool) → Fits number_fits (if b then Some (float (nearest binary64 sign p)) else None)
 float_fits sign p true = folded-Odd _ _

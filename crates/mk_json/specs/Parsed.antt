@@ -6,17 +6,17 @@ use Rattle.serde_json.specs.Read.{read}
 use Rattle.mk_base.specs.declared.json.Json as tree
 
 -- a number is whole where it is kept as one of 64 bits
-abbrev pub number_of : value.Num → tree.Json
-number_of (value.unsigned n) = tree.Whole (pos n)
-number_of (value.negative z) = tree.Whole z
-number_of (value.float x) = tree.Odd
+abbrev pub tree_of_number : value.Num → tree.Json
+tree_of_number (value.unsigned n) = tree.Whole (pos n)
+tree_of_number (value.negative z) = tree.Whole z
+tree_of_number (value.float x) = tree.Odd
 
 -- the tree of a value of `serde_json`
 abbrev mutual
   pub tree_of : value.Data → tree.Json
   tree_of value.null = tree.Null
   tree_of (value.boolean b) = tree.Bool b
-  tree_of (value.number n) = number_of n
+  tree_of (value.number n) = tree_of_number n
   tree_of (value.string s) = tree.Text s
   tree_of (value.array ds) = tree.List (items_of ds)
   tree_of (value.object ms) = tree.Object (members_of ms)

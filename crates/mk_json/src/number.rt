@@ -1,7 +1,7 @@
 // The tree of a number's text.
 ghost use Rattle.std.specs.Prelude.{◌≡◌, ◌==◌, ◌<◌, length, option_map, slice_index, IsTrue, true, false};
 ghost use Rattle.serde_json.specs.Read as meant;
-ghost use Rattle.mk_json.specs.Parsed.{number_of};
+ghost use Rattle.mk_json.specs.Parsed.{tree_of_number};
 
 use fast_float::Numeral;
 use mk_base::Json;
@@ -10,7 +10,7 @@ use mk_base::Json;
 // is too large for a float.
 #[inline(always)]
 pub fn number(text: &str) -> Option<Json>
-    ensures { result ≡ option_map number_of (meant.number_of text.now) }
+    ensures { result ≡ option_map tree_of_number (meant.number_of text.now) }
 {
     let bytes = text.as_bytes();
     if has_minus(bytes) {
@@ -30,7 +30,7 @@ fn has_minus(bytes: &[u8]) -> bool
 
 #[inline(always)]
 fn unsigned(numeral: &Numeral<'_>) -> Option<Json>
-    ensures { result ≡ option_map number_of (meant.number_from false numeral.now) }
+    ensures { result ≡ option_map tree_of_number (meant.number_from false numeral.now) }
 {
     match numeral.to_u64() {
         Some(n) => Some(Json::Whole(n as i128)),
@@ -40,7 +40,7 @@ fn unsigned(numeral: &Numeral<'_>) -> Option<Json>
 
 #[inline(always)]
 fn negative(numeral: &Numeral<'_>) -> Option<Json>
-    ensures { result ≡ option_map number_of (meant.number_from true numeral.now) }
+    ensures { result ≡ option_map tree_of_number (meant.number_from true numeral.now) }
 {
     if let Some(n) = numeral.to_i64(true) {
         if n < 0 {
@@ -52,7 +52,7 @@ fn negative(numeral: &Numeral<'_>) -> Option<Json>
 
 #[inline(always)]
 fn odd(below_zero: bool, numeral: &Numeral<'_>) -> Option<Json>
-    ensures { result ≡ option_map number_of (meant.float_of below_zero numeral.now) }
+    ensures { result ≡ option_map tree_of_number (meant.float_of below_zero numeral.now) }
 {
     if numeral.to_float::<f64>(below_zero).is_finite() {
         Some(Json::Odd)

@@ -175,7 +175,7 @@ fn content_in(message: &Message) -> Option<&Json> {
 }
 
 // What a success has: a whole number, or that of the only member of the only member; -1 for anything else.
-fn number_of(message: &Message) -> i128 {
+fn success_number(message: &Message) -> i128 {
     match content_in(message) {
         Some(content) => number_in(content),
         None => -1,
@@ -225,7 +225,7 @@ fn is_failure(reply: Result<Message, Mem>, failure: &str) -> bool {
 
 fn is_number(reply: Result<Message, Mem>, number: i128) -> bool {
     match reply {
-        Ok(message) => number_of(&message) == number,
+        Ok(message) => success_number(&message) == number,
         Err(_) => false,
     }
 }

@@ -159,7 +159,7 @@ fn message_at(core: &Core, place: usize) -> &Message
 
 // The number of a message among its simulator's, from 0, up to and with which so many of its
 // entries stand: each item is followed by one message.
-fn number_of(gone: usize) -> u64
+fn message_number(gone: usize) -> u64
     requires { 2 ≤ gone }
     ensures { (n : ℕ) → gone ≡ n + n + 2 → result ≡ n }
 {
@@ -212,7 +212,7 @@ fn repeat(
     ensures same_halt { crew.new.halt ≡ crew.old.halt }
 {
     let kept = message_at(core, at.place);
-    compare(alloc, kept, sim, number_of(at.gone), message)?;
+    compare(alloc, kept, sim, message_number(at.gone), message)?;
     go_on(core, crew, kinds, behind, sim, at.gone, at.id)
 }
 

@@ -43,7 +43,7 @@ fn is_sim(sim: &SimPart, want: (&str, &str)) -> bool {
 }
 
 // The whole number of a parameter, or 0 where there is none.
-fn number_of(params: &Json, name: &str) -> i128 {
+fn parameter_number(params: &Json, name: &str) -> i128 {
     match params.member(name) {
         Some(Json::Whole(number)) => *number,
         _ => 0,
@@ -54,7 +54,7 @@ fn is_group(group: &Group, want: (&str, u32, u32, &str, &str, i128)) -> bool {
     group.id.as_str() == want.0
         && (group.sim.0, group.num) == (want.1, want.2)
         && group.model.as_str() == want.3
-        && number_of(&group.params, want.4) == want.5
+        && parameter_number(&group.params, want.4) == want.5
 }
 
 fn is_whole(place: &Place, group: u32) -> bool {

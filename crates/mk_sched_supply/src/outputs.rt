@@ -1,5 +1,5 @@
 // What the data of a reply give.
-ghost use Rattle.std.specs.Prelude.{◌≡◌, map, true, IfOk, option_map};
+ghost use Rattle.std.specs.Prelude.{◌≡◌, map, IfOk, option_map};
 ghost use Rattle.mk_plan.specs.Turns.{value_for};
 ghost use Rattle.mk_sched_supply.specs.Outputs.{found_values};
 ghost use Rattle.mk_sched_supply.specs.inner.Making.{are_given, is_given};

@@ -15,7 +15,7 @@ use Rattle.mk_entities.specs.declared.entities.EntityInfo.{EntityInfo}
 use Rattle.mk_entities.specs.declared.fault.CreateFault.{CreateFault}
 use Rattle.mk_entities.specs.declared.fault.CreateFault.TheVariants.{NoEid, TwiceEid, OfType, TooMany}
 use Rattle.mk_entities.specs.Creation as creation
-use Rattle.mk_entities.specs.Creation.{added, count_fault, drafts, entities_added, entity_fault, first_entity_fault, first_there, has_type, is_model_of, number_of, rel_fault, with_entities}
+use Rattle.mk_entities.specs.Creation.{added, count_fault, drafts, entities_added, entity_fault, first_entity_fault, first_there, has_type, is_model_of, entity_number, rel_fault, with_entities}
 use Rattle.mk_entities.specs.Descriptions.{reply_entities}
 use Rattle.mk_scenario.specs.declared.parts.Scenario.{Scenario}
 use Rattle.mk_scenario.specs.declared.parts.Group.{Group}
@@ -102,7 +102,7 @@ module _ (old : List EntityInfo) (sim : SimNo) (group num : ℕ) (model : List �
   created es e =
       let ds : List Described = reply_entities reply in
       let a = unless_ok (count_fault num reply) (with_entities old sim group model meta ds) es e in
-      let number : List ℕ → Option ℕ = number_of (drafts old sim group ds) sim in
+      let number : List ℕ → Option ℕ = entity_number (drafts old sim group ds) sim in
       let b = unless_ok (first_entity_fault old sim group model meta ds) (verdicts.unless (first_there (map (rel_fault number) ds)) (Ok (old ++ map (added number (length old + length ds) sim group) ds))) es a.1 in
       let c = unless_ok (first_there (map (rel_fault number) ds)) (Ok (old ++ map (added number (length old + length ds) sim group) ds)) es b.1 in (
         map (added number (length old + length ds) sim group) ds,
@@ -119,7 +119,7 @@ module _ (old : List EntityInfo) (sim : SimNo) (group num : ℕ) (model : List �
       tested : (ds : List Described) → first_entity_fault old sim group model meta ds ≡ None → (i : ℕ) (d : Described) → slice_get ds i ≡ Some d → has_type model meta d ≡ true
       tested ds none i d at =
           let before : ℕ → List EntityInfo = λ n. take (length old + n) (drafts old sim group ds) in
-          let fault : ℕ → Option CreateFault = λ n. option_and_then (entity_fault (number_of (before n) sim) (length old + n) model meta n) (slice_get ds n) in
+          let fault : ℕ → Option CreateFault = λ n. option_and_then (entity_fault (entity_number (before n) sim) (length old + n) model meta n) (slice_get ds n) in
           let below : i < length ds = slice_get_within ds i d at in
           let here : fault i ≡ None = none_there (map fault (range_with_len 0 (length ds))) i (fault i) none (range_get fault 0 (length ds) i below ∙ ap (λ (k : ℕ). Some (fault k)) (nothing i)) in
-          right_type (number_of (before i) sim) (length old + i) i d (sym (ap (λ (o : Option Described). option_and_then (entity_fault (number_of (before i) sim) (length old + i) model meta i) o) at) ∙ here)
+          right_type (entity_number (before i) sim) (length old + i) i d (sym (ap (λ (o : Option Described). option_and_then (entity_fault (entity_number (before i) sim) (length old + i) model meta i) o) at) ∙ here)
