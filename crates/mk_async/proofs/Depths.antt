@@ -19,7 +19,7 @@ use Rattle.mk_base.specs.Tiers.{up_to}
 use Rattle.mk_base.specs.Trees.{nesting, items_in, text_in}
 use Rattle.mk_base.proofs.Lists.{in_filter, none_some, some_same}
 use Rattle.mk_buffers.specs.Standing.{HasValueTexts}
-use Rattle.mk_buffers.proofs.Latest.{latest_in}
+use Rattle.mk_buffers_log.proofs.Latest.{latest_in}
 use Rattle.mk_json.proofs.LevelTests.{keys_of_members, proper-Object}
 use Rattle.mk_json.proofs.OfOutlines.{names_rise-sorted}
 use Rattle.mk_plan.specs.declared.Plan.{Plan}

@@ -12,8 +12,7 @@ use Rattle.mk_plan.specs.declared.Conn.{Conn}
 use Rattle.mk_plan.specs.declared.AsyncPair.{AsyncPair}
 use Rattle.mk_plan.specs.Plans.{owner}
 use Rattle.mk_buffers.specs.Marking.{AreAsking}
-use Rattle.mk_buffers.proofs.Marking.{apart_or_same, get_some}
-use Rattle.mk_buffers.proofs.Rising.{get_any}
+use Rattle.mk_buffers_log.proofs.Places.{apart_or_same, get_any, get_some}
 
 -- those that the first connections go to
 pub record HaveAsked (P : Plan) (n : ℕ) (conns : List Conn) (asks : List Bool) : Type 0 where

@@ -17,12 +17,12 @@ use Rattle.mk_buffers.specs.declared.outlets.Outlet.{Outlet}
 use Rattle.mk_buffers.specs.declared.buffers.Buffers.{Buffers}
 use Rattle.mk_buffers.specs.Bounds.{same_source, sources, comes_late, is_late, late_of, most_kept}
 use Rattle.mk_buffers.specs.Held.{is_key, kept_in}
-use Rattle.mk_buffers.specs.Logs.{is_settled}
+use Rattle.mk_buffers_log.specs.Logs.{is_settled}
 use Rattle.mk_buffers.specs.Standing.{StandFor}
-use Rattle.mk_buffers.proofs.Ascending.{and_is}
+use Rattle.mk_buffers_log.proofs.Ascending.{and_is}
 use Rattle.mk_buffers.proofs.Collecting.{key_of}
-use Rattle.mk_buffers.proofs.Fitting.{AreApart, fitting, sum_ones}
-use Rattle.mk_buffers.proofs.Keeping.{implied}
+use Rattle.mk_buffers_log.proofs.Fitting.{AreApart, fitting, sum_ones}
+use Rattle.mk_buffers_log.proofs.Keeping.{implied}
 use Rattle.mk_buffers.proofs.Standing.{eq_from, same_from, both_from}
 
 sum_le : {X : Type 0} (f g : X → ℕ) (xs : List X) → ((x : X) → IsIn x xs → f x ≤ g x) → sum_by f xs ≤ sum_by g xs

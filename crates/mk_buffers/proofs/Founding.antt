@@ -39,7 +39,7 @@ use Rattle.std.specs.List.{sum_by}
 use Rattle.mk_plan.specs.Deliveries.{Timed}
 use Rattle.mk_buffers.specs.declared.outlets.Part.{Part}
 use Rattle.mk_buffers.specs.Bounds.{HasShape}
-use Rattle.mk_buffers.specs.Logs.{IsFew}
+use Rattle.mk_buffers_log.specs.Logs.{IsFew}
 use Rattle.mk_buffers.proofs.Naming.{owner_there}
 use Rattle.mk_buffers.proofs.Collecting.{outlets_total, key_of}
 use Rattle.mk_buffers.proofs.Aligning.{aligned}

@@ -8,7 +8,7 @@ use Rattle.mk_plan.specs.Deliveries.{Supply, Gift}
 use Rattle.std.proofs.lemmas.Slice.Eq.{bytes_eq-Decides}
 use Rattle.mk_buffers.specs.declared.buffers.Buffers.{Buffers}
 use Rattle.mk_buffers.specs.declared.buffers.Home.{Home}
-use Rattle.mk_buffers.specs.Logs.{AnswersFrom}
+use Rattle.mk_buffers_log.specs.Logs.{AnswersFrom}
 use Rattle.std.specs.Prelude.{option_and_then}
 use Rattle.mk_base.specs.Tiers.{moment}
 use Rattle.mk_base.specs.Data.{IsValueText}
@@ -20,7 +20,7 @@ use Rattle.mk_buffers.specs.Held.{has_key, with_gift}
 use Rattle.mk_buffers.specs.Standing.{StandFor, HasValueTexts, AreGifts, IsSourced, mark_of}
 use Rattle.mk_buffers.specs.inner.Standing.{HasSet, TargetOf}
 use Rattle.mk_buffers.specs.Marking.{Marked, IsLeastMark}
-use Rattle.mk_buffers.proofs.Marking.{apart_or_same}
+use Rattle.mk_buffers_log.proofs.Places.{apart_or_same}
 use Rattle.mk_base.proofs.Lists.{get_is}
 use Rattle.mk_buffers.specs.declared.gifts.Target.{Target}
 use Rattle.mk_buffers.proofs.Slots.{answer_apart, answer_taken}

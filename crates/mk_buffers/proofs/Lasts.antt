@@ -8,10 +8,10 @@ use Rattle.mk_base.proofs.TierOrder.{up_to_trans}
 use Rattle.mk_base.proofs.Lists.{filter_append}
 use Rattle.mk_plan.specs.Deliveries.{Timed}
 use Rattle.mk_plan.specs.Inputs.{is_since}
-use Rattle.mk_buffers.specs.Logs.{within}
+use Rattle.mk_buffers_log.specs.Logs.{within}
 use Rattle.mk_buffers.specs.Slots.{or_before, last_of, last_within, SameLast}
 use Rattle.mk_buffers.specs.inner.Slots.{TakesLast}
-use Rattle.mk_buffers.proofs.Ascending.{since_later}
+use Rattle.mk_buffers_log.proofs.Ascending.{since_later}
 
 -- the first of two that is there
 abbrev pub or_last : Option Timed → Option Timed → Option Timed

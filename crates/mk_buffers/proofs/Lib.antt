@@ -1,12 +1,6 @@
 pub mod FullIds
 pub mod Putting
-pub mod Latest
-pub mod Ascending
-pub mod Keeping
-pub mod Fitting
-pub mod Sparing
 pub mod Marking
-pub mod Answering
 pub mod Lasts
 pub mod Slots
 pub mod Asking
@@ -25,4 +19,3 @@ pub mod Picking
 pub mod Gathering
 pub mod Aligning
 pub mod Founding
-pub mod Walking

@@ -6,25 +6,7 @@ use Rattle.mk_base.proofs.TierOrder.{up_to_self, up_to_total, up_to_trans, up_to
 use Rattle.mk_base.proofs.Lists.{some_same, below_get, get_is, set_here, set_else, length_set}
 use Rattle.mk_buffers.specs.Marking.{Marked, IsLow, IsLeastMark, greater}
 use Rattle.mk_buffers.specs.inner.Marking.{AreStarts, IsLeastOf, IsNoneOf, IsBest, Raised, HoldsLeast}
-
-pub get_some : {X : Type 0} (xs : List X) (i : ℕ) (d : X) → i < length xs → d ≡ get_or xs i d → slice_get xs i ≡ Some d
-get_some [] i d there is = absurd (omega arith)
-get_some (x ∷ xs) zero d there is = ap Some (sym is)
-get_some (x ∷ xs) (suc i) d there is = get_some xs i d (omega arith) is
-
-pub get_or_some : {X : Type 0} (xs : List X) (i : ℕ) (d : X) → i < length xs → slice_get xs i ≡ Some (get_or xs i d)
-get_or_some [] i d there = absurd (omega arith)
-get_or_some (x ∷ xs) zero d there = refl
-get_or_some (x ∷ xs) (suc i) d there = get_or_some xs i d (omega arith)
-
-pub apart_or_same : (i j : ℕ) → (i ≡ j) ⊎ (i ≢ j)
-apart_or_same i j = elim (compared i j) [ inl less ↦ inr (λ e. omega arith) | inr more ↦ elim more [ inl same ↦ inl same | inr greater ↦ inr (λ e. omega arith) ] ]
-  where
-    compared : (i j : ℕ) → (i < j) ⊎ ((i ≡ j) ⊎ (j < i))
-    compared i j = grind arith
-
-pub below_or_same : (s n : ℕ) → s < n + 1 → (s ≡ n) ⊎ (s < n)
-below_or_same s n h = grind arith
+use Rattle.mk_buffers_log.proofs.Places.{apart_or_same, below_or_same, get_some}
 
 pub low_lifted : (marks : List Tier) (asks : List Bool) (least : Tier) (sim : ℕ) (x : Tier) → IsLow marks asks least → sim < length marks → ((m : Tier) → slice_get marks sim ≡ Some m → IsUpTo m x) → IsLow (slice_set marks sim x) asks least
 low_lifted marks asks least sim x low there higher s m asking is = elim (apart_or_same s sim) [

@@ -22,12 +22,12 @@ use Rattle.mk_plan.specs.Inputs.{input_order, gift_input, is_since}
 use Rattle.mk_order.proofs.Assembled.{else_by, last_with}
 use Rattle.mk_order.proofs.GivenValues.{is_for}
 use Rattle.mk_buffers.specs.declared.sets.Slot.{Slot}
-use Rattle.mk_buffers.specs.Logs.{within}
+use Rattle.mk_buffers_log.specs.Logs.{within}
 use Rattle.mk_buffers.specs.Slots.{input_in, same_key, or_before, last_of, last_within, held_for, given_for, SameLast, AnswerGifts}
 use Rattle.mk_buffers.specs.inner.Slots.{slot_order, set_inputs, TakesLast, HaveTaken, HasTakenAt, HasInserted}
 use Rattle.mk_buffers.proofs.Lasts.{or_last, last_filtered}
 use Rattle.mk_plan_judge.proofs.Putting.{put_found, put_unfound}
-use Rattle.mk_buffers.proofs.Marking.{get_some}
+use Rattle.mk_buffers_log.proofs.Places.{get_some}
 use Rattle.mk_buffers.proofs.Rising.{then_equal, all_of}
 
 pub slots_total : IsTotalOrder slot_order

@@ -18,7 +18,7 @@ use Rattle.mk_buffers.specs.declared.buffers.Home.{Home}
 use Rattle.std.specs.List.{sum_by}
 use Rattle.std.proofs.lemmas.List.Sums.{sum_by-cons}
 use Rattle.mk_buffers.specs.Bounds.{HasShape}
-use Rattle.mk_buffers.specs.Logs.{AnswersFrom, IsAmong, IsFew, StaysFew, by}
+use Rattle.mk_buffers_log.specs.Logs.{AnswersFrom, IsAmong, IsFew, StaysFew, by}
 use Rattle.std.specs.Prelude.{IfNone, IfSome, ◌≤◌}
 use Rattle.mk_base.specs.Tiers.{moment}
 use Rattle.mk_base.specs.Data.{IsValueText}
@@ -36,12 +36,12 @@ use Rattle.mk_buffers.specs.inner.Marking.{Raised}
 use Rattle.mk_base.specs.Tiers.{up_to}
 use Rattle.mk_base.proofs.TierOrder.{up_to_self, up_to_total}
 use Rattle.mk_base.proofs.Lists.{get_is, below_get, none_some, in_filter}
-use Rattle.mk_buffers.proofs.Latest.{latest_in}
-use Rattle.mk_buffers.proofs.Marking.{apart_or_same, get_some}
-use Rattle.mk_buffers.proofs.Answering.{answers_trans, answers_later}
-use Rattle.mk_buffers.proofs.Ascending.{answers_self}
+use Rattle.mk_buffers_log.proofs.Latest.{latest_in}
+use Rattle.mk_buffers_log.proofs.Places.{apart_or_same, get_some}
+use Rattle.mk_buffers_log.proofs.Answering.{answers_trans, answers_later}
+use Rattle.mk_buffers_log.proofs.Ascending.{answers_self}
 use Rattle.mk_buffers.proofs.Lasts.{same_self, same_later}
-use Rattle.mk_buffers.proofs.Keeping.{among_self, among_trans, among_more}
+use Rattle.mk_buffers_log.proofs.Keeping.{among_self, among_trans, among_more}
 use Rattle.mk_buffers.proofs.Tight.{swept_same, swept_at, swept_less, shape_same, sum_set}
 
 module _ (until : ℤ) (mark : Tier) where

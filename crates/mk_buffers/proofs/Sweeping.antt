@@ -7,11 +7,11 @@ use Rattle.mk_buffers.specs.declared.outlets.Outlet.{Outlet}
 use Rattle.mk_buffers.specs.declared.outlets.Part.{Part}
 use Rattle.mk_buffers.specs.declared.buffers.Buffers.{Buffers}
 use Rattle.mk_buffers.specs.inner.Held.{AreThinned, IsThinned}
-use Rattle.mk_buffers.specs.Logs.{IsFew, StaysFew, is_due}
+use Rattle.mk_buffers_log.specs.Logs.{IsFew, StaysFew, is_due}
 use Rattle.mk_buffers.specs.Standing.{IsSwept, next_of}
 use Rattle.mk_buffers.specs.inner.Standing.{IsPartSwept, IsSweptAt, IsLookedAgain, IsNoted, HasNoted, HasThinned}
-use Rattle.mk_buffers.proofs.Marking.{apart_or_same, below_or_same}
-use Rattle.mk_buffers.proofs.Keeping.{few_among}
+use Rattle.mk_buffers_log.proofs.Places.{apart_or_same, below_or_same}
+use Rattle.mk_buffers_log.proofs.Keeping.{few_among}
 use Rattle.mk_buffers.proofs.Standing.{thinned_at}
 use Rattle.mk_buffers.proofs.Tight.{next_here, next_else}
 

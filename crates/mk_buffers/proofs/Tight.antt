@@ -10,10 +10,10 @@ use Rattle.mk_base.proofs.Lists.{some_same, set_here, set_else, below_get}
 use Rattle.mk_plan.specs.declared.Plan.{Plan}
 use Rattle.mk_buffers.specs.declared.outlets.Outlet.{Outlet}
 use Rattle.mk_buffers.specs.declared.buffers.Buffers.{Buffers}
-use Rattle.mk_buffers.specs.Logs.{IsFew, StaysFew, is_due}
+use Rattle.mk_buffers_log.specs.Logs.{IsFew, StaysFew, is_due}
 use Rattle.mk_buffers.specs.Bounds.{HasShape}
 use Rattle.mk_buffers.specs.Standing.{IsSwept, next_of}
-use Rattle.mk_buffers.proofs.Marking.{below_or_same}
+use Rattle.mk_buffers_log.proofs.Places.{below_or_same}
 
 get_past : {X : Type 0} (xs : List X) (i : ℕ) → length xs ≤ i → slice_get xs i ≡ None
 get_past [] i h = refl

@@ -11,7 +11,7 @@ use Rattle.mk_buffers.specs.declared.outlets.Source.{Source}
 use Rattle.mk_buffers.specs.declared.inlets.Target.{Target}
 use Rattle.mk_buffers.specs.inner.Building.{AreSources}
 use Rattle.mk_buffers.specs.inner.Listing.{AreTargets}
-use Rattle.mk_buffers.proofs.Marking.{get_some}
+use Rattle.mk_buffers_log.proofs.Places.{get_some}
 use Rattle.mk_base.specs.contracts.tier.ViaPartialEq as same
 
 pub same_via : (v w : Via) → same.TheImpl.ghosts.eq v w ≡ true → v ≡ w

@@ -1,4 +1,3 @@
-pub mod Logs
 pub mod Marking
 pub mod Held
 pub mod Slots

@@ -10,7 +10,7 @@ use Rattle.mk_plan.specs.Plans.{owner}
 use Rattle.mk_plan.specs.Deliveries.{Timed, Gift}
 use Rattle.mk_plan.specs.Inputs.{input_order, gift_input}
 use Rattle.mk_buffers.specs.declared.sets.Slot.{Slot}
-use Rattle.mk_buffers.specs.Logs.{within}
+use Rattle.mk_buffers_log.specs.Logs.{within}
 
 -- the input that a slot makes of a value
 abbrev pub input_in : Slot → List ℕ → Input

@@ -23,7 +23,7 @@ use Rattle.mk_plan.specs.Deliveries.{Timed, Gift, Supply}
 use Rattle.mk_buffers.specs.declared.outlets.Outlet.{Outlet}
 use Rattle.mk_buffers.specs.declared.buffers.Buffers.{Buffers}
 use Rattle.mk_buffers.specs.declared.buffers.Home.{Home}
-use Rattle.mk_buffers.specs.Logs.{AnswersFrom, IsAmong, IsFew, StaysFew, arrivals, by}
+use Rattle.mk_buffers_log.specs.Logs.{AnswersFrom, IsAmong, IsFew, StaysFew, arrivals, by}
 use Rattle.mk_buffers.specs.Listing.{inlet_order}
 use Rattle.mk_buffers.specs.Bounds.{HasShape}
 use Rattle.mk_buffers.specs.Marking.{AreAsking, IsLeastMark, greater}

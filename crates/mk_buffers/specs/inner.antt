@@ -3,7 +3,6 @@ pub mod Beginning
 pub mod Building
 pub mod Held
 pub mod Listing
-pub mod Logs
 pub mod Marking
 pub mod Slots
 pub mod Standing

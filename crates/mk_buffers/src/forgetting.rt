@@ -3,7 +3,7 @@ ghost use Rattle.std.specs.Prelude.{◌≡◌, ◌+◌, ◌<◌, length, false};
 ghost use Rattle.mk_base.specs.declared.tier.Tier.{Tier};
 ghost use Rattle.mk_plan.specs.declared.Plan.{Plan};
 ghost use Rattle.mk_plan.specs.Deliveries.{Supply};
-ghost use Rattle.mk_buffers.specs.Logs.{is_due};
+ghost use Rattle.mk_buffers_log.specs.Logs.{is_due};
 ghost use Rattle.mk_buffers.specs.inner.Marking.{Raised};
 
 use crate::buffers::Buffers;

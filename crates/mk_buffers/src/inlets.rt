@@ -9,10 +9,10 @@ ghost use Rattle.mk_buffers.specs.inner.Building.{AreRising};
 ghost use Rattle.mk_buffers.specs.Held.{input_of};
 ghost use Rattle.mk_buffers.specs.inner.Listing.{IsTarget, AreTargets, IsInletOf, AreListed, ComesNext, target_order};
 
-use crate::delays::Delay;
 use crate::names::full_id;
 use crate::sorted::{input_named, or_texts};
 use mk_base::{Datum, Mem, Text};
+use mk_buffers_log::Delay;
 use mk_plan::{Conn, Input, Plan};
 use mk_plan_judge::owner;
 use std::alloc::Global;

@@ -3,14 +3,11 @@
 #![tactic(auto)]
 
 mod buffers;
-mod delays;
 mod delivering;
 mod forgetting;
 mod gifts;
 mod inlets;
 mod laws;
-mod log;
-mod made;
 mod marks;
 mod names;
 mod outlets;

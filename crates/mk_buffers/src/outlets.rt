@@ -11,11 +11,9 @@ ghost use Rattle.mk_buffers.specs.declared.outlets.Outlet.{Outlet};
 ghost use Rattle.mk_buffers.specs.Held.{has_key, is_key};
 ghost use Rattle.mk_buffers.specs.inner.Building.{AreRising, IsOutletOf, IsSource, HasSources, AreSources, AreOutlets, AreParts, IsPartOf, IsNext, HasReached, HasAdded, HasVia, HasJoined, reached, source_order};
 
-use crate::delays::Delay;
-use crate::log::Log;
-use crate::made::Made;
 use crate::sorted::or_texts;
 use mk_base::{Datum, Mem, Text, Tier, Via};
+use mk_buffers_log::{Delay, Log, Made};
 use mk_plan::{Conn, Plan};
 use mk_plan_judge::owner;
 use std::alloc::Global;
@@ -33,7 +31,7 @@ pub struct Outlet {
 
 impl Outlet {
     ghost use Rattle.mk_buffers.specs.inner.Held.{HasTaken, IsThinned};
-    ghost use Rattle.mk_buffers.specs.Logs.{IsFew, StaysFew};
+    ghost use Rattle.mk_buffers_log.specs.Logs.{IsFew, StaysFew};
 
     // Takes one more output, and gives up what no question at or after the mark can reach.
     pub fn take_in(&mut self, at: Tier, value: Datum, until: &i64, mark: Tier) -> Result<(), Mem>

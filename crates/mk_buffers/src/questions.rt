@@ -5,16 +5,15 @@ ghost use Rattle.mk_plan.specs.declared.Plan.{Plan};
 ghost use Rattle.mk_plan.specs.Asks.{gives_attr};
 ghost use Rattle.mk_plan.specs.Deliveries.{Supply};
 ghost use Rattle.mk_plan.specs.Inputs.{latest, value_at, inputs};
-ghost use Rattle.mk_buffers.specs.Logs.{by, arrival};
+ghost use Rattle.mk_buffers_log.specs.Logs.{by, arrival};
 ghost use Rattle.mk_base.specs.Data.{IsValueText};
 ghost use Rattle.mk_buffers.specs.Held.{since_for, initial_for};
 
 use crate::buffers::Buffers;
-use crate::delays::is_since;
 use crate::inlets::{Inlet, input_of};
-use crate::made::Made;
 use crate::outlets::Outlet;
 use mk_base::{Datum, List, Mem, SimNo, Text, Tier};
+use mk_buffers_log::{Made, is_since};
 use mk_plan::Input;
 
 impl Buffers {

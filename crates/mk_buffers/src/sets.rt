@@ -3,14 +3,14 @@ ghost use Rattle.std.specs.Prelude.{◌≡◌, ◌+◌, ◌<◌, ◌≤◌, ◌&
 ghost use Rattle.std.specs.List.Sorted.{IsStrictlySortedBy, IsBinarySearchResult, IsSearchInRange};
 ghost use Rattle.mk_base.specs.Tiers.{up_to};
 ghost use Rattle.mk_plan.specs.Inputs.{input_order, put_all};
-ghost use Rattle.mk_buffers.specs.Logs.{within};
+ghost use Rattle.mk_buffers_log.specs.Logs.{within};
 ghost use Rattle.std.specs.List.{remove};
 ghost use Rattle.mk_buffers.specs.Slots.{SameLast, last_within};
 ghost use Rattle.mk_buffers.specs.inner.Slots.{HasInserted, HasTakenAt, TakesLast, slot_order};
 
-use crate::delays::is_since;
 use crate::sorted::{input_named, or_texts, put_input};
 use mk_base::{Datum, List, Mem, Text, Tier};
+use mk_buffers_log::is_since;
 use mk_plan::Input;
 use std::alloc::Global;
 use std::cmp::Ordering;

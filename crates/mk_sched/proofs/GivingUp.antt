@@ -25,7 +25,7 @@ use Rattle.mk_sched_open.specs.Sims.{AreSimsOf}
 use Rattle.mk_buffers.specs.Bounds.{most_kept}
 use Rattle.mk_buffers.specs.Marking.{Marked, greater}
 use Rattle.mk_buffers.specs.Standing.{HasSameMarks, least_mark, mark_of, outputs_held}
-use Rattle.mk_buffers.proofs.Marking.{apart_or_same}
+use Rattle.mk_buffers_log.proofs.Places.{apart_or_same}
 use Rattle.mk_sched_supply.specs.declared.stock.Stock.{Stock}
 use Rattle.mk_sched_supply.specs.Stock.{IsStockOf}
 use Rattle.mk_sched_supply.proofs.Holding.{most_at}

@@ -19,8 +19,8 @@ use Rattle.mk_buffers.specs.declared.buffers.Buffers.{Buffers}
 use Rattle.mk_buffers.specs.Bounds.{same_source, sources, comes_late, is_late, late_of, most_kept}
 use Rattle.mk_buffers.specs.Marking.{asks_of}
 use Rattle.mk_buffers.specs.Standing.{StandFor, least_mark, mark_of}
-use Rattle.mk_buffers.proofs.Ascending.{and_both, and_is}
-use Rattle.mk_buffers.proofs.Keeping.{implied}
+use Rattle.mk_buffers_log.proofs.Ascending.{and_both, and_is}
+use Rattle.mk_buffers_log.proofs.Keeping.{implied}
 use Rattle.mk_buffers.proofs.Standing.{same_from}
 use Rattle.mk_sched_supply.specs.declared.stock.Stock.{Stock}
 use Rattle.mk_sched_supply.specs.Stock.{IsStockOf}

@@ -3,7 +3,7 @@ use Rattle.std.specs.Prelude.{◌≡◌, ℕ, ◌<◌, ℤ, true, List, [], ◌�
 use Rattle.mk_base.specs.declared.tier.Tier.{Tier}
 use Rattle.mk_plan.specs.Deliveries.{Timed}
 use Rattle.mk_buffers.specs.declared.outlets.Outlet.{Outlet}
-use Rattle.mk_buffers.specs.Logs.{AnswersFrom, IsAmong}
+use Rattle.mk_buffers_log.specs.Logs.{AnswersFrom, IsAmong}
 use Rattle.mk_buffers.specs.Held.{has_key}
 
 -- an outlet whose outputs answer as before, from the mark on

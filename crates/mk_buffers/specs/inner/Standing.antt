@@ -14,7 +14,7 @@ use Rattle.mk_plan.specs.Deliveries.{Timed, Gift}
 use Rattle.mk_buffers.specs.declared.outlets.Outlet.{Outlet}
 use Rattle.mk_buffers.specs.declared.buffers.Buffers.{Buffers}
 use Rattle.mk_buffers.specs.declared.buffers.Home.{Home}
-use Rattle.mk_buffers.specs.Logs.{IsFew, StaysFew, is_due}
+use Rattle.mk_buffers_log.specs.Logs.{IsFew, StaysFew, is_due}
 use Rattle.mk_buffers.specs.inner.Slots.{HaveTaken}
 use Rattle.mk_buffers.specs.inner.Held.{AreThinned, HasTaken}
 use Rattle.mk_buffers.specs.Standing.{next_of, given, mark_of, last_for}

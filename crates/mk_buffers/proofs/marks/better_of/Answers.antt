@@ -1,7 +1,8 @@
 use Rattle.std.proofs.Common.{arith, pos, sym, subst, ap, ◌∙◌, Option, Some, false, ℕ, get_or}
 use Rattle.mk_base.specs.declared.tier.Tier.{Tier}
 use Rattle.mk_buffers.specs.inner.Marking.{IsBest, IsLeastOf}
-use Rattle.mk_buffers.proofs.Marking.{get_or_some, next_best, kept_best}
+use Rattle.mk_buffers.proofs.Marking.{next_best, kept_best}
+use Rattle.mk_buffers_log.proofs.Places.{get_or_some}
 use Rattle.mk_buffers.proofs.marks.better_of.Goals as goal
 
 pub returns-then-is_up_to : goal.returns-then-is_up_to

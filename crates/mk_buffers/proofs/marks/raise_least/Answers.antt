@@ -1,7 +1,8 @@
 use Rattle.std.proofs.Common.{arith, pos, refl, sym, subst, ◌∙◌, get_or, length}
 use Rattle.mk_base.specs.declared.tier.Tier.{Tier}
 use Rattle.mk_buffers.specs.inner.Marking.{HoldsLeast, IsBest, IsLeastOf}
-use Rattle.mk_buffers.proofs.Marking.{get_or_some, low_is, low_least, holds_best, holds_none}
+use Rattle.mk_buffers.proofs.Marking.{low_is, low_least, holds_best, holds_none}
+use Rattle.mk_buffers_log.proofs.Places.{get_or_some}
 use Rattle.mk_buffers.proofs.marks.raise_least.Goals as goal
 
 pub returns-then-is_up_to-clause-holds : goal.returns-then-is_up_to-clause-holds

@@ -1,7 +1,7 @@
 use Rattle.std.proofs.Common.{sym, subst, ◌∙◌}
 use Rattle.mk_base.specs.Lists.{IsIn}
 use Rattle.mk_base.proofs.Lists.{at_in}
-use Rattle.mk_buffers.proofs.Marking.{get_some}
+use Rattle.mk_buffers_log.proofs.Places.{get_some}
 use Rattle.mk_buffers.proofs.Vias.{same_via}
 use Rattle.mk_buffers.proofs.outlets.has_via.Goals as goal
 

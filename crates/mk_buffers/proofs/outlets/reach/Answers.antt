@@ -2,7 +2,7 @@ use Rattle.std.proofs.Common.{refl, sym, ap, ◌∙◌, arith, Some}
 use Rattle.mk_base.proofs.Lists.{some_same, set_here, set_else, length_set, get_is}
 use Rattle.mk_buffers.specs.declared.outlets.Part.{Part}
 use Rattle.mk_buffers.specs.inner.Building.{reached}
-use Rattle.mk_buffers.proofs.Marking.{get_some}
+use Rattle.mk_buffers_log.proofs.Places.{get_some}
 use Rattle.mk_buffers.proofs.outlets.reach.Goals as goal
 
 pub returns-then-part-len : goal.returns-then-part-len

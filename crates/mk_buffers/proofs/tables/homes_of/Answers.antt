@@ -1,7 +1,7 @@
 use Rattle.std.proofs.Common.{[], arith, sym, ap, ◌∙◌, Option, option_map, unwrap_or}
 use Rattle.mk_plan.specs.declared.PlanEntity.{PlanEntity}
 use Rattle.mk_buffers.proofs.Founding.{homes_more}
-use Rattle.mk_buffers.proofs.Marking.{get_or_some}
+use Rattle.mk_buffers_log.proofs.Places.{get_or_some}
 use Rattle.mk_buffers.proofs.tables.homes_of.Goals as goal
 
 pub loop-place-preserved : goal.loop-place-preserved

@@ -1,5 +1,5 @@
 use Rattle.std.proofs.Common.{sym, ap, ◌∙◌, slice_get}
-use Rattle.mk_buffers.proofs.Marking.{get_some}
+use Rattle.mk_buffers_log.proofs.Places.{get_some}
 use Rattle.mk_buffers.proofs.buffers.Buffers.first_outlet.Goals as goal
 
 pub returns-in-Some : goal.returns-in-Some

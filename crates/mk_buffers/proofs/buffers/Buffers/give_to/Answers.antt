@@ -6,7 +6,7 @@ use Rattle.mk_plan.specs.Deliveries.{Timed}
 use Rattle.mk_buffers.specs.declared.sets.Slot.{Slot}
 use Rattle.mk_buffers.specs.Slots.{input_in}
 use Rattle.mk_buffers.specs.inner.Slots.{HaveTaken}
-use Rattle.mk_buffers.proofs.Marking.{get_some}
+use Rattle.mk_buffers_log.proofs.Places.{get_some}
 use Rattle.mk_buffers.proofs.buffers.Buffers.give_to.Goals as goal
 
 pub returns-clause-ok : goal.returns-clause-ok

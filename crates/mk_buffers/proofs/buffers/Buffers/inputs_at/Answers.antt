@@ -1,5 +1,5 @@
 use Rattle.std.proofs.Common.{arith}
-use Rattle.mk_buffers.proofs.Marking.{get_some}
+use Rattle.mk_buffers_log.proofs.Places.{get_some}
 use Rattle.mk_buffers.proofs.Gathering.{from_mark, gathered_sorted, inputs_are}
 use Rattle.mk_buffers.proofs.buffers.Buffers.inputs_at.Goals as goal
 

@@ -5,8 +5,8 @@ use mir.Val.{to_z, of_z}
 use Rattle.std.specs.Prelude.{option_and_then}
 use Rattle.mk_plan.specs.Inputs.{latest}
 use Rattle.mk_buffers.specs.declared.outlets.Outlet.{Outlet}
-use Rattle.mk_buffers.specs.Logs.{arrivals, by}
-use Rattle.mk_buffers.proofs.Marking.{get_some}
+use Rattle.mk_buffers_log.specs.Logs.{arrivals, by}
+use Rattle.mk_buffers_log.proofs.Places.{get_some}
 use Rattle.mk_buffers.proofs.buffers.Buffers.last_for.Goals as goal
 
 pub returns-in-Some : goal.returns-in-Some

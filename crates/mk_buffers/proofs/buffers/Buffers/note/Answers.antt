@@ -1,7 +1,7 @@
 use Rattle.std.proofs.Common.{sym, ap, subst, ◌∙◌, refl, Option}
 use Rattle.mk_base.specs.declared.tier.Tier.{Tier}
-use Rattle.mk_buffers.specs.Logs.{IsFew, StaysFew, is_due}
-use Rattle.mk_buffers.proofs.Marking.{get_some}
+use Rattle.mk_buffers_log.specs.Logs.{IsFew, StaysFew, is_due}
+use Rattle.mk_buffers_log.proofs.Places.{get_some}
 use Rattle.mk_buffers.proofs.Sweeping.{noted_here}
 use Rattle.mk_buffers.proofs.buffers.Buffers.note.Goals as goal
 

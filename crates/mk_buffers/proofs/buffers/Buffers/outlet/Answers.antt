@@ -1,7 +1,7 @@
 use Rattle.std.proofs.Common.{sym, ap, ◌∙◌, subst, slice_get}
 use Rattle.std.specs.Prelude.{IfSome}
 use Rattle.mk_buffers.specs.inner.Held.{IsKeyAt}
-use Rattle.mk_buffers.proofs.Marking.{get_some}
+use Rattle.mk_buffers_log.proofs.Places.{get_some}
 use Rattle.mk_buffers.proofs.Standing.{keyless}
 use Rattle.mk_buffers.proofs.buffers.Buffers.outlet.Goals as goal
 

@@ -1,8 +1,8 @@
 use Rattle.std.proofs.Common.{subst}
 use Rattle.mk_base.specs.declared.tier.Tier.{Tier}
 use Rattle.mk_buffers.specs.inner.Held.{HasTaken}
-use Rattle.mk_buffers.specs.Logs.{IsFew}
-use Rattle.mk_buffers.proofs.Marking.{get_some}
+use Rattle.mk_buffers_log.specs.Logs.{IsFew}
+use Rattle.mk_buffers_log.proofs.Places.{get_some}
 use Rattle.mk_base.proofs.Lists.{set_here}
 use Rattle.mk_buffers.proofs.buffers.Buffers.take_in.Goals as goal
 

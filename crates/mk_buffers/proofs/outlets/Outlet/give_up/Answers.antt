@@ -1,6 +1,6 @@
 use Rattle.std.proofs.Common.{refl, subst, List}
 use Rattle.mk_base.specs.declared.tier.Via.{Via}
-use Rattle.mk_buffers.specs.Logs.{AnswersFrom, IsFew}
+use Rattle.mk_buffers_log.specs.Logs.{AnswersFrom, IsFew}
 use Rattle.mk_buffers.proofs.outlets.Outlet.give_up.Goals as goal
 
 pub returns-clause-thinned : goal.returns-clause-thinned

@@ -1,6 +1,6 @@
 use Rattle.std.proofs.Common.{subst, List}
 use Rattle.mk_base.specs.declared.tier.Via.{Via}
-use Rattle.mk_buffers.specs.Logs.{IsFew, StaysFew}
+use Rattle.mk_buffers_log.specs.Logs.{IsFew, StaysFew}
 use Rattle.mk_buffers.proofs.outlets.Outlet.next_mark.Goals as goal
 
 pub returns : goal.returns

@@ -1,6 +1,6 @@
 use Rattle.std.proofs.Common.{◌≡◌, refl, subst, ap, ◌∙◌, arith, ◌-◌, slice_set, slice_get}
 use Rattle.mk_buffers.specs.inner.Building.{HasVia}
-use Rattle.mk_buffers.proofs.Rising.{get_any}
+use Rattle.mk_buffers_log.proofs.Places.{get_any}
 use Rattle.mk_buffers.proofs.outlets.Outlets.join.Goals as goal
 
 pub returns-then-source-len : goal.returns-then-source-len

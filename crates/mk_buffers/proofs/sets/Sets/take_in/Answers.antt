@@ -2,7 +2,7 @@ use Rattle.std.proofs.Common.{sym, subst}
 use Rattle.std.specs.List.Sorted.{IsStrictlySortedBy}
 use Rattle.mk_plan_judge.proofs.Putting.{on_ok}
 use Rattle.mk_buffers.specs.inner.Slots.{slot_order}
-use Rattle.mk_buffers.proofs.Putting.{either_way}
+use Rattle.mk_buffers_log.proofs.Places.{either_way}
 use Rattle.mk_buffers.proofs.Slots.{taken_at, inserted_at}
 use Rattle.mk_buffers.proofs.sets.Sets.take_in.Goals as goal
 

@@ -1,5 +1,5 @@
 use Rattle.std.proofs.Common.{◌≡◌, ◌≤◌, false, length, filter, take}
-use Rattle.mk_buffers.specs.Logs.{within}
+use Rattle.mk_buffers_log.specs.Logs.{within}
 use Rattle.mk_buffers.specs.Slots.{last_of, last_within}
 use Rattle.mk_buffers.proofs.sets.Settings.last_within.Given as goal
 

@@ -8,7 +8,7 @@ use Rattle.mk_order.proofs.LaterQuestions.{IsMarkOf}
 use Rattle.mk_buffers.specs.declared.buffers.Buffers.{Buffers}
 use Rattle.mk_buffers.specs.Marking.{greater}
 use Rattle.mk_buffers.specs.Standing.{HasRaised, mark_of}
-use Rattle.mk_buffers.proofs.Marking.{apart_or_same}
+use Rattle.mk_buffers_log.proofs.Places.{apart_or_same}
 use Rattle.mk_sched_supply.proofs.stock.Stock.forget_before.Goals as goal
 
 -- the greater of two marks is one

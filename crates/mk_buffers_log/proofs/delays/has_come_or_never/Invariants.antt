@@ -1,0 +1,7 @@
+use Rattle.std.proofs.Common.{◌≡◌, true, ◌||◌, int_le, take}
+use Rattle.std.specs.List.{list_all}
+use Rattle.mk_base.specs.Tiers.{delayed, up_to}
+use Rattle.mk_buffers_log.proofs.delays.has_come_or_never.Given as goal
+
+abbrev pub invariant-loop-via : goal.invariant-loop-via
+invariant-loop-via l = list_all (λ v. up_to (delayed l.made v) l.mark || int_le l.until (delayed l.made v).time) (take l.via-index l.vias) ≡ true
