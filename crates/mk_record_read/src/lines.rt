@@ -6,7 +6,7 @@ ghost use Rattle.mk_message.specs.Messages.{message_in, tested};
 ghost use Rattle.mk_base.specs.Trees.{is_in_range, items_in};
 ghost use Rattle.mk_plan.specs.declared.Plan as plans;
 ghost use Rattle.mk_record_read.specs.inner.Faults.{IsBeyond, IsFaultOf, IsMissing};
-ghost use Rattle.mk_record_read.specs.inner.Lines.{conn_put, entity_put, model_put, sim_put};
+ghost use Rattle.mk_record_read.specs.inner.Lines.{conn_put, entity_put, model_put, run_put, sim_put};
 ghost use Rattle.mk_record_read.specs.Fields.{is_below, misformed};
 ghost use Rattle.mk_record_read.specs.Steps.{IsKnown};
 ghost use Rattle.mk_record_read.specs.Lines.{run_fits, event_fits, sim_fits, entity_fits, with_run, with_sim, with_model, with_entity, with_way, with_conn, with_async, arrival_in, asked_in, step_asked, step_fits};
@@ -48,6 +48,14 @@ fn add_run_of(plan: &mut Plan, until: &Json, loops: &Json, entries: &Json) -> Re
     let until = whole_of(until)?;
     let loops = whole_of(loops)?;
     let entries = whole_of(entries)?;
+    put_run(plan, until, loops, entries)
+}
+
+// Takes the limits of a run, if they are within their own.
+fn put_run(plan: &mut Plan, until: i128, loops: i128, entries: i128) -> Result<(), LineFault>
+    ensures ok { OnOk result (run_put plan.old until loops entries ≡ Ok plan.new) }
+    ensures err { IfErr result (IsFaultOf (run_put plan.old until loops entries)) }
+{
     if !run_fits(until, loops, entries) {
         return Err(OUT_OF_LIMITS);
     }
@@ -175,16 +183,16 @@ fn times_of(alloc: Global, events: &[i128]) -> Result<List<i64>, Mem>
 {
     let mut times = List::new(alloc);
     for event in events {
-        times.push(time_of(*event))?;
+        times.push(time_of(event))?;
     }
     Ok(times)
 }
 
-fn time_of(event: i128) -> i64
-    requires { event_fits event ≡ true }
-    ensures { result ≡ event }
+fn time_of(event: &i128) -> i64
+    requires { event_fits event.now ≡ true }
+    ensures { result ≡ event.now }
 {
-    event as i64
+    *event as i64
 }
 
 pub fn add_model(alloc: Global, plan: &mut Plan, items: &[Json]) -> Result<(), LineFault>
@@ -266,7 +274,7 @@ fn put_entity(
     if !entity_fits(plan.models.len(), model, related) {
         return Err(OUT_OF_LIMITS);
     }
-    let model = number_of(model)?;
+    let model = place_number(model)?;
     let related = numbers_of(alloc, related)?;
     let eid = eid.copy()?;
     plan.entities.push(PlanEntity {
@@ -294,16 +302,22 @@ fn are_below(count: usize, places: &[i128]) -> bool
     true
 }
 
-fn numbers_of(alloc: Global, places: &[i128]) -> Result<List<u32>, LineFault>
-    ensures ok { IfOk result (λ ns. ns ≡ map nat_abs places.now) }
-    ensures err { IfErr result (λ e. e ≡ LineFault.Mem) }
+fn numbers_of(alloc: Global, places: &[i128]) -> Result<List<u32>, Mem>
+    requires { list_all (is_below 10000) places.now ≡ true }
+    ensures { IfOk result (λ ns. ns ≡ map nat_abs places.now) }
 {
     let mut numbers = List::new(alloc);
     for place in places {
-        let number = number_of(*place)?;
-        numbers.push(number)?;
+        numbers.push(related_number(place))?;
     }
     Ok(numbers)
+}
+
+fn related_number(place: &i128) -> u32
+    requires { is_below 10000 place.now ≡ true }
+    ensures { result ≡ nat_abs place.now }
+{
+    *place as u32
 }
 
 pub fn add_conn(
@@ -411,7 +425,13 @@ fn add_way_of(
     let persistent = bool_of(persistent)?;
     let triggering = bool_of(triggering)?;
     let initial = initial_of(alloc, initial)?;
-    let via = via_of(version, name, width)?;
+    let via = match via_of(version, name, width) {
+        Ok(via) => via,
+        Err(fault) => {
+            drop(initial);
+            return Err(fault);
+        }
+    };
     put_conn(plan, ends, via, persistent, triggering, initial)
 }
 
@@ -433,8 +453,17 @@ fn put_conn(
         ends.now.to_attr.now via
         persistent triggering initial)) }
 {
-    let (from, to) = places_among(plan.entities.len(), ends.from, ends.to)?;
-    let (from_attr, to_attr) = both_copied(ends.from_attr, ends.to_attr)?;
+    let (from, to) = match places_among(plan.entities.len(), ends.from, ends.to) {
+        Ok(places) => places,
+        Err(fault) => {
+            drop(initial);
+            return Err(fault);
+        }
+    };
+    let Ok((from_attr, to_attr)) = both_copied(ends.from_attr, ends.to_attr) else {
+        drop(initial);
+        return Err(LineFault::Mem);
+    };
     plan.conns.push(Conn {
         from,
         from_attr,
@@ -516,13 +545,24 @@ fn arrival_of_fields(plan: &Plan, sim: &Json, message: Json) -> Result<Arrival, 
     ensures ok { IfOk result (λ a. arrival_in plan.now (sim.now ∷ message ∷ []) ≡ Ok (came a)) }
     ensures err { IfErr result (IsFaultOf (arrival_in plan.now (sim.now ∷ message ∷ []))) }
 {
-    let sim = whole_of(sim)?;
+    let sim = match whole_of(sim) {
+        Ok(sim) => sim,
+        Err(fault) => {
+            drop(message);
+            return Err(fault);
+        }
+    };
     let message = message_of(message)?;
-    let sim = place_among(plan.sims.len(), sim)?;
-    Ok(Arrival {
-        sim: SimNo(sim),
-        message,
-    })
+    match place_among(plan.sims.len(), sim) {
+        Ok(sim) => Ok(Arrival {
+            sim: SimNo(sim),
+            message,
+        }),
+        Err(fault) => {
+            drop(message);
+            Err(fault)
+        }
+    }
 }
 
 pub fn asked_of(plan: &Plan, before: u64, items: &[Json]) -> Result<Asked, LineFault>
@@ -615,7 +655,7 @@ fn place_among(count: usize, place: i128) -> Result<u32, LineFault>
     if !names_one_of(count, place) {
         return Err(OUT_OF_LIMITS);
     }
-    number_of(place)
+    place_number(place)
 }
 
 // The numbers of two of so many things.
@@ -630,7 +670,7 @@ fn places_among(count: usize, from: i128, to: i128) -> Result<(u32, u32), LineFa
 }
 
 // A plan with so many parts that their numbers don't fit isn't kept.
-fn number_of(place: i128) -> Result<u32, LineFault>
+fn place_number(place: i128) -> Result<u32, LineFault>
     ensures ok { IfOk result (λ n. n ≡ nat_abs place) }
     ensures err { IfErr result (λ e. e ≡ LineFault.Mem) }
 {

@@ -5,7 +5,11 @@ use Rattle.mk_base.specs.Names.{kind_named}
 use Rattle.mk_plan.specs.declared.Plan.{Plan}
 use Rattle.mk_message.specs.Messages.{tested}
 use Rattle.mk_record_read.specs.Fields.{out_of_limits, limited, is_below}
-use Rattle.mk_record_read.specs.Lines.{sim_fits, entity_fits}
+use Rattle.mk_record_read.specs.Lines.{run_fits, sim_fits, entity_fits}
+
+abbrev pub run_put : Plan → ℤ → ℤ → ℤ → Result Plan ℕ
+run_put P until loops entries = limited (run_fits until loops entries)
+    (record P { until = until; loops = nat_abs loops; entries = nat_abs entries })
 
 abbrev pub sim_put : Plan → List ℕ → List ℕ → ℤ → ℤ → List ℤ → Result Plan ℕ
 sim_put P id type first rank events = tested out_of_limits (kind_named type) (λ k.
