@@ -33,7 +33,7 @@ use Rattle.mk_pace_laws.specs.declared.end.PaceEnd.{PaceEnd}
 use Rattle.mk_pace_laws.specs.declared.end.PaceEnd.TheVariants as pace
 use Rattle.mk_pace_laws.specs.Clocks.{is_told, last_told}
 use Rattle.mk_pace_laws.specs.Ends.{IsLate, Shows, ShowsOutcome}
-use Rattle.mk_pace_laws.specs.Moments.{Tempo}
+use Rattle.mk_pace_laws.specs.Moments.{Tempo, timing}
 use Rattle.mk_pace_laws.specs.Naps.{AreAllLinked, AreNaps, NapsLook}
 use Rattle.mk_pace_laws.specs.Paced.{IsPaced, IsPacedLink}
 use Rattle.mk_pace_laws.proofs.Napping.{naps_well}
@@ -64,14 +64,14 @@ told_still log entries all =
     ap (λ (o : Option LogEntry). unwrap_or (option_map told_by o) 0) (last-append is_told log entries ∙ ap (later_of (last_that is_told log)) (none_looked entries all))
 
 module _ (S : Setting) (T : Tempo) (strict : Option ℕ) (P : Plan) (J : List Entry) (moments : List Moment) (log entries : List LogEntry) (C : CrewState) (end : PaceEnd) (faults new_faults : ℕ) (by_run by_stop : Type 0)
-    (risen : by_run → HasRisen faults new_faults) (rises : by_stop → HasRisen faults new_faults) (out : HasPacedOut by_run S T strict P J moments log C end) (stop : AreStopped entries by_stop C) (restless : IsRestless entries) (of_channels : AreOn (IsChannelLink C.channels) entries) where
+    (risen : by_run → HasRisen faults new_faults) (rises : by_stop → HasRisen faults new_faults) (out : HasPacedOut by_run S (timing T strict moments) P J log C end) (stop : AreStopped entries by_stop C) (restless : IsRestless entries) (of_channels : AreOn (IsChannelLink C.channels) entries) where
   clockless : IsClockless entries
   clockless = on_no_clock (IsChannelLink C.channels) entries of_channels
 
   stopped : AreStopped entries (HasRisen faults new_faults) C
   stopped = stopped_by entries by_stop (HasRisen faults new_faults) C rises stop
 
-  linked_so : (i : ℕ) (l : LinkNo) (linked : sim_link S.started S.scenario i ≡ Some l) (t : IsLastPacedChannel S T J moments log C end i l) → IsLinkOfRun S.scenario S.replies J (log ++ entries) (HasRisen faults new_faults) i l t.items
+  linked_so : (i : ℕ) (l : LinkNo) (linked : sim_link S.started S.scenario i ≡ Some l) (t : IsLastPacedChannel S (timing T strict moments) J log C end i l) → IsLinkOfRun S.scenario S.replies J (log ++ entries) (HasRisen faults new_faults) i l t.items
   linked_so i l linked t = link_ended S.started S.scenario S.replies out.suits.counts J log entries (HasRisen faults new_faults) C stopped i l linked t.messages t.items t.channel t.given t.queued
 
   -- all messages of a channel that holds no further one were got, and behind them is what is held
@@ -98,7 +98,7 @@ module _ (S : Setting) (T : Tempo) (strict : Option ℕ) (P : Plan) (J : List En
   outcome_shown (outcome.LongItem i n) is = is
   outcome_shown outcome.Mem is = is
 
-  late_still : (sim : SimNo) (time : _) (late allowed : ℕ) → IsLate T strict J moments log sim time late allowed → IsLate T strict J moments (log ++ entries) sim time late allowed
+  late_still : (sim : SimNo) (time : _) (late allowed : ℕ) → IsLate (timing T strict moments) J log sim time late allowed → IsLate (timing T strict moments) J (log ++ entries) sim time late allowed
   late_still sim time late allowed is = record {
     strict_is = is.strict_is;
     at = is.at;
@@ -109,11 +109,11 @@ module _ (S : Setting) (T : Tempo) (strict : Option ℕ) (P : Plan) (J : List En
     beyond = is.beyond;
   }
 
-  shown : (e : PaceEnd) → EndsPace by_run S P T strict J moments log C e → Shows (exchange_at S (log ++ entries)) P J T strict moments faults new_faults e
+  shown : (e : PaceEnd) → EndsPace by_run S P (timing T strict moments) J log C e → Shows (exchange_at S (log ++ entries)) P J (timing T strict moments) faults new_faults e
   shown (pace.Outcome e) is = outcome_shown e is
   shown (pace.Late sim time late allowed) is = late_still sim time late allowed is
 
-  link_is : (i : ℕ) (l : LinkNo) → sim_link S.started S.scenario i ≡ Some l → IsPacedLink (exchange_at S (log ++ entries)) S.replies T J moments (HasRisen faults new_faults) end i l
+  link_is : (i : ℕ) (l : LinkNo) → sim_link S.started S.scenario i ≡ Some l → IsPacedLink (exchange_at S (log ++ entries)) S.replies J (timing T strict moments) (HasRisen faults new_faults) end i l
   link_is i l linked =
       let t = out.channels i l linked in
       record {
@@ -141,7 +141,7 @@ module _ (S : Setting) (T : Tempo) (strict : Option ℕ) (P : Plan) (J : List En
     | inr t ↦ absurd (no_naps entries t.0 after clockless t.2)
   ]
 
-  pub whole : IsPaced (exchange_at S (log ++ entries)) P J T strict moments faults new_faults end
+  pub whole : IsPaced (exchange_at S (log ++ entries)) P J (timing T strict moments) faults new_faults end
   whole = record {
     replies = S.replies;
     valid = out.stands.valid;

@@ -9,7 +9,7 @@ use Rattle.mk_pace_laws.specs.Ends.{Shows, ShowsOutcome}
 use Rattle.mk_pace_laws.specs.Laws.{PacesComplete}
 
 pub completes : PacesComplete
-completes X P J T strict moments faults new_faults end run fine = whole end run.shown
+completes X P J T faults new_faults end run fine = whole end run.shown
   where
     go : (e : Outcome) → ShowsOutcome X P J faults new_faults e → (pace.Outcome e ≡ pace.Outcome Done) ⊎ (pace.Outcome e ≡ pace.Outcome Mem)
     go Done shown = inl refl
@@ -23,6 +23,6 @@ completes X P J T strict moments faults new_faults end run fine = whole end run.
     go (LongItem i n) shown = absurd (fine.short_items i.0 n shown)
     go Mem shown = inr refl
 
-    whole : (e : PaceEnd) → Shows X P J T strict moments faults new_faults e → (e ≡ pace.Outcome Done) ⊎ (e ≡ pace.Outcome Mem)
+    whole : (e : PaceEnd) → Shows X P J T faults new_faults e → (e ≡ pace.Outcome Done) ⊎ (e ≡ pace.Outcome Mem)
     whole (pace.Outcome o) shown = go o shown
     whole (pace.Late sim time late allowed) shown = absurd (fine.in_time sim time late allowed shown)

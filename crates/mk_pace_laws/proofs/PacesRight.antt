@@ -15,7 +15,7 @@ use Rattle.mk_pace_laws.specs.Ends.{Shows}
 use Rattle.mk_pace_laws.specs.Laws.{PacesAreRight}
 
 pub paces_right : PacesAreRight
-paces_right X P J T strict moments faults new_faults end run = record {
+paces_right X P J T faults new_faults end run = record {
   agrees = orderly_agrees P run.valid J run.eager.0;
   links = λ i l linked. let t = run.links i l linked in record {
     items = t.items;
@@ -35,4 +35,4 @@ paces_right X P J T strict moments faults new_faults end run = record {
     j = run.journal
 
     over : end ≡ Outcome Done → IsDone P (view P J)
-    over e = subst (Shows X P J T strict moments faults new_faults) e run.shown
+    over e = subst (Shows X P J T faults new_faults) e run.shown

@@ -25,7 +25,7 @@ use Rattle.mk_pace_laws.specs.declared.end.Moment.{Moment}
 use Rattle.mk_pace_laws.specs.declared.end.PaceEnd.{PaceEnd}
 use Rattle.mk_pace_laws.specs.declared.end.PaceEnd.TheVariants as pace
 use Rattle.mk_pace_laws.specs.Clocks.{last_told}
-use Rattle.mk_pace_laws.specs.Moments.{Tempo, moment_at, sent_out}
+use Rattle.mk_pace_laws.specs.Moments.{Timing, moment_at, sent_out}
 
 -- some item of the journal is one to i, which has a link, and its payload has n bytes, more than a
 -- frame may have
@@ -53,16 +53,16 @@ IsAskedBefore J s x t y = (before between after : List Entry) × (a b : List Inp
     × (J ≡ before ++ Sent s (Step x a m) ∷ (between ++ Sent t (Step y b n) ∷ after))
 
 -- this Step was to be sent next, and was later than is allowed by so many milliseconds in all
-pub record IsLate (T : Tempo) (strict : Option ℕ) (J : List Entry) (moments : List Moment)
-    (log : List LogEntry) (sim : SimNo) (time : ℤ) (late allowed : ℕ) : Type 0 where
-  pub strict_is : strict ≡ Some allowed
+pub record IsLate (T : Timing) (J : List Entry) (log : List LogEntry) (sim : SimNo) (time : ℤ)
+    (late allowed : ℕ) : Type 0 where
+  pub strict_is : T.strict ≡ Some allowed
   pub at : Tier
   pub time_is : at.time ≡ time
-  pub next : IsNextStep J moments sim.0 at
-  pub first : (t : SimNo) (y : Tier) → t.0 ≢ sim.0 → IsNextStep J moments t.0 y
-      → (moment_at T time < moment_at T y.time)
-      ⊎ ((moment_at T time ≡ moment_at T y.time) × IsAskedBefore J sim at t y)
-  pub told : last_told log ≡ moment_at T time + late
+  pub next : IsNextStep J T.moments sim.0 at
+  pub first : (t : SimNo) (y : Tier) → t.0 ≢ sim.0 → IsNextStep J T.moments t.0 y
+      → (moment_at T.tempo time < moment_at T.tempo y.time)
+      ⊎ ((moment_at T.tempo time ≡ moment_at T.tempo y.time) × IsAskedBefore J sim at t y)
+  pub told : last_told log ≡ moment_at T.tempo time + late
   pub beyond : allowed < late
 
 -- what an outcome shows
@@ -84,12 +84,10 @@ ShowsOutcome X P J faults new_faults (outcome.LongItem i n) = IsLongAmong X.star
 ShowsOutcome X P J faults new_faults outcome.Mem = ShownBy X P J faults new_faults outcome.Mem
 
 -- what an end shows
-abbrev pub Shows : Exchange → Plan → List Entry → Tempo → Option ℕ → List Moment → ℕ → ℕ → PaceEnd
-    → Type 0
-Shows X P J T strict moments faults new_faults (pace.Outcome end) = ShowsOutcome X P J faults
-    new_faults end
-Shows X P J T strict moments faults new_faults
-    (pace.Late sim time late allowed) = IsLate T strict J moments X.log sim time late allowed
+abbrev pub Shows : Exchange → Plan → List Entry → Timing → ℕ → ℕ → PaceEnd → Type 0
+Shows X P J T faults new_faults (pace.Outcome end) = ShowsOutcome X P J faults new_faults end
+Shows X P J T faults new_faults
+    (pace.Late sim time late allowed) = IsLate T J X.log sim time late allowed
 
 -- every item that was to be sent was queued; but for the last ones, where one was too long or there
 -- was no memory for it

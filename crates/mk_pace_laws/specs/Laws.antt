@@ -1,5 +1,5 @@
 -- The laws of a paced run: what it said and promised, and where it slept.
-use Rattle.std.specs.Prelude.{◌≡◌, ℕ, ◌⊎◌, ℤ, true, List, Option, Some, None, length}
+use Rattle.std.specs.Prelude.{◌≡◌, ℕ, ◌⊎◌, ℤ, true, List, Some, None, length}
 use Rattle.mk_base.specs.declared.LinkNo.{LinkNo}
 use Rattle.mk_base.specs.declared.SimNo.{SimNo}
 use Rattle.mk_base.specs.Lists.{IsIn}
@@ -28,7 +28,7 @@ use Rattle.mk_pace_laws.specs.declared.end.PaceEnd.{PaceEnd}
 use Rattle.mk_pace_laws.specs.declared.end.PaceEnd.TheVariants as pace
 use Rattle.mk_pace_laws.specs.Clocks.{IsRising}
 use Rattle.mk_pace_laws.specs.Ends.{IsLate, IsLongAmong, QueuedOut}
-use Rattle.mk_pace_laws.specs.Moments.{Tempo, sent_out}
+use Rattle.mk_pace_laws.specs.Moments.{Tempo, Timing, sent_out}
 use Rattle.mk_pace_laws.specs.Naps.{AreNaps, NapsWell}
 use Rattle.mk_pace_laws.specs.Paced.{IsPaced}
 
@@ -54,10 +54,9 @@ pub record IsRightPace (X : Exchange) (P : Plan) (J : List Entry) (moments : Lis
 
 -- every paced run is right
 abbrev pub PacesAreRight : Type 0
-PacesAreRight = (X : Exchange) (P : Plan) (J : List Entry) (T : Tempo) (strict : Option ℕ)
-    (moments : List Moment) (faults new_faults : ℕ) (end : PaceEnd)
-    → IsPaced X P J T strict moments faults new_faults end
-    → IsRightPace X P J moments (HasRisen faults new_faults) end
+PacesAreRight = (X : Exchange) (P : Plan) (J : List Entry) (T : Timing) (faults new_faults : ℕ)
+    (end : PaceEnd) → IsPaced X P J T faults new_faults end
+    → IsRightPace X P J T.moments (HasRisen faults new_faults) end
 
 -- what stood at each sleep, said of the run's own journal
 abbrev pub NapsAreWell : Type 0
@@ -67,8 +66,8 @@ NapsAreWell = (started : ℕ) (S : Scenario) (replies : SetupReplies)
     → IsRising log → AreNaps started S replies P T J log → NapsWell started S P T J log
 
 -- nothing went wrong that a paced run can show
-pub record IsFaultlessPace (X : Exchange) (P : Plan) (J : List Entry) (T : Tempo)
-    (strict : Option ℕ) (moments : List Moment) (faults new_faults : ℕ) : Type 0 where
+pub record IsFaultlessPace (X : Exchange) (P : Plan) (J : List Entry) (T : Timing)
+    (faults new_faults : ℕ) : Type 0 where
   pub no_fault : (view P J).fault ≡ None
   pub roomy : length J ≡ P.entries
       → NeedsMore P J (IsMessageLeft X.started X.scenario P J X.log) → ⊥
@@ -80,12 +79,11 @@ pub record IsFaultlessPace (X : Exchange) (P : Plan) (J : List Entry) (T : Tempo
       ⊎ IsTooLong n (rest_heard (heard_on l X.log)) → ⊥
   pub short_items : (i n : ℕ) → IsLongAmong X.started X.scenario P J i n → ⊥
   pub in_time : (sim : SimNo) (time : ℤ) (late allowed : ℕ)
-      → IsLate T strict J moments X.log sim time late allowed → ⊥
+      → IsLate T J X.log sim time late allowed → ⊥
 
 -- then it ended because nothing was left to do, or for want of memory
 abbrev pub PacesComplete : Type 0
-PacesComplete = (X : Exchange) (P : Plan) (J : List Entry) (T : Tempo) (strict : Option ℕ)
-    (moments : List Moment) (faults new_faults : ℕ) (end : PaceEnd)
-    → IsPaced X P J T strict moments faults new_faults end
-    → IsFaultlessPace X P J T strict moments faults new_faults
+PacesComplete = (X : Exchange) (P : Plan) (J : List Entry) (T : Timing) (faults new_faults : ℕ)
+    (end : PaceEnd) → IsPaced X P J T faults new_faults end
+    → IsFaultlessPace X P J T faults new_faults
     → (end ≡ pace.Outcome outcome.Done) ⊎ (end ≡ pace.Outcome outcome.Mem)

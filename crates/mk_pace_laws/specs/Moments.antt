@@ -18,6 +18,17 @@ pub record Tempo : Type 0 where
   pub origin : ℕ
   pub factor : ℕ
 
+-- how a run is paced: its tempo, how late a Step may be sent, if there is a bound, and the moments
+-- of the Steps that were sent
+pub record Timing : Type 0 where
+  pub tempo : Tempo
+  pub strict : Option ℕ
+  pub moments : List Moment
+
+-- the timing of these parts
+abbrev pub timing : Tempo → Option ℕ → List Moment → Timing
+timing T strict moments = record { tempo = T; strict = strict; moments = moments }
+
 -- the moment of a Step at this time
 abbrev pub moment_at : Tempo → ℤ → ℕ
 moment_at T time = T.origin + nat_abs time * T.factor

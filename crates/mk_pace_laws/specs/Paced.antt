@@ -34,7 +34,7 @@ use Rattle.mk_pace_laws.specs.declared.end.PaceEnd.{PaceEnd}
 use Rattle.mk_pace_laws.specs.declared.end.PaceEnd.TheVariants as pace
 use Rattle.mk_pace_laws.specs.Clocks.{IsRising, is_told}
 use Rattle.mk_pace_laws.specs.Ends.{IsBroken, QueuedOut, Shows, fault_of}
-use Rattle.mk_pace_laws.specs.Moments.{AreMoments, Tempo, sent_out}
+use Rattle.mk_pace_laws.specs.Moments.{AreMoments, Timing, sent_out, timing}
 use Rattle.mk_pace_laws.specs.Naps.{AreAllLinked, IsTimely, NapsLook, NapsWell}
 
 -- the fleet didn't sleep
@@ -52,38 +52,39 @@ pub record IsOrigin (started : ℕ) (S : Scenario) (log : List LogEntry) (origin
 
 -- what is said on a link: of the journal's items those before the first Step that was never sent,
 -- and no Step before its moment was told
-pub record IsPacedLink (X : Exchange) (replies : SetupReplies) (T : Tempo) (J : List Entry)
-    (moments : List Moment) (risen : Type 0) (end : PaceEnd) (i : ℕ) (l : LinkNo) : Type 0 where
+pub record IsPacedLink (X : Exchange) (replies : SetupReplies) (J : List Entry) (T : Timing)
+    (risen : Type 0) (end : PaceEnd) (i : ℕ) (l : LinkNo) : Type 0 where
   pub items : List Item
   pub run : IsLinkOfRun X.scenario replies J X.log risen i l items
-  pub queued : QueuedOut end (sent_out J moments i) items
-  pub timely : IsTimely T X.scenario i l items X.log
+  pub queued : QueuedOut end (sent_out J T.moments i) items
+  pub timely : IsTimely T.tempo X.scenario i l items X.log
 
 -- a paced run with a plan and a journal, over the entries that it added to the log: what holds of a
 -- run holds of it, but for items that were never sent; a simulator within the program replied to
 -- what was sent alone; the fleet rests only in the handshake; where it sleeps, nothing is due, and
 -- each link has been looked at; where the run was broken off some request was open, and nobody was
 -- ready; and no link but the run's was read or written
-pub record IsPaced (X : Exchange) (P : Plan) (J : List Entry) (T : Tempo) (strict : Option ℕ)
-    (moments : List Moment) (faults new_faults : ℕ) (end : PaceEnd) : Type 0 where
+pub record IsPaced (X : Exchange) (P : Plan) (J : List Entry) (T : Timing)
+    (faults new_faults : ℕ) (end : PaceEnd) : Type 0 where
   pub replies : SetupReplies
   pub valid : IsValidPlan P
   pub journal : IsJournalOf X P J
   pub eager : IsEager P J
   pub within : length J ≤ P.entries
   pub in_range : AreInRange J
-  pub origin : IsOrigin X.started X.scenario X.log T.origin
+  pub origin : IsOrigin X.started X.scenario X.log T.tempo.origin
   pub links : (i : ℕ) (l : LinkNo) → sim_link X.started X.scenario i ≡ Some l
-      → IsPacedLink X replies T J moments (HasRisen faults new_faults) end i l
-  pub moments_are : AreMoments T strict J X.log moments
+      → IsPacedLink X replies J T (HasRisen faults new_faults) end i l
+  pub moments_are : AreMoments T.tempo T.strict J X.log T.moments
   pub replied : (i : ℕ) → is_within X.scenario i ≡ true
-      → length (got J i) ≤ length (filter takes_id (sent_out J moments i))
+      → length (got J i) ≤ length (filter takes_id (sent_out J T.moments i))
   pub setup_rests : (before after : List LogEntry) → X.log ≡ before ++ Rest ∷ after
       → IsWellInSetup X.started X.scenario before × (AllSetUp X.started X.scenario before → ⊥)
   pub on_links : AreOnOrOfClock (IsRunLink X.started X.scenario) X.log
-  pub naps : IsRising X.log → AreAllLinked X.scenario → NapsWell X.started X.scenario P T J X.log
+  pub naps : IsRising X.log → AreAllLinked X.scenario
+      → NapsWell X.started X.scenario P T.tempo J X.log
   pub looks : NapsLook X.started X.scenario X.log
-  pub shown : Shows X P J T strict moments faults new_faults end
+  pub shown : Shows X P J T faults new_faults end
   pub fault : (view P J).fault ≡ fault_of end
   pub unfinished : IsBroken end → IsAwaiting P J
 
@@ -96,7 +97,7 @@ pub record HasPaced (A : Attempt) (factor : ℕ) (strict : Option ℕ) (P : Plan
   pub first : (i : ℕ) → i < sim_count P → first_id P i ≡ setup_count A.scenario i
   pub origin : ℕ
   pub run : IsPaced (exchange_of A) P J
-      (record { origin = origin; factor = factor }) strict moments faults new_faults end
+      (timing (record { origin = origin; factor = factor }) strict moments) faults new_faults end
   pub told : (i : ℕ) (l : LinkNo) → sim_link A.started A.scenario i ≡ Some l
       → run.replies i ≡ answers_to i (setup_requests A.scenario) answers
 

@@ -30,7 +30,7 @@ use Rattle.mk_pace_laws.specs.declared.end.Moment.{Moment}
 use Rattle.mk_pace_laws.specs.declared.end.PaceEnd.{PaceEnd}
 use Rattle.mk_pace_laws.specs.declared.end.PaceEnd.TheVariants as pace
 use Rattle.mk_pace_laws.specs.Ends.{IsBroken, QueuedOut, fault_of}
-use Rattle.mk_pace_laws.specs.Moments.{Tempo, sent_out}
+use Rattle.mk_pace_laws.specs.Moments.{Tempo, sent_out, timing}
 use Rattle.mk_pace_laws.proofs.SentOut.{WaitsByStep, sent_out_is}
 use Rattle.mk_pace_loop.specs.inner.PacedOut.{EndsOutcome, EndsPace, HasPacedOut, IsLastPacedChannel}
 use Rattle.mk_pace_loop.specs.inner.Pacing.{AreHeldItems, BeginsWithStep, IsPacing}
@@ -63,7 +63,7 @@ module _ (S : Setting) (T : Tempo) (strict : Option ℕ) (P : Plan) (J : List En
   pub within_low : (i : ℕ) → is_within S.scenario i ≡ true → i < sim_count P
   within_low i inside = subst (λ (n : ℕ). i < n) (sym (p.suits).sims) (within_below S.scenario i inside)
 
-  last_channel : (end : PaceEnd) (i : ℕ) (l : LinkNo) → sim_link S.started S.scenario i ≡ Some l → IsLastPacedChannel S T J moments log C end i l
+  last_channel : (end : PaceEnd) (i : ℕ) (l : LinkNo) → sim_link S.started S.scenario i ≡ Some l → IsLastPacedChannel S (timing T strict moments) J log C end i l
   last_channel end i l linked =
       let low = linked_low i l linked in
       let t = p.holding i low in
@@ -84,7 +84,7 @@ module _ (S : Setting) (T : Tempo) (strict : Option ℕ) (P : Plan) (J : List En
       let same : length (filter takes_id (sent_out J moments i)) ≡ length (filter takes_id (p.queued i)) = ap (λ (l : List Item). length (filter takes_id l)) (sent_is i (within_low i inside)) in
       omega (arith, counted, same)
 
-  pub ends_here : (risen : Type 0) (end : PaceEnd) → None ≡ fault_of end → EndsPace risen S P T strict J moments log C end → (IsBroken end → IsAwaiting P J) → HasPacedOut risen S T strict P J moments log C end
+  pub ends_here : (risen : Type 0) (end : PaceEnd) → None ≡ fault_of end → EndsPace risen S P (timing T strict moments) J log C end → (IsBroken end → IsAwaiting P J) → HasPacedOut risen S (timing T strict moments) P J log C end
   ends_here risen end unnamed ends unfinished = record {
     suits = p.suits;
     stands = p.stands;

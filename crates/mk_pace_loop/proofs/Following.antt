@@ -38,7 +38,7 @@ use Rattle.mk_pace_laws.specs.declared.end.Moment.{Moment}
 use Rattle.mk_pace_laws.specs.declared.end.PaceEnd.{PaceEnd}
 use Rattle.mk_pace_laws.specs.declared.end.PaceEnd.TheVariants as pace
 use Rattle.mk_pace_laws.specs.Ends.{IsBroken, IsLongAmong, QueuedOut, fault_of}
-use Rattle.mk_pace_laws.specs.Moments.{Tempo, before_step, moments_of, sent_out}
+use Rattle.mk_pace_laws.specs.Moments.{Tempo, before_step, moments_of, sent_out, timing}
 use Rattle.mk_pace_laws.specs.Naps.{AreTold}
 use Rattle.mk_pace_loop.specs.inner.Pacing.{IsPacingBut, IsPacingFor}
 use Rattle.mk_pace_loop.specs.inner.PacedOut.{EndsPace, HasPacedOut}
@@ -98,8 +98,8 @@ module _ (begins : ℕ → Type 0) (S : Setting) (T : Tempo) (strict : Option �
       omega (arith, all, so_far)
 
   -- the run ends where it is
-  pub ends_here : (end : PaceEnd) → ((i : ℕ) → i < sim_count P → QueuedOut end (sent_out J moments i) (p.queued i)) → EndsPace ⊥ S P T strict J moments log (crew_of C) end → None ≡ fault_of end → (IsBroken end → ⊥)
-      → HasPacedOut ⊥ S T strict P J moments log (crew_of C) end
+  pub ends_here : (end : PaceEnd) → ((i : ℕ) → i < sim_count P → QueuedOut end (sent_out J moments i) (p.queued i)) → EndsPace ⊥ S P (timing T strict moments) J log (crew_of C) end → None ≡ fault_of end → (IsBroken end → ⊥)
+      → HasPacedOut ⊥ S (timing T strict moments) P J log (crew_of C) end
   ends_here end out ends unnamed whole = record {
     suits = p.suits;
     stands = p.stands;
@@ -142,7 +142,7 @@ module _ (begins : ℕ → Type 0) (S : Setting) (T : Tempo) (strict : Option �
         ap (λ (w : Channel). w.next) (sym same) ∙ g.in_step.next_id ∙ ap (λ (k : ℕ). id_after k (p.queued s)) (sym (p.suits.first s low)) ∙ ap (id_after (first_id P s)) (sym a.sent_before) in
         record { before = a.before; sim = a.sim; item = item; later = a.later; is = a.parts; to = a.whose; link = t.0; linked = t.1; bytes = ap (λ (k : ℕ). length (item_text k item)) (sym id_is) ∙ sym size.2; beyond = beyond }
 
-    unsent_by : (h : Halt) → ShowsUnsent h s item C → HasPacedOut ⊥ S T strict P J moments log (crew_of C) (pace.Outcome (outcome_of h))
+    unsent_by : (h : Halt) → ShowsUnsent h s item C → HasPacedOut ⊥ S (timing T strict moments) P J log (crew_of C) (pace.Outcome (outcome_of h))
     unsent_by (halt.Setup fault) shown = absurd shown
     unsent_by halt.Fleet shown = absurd shown
     unsent_by (halt.Gone sim) shown = absurd shown
@@ -151,11 +151,11 @@ module _ (begins : ℕ → Type 0) (S : Setting) (T : Tempo) (strict : Option �
     unsent_by (halt.LongItem sim n) shown = ends_here (pace.Outcome (outcome_of (halt.LongItem sim n))) (λ i below. tt) (subst (λ (i : ℕ). IsLongAmong S.started S.scenario P J i n) (sym shown.0) (long_among n shown.2 shown.3)) refl (λ broken. broken)
     unsent_by halt.Mem shown = ends_here (pace.Outcome (outcome_of halt.Mem)) (λ i below. tt) tt refl (λ broken. broken)
 
-    pub unsent_ends : (end : Outcome) → IsUnsent end s item C → HasPacedOut ⊥ S T strict P J moments log (crew_of C) (pace.Outcome end)
-    unsent_ends end u = subst (λ (e : Outcome). HasPacedOut ⊥ S T strict P J moments log (crew_of C) (pace.Outcome e)) (sym u.1) (unsent_by u.0 u.2)
+    pub unsent_ends : (end : Outcome) → IsUnsent end s item C → HasPacedOut ⊥ S (timing T strict moments) P J log (crew_of C) (pace.Outcome end)
+    unsent_ends end u = subst (λ (e : Outcome). HasPacedOut ⊥ S (timing T strict moments) P J log (crew_of C) (pace.Outcome e)) (sym u.1) (unsent_by u.0 u.2)
 
   -- no memory was there to note a moment
-  pub mem_ends : HasPacedOut ⊥ S T strict P J moments log (crew_of C) (pace.Outcome (outcome_of halt.Mem))
+  pub mem_ends : HasPacedOut ⊥ S (timing T strict moments) P J log (crew_of C) (pace.Outcome (outcome_of halt.Mem))
   mem_ends = ends_here (pace.Outcome (outcome_of halt.Mem)) (λ i below. tt) tt refl (λ broken. broken)
 
 -- ---- what waits first of a simulator, whatever it is
@@ -171,7 +171,7 @@ module _ (S : Setting) (T : Tempo) (strict : Option ℕ) (P : Plan) (J : List En
   pub follower_taken : (item : Item) × IsItemAt J h.place item × CanTake s item h.id C
   follower_taken = (front.0, front_at, can_take S T strict P J log C holds moments s low h q front.0 front.1 p front.2)
 
-  pub follower_unsent : (end : Outcome) → ((item : Item) → IsItemAt J h.place item → IsUnsent end s item C) → HasPacedOut ⊥ S T strict P J moments log (crew_of C) (pace.Outcome end)
+  pub follower_unsent : (end : Outcome) → ((item : Item) → IsItemAt J h.place item → IsUnsent end s item C) → HasPacedOut ⊥ S (timing T strict moments) P J log (crew_of C) (pace.Outcome end)
   follower_unsent end unsent = unsent_ends (λ i. i ≡ s → ⊥) S T strict P J log C holds moments p s low front.0 front.1 front.2.items end (unsent front.0 front_at)
 
   -- an item that is no Step

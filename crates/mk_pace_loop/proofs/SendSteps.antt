@@ -20,12 +20,12 @@ use Rattle.mk_pace_held.specs.Firsts.{IsChanged, IsFirst, IsNoLater, first_at}
 use Rattle.mk_pace_laws.specs.declared.end.Moment.{Moment}
 use Rattle.mk_pace_laws.specs.declared.end.PaceEnd.{PaceEnd}
 use Rattle.mk_pace_laws.specs.declared.end.PaceEnd.TheVariants as pace
-use Rattle.mk_pace_laws.specs.Moments.{Tempo}
+use Rattle.mk_pace_laws.specs.Moments.{Tempo, timing}
 use Rattle.mk_pace_loop.specs.inner.Pacing.{BeginsWithStep, IsPacingBut}
 use Rattle.mk_pace_loop.specs.inner.PacedOut.{HasPacedOut}
 use Rattle.mk_pace_loop.specs.inner.Sendings.{GoesOnBut, SendsBehindAs, SendsFirstAs, SendsNextAs, SendsStepAs}
 use Rattle.mk_pace_loop.specs.inner.Turns.{GoesOn, HasJustTold, IsStopping, SendsDueAs}
-use Rattle.mk_pace_loop.specs.inner.Waiting.{IsHeldAnew, IsOnTempo, IsTooLate, WaitingSeen, waiting_seen}
+use Rattle.mk_pace_loop.specs.inner.Waiting.{IsHeldAnew, IsOnTempo, IsTooLate, WaitingSeen, waiting_seen, timing_of}
 use Rattle.mk_pace_loop.proofs.Following.{follower_sent, follower_taken, follower_unsent, mem_ends}
 use Rattle.mk_pace_loop.proofs.HeldFirst.{all_again, but_one}
 use Rattle.mk_pace_loop.proofs.StepSent.{late_ends, step_sent}
@@ -78,8 +78,8 @@ module _ (core : CoreState) (C : CrewSeen) (W : WaitingSeen) (s : ℕ) (h : Held
       same_of (λ t b m. IsPacingBut s S core.plan core.entries log (crew_of D) D.sims (waiting_seen t b V.holds m)) W V W.moments anew.same anew.moments
       (follower_sent S W.tempo W.strict core.plan core.entries log C W.holds W.moments s (subst (λ (n : ℕ). s < n) p.count (get_is W.holds s (h ∷ q) anew.changed.there).0) h q p anew.changed.there late law D sent V.holds anew.changed)
   next_so D (Err end) late law sent unsent same = λ S log p.
-      same_of (λ t b m. HasPacedOut ⊥ S t b core.plan core.entries m log (crew_of D) (pace.Outcome end)) W V W.moments anew.same anew.moments
-      (subst (λ (E : CrewSeen). HasPacedOut ⊥ S W.tempo W.strict core.plan core.entries W.moments log (crew_of E) (pace.Outcome end)) (sym same)
+      same_of (λ t b m. HasPacedOut ⊥ S (timing t b m) core.plan core.entries log (crew_of D) (pace.Outcome end)) W V W.moments anew.same anew.moments
+      (subst (λ (E : CrewSeen). HasPacedOut ⊥ S (timing_of W) core.plan core.entries log (crew_of E) (pace.Outcome end)) (sym same)
       (follower_unsent S W.tempo W.strict core.plan core.entries log C W.holds W.moments s (subst (λ (n : ℕ). s < n) p.count (get_is W.holds s (h ∷ q) anew.changed.there).0) h q p anew.changed.there end unsent))
 
 -- nothing stands there any more
@@ -132,9 +132,9 @@ module _ (core : CoreState) (C : CrewSeen) (W : WaitingSeen) (f : First) (told :
   pub step_not : (D : CrewSeen) (X : WaitingSeen) (end : Outcome) → ((item : Item) → IsItemAt core.entries h.place item → IsUnsent end s item C) → D ≡ C → ((moments : List Moment) (m : Moment) → V.moments ≡ moments ++ m ∷ [] → X.moments ≡ moments) → IsOnTempo V X
       → SendsStepAs (Err end) s told core C W D X
   step_not D X end unsent same popped on = λ S log p just.
-      same_of (λ k b m. HasPacedOut ⊥ S k b core.plan core.entries m log (crew_of D) (pace.Outcome end)) W X W.moments (record { tempo = on.tempo ∙ t.same.tempo; strict = on.strict ∙ t.same.strict })
+      same_of (λ k b m. HasPacedOut ⊥ S (timing k b m) core.plan core.entries log (crew_of D) (pace.Outcome end)) W X W.moments (record { tempo = on.tempo ∙ t.same.tempo; strict = on.strict ∙ t.same.strict })
       (popped W.moments (record { sim = f.sim; at = f.due.at; moment = f.due.moment; told = told }) t.moments)
-      (subst (λ (E : CrewSeen). HasPacedOut ⊥ S W.tempo W.strict core.plan core.entries W.moments log (crew_of E) (pace.Outcome end)) (sym same)
+      (subst (λ (E : CrewSeen). HasPacedOut ⊥ S (timing_of W) core.plan core.entries log (crew_of E) (pace.Outcome end)) (sym same)
       (follower_unsent S W.tempo W.strict core.plan core.entries log C W.holds W.moments s (subst (λ (n : ℕ). s < n) p.count (get_is W.holds s (h ∷ q) t.changed.there).0) h q
       (but_one s S W.tempo W.strict core.plan core.entries log (crew_of C) C.sims W.holds W.moments p) t.changed.there end unsent))
 
@@ -174,5 +174,5 @@ due_later core C D W V told f goes first later = ((λ i q g there is. before i q
 -- the first is too late
 pub due_late : (core : CoreState) (C D : CrewSeen) (W V : WaitingSeen) (told : ℕ) (f : First) (end : PaceEnd) → HasSent told core C W D V → IsFirst f V.holds → IsTooLate f told V end → SendsDueAs (Err end) told core C W D V
 due_late core C D W V told f end goes first late = λ S log p just.
-    subst (λ (e : PaceEnd). HasPacedOut ⊥ S V.tempo V.strict core.plan core.entries V.moments log (crew_of D) e) (sym late.is)
+    subst (λ (e : PaceEnd). HasPacedOut ⊥ S (timing_of V) core.plan core.entries log (crew_of D) e) (sym late.is)
     (late_ends S V.tempo V.strict core.plan core.entries log D V.holds V.moments (goes S log p just) f first told late.late late.allowed late.strict late.told_is late.beyond just)

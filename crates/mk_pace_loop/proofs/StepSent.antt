@@ -34,7 +34,7 @@ use Rattle.mk_pace_laws.specs.declared.end.Moment.{Moment}
 use Rattle.mk_pace_laws.specs.declared.end.PaceEnd.TheVariants as pace
 use Rattle.mk_pace_laws.specs.Clocks.{is_told, last_told}
 use Rattle.mk_pace_laws.specs.Ends.{IsAskedBefore, IsLate, IsNextStep}
-use Rattle.mk_pace_laws.specs.Moments.{Tempo, moment_at, moments_of, sent_out}
+use Rattle.mk_pace_laws.specs.Moments.{Tempo, moment_at, moments_of, sent_out, timing}
 use Rattle.mk_pace_laws.specs.Naps.{AreTold}
 use Rattle.mk_pace_laws.proofs.SentOut.{WaitsByStep, sent_out_is}
 use Rattle.mk_pace_loop.specs.inner.Pacing.{AreHeldItems, BeginsWithStep, IsHeldItem, IsPacing, IsPacingBut}
@@ -159,7 +159,7 @@ module _ (S : Setting) (T : Tempo) (strict : Option ℕ) (P : Plan) (J : List En
         | inr same ↦ inr (sym step.moment_is ∙ same.0, asked_before same.1)
       ]
 
-    is_late : (told late allowed : ℕ) → strict ≡ Some allowed → told ≡ f.due.moment + late → allowed < late → HasJustTold told log → IsLate T strict J moments log f.sim f.due.at.time late allowed
+    is_late : (told late allowed : ℕ) → strict ≡ Some allowed → told ≡ f.due.moment + late → allowed < late → HasJustTold told log → IsLate (timing T strict moments) J log f.sim f.due.at.time late allowed
     is_late told late allowed bound told_is beyond just = record {
       strict_is = bound;
       at = f.due.at;
@@ -171,7 +171,7 @@ module _ (S : Setting) (T : Tempo) (strict : Option ℕ) (P : Plan) (J : List En
     }
 
     -- the run ends by it
-    pub late_ends : (told late allowed : ℕ) → strict ≡ Some allowed → told ≡ f.due.moment + late → allowed < late → HasJustTold told log → HasPacedOut ⊥ S T strict P J moments log (crew_of C) (pace.Late f.sim f.due.at.time late allowed)
+    pub late_ends : (told late allowed : ℕ) → strict ≡ Some allowed → told ≡ f.due.moment + late → allowed < late → HasJustTold told log → HasPacedOut ⊥ S (timing T strict moments) P J log (crew_of C) (pace.Late f.sim f.due.at.time late allowed)
     late_ends told late allowed bound told_is beyond just =
         ends_here (λ i. ⊤) S T strict P J log C holds moments p (pace.Late f.sim f.due.at.time late allowed) (λ i low. sym (out_is i low)) (is_late told late allowed bound told_is beyond just) refl (λ broken. broken)
 

@@ -46,7 +46,7 @@ use Rattle.mk_pace_laws.specs.Naps.{IsEarly}
 use Rattle.mk_pace_loop.specs.inner.PacedOut.{EndsOutcome, EndsPace}
 use Rattle.mk_pace_loop.specs.inner.Pacing.{AreHeldItems, BeginsWithStep, IsPacing}
 use Rattle.mk_pace_loop.specs.inner.Turns.{AsksAs, AttendsAs, GoesOn, HasJustTold, IsPast, IsStopping, NapsAs, PassesAs, RisesOn, SendsDueAs, TakesAs, TurnsAs}
-use Rattle.mk_pace_loop.specs.inner.Waiting.{AreEarly, IsOnTempo, WaitingSeen}
+use Rattle.mk_pace_loop.specs.inner.Waiting.{AreEarly, IsOnTempo, WaitingSeen, timing_of}
 use Rattle.mk_pace_loop.proofs.Ending.{fleet_ends}
 use Rattle.mk_pace_loop.proofs.Meeting.{met_in_range, met_low}
 use Rattle.mk_pace_loop.proofs.Passing.{nap_here, reads, sleeps}
@@ -72,8 +72,8 @@ still_same C = record { places = refl; kinds = λ rows known. known }
 ends_outcome : (some all : Type 0) (S : Setting) (P : Plan) (J : List Entry) (log : List LogEntry) (C : CrewSeen) → (some → all) → (e : Outcome) → EndsOutcome some S P J log (crew_of C) e → EndsOutcome all S P J log (crew_of C) e
 ends_outcome some all S P J log C more = ends_as some all _ _ _ _ _ _ _ _ more
 
-ends_pace : (some all : Type 0) (S : Setting) (core : CoreState) (log : List LogEntry) (C : CrewSeen) (W : WaitingSeen) → (some → all) → (e : PaceEnd) → EndsPace some S core.plan W.tempo W.strict core.entries W.moments log (crew_of C) e
-    → EndsPace all S core.plan W.tempo W.strict core.entries W.moments log (crew_of C) e
+ends_pace : (some all : Type 0) (S : Setting) (core : CoreState) (log : List LogEntry) (C : CrewSeen) (W : WaitingSeen) → (some → all) → (e : PaceEnd) → EndsPace some S core.plan (timing_of W) core.entries log (crew_of C) e
+    → EndsPace all S core.plan (timing_of W) core.entries log (crew_of C) e
 ends_pace some all S core log C W more (pace.Outcome end) is = ends_outcome some all S core.plan core.entries log C more end is
 ends_pace some all S core log C W more (pace.Late sim time late allowed) is = is
 

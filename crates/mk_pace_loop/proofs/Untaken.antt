@@ -37,7 +37,7 @@ use Rattle.mk_pace_laws.specs.Naps.{AreAllLinked, AreNaps}
 use Rattle.mk_pace_loop.specs.inner.PacedOut.{EndsOutcome, HasPacedOut, IsAheadPaced, IsLastPacedChannel}
 use Rattle.mk_pace_loop.specs.inner.Pacing.{IsPacing}
 use Rattle.mk_pace_loop.specs.inner.Turns.{IsPast, IsStopping}
-use Rattle.mk_pace_loop.specs.inner.Waiting.{WaitingSeen}
+use Rattle.mk_pace_loop.specs.inner.Waiting.{WaitingSeen, timing_of}
 use Rattle.mk_run.proofs.Endings.{limit_unnamed}
 use Rattle.mk_pace_loop.proofs.Ending.{linked_low, queued_itself, sent_is, within_low}
 use Rattle.mk_pace_loop.proofs.Meeting.{got_given, given_here, met_fits, met_kinds, met_channels, met_looks, met_moments, met_naps, met_naps_before, met_no_other, met_replied, met_timely, met_told, taken_kept}
@@ -91,7 +91,7 @@ module _ (S : Setting) (core : CoreState) (log : List LogEntry) (s : SimNo) (m :
     out_is : (i : ℕ) → i < sim_count P → sent_out N W.moments i ≡ p.queued i
     out_is i low = ap (before_step (length (moments_of i W.moments))) (same i) ∙ sent_is S W.tempo W.strict P J h.before h.crew D.sims W.holds W.moments p i low
 
-    last_channel : (i : ℕ) (l : LinkNo) → sim_link S.started S.scenario i ≡ Some l → IsLastPacedChannel S W.tempo N W.moments L (crew_of D) (pace.Outcome end) i l
+    last_channel : (i : ℕ) (l : LinkNo) → sim_link S.started S.scenario i ≡ Some l → IsLastPacedChannel S (timing_of W) N L (crew_of D) (pace.Outcome end) i l
     last_channel i l linked =
         let low = linked_low S W.tempo W.strict P J h.before h.crew D.sims W.holds W.moments p i l linked in
         let t = p.holding i low in
@@ -115,7 +115,7 @@ module _ (S : Setting) (core : CoreState) (log : List LogEntry) (s : SimNo) (m :
         omega (arith, counted, out, more)
 
     ends_with : Stands P N → IsPatient P N → AreInRange N → KeepsToKinds (reply_in S) (is_within S.scenario) P N → AreMoments W.tempo W.strict N L W.moments → (AreAllLinked S.scenario → AreNaps S.started S.scenario S.replies P W.tempo N L)
-        → (view P N).fault ≡ fault_named end → (IsBrokenOff end → IsAwaiting P N) → EndsOutcome ⊥ S P N L (crew_of D) end → HasPacedOut ⊥ S W.tempo W.strict P N W.moments L (crew_of D) (pace.Outcome end)
+        → (view P N).fault ≡ fault_named end → (IsBrokenOff end → IsAwaiting P N) → EndsOutcome ⊥ S P N L (crew_of D) end → HasPacedOut ⊥ S (timing_of W) P N L (crew_of D) (pace.Outcome end)
     ends_with stands patient in_range kinds moments naps fault unfinished ends = record {
       suits = p.suits;
       stands = stands;
@@ -137,12 +137,12 @@ module _ (S : Setting) (core : CoreState) (log : List LogEntry) (s : SimNo) (m :
     }
 
   -- the core hasn't taken it
-  untaken : (end : Outcome) → None ≡ fault_named end → (IsBrokenOff end → IsAwaiting P J) → EndsOutcome ⊥ S P J L (crew_of D) end → HasPacedOut ⊥ S W.tempo W.strict P J W.moments L (crew_of D) (pace.Outcome end)
+  untaken : (end : Outcome) → None ≡ fault_named end → (IsBrokenOff end → IsAwaiting P J) → EndsOutcome ⊥ S P J L (crew_of D) end → HasPacedOut ⊥ S (timing_of W) P J L (crew_of D) (pace.Outcome end)
   untaken end unnamed unfinished ends = ends_with J (λ i. refl) (got_front J (Got s m)) end p.stands p.patient p.in_range p.kinds (moments_later W.tempo W.strict J h.before h.entries W.moments p.moments_are)
       (met_naps_before S W.tempo W.strict P J h.before h.entries h.crew (crew_of D) D.sims W.holds W.moments p s m h.nobody h.of_links h.fit h.heard) (p.no_fault ∙ unnamed) unfinished ends
 
   -- it is the journal's last entry
-  faulty : (end : Outcome) → Stands P K → (view P K).fault ≡ fault_named end → (IsBrokenOff end → IsAwaiting P K) → EndsOutcome ⊥ S P K L (crew_of D) end → HasPacedOut ⊥ S W.tempo W.strict P K W.moments L (crew_of D) (pace.Outcome end)
+  faulty : (end : Outcome) → Stands P K → (view P K).fault ≡ fault_named end → (IsBrokenOff end → IsAwaiting P K) → EndsOutcome ⊥ S P K L (crew_of D) end → HasPacedOut ⊥ S (timing_of W) P K L (crew_of D) (pace.Outcome end)
   faulty end stands fault unfinished ends = ends_with K (sent_got J s m) (λ i. ([], sym (append_nil (got K i)))) end stands (patient_got P J s m p.patient h.nobody)
       (range_got J s m p.in_range (met_fits S W.tempo W.strict P J h.before h.entries h.crew (crew_of D) D.sims W.holds W.moments p s m h.nobody h.of_links h.fit h.heard))
       (met_kinds S W.tempo W.strict P J h.before h.entries h.crew (crew_of D) D.sims W.holds W.moments p s m h.nobody h.of_links h.fit h.heard)
@@ -150,21 +150,21 @@ module _ (S : Setting) (core : CoreState) (log : List LogEntry) (s : SimNo) (m :
       (met_naps S W.tempo W.strict P J h.before h.entries h.crew (crew_of D) D.sims W.holds W.moments p s m h.nobody h.of_links h.fit h.heard []) fault unfinished ends
 
   -- over the whole log
-  at_log : (new : CoreState) (end : Outcome) → HasPacedOut ⊥ S W.tempo W.strict new.plan new.entries W.moments L (crew_of D) (pace.Outcome end) → IsStopping ⊥ S new log D W (pace.Outcome end)
-  at_log new end e = subst (λ (l : List LogEntry). HasPacedOut ⊥ S W.tempo W.strict new.plan new.entries W.moments l (crew_of D) (pace.Outcome end)) (sym h.parts) e
+  at_log : (new : CoreState) (end : Outcome) → HasPacedOut ⊥ S (timing_of W) new.plan new.entries L (crew_of D) (pace.Outcome end) → IsStopping ⊥ S new log D W (pace.Outcome end)
+  at_log new end e = subst (λ (l : List LogEntry). HasPacedOut ⊥ S (timing_of W) new.plan new.entries l (crew_of D) (pace.Outcome end)) (sym h.parts) e
 
   pub fault_ends : (new : CoreState) (f : CoreFault) → core.ended ≡ None → Stands new.plan new.entries → WasFaulty core f new ⊎ (IsUntaken core f new ⊎ (IsFaulty core s m f new ⊎ IsUnanswered core s m f new)) → IsStopping ⊥ S new log D W (pace.Outcome (outcome.Core f))
   fault_ends new f going stands (inl was) = absurd (none_some (sym going ∙ was.0))
   fault_ends new f going stands (inr (inl un)) = subst (λ (c : CoreState). IsStopping ⊥ S c log D W (pace.Outcome (outcome.Core f))) (sym un.ended)
       (at_log core (outcome.Core f) (untaken (outcome.Core f) (limit_unnamed f core.plan.entries un.named) (λ broken. absurd broken)
       (inr (record { named = un.named; full = un.full; no_fault = p.no_fault; more = inr (inr (met_left, (h.opened, h.nobody))) }))))
-  fault_ends new f going stands (inr (inr (inl bad))) = at_log new (outcome.Core f) (subst (λ (c : CoreState). HasPacedOut ⊥ S W.tempo W.strict c.plan c.entries W.moments L (crew_of D) (pace.Outcome (outcome.Core f))) (sym bad.ended)
+  fault_ends new f going stands (inr (inr (inl bad))) = at_log new (outcome.Core f) (subst (λ (c : CoreState). HasPacedOut ⊥ S (timing_of W) c.plan c.entries L (crew_of D) (pace.Outcome (outcome.Core f))) (sym bad.ended)
       (faulty (outcome.Core f) (subst (λ (c : CoreState). Stands c.plan c.entries) bad.ended stands) bad.made (λ broken. absurd broken)
       (inl (record { before = J; sim = s; message = m; is = refl; right_before = p.no_fault; named = bad.named; fault = bad.made }))))
-  fault_ends new f going stands (inr (inr (inr un))) = at_log new (outcome.Core f) (subst (λ (c : CoreState). HasPacedOut ⊥ S W.tempo W.strict c.plan c.entries W.moments L (crew_of D) (pace.Outcome (outcome.Core f))) (sym un.ended)
+  fault_ends new f going stands (inr (inr (inr un))) = at_log new (outcome.Core f) (subst (λ (c : CoreState). HasPacedOut ⊥ S (timing_of W) c.plan c.entries L (crew_of D) (pace.Outcome (outcome.Core f))) (sym un.ended)
       (faulty (outcome.Core f) (subst (λ (c : CoreState). Stands c.plan c.entries) un.ended stands) (un.no_fault ∙ limit_unnamed f core.plan.entries un.named) (λ broken. absurd broken)
       (inr (record { named = un.named; full = un.full; no_fault = un.no_fault; more = inl un.owed }))))
 
   pub untaken_for_memory : (new : CoreState) → IsOutOfMemory core new → IsStopping ⊥ S new log D W (pace.Outcome outcome.Mem)
-  untaken_for_memory new o = at_log new outcome.Mem (subst (λ (c : CoreState). HasPacedOut ⊥ S W.tempo W.strict c.plan c.entries W.moments L (crew_of D) (pace.Outcome outcome.Mem)) (sym o.ended)
+  untaken_for_memory new o = at_log new outcome.Mem (subst (λ (c : CoreState). HasPacedOut ⊥ S (timing_of W) c.plan c.entries L (crew_of D) (pace.Outcome outcome.Mem)) (sym o.ended)
       (untaken outcome.Mem refl (λ broken. absurd broken) tt))

@@ -13,6 +13,7 @@ use Rattle.mk_run.specs.declared.outcome.Outcome.TheVariants as outcome
 use Rattle.mk_pace_laws.specs.declared.end.PaceEnd.{PaceEnd}
 use Rattle.mk_pace_laws.specs.declared.end.PaceEnd.TheVariants as ends
 use Rattle.mk_pace_laws.specs.Laws.{PacesAreRight}
+use Rattle.mk_pace_laws.specs.Moments.{timing}
 use Rattle.mosaikrun_sayings.specs.Sayings.{ids_of}
 use Rattle.mosaikrun_run.specs.declared.sayings.Form.TheVariants.{Report}
 use Rattle.mosaikrun_run.specs.Outcomes.{IsSaid, exchange_in}
@@ -29,7 +30,7 @@ done_alone ids P J (ends.Late sim time late allowed) text (inr wanting) = absurd
 pub texts_sequential : PacesAreRight → PacedTextsAreSequential
 texts_sequential rights O factor strict wanted S text kept p R possible =
     let done = done_alone (ids_of S) p.plan p.journal p.end text p.said in
-    let right = rights (exchange_in O S) p.plan p.journal (record { origin = p.run.origin; factor = factor }) strict p.moments O.faults O.new_faults p.end p.run.run in
+    let right = rights (exchange_in O S) p.plan p.journal (timing (record { origin = p.run.origin; factor = factor }) strict p.moments) O.faults O.new_faults p.end p.run.run in
     let all = (right.done done.0).all R possible in
     (done.1 ∙ report_bare p.plan (sent p.journal) (run_items p.plan R) (λ i low. (all i).0), λ i low. (all i).1)
 

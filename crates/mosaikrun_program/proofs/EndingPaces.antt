@@ -41,12 +41,13 @@ use Rattle.mosaikrun_program.proofs.Deciding.{readable_status}
 use Rattle.mosaikrun_program.proofs.EndingRuns.{not_both, runnable_not, status_of_none, status_of_text}
 use Rattle.mosaikrun_program.proofs.Rows.{IsThere}
 use Rattle.mosaikrun_program.proofs.Playing.{WasPaced, was_paced}
+use Rattle.mk_pace_laws.specs.Moments.{timing}
 
 module _ (C : Around) (factor : ℕ) (strict : Option ℕ) (name : Option (List ℕ)) (bytes : List ℕ) (text : Result (List ℕ) Ending) (kept : Option (List ℕ)) (r : Result (Unit {0}) Ending) (said : RunAnswer C.folder C.output name text kept r) where
   -- what a faultless study says of each paced run of this scenario
   abbrev ShowsFaultless : Scenario → Type 0
   ShowsFaultless S = (any : List ℕ) (P : Plan) (J : List Entry) (moments : List Moment) (end : PaceEnd) → (h : HasPaced (attempt_in C.outside S any) factor strict P J moments C.outside.faults C.outside.new_faults end)
-      → IsFaultlessPace (exchange_in C.outside S) P J (record { origin = h.origin; factor = factor }) strict moments C.outside.faults C.outside.new_faults
+      → IsFaultlessPace (exchange_in C.outside S) P J (timing (record { origin = h.origin; factor = factor }) strict moments) C.outside.faults C.outside.new_faults
 
   -- where nothing goes wrong
   ended : HandshakesComplete → IsPacedOutcome C.outside factor strict (is_some name) bytes text kept → IsFaultlessPacedStudy C.outside factor strict bytes → IsStatusOr 0 (status r)
@@ -69,7 +70,7 @@ module _ (C : Around) (factor : ℕ) (strict : Option ℕ) (name : Option (List 
           status_of_none C name text kept r said Mem (elim u.said [ inl is ↦ is ∙ ap (λ h. Err (halt_ending (ids_of has.scenario) h)) mem | inr is ↦ is ]) 0 (inl refl)
       go (inr (inr p)) =
           let fine = subst ShowsFaultless same f.run p.ranks p.plan p.journal p.moments p.end p.run in
-          elim (pace_completes (exchange_in C.outside has.scenario) p.plan p.journal (record { origin = p.run.origin; factor = factor }) strict p.moments C.outside.faults C.outside.new_faults p.end p.run.run fine) [
+          elim (pace_completes (exchange_in C.outside has.scenario) p.plan p.journal (timing (record { origin = p.run.origin; factor = factor }) strict p.moments) C.outside.faults C.outside.new_faults p.end p.run.run fine) [
             | inl done ↦ elim p.said [
               | inl is ↦ status_of_text C name text kept r said (report p.plan (sent p.journal)) (is ∙ ap (pace_saying (ids_of has.scenario) p.plan p.journal) done)
               | inr is ↦ status_of_none C name text kept r said Mem is 0 (inl refl)

@@ -60,6 +60,7 @@ use Rattle.mk_plan.specs.Report.{report}
 use Rattle.mk_scenario.specs.Scenarios.{scenario_of}
 use Rattle.mk_pace_laws.specs.declared.end.PaceEnd.TheVariants as pace_end
 use Rattle.mk_pace_laws.proofs.PacesRight.{paces_right}
+use Rattle.mk_pace_laws.specs.Moments.{timing}
 use Rattle.mosaikrun_paced.specs.Outcomes.{IsPacedOutcome, IsPacedRun, IsPacedScenario}
 use Rattle.mosaikrun_paced.proofs.Reporting as pacing
 use Rattle.mosaikrun_program.proofs.Playing.{WasPaced, WasRun, was_paced, was_run}
@@ -338,7 +339,7 @@ module _ (C : Around) (factor : ℕ) (strict : Option ℕ) (S : Scenario) (name 
       → Filed C name n p.plan p.journal → IsRightPacedRun C factor strict S name n
   paced text kept n p over told filed =
       let O = C.outside in
-      let right = paces_right (exchange_in O S) p.plan p.journal (record { origin = p.run.origin; factor = factor }) strict p.moments O.faults O.new_faults p.end p.run.run in
+      let right = paces_right (exchange_in O S) p.plan p.journal (timing (record { origin = p.run.origin; factor = factor }) strict p.moments) O.faults O.new_faults p.end p.run.run in
       let come : Messages = λ i. coming (sim_link O.started S i) (run_messages S O.log i) (got p.journal i) in
       record {
         ranks = p.ranks;

@@ -24,6 +24,7 @@ use Rattle.mk_pace_laws.specs.declared.end.Moment.{Moment}
 use Rattle.mk_pace_laws.specs.declared.end.PaceEnd.{PaceEnd}
 use Rattle.mk_pace_laws.specs.Laws.{IsFaultlessPace}
 use Rattle.mk_pace_laws.specs.Paced.{HasPaced}
+use Rattle.mk_pace_laws.specs.Moments.{timing}
 use Rattle.mk_resume.specs.Laws as onward
 use Rattle.mk_resume.specs.Resumed.{HasRefused, HasResumed}
 use Rattle.mosaikrun_words.specs.declared.request.Request.TheVariants.{Run, Resume, Paced}
@@ -123,7 +124,7 @@ pub record IsFaultlessPacedStudy (O : Outside) (factor : ℕ) (strict : Option �
       → (h : HasPaced (attempt_in O scenario any) factor strict P J moments O.faults
       O.new_faults end)
       → IsFaultlessPace (exchange_in O scenario) P J
-      (record { origin = h.origin; factor = factor }) strict moments O.faults O.new_faults
+      (timing (record { origin = h.origin; factor = factor }) strict moments) O.faults O.new_faults
 
 -- a paced run of a file's bytes, where nothing goes wrong, comes to its end: its status is 0, or that of
 -- a folder or an output that failed, or of want of memory. Where the bytes are refused, as by a run, it

@@ -18,6 +18,7 @@ use Rattle.mk_pace_laws.specs.declared.end.PaceEnd.{PaceEnd}
 use Rattle.mk_pace_laws.specs.Paced.{IsPaced, PacesAs}
 use Rattle.mk_pace_loop.specs.inner.Turns.{GoesOn}
 use Rattle.mk_pace_loop.specs.inner.Waiting.{WaitingSeen}
+use Rattle.mk_pace_laws.specs.Moments.{timing}
 
 -- the log has grown by these entries, and each number that the clock told is no less than those
 -- that it told before
@@ -38,8 +39,8 @@ abbrev pub GoesOnAs : CoreState → CrewSeen → WaitingSeen → List LogEntry �
     → Option Journal → List Moment → PaceEnd → Type 0
 GoesOnAs core C W entries faults new_faults (Some P) (Some J) moments end = (S : Setting)
     (log : List LogEntry) (before : ℕ) → before ≤ faults → GoesOn S core log C W
-    → (P ≡ core.plan) × (r : IsPaced
-    (exchange_at S (log ++ entries)) P J.entries W.tempo W.strict moments before new_faults end)
+    → (P ≡ core.plan) × (r : IsPaced (exchange_at S (log ++ entries)) P J.entries
+    (timing W.tempo W.strict moments) before new_faults end)
     × (r.replies ≡ S.replies)
 GoesOnAs core C W entries faults new_faults (Some P) None moments end = ⊥
 GoesOnAs core C W entries faults new_faults None J moments end = ⊥

@@ -1,5 +1,5 @@
 -- When a paced run has ended, and its crew is still to be stopped. For proofs alone.
-use Rattle.std.specs.Prelude.{◌≡◌, ◌⊎◌, ℕ, ◌≤◌, true, List, [], ◌∷◌, ◌++◌, length, filter, Option, Some, None}
+use Rattle.std.specs.Prelude.{◌≡◌, ◌⊎◌, ℕ, ◌≤◌, true, List, [], ◌∷◌, ◌++◌, length, filter, Some, None}
 use Rattle.mk_base.specs.declared.LinkNo.{LinkNo}
 use Rattle.mk_base.specs.declared.SimNo.{SimNo}
 use Rattle.mk_base.specs.Lists.{BeginsWith}
@@ -25,26 +25,25 @@ use Rattle.mk_run.specs.Ends.{AreInRange, IsAwaiting, IsFull, IsOpenWithin}
 use Rattle.mk_sched.specs.inner.Patient.{IsPatient}
 use Rattle.mk_run.specs.inner.Shown.{EndsAs}
 use Rattle.mk_run.specs.inner.Underway.{HasNoOther, Setting, Suits, reply_in}
-use Rattle.mk_pace_laws.specs.declared.end.Moment.{Moment}
 use Rattle.mk_pace_laws.specs.declared.end.PaceEnd.{PaceEnd}
 use Rattle.mk_pace_laws.specs.declared.end.PaceEnd.TheVariants as pace
 use Rattle.mk_pace_laws.specs.Ends.{IsBroken, IsLate, IsLongAmong, QueuedOut, fault_of}
-use Rattle.mk_pace_laws.specs.Moments.{AreMoments, Tempo, sent_out}
+use Rattle.mk_pace_laws.specs.Moments.{AreMoments, Timing, sent_out}
 use Rattle.mk_pace_laws.specs.Naps.{AreAllLinked, AreNaps, AreTold, IsTimely, NapsLook}
 use Rattle.mk_pace_laws.specs.Paced.{IsOrigin}
 
 -- a channel at the end: the messages that it gave go on from those of the journal, and the items
 -- queued on it are those that were sent out, the moment of each Step among them having been told
-pub record IsLastPacedChannel (S : Setting) (T : Tempo) (J : List Entry) (moments : List Moment)
-    (log : List LogEntry) (C : CrewState) (end : PaceEnd) (i : ℕ) (l : LinkNo) : Type 0 where
+pub record IsLastPacedChannel (S : Setting) (T : Timing) (J : List Entry) (log : List LogEntry)
+    (C : CrewState) (end : PaceEnd) (i : ℕ) (l : LinkNo) : Type 0 where
   pub messages : List Message
   pub items : List Item
   pub channel : HasChannel S.scenario S.replies log i l messages items C
   pub given : BeginsWith messages (got J i)
   pub queued : BeginsWith (sent J i) items
-  pub out : QueuedOut end (sent_out J moments i) items
-  pub told : AreTold T log items
-  pub timely : IsTimely T S.scenario i l items log
+  pub out : QueuedOut end (sent_out J T.moments i) items
+  pub told : AreTold T.tempo log items
+  pub timely : IsTimely T.tempo S.scenario i l items log
 
 -- the channel of simulator i gave all messages that the journal got, and holds no further one
 pub record HasGivenPaced (S : Setting) (J : List Entry) (log : List LogEntry) (C : CrewState)
@@ -75,33 +74,32 @@ EndsOutcome risen S P J log C = EndsAs risen (IsDone P (view P J))
     (HasGivenPaced S J log C) (λ i l g. g.channel.channel.held)
     (IsLongAmong S.started S.scenario P J) P J log
 
-abbrev pub EndsPace : Type 0 → Setting → Plan → Tempo → Option ℕ → List Entry → List Moment
-    → List LogEntry → CrewState → PaceEnd → Type 0
-EndsPace risen S P T strict J moments log C (pace.Outcome end) = EndsOutcome risen S P J log C end
-EndsPace risen S P T strict J moments log C
-    (pace.Late sim time late allowed) = IsLate T strict J moments log sim time late allowed
+abbrev pub EndsPace : Type 0 → Setting → Plan → Timing → List Entry → List LogEntry → CrewState
+    → PaceEnd → Type 0
+EndsPace risen S P T J log C (pace.Outcome end) = EndsOutcome risen S P J log C end
+EndsPace risen S P T J log C
+    (pace.Late sim time late allowed) = IsLate T J log sim time late allowed
 
 -- the paced run has come to its end
-pub record HasPacedOut (risen : Type 0) (S : Setting) (T : Tempo) (strict : Option ℕ) (P : Plan)
-    (J : List Entry) (moments : List Moment) (log : List LogEntry) (C : CrewState)
-    (end : PaceEnd) : Type 0 where
+pub record HasPacedOut (risen : Type 0) (S : Setting) (T : Timing) (P : Plan) (J : List Entry)
+    (log : List LogEntry) (C : CrewState) (end : PaceEnd) : Type 0 where
   pub suits : Suits S P
   pub stands : Stands P J
   pub patient : IsPatient P J
   pub in_range : AreInRange J
   pub kinds : KeepsToKinds (reply_in S) (is_within S.scenario) P J
   pub channels : (i : ℕ) (l : LinkNo) → sim_link S.started S.scenario i ≡ Some l
-      → IsLastPacedChannel S T J moments log C end i l
+      → IsLastPacedChannel S T J log C end i l
   pub no_other : HasNoOther S C
-  pub origin : IsOrigin S.started S.scenario log T.origin
-  pub moments_are : AreMoments T strict J log moments
+  pub origin : IsOrigin S.started S.scenario log T.tempo.origin
+  pub moments_are : AreMoments T.tempo T.strict J log T.moments
   pub within : (i : ℕ) → is_within S.scenario i ≡ true
-      → length (got J i) ≤ length (filter takes_id (sent_out J moments i))
+      → length (got J i) ≤ length (filter takes_id (sent_out J T.moments i))
   pub setup_rests : (before after : List LogEntry) → log ≡ before ++ Rest ∷ after
       → IsWellInSetup S.started S.scenario before × (AllSetUp S.started S.scenario before → ⊥)
   pub on_links : AreOnOrOfClock (IsRunLink S.started S.scenario) log
-  pub naps : AreAllLinked S.scenario → AreNaps S.started S.scenario S.replies P T J log
+  pub naps : AreAllLinked S.scenario → AreNaps S.started S.scenario S.replies P T.tempo J log
   pub looks : NapsLook S.started S.scenario log
-  pub ends : EndsPace risen S P T strict J moments log C end
+  pub ends : EndsPace risen S P T J log C end
   pub fault : (view P J).fault ≡ fault_of end
   pub unfinished : IsBroken end → IsAwaiting P J

@@ -26,7 +26,7 @@ use Rattle.mk_pace_laws.specs.declared.end.PaceEnd.{PaceEnd}
 use Rattle.mk_pace_laws.specs.declared.end.PaceEnd.TheVariants as pace
 use Rattle.mk_pace_loop.specs.inner.Pacing.{IsPacing}
 use Rattle.mk_pace_loop.specs.inner.PacedOut.{HasPacedOut}
-use Rattle.mk_pace_loop.specs.inner.Waiting.{AreEarly, IsHeldLast, IsSomeHeld, WaitingSeen}
+use Rattle.mk_pace_loop.specs.inner.Waiting.{AreEarly, IsHeldLast, IsSomeHeld, WaitingSeen, timing_of}
 
 -- core, crew and what waits have come about together over the log
 abbrev pub GoesOn : Setting → CoreState → List LogEntry → CrewSeen → WaitingSeen → Type 0
@@ -35,8 +35,8 @@ GoesOn S core log C W = IsPacing S core.plan core.entries log (crew_of C) C.sims
 -- core, crew and what waits have come to this end
 abbrev pub IsStopping : Type 0 → Setting → CoreState → List LogEntry → CrewSeen → WaitingSeen
     → PaceEnd → Type 0
-IsStopping risen S core log C W end = HasPacedOut risen S W.tempo W.strict core.plan core.entries
-    W.moments log (crew_of C) end
+IsStopping risen S core log C W end = HasPacedOut risen S (timing_of W) core.plan core.entries log
+    (crew_of C) end
 
 -- the clock was just looked at, and told this
 abbrev pub HasJustTold : ℕ → List LogEntry → Type 0

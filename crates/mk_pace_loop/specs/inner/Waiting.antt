@@ -11,7 +11,7 @@ use Rattle.mk_pace_held.specs.Firsts.{IsChanged, first_at}
 use Rattle.mk_pace_laws.specs.declared.end.Moment.{Moment}
 use Rattle.mk_pace_laws.specs.declared.end.PaceEnd.{PaceEnd}
 use Rattle.mk_pace_laws.specs.declared.end.PaceEnd.TheVariants as pace
-use Rattle.mk_pace_laws.specs.Moments.{Tempo, moment_at}
+use Rattle.mk_pace_laws.specs.Moments.{Tempo, Timing, moment_at, timing}
 
 -- for each simulator what waits of its items, the moments of what was sent, the tempo, and how many
 -- milliseconds late a Step may be
@@ -29,6 +29,10 @@ waiting_seen T strict holds moments = record {
   tempo = T;
   strict = strict;
 }
+
+-- by what the Steps that wait were paced so far
+abbrev pub timing_of : WaitingSeen → Timing
+timing_of W = timing W.tempo W.strict W.moments
 
 -- when an item is due, if it is a Step
 abbrev pub DueAs : Tempo → Item → Option Due → Type 0
