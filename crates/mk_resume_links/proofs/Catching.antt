@@ -29,6 +29,7 @@ use Rattle.mk_resume_links.proofs.Growing.{count_sent, free_before, given_away, 
 use Rattle.mk_resume_links.proofs.Repeating.{kinds_longer, kinds_more, kinds_none}
 use Rattle.mk_resume_links.proofs.Touching.{begun, kept_within, linked_out, queued_on_link, seen_as, taken_kept, taken_off}
 use Rattle.mk_resume_links.proofs.Waiting.{kept_over, link_over, none_yet, over_longer, over_so_far, ready_over, rests_waited}
+use Rattle.mk_run_laws.specs.Exchanges.{exchange}
 
 -- ---- counts, apart from what stands around them
 
@@ -58,7 +59,7 @@ more_away heard s i apart = ap (λ (b : Bool). if b then heard i + 1 else heard 
 
 module _ (saved : Counts) (started : ℕ) (S : Scenario) (replies : SetupReplies) (reply : Replies) (P : Plan) where
   abbrev With : (ℕ → List Item) → (ℕ → List Message) → List Entry → Counts → List LogEntry → CrewState → Type 0
-  With X A J heard log C = IsCatchingWith X A saved started S replies reply P J heard log C
+  With X A J heard log C = IsCatchingWith X A saved (exchange started S reply log) replies P J heard C
 
   few : (J : List Entry) (heard : Counts) → ((i : ℕ) → length (got J i) ≡ max (saved i) (heard i)) → (i : ℕ) → heard i ≤ length (got J i)
   few J heard counts i = few_heard (length (got J i)) (saved i) (heard i) (counts i)
@@ -228,7 +229,7 @@ module _ (saved : Counts) (started : ℕ) (S : Scenario) (replies : SetupReplies
       not_nil e = cc
 
   -- a reply is one that its simulator has to send again
-  pub again_within : (J : List Entry) (heard : Counts) (log entries : List LogEntry) (C D : CrewState) (s : ℕ) (m : Message) → IsCatching saved started S replies reply P J heard log C
+  pub again_within : (J : List Entry) (heard : Counts) (log entries : List LogEntry) (C D : CrewState) (s : ℕ) (m : Message) → IsCatching saved (exchange started S reply log) replies P J heard C
       → C.kept ≡ record { sim = s; message = m } ∷ D.kept → D.channels ≡ C.channels → entries ≡ [] → slice_get (got J s) (heard s) ≡ Some m
       → With (λ i. free_items J i (heard i)) (λ i. kept_of i D.kept) J (one_more heard s) (log ++ entries) D × RestsOver saved started S replies P J (log ++ entries) × WasAwaited S reply J heard s m D.kept
   again_within J heard log entries C D s m c is channels none there =
@@ -247,7 +248,7 @@ module _ (saved : Counts) (started : ℕ) (S : Scenario) (replies : SetupReplies
       )
 
   -- a reply of a simulator that had caught up is the journal's next entry
-  pub new_within : (J : List Entry) (heard : Counts) (log entries : List LogEntry) (C D : CrewState) (s : SimNo) (m : Message) → IsCatching saved started S replies reply P J heard log C
+  pub new_within : (J : List Entry) (heard : Counts) (log entries : List LogEntry) (C D : CrewState) (s : SimNo) (m : Message) → IsCatching saved (exchange started S reply log) replies P J heard C
       → C.kept ≡ record { sim = s.0; message = m } ∷ D.kept → D.channels ≡ C.channels → entries ≡ [] → heard s.0 ≡ length (got J s.0)
       → With (λ i. free_items J i (heard i)) (λ i. kept_of i D.kept) (J ++ Got s m ∷ []) (one_more heard s.0) (log ++ entries) D × RestsOver saved started S replies P (J ++ Got s m ∷ []) (log ++ entries) × WasAwaited S reply J heard s.0 m D.kept
   new_within J heard log entries C D s m c is channels none caught =
@@ -272,7 +273,7 @@ module _ (saved : Counts) (started : ℕ) (S : Scenario) (replies : SetupReplies
       own n got_it is = some_same (sym got_it ∙ last_there (got J s.0) (got (J ++ Got s m ∷ []) s.0) m (heard s.0) caught (got_here J s m)) ∙ is ∙ ap (λ (l : List Item). reply s.0 (map bare l)) (sym (free_before J s m (heard s.0) caught))
 
   -- a reply was taken, and the run ends by it
-  pub apart_within : (J : List Entry) (heard : Counts) (log entries : List LogEntry) (C D : CrewState) (s : ℕ) (m : Message) → IsCatching saved started S replies reply P J heard log C
+  pub apart_within : (J : List Entry) (heard : Counts) (log entries : List LogEntry) (C D : CrewState) (s : ℕ) (m : Message) → IsCatching saved (exchange started S reply log) replies P J heard C
       → C.kept ≡ record { sim = s; message = m } ∷ D.kept → D.channels ≡ C.channels → entries ≡ []
       → IsInTouch (λ i. repeated J i (heard i)) (λ i. free_items J i (heard i)) (λ i. kept_of i D.kept) started S replies (log ++ entries) D × RestsOver saved started S replies P J (log ++ entries) × WasAwaited S reply J heard s m D.kept
   apart_within J heard log entries C D s m c is channels none =

@@ -28,6 +28,7 @@ use Rattle.mk_resume_links.specs.inner.Touching.{RestsOver}
 use Rattle.mk_resume_links.proofs.Catching.{catching_kept, catching_queued, catching_ready, catching_sent, more_away, more_here, one_more}
 use Rattle.mk_resume_links.proofs.Growing.{free_got_away, free_got_here, free_sent_away, free_sent_behind, free_sent_here, given_away, given_here, got_here}
 use Rattle.mk_resume_links.proofs.Touching.{linked_out, seen_as}
+use Rattle.mk_run_laws.specs.Exchanges.{exchange}
 
 -- ---- tests of numbers
 
@@ -53,10 +54,10 @@ one_behind k n m more is = omega (arith, more, is)
 
 module _ (saved : Counts) (started : ℕ) (S : Scenario) (replies : SetupReplies) (reply : Replies) (P : Plan) where
   abbrev With : (ℕ → List Item) → (ℕ → List Message) → List Entry → Counts → List LogEntry → CrewState → Type 0
-  With X A J heard log C = IsCatchingWith X A saved started S replies reply P J heard log C
+  With X A J heard log C = IsCatchingWith X A saved (exchange started S reply log) replies P J heard C
 
   abbrev Catching : List Entry → Counts → List LogEntry → CrewState → Type 0
-  Catching J heard log C = IsCatching saved started S replies reply P J heard log C
+  Catching J heard log C = IsCatching saved (exchange started S reply log) replies P J heard C
 
   -- ---- what is awaited
 

@@ -9,7 +9,7 @@ use Rattle.mk_outside.specs.declared.fleet.LogEntry.{LogEntry}
 use Rattle.mk_local.specs.Simulators.{Simulator}
 use Rattle.mk_run_laws.specs.Handshake.{is_within}
 use Rattle.mk_run_laws.specs.Crews.{CrewState, kept_of, IsHeard}
-use Rattle.mk_run.specs.inner.Underway.{Setting, reply_in}
+use Rattle.mk_run.specs.inner.Underway.{Setting, reply_in, exchange_at}
 use Rattle.mk_resume_walk.specs.Talks.{free_items}
 use Rattle.mk_resume_links.specs.Rests.{Counts}
 use Rattle.mk_resume_links.specs.inner.Catching.{IsCatchingWith, awaited}
@@ -32,7 +32,7 @@ module _ (T : Setting) (P : Plan) (first J : List Entry) (heard : Counts) (log :
   abbrev u : IsResuming T P first J heard h.before h.crew sims
   u = h.resuming
 
-  with_catching : IsCatchingWith (λ i. free_items J i (heard i)) (λ i. kept_of i D.kept) (saved_of first) T.started T.scenario T.replies (reply_in T) P J (one_more heard s.0) log D
+  with_catching : IsCatchingWith (λ i. free_items J i (heard i)) (λ i. kept_of i D.kept) (saved_of first) (exchange_at T log) T.replies P J (one_more heard s.0) D
       → IsResumingWith (course_of T first (one_more heard s.0) (λ i. free_items J i (heard i)) (λ i. kept_of i D.kept) log) P J D sims
   with_catching c = record {
     suits = u.suits;
@@ -56,7 +56,7 @@ module _ (T : Setting) (P : Plan) (first J : List Entry) (heard : Counts) (log :
       go : IsHeard h.entries s.0 m h.crew D → IsRepeated T P first J heard log s.0 D sims
       go (IsHeard.kept at channels none) =
           let t = again_within (saved_of first) T.started T.scenario T.replies (reply_in T) P J heard h.before h.entries h.crew D s.0 m u.catching at channels none is in record {
-            resuming = with_catching (subst (λ (l : List LogEntry). IsCatchingWith (λ i. free_items J i (heard i)) (λ i. kept_of i D.kept) (saved_of first) T.started T.scenario T.replies (reply_in T) P J (one_more heard s.0) l D) (sym h.parts) t.0);
+            resuming = with_catching (subst (λ (l : List LogEntry). IsCatchingWith (λ i. free_items J i (heard i)) (λ i. kept_of i D.kept) (saved_of first) (exchange_at T l) T.replies P J (one_more heard s.0) D) (sym h.parts) t.0);
             none = t.2.none;
             others = t.2.others;
             over = λ inside. subst (RestsOver (saved_of first) T.started T.scenario T.replies P J) (sym h.parts) t.1;
@@ -65,7 +65,7 @@ module _ (T : Setting) (P : Plan) (first J : List Entry) (heard : Counts) (log :
           let k = met_back T P first J heard log s m D sims h w there in
           let c = again_on_link (saved_of first) T.started T.scenario T.replies (reply_in T) P (awaited T.scenario (reply_in T) J heard) J heard h.before h.entries h.crew D s.0 m k.0 u.catching (resting T P first J heard h.before h.crew sims u h.nobody none) k.1 none after moved parked is in
           record {
-            resuming = with_catching (subst (λ (l : List LogEntry). IsCatchingWith (λ i. free_items J i (heard i)) (λ i. kept_of i D.kept) (saved_of first) T.started T.scenario T.replies (reply_in T) P J (one_more heard s.0) l D) (sym h.parts)
+            resuming = with_catching (subst (λ (l : List LogEntry). IsCatchingWith (λ i. free_items J i (heard i)) (λ i. kept_of i D.kept) (saved_of first) (exchange_at T l) T.replies P J (one_more heard s.0) D) (sym h.parts)
                 (seen (saved_of first) T.started T.scenario T.replies (reply_in T) P (λ i. free_items J i (heard i)) (λ i. free_items J i (heard i)) (awaited T.scenario (reply_in T) J heard) (λ i. kept_of i D.kept) J (one_more heard s.0) (h.before ++ h.entries) D c
                 (λ i l linked. refl) (λ i. sym (c.touch.kept i))));
             none = ap (kept_of s.0) after;

@@ -20,7 +20,7 @@ use Rattle.mk_run_crew.specs.Seen.{CrewSeen, crew_of}
 use Rattle.mk_run.specs.declared.outcome.Outcome.{Outcome}
 use Rattle.mk_run.specs.Outcomes.{outcome_of}
 use Rattle.mk_run.specs.inner.Sendings.{EndsWithItem, IsUnsent}
-use Rattle.mk_run.specs.inner.Underway.{Setting, reply_in}
+use Rattle.mk_run.specs.inner.Underway.{Setting, reply_in, exchange_at}
 use Rattle.mk_sched.proofs.Pushed.{fault_after_sent, patient_got, patient_sent}
 use Rattle.mk_run.proofs.Pushed.{range_got, range_sent}
 use Rattle.mk_resume_walk.specs.Talks.{free_items}
@@ -78,10 +78,10 @@ module _ (T : Setting) (core new : CoreState) (first : List Entry) (heard : Coun
 
   -- ---- the journal has the item, and it wasn't sent yet
 
-  catching : IsCatchingWith free kept (saved_of first) T.started T.scenario T.replies (reply_in T) core.plan after next (h.before ++ h.entries) (crew_of C)
+  catching : IsCatchingWith free kept (saved_of first) (exchange_at T (h.before ++ h.entries)) T.replies core.plan after next (crew_of C)
   catching = go h.met
     where
-      go : IsHeard h.entries s.0 m h.crew (crew_of C) → IsCatchingWith free kept (saved_of first) T.started T.scenario T.replies (reply_in T) core.plan after next (h.before ++ h.entries) (crew_of C)
+      go : IsHeard h.entries s.0 m h.crew (crew_of C) → IsCatchingWith free kept (saved_of first) (exchange_at T (h.before ++ h.entries)) T.replies core.plan after next (crew_of C)
       go (IsHeard.kept at channels none) =
           let t = new_within (saved_of first) T.started T.scenario T.replies (reply_in T) core.plan core.entries heard h.before h.entries h.crew (crew_of C) s m v.catching at channels none caught in
           (catching_sent (saved_of first) T.started T.scenario T.replies (reply_in T) core.plan free kept before next (h.before ++ h.entries) (crew_of C) s a.item t.0 t.1).0
@@ -100,7 +100,7 @@ module _ (T : Setting) (core new : CoreState) (first : List Entry) (heard : Coun
     in_range = range_sent before s a.item (range_got core.entries s m v.in_range (met_fits T core.plan first core.entries heard log s m (crew_of C) C.sims h));
     no_fault = fault_after_sent core.plan before s a.item a.no_fault;
     paid = paid_by_sent core.plan before s a.item;
-    catching = subst (λ (l : List LogEntry). IsCatchingWith free kept (saved_of first) T.started T.scenario T.replies (reply_in T) core.plan after next l (crew_of C)) (sym h.parts) catching;
+    catching = subst (λ (l : List LogEntry). IsCatchingWith free kept (saved_of first) (exchange_at T l) T.replies core.plan after next (crew_of C)) (sym h.parts) catching;
     no_other = met_no_other T core.plan first core.entries heard log s m (crew_of C) C.sims h;
     come = v.come;
     only_within = v.only_within;

@@ -26,7 +26,7 @@ use Rattle.mk_run_laws.proofs.Stepping.{same_or_not}
 use Rattle.mk_run_local.specs.Laws.{RepliesAreKinds}
 use Rattle.mk_run_crew.specs.Seen.{CrewSeen, crew_of, is_here}
 use Rattle.mk_run_crew.specs.Calls.{HasNext, SendsAs}
-use Rattle.mk_run.specs.inner.Underway.{Setting, reply_in}
+use Rattle.mk_run.specs.inner.Underway.{Setting, reply_in, exchange_at}
 use Rattle.mk_run.proofs.Going.{bool_or_not}
 use Rattle.mk_run.proofs.Linked.{sent_here}
 use Rattle.mk_run.proofs.LoopSteps.{asked_opens, asked_id, asked_ready}
@@ -148,7 +148,7 @@ module _ (T : Setting) (old new : CoreState) (first : List Entry) (heard : Count
       stay : (i : ℕ) → (i ≡ s.0 → ⊥) → free_items K i (heard i) ≡ free_items J i (heard i)
       stay i apart = free_sent_away J s item i (heard i) apart
 
-      catching : IsCatching (saved_of first) T.started T.scenario T.replies (reply_in T) P K heard log (crew_of D)
+      catching : IsCatching (saved_of first) (exchange_at T log) T.replies P K heard (crew_of D)
       catching = elim (bool_or_not (is_here C s.0)) [
         | inl here ↦ let t = kept_so T law (λ i. free_items J i (heard i)) (λ i. free_items K i (heard i)) s.0 item id C D more stay u.come u.only_within (λ h. right) so here in
             asked_within (saved_of first) T.started T.scenario T.replies (reply_in T) P J heard log (crew_of C) (crew_of D) s item a.at u.catching ready few

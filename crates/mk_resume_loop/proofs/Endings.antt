@@ -37,7 +37,7 @@ use Rattle.mk_run_crew.specs.Calls.{halt_of}
 use Rattle.mk_run.specs.declared.outcome.Outcome.{Outcome}
 use Rattle.mk_run.specs.declared.outcome.Outcome.TheVariants as outcome
 use Rattle.mk_run.specs.Outcomes.{outcome_of}
-use Rattle.mk_run.specs.inner.Underway.{Setting, reply_in, HasNoOther}
+use Rattle.mk_run.specs.inner.Underway.{Setting, reply_in, HasNoOther, exchange_at}
 use Rattle.mk_run.proofs.Linked.{no_other_moved}
 use Rattle.mk_sched.proofs.Pushed.{patient_got}
 use Rattle.mk_run.proofs.Pushed.{range_got}
@@ -207,7 +207,7 @@ module _ (T : Setting) (first : List Entry) where
       abbrev next : Counts
       next = one_more heard s.0
 
-      taken : IsCatching (saved_of first) T.started T.scenario T.replies (reply_in T) P K next log D
+      taken : IsCatching (saved_of first) (exchange_at T log) T.replies P K next D
       taken = quiet_catching T P first J heard log s m D sims h caught
 
       pub faulty_ends : (o : Outcome) → Stands P K → (IsCutOff (ends.Outcome o) → IsWaiting P K next) → EndsBy risen T P first K next log D (ends.Outcome o) → HasEnded risen T P first K next log D (ends.Outcome o)
@@ -253,7 +253,7 @@ module _ (T : Setting) (first : List Entry) where
   -- ---- nothing was heard
 
   module _ (risen : Type 0) (P : Plan) (J : List Entry) (heard : Counts) (log entries : List LogEntry) (C D : CrewSeen) (u : IsResuming T P first J heard log (crew_of C) C.sims) (nobody : SomeReady P J → ⊥) (unfinished : SomeToCome P J heard) (un : IsUnheard entries (crew_of C) (crew_of D)) where
-    waited : IsCatchingWith (λ i. free_items J i (heard i)) (awaited T.scenario (reply_in T) J heard) (saved_of first) T.started T.scenario T.replies (reply_in T) P J heard (log ++ entries) (crew_of D)
+    waited : IsCatchingWith (λ i. free_items J i (heard i)) (awaited T.scenario (reply_in T) J heard) (saved_of first) (exchange_at T (log ++ entries)) T.replies P J heard (crew_of D)
     waited = catching_unheard (saved_of first) T.started T.scenario T.replies (reply_in T) P (awaited T.scenario (reply_in T) J heard) J heard log entries (crew_of C) (crew_of D) u.catching (resting T P first J heard log (crew_of C) C.sims u nobody un.none_kept) un
 
     no_other_now : HasNoOther T (crew_of D)

@@ -30,7 +30,7 @@ use Rattle.mk_run_laws.proofs.Stepping.{same_or_not}
 use Rattle.mk_run_local.specs.Laws.{RepliesAreKinds}
 use Rattle.mk_run_crew.specs.Seen.{CrewSeen, crew_of, is_here}
 use Rattle.mk_run_crew.specs.Calls.{HasNext, SendsAs}
-use Rattle.mk_run.specs.inner.Underway.{HaveComeBy, Setting, reply_in}
+use Rattle.mk_run.specs.inner.Underway.{HaveComeBy, Setting, reply_in, exchange_at}
 use Rattle.mk_run.proofs.Going.{bool_or_not, here_is_within}
 use Rattle.mk_run.proofs.LoopSteps.{answered_id, answered_opens, none_owed, owed_after}
 use Rattle.mk_sched.proofs.Pushed.{fault_after_sent, patient_got, patient_sent}
@@ -90,10 +90,10 @@ module _ (T : Setting) (P : Plan) (first J : List Entry) (heard : Counts) (log :
   was_last : WasAwaited T.scenario (reply_in T) J heard s.0 m D.kept → length (free_items J s.0 (heard s.0)) ≡ heard s.0 + 1
   was_last was = one_behind (length (free_items J s.0 (heard s.0))) (heard s.0) (free_alternate.at_most P J u.stands.orderly.0 u.no_fault s.0 (heard s.0) (let c = caught in omega (arith, c))) was.more
 
-  pub quiet_catching : IsCatching (saved_of first) T.started T.scenario T.replies (reply_in T) P K next log D
-  quiet_catching = subst (λ (l : List LogEntry). IsCatching (saved_of first) T.started T.scenario T.replies (reply_in T) P K next l D) (sym h.parts) (go h.met)
+  pub quiet_catching : IsCatching (saved_of first) (exchange_at T log) T.replies P K next D
+  quiet_catching = subst (λ (l : List LogEntry). IsCatching (saved_of first) (exchange_at T l) T.replies P K next D) (sym h.parts) (go h.met)
     where
-      go : IsHeard h.entries s.0 m h.crew D → IsCatching (saved_of first) T.started T.scenario T.replies (reply_in T) P K next (h.before ++ h.entries) D
+      go : IsHeard h.entries s.0 m h.crew D → IsCatching (saved_of first) (exchange_at T (h.before ++ h.entries)) T.replies P K next D
       go (IsHeard.kept at channels none) =
           let t = new_within (saved_of first) T.started T.scenario T.replies (reply_in T) P J heard h.before h.entries h.crew D s m u.catching at channels none caught in
           kept_quiet (saved_of first) T.started T.scenario T.replies (reply_in T) P J K heard (h.before ++ h.entries) D s.0 m t.0 t.2 free_others free_here (was_last t.2)
@@ -213,7 +213,7 @@ module _ (T : Setting) (core new : CoreState) (first : List Entry) (heard : Coun
     stay : (i : ℕ) → (i ≡ s.0 → ⊥) → free_then i ≡ free i
     stay i apart = ap (free_items after i) (more_away heard s.0 i apart) ∙ sym (others i apart)
 
-    catching : IsCatching (saved_of first) T.started T.scenario T.replies (reply_in T) core.plan after (one_more heard s.0) (h.before ++ h.entries) (crew_of D)
+    catching : IsCatching (saved_of first) (exchange_at T (h.before ++ h.entries)) T.replies core.plan after (one_more heard s.0) (crew_of D)
     catching = go h.met
       where
         next_id : (l : LinkNo) → sim_link T.started T.scenario s.0 ≡ Some l → (w : Channel) → channel_at (crew_of C) s.0 ≡ Some w → takes_id a.item ≡ true → id ≡ w.next
@@ -225,7 +225,7 @@ module _ (T : Setting) (core new : CoreState) (first : List Entry) (heard : Coun
           | inr away ↦ absurd (true≢false (sym inside ∙ not_here_is_outside T free C.sims s.0 v.come away))
         ]
 
-        go : IsHeard h.entries s.0 m h.crew (crew_of C) → IsCatching (saved_of first) T.started T.scenario T.replies (reply_in T) core.plan after (one_more heard s.0) (h.before ++ h.entries) (crew_of D)
+        go : IsHeard h.entries s.0 m h.crew (crew_of C) → IsCatching (saved_of first) (exchange_at T (h.before ++ h.entries)) T.replies core.plan after (one_more heard s.0) (crew_of D)
         go (IsHeard.kept at channels none) =
             let t = new_within (saved_of first) T.started T.scenario T.replies (reply_in T) core.plan core.entries heard h.before h.entries h.crew (crew_of C) s m v.catching at channels none caught in
             let l = catching_sent (saved_of first) T.started T.scenario T.replies (reply_in T) core.plan free (λ i. kept_of i C.kept) before (one_more heard s.0) (h.before ++ h.entries) (crew_of C) s a.item t.0 t.1 in
@@ -252,7 +252,7 @@ module _ (T : Setting) (core new : CoreState) (first : List Entry) (heard : Coun
       in_range = range_sent before s a.item (range_got core.entries s m v.in_range (met_fits T core.plan first core.entries heard log s m (crew_of C) C.sims h));
       no_fault = fault_after_sent core.plan before s a.item a.no_fault;
       paid = paid_by_sent core.plan before s a.item;
-      catching = subst (λ (l : List LogEntry). IsCatching (saved_of first) T.started T.scenario T.replies (reply_in T) core.plan after (one_more heard s.0) l (crew_of D)) (sym h.parts) catching;
+      catching = subst (λ (l : List LogEntry). IsCatching (saved_of first) (exchange_at T l) T.replies core.plan after (one_more heard s.0) (crew_of D)) (sym h.parts) catching;
       no_other = no_other_after T law free free_then s.0 a.item id C D more stay v.come v.only_within right so (met_no_other T core.plan first core.entries heard log s m (crew_of C) C.sims h);
       come = come_sent T law free free_then s.0 a.item id C D more stay v.come v.only_within right so;
       only_within = only_sent T law free free_then s.0 a.item id C D more stay v.come v.only_within right so;

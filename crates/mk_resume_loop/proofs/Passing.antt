@@ -22,7 +22,7 @@ use Rattle.mk_run_laws.proofs.Stepping.{same_or_not}
 use Rattle.mk_run_local.specs.Laws.{HasCome, RepliesAreKinds}
 use Rattle.mk_run_crew.specs.Seen.{CrewSeen, crew_of, is_here}
 use Rattle.mk_run_crew.specs.Calls.{HasNext, SendsAs}
-use Rattle.mk_run.specs.inner.Underway.{Setting, put, reply_in}
+use Rattle.mk_run.specs.inner.Underway.{Setting, put, reply_in, exchange_at}
 use Rattle.mk_run.proofs.Going.{bool_or_not}
 use Rattle.mk_run.proofs.Linked.{linked_outside, within_below}
 use Rattle.mk_resume_walk.specs.Talks.{free_items}
@@ -125,10 +125,10 @@ module _ (T : Setting) (P : Plan) (first J : List Entry) (heard : Counts) (X : �
     long : heard s < length free
     long = let a = ap length is ∙ length-append (X s) (item ∷ []) in let b = p.answered in omega (arith, a, b)
 
-    catching : IsCatchingWith Y B (saved_of first) T.started T.scenario T.replies (reply_in T) P J heard log (crew_of D)
+    catching : IsCatchingWith Y B (saved_of first) (exchange_at T log) T.replies P J heard (crew_of D)
     catching = elim (bool_or_not (is_here C s)) [ inl here ↦ inside here | inr away ↦ outside away ]
       where
-        inside : is_here C s ≡ true → IsCatchingWith Y B (saved_of first) T.started T.scenario T.replies (reply_in T) P J heard log (crew_of D)
+        inside : is_here C s ≡ true → IsCatchingWith Y B (saved_of first) (exchange_at T log) T.replies P J heard (crew_of D)
         inside here =
             let t = kept_so T law X Y s item id C D more stay u.come u.only_within numbered so here in
             let m : Message = reply_in T s (map bare (Y s)) in
@@ -141,7 +141,7 @@ module _ (T : Setting) (P : Plan) (first J : List Entry) (heard : Counts) (X : �
               | inr apart ↦ put_away A s awaits i apart ∙ sym (ap (λ (l : List Message). A i ++ l) (given_away s m i apart) ∙ append_nil (A i))
             ])
 
-        outside : is_here C s ≡ false → IsCatchingWith Y B (saved_of first) T.started T.scenario T.replies (reply_in T) P J heard log (crew_of D)
+        outside : is_here C s ≡ false → IsCatchingWith Y B (saved_of first) (exchange_at T log) T.replies P J heard (crew_of D)
         outside away =
             let q = so.on_link away in
             let t = u.no_other s q.0.channel q.0.there in

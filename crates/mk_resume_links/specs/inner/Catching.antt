@@ -7,7 +7,7 @@ use Rattle.mk_plan.specs.declared.Message.{Message}
 use Rattle.mk_plan.specs.declared.Entry.{Entry}
 use Rattle.mk_plan.specs.Journals.{Arrival, bare, got}
 use Rattle.mk_scenario.specs.declared.parts.Scenario.{Scenario}
-use Rattle.mk_outside.specs.declared.fleet.LogEntry.{LogEntry}
+use Rattle.mk_run_laws.specs.Exchanges.{Exchange}
 use Rattle.mk_run_laws.specs.Handshake.{is_within}
 use Rattle.mk_run_laws.specs.Kinds.{Replies}
 use Rattle.mk_run_laws.specs.Crews.{CrewState, kept_of}
@@ -19,12 +19,13 @@ use Rattle.mk_resume_links.specs.inner.Touching.{IsInTouch, RepeatsByKind, Rests
 -- they have come about together, each simulator having sent so many messages in this call; these
 -- items were queued behind the handshake, and these replies are kept
 pub record IsCatchingWith (items : ℕ → List Item) (awaits : ℕ → List Message) (saved : Counts)
-    (started : ℕ) (S : Scenario) (replies : SetupReplies) (reply : Replies) (P : Plan)
-    (J : List Entry) (heard : Counts) (log : List LogEntry) (C : CrewState) : Type 0 where
+    (X : Exchange) (replies : SetupReplies) (P : Plan) (J : List Entry) (heard : Counts)
+    (C : CrewState) : Type 0 where
   pub counts : (i : ℕ) → length (got J i) ≡ max (saved i) (heard i)
-  pub touch : IsInTouch (λ i. repeated J i (heard i)) items awaits started S replies log C
-  pub kinds : RepeatsByKind reply (is_within S) J heard
-  pub rests : RestsSoFar saved started S replies P J log C.kept
+  pub touch : IsInTouch (λ i. repeated J i (heard i)) items awaits X.started X.scenario replies
+      X.log C
+  pub kinds : RepeatsByKind X.reply (is_within X.scenario) J heard
+  pub rests : RestsSoFar saved X.started X.scenario replies P J X.log C.kept
 
 -- the reply that is awaited of simulator i, if it runs within the program and a free item isn't
 -- answered
@@ -34,10 +35,10 @@ awaited S reply J heard i = if is_within S i
     then reply i (map bare (free_items J i (heard i))) ∷ [] else []
 
 -- what is free was queued, and what is awaited is kept
-abbrev pub IsCatching : Counts → ℕ → Scenario → SetupReplies → Replies → Plan → List Entry → Counts
-    → List LogEntry → CrewState → Type 0
-IsCatching saved started S replies reply P J heard = IsCatchingWith
-    (λ i. free_items J i (heard i)) (awaited S reply J heard) saved started S replies reply P J heard
+abbrev pub IsCatching : Counts → Exchange → SetupReplies → Plan → List Entry → Counts → CrewState
+    → Type 0
+IsCatching saved X replies P J heard = IsCatchingWith
+    (λ i. free_items J i (heard i)) (awaited X.scenario X.reply J heard) saved X replies P J heard
 
 -- a reply of simulator s that was taken was awaited: the simulator runs within the program, it is
 -- its kind's reply to what was free, and none of it is kept now; of the others as before

@@ -19,7 +19,7 @@ use Rattle.mk_run_crew.specs.Seen.{CrewSeen, crew_of}
 use Rattle.mk_run_links.specs.Entries.{AreOn, IsRunLink}
 use Rattle.mk_run.specs.Ends.{AreInRange}
 use Rattle.mk_sched.specs.inner.Patient.{IsPatient}
-use Rattle.mk_run.specs.inner.Underway.{Setting, reply_in, Suits, HasNoOther, IsLogRight}
+use Rattle.mk_run.specs.inner.Underway.{Setting, reply_in, Suits, HasNoOther, IsLogRight, exchange_at}
 use Rattle.mk_resume_walk.specs.Talks.{free_items}
 use Rattle.mk_resume_walk.specs.Walks.{IsGoneTo, IsNextAt}
 use Rattle.mk_resume_walk.specs.Index.{Indexed, IsIndexOf, own_count}
@@ -67,8 +67,8 @@ pub record IsResumingWith (R : Course) (P : Plan) (J : List Entry) (C : CrewStat
   pub in_range : AreInRange J
   pub no_fault : (view P J).fault ≡ None
   pub paid : (view P J).owed ≡ None
-  pub catching : IsCatchingWith R.queued R.awaits (saved_of R.first) R.setting.started
-      R.setting.scenario R.setting.replies (reply_in R.setting) P J R.heard R.log C
+  pub catching : IsCatchingWith R.queued R.awaits (saved_of R.first)
+      (exchange_at R.setting R.log) R.setting.replies P J R.heard C
   pub no_other : HasNoOther R.setting C
   pub come : HaveComeBy R.setting R.queued sims
   pub only_within : IsOnlyWithin R.setting sims
