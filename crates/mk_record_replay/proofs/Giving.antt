@@ -27,7 +27,7 @@ use Rattle.mk_sched.specs.declared.faults.Next.TheVariants as next
 use Rattle.mk_sched.specs.declared.faults.Taken.TheVariants as taken
 use Rattle.mk_sched.specs.Cores.{CoreState, Stands}
 use Rattle.mk_sched.specs.Answers.{NextOf, ArriveOf, IsAsked, IsWaiting, IsOver, IsQuiet, IsAnswered, IsLastFaulty, WasFaulty, SomeReady, SomeOpen, with_message}
-use Rattle.mk_record_replay.specs.declared.asking.Pause.TheVariants as pauses
+use Rattle.mk_record_replay.specs.declared.asking.Standstill.TheVariants as standstills
 use Rattle.mk_record_replay.specs.declared.replaying.ReplayEnd.{ReplayEnd}
 use Rattle.mk_record_replay.specs.declared.replaying.ReplayEnd.TheVariants.{Done, Core, Short}
 use Rattle.mk_record_replay.specs.Replays.{messages_from, IsReplay, IsFull}
@@ -63,14 +63,14 @@ asked_fills old new s a stands = let longer : length new.entries ≡ length old.
 goes_on_same : (first old new : CoreState) → GoesOn first old → new ≡ old → GoesOn first new
 goes_on_same first old new g same = subst (λ (c : CoreState). GoesOn first c) (sym same) g
 
-pub asked_waiting : (first old new : CoreState) → GoesOn first old → IsWaiting old new → Stands new.plan new.entries → HasAskedAll first pauses.Waiting new
+pub asked_waiting : (first old new : CoreState) → GoesOn first old → IsWaiting old new → Stands new.plan new.entries → HasAskedAll first standstills.Waiting new
 asked_waiting first old new g w stands = record {
   goes = goes_on_same first old new g w.same;
   stands = stands;
   by = subst (λ (c : CoreState). (c.ended ≡ None) × IsUnready c × SomeOpen c.plan c.entries) (sym w.same) (w.going, w.nobody, w.waiting);
 }
 
-pub asked_over : (first old new : CoreState) → GoesOn first old → IsOver old new → Stands new.plan new.entries → HasAskedAll first pauses.Over new
+pub asked_over : (first old new : CoreState) → GoesOn first old → IsOver old new → Stands new.plan new.entries → HasAskedAll first standstills.Over new
 asked_over first old new g o stands = record {
   goes = goes_on_same first old new g o.same;
   stands = stands;
@@ -80,7 +80,7 @@ asked_over first old new g o stands = record {
 not_before : {X : Type 0} (old new : CoreState) (f : CoreFault) → old.ended ≡ None → WasFaulty old f new → X
 not_before old new f going was = absurd (none_some (sym going ∙ was.0))
 
-pub asked_full : (first old new : CoreState) (f : CoreFault) → GoesOn first old → old.ended ≡ None → NextOf old (next.Fault f) new → Stands new.plan new.entries → HasAskedAll first (pauses.Full f) new
+pub asked_full : (first old new : CoreState) (f : CoreFault) → GoesOn first old → old.ended ≡ None → NextOf old (next.Fault f) new → Stands new.plan new.entries → HasAskedAll first (standstills.Full f) new
 asked_full first old new f g going (inl was) stands = not_before old new f going was
 asked_full first old new f g going (inr full) stands = record {
   goes = record { plan = ap (λ (c : CoreState). c.plan) full.ended ∙ g.plan; more = g.more; longer = ap (λ (c : CoreState). c.entries) full.ended ∙ g.longer; sent_only = g.sent_only; on_way = λ A h. subst (λ (c : CoreState). IsOnWay first.plan A c.entries) (sym full.ended) (g.on_way A h) };
@@ -145,7 +145,7 @@ module _ (old new : CoreState) (sim : SimNo) (m : Message) where
       (inr (record { named = full.named; full = full.full; no_fault = full.no_fault; more = inl full.owed }))
 
 -- no room for a Step, while these messages are left
-pub stopped_before : (old new : CoreState) (f : CoreFault) (A more : List Arrival) → HasAskedAll old (pauses.Full f) new → IsOnWay old.plan A old.entries → IsCutShort old.plan (A ++ more) f new
+pub stopped_before : (old new : CoreState) (f : CoreFault) (A more : List Arrival) → HasAskedAll old (standstills.Full f) new → IsOnWay old.plan A old.entries → IsCutShort old.plan (A ++ more) f new
 stopped_before old new f A more s way = let after = s.goes.on_way A way in let plan : new.plan ≡ old.plan = s.goes.plan in
     stop old.plan (A ++ more) f new new.entries plan refl s.stands after.patient (more, ap (λ (B : List Arrival). B ++ more) (sym after.given))
     (inr (record { named = s.by.0 ∙ ap (λ (P : Plan). TooLong P.entries) plan; full = s.by.1 ∙ ap (λ (P : Plan). P.entries) plan; no_fault = after.no_fault; more = inr (inl (subst (λ (P : Plan). SomeReady P new.entries) plan s.by.2)) }))
@@ -170,10 +170,10 @@ module _ (old new : CoreState) where
   whole_replay A g stands way = let after = g.on_way A way in let here : Stands old.plan new.entries = subst (λ (P : Plan). Stands P new.entries) g.plan stands in
       record { agrees = here.agrees; eager = (here.orderly, after.patient); given = ([], sym after.given ∙ sym (append_nil (arrivals new.entries))); within = here.within }
 
-  pub ends_faulty : (f : CoreFault) (A : List Arrival) → HasAskedAll old (pauses.Full f) new → IsOnWay old.plan A old.entries → HasReplayed old.plan A (Core f) new
+  pub ends_faulty : (f : CoreFault) (A : List Arrival) → HasAskedAll old (standstills.Full f) new → IsOnWay old.plan A old.entries → HasReplayed old.plan A (Core f) new
   ends_faulty f A s way = stopped_within old.plan (A ++ []) A f new (stopped_before old new f A [] s way) (append_nil A)
 
-  pub ends_done : (A : List Arrival) → HasAskedAll old pauses.Over new → IsOnWay old.plan A old.entries → HasReplayed old.plan A Done new
+  pub ends_done : (A : List Arrival) → HasAskedAll old standstills.Over new → IsOnWay old.plan A old.entries → HasReplayed old.plan A Done new
   ends_done A s way = let after = s.goes.on_way A way in let finished : IsFinished old.plan new.entries = subst (λ (P : Plan). IsFinished P new.entries) s.goes.plan s.by.2 in record {
     plan = s.goes.plan;
     replay = whole_replay A s.goes s.stands way;
@@ -187,7 +187,7 @@ module _ (old new : CoreState) where
     going = s.by.0;
   }
 
-  pub ends_short : (n : ℕ) (A : List Arrival) → HasAskedAll old pauses.Waiting new → n ≡ open_count new.plan (view new.plan new.entries) → IsOnWay old.plan A old.entries → HasReplayed old.plan A (Short n) new
+  pub ends_short : (n : ℕ) (A : List Arrival) → HasAskedAll old standstills.Waiting new → n ≡ open_count new.plan (view new.plan new.entries) → IsOnWay old.plan A old.entries → HasReplayed old.plan A (Short n) new
   ends_short n A s e way = let after = s.goes.on_way A way in let count : n ≡ open_count old.plan (view old.plan new.entries) = subst (λ (P : Plan). n ≡ open_count P (view P new.entries)) s.goes.plan e in record {
     plan = s.goes.plan;
     replay = whole_replay A s.goes s.stands way;

@@ -8,7 +8,7 @@ use Rattle.mk_plan.specs.declared.Entry.TheVariants.{Got}
 use Rattle.mk_plan.specs.Plans.{sim_count}
 use Rattle.mk_plan.specs.Journals.{Arrival, arrival_of, arrivals, view, open_count}
 use Rattle.mk_sched.specs.declared.faults.CoreFault.{CoreFault}
-use Rattle.mk_record_replay.specs.declared.asking.Pause.TheVariants as pauses
+use Rattle.mk_record_replay.specs.declared.asking.Standstill.TheVariants as standstills
 use Rattle.mk_sched.specs.Cores.{CoreState}
 use Rattle.mk_record_replay.specs.declared.replaying.ReplayEnd.{ReplayEnd}
 use Rattle.mk_record_replay.specs.declared.replaying.ReplayEnd.TheVariants.{Done, Core, Short}
@@ -149,7 +149,7 @@ module _ (A : List Arrival) (N : ℕ) (old mid : CoreState) (waiting : List (Lis
       })
 
 module _ (A : List Arrival) (N : ℕ) (old mid : CoreState) (waiting : List (List Message)) (x : ℕ) (b : IsBetween A N old waiting x) where
-  pub fault_ends : (f : CoreFault) → HasAskedAll old (pauses.Full f) mid → HasEnded A N old (Core f) mid
+  pub fault_ends : (f : CoreFault) → HasAskedAll old (standstills.Full f) mid → HasEnded A N old (Core f) mid
   fault_ends f s =
       let more : List Arrival = rest (sim_count old.plan) A (arrivals old.entries) in
       let t : IsCutShort old.plan (arrivals old.entries ++ more) f mid = stopped_before old mid f (arrivals old.entries) more s b.on_way in record {
@@ -163,10 +163,10 @@ module _ (A : List Arrival) (N : ℕ) (old mid : CoreState) (waiting : List (Lis
         };
       }
 
-  pub done_ends : (new : CoreState) → HasAskedAll old pauses.Over mid → IsAllGiven A mid new → HasEnded A N old Done new
+  pub done_ends : (new : CoreState) → HasAskedAll old standstills.Over mid → IsAllGiven A mid new → HasEnded A N old Done new
   done_ends new s given = all_came A N old mid waiting x b s.goes Done new (ends_done old mid (arrivals old.entries) s b.on_way) given
 
-  pub short_ends : (n : ℕ) (new : CoreState) → HasAskedAll old pauses.Waiting mid → n ≡ open_count new.plan (view new.plan new.entries) → IsAllGiven A mid new → HasEnded A N old (Short n) new
+  pub short_ends : (n : ℕ) (new : CoreState) → HasAskedAll old standstills.Waiting mid → n ≡ open_count new.plan (view new.plan new.entries) → IsAllGiven A mid new → HasEnded A N old (Short n) new
   short_ends n new s e given = all_came A N old mid waiting x b s.goes (Short n) new
       (ends_short old mid n (arrivals old.entries) s (subst (λ (c : CoreState). n ≡ open_count c.plan (view c.plan c.entries)) given.same e) b.on_way) given
 

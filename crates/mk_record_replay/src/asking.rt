@@ -8,23 +8,23 @@ use mk_sched::{Core, CoreFault, Next};
 // Why nobody is asked any more: a message is waited for, nothing is left to do, or the journal has
 // no room for the Step of whoever is ready.
 #[derive(Clone, Copy)]
-pub enum Pause {
+pub enum Standstill {
     Waiting,
     Over,
     Full(CoreFault),
 }
 
 // Asks whoever is ready, until nobody is.
-pub fn ask_all(core: &mut Core) -> Result<Pause, Mem>
+pub fn ask_all(core: &mut Core) -> Result<Standstill, Mem>
     requires going { core.old.ended ≡ None }
-    ensures { IfOk result (λ pause. HasAskedAll core.old pause core.new) }
+    ensures { IfOk result (λ standstill. HasAskedAll core.old standstill core.new) }
 {
     'asking: loop {
         match core.next()? {
             Next::Ask(_) => {}
-            Next::Wait => return Ok(Pause::Waiting),
-            Next::Done => return Ok(Pause::Over),
-            Next::Fault(fault) => return Ok(Pause::Full(fault)),
+            Next::Wait => return Ok(Standstill::Waiting),
+            Next::Done => return Ok(Standstill::Over),
+            Next::Fault(fault) => return Ok(Standstill::Full(fault)),
         }
     }
 }

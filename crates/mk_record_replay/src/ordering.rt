@@ -10,7 +10,7 @@ ghost use Rattle.mk_record_replay.specs.inner.Loops.{IsUnready};
 ghost use Rattle.mk_record_replay.specs.Orders.{after_draw, chosen, drawn, next_number};
 ghost use Rattle.mk_record_replay.specs.inner.Rounds.{AreFit, AreWaiting, CanGoOn, GivenMessage, GivenNext, HasEnded, HasMoved, IsBetween, IsPopped, RoundOf, next_among};
 
-use crate::asking::{Pause, ask_all};
+use crate::asking::{Standstill, ask_all};
 use crate::replaying::{ReplayEnd, open_count, take};
 use mk_base::{List, Mem, SimNo};
 use mk_plan::Message;
@@ -110,13 +110,13 @@ fn round(
     ensures moved { IfOk result (λ end. end ≡ None → HasMoved core.old core.new waiting.new.items) }
 {
     match ask_all(core)? {
-        Pause::Full(fault) => Ok(Some(ReplayEnd::Core(fault))),
-        Pause::Over => match give_next(alloc, core, waiting, number)? {
+        Standstill::Full(fault) => Ok(Some(ReplayEnd::Core(fault))),
+        Standstill::Over => match give_next(alloc, core, waiting, number)? {
             Given::Going => Ok(None),
             Given::Nothing => Ok(Some(ReplayEnd::Done)),
             Given::Stopped(fault) => Ok(Some(ReplayEnd::Core(fault))),
         },
-        Pause::Waiting => match give_next(alloc, core, waiting, number)? {
+        Standstill::Waiting => match give_next(alloc, core, waiting, number)? {
             Given::Going => Ok(None),
             Given::Nothing => Ok(Some(ReplayEnd::Short(open_count(core)))),
             Given::Stopped(fault) => Ok(Some(ReplayEnd::Core(fault))),

@@ -16,7 +16,7 @@ ghost use Rattle.mk_record_replay.specs.inner.Rounds.{GrownBy};
 ghost use Rattle.mk_record_replay.specs.Runs.{CanArrive, HasReplayed};
 ghost use Rattle.mk_record_replay.specs.inner.Loops.{GivenBy, IsOnWay, IsUnready};
 
-use crate::asking::{Pause, ask_all};
+use crate::asking::{Standstill, ask_all};
 use crate::ordering::{run_in_order, split};
 use mk_base::{List, Mem, SimNo};
 use mk_plan::{Journal, Plan};
@@ -210,17 +210,17 @@ fn give(core: &mut Core, arrival: Arrival) -> Result<Option<CoreFault>, Mem>
     requires known { CanArrive core.old.plan arrival }
     ensures { IfOk result (λ fault. GivenBy core.old (came arrival) fault core.new) }
 {
-    let Ok(pause) = ask_all(core) else {
+    let Ok(standstill) = ask_all(core) else {
         drop(arrival);
         return Err(Mem);
     };
-    match pause {
-        Pause::Full(fault) => {
+    match standstill {
+        Standstill::Full(fault) => {
             drop(arrival);
             Ok(Some(fault))
         }
-        Pause::Waiting => take(core, arrival),
-        Pause::Over => take(core, arrival),
+        Standstill::Waiting => take(core, arrival),
+        Standstill::Over => take(core, arrival),
     }
 }
 
@@ -247,9 +247,9 @@ fn finish(core: &mut Core) -> Result<ReplayEnd, Mem>
         → IfOk result (λ end. HasReplayed core.old.plan A end core.new) }
 {
     match ask_all(core)? {
-        Pause::Full(fault) => Ok(ReplayEnd::Core(fault)),
-        Pause::Over => Ok(ReplayEnd::Done),
-        Pause::Waiting => Ok(ReplayEnd::Short(open_count(core))),
+        Standstill::Full(fault) => Ok(ReplayEnd::Core(fault)),
+        Standstill::Over => Ok(ReplayEnd::Done),
+        Standstill::Waiting => Ok(ReplayEnd::Short(open_count(core))),
     }
 }
 

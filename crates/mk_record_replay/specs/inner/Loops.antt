@@ -12,8 +12,8 @@ use Rattle.mk_sched.specs.declared.faults.CoreFault.TheVariants.{TooLong}
 use Rattle.mk_sched.specs.Cores.{CoreState, Stands}
 use Rattle.mk_sched.specs.Answers.{IsLastFaulty, SomeReady, SomeOpen, open_id}
 use Rattle.mk_sched.specs.inner.Patient.{IsPatient}
-use Rattle.mk_record_replay.specs.declared.asking.Pause.{Pause}
-use Rattle.mk_record_replay.specs.declared.asking.Pause.TheVariants.{Waiting, Over, Full}
+use Rattle.mk_record_replay.specs.declared.asking.Standstill.{Standstill}
+use Rattle.mk_record_replay.specs.declared.asking.Standstill.TheVariants.{Waiting, Over, Full}
 use Rattle.mk_record_replay.specs.Replays.{IsReplay, IsFull}
 
 -- the messages A were given, and there is no fault
@@ -44,7 +44,7 @@ IsUnready core = SomeReady core.plan core.entries → ⊥
 
 -- nobody is to be asked any more: a message is waited for, nothing is left to do, or there is no
 -- room for a Step
-abbrev pub AskedAllBy : CoreState → Pause → Type 0
+abbrev pub AskedAllBy : CoreState → Standstill → Type 0
 AskedAllBy core Waiting = (core.ended ≡ None) × IsUnready core × SomeOpen core.plan core.entries
 AskedAllBy core Over = (core.ended ≡ None) × IsDone core.plan (view core.plan core.entries)
     × IsFinished core.plan core.entries
@@ -52,10 +52,10 @@ AskedAllBy core (Full f) = (f ≡ TooLong core.plan.entries)
     × (length core.entries ≡ core.plan.entries) × SomeReady core.plan core.entries
 
 -- whoever was ready was asked
-pub record HasAskedAll (old : CoreState) (pause : Pause) (new : CoreState) : Type 0 where
+pub record HasAskedAll (old : CoreState) (standstill : Standstill) (new : CoreState) : Type 0 where
   pub goes : GoesOn old new
   pub stands : Stands new.plan new.entries
-  pub by : AskedAllBy new pause
+  pub by : AskedAllBy new standstill
 
 -- a fault ends the replay of the messages A
 pub record IsCutShort (P : Plan) (A : List journals.Arrival) (f : CoreFault)
