@@ -44,7 +44,7 @@ pub fn end_turn(
         (Place::Fetching { at, id: _ }, Message::Success { id: _, content }) => {
             end_fetch(plan, derived, journal, sim, message, content, at)
         }
-        _ => Ok(Upshot::Quiet),
+        _ => unreachable!(),
     }
 }
 

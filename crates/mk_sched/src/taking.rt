@@ -136,12 +136,13 @@ fn go_on(
     Ok(Upshot::Send(item))
 }
 
-// The time of what is open. Where nothing is, no message goes on, and 0:0 stands for no time.
+// The time of what is open.
 fn time_at(place: &Place) -> Tier
-    ensures { (other : Tier) → (place.now ≡ Place.Idle → ⊥) → result ≡ time_at place.now other }
+    requires { place.now ≡ Place.Idle → ⊥ }
+    ensures { (other : Tier) → result ≡ time_at place.now other }
 {
     match place {
-        Place::Idle => Tier { time: 0, tier: 0 },
+        Place::Idle => unreachable!(),
         Place::Stepping { at, id: _, asks: _ } => *at,
         Place::Fetching { at, id: _ } => *at,
     }

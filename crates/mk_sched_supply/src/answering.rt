@@ -115,7 +115,7 @@ impl Stock {
         }
         match plain_content(self.alloc, plan, &self.names, asked)? {
             Some(content) => Ok(content),
-            None => Err(Mem),
+            None => unreachable!(),
         }
     }
 

@@ -25,8 +25,8 @@ ghost use Rattle.mk_sched_supply.specs.Outputs.{AreData, AreOutputsIn, found_val
 use crate::feeds::{Feed, feeds_of};
 use crate::outputs::{Outputs, outputs_of};
 use mk_base::{Json, List, Mem, SimNo, Tier};
-use mk_json::datum_of;
 use mk_buffers::{Buffers, buffers_stand};
+use mk_json::datum_of;
 use mk_plan::{Input, Plan, Want};
 use mk_plan_names::Names;
 use std::alloc::Global;

@@ -29,6 +29,9 @@ returns-then-has_last_room-clause-leaves c =
     subst (λ (f : CoreFault). HasTaken P J s m (Ok (taken.Fault f)) K (J ++ Got s m ∷ [])) (sym c.too_long.ensures)
     (taken_left P J K s m c.requires.taking judged.turn c.args.next judged.right (eqb-true _ _ (sym c.has_last_room.ensures ∙ c.if-has_last_room.true)) K (J ++ Got s m ∷ []) refl)
 
+pub time_at-at-requires : goal.time_at-at-requires
+time_at-at-requires c = let judged = c.requires.judged in λ e. is_open c.args.plan.now c.args.sim.0 judged.turn.place c.args.message.now judged.right.right (judged.same ∙ e)
+
 pub owed_after-requires-clause-asked : goal.owed_after-requires-clause-asked
 owed_after-requires-clause-asked c =
     let P = c.args.plan.now in
@@ -44,7 +47,7 @@ owed_after-requires-clause-asked c =
     let now = its P J K s m taking in
     let on = goes_on P s.0 T.place m q right.goes in
     let law = c.ends_of_turns.ensures.stepped P (view P J) _ K.sims s.0 T on.at on.id on.asks (Success 0 leaf.Null) leaf.Null now.sims taking.there right.opened on.place refl in
-    let at : T.at ≡ c.time_at-at.result = law.1 ∙ sym (c.time_at-at.ensures on.at (λ e. is_open P s.0 T.place m right.right (judged.same ∙ e)) ∙ ap (λ (p : Place). time_at p on.at) (sym judged.same ∙ on.place)) in
+    let at : T.at ≡ c.time_at-at.result = law.1 ∙ sym (c.time_at-at.ensures on.at ∙ ap (λ (p : Place). time_at p on.at) (sym judged.same ∙ on.place)) in
     record { view = view P J; turn = T; opened = right.opened; at = at; stock = now.stock }
 
 pub owed_after-requires-clause-run : goal.owed_after-requires-clause-run
@@ -56,7 +59,7 @@ owed_after-requires-clause-run c =
     let T = judged.turn in
     let right = judged.right in
     let on = goes_on P s.0 T.place m c.args.next right.goes in
-    subst IsInRun (sym (c.time_at-at.ensures on.at (λ e. is_open P s.0 T.place m right.right (judged.same ∙ e)) ∙ ap (λ (p : Place). time_at p on.at) (sym judged.same ∙ on.place))) (subst IsPlaceInRun (sym judged.same ∙ on.place) judged.run).0
+    subst IsInRun (sym (c.time_at-at.ensures on.at ∙ ap (λ (p : Place). time_at p on.at) (sym judged.same ∙ on.place))) (subst IsPlaceInRun (sym judged.same ∙ on.place) judged.run).0
 
 pub returns-clause-leaves : goal.returns-clause-leaves
 returns-clause-leaves c =
@@ -73,7 +76,7 @@ returns-clause-leaves c =
     let now = its P J K s m taking in
     let on = goes_on P s.0 T.place m q right.goes in
     let law = c.ends_of_turns.ensures.stepped P (view P J) _ K.sims s.0 T on.at on.id on.asks (Success 0 leaf.Null) leaf.Null now.sims taking.there right.opened on.place refl in
-    let at : T.at ≡ c.time_at-at.result = law.1 ∙ sym (c.time_at-at.ensures on.at (λ e. is_open P s.0 T.place m right.right (judged.same ∙ e)) ∙ ap (λ (p : Place). time_at p on.at) (sym judged.same ∙ on.place)) in
+    let at : T.at ≡ c.time_at-at.result = law.1 ∙ sym (c.time_at-at.ensures on.at ∙ ap (λ (p : Place). time_at p on.at) (sym judged.same ∙ on.place)) in
     let owed = c.in_ok-item.ensures.owed J T q (got_may P J K s m taking) right at now.stock in
     taken_sent P J K s m taking T q right (not_same_number _ _ (sym c.has_last_room.ensures ∙ c.if-has_last_room.false)) (record { sims = c.go_on.new.self; agenda = K.agenda; stock = c.owed_after.new.stock; untold = K.untold }) (J ++ Got s m ∷ [] ++ Sent s c.in_ok-item.item ∷ [])
     (ap (λ (i : Item). J ++ Got s m ∷ [] ++ Sent s i ∷ []) owed.0)
