@@ -1,7 +1,7 @@
 // A call of the program, over a fleet to which no simulator connects or another one.
 
 use mk_base::{List, Mem};
-use mk_fakes::PlainFleet;
+use mk_fakes::{MemFolder, PlainFleet};
 use mk_local::Registry;
 use mk_outside::{Folder, Paced, Sink};
 use mk_watch_read::Rules;
@@ -69,4 +69,13 @@ pub fn status_over<R: Wait, D: Folder, F: Paced, K: Sink, E: Sink>(
         out,
         err,
     ))
+}
+
+/// Whether just this is saved as `k`: nothing at all where it is `None`.
+pub fn is_saved(folder: &MemFolder, saved: Option<&str>) -> bool {
+    match (folder.file("k"), saved) {
+        (Some(bytes), Some(text)) => bytes == text.as_bytes(),
+        (None, None) => true,
+        _ => false,
+    }
 }

@@ -1,6 +1,6 @@
 // Calls of the program in which one call of the folder or of an output fails.
 
-use crate::calls::status_over;
+use crate::calls::{is_saved, status_over};
 use crate::files::{RECORD, SAVED, SUM_RECORD, SUM_STEPS, THREE_STEPS, WITHIN};
 use crate::fleets::answering;
 use mk_base::{List, Mem};
@@ -18,7 +18,8 @@ enum Fails {
     Err,
 }
 
-// Words, the one call that fails, and what comes of it: the status, what the outputs have, and what is saved as `k`.
+// Words, the one call that fails, and what comes of it: the status, what the outputs have, and what is saved as `k`, if
+// something is.
 struct Row {
     words: &'static [&'static str],
     fails: Fails,
@@ -26,7 +27,7 @@ struct Row {
     status: u8,
     err: &'static str,
     out: &'static str,
-    saved: &'static str,
+    saved: Option<&'static str>,
 }
 
 const RUN: &[&str] = &["run", "s", "--record", "k"];
@@ -48,7 +49,7 @@ const ROWS: &[Row] = &[
         status: 6,
         err: FOLDER,
         out: "",
-        saved: "",
+        saved: None,
     },
     Row {
         words: RUN,
@@ -57,7 +58,7 @@ const ROWS: &[Row] = &[
         status: 6,
         err: FOLDER,
         out: "",
-        saved: "",
+        saved: None,
     },
     Row {
         words: RUN,
@@ -66,7 +67,7 @@ const ROWS: &[Row] = &[
         status: 0,
         err: "",
         out: THREE_STEPS,
-        saved: SAVED,
+        saved: Some(SAVED),
     },
     Row {
         words: RUN,
@@ -75,7 +76,7 @@ const ROWS: &[Row] = &[
         status: 6,
         err: OUTPUT,
         out: "",
-        saved: SAVED,
+        saved: Some(SAVED),
     },
     Row {
         words: RUN,
@@ -84,7 +85,7 @@ const ROWS: &[Row] = &[
         status: 0,
         err: "",
         out: THREE_STEPS,
-        saved: SAVED,
+        saved: Some(SAVED),
     },
     Row {
         words: RUN,
@@ -93,7 +94,7 @@ const ROWS: &[Row] = &[
         status: 0,
         err: "",
         out: THREE_STEPS,
-        saved: SAVED,
+        saved: Some(SAVED),
     },
     Row {
         words: REPLAY,
@@ -102,7 +103,7 @@ const ROWS: &[Row] = &[
         status: 6,
         err: FOLDER,
         out: "",
-        saved: "",
+        saved: None,
     },
     Row {
         words: REPLAY,
@@ -111,7 +112,7 @@ const ROWS: &[Row] = &[
         status: 0,
         err: "",
         out: SUM_STEPS,
-        saved: "",
+        saved: None,
     },
     Row {
         words: REPLAY,
@@ -120,7 +121,7 @@ const ROWS: &[Row] = &[
         status: 6,
         err: OUTPUT,
         out: "",
-        saved: "",
+        saved: None,
     },
     Row {
         words: REPLAY,
@@ -129,7 +130,7 @@ const ROWS: &[Row] = &[
         status: 0,
         err: "",
         out: SUM_STEPS,
-        saved: "",
+        saved: None,
     },
     Row {
         words: REPLAY,
@@ -138,7 +139,7 @@ const ROWS: &[Row] = &[
         status: 0,
         err: "",
         out: SUM_STEPS,
-        saved: "",
+        saved: None,
     },
     Row {
         words: RESUME,
@@ -147,7 +148,7 @@ const ROWS: &[Row] = &[
         status: 6,
         err: FOLDER,
         out: "",
-        saved: "",
+        saved: None,
     },
     Row {
         words: RESUME,
@@ -156,7 +157,7 @@ const ROWS: &[Row] = &[
         status: 6,
         err: FOLDER,
         out: "",
-        saved: "",
+        saved: None,
     },
     Row {
         words: RESUME,
@@ -165,7 +166,7 @@ const ROWS: &[Row] = &[
         status: 6,
         err: FOLDER,
         out: "",
-        saved: "",
+        saved: None,
     },
     Row {
         words: RESUME,
@@ -174,7 +175,7 @@ const ROWS: &[Row] = &[
         status: 0,
         err: "",
         out: THREE_STEPS,
-        saved: SAVED,
+        saved: Some(SAVED),
     },
     Row {
         words: RESUME,
@@ -183,7 +184,7 @@ const ROWS: &[Row] = &[
         status: 6,
         err: OUTPUT,
         out: "",
-        saved: SAVED,
+        saved: Some(SAVED),
     },
     Row {
         words: &["run", "none.toml"],
@@ -192,7 +193,7 @@ const ROWS: &[Row] = &[
         status: 3,
         err: "",
         out: "",
-        saved: "",
+        saved: None,
     },
     Row {
         words: &["run", "none.toml"],
@@ -201,7 +202,7 @@ const ROWS: &[Row] = &[
         status: 3,
         err: "mosaikrun: none.toml: no such file\n",
         out: "",
-        saved: "",
+        saved: None,
     },
 ];
 
@@ -233,7 +234,7 @@ fn is_told(row: &Row, status: u8, folder: &MemFolder, out: &MemSink, err: &MemSi
     status == row.status
         && err.bytes() == row.err.as_bytes()
         && out.bytes() == row.out.as_bytes()
-        && folder.file("k").unwrap_or(b"".as_slice()) == row.saved.as_bytes()
+        && is_saved(folder, row.saved)
 }
 
 // The status of the call, over a fleet on which the counter replies.

@@ -1,6 +1,6 @@
 // Calls of the program that run a scenario by a clock in memory.
 
-use crate::calls::status_by_clock;
+use crate::calls::{is_saved, status_by_clock};
 use crate::files::{LATE, SAVED, THREE_STEPS, WITHIN};
 use mk_base::{List, Mem};
 use mk_fakes::{MemFolder, MemSink};
@@ -8,14 +8,15 @@ use mk_local::Registry;
 use std::alloc::Global;
 use std::sync::Wait;
 
-// Words, how far the clock goes on at each look, and what comes of it: the status, what the outputs have, and what is saved as `k`.
+// Words, how far the clock goes on at each look, and what comes of it: the status, what the outputs have, and what is saved as `k`, if
+// something is.
 struct Row {
     words: &'static [&'static str],
     tick: u64,
     status: u8,
     err: &'static str,
     out: &'static str,
-    saved: &'static str,
+    saved: Option<&'static str>,
 }
 
 const ROWS: &[Row] = &[
@@ -25,7 +26,7 @@ const ROWS: &[Row] = &[
         status: 0,
         err: "",
         out: THREE_STEPS,
-        saved: SAVED,
+        saved: Some(SAVED),
     },
     Row {
         words: &["paced", "--record=k", "s", "1000", "--strict=0"],
@@ -33,7 +34,7 @@ const ROWS: &[Row] = &[
         status: 5,
         err: "mosaikrun: run 12: A-0 step at 0 late by 7 ms, allowed 0\n",
         out: "",
-        saved: LATE,
+        saved: Some(LATE),
     },
     Row {
         words: &["paced", "s", "1000", "--strict", "7"],
@@ -41,7 +42,7 @@ const ROWS: &[Row] = &[
         status: 0,
         err: "",
         out: THREE_STEPS,
-        saved: "",
+        saved: None,
     },
     Row {
         words: &["paced", "s", "1000"],
@@ -49,7 +50,7 @@ const ROWS: &[Row] = &[
         status: 0,
         err: "",
         out: THREE_STEPS,
-        saved: "",
+        saved: None,
     },
 ];
 
@@ -64,7 +65,7 @@ fn is_told(row: &Row, status: u8, folder: &MemFolder, out: &MemSink, err: &MemSi
     status == row.status
         && err.bytes() == row.err.as_bytes()
         && out.bytes() == row.out.as_bytes()
-        && folder.file("k").unwrap_or(b"".as_slice()) == row.saved.as_bytes()
+        && is_saved(folder, row.saved)
 }
 
 fn is_right<R: Wait>(rt: &R, alloc: Global, kinds: &Registry, row: &Row) -> Result<bool, Mem> {
