@@ -15,6 +15,7 @@ still runs. The last line is 'N passed, M failed'.
 from __future__ import annotations
 
 import concurrent.futures
+import contextlib
 import importlib
 import json
 import os
@@ -171,6 +172,8 @@ class Checks:
             self.equal(f"world.py refuses {value}", refusal(world, {"cmd": "x"}, value), "ValueError")
         for config in ({"python": "sim:Sim"}, {"cmd": "x", "cwd": "sims"}):
             self.equal(f"world.py refuses {config}", refusal(world, config, 1), "ValueError")
+        self.equal("world.py refuses an id", refusal(world, {"cmd": "x"}, 1, sim_id="B"), "ValueError")
+        self.equal("world.py refuses a group in a group", refusal(world, {"cmd": "x"}, 1, groups=2), "ValueError")
 
     def page(self) -> None:
         """What `docs/from-mosaik.md` shows: outputs, error lines, and the first run of a simulator alone."""
@@ -245,7 +248,9 @@ def everything(world: object) -> str:
     """A scenario with each thing that `world.py` can say."""
     config = {"A": {"cmd": "%(python)s a.py %(addr)s"}, "B": {"connect": "127.0.0.1:5555"}, "C": {"local": "sum"}}
     told = world.World(config, max_loop_iterations=7)
-    a, also_a, b, c = told.start("A"), told.start("A", n=2), told.start("B"), told.start("C")
+    with told.group():
+        a, also_a = told.start("A"), told.start("A", n=2)
+    b, c = told.start("B"), told.start("C")
     told.set_initial_event(a.sid)
     told.set_initial_event(a.sid, time=4)
     many = a.Model.create(3, text='a "quoted" one', flags=[True, False], table={"of": {"it": -1}, "a key": []})
@@ -259,11 +264,14 @@ def everything(world: object) -> str:
     return told.text(until=96, max_entries=5000)
 
 
-def refusal(world: object, config: dict, value: object) -> str:
-    """How a scenario with this way to start a simulator and this parameter ends."""
+def refusal(world: object, config: dict, value: object, groups: int = 1, **how: object) -> str:
+    """How a scenario ends with this way to start a simulator, within so many groups, and this parameter."""
     try:
         told = world.World({"A": config})
-        told.start("A").Model(value=value)
+        with contextlib.ExitStack() as around:
+            for _ in range(groups):
+                around.enter_context(told.group())
+            told.start("A", **how).Model(value=value)
         return told.text(until=1)
     except Exception as fault:
         return type(fault).__name__

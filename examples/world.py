@@ -7,9 +7,10 @@
 
 Nothing is started. What has no counterpart in a scenario file is refused with a ValueError.
 """
+import contextlib
 import json
 import re
-from typing import Any, Dict, Iterable, List, Optional, Tuple, Union
+from typing import Any, Dict, Iterable, Iterator, List, Optional, Tuple, Union
 
 KINDS = {"cmd": "command", "connect": "connect", "local": "local"}
 Attr = Union[str, Tuple[str, str]]
@@ -59,8 +60,11 @@ class World:
         self.sims: Dict[str, dict] = {}
         self.groups: List[dict] = []
         self.connections: List[dict] = []
+        self.in_group = False
 
-    def start(self, name: str, **params: Any) -> Sim:
+    def start(self, name: str, sim_id: Optional[str] = None, **params: Any) -> Sim:
+        if sim_id is not None:
+            raise ValueError(f"{name}: {sim_id}: a simulator's id is its name and its number")
         others = set(self.config[name]) - set(KINDS)
         if others:
             raise ValueError(f"{name}: {', '.join(sorted(others))}: a simulator has one of {', '.join(KINDS)}")
@@ -68,6 +72,15 @@ class World:
         sid = f"{name}-{sum(sim['name'] == name for sim in self.sims.values())}"
         self.sims[sid] = {"name": name, **how, "params": params, "initial_events": []}
         return Sim(self, sid)
+
+    @contextlib.contextmanager
+    def group(self) -> Iterator[None]:
+        """The simulators of a loop within one time. A scenario file doesn't name them; it has no group in a group."""
+        if self.in_group:
+            raise ValueError("group: a scenario file has no group within a group")
+        self.in_group = True
+        yield
+        self.in_group = False
 
     def set_initial_event(self, sid: str, time: int = 0) -> None:
         self.sims[sid]["initial_events"].append(time)
