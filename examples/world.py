@@ -79,8 +79,10 @@ class World:
         if self.in_group:
             raise ValueError("group: a scenario file has no group within a group")
         self.in_group = True
-        yield
-        self.in_group = False
+        try:
+            yield
+        finally:
+            self.in_group = False
 
     def set_initial_event(self, sid: str, time: int = 0) -> None:
         self.sims[sid]["initial_events"].append(time)
