@@ -1,11 +1,9 @@
 // A reply's entities, depth first.
-ghost use Rattle.std.specs.Prelude.{◌≡◌, ◌++◌, [], false, map, filter_map, flat_map, IfOk, OnOk};
+ghost use Rattle.std.specs.Prelude.{◌≡◌, ◌++◌, [], false, filter_map, flat_map, IfOk, OnOk};
 ghost use Rattle.std.specs.List.{cons_option};
-ghost use Rattle.mk_base.specs.Lists.{all_there};
-ghost use Rattle.mk_base.specs.Trees.{text_in};
 ghost use Rattle.mk_entities.specs.Descriptions.{described, eid_in, family, texts_under};
 
-use crate::trees::{children_of, copied, eid_of, list_under, text_at};
+use crate::trees::{children_of, copied, eid_of, list_under};
 use mk_base::{Json, List, Mem, Text};
 use std::alloc::Global;
 
@@ -52,7 +50,7 @@ fn describe(alloc: Global, tree: &Json, is_child: bool) -> Result<Described, Mem
     ensures { IfOk result (λ m. m ≡ described is_child tree.now) }
 {
     let eid = copied(eid_of(tree))?;
-    let kind = copied(text_at(tree, "type"))?;
+    let kind = copied(tree.text_under("type"))?;
     let rel = texts_under(alloc, tree, "rel")?;
     let children = eids_of(alloc, children_of(tree))?;
     Ok(Described {
@@ -69,22 +67,9 @@ fn texts_under(alloc: Global, tree: &Json, name: &str) -> Result<Option<List<Tex
     ensures { IfOk result (λ ts. ts ≡ texts_under name.now tree.now) }
 {
     match list_under(tree, name) {
-        Some(items) => texts_among(alloc, items),
+        Some(items) => Json::texts_of(alloc, items),
         None => Ok(None),
     }
-}
-
-fn texts_among(alloc: Global, items: &[Json]) -> Result<Option<List<Text>>, Mem>
-    ensures { IfOk result (λ ts. ts ≡ all_there (map text_in items.now)) }
-{
-    let mut found = List::new(alloc);
-    for item in items {
-        let Some(text) = item.as_text() else {
-            return Ok(None);
-        };
-        found.push(text.copy()?)?;
-    }
-    Ok(Some(found))
 }
 
 fn eids_of(alloc: Global, trees: &[Json]) -> Result<List<Text>, Mem>

@@ -1,20 +1,10 @@
-// What the members of a description are.
-ghost use Rattle.std.specs.Prelude.{◌≡◌, [], unwrap_or, IfOk, option_map, option_and_then};
-ghost use Rattle.mk_base.specs.Trees.{items_in, member, text_in};
+// What the members of an entity's description are.
+ghost use Rattle.std.specs.Prelude.{◌≡◌, [], unwrap_or, IfOk, option_map};
+ghost use Rattle.mk_base.specs.Trees.{items_in};
 ghost use Rattle.mk_base.specs.Names.{is_eid};
 ghost use Rattle.mk_entities.specs.Descriptions.{children_in, eid_in, if_eid, list_in, list_under};
 
 use mk_base::{Json, Mem, Text};
-
-// The text under this name.
-pub fn text_at<'a>(tree: &'a Json, name: &str) -> Option<&'a Text>
-    ensures { option_map (λ t. t.now) result ≡ option_and_then text_in (member name.now tree.now) }
-{
-    match tree.member(name) {
-        Some(value) => value.as_text(),
-        None => None,
-    }
-}
 
 // The items of a list, none where the tree is no list.
 pub fn items_of(tree: &Json) -> &[Json]
@@ -84,7 +74,7 @@ pub fn eid_of(tree: &Json) -> Option<&Text>
     let Some(_) = list_under(tree, "children") else {
         return None;
     };
-    match text_at(tree, "eid") {
+    match tree.text_under("eid") {
         Some(text) => if_eid(text),
         None => None,
     }

@@ -9,7 +9,6 @@ ghost use Rattle.mk_meta.specs.declared.fault.MetaFault.TheVariants as fault;
 
 use crate::fault::MetaFault;
 use crate::model::model_of;
-use crate::trees::text_at;
 use mk_base::{Json, List, Mem, Members, SimKind, Text};
 use std::alloc::Global;
 
@@ -52,7 +51,7 @@ fn meta_of(alloc: Global, reply: &Json) -> Result<Result<Meta, MetaFault>, Mem>
     ensures known { IfOk result
         (λ found. IfOk found (λ meta. Each (HasKnownAttrs meta.kind) meta.models)) }
 {
-    let Some(version) = text_at(reply, "api_version") else {
+    let Some(version) = reply.text_under("api_version") else {
         return Ok(Err(MetaFault::NoVersion));
     };
     if !is_version_three(version) {
@@ -115,7 +114,7 @@ fn is_word(text: &Text, word: &[u8]) -> bool
 fn type_text(alloc: Global, reply: &Json) -> Result<Text, Mem>
     ensures { IfOk result (λ text. text ≡ type_text reply.now) }
 {
-    match text_at(reply, "type") {
+    match reply.text_under("type") {
         Some(text) => text.copy(),
         None => Text::of(alloc, ""),
     }

@@ -1,21 +1,10 @@
-// What the members of a description are.
-ghost use Rattle.std.specs.Prelude.{◌≡◌, map, false, IfOk, option_map, option_and_then};
-ghost use Rattle.mk_base.specs.Lists.{all_there};
-ghost use Rattle.mk_base.specs.Trees.{bool_in, member, text_in, texts_in};
+// What the members of metadata are.
+ghost use Rattle.std.specs.Prelude.{◌≡◌, false, IfOk, option_and_then};
+ghost use Rattle.mk_base.specs.Trees.{bool_in, member, texts_in};
 ghost use Rattle.mk_meta.specs.Metadata.{hybrid_texts, unless_missing};
 
 use mk_base::{Json, List, Mem, SimKind, Text};
 use std::alloc::Global;
-
-// The text under this name.
-pub fn text_at<'a>(tree: &'a Json, name: &str) -> Option<&'a Text>
-    ensures { option_map (λ t. t.now) result ≡ option_and_then text_in (member name.now tree.now) }
-{
-    match tree.member(name) {
-        Some(value) => value.as_text(),
-        None => None,
-    }
-}
 
 // The truth value under this name.
 pub fn bool_at(tree: &Json, name: &str) -> Option<bool>
@@ -37,24 +26,11 @@ pub fn bool_or_false(tree: &Json, name: &str) -> Option<bool>
     }
 }
 
-fn texts_among(alloc: Global, items: &[Json]) -> Result<Option<List<Text>>, Mem>
-    ensures { IfOk result (λ ts. ts ≡ all_there (map text_in items.now)) }
-{
-    let mut found = List::new(alloc);
-    for item in items {
-        let Some(text) = item.as_text() else {
-            return Ok(None);
-        };
-        found.push(text.copy()?)?;
-    }
-    Ok(Some(found))
-}
-
 fn texts_of(alloc: Global, tree: &Json) -> Result<Option<List<Text>>, Mem>
     ensures { IfOk result (λ ts. ts ≡ texts_in tree.now) }
 {
     match tree.as_list() {
-        Some(items) => texts_among(alloc, items.as_slice()),
+        Some(items) => Json::texts_of(alloc, items.as_slice()),
         None => Ok(None),
     }
 }

@@ -1,7 +1,0 @@
-use Rattle.std.proofs.Common.{◌≡◌, Some, map, take}
-use Rattle.mk_base.specs.Lists.{all_there}
-use Rattle.mk_base.specs.Trees.{text_in}
-use Rattle.mk_entities.proofs.described.texts_among.Given as goal
-
-abbrev pub invariant-loop-item : goal.invariant-loop-item
-invariant-loop-item l = all_there (map text_in (take l.item-index l.items)) ≡ Some l.found
