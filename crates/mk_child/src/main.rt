@@ -6,12 +6,11 @@ use mk_local::{
     EntityStep, Kind, Registry, Turn, battery_turn, constant_turn, controller_turn, counter_turn,
     relay_turn, sum_turn,
 };
-use mk_real::MioFleet;
+use mk_real::{MioFleet, words};
 use mk_simapi::child;
 use std::alloc::Global;
 use std::process::ExitCode;
 use std::sync::Wait;
-use std::{env, io};
 
 fn main(rt: HostRuntime) -> ExitCode {
     match run(&rt, &rt, rt.alloc()) {
@@ -42,19 +41,10 @@ fn run<W: Wait>(rt: &HostRuntime, waits: &W, alloc: Global) -> Result<u8, Mem> {
         Box::new(alloc, |s: EntityStep| controller_turn(s))?,
     ))?;
     // Words that can't be read are no kind and address.
-    let words = match words_of(rt) {
+    let words = match words(rt) {
         Ok(words) => words,
         Err(_) => Vec::new(alloc),
     };
     let mut fleet = MioFleet::new(alloc, rt);
     Ok(child(waits, alloc, words.as_slice(), &mut fleet, &kinds))
-}
-
-// The program's words, without its own name.
-fn words_of(rt: &HostRuntime) -> io::Result<Vec<String>> {
-    let mut words = Vec::new(rt.alloc());
-    for word in env::args(rt)?.skip(1) {
-        words.push(word)?;
-    }
-    Ok(words)
 }

@@ -1,6 +1,6 @@
-// Whether two parts of plans are the same.
+// Whether two parts of plans, or of what is sent, are the same.
 use crate::same::{Same, same_all};
-use mk_plan::{AsyncPair, Conn, PlanEntity, PlanModel, PlanSim};
+use mk_plan::{AsyncPair, Conn, Input, PlanEntity, PlanModel, PlanSim, Want};
 
 impl Same for PlanSim {
     fn same(&self, other: &PlanSim) -> bool {
@@ -45,5 +45,20 @@ impl Same for Conn {
 impl Same for AsyncPair {
     fn same(&self, other: &AsyncPair) -> bool {
         self.from.0 == other.from.0 && self.to.0 == other.to.0
+    }
+}
+
+impl Same for Input {
+    fn same(&self, other: &Input) -> bool {
+        self.eid.same(&other.eid)
+            && self.attr.same(&other.attr)
+            && self.source.same(&other.source)
+            && self.value.same(&other.value)
+    }
+}
+
+impl Same for Want {
+    fn same(&self, other: &Want) -> bool {
+        self.eid.same(&other.eid) && self.attr.same(&other.attr)
     }
 }

@@ -2,11 +2,11 @@
 ghost use Rattle.std.specs.Prelude.{◌≡◌};
 ghost use Rattle.mk_plan_same.specs.Decisions.{Decides};
 
-use mk_base::{Datum, List, SimKind, Text, Via};
+use mk_base::{Datum, List, SimKind, Text, Tier, Via};
 
-// What can be compared.
+/// What can be compared: parts of plans, and of what is sent.
 pub trait Same {
-    // Whether this is the same as another.
+    /// Whether this is the same as another.
     fn same(&self, other: &Self) -> bool
         ensures { Decides result (self.now ≡ other.now) };
 }
@@ -29,13 +29,25 @@ impl Same for Text {
     }
 }
 
+impl Same for Datum {
+    fn same(&self, other: &Datum) -> bool {
+        same_bytes(self.bytes(), other.bytes())
+    }
+}
+
 impl Same for Option<Datum> {
     fn same(&self, other: &Option<Datum>) -> bool {
         match (self, other) {
             (None, None) => true,
-            (Some(value), Some(another)) => same_bytes(value.bytes(), another.bytes()),
+            (Some(value), Some(another)) => value.same(another),
             _ => false,
         }
+    }
+}
+
+impl Same for Tier {
+    fn same(&self, other: &Tier) -> bool {
+        self.time == other.time && self.tier == other.tier
     }
 }
 
@@ -67,7 +79,7 @@ fn same_bytes(one: &[u8], other: &[u8]) -> bool
     one == other
 }
 
-// Whether two lists have the same items.
+/// Whether two lists have the same items.
 pub fn same_all<T: Same>(items: &List<T>, others: &List<T>) -> bool
     ensures { Decides result (items.now ≡ others.now) }
 {

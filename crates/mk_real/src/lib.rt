@@ -11,7 +11,9 @@ mod folder;
 mod sink;
 mod socket;
 mod ticks;
+mod words;
 
 pub use fleet::MioFleet;
 pub use folder::RealFolder;
 pub use sink::RealSink;
+pub use words::words;

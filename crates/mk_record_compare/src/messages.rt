@@ -2,8 +2,9 @@
 ghost use Rattle.std.specs.Prelude.{◌≡◌};
 ghost use Rattle.mk_plan_same.specs.Decisions.{Decides};
 
-use crate::trees::{same_items, same_text, same_tree};
+use crate::trees::{same_items, same_tree};
 use mk_plan::Message;
+use mk_plan_same::Same;
 
 /// Whether two messages are the same.
 pub fn same_message(one: &Message, other: &Message) -> bool
@@ -25,7 +26,7 @@ pub fn same_message(one: &Message, other: &Message) -> bool
             },
         ) => {
             *id == *other_id
-                && same_text(name, other_name)
+                && name.same(other_name)
                 && same_items(args, other_args)
                 && same_tree(named, other_named)
         }
@@ -42,7 +43,7 @@ pub fn same_message(one: &Message, other: &Message) -> bool
                 id: other_id,
                 text: other_text,
             },
-        ) => *id == *other_id && same_text(text, other_text),
+        ) => *id == *other_id && text.same(other_text),
         _ => false,
     }
 }

@@ -3,6 +3,7 @@ ghost use Rattle.std.specs.Prelude.{◌≡◌};
 ghost use Rattle.mk_plan_same.specs.Decisions.{Decides};
 
 use mk_base::{Json, List, Members, Text};
+use mk_plan_same::Same;
 
 /// Whether two trees are the same.
 #[cycle(same)]
@@ -62,21 +63,9 @@ fn same_text_tree(text: &Text, other: &Json) -> bool
     ensures { Decides result (Json.Text text.now ≡ other.now) }
 {
     match other.as_text() {
-        Some(another) => same_text(text, another),
+        Some(another) => text.same(another),
         None => false,
     }
-}
-
-pub fn same_text(one: &Text, other: &Text) -> bool
-    ensures { Decides result (one.now ≡ other.now) }
-{
-    same_bytes(one.bytes(), other.bytes())
-}
-
-fn same_bytes(one: &[u8], other: &[u8]) -> bool
-    ensures { Decides result (one.now ≡ other.now) }
-{
-    one == other
 }
 
 #[cycle(same)]
@@ -106,7 +95,7 @@ fn same_members(members: &Members<Json>, others: &Members<Json>) -> bool
     let mut place = 0;
     let entries = members.entries();
     for (name, value) in entries {
-        if !same_text(name, others.name_at(place)) || !same_tree(value, others.value_at(place)) {
+        if !name.same(others.name_at(place)) || !same_tree(value, others.value_at(place)) {
             return false;
         }
         place += 1;

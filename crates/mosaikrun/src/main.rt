@@ -9,13 +9,13 @@ use mk_local::{
     EntityStep, Kind, Registry, Turn, battery_turn, constant_turn, controller_turn, counter_turn,
     relay_turn, sum_turn,
 };
-use mk_real::{MioFleet, RealFolder, RealSink};
+use mk_real::{MioFleet, RealFolder, RealSink, words};
 use mk_watch_read::{Fold, Rule, Rules, greatest, last, least, sum};
 use mosaikrun_program::program;
 use std::alloc::Global;
+use std::io;
 use std::process::ExitCode;
 use std::sync::Wait;
-use std::{env, io};
 
 fn main(rt: HostRuntime) -> ExitCode {
     match run(&rt, &rt, rt.alloc()) {
@@ -91,7 +91,7 @@ fn call<W: Wait>(
     rules: &Rules,
 ) -> Result<u8, Mem> {
     // Words that can't be read are no command, but for want of memory.
-    let words = match words_of(rt) {
+    let words = match words(rt) {
         Ok(words) => words,
         Err(error) => {
             if matches!(error.kind(), io::ErrorKind::OutOfMemory) {
@@ -115,13 +115,4 @@ fn call<W: Wait>(
         &mut out,
         &mut err,
     ))
-}
-
-// The program's words, without its own name.
-fn words_of(rt: &HostRuntime) -> io::Result<Vec<String>> {
-    let mut words = Vec::new(rt.alloc());
-    for word in env::args(rt)?.skip(1) {
-        words.push(word)?;
-    }
-    Ok(words)
 }

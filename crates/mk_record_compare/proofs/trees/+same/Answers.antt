@@ -25,7 +25,7 @@ same_members-loop-name-preserved t c =
     let ys = c.args.others.now in
     let i = c.loop-name.name-index in
     let x = c.loop-name-item.result in
-    let name : x.0 ≡ c.name_at.result.now = c.if-not-same_text.ensures in
+    let name : x.0 ≡ c.name_at.result.now = c.if-not-same.ensures in
     let value : x.1 ≡ c.value_at.result.now = c.if-not-same_tree.ensures in
     let entry : slice_get ys i ≡ Some (c.name_at.result.now, c.value_at.result.now) = member_is ys i c.name_at.result.now c.value_at.result.now (ap (slice_get (keys_of ys)) (sym c.loop-name.invariant.place) ∙ c.name_at.ensures)
     (ap (slice_get (values_of ys)) (sym c.loop-name.invariant.place) ∙ c.value_at.ensures) in
