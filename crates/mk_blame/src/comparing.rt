@@ -35,7 +35,7 @@ fn same_item(one: &Item, other: &Item) -> bool
                 max_advance: _,
             },
         ) => at.same(other_at) && same_all(inputs, others),
-        (Item::GetData { wanted }, Item::GetData { wanted: others }) => { same_all(wanted, others) }
+        (Item::GetData { wanted }, Item::GetData { wanted: others }) => same_all(wanted, others),
         (
             Item::Answer { id, content },
             Item::Answer {
