@@ -172,7 +172,7 @@ fn values_of(
 {
     match entity_of(plan, names, id) {
         Some(entity) => listed(alloc, plan, buffers, at, entity, tree),
-        None => Ok(Members::new(alloc)),
+        None => unreachable!(),
     }
 }
 
@@ -192,7 +192,7 @@ fn listed(
 {
     match tree.as_list() {
         Some(attrs) => values_by(alloc, plan, buffers, at, entity, attrs),
-        None => Ok(Members::new(alloc)),
+        None => unreachable!(),
     }
 }
 
@@ -232,7 +232,7 @@ fn put_attr(
 {
     match attr.as_text() {
         Some(name) => put_value(plan, buffers, at, entity, values, name),
-        None => Ok(()),
+        None => unreachable!(),
     }
 }
 

@@ -88,7 +88,7 @@ fn put_source(
 {
     match tree.as_object() {
         Some(members) => put_destinations(alloc, plan, names, sets, source, members),
-        None => Ok(()),
+        None => unreachable!(),
     }
 }
 
@@ -128,7 +128,7 @@ fn put_destination(
 {
     match tree.as_object() {
         Some(members) => put_values(alloc, plan, names, sets, source, id, members),
-        None => Ok(()),
+        None => unreachable!(),
     }
 }
 
