@@ -18,6 +18,12 @@ use Rattle.mk_buffers_log.specs.Logs.{arrival, arrivals, by, is_in_time, within,
 use Rattle.mk_buffers_log.specs.inner.Logs.{does_come, weighed, AllFrom, IsAscending, is_overtaken, SameAnswers, PlacedFor, IsEarlierAt}
 use Rattle.mk_buffers_log.proofs.Latest.{without, moved, latest_last}
 
+-- where there is one output at most
+pub short_ascends : (ts : List Timed) → length ts < 2 → IsAscending ts
+short_ascends [] few = tt
+short_ascends (t ∷ []) few = (tt, tt)
+short_ascends (t ∷ u ∷ ts) few = absurd (omega (arith, few))
+
 -- two tests one after the other
 pub filter_both : (a b : Timed → Bool) (xs : List Timed) → filter a (filter b xs) ≡ filter (λ x. b x && a x) xs
 filter_both a b [] = refl

@@ -100,6 +100,7 @@ impl Log {
             forget_rising(&mut self.entries, vias, until, mark);
         } else {
             forget_spare(&mut self.entries, vias, until, mark);
+            self.rising = is_short(&self.entries);
         }
     }
 
@@ -114,6 +115,14 @@ impl Log {
             Some(mark)
         }
     }
+}
+
+// There is one entry at most.
+#[tactic(auto, using(crate::proofs::Ascending::short_ascends))]
+fn is_short(entries: &VecDeque<Made>) -> bool
+    ensures { result ≡ true → IsAscending entries.now.items }
+{
+    entries.len() < 2
 }
 
 // There is an entry at the place, and its time is later.
