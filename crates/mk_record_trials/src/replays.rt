@@ -77,7 +77,7 @@ fn count_ends(alloc: Global) -> usize {
 
 #[test]
 fn replays_end_by_what_came(rt: HostRuntime) {
-    assert_eq!(rt; count_ends(rt.alloc()), 6);
+    assert_eq!(rt; count_ends(rt.alloc()), REPLAYS.len());
 }
 
 const TWO_COUNTERS: &[u8] = b"mosaikrun 1

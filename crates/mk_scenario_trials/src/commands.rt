@@ -171,5 +171,5 @@ fn count_lines(alloc: Global) -> usize {
 
 #[test]
 fn words_are_one_request_or_none(rt: HostRuntime) {
-    assert_eq!(rt; count_lines(rt.alloc()), 37);
+    assert_eq!(rt; count_lines(rt.alloc()), LINES.len());
 }

@@ -102,5 +102,5 @@ fn count_graphs(alloc: Global) -> usize {
 
 #[test]
 fn ranks_and_cycles_of_small_graphs(rt: HostRuntime) {
-    assert_eq!(rt; count_graphs(rt.alloc()), 7);
+    assert_eq!(rt; count_graphs(rt.alloc()), GRAPHS.len());
 }

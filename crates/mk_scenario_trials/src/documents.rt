@@ -71,5 +71,5 @@ fn count_read(alloc: Global) -> usize {
 
 #[test]
 fn values_of_each_type_are_read(rt: HostRuntime) {
-    assert_eq!(rt; count_read(rt.alloc()), 10);
+    assert_eq!(rt; count_read(rt.alloc()), MEMBERS.len());
 }

@@ -59,7 +59,7 @@ fn count_templates(alloc: Global) -> usize {
 
 #[test]
 fn templates_have_words(rt: HostRuntime) {
-    assert_eq!(rt; count_templates(rt.alloc()), 5);
+    assert_eq!(rt; count_templates(rt.alloc()), TEMPLATES.len());
 }
 
 // A port that listening gives, a connection to a port, and a command's words.
@@ -240,5 +240,5 @@ fn count_started(alloc: Global) -> usize {
 fn simulators_are_started_in_their_order_and_ask_for_a_port_their_words_and_connections(
     rt: HostRuntime,
 ) {
-    assert_eq!(rt; count_started(rt.alloc()), 7);
+    assert_eq!(rt; count_started(rt.alloc()), STARTS.len());
 }

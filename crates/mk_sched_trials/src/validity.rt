@@ -86,7 +86,7 @@ fn count_told(alloc: Global) -> usize {
 
 #[test]
 fn each_part_is_told_by_its_number(rt: HostRuntime) {
-    assert_eq!(rt; count_told(rt.alloc()), 8);
+    assert_eq!(rt; count_told(rt.alloc()), PLANS.len());
 }
 
 // Lists and objects within one another, around a text that holds brackets, an escaped quote and a backslash.
