@@ -1,4 +1,4 @@
--- What is kept so that nothing is looked for by going through it. Only proofs need this.
+-- What is kept so that nothing is looked for by going through it.
 use Rattle.std.specs.Prelude.{◌≡◌, ℕ, ◌<◌, List, Some, slice_get, length}
 use Rattle.mk_entities.specs.declared.entities.EntityInfo.{EntityInfo}
 use Rattle.mk_connect_pairs.specs.Ends.{members}

@@ -1,4 +1,4 @@
--- What a setup keeps, and what its parts answer. For proofs alone.
+-- What a setup keeps, as its contracts see it.
 use Rattle.std.specs.Prelude.{Option}
 use Rattle.mk_setup.specs.declared.fault.SetupFault.{SetupFault}
 use Rattle.mk_setup.specs.declared.progress.Progress.{Progress}

@@ -1,4 +1,4 @@
--- The content of an answer with values, as it is written. For proofs alone.
+-- For proofs alone. The content of an answer with values, as it is written.
 use Rattle.std.specs.Prelude.{◌≡◌, ℕ, List, [], ◌++◌, Option, Some, None, fold, map, codes}
 use Rattle.std.specs.BTreeMap.{insert_entry}
 use Rattle.std.specs.List.Sorted.{IsStrictlySortedBy}

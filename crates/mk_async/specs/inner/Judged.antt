@@ -1,4 +1,4 @@
--- The last two tests of a request, as they are made. For proofs alone.
+-- For proofs alone. The last two tests of a request, as they are made.
 use Rattle.std.specs.Prelude.{ℕ, Option, Some, None, not, if◌then◌else◌}
 use Rattle.mk_plan.specs.declared.Plan.{Plan}
 use Rattle.mk_plan.specs.Asks.{unknown_name, no_pair}

@@ -1,4 +1,4 @@
--- The tests of a request's names and pairs, as they go through the argument. For proofs alone.
+-- For proofs alone. The tests of a request's names and pairs, as they go through the argument.
 use Rattle.std.specs.Prelude.{ℕ, Bool, true, List, ◌&&◌, is_some, ◌==◌}
 use Rattle.std.specs.List.{list_all}
 use Rattle.mk_base.specs.declared.json.Json.{Json}

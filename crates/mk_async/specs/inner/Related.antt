@@ -1,4 +1,4 @@
--- The trees of related entities, as they are made. For proofs alone.
+-- For proofs alone. The trees of related entities, as they are made.
 use Rattle.std.specs.Prelude.{ℕ, Bool, ◌&&◌, nat_le, List, [], ◌∷◌, Option, Some, None, fold, map, codes}
 use Rattle.std.specs.BTreeMap.{insert_entry}
 use Rattle.mk_base.specs.declared.json.Json as tree

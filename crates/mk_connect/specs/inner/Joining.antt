@@ -1,4 +1,4 @@
--- For proofs alone. How related entities are gathered, pair by pair. Only proofs need this.
+-- For proofs alone. How related entities are gathered, pair by pair.
 use Rattle.std.specs.Prelude.{ℕ, not, ◌&&◌, ◌==◌, nat_lt, List, length, if◌then◌else◌}
 use Rattle.std.specs.Ordering.{nat_cmp}
 use Rattle.std.specs.BTreeSet.{insert_key}

@@ -1,4 +1,4 @@
--- For proofs alone. A set of texts beside the list of them. Only proofs need this.
+-- For proofs alone. A set of texts beside the list of them.
 use Rattle.std.specs.Prelude.{◌≡◌, ℕ, ◌||◌, List}
 use Rattle.std.specs.HashSet.{HashSet, contains_text}
 use Rattle.std.specs.declared.string.String.{String}

@@ -1,5 +1,4 @@
--- For proofs alone. What a reader of a template has read so far. Only private contracts and proofs
--- need it.
+-- For proofs alone. What a reader of a template has read so far.
 use Rattle.std.specs.Prelude.{ℕ, List, Option}
 
 -- the address; whole words; the word that goes on; and the part that goes on, by its quotation mark

@@ -1,4 +1,4 @@
--- For proofs alone. How one simulator is begun. Only private contracts and proofs need it.
+-- For proofs alone. How one simulator is begun.
 use Rattle.std.specs.Prelude.{◌≡◌, ◌+◌, List, [], ◌∷◌, ◌++◌, Option, Some, None, option_to_list}
 use Rattle.std.specs.Bool.{⊤}
 use Rattle.std.specs.Result.{result_err}

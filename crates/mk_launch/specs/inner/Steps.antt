@@ -1,4 +1,4 @@
--- For proofs alone. How a template is read step by step. Only private contracts and proofs need it.
+-- For proofs alone. How a template is read step by step.
 use Rattle.std.specs.Prelude.{◌≡◌, ℕ, ◌==◌, ◌||◌, true, List, [], ◌∷◌, ◌++◌, Option, Some, None, unwrap_or, option_to_list, Result, Ok, Err, if◌then◌else◌, codes, encode_utf8}
 use Rattle.mk_launch.specs.declared.faults.LaunchFault.{LaunchFault}
 use Rattle.mk_launch.specs.declared.faults.LaunchFault.TheVariants.{Empty, BadQuote}

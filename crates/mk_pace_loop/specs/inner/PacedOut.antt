@@ -1,4 +1,4 @@
--- When a paced run has ended, and its crew is still to be stopped. For proofs alone.
+-- For proofs alone. When a paced run has ended, and its crew is still to be stopped.
 use Rattle.std.specs.Prelude.{◌≡◌, ◌⊎◌, ℕ, ◌≤◌, true, List, [], ◌∷◌, ◌++◌, length, filter, Some, None}
 use Rattle.mk_base.specs.declared.LinkNo.{LinkNo}
 use Rattle.mk_base.specs.declared.SimNo.{SimNo}

@@ -1,4 +1,4 @@
--- What stands of a paced run whenever it is about to ask whoever is ready. For proofs alone.
+-- For proofs alone. What stands of a paced run whenever it is about to ask whoever is ready.
 use Rattle.std.specs.Prelude.{◌≡◌, ℕ, ◌+◌, ◌<◌, filter, true, false, List, [], ◌∷◌, ◌++◌, length, Option, Some, None, is_some, slice_get, unwrap_or, ⊤}
 use Rattle.mk_base.specs.declared.LinkNo.{LinkNo}
 use Rattle.mk_base.specs.declared.SimNo.{SimNo}

@@ -1,4 +1,4 @@
--- What is sent of what waits in a paced run. For proofs alone.
+-- For proofs alone. What is sent of what waits in a paced run.
 use Rattle.std.specs.Prelude.{◌≡◌, ℕ, ◌+◌, ◌<◌, ◌≤◌, List, [], ◌∷◌, length, Result, Ok, Err}
 use Rattle.mk_outside.specs.declared.fleet.LogEntry.{LogEntry}
 use Rattle.mk_sched.specs.Cores.{CoreState}

@@ -1,4 +1,4 @@
--- What the turns of a paced run's loop come to. For proofs alone.
+-- For proofs alone. What the turns of a paced run's loop come to.
 use Rattle.std.specs.Prelude.{◌≡◌, ◌⊎◌, ℕ, ◌≤◌, slice_get, List, [], ◌∷◌, ◌++◌, Option, Some, None, Result, Ok, Err, ⊤}
 use Rattle.mk_base.specs.declared.SimNo.{SimNo}
 use Rattle.mk_plan.specs.declared.Entry.{Entry}

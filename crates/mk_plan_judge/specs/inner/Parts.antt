@@ -1,4 +1,4 @@
--- What has been looked up in the data of a reply. For proofs alone.
+-- For proofs alone. What has been looked up in the data of a reply.
 use Rattle.std.specs.Prelude.{◌≡◌, ℕ, List, Some, option_map}
 use Rattle.mk_base.specs.Trees.{member}
 use Rattle.mk_plan_judge.specs.declared.lookups.Lookups.{Lookups}

@@ -1,4 +1,4 @@
--- For proofs alone. How an index of names comes about; only proofs need it.
+-- For proofs alone. How an index of names comes about.
 use Rattle.std.specs.Prelude.{◌≡◌, ℕ, ◌==◌, ◌&&◌, ◌||◌, List, length, map}
 use Rattle.std.specs.List.{list_any, range_with_len}
 use Rattle.std.specs.String.{string_bytes}

@@ -1,4 +1,4 @@
--- The links of a fleet that starts none. For proofs alone.
+-- For proofs alone. The links of a fleet that starts none.
 use Rattle.std.specs.Prelude.{List, [], ◌∷◌, Option, None, Some}
 use Rattle.mk_base.specs.declared.LinkNo.{LinkNo}
 

@@ -1,4 +1,4 @@
--- What is sent after an answer of the core. For proofs alone.
+-- For proofs alone. What is sent after an answer of the core.
 use Rattle.std.specs.Prelude.{◌≡◌, ℕ, true, false, List, [], ◌∷◌, ◌++◌, Some, slice_get}
 use Rattle.mk_base.specs.declared.SimNo.{SimNo}
 use Rattle.mk_plan.specs.declared.Item.{Item}

@@ -1,4 +1,4 @@
--- What an outcome shows before the crew is stopped, whatever kind of run it is. For proofs alone.
+-- For proofs alone. What an outcome shows before the crew is stopped, whatever kind of run it is.
 use Rattle.std.specs.Prelude.{ℕ, ◌⊎◌, ⊤, List}
 use Rattle.mk_base.specs.declared.LinkNo.{LinkNo}
 use Rattle.mk_base.specs.Lists.{IsIn}

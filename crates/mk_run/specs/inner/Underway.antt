@@ -1,4 +1,4 @@
--- What stands of a run from the end of its handshake on, and when it has ended. For proofs alone.
+-- For proofs alone. What stands of a run from the end of its handshake on, and when it has ended.
 use Rattle.std.specs.Prelude.{◌≡◌, ◌==◌, ℕ, ◌<◌, ◌⊎◌, if◌then◌else◌, true, false, List, [], ◌∷◌, ◌++◌, length, Option, Some, None, option_and_then, slice_get}
 use Rattle.mk_base.specs.declared.LinkNo.{LinkNo}
 use Rattle.mk_base.specs.declared.SimNo.{SimNo}

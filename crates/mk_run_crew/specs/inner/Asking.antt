@@ -1,4 +1,4 @@
--- What one request of a handshake comes to, and a handshake so far. For proofs alone.
+-- For proofs alone. What one request of a handshake comes to, and a handshake so far.
 use Rattle.std.specs.Prelude.{◌≡◌, ℕ, ◌+◌, ◌<◌, ◌⊎◌, true, false, List, [], ◌∷◌, ◌++◌, length, take, drop, filter_map, Option, Some, None, Ok}
 use Rattle.mk_base.specs.declared.LinkNo.{LinkNo}
 use Rattle.mk_base.specs.declared.SimNo.{SimNo}

@@ -1,4 +1,4 @@
--- How the places of links stand to their channels. For proofs alone.
+-- For proofs alone. How the places of links stand to their channels.
 use Rattle.std.specs.Prelude.{◌≡◌, ℕ, List, Option, Some, slice_get}
 use Rattle.mk_base.specs.declared.LinkNo.{LinkNo}
 use Rattle.mk_run_laws.specs.Channels.{Channel}

@@ -1,4 +1,4 @@
--- What came of one look at a link, of looks at all of them, and of one rest. For proofs alone.
+-- For proofs alone. What came of one look at a link, of looks at all of them, and of one rest.
 use Rattle.std.specs.Prelude.{◌≡◌, ℕ, ◌==◌, List, [], ◌∷◌, Result, Ok, Err, option_map, if◌then◌else◌}
 use Rattle.mk_base.specs.declared.SimNo.{SimNo}
 use Rattle.mk_outside.specs.declared.fleet.LogEntry.{LogEntry}

@@ -1,4 +1,4 @@
--- What came of a call on one channel. For proofs alone.
+-- For proofs alone. What came of a call on one channel.
 use Rattle.std.specs.Prelude.{◌≡◌, ℕ, ◌⊎◌, Bool, true, false, List, [], ◌∷◌, ◌++◌, Some, Option, None, option_map, ⊤}
 use Rattle.mk_base.specs.declared.LinkNo.{LinkNo}
 use Rattle.mk_base.specs.Lists.{Each, BeginsWith}

@@ -1,4 +1,4 @@
--- How the turns of links stand to the channels of a crew. For proofs alone.
+-- For proofs alone. How the turns of links stand to the channels of a crew.
 use Rattle.std.specs.Prelude.{◌≡◌, ℕ, ◌⊎◌, true, [], Some}
 use Rattle.mk_base.specs.Lists.{IsIn}
 use Rattle.mk_poll.specs.Turning.{Turning}

@@ -1,4 +1,4 @@
--- What is derived from the journal, and what one call leaves of it. For proofs alone.
+-- For proofs alone. What is derived from the journal, and what one call leaves of it.
 use Rattle.std.specs.Prelude.{◌≡◌, ◌≢◌, ℕ, ◌<◌, ◌≤◌, ℤ, int_lt, true, List, [], ◌∷◌, ◌++◌, length, Option, Some, None, unwrap_or, option_map, option_and_then, if◌then◌else◌, Result, Ok, Err, IfOk, IfErr}
 use Rattle.mk_base.specs.declared.Mem.{Mem}
 use Rattle.mk_base.specs.declared.SimNo.{SimNo}

@@ -1,4 +1,4 @@
--- What is kept of simulators as the first of them are added. For proofs alone.
+-- For proofs alone. What is kept of simulators as the first of them are added.
 use Rattle.std.specs.Prelude.{◌≡◌, ℕ, ◌<◌, ◌≤◌, Bool, false, List, length, map, take, Option, None}
 use Rattle.mk_base.specs.declared.tier.Tier.{Tier}
 use Rattle.mk_plan.specs.declared.Plan.{Plan}

@@ -1,4 +1,4 @@
--- What a simulator becomes where its turn begins, goes on and ends. For proofs alone.
+-- For proofs alone. What a simulator becomes where its turn begins, goes on and ends.
 use Rattle.std.specs.Prelude.{ℕ, ◌+◌, ℤ, Option, None}
 use Rattle.mk_base.specs.declared.tier.Tier.{Tier}
 use Rattle.mk_plan.specs.declared.Place.{Place}

@@ -1,4 +1,4 @@
--- What an answered request gives a stock, step by step. For proofs alone.
+-- For proofs alone. What an answered request gives a stock, step by step.
 use Rattle.std.specs.Prelude.{◌≡◌, ℕ, ◌<◌, nat_lt, Bool, false, List, map, filter, length, Some, option_map, ◌++◌}
 use Rattle.mk_base.specs.declared.tier.Tier.{Tier}
 use Rattle.mk_base.specs.declared.tier.Via.TheVariants.{Shift}

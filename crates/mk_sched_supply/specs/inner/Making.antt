@@ -1,4 +1,4 @@
--- How a stock comes about and takes outputs. For proofs alone.
+-- For proofs alone. How a stock comes about and takes outputs.
 use Rattle.std.specs.Prelude.{◌≡◌, ℕ, Bool, false, ◌&&◌, List, [], map, filter, take, length, Option, Some, None, is_some, option_map, unwrap_or, slice_get, ◌==◌}
 use Rattle.mk_base.specs.declared.json.Json.{Json}
 use Rattle.mk_base.specs.declared.tier.Tier.{Tier}

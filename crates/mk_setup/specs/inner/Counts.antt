@@ -1,4 +1,4 @@
--- How many requests to each simulator were answered, as they are counted. For proofs alone.
+-- For proofs alone. How many requests to each simulator were answered, as they are counted.
 use Rattle.std.specs.Prelude.{◌≡◌, ◌≤◌, ℕ, List, length, map, Option, Some, option_map, slice_get}
 use Rattle.std.specs.List.{range_with_len}
 use Rattle.mk_scenario.specs.declared.parts.Scenario.{Scenario}

@@ -1,4 +1,4 @@
--- Which request comes next, by how many were answered. For proofs alone.
+-- For proofs alone. Which request comes next, by how many were answered.
 use Rattle.std.specs.Prelude.{◌≡◌, ◌<◌, ◌≤◌, ◌+◌, ℕ}
 use Rattle.mk_setup.specs.declared.stage.Stage.{Stage}
 use Rattle.mk_setup.specs.declared.stage.Stage.TheVariants.{Init, Create, Done, Over}

@@ -1,4 +1,4 @@
--- What is sure of every setup, with what it keeps beside what it is seen as. For proofs alone.
+-- For proofs alone. What is sure of every setup, with what it keeps beside what it is seen as.
 use Rattle.std.specs.Prelude.{◌≡◌, ◌≤◌, ℕ, ◌+◌, ◌<◌, true, min, List, length, map, Option, None, Ok, IfSome}
 use Rattle.std.specs.List.{range_with_len}
 use Rattle.mk_base.specs.Lists.{Each}

@@ -1,4 +1,4 @@
--- What a servant answers to a message. For proofs alone.
+-- For proofs alone. What a servant answers to a message.
 use Rattle.std.specs.Prelude.{◌≡◌, ℕ, true, false, List, Option, None, Some}
 use Rattle.mk_plan.specs.declared.Call.{Call}
 use Rattle.mk_plan.specs.declared.Item.{Item}

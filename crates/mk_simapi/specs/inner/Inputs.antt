@@ -1,4 +1,4 @@
--- The inputs of a step and what is wanted, as they are gathered from an argument. For proofs alone.
+-- For proofs alone. The inputs of a step and what is wanted, as they are gathered from an argument.
 use Rattle.std.specs.Prelude.{ℕ, List, [], map, Option, option_map, unwrap_or}
 use Rattle.std.specs.List.{flat_map}
 use Rattle.mk_base.specs.declared.json.Json.{Json}

@@ -1,4 +1,4 @@
--- What holds while a simulator is served. For proofs alone.
+-- For proofs alone. What holds while a simulator is served.
 use Rattle.std.specs.Prelude.{◌≡◌, ◌≤◌, ◌<◌, ℕ, List, [], ◌∷◌, ◌++◌, length, fold, Option, Some, None, ⊤}
 use Rattle.mk_base.specs.declared.LinkNo.{LinkNo}
 use Rattle.mk_plan.specs.declared.Message.{Message}

@@ -1,4 +1,4 @@
--- What a round of a serving gives. For proofs alone.
+-- For proofs alone. What a round of a serving gives.
 use Rattle.std.specs.Prelude.{Option, Some, None}
 use Rattle.mk_simapi.specs.declared.served.Served.{Served}
 use Rattle.mk_simapi.specs.declared.serving.Step.{Step}

@@ -1,4 +1,4 @@
--- For proofs alone. How the code goes about the words; only proofs need this.
+-- For proofs alone. How the code goes about the words.
 use Rattle.std.specs.Prelude.{ℕ, ◌&&◌, ◌==◌, nat_le, List, [], ◌∷◌, ◌++◌, length, Option, Some, None, if◌then◌else◌, codes}
 use Rattle.std.specs.List.{list_all}
 use Rattle.mk_base.specs.Lists.{same_text}
