@@ -3,6 +3,7 @@
 #![tactic(auto)]
 
 mod anew;
+mod calling;
 mod desk;
 mod door;
 mod errors;
@@ -11,9 +12,8 @@ mod folder;
 mod sink;
 mod socket;
 mod ticks;
-mod words;
 
+pub use calling::words;
 pub use fleet::MioFleet;
 pub use folder::RealFolder;
 pub use sink::RealSink;
-pub use words::words;
