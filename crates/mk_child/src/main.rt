@@ -40,11 +40,7 @@ fn run<W: Wait>(rt: &HostRuntime, waits: &W, alloc: Global) -> Result<u8, Mem> {
         Turn::Controller,
         Box::new(alloc, |s: EntityStep| controller_turn(s))?,
     ))?;
-    // Words that can't be read are no kind and address.
-    let words = match words(rt) {
-        Ok(words) => words,
-        Err(_) => Vec::new(alloc),
-    };
+    let words = words(rt)?;
     let mut fleet = MioFleet::new(alloc, rt);
     Ok(child(waits, alloc, words.as_slice(), &mut fleet, &kinds))
 }

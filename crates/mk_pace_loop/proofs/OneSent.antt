@@ -34,6 +34,7 @@ use Rattle.mk_run.proofs.Going.{bool_or_not, here_is_within}
 use Rattle.mk_run.proofs.Linked.{linked_outside}
 use Rattle.mk_run.proofs.ItemSent.{come_sent, kept_so, no_other_after, not_here_is_outside, only_sent, some_here}
 use Rattle.mk_run.proofs.Putting.{put_away, put_here}
+use Rattle.mk_run.proofs.SmallIds.{few_sent, small_next}
 use Rattle.mk_pace_held.specs.declared.held.Held.{Held}
 use Rattle.mk_pace_held.specs.Firsts.{IsChanged}
 use Rattle.mk_pace_laws.specs.declared.end.Moment.{Moment}
@@ -84,6 +85,14 @@ module _ (S : Setting) (T : Tempo) (strict : Option ℕ) (P : Plan) (J : List En
   right : is_here C s ≡ true → h.id ≡ id_after (setup_count S.scenario s) (p.queued s)
   right here = numbered (replied_takes item (one (inside_here here)).1)
 
+  -- no more items are queued than the journal has entries
+  few_queued : length (p.queued s) ≤ length J + 1
+  few_queued =
+      let few = few_sent J s in
+      let items = ap length f.items in
+      let parts = length-append (p.queued s) (item ∷ rest) in
+      omega (arith, few, items, parts)
+
   -- the crew takes it
   pub can_take : CanTake s item h.id C
   can_take = record {
@@ -91,7 +100,7 @@ module _ (S : Setting) (T : Tempo) (strict : Option ℕ) (P : Plan) (J : List En
     linked = λ away.
         let t = link_there S.started S.scenario s (subst (λ (n : ℕ). s < n) p.suits.sims low) (not_here_is_outside S p.queued C.sims s p.come away) in
         let g = p.channels s t.0 t.1 in
-        (g.channel, g.there, λ takes. numbered takes ∙ sym g.in_step.next_id);
+        (g.channel, g.there, small_next S P J p.suits p.stands s low (p.queued s) few_queued g.channel.next g.in_step.next_id, λ takes. numbered takes ∙ sym g.in_step.next_id);
   }
 
   module _ (law : RepliesAreKinds) (D : CrewSeen) (so : SendsAs s item h.id C D) (new : List (List Held)) (changed : IsChanged s (h ∷ q) q holds new) where

@@ -1,9 +1,24 @@
 // The words of the call.
-
+use crate::errors::is_want_of_memory;
+use mk_base::Mem;
 use std::{env, io};
 
-/// The program's words, without its own name. Fails where a word is no text in UTF-8, or memory is wanting.
-pub fn words(rt: &HostRuntime) -> io::Result<Vec<String>> {
+/// The program's words, without its own name. There are none where one of them is no text in UTF-8, or the system
+/// doesn't tell them; `Mem` means want of memory.
+pub fn words(rt: &HostRuntime) -> Result<Vec<String>, Mem> {
+    match told(rt) {
+        Ok(words) => Ok(words),
+        Err(e) => {
+            if is_want_of_memory(e) {
+                return Err(Mem);
+            }
+            Ok(Vec::new(rt.alloc()))
+        }
+    }
+}
+
+// The words as the system tells them.
+fn told(rt: &HostRuntime) -> io::Result<Vec<String>> {
     let mut words = Vec::new(rt.alloc());
     for word in env::args(rt)?.skip(1) {
         words.push(word)?;

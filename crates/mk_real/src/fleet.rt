@@ -311,7 +311,10 @@ impl<R: Net + Processes + Clock> Fleet for MioFleet<R> {
 
     fn start(&mut self, start: &Start) -> Started {
         let sockets = self.sockets.as_mut_slice();
-        if await_children(&self.host.rt, &mut self.desk, sockets, start).is_err() {
+        if let Err(e) = await_children(&self.host.rt, &mut self.desk, sockets, start) {
+            if is_want_of_memory(e) {
+                return Started::Mem;
+            }
             self.count_fault();
             return Started::Failed;
         }

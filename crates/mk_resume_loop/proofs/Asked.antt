@@ -42,6 +42,7 @@ use Rattle.mk_resume_links.proofs.Growing.{count_sent, free_sent_away, free_sent
 use Rattle.mk_resume_links.proofs.Closing.{asked_behind, asked_on_link, asked_within}
 use Rattle.mk_resume_loop.specs.inner.Underway.{IsResuming, saved_of}
 use Rattle.mk_run.proofs.ItemSent.{come_as, come_sent, kept_so, no_other_after, not_here_is_outside, only_sent}
+use Rattle.mk_run.proofs.SmallIds.{few_more, few_sent, small_next}
 
 -- ---- beginnings
 
@@ -135,7 +136,7 @@ module _ (T : Setting) (old new : CoreState) (first : List Entry) (heard : Count
     asked_linked away =
         let t = link_there T.started T.scenario s.0 (subst (λ (n : ℕ). s.0 < n) u.suits.sims asked_low) (not_here_is_outside T (λ i. free_items J i (heard i)) C.sims s.0 u.come away) in
         let h = u.catching.touch.channels s.0 t.0 t.1 in
-        (h.channel, h.there, λ takes. numbered ∙ sym h.in_step.next_id)
+        (h.channel, h.there, small_next T P J u.suits u.stands s.0 asked_low (free_items J s.0 (heard s.0)) (subst (λ (xs : List Item). length xs ≤ length J + 1) (sym free_now) (few_more (few_sent J s.0))) h.channel.next h.in_step.next_id, λ takes. numbered ∙ sym h.in_step.next_id)
 
     -- and once it was sent the run goes on
     module _ (law : RepliesAreKinds) (D : CrewSeen) (id : ℕ) (opened : open_id new s.0 ≡ Some id) (so : SendsAs s.0 (Step a.at a.inputs a.advance) id C D) where

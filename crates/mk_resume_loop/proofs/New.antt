@@ -49,6 +49,7 @@ use Rattle.mk_resume_loop.proofs.Asked.{longer_begins, paid_by_sent}
 use Rattle.mk_resume_loop.proofs.Resting.{resting}
 use Rattle.mk_resume_loop.proofs.Hearing.{met_back, met_fits, met_low, met_no_other, met_log_right, met_success}
 use Rattle.mk_run.proofs.ItemSent.{come_as, come_sent, kept_so, no_other_after, not_here_is_outside, only_sent}
+use Rattle.mk_run.proofs.SmallIds.{few_behind, small_next}
 
 one_behind : (k n : ℕ) → (k ≡ n) ⊎ (k ≡ n + 1) → n < k → k ≡ n + 1
 one_behind k n (inl p) more = absurd (omega (arith, p, more))
@@ -193,7 +194,7 @@ module _ (T : Setting) (core new : CoreState) (first : List Entry) (heard : Coun
   answered_linked id opened away =
       let t = link_there T.started T.scenario s.0 (subst (λ (n : ℕ). s.0 < n) v.suits.sims low) (not_here_is_outside T free C.sims s.0 v.come away) in
       let g = channel_now t.0 t.1 in
-      (g.0, g.1, λ takes. numbered id opened takes ∙ sym g.2)
+      (g.0, g.1, small_next T core.plan core.entries v.suits v.stands s.0 low (free s.0) (subst (λ (xs : List Item). length xs ≤ length core.entries + 1) (sym free_now) (few_behind core.entries (Got s m) s.0)) (g.0).next g.2, λ takes. numbered id opened takes ∙ sym g.2)
 
   -- and once it was sent the run goes on
   module _ (law : RepliesAreKinds) (D : CrewSeen) (id : ℕ) (opened : open_id new s.0 ≡ Some id) (so : SendsAs s.0 a.item id C D) where

@@ -28,7 +28,7 @@ use Rattle.mk_resume_links.proofs.Waiting.{so_far_end}
 use Rattle.mk_resume_loop.specs.declared.behind.Standing.{Standing}
 use Rattle.mk_resume_loop.specs.declared.ending.ResumeEnd.{ResumeEnd}
 use Rattle.mk_resume_loop.specs.declared.ending.ResumeEnd.TheVariants as ends
-use Rattle.mk_resume_loop.specs.inner.Standings.{id_behind, standing_at}
+use Rattle.mk_resume_loop.specs.inner.Standings.{standing_at}
 use Rattle.mk_resume_loop.specs.inner.Turns.{GoesOn, IsPast, IsSized, IsStopping, PassesAs}
 use Rattle.mk_resume_loop.specs.inner.Underway.{BehindSeen, StandsAt, saved_of}
 use Rattle.mk_resume_loop.proofs.Endings.{differs_ends}
@@ -61,7 +61,7 @@ module _ (core : CoreState) (C : CrewSeen) (s : SimNo) (gone id : ℕ) (low : s.
 
   module _ (p : ℕ) (t : SimNo) (item : Item) (looks : LooksUp gone (Some p)) (there : slice_get core.entries p ≡ Some (Sent t item)) where
     -- it is an item, which was sent
-    pub passes_sent : RepliesAreKinds → (D : CrewSeen) → SendsAs s.0 item id C D → (later : Option ℕ) (E : BehindSeen) → LooksUp (gone + 1) later → slice_get E.sims s.0 ≡ Some (standing_at later (gone + 1) (id_behind item id)) → PassesAs (Ok tt) core s.0 gone id C D E
+    pub passes_sent : RepliesAreKinds → (D : CrewSeen) → SendsAs s.0 item id C D → (later : Option ℕ) (E : BehindSeen) → LooksUp (gone + 1) later → slice_get E.sims s.0 ≡ Some (standing_at later (gone + 1) (id_after id (item ∷ []))) → PassesAs (Ok tt) core s.0 gone id C D E
     passes_sent law D so later E further stands R d =
         let first = looks R.from d.counted in
         let count : own_count s.0 (take (p + 1) core.entries) ≡ gone + 1 = counted_behind core.entries s.0 R.from p first ∙ ap (λ (k : ℕ). k + 1) (sym d.counted) in

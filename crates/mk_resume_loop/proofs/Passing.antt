@@ -34,6 +34,7 @@ use Rattle.mk_resume_links.proofs.Growing.{given_away, given_here}
 use Rattle.mk_resume_links.proofs.Touching.{linked_out}
 use Rattle.mk_run.proofs.ItemSent.{come_sent, kept_so, no_other_after, not_here_is_outside, only_sent}
 use Rattle.mk_run.proofs.Putting.{put_away, put_here, put_same}
+use Rattle.mk_run.proofs.SmallIds.{few_sent, small_next}
 use Rattle.mk_resume_loop.specs.inner.Underway.{IsPassed, IsPassing, IsResumingWith, course_of, saved_of}
 
 -- ---- what is awaited of a simulator
@@ -98,12 +99,20 @@ module _ (T : Setting) (P : Plan) (first J : List Entry) (heard : Counts) (X : �
   passed_quietly is = resuming_as X (put X s free) A (put A s awaits) T P first J heard log (crew_of C) C.sims (λ i low. put_same X s free (sym is) i)
       (put_same A s awaits (p.none ∙ sym (awaited_none T.scenario (reply_in T) J heard s (few_all (length free) (heard s) (ap length is ∙ p.answered))))) u
 
+  -- no more items are queued than the journal has entries
+  few_queued : length (X s) ≤ length J + 1
+  few_queued =
+      let queued = ap length p.was_sent in
+      let few = few_sent p.gone.gone s in
+      let parts : length J ≡ length p.gone.gone + length p.gone.left = ap length p.gone.parts ∙ length-append p.gone.gone p.gone.left in
+      omega (arith, queued, few, parts)
+
   -- the crew takes an item with the next id
   pub passing_linked : (item : Item) (id : ℕ) → s < sim_count P → (takes_id item ≡ true → id ≡ id_after (setup_count T.scenario s) (X s)) → is_here C s ≡ false → HasNext item id s C
   passing_linked item id low right away =
       let t = link_there T.started T.scenario s (subst (λ (n : ℕ). s < n) u.suits.sims low) (not_here_is_outside T X C.sims s u.come away) in
       let h = u.catching.touch.channels s t.0 t.1 in
-      (h.channel, h.there, λ takes. right takes ∙ sym h.in_step.next_id)
+      (h.channel, h.there, small_next T P J u.suits u.stands s low (X s) few_queued h.channel.next h.in_step.next_id, λ takes. right takes ∙ sym h.in_step.next_id)
 
   -- an item more is, and it was sent
   module _ (law : RepliesAreKinds) (item : Item) (id : ℕ) (D : CrewSeen) (right : takes_id item ≡ true → id ≡ id_after (setup_count T.scenario s) (X s)) (takes : is_here C s ≡ true → takes_id item ≡ true) (so : SendsAs s item id C D) (is : free ≡ X s ++ item ∷ []) where

@@ -23,22 +23,17 @@ use Rattle.mk_resume_walk.specs.Walks.{IsFirstOwn, IsGoneTo, is_of}
 use Rattle.mk_resume_walk.specs.Index.{own_count}
 use Rattle.mk_resume_walk.proofs.Indexing.{counted_behind}
 use Rattle.mk_resume_loop.specs.declared.behind.Standing.{Standing}
-use Rattle.mk_resume_loop.specs.inner.Standings.{id_behind, standing_at}
+use Rattle.mk_resume_loop.specs.inner.Standings.{standing_at}
 use Rattle.mk_resume_loop.specs.inner.Underway.{IsPassed, StandsAt}
 use Rattle.mk_resume_loop.specs.inner.Turns.{IsDue, Walk}
 use Rattle.mk_resume_loop.proofs.Passing.{passed_quietly, passed_sent, passing_linked}
 use Rattle.mk_resume_loop.proofs.Replied.{replied_anew}
 use Rattle.mk_resume_loop.proofs.Standing.{at_most_one, get_dropped, gone_all, gone_got, gone_sent, take_front}
 
-next_id : (n id : ℕ) (items : List Item) (item : Item) → id ≡ id_after n items → id_behind item id ≡ id_after n (items ++ item ∷ [])
-next_id n id items item is = go item
-    (ap length (filter_append takes_id items (item ∷ [])) ∙ length-append (filter takes_id items) (filter takes_id (item ∷ [])))
-  where
-    go : (item : Item) → length (filter takes_id (items ++ item ∷ [])) ≡ length (filter takes_id items) + length (filter takes_id (item ∷ [])) → id_behind item id ≡ id_after n (items ++ item ∷ [])
-    go (Step x ins advance) e = omega (arith, e, is)
-    go (GetData wants) e = omega (arith, e, is)
-    go (Answer asked content) e = omega (arith, e, is)
-    go (Refuse asked reason) e = omega (arith, e, is)
+next_id : (n id : ℕ) (items : List Item) (item : Item) → id ≡ id_after n items → id_after id (item ∷ []) ≡ id_after n (items ++ item ∷ [])
+next_id n id items item is =
+    let e = ap length (filter_append takes_id items (item ∷ [])) ∙ length-append (filter takes_id items) (filter takes_id (item ∷ [])) in
+    omega (arith, e, is)
 
 replied_takes : (item : Item) → IsItemReplied item → takes_id item ≡ true
 replied_takes (Step x ins advance) r = refl
@@ -125,7 +120,7 @@ module _ (R : Walk) (core : CoreState) (C : CrewSeen) (s : SimNo) (gone id : ℕ
       one = ap length all ∙ length-append (R.course.queued s.0) (item ∷ []) ∙ ap (λ (k : ℕ). k + 1) d.passing.answered
 
       -- behind it comes a message, if anything
-      by_entry : (q : ℕ) (e : Entry) → IsFirstOwn J s.0 (p + 1) (Some q) → slice_get J q ≡ Some e → Passed D × Stands (Some (record { place = q; gone = (gone + 1) + 1; id = id_behind item id }))
+      by_entry : (q : ℕ) (e : Entry) → IsFirstOwn J s.0 (p + 1) (Some q) → slice_get J q ≡ Some e → Passed D × Stands (Some (record { place = q; gone = (gone + 1) + 1; id = id_after id (item ∷ []) }))
       by_entry q (Sent x other) next at =
           let k = gone_sent J s.0 n (p + 1) h.0 q x other next at in
           absurd (at_most_one core.plan J d.resuming.stands.orderly.0 d.resuming.no_fault s.0 n (q + 1) k.0
@@ -140,7 +135,7 @@ module _ (R : Walk) (core : CoreState) (C : CrewSeen) (s : SimNo) (gone id : ℕ
             ),
           )
 
-      pub due_sent : (r : Option ℕ) → IsFirstOwn J s.0 (p + 1) r → Passed D × Stands (standing_at r (gone + 1) (id_behind item id))
+      pub due_sent : (r : Option ℕ) → IsFirstOwn J s.0 (p + 1) r → Passed D × Stands (standing_at r (gone + 1) (id_after id (item ∷ [])))
       due_sent None none = let t = gone_all J s.0 n (p + 1) h.0 none in (sent_so t.1, t.0)
       due_sent (Some q) next = by_entry q next.1 next (by_place next)
         where

@@ -13,7 +13,7 @@ ghost use Rattle.mk_run.specs.inner.Turns.{IsStill};
 ghost use Rattle.mk_resume_links.specs.inner.Touching.{RestsOver};
 ghost use Rattle.mk_resume_loop.specs.inner.Underway.{IsResumingWith, course_of, saved_of};
 ghost use Rattle.mk_resume_loop.specs.inner.Turns.{BeginsAs, IsDue, IsSized, PassesAs, Walk};
-ghost use Rattle.mk_resume_loop.specs.inner.Standings.{id_behind, standing_at};
+ghost use Rattle.mk_resume_loop.specs.inner.Standings.{standing_at};
 
 use crate::behind::{Behind, Standing};
 use crate::ending::ResumeEnd;
@@ -22,19 +22,9 @@ use mk_local::Registry;
 use mk_plan::{Entry, Item};
 use mk_run::Outcome;
 use mk_run_crew::Crew;
+use mk_run_links::id_behind;
 use mk_run_local::replies_are_kinds;
 use mk_sched::Core;
-
-// The next id behind an item.
-fn id_behind(item: &Item, id: u64) -> u64
-    requires { id < u64.MAX }
-    ensures { result ≡ id_behind item.now id }
-{
-    match item {
-        Item::Step { .. } | Item::GetData { .. } => id + 1,
-        Item::Answer { .. } | Item::Refuse { .. } => id,
-    }
-}
 
 // Where a simulator stands, its next entry having been looked up behind so many.
 fn standing_at(next: Option<usize>, gone: usize, id: u64) -> Option<Standing>

@@ -42,6 +42,7 @@ use Rattle.mk_run.proofs.Pushed.{range_sent}
 use Rattle.mk_run.proofs.Times.{ready_time}
 use Rattle.mk_run.specs.inner.Underway.{IsOnlyWithin}
 use Rattle.mk_run.proofs.ItemSent as item_sent
+use Rattle.mk_run.proofs.SmallIds.{few_more, few_sent, small_next}
 pub use Rattle.mk_run.proofs.ItemSent.{bool_or_not, here_is_within}
 
 module _ (T : Setting) where
@@ -120,7 +121,7 @@ module _ (T : Setting) where
     asked_linked away =
         let t = link_there T.started T.scenario s.0 (subst (λ (n : ℕ). s.0 < n) u.suits.sims asked_low) (not_here_is_outside old.entries C.sims s.0 u.come away) in
         let h = u.running.channels s.0 t.0 t.1 in
-        (h.channel, h.there, λ takes. numbered ∙ sym h.in_step.next_id)
+        (h.channel, h.there, small_next T old.plan old.entries u.suits u.stands s.0 asked_low (sent old.entries s.0) (few_more (few_sent old.entries s.0)) h.channel.next h.in_step.next_id, λ takes. numbered ∙ sym h.in_step.next_id)
 
     -- and once it was sent the run goes on
     module _ (law : RepliesAreKinds) (D : CrewSeen) (id : ℕ) (opened : open_id new s.0 ≡ Some id) (so : SendsAs s.0 (Step a.at a.inputs a.advance) id C D) where

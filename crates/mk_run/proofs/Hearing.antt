@@ -46,6 +46,7 @@ use Rattle.mk_run.proofs.InRange.{same_test, read_in_range, success_in_range}
 use Rattle.mk_run.proofs.Linked.{linked_outside, within_below, no_other_heard}
 use Rattle.mk_sched.proofs.Pushed.{patient_sent, patient_got, fault_after_sent}
 use Rattle.mk_run.proofs.Pushed.{sent_got, range_sent, range_got}
+use Rattle.mk_run.proofs.SmallIds.{few_behind, small_next}
 
 -- a reply that is kept is awaited of a simulator within the program, at which a request is open
 kept_awaited : (S : Scenario) (reply : Replies) (P : Plan) (J : List Entry) (s : ℕ) (m : Message) (kept more : List Arrival) → kept_of s kept ≡ awaited S reply P J s → kept ≡ record { sim = s; message = m } ∷ more
@@ -201,7 +202,7 @@ module _ (T : Setting) (core new : CoreState) (log : List LogEntry) (s : SimNo) 
   answered_linked id opened away =
       let t = link_there T.started T.scenario s.0 (subst (λ (n : ℕ). s.0 < n) v.suits.sims low) (not_here_is_outside T core.entries C.sims s.0 v.come away) in
       let g = (heard_running T core.plan core.entries log s m (crew_of C) C.sims h).channels s.0 t.0 t.1 in
-      (g.channel, g.there, λ takes. numbered id opened takes ∙ sym g.in_step.next_id)
+      (g.channel, g.there, small_next T core.plan core.entries v.suits v.stands s.0 low (sent (core.entries ++ Got s m ∷ []) s.0) (few_behind core.entries (Got s m) s.0) g.channel.next g.in_step.next_id, λ takes. numbered id opened takes ∙ sym g.in_step.next_id)
 
   -- and once it was sent the run goes on
   module _ (law : RepliesAreKinds) (D : CrewSeen) (id : ℕ) (opened : open_id new s.0 ≡ Some id) (so : SendsAs s.0 a.item id C D) where

@@ -1,5 +1,5 @@
 -- What the calls of a crew do in a run.
-use Rattle.std.specs.Prelude.{◌≡◌, ℕ, ◌<◌, ◌≤◌, true, false, List, [], Option, Some, None, Result, Ok, Err, ⊤, slice_set}
+use Rattle.std.specs.Prelude.{◌≡◌, ℕ, ◌<◌, ◌≤◌, ◌^◌, true, false, List, [], Option, Some, None, Result, Ok, Err, ⊤, slice_set}
 use Rattle.mk_base.specs.declared.SimNo.{SimNo}
 use Rattle.mk_frame.specs.Frames.{limit}
 use Rattle.mk_outside.specs.declared.fleet.LogEntry.{LogEntry}
@@ -21,9 +21,9 @@ use Rattle.mk_run_crew.specs.declared.halt.Halt.{Halt}
 use Rattle.mk_run_crew.specs.declared.halt.Halt.TheVariants as halt
 use Rattle.mk_run_crew.specs.Seen.{CrewSeen, crew_of, within_of, is_here}
 
--- simulator i has a link, and the id is the next one of its channel where the item takes one
+-- simulator i has a link, whose next id is below 2^32, and the id is that one where the item takes one
 abbrev pub HasNext : Item → ℕ → ℕ → CrewSeen → Type 0
-HasNext item id i C = (w : Channel) × (channel_at (crew_of C) i ≡ Some w)
+HasNext item id i C = (w : Channel) × (channel_at (crew_of C) i ≡ Some w) × (w.next < 2 ^ 32)
     × (takes_id item ≡ true → id ≡ w.next)
 
 -- the reply of simulator s, within the program, to the item is kept, and that simulator has come on

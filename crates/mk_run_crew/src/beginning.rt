@@ -161,6 +161,7 @@ fn queue_call(
 ) -> Result<(), Halt>
     requires linked { IsLinked sim.0 links.old.channels }
     requires range { is_call_in_range call.now ≡ true }
+    requires few { id < 2 ^ 32 }
     ensures ok { OnOk result ((w : Channel)
         × IsSet sim.0 w (queued (call_text id call.now) (id + 1) w) links.old.channels
         links.new.channels) }
@@ -169,11 +170,8 @@ fn queue_call(
     ensures err { OnErr result (links.new ≡ links.old) }
     ensures same_halt { links.new.halt ≡ links.old.halt }
 {
-    let Some(next) = id.checked_add(1) else {
-        return Err(Halt::Mem);
-    };
     let payload = write_call(alloc, call, id)?;
-    match links.queue(sim, &payload, next) {
+    match links.queue(sim, &payload, id + 1) {
         Ok(()) => Ok(()),
         Err(fault) => Err(unsent(sim, fault)),
     }
@@ -196,6 +194,7 @@ impl Crew {
         requires linked { (w : Channel) × (at self.old.channels sim.0 ≡ Some w) }
         requires open { AreOpen self.old.channels (F.open_links fleet.old) }
         requires range { is_call_in_range call.now ≡ true }
+        requires few { id < 2 ^ 32 }
         requires going { self.old.halt ≡ None }
         ensures count { F.faults fleet.old ≤ F.faults fleet.new }
         ensures cause { result ≡ Err Halt.Fleet
@@ -235,6 +234,7 @@ impl Crew {
         requires open { AreOpen self.old.channels (F.open_links fleet.old) }
         requires replied { IsCallReplied call.now }
         requires range { is_call_in_range call.now ≡ true }
+        requires few { id < 2 ^ 32 }
         requires going { self.old.halt ≡ None }
         ensures count { F.faults fleet.old ≤ F.faults fleet.new }
         ensures cause { result ≡ Err Halt.Fleet
@@ -273,6 +273,7 @@ impl Crew {
         requires open { AreOpen self.old.channels (F.open_links fleet.old) }
         requires replied { IsCallReplied call.now }
         requires range { is_call_in_range call.now ≡ true }
+        requires few { id < 2 ^ 32 }
         requires going { self.old.halt ≡ None }
         ensures count { F.faults fleet.old ≤ F.faults fleet.new }
         ensures same_count { F.started fleet.new ≡ F.started fleet.old }

@@ -1,5 +1,5 @@
 -- The channels of a crew, each at the place of its simulator.
-use Rattle.std.specs.Prelude.{◌≡◌, ℕ, true, false, not, List, [], map, filter, Option, Some, option_map, option_and_then, slice_get}
+use Rattle.std.specs.Prelude.{◌≡◌, ℕ, ◌<◌, ◌^◌, true, false, not, List, [], map, filter, Option, Some, option_map, option_and_then, slice_get}
 use Rattle.std.specs.List.{list_any}
 use Rattle.mk_base.specs.declared.LinkNo.{LinkNo}
 use Rattle.mk_base.specs.Lists.{IsIn}
@@ -20,6 +20,10 @@ at channels i = option_and_then (λ (o : Option Channel). o) (slice_get channels
 -- simulator i has a channel
 abbrev pub IsLinked : ℕ → Channels → Type 0
 IsLinked i channels = (w : Channel) × (at channels i ≡ Some w)
+
+-- the next id of simulator i's channel, if it has one, is below 2^32
+abbrev pub HasSmallNext : ℕ → Channels → Type 0
+HasSmallNext i channels = (w : Channel) → at channels i ≡ Some w → w.next < 2 ^ 32
 
 -- the link is that of a channel
 abbrev pub IsChannelLink : Channels → LinkNo → Type 0

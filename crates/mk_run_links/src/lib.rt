@@ -12,4 +12,4 @@ mod stopping;
 pub use answers::LinkHalt;
 pub use closing::close_all;
 pub use laws::places_are_distinct;
-pub use links::Links;
+pub use links::{Links, id_behind};

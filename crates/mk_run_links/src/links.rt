@@ -12,7 +12,7 @@ ghost use Rattle.mk_plan.specs.Sequential.{id_after};
 ghost use Rattle.mk_run_links.specs.Crews.{HearsAs, IsLengthOf, StopsAll, TriesAs};
 ghost use Rattle.mk_run_links.specs.Halts.{lasting, lasting_halt};
 ghost use Rattle.mk_run_links.specs.Entries.{AreOn};
-ghost use Rattle.mk_run_links.specs.Places.{AreDistinct, AreOpen, IsChannelLink, IsLinked, IsSet, at, crew, new_channel, new_channels};
+ghost use Rattle.mk_run_links.specs.Places.{AreDistinct, AreOpen, HasSmallNext, IsChannelLink, IsLinked, IsSet, at, crew, new_channel, new_channels};
 ghost use Rattle.mk_run_links.specs.inner.Looks.{AreWoken, IsWokenAt, ListensAs, LooksAs, RestsAs, listened_of};
 ghost use Rattle.mk_run_links.specs.inner.Standing.{HaveTurns};
 
@@ -72,13 +72,14 @@ fn add_place(
     }
 }
 
-// The next id behind an item that has this one, or that of what it answers; `None` where it would be 2^64.
-fn id_behind(item: &Item, id: u64) -> Option<u64>
-    ensures { IfSome result (λ next. next ≡ id_after id (item.now ∷ [])) }
+/// The next id of a link behind an item, where this is the next one before it.
+pub fn id_behind(item: &Item, id: u64) -> u64
+    requires { id < 2 ^ 32 }
+    ensures { result ≡ id_after id (item.now ∷ []) }
 {
     match item {
-        Item::Step { .. } | Item::GetData { .. } => id.checked_add(1),
-        Item::Answer { .. } | Item::Refuse { .. } => Some(id),
+        Item::Step { .. } | Item::GetData { .. } => id + 1,
+        Item::Answer { .. } | Item::Refuse { .. } => id,
     }
 }
 
@@ -225,10 +226,11 @@ impl Links {
     }
 
     /// Queues an item on a simulator's link: a Step and a GetData with the link's next id, an Answer and a Refuse with the
-    /// id of what they answer. `TooLong` has the length of the item's payload, which may have at most 67,108,864 bytes.
-    /// `Mem` comes for want of memory, and where the next id would be 2^64. After a fault nothing has changed.
+    /// id of what they answer. `TooLong` has the length of the item's payload, which may have at most 67,108,864 bytes;
+    /// `Mem` means want of memory. After a fault nothing has changed.
     pub fn send(&mut self, alloc: Global, sim: SimNo, item: &Item) -> Result<(), QueueFault>
-        requires { IsLinked sim.0 self.old.channels }
+        requires linked { IsLinked sim.0 self.old.channels }
+        requires small { HasSmallNext sim.0 self.old.channels }
         ensures ok { OnOk result ((w : Channel) × (at self.old.channels sim.0 ≡ Some w)
             × IsSentOnLink sim.0 item.now w.next (crew self.old.channels)
             (crew self.new.channels)) }
@@ -240,13 +242,10 @@ impl Links {
         ensures same_halt { self.new.halt ≡ self.old.halt }
     {
         let id = self.next(sim);
-        let Some(next) = id_behind(item, id) else {
-            return Err(QueueFault::Mem);
-        };
         let Ok(payload) = write_item(alloc, item, id) else {
             return Err(QueueFault::Mem);
         };
-        self.queue(sim, &payload, next)?;
+        self.queue(sim, &payload, id_behind(item, id))?;
         Ok(())
     }
 

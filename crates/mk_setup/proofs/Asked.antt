@@ -24,7 +24,7 @@ use Rattle.mk_setup.specs.inner.Kept.{IsHindered}
 use Rattle.mk_setup.specs.Requests.{group_of, meta_of, request_of}
 use Rattle.mk_setup.specs.Seen.{SetupState}
 use Rattle.mk_setup.specs.inner.Standing.{IsPlanOf, IsSoundSetup}
-use Rattle.mk_setup.proofs.Counting.{count_is}
+use Rattle.mk_setup.proofs.Counting.{count_is, count_small}
 use Rattle.mk_setup.proofs.Sequence.{create_at, create_of, done_at, init_at, request_count}
 use Rattle.mk_setup.proofs.Stepping.{counted_of, request_fits}
 
@@ -40,6 +40,7 @@ requested U ids plan sim call id s going resting request tested at =
       in_range = fits.1;
       tested = tested;
       numbered = count_is U.scenario U.answered ids (counted_of U ids plan s) sim.0 id at;
+      few = count_small U.scenario U.answered ids (counted_of U ids plan s) sim.0 id at;
       asked = refl;
     }
 

@@ -1,5 +1,5 @@
 -- What the answers of a setup mean, by its state before and after.
-use Rattle.std.specs.Prelude.{◌≡◌, ℕ, ◌<◌, ◌⊎◌, true, false, length, Some, None, Ok, Err}
+use Rattle.std.specs.Prelude.{◌≡◌, ℕ, ◌<◌, ◌^◌, ◌⊎◌, true, false, length, Some, None, Ok, Err}
 use Rattle.mk_base.specs.declared.SimNo.{SimNo}
 use Rattle.mk_plan.specs.declared.Plan.{Plan}
 use Rattle.mk_plan.specs.declared.Call.{Call}
@@ -16,8 +16,8 @@ use Rattle.mk_setup.specs.Replies.{after_reply}
 use Rattle.mk_setup.specs.Requests.{id_before, request_of}
 use Rattle.mk_setup.specs.Seen.{SetupState}
 
--- the next request, which passes its test, is made: it is this call of this simulator, and its id
--- is how many went there before
+-- the next request, which passes its test, is made: it is this call of this simulator, and its id,
+-- below 2^32, is how many went there before
 pub record IsRequested (U : SetupState) (sim : SimNo) (call : Call) (id : ℕ)
     (V : SetupState) : Type 0 where
   pub going : U.fault ≡ None
@@ -27,6 +27,7 @@ pub record IsRequested (U : SetupState) (sim : SimNo) (call : Call) (id : ℕ)
   pub in_range : is_call_in_range call ≡ true
   pub tested : test_before U (request_of U) ≡ None
   pub numbered : id ≡ id_before U.scenario U.answered sim.0
+  pub few : id < 2 ^ 32
   pub asked : V ≡ record U { asked = true }
 
 -- a request is outstanding

@@ -13,7 +13,6 @@ use mk_real::{MioFleet, RealFolder, RealSink, words};
 use mk_watch_read::{Fold, Rule, Rules, greatest, last, least, sum};
 use mosaikrun_program::program;
 use std::alloc::Global;
-use std::io;
 use std::process::ExitCode;
 use std::sync::Wait;
 
@@ -90,16 +89,7 @@ fn call<W: Wait>(
     kinds: &Registry,
     rules: &Rules,
 ) -> Result<u8, Mem> {
-    // Words that can't be read are no command, but for want of memory.
-    let words = match words(rt) {
-        Ok(words) => words,
-        Err(error) => {
-            if matches!(error.kind(), io::ErrorKind::OutOfMemory) {
-                return Err(Mem);
-            }
-            Vec::new(alloc)
-        }
-    };
+    let words = words(rt)?;
     let mut folder = RealFolder::new(rt);
     let mut fleet = MioFleet::new(alloc, rt);
     let mut out = RealSink::new(rt, false);

@@ -32,6 +32,8 @@ use Rattle.mosaikrun_endings.specs.Endings.{status_of}
 use Rattle.mosaikrun_sayings.specs.Sayings.{ids_of}
 use Rattle.mosaikrun_run.specs.declared.sayings.Form.{Form}
 use Rattle.mosaikrun_run.specs.declared.sayings.Form.TheVariants.{Report, Summary}
+use Rattle.mk_setup.specs.Ranked.{AreRanksOf}
+use Rattle.mosaikrun_check.specs.Runnable.{IsRunnable}
 use Rattle.mosaikrun_run.specs.Outcomes.{IsPlayed, IsSaid, IsScenarioOutcome, IsUnrun, exchange_in}
 use Rattle.mosaikrun_run.specs.Sayings.{halt_ending, record_of, text_of}
 use Rattle.mosaikrun_run.proofs.Reporting.{said_is_done, texts_sequential}
@@ -112,6 +114,10 @@ record Shown (C : Around) (text : Result (List ℕ) Ending) (n : ℕ) : Type 0 w
   unput : (e : Ending) → text ≡ Err e → (C.output.after ≡ C.output.before) × (n ≡ 0 → ⊥)
   wanting : text ≡ Err Mem → n ≡ 8
 
+-- the ranks with which a scenario is run are its own
+own_ranks : (kinds : List (List ℕ)) (S : Scenario) (ranks : List ℕ) → IsRunnable kinds S ranks → AreRanksOf S ranks
+own_ranks kinds S ranks runnable = record { ranking = runnable.ranked; each_once = runnable.each_once; rising = runnable.rising }
+
 -- at status 0 the record of this plan and journal was saved under the name that was given for it
 abbrev Filed : Around → Option (List ℕ) → ℕ → Plan → List Entry → Type 0
 Filed C saved n P J = n ≡ 0 → (name : List ℕ) → saved ≡ Some name → C.folder.files_after ≡ option_map (with_file name (record_text P J)) C.folder.files
@@ -144,14 +150,18 @@ module _ (C : Around) (form : Form) (wanted : Bool) (S : Scenario) (saved : Opti
         on_links = on_or_clock (IsRunLink O.started S) O.log p.run.run.on_links;
         run = record {
           ranks = p.ranks;
+          ranked = own_ranks (map name_of O.kinds) S p.ranks p.runnable;
           answers = p.run.answers;
           made = p.run.made;
+          valid = p.run.run.valid;
           heard = λ i l linked. (p.run.run.links i l linked).1.replied ∙ p.run.told i l linked;
           within = p.run.kinds;
           journal = p.journal;
+          of_run = p.run.run.journal;
           promised = right.promised;
           setup_rests = p.run.run.setup_rests;
           rests = right.rests;
+          finished = λ zero. (right.done (over zero)).finished;
           possible = λ zero. (
             come,
             record {
@@ -343,6 +353,7 @@ module _ (C : Around) (factor : ℕ) (strict : Option ℕ) (S : Scenario) (name 
       let come : Messages = λ i. coming (sim_link O.started S i) (run_messages S O.log i) (got p.journal i) in
       record {
         ranks = p.ranks;
+        ranked = own_ranks (map name_of O.kinds) S p.ranks p.runnable;
         plan = p.plan;
         journal = p.journal;
         moments = p.moments;

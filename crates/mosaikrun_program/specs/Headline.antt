@@ -7,7 +7,9 @@ use Rattle.mk_plan.specs.declared.Plan.{Plan}
 use Rattle.mk_plan.specs.declared.Item.{Item}
 use Rattle.mk_plan.specs.declared.Entry.{Entry}
 use Rattle.mk_plan.specs.declared.Message.{Message}
+use Rattle.mk_plan.specs.Agreement.{IsFinished}
 use Rattle.mk_plan.specs.Journals.{bare}
+use Rattle.mk_plan.specs.Plans.{IsValidPlan}
 use Rattle.mk_plan.specs.Sequential.{Messages, run_items}
 use Rattle.mk_outside.specs.Counts.{HasRisen}
 use Rattle.mk_outside.specs.Folders.{with_file}
@@ -17,6 +19,7 @@ use Rattle.mk_scenario.specs.Scenarios.{scenario_of}
 use Rattle.mk_scenario_demo.specs.Demo.{demo_scenario}
 use Rattle.mk_run_laws.specs.Handshake.{setup_count, setup_requests, sim_link}
 use Rattle.mk_run_laws.specs.Hearing.{messages_heard}
+use Rattle.mk_run_laws.specs.Laws.{IsJournalOf}
 use Rattle.mk_run_laws.specs.Rests.{RestsWell}
 use Rattle.mk_run_laws.specs.Runs.{IsPossible, SaidWhole, SaysRight}
 use Rattle.mk_outside.specs.Logs.{heard_on}
@@ -25,6 +28,7 @@ use Rattle.mk_run_crew.specs.Answers.{AreKindAnswers, answers_to}
 use Rattle.mk_run.specs.Ends.{SetupRestsWell}
 use Rattle.mk_run.specs.Laws.{ArePromised}
 use Rattle.mk_setup.specs.Handshakes.{IsMade}
+use Rattle.mk_setup.specs.Ranked.{AreRanksOf}
 use Rattle.mk_record.specs.Texts.{record_text}
 use Rattle.mosaikrun_words.specs.declared.request.Request.{Request}
 use Rattle.mosaikrun_words.specs.declared.request.FileCommand.{FileCommand}
@@ -59,26 +63,32 @@ pub record IsRightLink (O : Outside) (S : Scenario) (plan : Option Plan) (n i : 
   pub whole : ((n ≡ 8) × (O.log ≡ []) → ⊥)
       → SaidWhole S O.log (HasRisen O.faults O.new_faults) i l asked items
 
--- what the simulators were sent by this plan, which is that of the replies to their handshake. Each
+-- what the simulators were sent by this plan, which is valid, and that of the replies to their
+-- handshake, with the ranks of the scenario; and by this journal of what was sent and heard. Each
 -- Step's max_advance is a promise. Wherever the fleet was waited for: until all had set up, each
 -- request was said up to the first whose reply hadn't come; from then on all messages heard were in
 -- the journal, and all replies of simulators within the program, nobody was ready, and all that was
--- owed was said, in both cases but where a link's last write took nothing. At status 0 messages may
--- come, and over all that may, the output has grown by exactly the text of what sequential execution
--- sends; and the record of the plan and the journal was saved under the name that was given for it
+-- owed was said, in both cases but where a link's last write took nothing. At status 0 the items of
+-- the journal are all that sequential execution sends over its messages; messages may come, and over
+-- all that may, the output has grown by exactly the text of what sequential execution sends; and the
+-- record of the plan and the journal was saved under the name that was given for it
 pub record IsRightRunBy (C : Around) (form : Form) (S : Scenario) (saved : Option (List ℕ)) (n : ℕ)
     (P : Plan) : Type 0 where
   pub ranks : List ℕ
+  pub ranked : AreRanksOf S ranks
   pub answers : List Message
   pub made : IsMade S ranks answers P
+  pub valid : IsValidPlan P
   pub heard : (i : ℕ) (l : LinkNo) → sim_link C.outside.started S i ≡ Some l
       → take (setup_count S i) (messages_heard (heard_on l C.outside.log))
       ≡ answers_to i (setup_requests S) answers
   pub within : AreKindAnswers C.outside.kinds S answers
   pub journal : List Entry
+  pub of_run : IsJournalOf (exchange_in C.outside S) P journal
   pub promised : ArePromised (exchange_in C.outside S) P journal
   pub setup_rests : SetupRestsWell C.outside.started S C.outside.log
   pub rests : RestsWell C.outside.started S P journal C.outside.log
+  pub finished : n ≡ 0 → IsFinished P journal
   pub possible : n ≡ 0 → (R : Messages) × MayCome C.outside S P R
   pub text : n ≡ 0 → (R : Messages) → MayCome C.outside S P R
       → C.output.after ≡ appended (text_of form P (run_items P R)) C.output.before

@@ -12,6 +12,7 @@ use Rattle.mk_scenario.specs.declared.parts.Scenario.{Scenario}
 use Rattle.mk_scenario.specs.Scenarios.{scenario_of}
 use Rattle.mk_record.specs.Texts.{record_text}
 use Rattle.mk_run_laws.specs.Runs.{IsPossible}
+use Rattle.mk_setup.specs.Ranked.{AreRanksOf}
 use Rattle.mk_pace_laws.specs.declared.end.Moment.{Moment}
 use Rattle.mk_pace_laws.specs.declared.end.PaceEnd.{PaceEnd}
 use Rattle.mk_pace_laws.specs.Laws.{IsRightPace}
@@ -26,7 +27,8 @@ use Rattle.mosaikrun_program.specs.Around.{Around}
 use Rattle.mosaikrun_program.specs.Commands.{IsAsked, HasBytes}
 use Rattle.mosaikrun_program.specs.Running.{RunAnswer}
 
--- the scenario was run by the clock, by this plan, with this journal and these moments: what was said
+-- the scenario, with its ranks, was run by the clock, by this plan, with this journal and these
+-- moments: what was said
 -- on each link begins what sequential execution sends, no Step before its moment, each Step's
 -- max_advance is a promise, and where the fleet slept nothing was due. At status 0 messages may come,
 -- and over all that may, the output has grown by exactly the report of what sequential execution
@@ -34,6 +36,7 @@ use Rattle.mosaikrun_program.specs.Running.{RunAnswer}
 pub record IsRightPacedRun (C : Around) (factor : ℕ) (strict : Option ℕ) (S : Scenario)
     (saved : Option (List ℕ)) (n : ℕ) : Type 0 where
   pub ranks : List ℕ
+  pub ranked : AreRanksOf S ranks
   pub plan : Plan
   pub journal : List Entry
   pub moments : List Moment

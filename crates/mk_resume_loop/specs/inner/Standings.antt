@@ -1,7 +1,5 @@
 -- For proofs alone. Where a simulator stands behind an entry of it, and whether anybody is behind.
-use Rattle.std.specs.Prelude.{◌≡◌, ℕ, ◌+◌, Option, Some, None, if◌then◌else◌, slice_get}
-use Rattle.mk_plan.specs.declared.Item.{Item}
-use Rattle.mk_plan.specs.Sequential.{takes_id}
+use Rattle.std.specs.Prelude.{◌≡◌, ℕ, ◌+◌, Option, Some, None, slice_get}
 use Rattle.mk_resume_loop.specs.declared.behind.Standing.{Standing}
 use Rattle.mk_resume_loop.specs.inner.Underway.{BehindSeen}
 
@@ -9,10 +7,6 @@ use Rattle.mk_resume_loop.specs.inner.Underway.{BehindSeen}
 abbrev pub standing_at : Option ℕ → ℕ → ℕ → Option Standing
 standing_at None gone id = None
 standing_at (Some p) gone id = Some (record { place = p; gone = gone + 1; id = id })
-
--- the next id behind an item
-abbrev pub id_behind : Item → ℕ → ℕ
-id_behind item id = if takes_id item then id + 1 else id
 
 -- nobody is behind
 abbrev pub HasNobody : BehindSeen → Type 0

@@ -1,10 +1,10 @@
-use Rattle.std.proofs.Common.{Err, ap, subst, ◌∙◌}
+use Rattle.std.proofs.Common.{◌+◌, Err, ap, refl, subst, ◌∙◌}
 use Rattle.mk_run_laws.specs.Payloads.{IsFramed}
 use Rattle.mk_run_crew.proofs.Asked.{call_queued, call_unqueued}
 use Rattle.mk_run_crew.proofs.beginning.queue_call.Goals as goal
 
 pub returns-in-Ok-clause-ok : goal.returns-in-Ok-clause-ok
-returns-in-Ok-clause-ok c = call_queued c.args.sim.0 c.args.call.now c.args.id c.in-Some.next c.deref.result.now _ _ (c.deref.ensures.value ∙ c.in_ok-payload.ensures) c.in-Some.ensures.1 c.in-Ok.ensures.ok
+returns-in-Ok-clause-ok c = call_queued c.args.sim.0 c.args.call.now c.args.id (c.args.id + 1) c.deref.result.now _ _ (c.deref.ensures.value ∙ c.in_ok-payload.ensures) refl c.in-Ok.ensures.ok
 
 pub returns-in-Ok-clause-framed : goal.returns-in-Ok-clause-framed
 returns-in-Ok-clause-framed c = subst IsFramed (c.deref.ensures.value ∙ c.in_ok-payload.ensures) c.in-Ok.ensures.allowed

@@ -1,6 +1,7 @@
 use Rattle.std.proofs.Common.{[], inl, inr, refl, sym, subst, ◌∙◌, true≢false}
 use Rattle.mk_outside.proofs.OnLogs.{adds_none}
 use Rattle.mk_setup.specs.declared.answers.SetupNext.{SetupNext}
+use Rattle.mk_setup.specs.declared.answers.SetupNext.TheVariants.{Request}
 use Rattle.mk_setup.specs.Answers.{IsWaiting, NextOf}
 use Rattle.mk_run_crew.proofs.crew.Crew.step.Goals as goal
 
@@ -11,6 +12,9 @@ make_request-requires-clause-linked g c =
 pub make_request-requires-clause-replied : goal.make_request-requires-clause-replied
 make_request-requires-clause-replied g c =
     (c.requires.next c.in-Ok-Request.sim c.in-Ok-Request.call c.in-Ok-Request.id c.next.new.self (subst (λ (n : SetupNext). NextOf c.args.setup.now n c.next.new.self) c.in-Ok-Request.field-0-is c.in-Ok-Request.ensures.ok)).0
+
+pub make_request-requires-clause-few : goal.make_request-requires-clause-few
+make_request-requires-clause-few g c = let asked : NextOf c.args.setup.now (Request c.in-Ok-Request.sim c.in-Ok-Request.call c.in-Ok-Request.id) c.next.new.self = subst (λ (n : SetupNext). NextOf c.args.setup.now n c.next.new.self) c.in-Ok-Request.field-0-is c.in-Ok-Request.ensures.ok in asked.few
 
 pub returns-in-Ok-clause-ok : goal.returns-in-Ok-clause-ok
 returns-in-Ok-clause-ok g c =
