@@ -1,11 +1,13 @@
 -- A resumed run whose simulators are all within the program: it has no links, and what it comes to holds over any fleet with which nothing is done.
-use Rattle.std.proofs.Common.{◌≡◌, inl, inr, ℕ, Bool, true, false, List, [], Option, None, Some, arith}
+use Rattle.std.proofs.Common.{◌≡◌, inl, inr, ℕ, Bool, true, false, List, [], length, Option, None, Some, refl, arith}
+use Rattle.std.specs.Prelude.{IfSome}
 use Rattle.mk_base.specs.declared.LinkNo.{LinkNo}
 use Rattle.mk_base.specs.declared.SimNo.{SimNo}
 use Rattle.mk_plan.specs.declared.Plan.{Plan}
 use Rattle.mk_plan.specs.declared.Journal.{Journal}
 use Rattle.mk_plan.specs.declared.Entry.{Entry}
 use Rattle.mk_plan.specs.declared.Message.{Message}
+use Rattle.mk_plan.specs.Journals.{Arrival}
 use Rattle.mk_outside.specs.Counts.{HasRisen}
 use Rattle.mk_outside.specs.declared.fleet.LogEntry.{LogEntry}
 use Rattle.mk_record_read.specs.declared.saved.Saved.{Saved}
@@ -18,6 +20,7 @@ use Rattle.mk_run_laws.specs.Kinds.{Replies}
 use Rattle.mk_run_local.specs.Made.{kind_reply_of}
 use Rattle.mk_run_crew.specs.declared.halt.Halt.{Halt}
 use Rattle.mk_run_crew.specs.declared.halt.Halt.TheVariants as halt
+use Rattle.mk_run_crew.specs.Answers.{ComesAt}
 use Rattle.mk_run_crew.specs.Halted.{HasHalted, ShowsCause}
 use Rattle.mk_run_crew.specs.Wholly.{is_wholly_within}
 use Rattle.mk_run_crew.proofs.Unlinked.{never_linked, restless}
@@ -123,12 +126,24 @@ module _ (S : Scenario) (all : is_wholly_within S ≡ true) (started faults : �
       on_links = tt;
     }
 
+    came : (k : ℕ) (last : Option Arrival) → IfSome last (ComesAt 0 S k) → IfSome last (ComesAt started S k)
+    came k None c = tt
+    came k (Some a) c = record { request = c.request; awaiting = c.awaiting; within = c.within; on_link = λ apart. let t = c.on_link apart in absurd (never 0 a.sim t.0 t.1) }
+
     cause : (log : List LogEntry) (queued later : List Request) (h : Halt) → ShowsCause (attempt 0 S ranks rows log) (HasRisen 0 0) queued later h → ShowsCause (attempt started S ranks rows []) (HasRisen faults faults) queued later h
     cause log queued later (halt.Setup fault) is = record {
       answers = is.answers;
       last = is.last;
       faulty = is.faulty;
-      heard = record { links = λ i l linked. absurd (never started i l linked); kinds = is.heard.kinds };
+      before = [];
+      after = [];
+      parts = refl;
+      heard = record {
+        links = λ i l linked. absurd (never started i l linked);
+        kinds = is.heard.kinds;
+        came = came (length is.answers) is.last is.heard.came;
+      };
+      asked = λ i l linked. absurd (never started i l linked);
     }
     cause log queued later halt.Fleet is = absurd (never_risen is)
     cause log queued later (halt.Gone sim) is = absurd (never 0 sim.0 is.0 is.1)

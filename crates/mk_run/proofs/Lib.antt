@@ -19,6 +19,7 @@ pub mod Pushed
 pub mod Putting
 pub mod RunRight
 pub mod Shown
+pub mod SmallIds
 pub mod Times
 pub mod Turning
 pub mod Whole

@@ -1,6 +1,6 @@
 -- What is left behind a handshake: a crew that has begun, or one that was stopped.
 use Rattle.std.proofs.lemmas.Fmt.{length-decimal-le_succ}
-use Rattle.std.proofs.Common.{decimal, ◌≡◌, ℕ, ◌<◌, true, List, [], ◌++◌, length, take, drop, filter_map, fold, Option, Some, None, option_map, refl, sym, ap, ◌∙◌, subst, ◌⊎◌, inl, inr, arith, true≢false}
+use Rattle.std.proofs.Common.{decimal, ◌≡◌, ℕ, ◌<◌, true, List, [], ◌++◌, length, take, drop, filter_map, fold, Option, Some, None, option_map, refl, sym, ap, ◌∙◌, subst, ◌⊎◌, inl, inr, arith, true≢false, append_assoc}
 use Rattle.mk_base.specs.declared.LinkNo.{LinkNo}
 use Rattle.mk_base.proofs.Lists.{none_some, in_front}
 use Rattle.mk_frame.specs.Frames.{IsTooLong, frames_of}
@@ -22,7 +22,7 @@ use Rattle.mk_session.specs.Fronts.{BeginsGarbled}
 use Rattle.mk_run_laws.specs.Channels.{Channel}
 use Rattle.mk_run_laws.specs.Crews.{CrewState, AreStopped, IsRestless}
 use Rattle.mk_run_laws.specs.Handshake.{Request, setup_requests, call_to, setup_count, sim_link, is_within}
-use Rattle.mk_run_laws.specs.Hearing.{messages_heard, rest_heard}
+use Rattle.mk_run_laws.specs.Hearing.{rest_heard}
 use Rattle.mk_run_laws.specs.Payloads.{IsFramed, link_payloads}
 use Rattle.mk_run_laws.specs.Running.{IsBegun}
 use Rattle.mk_run_laws.specs.inner.Running.{IsBetween}
@@ -38,7 +38,6 @@ use Rattle.mk_run_links.proofs.OnStops.{framed_is}
 use Rattle.mk_run_local.specs.Made.{first_at}
 use Rattle.mk_run_crew.specs.declared.halt.Halt.{Halt}
 use Rattle.mk_run_crew.specs.declared.halt.Halt.TheVariants as halt
-use Rattle.mk_run_crew.specs.Answers.{AreHeard}
 use Rattle.mk_run_crew.specs.inner.Asking.{IsAnswered, IsHalting}
 use Rattle.mk_run_crew.specs.Begun.{HasBegun}
 use Rattle.mk_run_crew.specs.Halted.{HasHalted, ShowsCause}
@@ -89,17 +88,18 @@ module _ (started : ℕ) (S : Scenario) (ranks : List ℕ) (rows : List Turn) wh
 
   -- ---- a crew that was stopped
 
-  -- what was heard stays what it was
-  heard_later : (log stop : List LogEntry) (answers : List Message) (last : Option Arrival) → ((i : ℕ) (l : LinkNo) → sim_link started S i ≡ Some l → heard_on l (log ++ stop) ≡ heard_on l log)
-      → AreHeard started S rows log answers last → AreHeard started S rows (log ++ stop) answers last
-  heard_later log stop answers last same h = record {
-    links = λ i l e. let t = h.links i l e in (t.0, ap messages_heard (same i l e) ∙ t.1);
-    kinds = h.kinds;
-  }
-
   cause_later : (log stop : List LogEntry) (risen later_risen : Type 0) (queued later : List Request) (h : Halt) → ((i : ℕ) (l : LinkNo) → sim_link started S i ≡ Some l → heard_on l (log ++ stop) ≡ heard_on l log) → (risen → later_risen)
       → ShowsCause (attempt started S ranks rows log) risen queued later h → ShowsCause (attempt started S ranks rows (log ++ stop)) later_risen queued later h
-  cause_later log stop risen later_risen queued later (halt.Setup fault) same on c = record { answers = c.answers; last = c.last; faulty = c.faulty; heard = heard_later log stop c.answers c.last same c.heard }
+  cause_later log stop risen later_risen queued later (halt.Setup fault) same on c = record {
+    answers = c.answers;
+    last = c.last;
+    faulty = c.faulty;
+    before = c.before;
+    after = c.after ++ stop;
+    parts = ap (λ (x : List LogEntry). x ++ stop) c.parts ∙ append_assoc c.before c.after stop;
+    heard = c.heard;
+    asked = c.asked;
+  }
   cause_later log stop risen later_risen queued later halt.Fleet same on c = on c
   cause_later log stop risen later_risen queued later (halt.Gone sim) same on c = (c.0, c.1, in_front (Ended c.0) log stop c.2)
   cause_later log stop risen later_risen queued later (halt.Garbled sim test) same on c = (c.0, c.1, subst (λ (x : List ℕ). BeginsGarbled (rest_heard x) test) (sym (same sim.0 c.0 c.1)) c.2)

@@ -81,6 +81,14 @@ module _ (started : ℕ) (S : Scenario) (rows : List Turn) where
       go None e = absurd (none_some e)
       go (Some p) e = ap Some e
 
+  -- a simulator that has come on by its calls is within the program
+  pub within_so : (k i : ℕ) (L : Simulator) → sim_after rows S k i ≡ Some L → is_within S i ≡ true
+  within_so k i L is = go (first_at rows S i) refl is
+    where
+      go : (o : Option Simulator) → first_at rows S i ≡ o → option_map (λ (M : Simulator). fold after_call M (filter_map (call_to i) (take k (setup_requests S)))) o ≡ Some L → is_within S i ≡ true
+      go None e t = absurd (none_some t)
+      go (Some M) e t = (within_away rows started S i M e).1
+
   -- a simulator within the program has answered
   pub within_more : (log entries : List LogEntry) (answers : List Message) (C D : CrewSeen) (r : Request) (id from : ℕ) (m : Message) → IsAnswered started S rows log answers C → slice_get (setup_requests S) (length answers) ≡ Some r
       → id ≡ id_before S (length answers) r.sim → AsksWithin r.sim r.call id from m entries C D → D.places ≡ C.places → IsAnswered started S rows (log ++ entries) (answers ++ m ∷ []) D
@@ -133,6 +141,14 @@ module _ (started : ℕ) (S : Scenario) (rows : List Turn) where
       no_front : {X : Type 0} {x : X} {xs : List X} → [] ≡ x ∷ xs → ⊥
       no_front e = cc
   heard_moved entries i m L M (on_link k l w there moved parked) = (moved, parked)
+
+  -- what was heard came on a channel
+  pub heard_there : (entries : List LogEntry) (i : ℕ) (m : Message) (L M : Channels) → IsHeard entries i m (crew L) (crew M) → (w : Channel) × (at L i ≡ Some w)
+  heard_there entries i m L M (IsHeard.kept k same none) = absurd (no_front k)
+    where
+      no_front : {X : Type 0} {x : X} {xs : List X} → [] ≡ x ∷ xs → ⊥
+      no_front e = cc
+  heard_there entries i m L M (on_link k l w there moved parked) = (w, there)
 
   -- entries on the channels' links, once a request was queued, are on the run's
   pub asked_on : (log entries : List LogEntry) (replies : SetupReplies) (done later : List Request) (C : CrewSeen) (M : Channels) (s : ℕ) (w v : Channel) → AreOn (IsRunLink started S) log → IsBetween started S replies log (crew C.channels) done later

@@ -4,11 +4,11 @@ use Rattle.std.specs.List.{cons_option}
 use Rattle.mk_base.specs.declared.LinkNo.{LinkNo}
 use Rattle.mk_base.specs.Lists.{IsIn, BeginsWith}
 use Rattle.mk_base.proofs.Lists.{none_some, some_same, append_nil, in_back}
-use Rattle.mk_frame.specs.Frames.{IsTooLong}
+use Rattle.mk_frame.specs.Frames.{IsTooLong, frames_of}
 use Rattle.mk_message.specs.Written.{call_text}
 use Rattle.mk_outside.specs.declared.fleet.LogEntry.{LogEntry}
 use Rattle.mk_outside.specs.declared.fleet.LogEntry.TheVariants.{Rest, Ended}
-use Rattle.mk_outside.specs.Logs.{heard_on, last_that, later_of, is_read}
+use Rattle.mk_outside.specs.Logs.{heard_on, said_on, last_that, later_of, is_read}
 use Rattle.mk_plan.specs.declared.Message.{Message}
 use Rattle.mk_scenario.specs.declared.parts.Scenario.{Scenario}
 use Rattle.mk_run_crew.specs.Attempts.{attempt}
@@ -38,11 +38,11 @@ use Rattle.mk_run_crew.specs.declared.halt.Halt.TheVariants as halt
 use Rattle.mk_run_crew.specs.Answers.{answers_to, AreHeard, AreKindAnswers}
 use Rattle.mk_run_crew.specs.inner.Asking.{AsksNot, AsksInVain, AsksWithin, AsksOnLink, IsAnswered, IsHalting, IsTooLongToAsk, setup_halt}
 use Rattle.mk_run_crew.specs.Calls.{halt_of}
-use Rattle.mk_run_crew.specs.Halted.{IsSetupFault, ShowsCause, count_to}
+use Rattle.mk_run_crew.specs.Halted.{IsAskedUpTo, IsSetupFault, ShowsCause, count_to}
 use Rattle.mk_run_crew.specs.Seen.{CrewSeen, is_here}
-use Rattle.mk_run_crew.proofs.Going.{asked_on, heard_moved, set_up_so, within_more}
+use Rattle.mk_run_crew.proofs.Going.{asked_on, heard_moved, heard_there, set_up_so, within_more, within_so}
 use Rattle.mk_run_crew.proofs.Placing.{moved_there, moved_back, set_back}
-use Rattle.mk_run_crew.proofs.Requests.{answers_pushed, cut_at, kinds_pushed}
+use Rattle.mk_run_crew.proofs.Requests.{answers_pushed, count_pushed, cut_at, kinds_pushed}
 use Rattle.mk_run_crew.proofs.Simulators.{linked_away}
 
 -- ---- a channel's messages are the first that were heard
@@ -108,12 +108,29 @@ module _ (started : ℕ) (S : Scenario) (ranks : List ℕ) (rows : List Turn) wh
     links = λ i l e. let t = (a.between).channels i l e in subst (BeginsWith (messages_heard (heard_on l log))) (a.told i l e ∙ sym (append_nil (answers_to i (setup_requests S) answers)))
         (channel_heard log (a.replies i) _ _ t.0 l t.2 t.3);
     kinds = subst (AreKindAnswers rows S) (sym (append_nil answers)) a.kinds;
+    came = tt;
   }
+
+  -- no later request was said than were queued
+  asked_at : (log : List LogEntry) (k : ℕ) (L : Channels) → AreAt started S log (take k (setup_requests S)) L → IsAskedUpTo started S log k
+  asked_at log k L at_log i l e =
+      let t = at_log i l e in
+      let frames = frames_of (call_payloads 0 (filter_map (call_to i) (take k (setup_requests S)))) in
+      ((t.1).unsent, subst (λ (x : LinkNo). frames ≡ said_on x log ++ (t.1).unsent) t.3 (sym (t.4).said))
 
   -- the next request can't be made
   pub next_halts : (log : List LogEntry) (risen : Type 0) (answers : List Message) (C : CrewSeen) (e : SetupFault) → IsAnswered started S rows log answers C → ((e ≡ fault.Mem → ⊥) → IsFaultyAfter S ranks answers None e) → IsHalting (attempt started S ranks rows log) risen (setup_halt e) C
   next_halts log risen answers C e a faulty = between_halts log risen (setup_halt e) answers C a
-      (fault_causes log risen (take (length answers) (setup_requests S)) (drop (length answers) (setup_requests S)) e (λ some. record { answers = answers; last = None; faulty = faulty some; heard = heard_so_far log answers C a }))
+      (fault_causes log risen (take (length answers) (setup_requests S)) (drop (length answers) (setup_requests S)) e (λ some. record {
+        answers = answers;
+        last = None;
+        faulty = faulty some;
+        before = log;
+        after = [];
+        parts = sym (append_nil log);
+        heard = heard_so_far log answers C a;
+        asked = asked_at log (length answers) C.channels (channels_at a.replies log C.channels (take (length answers) (setup_requests S)) (drop (length answers) (setup_requests S)) a.between);
+      }))
 
   -- the next request isn't made
   pub unasked_halts : (log entries : List LogEntry) (risen : Type 0) (h : Halt) (answers : List Message) (C D : CrewSeen) (r : Request) (id : ℕ) → IsAnswered started S rows log answers C → slice_get (setup_requests S) (length answers) ≡ Some r
@@ -228,12 +245,24 @@ module _ (started : ℕ) (S : Scenario) (ranks : List ℕ) (rows : List Turn) wh
       answers = answers;
       last = Some (record { sim = from; message = m });
       faulty = faulty some;
+      before = log ++ entries;
+      after = [];
+      parts = sym (append_nil (log ++ entries));
       heard = record {
         links = λ i k q. let t = channel i k q in subst (BeginsWith (messages_heard (heard_on k (log ++ entries))))
             (ap (λ (ms : List Message). ms ++ given_by from m i) (a.told i k q) ∙ ap (λ (ms : List Message). answers_to i (setup_requests S) answers ++ ms) (last_given from m i))
             (channel_heard (log ++ entries) (a.replies i ++ given_by from m i) _ _ t.0 k t.2 t.3);
         kinds = kinds_pushed rows S answers r m a.kinds asked (λ w. absurd (true≢false (sym w ∙ (linked_away rows started S r.sim l linked).1)));
+        came = record {
+          request = r;
+          awaiting = asked;
+          within = λ w. absurd (true≢false (sym w ∙ (linked_away rows started S r.sim l linked).1));
+          on_link = λ apart. let w = heard_there started S rows entries from m v.mid D.channels v.heard in let c = set_back r.sim v.channel _ C.channels v.mid v.set refl from w.0 w.1 in a.back from c.0 c.1;
+        };
       };
+      asked = asked_at (log ++ entries) (suc (length answers)) D.channels
+          (subst (λ (rs : List Request). AreAt started S (log ++ entries) rs D.channels) (sym (cut_at (length answers) r (setup_requests S) asked).0)
+          (λ i k q. let t = channel i k q in (a.replies i ++ given_by from m i, t.0, t.1, t.2, t.3)));
     });
     back = back;
     on_links = asked_on started S rows log entries a.replies (take (length answers) (setup_requests S)) (drop (length answers) (setup_requests S)) C v.mid r.sim v.channel _ a.on_links a.between a.back v.set refl v.on_links;
@@ -264,7 +293,22 @@ module _ (started : ℕ) (S : Scenario) (ranks : List ℕ) (rows : List Turn) wh
       → IsHalting (attempt started S ranks rows (log ++ entries)) risen (setup_halt e) D
   refused_within log entries risen answers C D r id from m e a asked numbered v same_places faulty = between_halts (log ++ entries) risen (setup_halt e) (answers ++ m ∷ []) D b
       (fault_causes (log ++ entries) risen (take (length (answers ++ m ∷ [])) (setup_requests S)) (drop (length (answers ++ m ∷ [])) (setup_requests S)) e
-      (λ some. record { answers = answers; last = Some (record { sim = from; message = m }); faulty = faulty some; heard = record { links = links; kinds = b.kinds } }))
+      (λ some. record {
+        answers = answers;
+        last = Some (record { sim = from; message = m });
+        faulty = faulty some;
+        before = log ++ entries;
+        after = [];
+        parts = sym (append_nil (log ++ entries));
+        heard = record {
+          links = links;
+          kinds = b.kinds;
+          came = record { request = r; awaiting = asked; within = λ w. v.same_sim; on_link = λ apart. absurd (true≢false (sym (within_so started S rows (length answers) r.sim (v.called).sim (sym (a.sims r.sim) ∙ (v.called).there)) ∙ apart)) };
+        };
+        asked = subst (IsAskedUpTo started S (log ++ entries)) (count_pushed answers m)
+            (asked_at (log ++ entries) (length (answers ++ m ∷ [])) D.channels
+            (channels_at b.replies (log ++ entries) D.channels (take (length (answers ++ m ∷ [])) (setup_requests S)) (drop (length (answers ++ m ∷ [])) (setup_requests S)) b.between));
+      }))
     where
       b : IsAnswered started S rows (log ++ entries) (answers ++ m ∷ []) D
       b = within_more started S rows log entries answers C D r id from m a asked numbered v same_places

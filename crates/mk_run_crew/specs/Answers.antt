@@ -1,5 +1,5 @@
 -- The answers to the requests of a handshake, and what was heard of them.
-use Rattle.std.specs.Prelude.{◌≡◌, ℕ, ◌==◌, true, List, [], ◌∷◌, ◌++◌, take, map, filter_map, fold, Option, Some, slice_get, option_map, option_to_list, if◌then◌else◌}
+use Rattle.std.specs.Prelude.{◌≡◌, ℕ, ◌==◌, true, false, List, [], ◌∷◌, ◌++◌, length, take, map, filter_map, fold, Option, Some, IfSome, slice_get, option_map, option_to_list, if◌then◌else◌}
 use Rattle.mk_base.specs.declared.LinkNo.{LinkNo}
 use Rattle.mk_base.specs.Lists.{BeginsWith}
 use Rattle.mk_outside.specs.declared.fleet.LogEntry.{LogEntry}
@@ -42,8 +42,18 @@ AreKindAnswers rows S answers = (k : ℕ) (r : Request) (m : Message)
     → slice_get (setup_requests S) k ≡ Some r → slice_get answers k ≡ Some m
     → is_within S r.sim ≡ true → IsKindAnswer rows S k r m
 
+-- while request number k awaits its reply, this message may come: one of its own simulator, where that
+-- is within the program, and else one of a simulator with a link
+pub record ComesAt (started : ℕ) (S : Scenario) (k : ℕ) (a : Arrival) : Type 0 where
+  pub request : Request
+  pub awaiting : slice_get (setup_requests S) k ≡ Some request
+  pub within : is_within S request.sim ≡ true → a.sim ≡ request.sim
+  pub on_link : is_within S request.sim ≡ false
+      → (l : LinkNo) × (sim_link started S a.sim ≡ Some l)
+
 -- the answers to the first requests, and the message that came last if it was none, are the first
--- that were heard on each link, and those of kinds
+-- that were heard on each link, and those of kinds; that message came while the request behind the
+-- answered ones awaited its reply
 pub record AreHeard (started : ℕ) (S : Scenario) (rows : List Turn) (log : List LogEntry)
     (answers : List Message) (last : Option Arrival) : Type 0 where
   pub links : (i : ℕ) (l : LinkNo) → sim_link started S i ≡ Some l
@@ -51,3 +61,4 @@ pub record AreHeard (started : ℕ) (S : Scenario) (rows : List Turn) (log : Lis
       ++ kept_of i (option_to_list last))
   pub kinds : AreKindAnswers rows S (answers
       ++ map (λ (a : Arrival). a.message) (option_to_list last))
+  pub came : IfSome last (ComesAt started S (length answers))

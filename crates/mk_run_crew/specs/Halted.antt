@@ -1,19 +1,19 @@
 -- What is left where a crew doesn't begin, and why it doesn't.
-use Rattle.std.specs.Prelude.{◌≡◌, ℕ, ◌<◌, List, [], ◌∷◌, ◌++◌, length, filter_map, Option, Some, None, ⊤, true}
+use Rattle.std.specs.Prelude.{◌≡◌, ℕ, suc, ◌<◌, List, [], ◌∷◌, ◌++◌, length, take, filter_map, Option, Some, None, ⊤, true}
 use Rattle.mk_base.specs.declared.LinkNo.{LinkNo}
-use Rattle.mk_base.specs.Lists.{IsIn}
-use Rattle.mk_frame.specs.Frames.{IsTooLong, limit}
+use Rattle.mk_base.specs.Lists.{BeginsWith, IsIn}
+use Rattle.mk_frame.specs.Frames.{IsTooLong, frames_of, limit}
 use Rattle.mk_message.specs.Written.{call_text}
 use Rattle.mk_outside.specs.declared.fleet.LogEntry.{LogEntry}
 use Rattle.mk_outside.specs.declared.fleet.LogEntry.TheVariants.{Ended, Rest}
-use Rattle.mk_outside.specs.Logs.{heard_on}
+use Rattle.mk_outside.specs.Logs.{heard_on, said_on}
 use Rattle.mk_run_crew.specs.Attempts.{Attempt}
 use Rattle.mk_plan.specs.declared.Message.{Message}
 use Rattle.mk_plan.specs.Journals.{Arrival}
 use Rattle.mk_scenario.specs.declared.parts.Scenario.{Scenario}
 use Rattle.mk_session.specs.Fronts.{BeginsGarbled}
 use Rattle.mk_run_laws.specs.Exchanges.{exchange}
-use Rattle.mk_run_laws.specs.Handshake.{Request, setup_requests, call_to, sim_link}
+use Rattle.mk_run_laws.specs.Handshake.{Request, setup_requests, call_payloads, call_to, sim_link}
 use Rattle.mk_run_laws.specs.Hearing.{rest_heard}
 use Rattle.mk_run_laws.specs.Kinds.{Replies}
 use Rattle.mk_run_laws.specs.Rests.{AllSetUp, IsWellInSetup}
@@ -29,12 +29,28 @@ use Rattle.mk_run_crew.specs.Answers.{AreHeard}
 abbrev pub count_to : ℕ → List Request → ℕ
 count_to i requests = length (filter_map (call_to i) requests)
 
--- what was heard makes this fault of the handshake
+-- of the first k requests, and of no later one, was said what there is on each link
+abbrev pub IsAskedUpTo : ℕ → Scenario → List LogEntry → ℕ → Type 0
+IsAskedUpTo started S log k = (i : ℕ) (l : LinkNo) → sim_link started S i ≡ Some l
+    → BeginsWith (frames_of (call_payloads 0
+    (filter_map (call_to i) (take k (setup_requests S))))) (said_on l log)
+
+-- how many requests were made, these being the answers: one more where a message came that is none
+abbrev pub made_by : List Message → Option Arrival → ℕ
+made_by answers None = length answers
+made_by answers (Some a) = suc (length answers)
+
+-- what was heard makes this fault of the handshake; when that was heard, no request was said behind
+-- the one that awaited its reply
 pub record IsSetupFault (A : Attempt) (fault : SetupFault) : Type 0 where
   pub answers : List Message
   pub last : Option Arrival
   pub faulty : IsFaultyAfter A.scenario A.ranks answers last fault
-  pub heard : AreHeard A.started A.scenario A.rows A.log answers last
+  pub before : List LogEntry
+  pub after : List LogEntry
+  pub parts : A.log ≡ before ++ after
+  pub heard : AreHeard A.started A.scenario A.rows before answers last
+  pub asked : IsAskedUpTo A.started A.scenario before (made_by answers last)
 
 -- the payload of the first of the requests that are left, to simulator s with a link, has n bytes,
 -- which is more than a frame may have
