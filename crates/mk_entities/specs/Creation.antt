@@ -1,5 +1,5 @@
 -- The entities after a reply to `create`, or the first test that it fails.
-use Rattle.std.specs.Prelude.{ℕ, ◌+◌, ◌==◌, Bool, false, not, ◌&&◌, nat_eq, nat_lt, List, [], ◌∷◌, ◌++◌, map, length, take, position, Option, Some, None, is_some, option_map, option_and_then, unwrap_or, Result, Ok, Err, if◌then◌else◌, slice_get, filter}
+use Rattle.std.specs.Prelude.{ℕ, ◌+◌, ◌==◌, Bool, false, not, ◌&&◌, nat_eq, nat_lt, List, [], ◌∷◌, ◌++◌, map, length, take, position, Option, Some, None, is_some, option_map, option_and_then, unwrap_or, Result, Ok, if◌then◌else◌, slice_get, filter}
 use Rattle.std.specs.List.{find, list_any, range_with_len}
 use Rattle.mk_base.specs.declared.SimNo.{SimNo}
 use Rattle.mk_base.specs.declared.json.Json.{Json}

@@ -1,5 +1,5 @@
 // The machine's clock that never goes back, in milliseconds.
-ghost use Rattle.std.specs.Prelude.{◌≤◌, IfOk};
+ghost use Rattle.std.specs.Prelude.{◌≡◌, ◌≤◌, IfOk};
 ghost use Rattle.mk_outside.specs.Fleets.{last_moment};
 
 use std::io;
@@ -27,6 +27,8 @@ impl Ticks {
     /// How many have passed, never fewer than it gave before.
     pub fn passed<R: Clock>(&mut self, rt: &R) -> io::Result<u64>
         ensures rising { IfOk result (λ n. self.old.last ≤ n) }
+        ensures last { IfOk result (λ n. self.new.last ≡ n) }
+        ensures kept { self.old.last ≤ self.new.last }
         ensures range { IfOk result (λ n. n ≤ last_moment) }
     {
         let now = Instant::now(rt)?;

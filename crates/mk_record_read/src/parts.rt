@@ -2,7 +2,6 @@
 ghost use Rattle.std.specs.Prelude.{◌≡◌, Ok, Some, OnOk, IfOk, IfErr, true, ◌&&◌};
 ghost use Rattle.std.specs.List.{list_all};
 ghost use Rattle.mk_base.specs.Trees.{is_in_range};
-ghost use Rattle.mk_base.specs.Numbers.{is_digit};
 ghost use Rattle.mk_json.specs.Parsed.{parsed};
 ghost use Rattle.mk_message.specs.Messages.{tested};
 ghost use Rattle.mk_record_read.specs.inner.Faults.{IsFaultOf, IsMissing};
@@ -23,7 +22,7 @@ use crate::lines::{
 };
 use crate::saved::{Arrival, Asked};
 use itoa::Buffer;
-use mk_base::Json;
+use mk_base::{Json, are_digits, is_digit};
 use mk_json::{JsonFault, Scratch, read_json_in};
 use mk_plan::Plan;
 use std::alloc::Global;
@@ -144,21 +143,4 @@ fn is_number(text: &[u8]) -> bool
         [only] => is_digit(*only),
         [first, ..] => *first > b'0' && are_digits(text),
     }
-}
-
-fn are_digits(text: &[u8]) -> bool
-    ensures { result ≡ list_all is_digit text.now }
-{
-    for byte in text {
-        if !is_digit(*byte) {
-            return false;
-        }
-    }
-    true
-}
-
-fn is_digit(byte: u8) -> bool
-    ensures { result ≡ is_digit byte }
-{
-    b'0' <= byte && byte <= b'9'
 }

@@ -17,8 +17,7 @@ use Rattle.mosaikrun_endings.specs.declared.ending.Ending.{Ending}
 use Rattle.mosaikrun_records.specs.Reports.{IsDoneBy}
 use Rattle.mosaikrun_records.specs.Saved.{IsNotDone}
 use Rattle.mosaikrun_records.proofs.WholeRuns.{got_is}
-use Rattle.mosaikrun_watch.specs.Watched.{IsTabled, IsUntabled}
-use Rattle.mosaikrun_watch.specs.inner.Refused.{IsNoWatch}
+use Rattle.mosaikrun_watch.specs.Watched.{IsNoWatch, IsTabled, IsUntabled}
 use Rattle.mk_watch.proofs.Whole.{same_tables}
 
 pub on_err : {T E : Type 0} {P Q : E → Type 0} (r : Result T E) → ((e : E) → P e → Q e) → IfErr r P → IfErr r Q

@@ -31,6 +31,12 @@ pub record IsTabled (names : List (List ℕ)) (folds : List Fold) (bytes spec te
   pub is : text ≡ tables_text plan names folds (run_items plan (messages_from replayed.arrivals))
       watches
 
+-- the file says no watches over the plan: the ending names the first test that it fails; or memory
+-- is wanting
+abbrev pub IsNoWatch : Plan → List (List ℕ) → List ℕ → Ending → Type 0
+IsNoWatch P names spec e = (e ≡ ends.Mem)
+    ⊎ ((fault : WatchFault) × (e ≡ ends.Watches fault) × (watches_of P names spec ≡ Err fault))
+
 -- the bytes are a record, and the file says no watches over its plan: the ending names the first
 -- test that the file fails
 pub record SaysNoWatches (names : List (List ℕ)) (bytes spec : List ℕ) (ending : Ending)

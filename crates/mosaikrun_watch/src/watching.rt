@@ -9,8 +9,7 @@ ghost use Rattle.mk_watch_read.specs.Rules.{folds_in, names_in};
 ghost use Rattle.mk_watch_read.specs.Watches.{AreInside, watches_of};
 ghost use Rattle.mosaikrun_endings.specs.declared.ending.Ending.{Ending};
 ghost use Rattle.mosaikrun_endings.specs.declared.ending.Ending.TheVariants as ends;
-ghost use Rattle.mosaikrun_watch.specs.Watched.{IsWatchOutcome};
-ghost use Rattle.mosaikrun_watch.specs.inner.Refused.{IsNoWatch};
+ghost use Rattle.mosaikrun_watch.specs.Watched.{IsNoWatch, IsWatchOutcome};
 
 use mk_base::List;
 use mk_plan::Plan;
@@ -33,6 +32,8 @@ pub fn watches_of(
         (λ ws. watches_of saved.now.plan (names_in rules.now) bytes.now ≡ Ok ws) }
     ensures inside { IfOk result
         (λ ws. AreInside saved.now.plan (length (names_in rules.now)) ws) }
+    ensures cause { IfErr result
+        (λ ending. IsNoWatch saved.now.plan (names_in rules.now) bytes.now ending) }
     ensures unread { (recorded : List ℕ)
         → reading recorded ≡ Said saved.now.plan (map came saved.now.arrivals) saved.now.asks
         → IfErr result (λ ending. IsWatchOutcome (names_in rules.now) (folds_in rules.now) recorded
