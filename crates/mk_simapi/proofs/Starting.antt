@@ -12,7 +12,10 @@ use Rattle.mk_local.specs.Kinds.{kind_named}
 use Rattle.mk_local.specs.Simulators.{new_simulator}
 use Rattle.mk_simapi.specs.declared.served.Served.{Served}
 use Rattle.mk_simapi.specs.Serving.{Serves}
-use Rattle.mk_simapi.specs.Children.{HasEnded, status_of}
+use Rattle.mk_outside.specs.Asked.{Asked, Asks, to_start}
+use Rattle.mk_outside.specs.declared.fleet.Start.TheVariants.{Connect}
+use Rattle.mk_outside.proofs.OnAsked.{asks_still}
+use Rattle.mk_simapi.specs.Children.{AsksToConnect, HasEnded, status_of}
 
 pub is_open : (link : LinkNo) (before after : List LinkNo) → after ≡ before ++ link ∷ [] → IsIn link after
 is_open link before after is = subst (IsIn link) (sym is) (in_back link before (link ∷ []) (inl refl))
@@ -33,3 +36,11 @@ has_served rows kind asked text port number started one_more going ended link en
       links = shut ∙ ap (without link) (kept ∙ opens);
       status = is;
     })
+
+-- the fleet was asked for a link to the port that the words give
+pub has_connected : (kind asked : List ℕ) (port number started one_more going ended : ℕ) (old one two new : Option (List Asked)) (given : Option (List ℕ × ℕ))
+    → given ≡ Some (asked, number) → given ≡ Some (kind, port) → one_more ≡ started + 1 → going ≡ one_more → ended ≡ going
+    → Asks (to_start (Connect number) ∷ []) old one → two ≡ one → new ≡ two → AsksToConnect port started ended old new
+has_connected kind asked port number started one_more going ended old one two new given words wanted one_link goes_on at_end first did last =
+    let same : number ≡ port = ap (λ (p : List ℕ × ℕ). p.1) (some_same (sym words ∙ wanted)) in
+    inl (at_end ∙ goes_on ∙ one_link, asks_still (to_start (Connect port) ∷ []) old one new (subst (λ (n : ℕ). Asks (to_start (Connect n) ∷ []) old one) same first) (last ∙ did))

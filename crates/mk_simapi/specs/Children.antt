@@ -4,6 +4,8 @@ use Rattle.mk_base.specs.declared.LinkNo.{LinkNo}
 use Rattle.mk_base.specs.Links.{without}
 use Rattle.mk_outside.specs.declared.fleet.LogEntry.{LogEntry}
 use Rattle.mk_outside.specs.Logs.{Adds}
+use Rattle.mk_outside.specs.Asked.{Asked, Asks, to_start}
+use Rattle.mk_outside.specs.declared.fleet.Start.TheVariants.{Connect}
 use Rattle.mk_scenario_keys.specs.Spelling.{port_of}
 use Rattle.mk_local.specs.declared.turn.Turn.{Turn}
 use Rattle.mk_local.specs.Kinds.{has_kind, kind_named}
@@ -52,6 +54,13 @@ pub record HasServed (rows : List Turn) (kind : List ℕ) (started_before starte
   pub number : started_after ≡ started_before + 1
   pub links : after ≡ without link (before ++ link ∷ [])
   pub status : answer ≡ status_of end
+
+-- the fleet was asked for a link to this port, and one was started; or it was asked for nothing, and
+-- none was
+abbrev pub AsksToConnect : ℕ → ℕ → ℕ → Option (List Asked) → Option (List Asked) → Type 0
+AsksToConnect port started_before started_after old new =
+    ((started_after ≡ started_before + 1) × Asks (to_start (Connect port) ∷ []) old new)
+    ⊎ ((started_after ≡ started_before) × Asks [] old new)
 
 -- what the program did
 abbrev pub HasEnded : List Turn → List ℕ → ℕ → ℕ → List LinkNo → List LinkNo

@@ -2,7 +2,7 @@
 ghost use Rattle.std.specs.Prelude.{◌≡◌, ◌↔◌, ℕ, ◌≤◌, [], ◌∷◌, List, Some, None, map, string_bytes, option_map};
 ghost use Rattle.mk_outside.specs.Counts.{HasRisen};
 ghost use Rattle.mk_local.specs.Registries.{rows_in};
-ghost use Rattle.mk_simapi.specs.Children.{HasEnded, asked, status_of};
+ghost use Rattle.mk_simapi.specs.Children.{AsksToConnect, HasEnded, asked, status_of};
 
 use crate::served::Served;
 use crate::serving::serve;
@@ -89,6 +89,10 @@ pub fn child<F: Fleet, R: Wait>(
         → HasEnded (rows_in kinds.now) kind (F.started fleet.old) (F.started fleet.new)
         (F.open_links fleet.old) (F.open_links fleet.new) (F.log fleet.old)
         (F.log fleet.new) result }
+    ensures connects { (kind : List ℕ) → (port : ℕ)
+        → asked (rows_in kinds.now) (map string_bytes words.now) ≡ Some (kind, port)
+        → AsksToConnect port (F.started fleet.old) (F.started fleet.new) (F.asked fleet.old)
+        (F.asked fleet.new) }
 {
     let Some(asked) = read_words(words, kinds) else {
         return USAGE;

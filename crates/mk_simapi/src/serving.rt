@@ -39,6 +39,7 @@ fn rest<F: Fleet>(fleet: &mut F, link: LinkNo) -> Option<Served>
     ensures cause { result ≡ Some Served.Failed
         → HasRisen (F.faults fleet.old) (F.faults fleet.new) }
     ensures same_count { F.started fleet.new ≡ F.started fleet.old }
+    ensures same_asked { F.asked fleet.new ≡ F.asked fleet.old }
     ensures same_links { F.open_links fleet.new ≡ F.open_links fleet.old }
     ensures rested { (entries : List LogEntry) × Adds entries (F.log fleet.old) (F.log fleet.new)
         × RestsAs result entries }
@@ -147,6 +148,7 @@ impl Service {
         ensures cause { result ≡ Some Served.Failed
             → HasRisen (F.faults fleet.old) (F.faults fleet.new) }
         ensures same_count { F.started fleet.new ≡ F.started fleet.old }
+        ensures same_asked { F.asked fleet.new ≡ F.asked fleet.old }
         ensures same_links { F.open_links fleet.new ≡ F.open_links fleet.old }
         ensures kind { self.new.servant.kind ≡ self.old.servant.kind }
         ensures link { self.new.session.link ≡ self.old.session.link }
@@ -179,6 +181,7 @@ impl Service {
         ensures cause { result ≡ Step.Ended Served.Failed
             → HasRisen (F.faults fleet.old) (F.faults fleet.new) }
         ensures same_count { F.started fleet.new ≡ F.started fleet.old }
+        ensures same_asked { F.asked fleet.new ≡ F.asked fleet.old }
         ensures same_links { F.open_links fleet.new ≡ F.open_links fleet.old }
         ensures kind { self.new.servant.kind ≡ self.old.servant.kind }
         ensures link { self.new.session.link ≡ self.old.session.link }
@@ -211,6 +214,7 @@ pub fn serve<F: Fleet, R: Wait>(
     ensures count { F.faults fleet.old ≤ F.faults fleet.new }
     ensures cause { result ≡ Served.Failed → HasRisen (F.faults fleet.old) (F.faults fleet.new) }
     ensures same_count { F.started fleet.new ≡ F.started fleet.old }
+    ensures same_asked { F.asked fleet.new ≡ F.asked fleet.old }
     ensures same_links { F.open_links fleet.new ≡ F.open_links fleet.old }
     ensures served { (entries : List LogEntry) × Adds entries (F.log fleet.old) (F.log fleet.new)
         × ((row : Turn) → kind_named kind.now (rows_in kinds.now) ≡ Some row

@@ -14,6 +14,7 @@ pub loop-init : goal.loop-init
 loop-init g c = record {
   counted = omega arith;
   same_count = refl;
+  same_asked = refl;
   same_links = refl;
   linked = ap (λ (s : Service). s.session.link) c.in-Ok.ensures.new;
   there = c.in-Ok.ensures.there;
@@ -33,6 +34,7 @@ loop-preserved g c =
     record {
       counted = omega (arith, so_far.counted, c.in-Again.ensures.count);
       same_count = c.in-Again.ensures.same_count ∙ so_far.same_count;
+      same_asked = c.in-Again.ensures.same_asked ∙ so_far.same_asked;
       same_links = c.in-Again.ensures.same_links ∙ so_far.same_links;
       linked = c.in-Again.ensures.link ∙ so_far.linked;
       there = subst (λ (T : Turn). IsIn T (rows_in c.args.kinds.now)) (sym c.in-Again.ensures.kind) so_far.there;

@@ -9,6 +9,7 @@ abbrev pub invariant-loop : goal.invariant-loop
 invariant-loop g l = record {
   counted : g.F.Fleet.faults l.fn.fleet ≤ g.F.Fleet.faults l.fleet;
   same_count : g.F.Fleet.started l.fleet ≡ g.F.Fleet.started l.fn.fleet;
+  same_asked : g.F.Fleet.asked l.fleet ≡ g.F.Fleet.asked l.fn.fleet;
   same_links : g.F.Fleet.open_links l.fleet ≡ g.F.Fleet.open_links l.fn.fleet;
   linked : l.service.session.link ≡ l.fn.link;
   there : IsIn l.service.servant.kind (rows_in l.kinds);
