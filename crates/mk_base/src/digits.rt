@@ -17,7 +17,7 @@ pub fn are_digits(bytes: &[u8]) -> bool
     bytes.iter().all(|b| is_digit(*b))
 }
 
-/// The number of these decimal digits, of which there may be ten.
+/// The number that these decimal digits spell, of which there are at most ten.
 pub fn number_of(digits: &[u8]) -> u64
     requires { length digits.now ≤ 10 }
     ensures { result ≡ numbers.number_of digits.now }

@@ -17,8 +17,8 @@ pub struct Near<'a, V> {
     pub next: usize,
 }
 
-// The value under this name, which is looked for at the place of the guess first: names are distinct, so what has this name
-// there is it.
+// The value under this name, which is looked for at the place of the guess first: names are distinct, so what has this
+// name there is it.
 pub fn search_near<'a, V>(entries: &'a [(Text, V)], name: &[u8], guess: usize) -> Near<'a, V>
     requires { IsStrictlySortedBy (slice_cmp nat_cmp) (keys_of entries.now) }
     ensures { option_map (λ v. v.now) result.value ≡ value_under name.now entries.now }

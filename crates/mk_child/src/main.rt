@@ -1,4 +1,5 @@
-//! A simulator of one kind as a program of its own: reads the words KIND ADDRESS, connects to the address and is served there.
+//! A simulator of one kind as a program of its own: reads the words KIND ADDRESS, connects to the address and serves
+//! the simulator there.
 #![tactic(auto)]
 
 use mk_base::Mem;
@@ -19,7 +20,8 @@ fn main(rt: HostRuntime) -> ExitCode {
     }
 }
 
-// Makes the kinds, and serves one of them as the words say. Answers the program's status.
+// Makes the kinds, and serves one of them as the words say. Answers the program's status, or want of memory where the
+// kinds can't be made.
 fn run<W: Wait>(rt: &HostRuntime, waits: &W, alloc: Global) -> Result<u8, Mem> {
     let mut kinds = Registry::new(alloc);
     kinds.add(Kind::new(

@@ -14,7 +14,7 @@ use Rattle.mk_entities.specs.declared.fault.CreateFault.{CreateFault}
 use Rattle.mk_entities.specs.declared.fault.CreateFault.TheVariants.{Count, NoEid, TwiceEid, OfType, Related, TooMany}
 use Rattle.mk_entities.specs.Descriptions.{reply_entities}
 
--- how many entities there may be
+-- how many entities there may be, of all simulators
 abbrev pub most_entities : ℕ
 most_entities = 10000
 
@@ -59,7 +59,7 @@ entity_fault number count model meta n entity =
     fault_unless (TooMany (most_entities + 1)) (nat_lt count most_entities)
     None)))
 
--- the text that a `rel` names and that is no eid, or nothing where it is no list of texts
+-- the first text that a `rel` names and that is no eid; the empty text where it is no list of texts
 abbrev pub unknown_related : (List ℕ → Option ℕ) → Option (List (List ℕ)) → Option (List ℕ)
 unknown_related number None = Some []
 unknown_related number (Some texts) = find (λ text. not (is_some (number text))) texts
@@ -105,7 +105,7 @@ first_entity_fault old sim group model meta entities =
     option_and_then (entity_fault (entity_number (before n) sim) (length old + n) model meta n)
     (slice_get entities n)) (range_with_len 0 (length entities)))
 
--- the reply has as many entities as were asked for
+-- the test that the reply has as many entities as were asked for, children not counted
 abbrev pub count_fault : ℕ → Json → Option CreateFault
 count_fault num reply = let count : ℕ = length (unwrap_or (items_in reply) []) in fault_unless
     (Count num count) (count == num) None

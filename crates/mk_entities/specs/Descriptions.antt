@@ -25,14 +25,14 @@ abbrev pub texts_under : List ℕ → Json → Option (List (List ℕ))
 texts_under name tree = option_and_then (λ (items : List Json). all_there (map text_in items))
     (list_under name tree)
 
--- what is described under `children`
+-- what is described under `children`; nothing where it is no list
 abbrev pub children_in : Json → List Json
 children_in tree = unwrap_or (list_under (codes "children") tree) []
 
 abbrev pub if_eid : List ℕ → Option (List ℕ)
 if_eid text = if is_eid text then Some text else None
 
--- the eid of the entity that a tree describes, whose children are a list
+-- the eid of the entity that a tree describes, if it is a proper one and its children are a list
 abbrev pub eid_in : Json → Option (List ℕ)
 eid_in tree = if is_some (list_under (codes "children") tree)
     then option_and_then if_eid (option_and_then text_in (member (codes "eid") tree)) else None
@@ -47,7 +47,7 @@ described is_child tree = record {
   is_child = is_child;
 }
 
--- the entities described under a tree, this many levels down, each before its children
+-- the entities described under a tree, down to this many levels, each before its children
 abbrev pub below : ℕ → Json → List Described
 below zero tree = []
 below (suc levels) tree = flat_map (λ child. described true child ∷ below levels child)

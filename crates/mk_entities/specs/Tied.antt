@@ -1,4 +1,4 @@
--- The eids of each simulator, with the numbers of their entities.
+-- That an eid stands for one entity of its simulator.
 use Rattle.std.specs.Prelude.{◌≡◌, ℕ, List, Some, slice_get}
 use Rattle.mk_entities.specs.declared.entities.EntityInfo.{EntityInfo}
 use Rattle.mk_entities.specs.Creation.{entity_number}

@@ -7,8 +7,9 @@ use crate::trees::{children_of, copied, eid_of, list_under};
 use mk_base::{Json, List, Mem, Text};
 use std::alloc::Global;
 
-// An entity as a reply describes it: its eid, if it has a proper one and its children are a list; its type, if it is a text;
-// its related entities' eids, if they are a list of texts; its children's eids; whether it is a child itself.
+// An entity as a reply describes it: its eid, if it has a proper one and its children are a list; its type, if it is a
+// text; its related entities' eids, if they are a list of texts; its children's eids, of those that have one; whether
+// it is a child itself.
 #[derive(Drop)]
 pub struct Described {
     pub eid: Option<Text>,

@@ -15,8 +15,8 @@ use mk_meta::Meta;
 use std::alloc::Global;
 use std::marker::Model;
 
-/// An entity: its simulator; its group, unless it is a child; its eid; its model; and the numbers of the entities that it is
-/// related to, those that its description names and its children, in rising order.
+/// An entity: its simulator; its group, unless it is a child; its eid; its model; and the numbers of the entities that
+/// it is related to, those that its description names and its children, in rising order, each once.
 #[derive(Drop)]
 pub struct EntityInfo {
     pub sim: SimNo,
@@ -60,8 +60,9 @@ impl Entities {
         }
     }
 
-    /// Adds the entities of a reply to `create` (mosaik 3, low-level API) by which a simulator was asked for `num` of a model.
-    /// After a fault, want of memory too, there are those that there were.
+    /// Adds the entities of a reply to `create` (mosaik 3, low-level API), in which a simulator was asked for `num` of
+    /// a model, or names the first test that the reply fails. After a fault, want of memory too, there are those that
+    /// there were.
     pub fn add(
         &mut self,
         sim: SimNo,
@@ -108,8 +109,8 @@ impl Entities {
         self.kept.len()
     }
 
-    /// All entities, in order of their numbers: each is the only one of its simulator with its eid, which is neither empty nor
-    /// `time`, and its related numbers are those of entities, in rising order.
+    /// All entities, in order of their numbers: each is the only one of its simulator with its eid, which is neither
+    /// empty nor `time`, and its related numbers are those of entities, in rising order.
     pub fn as_slice(&self) -> &[EntityInfo]
         ensures same { result.now ≡ self.now }
         ensures few { length self.now ≤ most_entities }
@@ -128,7 +129,7 @@ impl Entities {
         &self.kept[i]
     }
 
-    /// The number of the entity of the simulator with this eid.
+    /// The number of the entity of the simulator with this eid; `None` exactly where it has none.
     pub fn find(&self, sim: SimNo, eid: &str) -> Option<u32>
         ensures { result ≡ entity_number self.now sim eid.now }
     {

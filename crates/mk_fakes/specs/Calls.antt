@@ -23,7 +23,7 @@ read_of None size = read.NotYet
 read_of (Some []) size = read.Closed
 read_of (Some (b ∷ bs)) size = read.Got (min (length (b ∷ bs)) size)
 
--- what a read of the link finds
+-- what a read of the link into so many bytes finds
 abbrev pub hears : Wiring → LinkNo → ℕ → ReadLink
 hears w link size = read_of (coming w link) size
 

@@ -16,7 +16,7 @@ use Rattle.mk_fakes.specs.Telling.{Line, Wiring}
 abbrev pub chunks_of : LinkNo → List Chunk → List Chunk
 chunks_of link = filter (λ c. same_link c.link link)
 
--- how many bytes were said on a link
+-- how many bytes were said on a link; none on one that wasn't started
 abbrev pub said_to : Wiring → LinkNo → ℕ
 said_to w link = unwrap_or (option_map (λ l. l.said) (slice_get w.lines link.0)) 0
 
@@ -37,7 +37,7 @@ coming w link = option_and_then (given w) (next_chunk w link)
 abbrev pub is_held_up : Wiring → LinkNo → Bool
 is_held_up w link = unwrap_or (option_map (λ l. l.held_up) (slice_get w.lines link.0)) false
 
--- a wait marks the link
+-- a wait marks the link: its last write answered NotYet, or something is coming on it
 abbrev pub is_awake : Wiring → LinkNo → Bool
 is_awake w link = is_held_up w link || is_some (coming w link)
 

@@ -56,7 +56,7 @@ impl<F: Fleet> AskedFleet<F> {
         }
     }
 
-    /// What it was asked.
+    /// The ports that listening gave and the starts that came to a link, in their order.
     pub fn asks(&self) -> &[Ask]
         ensures { result.now ≡ self.now.asks }
     {

@@ -3,7 +3,7 @@ use Rattle.std.specs.Prelude.{◌≡◌, ◌<◌, ◌≤◌, ◌⊎◌, ℕ, Lis
 use Rattle.std.specs.List.{flat_map}
 use Rattle.byteorder.specs.Endian.{big_bytes, big_number}
 
--- the greatest length that is allowed
+-- the greatest length of a payload that is allowed, in bytes
 abbrev pub limit : ℕ
 limit = 67108864
 

@@ -15,7 +15,7 @@ pub enum Framed {
     Frame(Vec<u8>),
     /// The first frame isn't all there.
     NotYet,
-    /// A header above the limit; it stays.
+    /// A header with this length, which is above 67,108,864 bytes; it stays.
     TooLong(u32),
 }
 
@@ -60,7 +60,7 @@ impl Feeder {
         Ok(())
     }
 
-    /// Takes the first frame off, if it is all there.
+    /// Takes the first frame off, if it is all there and not too long; else all bytes stay.
     pub fn next(&mut self) -> Result<Framed, Mem>
         ensures answer { IfOk result (λ framed. NextOf self.old framed self.new) }
         ensures not_yet { IfOk result (λ framed. (framed ≡ Framed.NotYet) ↔ IsUnfinished self.old) }

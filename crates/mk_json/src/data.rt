@@ -11,7 +11,7 @@ use mk_base::{Datum, Json, Mem};
 use std::alloc::Global;
 use thiserror::Error;
 
-/// Why a tree is no datum.
+/// Why a tree has no datum, or want of memory.
 #[derive(Debug, Drop, Error)]
 pub enum DatumFault {
     #[error("a number that isn't whole")]
@@ -36,8 +36,9 @@ pub fn datum_of(alloc: Global, value: &Json) -> Result<Datum, Mem>
     }
 }
 
-/// The datum whose bytes are the compact text of a tree. `NotWhole` comes where a number in the
-/// tree isn't whole, and else `TooDeep` where it nests deeper than 100.
+/// The datum whose bytes are the compact text of a tree, the whole numbers in which are in range.
+/// `NotWhole` comes exactly where a number in the tree isn't whole, and else `TooDeep` exactly where
+/// it nests deeper than 100.
 pub fn datum(alloc: Global, tree: &Json) -> Result<Datum, DatumFault>
     requires { is_in_range tree.now ≡ true }
     ensures ok { IfOk result (λ d. (d ≡ text_of tree.now) × (is_datum tree.now ≡ true)) }

@@ -9,7 +9,7 @@ use json::Writer;
 use mk_base::{Mem, Text};
 use std::alloc::Global;
 
-/// Appends a text in quotes with the shortest escapes (RFC 8259, section 7).
+/// Appends a text in quotes with the shortest escapes (RFC 8259, section 7). At `Mem` `out` is as before.
 pub fn put_text(alloc: Global, out: &mut Vec<u8>, text: &Text) -> Result<(), Mem>
     ensures ok { OnOk result (out.new.items ≡ out.old.items ++ quoted text.now) }
     ensures err { OnErr result (out.new.items ≡ out.old.items) }

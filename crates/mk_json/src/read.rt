@@ -18,7 +18,7 @@ use thiserror::Error;
 // How deep lists and objects may stand in one another.
 const MAX_DEPTH: usize = 127;
 
-/// Why bytes have no tree.
+/// Why bytes have no tree, or want of memory.
 #[derive(Debug, Drop, Error)]
 pub enum JsonFault {
     #[error("no JSON")]
@@ -50,9 +50,10 @@ impl From<Mem> for JsonFault {
 }
 
 /// The tree of a text of JSON (RFC 8259) in UTF-8, as `serde_json` reads it: of a name that stands
-/// twice in an object the last value stays, a number with a point or an exponent, `-0` and an
-/// integer outside 64 bits are `Odd`, and lists and objects stand in one another 127 deep at most.
-/// `NotJson` comes for any other bytes.
+/// twice in an object the last value stays, and a number with a point or an exponent, `-0` and an
+/// integer outside -2^63 to 2^64 - 1 are `Odd`. `NotJson` comes for any other bytes, and for a text
+/// in which lists and objects stand in one another more than 127 deep, or a number is too great for
+/// a float of 64 bits.
 pub fn read_json(alloc: Global, bytes: &[u8]) -> Result<Json, JsonFault>
     ensures ok { IfOk result (λ t. parsed bytes.now ≡ Some t) }
     ensures refused { result ≡ Err JsonFault.NotJson → parsed bytes.now ≡ None }

@@ -10,8 +10,8 @@ const PLACES: usize = 64;
 // A longer name isn't kept.
 const LONGEST: usize = 64;
 
-/// Room that reading needs; where it is kept from text to text, it is made once, and a name that comes again is shared
-/// with the tree in which it stood before.
+/// Room that reading needs; where it is kept from text to text, it is made once, and a name of at most 64 bytes that
+/// comes again may be shared with the tree in which it stood before.
 #[derive(Drop)]
 pub struct Scratch {
     pub(crate) parser: json::Scratch,

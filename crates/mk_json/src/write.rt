@@ -16,9 +16,10 @@ use mk_base::{Json, List, Mem, Members};
 use std::alloc::{AllocError, Global};
 use std::mem;
 
-/// Appends the compact text of a tree: no space, members in byte order of their names, the shortest
-/// escapes, and `0.5` for a number that isn't whole. Read again, the text of a tree that nests at
-/// most 127 deep gives the tree back.
+/// Appends the compact text of a tree, the whole numbers in which are in range: no space, members in
+/// byte order of their names, the shortest escapes, and `0.5` for a number that isn't whole. Read
+/// again, the text of a tree that nests at most 127 deep gives the tree back. At `Mem` `out` is as
+/// before.
 pub fn put_json(alloc: Global, out: &mut Vec<u8>, tree: &Json) -> Result<(), Mem>
     requires { is_in_range tree.now ≡ true }
     ensures ok { OnOk result (out.new.items ≡ out.old.items ++ text_of tree.now) }

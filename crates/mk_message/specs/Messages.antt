@@ -30,7 +30,7 @@ kind_numbered n = if int_eq n (pos 0) then Some kind.Request else if int_eq n (p
 abbrev pub kind_in : Json → Option Kind
 kind_in tree = option_and_then kind_numbered (whole_in tree)
 
--- a number that an id may be
+-- the id of a number, which is from 0 to 2^63 − 1
 abbrev pub id_numbered : ℤ → Option ℕ
 id_numbered n = if int_le (pos 0) n && int_lt n (pos (2 ^ 63)) then Some (nat_abs n) else None
 

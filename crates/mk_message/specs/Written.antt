@@ -39,11 +39,11 @@ message_tree (Success id content) = tree.List (tree.Whole (pos 1) ∷ tree.Whole
 message_tree (Failure id text) = tree.List (tree.Whole (pos 2) ∷ tree.Whole (pos id)
     ∷ tree.Text text ∷ [])
 
--- a message
+-- the payload of a message
 abbrev pub message_text : Message → List ℕ
 message_text m = text_of (message_tree m)
 
--- the numbers of a message are those that may be written
+-- the whole numbers in a message's content or arguments are in range
 abbrev pub is_in_range : Message → Bool
 is_in_range (Ask id name args named) = list_all trees.is_in_range args && trees.is_in_range named
 is_in_range (Success id content) = trees.is_in_range content
@@ -73,13 +73,13 @@ wanted_text wants = object_text
     (map (λ (g : List ℕ × List Want). (g.0, list_text (map (λ w. quoted w.attr) g.1)))
     (gathered (λ w. w.eid) wants))
 
--- the text of a refusal, by the number of the test that fails
+-- the text of a refusal, by the number of the test that fails, from 1 to 4
 abbrev pub refusal_text : ℕ → List ℕ
 refusal_text reason = if reason == 1 then codes "unknown function" else if reason == 2
     then codes "malformed request" else if reason == 3 then codes "unknown entity or attribute"
     else codes "no asynchronous connection"
 
--- an item; a Step and a GetData take this id, an Answer and a Refuse carry their own
+-- the payload of an item; a Step and a GetData take this id, an Answer and a Refuse carry their own
 abbrev pub item_text : ℕ → Item → List ℕ
 item_text id (Step at inputs advance) = request_text id (codes "step") (signed_decimal at.time
     ∷ inputs_text inputs ∷ signed_decimal advance ∷ []) (codes "{}")
@@ -99,22 +99,23 @@ texts_of ms = map (λ (m : List ℕ × Json). (m.0, text_of m.1)) ms
 abbrev pub time_resolution : List ℕ × List ℕ
 time_resolution = (codes "time_resolution", codes "1")
 
--- the time resolution put among members, in byte order of the names
+-- the time resolution put among members, in byte order of the names, in place of one of that name
 abbrev pub with_resolution : List (List ℕ × List ℕ) → List (List ℕ × List ℕ)
 with_resolution ms = put (λ (m n : List ℕ × List ℕ). text_order m.0 n.0) time_resolution ms
 
--- the parameters of a simulator, with the time resolution 1 among them
+-- the parameters of a simulator, with the time resolution 1 among them, or alone where they are no
+-- object
 abbrev pub init_params : Json → List ℕ
 init_params params = object_text (with_resolution (texts_of (members_of (members_in params))))
 
--- the numbers of a call are those that may be written
+-- the whole numbers in a call's parameters are in range
 abbrev pub is_call_in_range : Call → Bool
 is_call_in_range (Init sim params) = trees.is_in_range params
 is_call_in_range (Create num model params) = trees.is_in_range params
 is_call_in_range SetupDone = true
 is_call_in_range Stop = true
 
--- a request of the handshake
+-- the payload of a request of the handshake, or of a stop
 abbrev pub call_text : ℕ → Call → List ℕ
 call_text id (Init sim params) = request_text id (codes "init") (quoted sim ∷ [])
     (init_params params)

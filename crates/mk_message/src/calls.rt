@@ -1,4 +1,4 @@
-// From a request of the handshake to its payload.
+// From a request of the handshake, or a stop, to its payload.
 ghost use Rattle.std.specs.Prelude.{◌≡◌, ◌++◌, true, codes, decimal, map, flat_map, IfOk, OnOk};
 ghost use Rattle.std.specs.List.{list_all, join_with_byte};
 ghost use Rattle.mk_base.specs.Lists.{text_order};
@@ -14,8 +14,8 @@ use mk_plan::Call;
 use std::alloc::Global;
 use std::cmp::Ordering;
 
-/// The payload of a request of the handshake. An `Init` gets the member `"time_resolution":1` among
-/// its parameters.
+/// The payload of a request of the handshake, or of a stop. An `Init` gets the member
+/// `"time_resolution":1` among its parameters, in place of one of that name.
 pub fn write_call(alloc: Global, call: &Call, id: u64) -> Result<Vec<u8>, Mem>
     requires { is_call_in_range call.now ≡ true }
     ensures { IfOk result (λ v. v.items ≡ call_text id call.now) }

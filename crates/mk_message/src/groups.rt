@@ -11,8 +11,8 @@ use mk_json::put_text;
 use mk_plan::{Input, Want};
 use std::alloc::Global;
 
-/// The inputs of a step, sorted by entity, attribute and source, as
-/// `{entity:{attribute:{source:value}}}`.
+/// The inputs of a step, which stand sorted by entity, attribute and source, as
+/// `{entity:{attribute:{source:value}}}`. Neighbours alone are joined: nothing is sorted here.
 pub fn inputs_bytes(alloc: Global, inputs: &List<Input>) -> Result<Vec<u8>, Mem>
     ensures { IfOk result (λ v. v.items ≡ inputs_text inputs.now) }
 {
@@ -29,7 +29,8 @@ pub fn inputs_bytes(alloc: Global, inputs: &List<Input>) -> Result<Vec<u8>, Mem>
     }
 }
 
-/// What is wanted, sorted by entity and attribute, as `{entity:[attribute,..]}`.
+/// What is wanted, which stands sorted by entity and attribute, as `{entity:[attribute,..]}`.
+/// Neighbours alone are joined: nothing is sorted here.
 pub fn wanted_bytes(alloc: Global, wanted: &List<Want>) -> Result<Vec<u8>, Mem>
     ensures { IfOk result (λ v. v.items ≡ wanted_text wanted.now) }
 {

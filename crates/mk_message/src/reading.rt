@@ -13,10 +13,10 @@ use thiserror::Error;
 
 /// Why a payload has no message: the number of the first test that it fails, or want of memory.
 ///
-/// 1: it is JSON; 2: it is a list of three; 3: the first item is 0, 1 or 2; 4: the second is a whole
-/// number from 0 to 2^63 - 1; 5: the third is a request's content (`[function, [positional],
-/// {keyword}]`), any value for a success, or a text for a failure (the mosaik 3 documentation's
-/// low-level API).
+/// 1: it is JSON; 2: a list with three items; 3: of these the first is one of the numbers 0, 1 and 2;
+/// 4: the second is a whole number, not below 0 and below 2^63; 5: the third is a request's content
+/// (`[function, [positional], {keyword}]`), any value for a success, or a text for a failure (the
+/// mosaik 3 documentation's low-level API).
 #[derive(Debug, Drop, Error)]
 pub enum ReadFault {
     #[error("no message")]
@@ -43,7 +43,7 @@ pub enum Kind {
     Failure,
 }
 
-/// The message that a payload has, or the first test that it fails.
+/// The message that a payload has, or the first of the five tests that it fails (`ReadFault`).
 pub fn read(alloc: Global, payload: &[u8]) -> Result<Message, ReadFault>
     ensures ok { IfOk result (λ m. message_of payload.now ≡ Ok m) }
     ensures refused { (n : ℕ) → result ≡ Err (ReadFault.NotAMessage n)

@@ -1,4 +1,4 @@
-// From a message, an item or a call to its payload.
+// From a message to its payload.
 ghost use Rattle.std.specs.Prelude.{◌≡◌, ◌≤◌, ◌∷◌, [], pos, true, Ok, IfOk};
 ghost use Rattle.mk_base.specs.Trees as trees;
 ghost use Rattle.mk_base.specs.Trees.{nesting};
@@ -10,9 +10,10 @@ use mk_json::put_json;
 use mk_plan::Message;
 use std::alloc::Global;
 
-/// The payload of a message: the compact text of `[type, id, content]`, with each object's members
-/// in byte order of their names. It has that message again where the id is below 2^63, a request's
-/// keyword arguments are an object, and the payload nests no deeper than 127.
+/// The payload of a message whose whole numbers are in range: the compact text of `[type, id,
+/// content]`, with each object's members in byte order of their names. It has that message again
+/// where the id is below 2^63, a request's keyword arguments are an object, and the payload nests no
+/// deeper than 127.
 pub fn write(alloc: Global, message: &Message) -> Result<Vec<u8>, Mem>
     requires { is_in_range message.now ≡ true }
     ensures text { IfOk result (λ v. v.items ≡ message_text message.now) }

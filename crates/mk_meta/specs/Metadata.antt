@@ -27,12 +27,12 @@ version_in reply = option_and_then text_in (member (codes "api_version") reply)
 abbrev pub is_version_three : List ℕ → Bool
 is_version_three version = same_text (before_first (λ b. b == 46) version) (codes "3")
 
--- the type of the simulator, time-based where it is missing
+-- the type of the simulator, time-based where the member is missing; none where it is no word for one
 abbrev pub kind_in : Json → Option SimKind
 kind_in reply = unless_missing TimeBased (λ tree. option_and_then kind_named (text_in tree))
     (member (codes "type") reply)
 
--- the type as it is written, or nothing where it is no text
+-- the type as it is written, or the empty text where it is no text
 abbrev pub type_text : Json → List ℕ
 type_text reply = unwrap_or (option_and_then text_in (member (codes "type") reply)) []
 
@@ -55,7 +55,7 @@ is_hybrid TimeBased = false
 is_hybrid EventBased = false
 is_hybrid Hybrid = true
 
--- a list of texts under this name, none where it is missing or the simulator isn't hybrid
+-- the list of texts under this name, empty where it is missing or the simulator isn't hybrid
 abbrev pub hybrid_texts : SimKind → List ℕ → Json → Option (List (List ℕ))
 hybrid_texts kind name tree = if is_hybrid kind then unless_missing [] texts_in (member name tree)
     else Some []

@@ -8,22 +8,23 @@ use thiserror::Error;
 /// Why a reply to `init` has no metadata: the first test that it fails, or want of memory.
 #[derive(Drop, Error)]
 pub enum MetaFault {
-    /// It is no object, or `api_version` is no text.
+    /// It is no object, or `api_version` is missing or no text.
     #[error("no version")]
     NoVersion,
     /// The version, whose text before the first dot isn't `3`.
     #[error("not version 3")]
     Version(Text),
-    /// The type, which is none of mosaik's three; empty if it isn't a text.
+    /// The type, which is there and none of mosaik's three; empty if it isn't a text.
     #[error("no type of simulator")]
     BadType(Text),
-    /// `models` is no object of at most 10,000 members.
+    /// `models` is missing, or no object of at most 10,000 members.
     #[error("no models")]
     NoModels,
     /// A model's name, and its member that isn't what it must be; empty if the model is no object.
     #[error("a model is described wrongly")]
     Model(Text, Text),
-    /// A model's name, and what its `trigger` or `non-persistent` names, which isn't one of its attributes.
+    /// A model's name, and what its `trigger`, unless it takes any inputs, or its `non-persistent` names, which isn't
+    /// one of its attributes.
     #[error("no attribute of the model")]
     TriggerUnknown(Text, Text),
     #[error("out of memory")]

@@ -15,8 +15,8 @@ use std::alloc::Global;
 // How many models a simulator may have.
 const MOST_MODELS: usize = 10000;
 
-/// A model, as the metadata describes it (mosaik 3, low-level API). For time-based and event-based simulators `trigger` and
-/// `events`, the attributes that aren't persistent, are empty.
+/// A model, as the metadata describes it (mosaik 3, low-level API). `events` are the attributes under `non-persistent`.
+/// For time-based and event-based simulators `trigger` and `events` are empty.
 #[derive(Drop)]
 pub struct ModelMeta {
     pub name: Text,
@@ -35,7 +35,8 @@ pub struct Meta {
     pub models: List<ModelMeta>,
 }
 
-/// The metadata in a reply to `init`, or the first test that the reply fails.
+/// The metadata in a reply to `init` (mosaik 3, low-level API), or the first test that the reply fails. Without a
+/// `type` the simulator is time-based.
 pub fn read_meta(alloc: Global, reply: &Json) -> Result<Meta, MetaFault>
     ensures ok { IfOk result (λ meta. meta_in reply.now ≡ Ok meta) }
     ensures listed { IfOk result (λ meta. IsListed meta.models) }

@@ -45,7 +45,7 @@ pub fn texts_at(alloc: Global, tree: &Json, name: &str) -> Result<Option<List<Te
     }
 }
 
-// The list of texts under this name, empty where there is no such member; only hybrid simulators have one.
+// The list of texts under this name, empty where there is no such member; always empty unless the simulator is hybrid.
 pub fn hybrid_texts(
     alloc: Global,
     kind: SimKind,

@@ -1,4 +1,5 @@
-// How a file gets new bytes: they are written beside it and take its name at once, so that a failure leaves the old ones.
+// How a file gets new bytes: they are written beside it and take its name at once, so that a failure leaves the old
+// ones.
 use std::alloc::Global;
 use std::fs::{self, Files, OpenFile, OpenOptions, Permissions};
 use std::io::{self, ErrorKind, Write};
@@ -77,8 +78,8 @@ fn replace<R: Files + AllocGlobal>(rt: &R, path: &str, bytes: &[u8]) -> io::Resu
     placed
 }
 
-// Gives a new file, which has the name of a part, its rights and its bytes, waits until they are on the disk, and puts it
-// at this path.
+// Gives a new file, which has the name of a part, its rights and its bytes, waits until they are on the disk, and puts
+// it at this path.
 fn place<R: Files>(
     rt: &R,
     part: &str,
@@ -96,7 +97,8 @@ fn place<R: Files>(
     fs::rename(rt, part, path)
 }
 
-// The rights of the file at this path; none where nothing stands there. It is an error where the file may not be written.
+// The rights of the file at this path; none where nothing stands there. It is an error where the file may not be
+// written.
 fn rights_of<R: Files>(rt: &R, path: &str) -> io::Result<Option<Permissions>> {
     match OpenOptions::new().write(true).open(rt, path) {
         Ok(file) => Ok(Some(file.metadata()?.permissions())),

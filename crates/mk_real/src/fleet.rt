@@ -33,7 +33,7 @@ struct Host<R> {
 }
 
 /// Links over sockets, to child programs and to ports on this machine, with the machine's clock. It opens nothing until
-/// a call needs it, tells no log, and counts each error of the system in its faults.
+/// a call needs it, tells no log, and counts in its faults the calls that answer `Failed`, and the closings that fail.
 #[derive(Drop)]
 pub struct MioFleet<R: Net + Processes + Clock> {
     host: Host<R>,

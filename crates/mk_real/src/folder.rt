@@ -9,7 +9,7 @@ use std::io::{self, ErrorKind, Read};
 // The greatest length of a file that is read, in bytes.
 const FILE_LIMIT: u64 = 536_870_912;
 
-/// The system's files. It tells nothing of what they hold, and counts each error of the system in its faults.
+/// The system's files. It tells nothing of what they hold, and counts in its faults the calls that answer `Failed`.
 #[derive(Drop)]
 pub struct RealFolder<'a, R> {
     rt: &'a R,
@@ -73,7 +73,8 @@ fn read_file<R: Files>(rt: &R, name: &str, into: &mut Vec<u8>) -> io::Result<Fil
     read_whole(file, into)
 }
 
-// Reads what is left of a file, unless it is too long.
+// Reads what is left of a file, unless that is too long: then one byte more than the limit is read, and its count
+// given.
 fn read_whole<F: Read + Drop>(file: F, into: &mut Vec<u8>) -> io::Result<FileRead>
     ensures { IfOk result (λ answer. answer ≢ FileRead.Failed) }
 {

@@ -1,5 +1,5 @@
-//! The outside itself: links over sockets and to child programs, the system's files, and its standard streams. No clause
-//! says what they hold.
+//! The outside itself: links over sockets and to child programs, the system's files, and its standard streams. No
+//! clause says what they hold.
 #![tactic(auto)]
 
 mod anew;

@@ -11,8 +11,8 @@ enum Stream {
     Error(Stderr),
 }
 
-/// A standard stream. It tells nothing of what it took, and counts each error of the system in its faults, and each want
-/// of memory in its shortages.
+/// A standard stream. It tells nothing of what it took, and counts the calls that answer `Failed` in its faults, and
+/// those that answer `Mem` in its shortages.
 #[derive(Drop)]
 pub struct RealSink {
     stream: Stream,
@@ -21,7 +21,7 @@ pub struct RealSink {
 }
 
 impl RealSink {
-    /// Standard error, or standard output.
+    /// Standard error where `to_error` is true, else standard output.
     pub fn new(rt: &HostRuntime, to_error: bool) -> RealSink
         ensures faults { result.faults ≡ 0 }
         ensures shortages { result.shortages ≡ 0 }

@@ -174,8 +174,8 @@ impl<P: OpenProcess + Drop> Socket<P> {
         Ok(Some(stream))
     }
 
-    /// Takes in the child where one is awaited and has connected; where it has not, the link isn't ready. It is an error
-    /// where the child is late, or has failed.
+    /// Takes in the child where one is awaited and has connected. Where it has not, the link isn't ready, or it is an
+    /// error if the child is late or has failed.
     pub fn take_in<R: Clock>(&mut self, rt: &R, registry: &Registry) -> io::Result<()> {
         if !self.is_awaited() {
             return Ok(());

@@ -8,7 +8,7 @@ use std::time::{Clock, Instant};
 // The greatest number that is told.
 const LAST: u64 = 1_000_000_000_000_000_000;
 
-/// Milliseconds since the clock was first asked.
+/// Milliseconds since the clock was first asked, at most 10^18.
 #[derive(Drop)]
 pub struct Ticks {
     origin: Option<Instant>,

@@ -37,7 +37,7 @@ impl Numbers {
         }
     }
 
-    /// The next id, which is outstanding from then on.
+    /// The next id, at most 2^63 - 2, which is outstanding from then on; none may be before.
     pub fn draw(&mut self) -> u64
         requires idle { self.old.outstanding ≡ None }
         requires room { self.old.next < 2 ^ 63 - 1 }
@@ -50,7 +50,7 @@ impl Numbers {
         id
     }
 
-    /// The id that awaits its answer.
+    /// The id that awaits its answer; `None` where none does.
     pub fn outstanding(&self) -> Option<u64>
         ensures { result ≡ self.now.outstanding }
     {
