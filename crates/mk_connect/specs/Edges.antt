@@ -9,7 +9,7 @@ use Rattle.mk_scenario.specs.declared.parts.Place.TheVariants.{Whole, One, Full}
 use Rattle.mk_scenario.specs.declared.parts.Block.{Block}
 use Rattle.mk_scenario.specs.declared.parts.Scenario.{Scenario}
 
--- the simulator of a group
+-- the simulator of a group, 0 where there is no such group
 abbrev pub sim_of_group : List Group → ℕ → ℕ
 sim_of_group groups n = unwrap_or (option_map (λ (g : Group). g.sim.0) (slice_get groups n)) 0
 

@@ -20,11 +20,11 @@ use Rattle.mk_connect.specs.ByPlace.{by_place}
 use Rattle.mk_connect_pairs.specs.Models.{model_number, models_of, plan_model}
 use Rattle.mk_connect.specs.Related.{pairs_of, related}
 
--- the type that a simulator's metadata says
+-- the type that a simulator's metadata says, time-based where it isn't there
 abbrev pub kind_at : List Meta → ℕ → SimKind
 kind_at metas s = unwrap_or (option_map (λ (m : Meta). m.kind) (slice_get metas s)) TimeBased
 
--- the number at this place
+-- the number at this place, 0 where there is none
 abbrev pub number_at : List ℕ → ℕ → ℕ
 number_at numbers s = unwrap_or (slice_get numbers s) 0
 
@@ -39,7 +39,8 @@ plan_sim metas ranks first_ids s part = record {
   initial = part.initial;
 }
 
--- an entity, at this place, of so many with these pairs
+-- an entity, at this place, of so many with these pairs; its model is 0 where it is of none of
+-- these
 abbrev pub plan_entity : List SimModel → ℕ → List (ℕ × ℕ) → ℕ → EntityInfo → PlanEntity
 plan_entity models count pairs i entity = record {
   model = unwrap_or (model_number models entity) 0;

@@ -28,13 +28,13 @@ use mk_plan::{Conn, Plan, PlanEntity};
 use mk_scenario::{Block, Scenario};
 use std::alloc::Global;
 
-/// The plan of a scenario, by the ranks of its edges, its simulators' metadata, the entities that they created and how many
-/// setup requests each of them got; or the first test that its connections fail.
+/// The plan of a scenario, by the ranks of its edges, its simulators' metadata, the entities that they created and how
+/// many setup requests each of them got; or the first test that its connections fail; or want of memory.
 ///
-/// Blocks are gone through in order, in each block the entities that it pairs, for each two of them its pairs of attributes. A
-/// connection keeps its value if its source is time-based, or hybrid and the attribute isn't among those that aren't persistent;
-/// it triggers if its target is event-based, or hybrid and the attribute is among those that trigger (mosaik 3, simulator types
-/// and low-level API).
+/// Blocks are gone through in order, in each block the entities that it pairs, for each two of them its pairs of
+/// attributes. A connection keeps its value if its source is time-based, or hybrid and the attribute isn't among those
+/// that aren't persistent; it triggers if its target is event-based, or hybrid and the attribute is among those that
+/// trigger (mosaik 3, simulator types and low-level API).
 pub fn plan(
     alloc: Global,
     scenario: &Scenario,

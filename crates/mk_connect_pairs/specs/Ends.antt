@@ -24,7 +24,7 @@ members_from group n (e ∷ es) = if is_of_group group e then n ∷ members_from
 abbrev pub members : List EntityInfo → ℕ → List ℕ
 members entities group = members_from group 0 entities
 
--- the entities at a place, none where the full id is no entity's
+-- the entities at a place, none where the full id is no entity's or the group has none at the index
 abbrev pub ends_at : List EntityInfo → Place → List ℕ
 ends_at entities (Whole group) = members entities group
 ends_at entities (One group i) = cons_option (slice_get (members entities group) i) []

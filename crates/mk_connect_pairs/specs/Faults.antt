@@ -1,5 +1,5 @@
--- How tests follow one another, and what it is to go through items until one fails.
-use Rattle.std.specs.Prelude.{◌≡◌, ◌⊎◌, List, [], ◌∷◌, Result, Ok, Err, if◌then◌else◌}
+-- What it is to go through items until one fails, and which fault a call may answer then.
+use Rattle.std.specs.Prelude.{◌≡◌, ◌⊎◌, List, [], ◌∷◌, Result, Ok, Err}
 use Rattle.mk_base.specs.Verdicts.{passed}
 use Rattle.mk_connect_pairs.specs.declared.fault.ConnectFault.{ConnectFault}
 use Rattle.mk_connect_pairs.specs.declared.fault.ConnectFault.TheVariants.{Mem}

@@ -1,4 +1,5 @@
--- The models of all simulators, in simulator order and then byte order, and the model of an entity.
+-- The models of all simulators, in simulator order and in each as its metadata has them, and the
+-- model of an entity.
 use Rattle.std.specs.Prelude.{ℕ, suc, Bool, true, false, not, ◌&&◌, ◌||◌, ◌==◌, List, [], ◌∷◌, ◌++◌, map, Option, option_map, option_and_then, unwrap_or, slice_get, position}
 use Rattle.mk_base.specs.declared.SimNo.{SimNo}
 use Rattle.mk_base.specs.declared.SimKind.{SimKind}

@@ -39,7 +39,8 @@ pub fn takes_attr(study: &Study, entity: u32, attr: &Text) -> bool
     }
 }
 
-// Whether the output keeps its value: of a hybrid simulator, unless it is an event.
+// Whether the output keeps its value: of a time-based simulator always, of an event-based one never, of a hybrid one
+// unless it is an event.
 pub fn keeps_attr(study: &Study, entity: u32, attr: &Text) -> bool
     ensures { result ≡ says (keeps_attr attr.now)
         (model_at study.now.models.now study.now.entities.now entity) }
@@ -60,7 +61,8 @@ fn is_persistent(model: &SimModel, attr: &Text) -> bool
     }
 }
 
-// Whether the input makes its simulator step: of a hybrid one, if it is said to.
+// Whether the input makes its simulator step: of a time-based one never, of an event-based one always, of a hybrid one
+// if it is said to.
 pub fn triggers_by(study: &Study, entity: u32, attr: &Text) -> bool
     ensures { result ≡ says (triggers_by attr.now)
         (model_at study.now.models.now study.now.entities.now entity) }

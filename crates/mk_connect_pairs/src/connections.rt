@@ -23,8 +23,8 @@ use std::alloc::Global;
 // How many connections there may be.
 const MOST_CONNS: usize = 100000;
 
-/// The connections of all blocks, in order, or the first test that one of them fails. Each block stands between groups that there
-/// are, and its initial values are data.
+/// The connections of all blocks, in order, or the first test that one of them fails, or want of memory. Each block
+/// stands between groups that there are, and its initial values are data.
 pub fn conns_made(alloc: Global, study: &Study, blocks: &[Block]) -> Result<Made, ConnectFault>
     requires { Each (IsUsable (length study.now.members.now)) blocks.now }
     ensures ok { IfOk result

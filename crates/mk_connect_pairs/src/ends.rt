@@ -11,7 +11,7 @@ use mk_base::{List, Mem, Text};
 use mk_scenario::{Place, SimPart};
 use std::alloc::Global;
 
-// The entities at a place, none where the full id is no entity's.
+// The entities at a place, none where the full id is no entity's or the group has none at the index.
 pub fn ends_at(alloc: Global, study: &Study, place: &Place) -> Result<Vec<u32>, Mem>
     requires { HasGroup (length study.now.members.now) place.now }
     ensures { IfOk result (λ ends. ends.items ≡ ends_at study.now.entities.now place.now) }

@@ -13,8 +13,9 @@ use mk_meta::{Meta, ModelMeta};
 use mk_scenario::{Group, Scenario, SimPart};
 use std::alloc::Global;
 
-/// The test of the group at this place by its simulator's metadata, before its entities are created (mosaik 3, `create`): the
-/// model is there and public, and has each parameter that the group gives, or the first that it doesn't have, in byte order, is named.
+/// The test of the group at this place by its simulator's metadata, before its entities are created (mosaik 3,
+/// `create`): the model is there and public, else `NotPublic`; and it has each parameter that the group gives, else
+/// `UnknownParam` names the first that it doesn't have, in byte order. `Mem` for want of memory.
 pub fn group_check(
     alloc: Global,
     scenario: &Scenario,

@@ -3,7 +3,8 @@
 use crate::texts::Texts;
 use mk_base::{SimKind, SimNo, Text};
 
-/// A model of a simulator, with its attributes, those that trigger and those that are events, each looked up by its name.
+/// A model of a simulator of this type: whether it takes any input, its attributes, those that trigger and those that
+/// are events, each looked up by its name.
 #[derive(Drop)]
 pub struct SimModel {
     pub sim: SimNo,

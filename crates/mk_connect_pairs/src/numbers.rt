@@ -63,7 +63,7 @@ impl Models {
         Ok(number_under(&self.numbers, &key))
     }
 
-    /// The model of this number.
+    /// The model of this number, from 0; `None` where there is none.
     pub fn get(&self, number: usize) -> Option<&SimModel>
         ensures { option_map (λ m. m.now) result ≡ slice_get self.now number }
     {

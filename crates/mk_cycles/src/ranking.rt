@@ -19,7 +19,7 @@ pub struct Edge {
     pub to: SimNo,
 }
 
-/// Why there are no ranks. `Cycle` has the simulators of a closed walk along the edges.
+/// Why there are no ranks. `Cycle` has the simulators of a closed walk along the edges; `Mem` is want of memory.
 #[derive(Drop, Error)]
 pub enum CycleFault {
     #[error("a cycle")]
@@ -56,7 +56,8 @@ impl From<Mem> for CycleFault {
 pub fn ranks(alloc: Global, sims: u32, edges: &[Edge]) -> Result<List<u32>, CycleFault>
     requires { EndsBelow sims edges.now }
 
-    // The ranks are those that the rule gives, so they are 0 to the count, each once, and rise along the edges.
+    // The ranks are those that the rule gives, so they are the numbers below the count, each once, and rise along the
+    // edges.
     ensures ranking { IfOk result (λ ranks. IsRanking (has_edge edges.now) sims ranks) }
     ensures each_once { IfOk result (λ ranks. IsEachOnce sims ranks) }
     ensures rising { IfOk result (λ ranks. IsRising edges.now ranks) }

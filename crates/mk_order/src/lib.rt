@@ -25,14 +25,15 @@ pub fn agreement(plan: &Plan)
     ensures { (J : List Entry) → IsOrderly plan.now J → Agrees plan.now J }
 {}
 
-/// A journal at whose end nothing is open and nothing is pending has all of it.
+/// A journal without a fault, at whose end nothing is open and nothing is pending, has all of it.
 pub fn completion(plan: &Plan)
     requires { IsValidPlan plan.now }
     ensures { (J : List Entry) → IsOrderly plan.now J → IsDone plan.now (view plan.now J)
         → IsFinished plan.now J }
 {}
 
-/// No trigger from outside comes after a Step's time and at or before its max_advance.
+/// To a simulator that sends nothing more itself no trigger comes after the time of its Step and at or before its
+/// max_advance.
 pub fn promise(plan: &Plan)
     requires { IsValidPlan plan.now }
     ensures { (J : List Entry) → IsOrderlySoFar IsReady IsAdvance plan.now J
@@ -52,7 +53,8 @@ pub fn progress(plan: &Plan)
         × IsReady plan.now (view plan.now J) s x }
 {}
 
-/// Over two families of messages that cut no turn and that agree wherever both have a message after the same talk, all that is said is the same. A finished journal's messages are such a family.
+/// Over two families of messages that cut no turn and that agree wherever both have a message after the same talk, all
+/// that is said is the same. A finished journal's messages cut no turn.
 pub fn comparison(plan: &Plan)
     requires { IsValidPlan plan.now }
     ensures { (R : Messages) → (Q : Messages)
@@ -91,7 +93,8 @@ pub fn emptying(plan: &Plan)
         → i < sim_count plan.now → got J i ≡ R i }
 {}
 
-/// No unknown turn of a simulator outside a set starts before the least end of the walks to it that avoid the set, where the set's simulators send nothing more.
+/// No unknown turn of a simulator outside a set starts before the least end of the walks to it that avoid the set,
+/// where the set's simulators send nothing more.
 pub fn lower_bound(plan: &Plan)
     requires { IsValidPlan plan.now }
     ensures { (J : List Entry) → IsOrderlySoFar IsReady IsAdvance plan.now J

@@ -5,7 +5,7 @@ ghost use Rattle.mk_plan.specs.Plans.{sim_id};
 use crate::Plan;
 use mk_base::{Mem, SimNo, put};
 
-/// Appends a simulator's id; nothing where there is no simulator of this number.
+/// Appends a simulator's id; nothing where there is no simulator of this number. Fails for want of memory alone.
 pub fn put_id(out: &mut Vec<u8>, plan: &Plan, sim: SimNo) -> Result<(), Mem>
     ensures { OnOk result (out.new.items ≡ out.old.items ++ sim_id plan.now sim.0) }
 {

@@ -26,7 +26,7 @@ all_apart fits (x ∷ xs) = list_all (fits x) xs && all_apart fits xs
 abbrev pub implies : Bool → Bool → Bool
 implies a b = not a || b
 
--- the end, the loop limit and the length of the journal
+-- the run's end, the loop limit and the limit of entries
 abbrev pub numbers_fit : Plan → Bool
 numbers_fit P = int_le (pos 1) P.until && int_le P.until (pos 1000000000) && nat_le 1 P.loops
     && nat_le P.loops 1000 && nat_le 1 P.entries && nat_le P.entries 20000000

@@ -85,12 +85,13 @@ fn first_bad(alloc: Global, plan: &Plan) -> Result<Option<u8>, Mem>
     Ok(None)
 }
 
-/// Whether the plan is valid: `Bad` has the number of the first of the five parts that fails.
+/// Whether the plan is valid: `Bad` has the number of the first of the five parts that fails; or want of memory.
 /// 1: all numbers, counts and the nesting of initial values are within the limits, references are in range,
-/// simulators' ids are distinct and have no `.`, and entities' ids are distinct within a simulator and neither empty nor `time`.
+/// simulators' ids are distinct and have no `.`, and entities' names are distinct within a simulator and neither empty
+/// nor `time`.
 /// 2: the ranks are 0 to n - 1, each once, and plain connections and asynchronous pairs go to a higher one.
-/// 3: no two connections share source entity, target entity and target attribute.
-/// 4: a time-shifted persistent connection has an initial value, and a plain one has none.
+/// 3: from one entity at most one connection leads to an attribute of another.
+/// 4: where a connection is time-shifted and persistent it has an initial value, and where it is plain none.
 /// 5: outputs persist and inputs trigger as the simulators' kinds say, and alike for each entity's attribute.
 pub fn check_plan(alloc: Global, plan: &Plan) -> Result<(), PlanFault>
     ensures valid { OnOk result (IsValidPlan plan.now) }

@@ -1,4 +1,4 @@
-// The five parts of a valid plan, tested in order.
+// What a plan says of an entity and of a simulator.
 ghost use Rattle.std.specs.Prelude.{◌≡◌};
 ghost use Rattle.mk_plan.specs.Plans.{owner, eid_of, kind_of, rank_of};
 

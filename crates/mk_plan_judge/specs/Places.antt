@@ -1,4 +1,4 @@
--- What stands of the place of a turn.
+-- The id of the request that is open at a place.
 use Rattle.std.specs.Prelude.{ℕ}
 use Rattle.mk_plan.specs.declared.Place.{Place}
 use Rattle.mk_plan.specs.declared.Place.TheVariants.{Idle, Stepping, Fetching}

@@ -29,9 +29,11 @@ const TOO_MANY_ASKS: u8 = 8;
 const MOST_ASKS: u32 = 10_000;
 
 /// The first cause that a message of the simulator is wrong by, at the place of what is open there; `None` where it is
-/// right. The causes are 1, it isn't asked for; 2, a Step's reply is no time; 3, it is no later time; 4, a time-based
-/// simulator gives no next time; 5, a GetData's reply has not the form of data, or nests too deep; 6, its output time
-/// comes before the step; 7, a wanted value has a number that isn't whole; 8, the step has too many requests.
+/// right, `Failed` where it is a failure reply to the open request. The causes by their numbers are 1, it isn't asked
+/// for; 2, a Step's reply is neither null nor a whole number of at most 10^18; 3, it is no later time than the step's;
+/// 4, a time-based simulator gives no next time; 5, a GetData's reply has not the form of data, or a wanted value nests
+/// deeper than 100; 6, its output time comes before the step; 7, a wanted value has a number that isn't whole; 8, it is
+/// a request after 10,000 in its step.
 pub fn wrong(
     plan: &Plan,
     wants: &List<Want>,

@@ -14,7 +14,8 @@ use std::alloc::Global;
 // How deep a value may nest.
 const VALUE_DEPTH: u32 = 100;
 
-/// What the data give each want: the member of the attribute's name in the member of the entity's name.
+/// What the data give each want, in order: the member of the attribute's name in the member of the entity's name, or
+/// nothing where there is none. Fails for want of memory alone.
 pub fn values_for<'a>(
     alloc: Global,
     wants: &List<Want>,

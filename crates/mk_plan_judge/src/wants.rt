@@ -19,7 +19,7 @@ pub fn owner(plan: &Plan, entity: u32) -> SimNo
 }
 
 /// What each GetData asks of the simulator: the attributes that some connection takes from its entities, each once, in
-/// byte order of the entity's name and then of the attribute's.
+/// byte order of the entity's name and then of the attribute's. Fails for want of memory alone.
 pub fn wanted(alloc: Global, plan: &Plan, sim: SimNo) -> Result<List<Want>, Mem>
     ensures { IfOk result (λ wants. wants ≡ wanted plan.now sim.0) }
 {

@@ -12,7 +12,7 @@ use mk_plan::Plan;
 use std::alloc::Global;
 
 impl Names {
-    /// The names of a plan.
+    /// The names of a plan. Fails for want of memory alone.
     pub fn new(alloc: Global, plan: &Plan) -> Result<Names, Mem>
         requires references { RefersInside plan.now }
         requires names { HasDistinctNames plan.now }

@@ -79,7 +79,7 @@ fn same_bytes(one: &[u8], other: &[u8]) -> bool
     one == other
 }
 
-/// Whether two lists have the same items.
+/// Whether two lists have the same items in the same order.
 pub fn same_all<T: Same>(items: &List<T>, others: &List<T>) -> bool
     ensures { Decides result (items.now ≡ others.now) }
 {

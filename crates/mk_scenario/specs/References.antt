@@ -42,7 +42,7 @@ group_ids groups = map (λ (g : Group). g.id) groups
 abbrev pub group_of_id : List (List ℕ) → List ℕ → List ℕ → Result ℕ ScenarioFault
 group_of_id ids path id = found (UnknownGroup path id) (place_in ids id)
 
--- how many entities the group has
+-- how many entities the group has; none where there is no such group
 abbrev pub num_at : List Group → ℕ → ℕ
 num_at groups n = unwrap_or (option_map (λ (g : Group). g.num) (slice_get groups n)) 0
 

@@ -21,7 +21,7 @@ use Rattle.mk_scenario.specs.declared.parts.AttrPair.{AttrPair}
 use Rattle.mk_scenario.specs.declared.parts.Block.{Block}
 use Rattle.mk_scenario.specs.declared.parts.Scenario.{Scenario}
 
--- the ids are those of simulators of these names, in order
+-- these are names, and the ids are those of simulators of these names, in order
 pub record AreIdsOf (names ids : List (List ℕ)) : Type 0 where
   pub spelled : Each (λ name. IsTrue (is_name name)) names
   pub count : length names ≡ length ids
@@ -33,14 +33,16 @@ HasPort (Command command) = ⊤
 HasPort (Connect port) = (1 ≤ port) × (port ≤ 65535)
 HasPort (Local kind) = ⊤
 
--- the time resolution is the run's, and no parameter
+-- a simulator's port and its times are within their limits, and its parameters are data, without
+-- the time resolution, which is the run's
 pub record IsWellformedSim (s : SimPart) : Type 0 where
   pub port : HasPort s.begin
   pub params : IsObjectOfData s.params
   pub resolution : member (codes "time_resolution") s.params ≡ None
   pub initial : Each (λ (t : ℤ). (pos 0 ≤ℤ t) × (t ≤ℤ pos 1000000000)) s.initial
 
--- a group of one of so many simulators
+-- a group of one of so many simulators, of 1 to 10,000 entities: its id is spelled as a name, and
+-- its parameters are data
 pub record IsWellformedGroup (sims : ℕ) (g : Group) : Type 0 where
   pub id : IsTrue (is_name g.id)
   pub sim : g.sim.0 < sims
@@ -53,8 +55,9 @@ IsPlace sims groups (Whole n) = n < length groups
 IsPlace sims groups (One n i) = (n < length groups) × (i < num_at groups n)
 IsPlace sims groups (Full sim eid) = sim.0 < sims
 
--- a block between so many simulators with these groups: it is delayed or asynchronous, not both,
--- and initial values stand only where it is delayed, under its source attributes
+-- a block between so many simulators with these groups: its sides pair, it isn't both delayed and
+-- asynchronous, a time shift's width is within its limits, and initial values, which are data,
+-- stand only where it is delayed, under its source attributes
 pub record IsWellformedBlock (sims : ℕ) (groups : List Group) (b : Block) : Type 0 where
   pub from : IsPlace sims groups b.from
   pub to : IsPlace sims groups b.to
@@ -66,7 +69,8 @@ pub record IsWellformedBlock (sims : ℕ) (groups : List Group) (b : Block) : Ty
   pub fed : Each (λ (m : List ℕ × Json). IsIn m.0 (map (λ (p : AttrPair). p.from) b.attrs))
       (members_of b.initial)
 
--- what every caller relies on
+-- numbers and counts are within their limits, ids of simulators are by the naming rule, those of
+-- groups are distinct, and each part is well-formed
 pub record IsWellformed (S : Scenario) : Type 0 where
   pub until : (pos 1 ≤ℤ S.until) × (S.until ≤ℤ pos 1000000000)
   pub loops : (1 ≤ S.loops) × (S.loops ≤ 1000)

@@ -10,7 +10,8 @@ pub enum Begin {
     Local(Text),
 }
 
-/// A simulator: its id, how it is begun, the parameters of `init` as an object, and the times at which it is due besides.
+/// A simulator: its id, how it is begun, the parameters of `init` as an object, and the times at which it is due
+/// besides, in the scenario's unit.
 #[derive(Drop)]
 pub struct SimPart {
     pub id: Text,
@@ -44,8 +45,8 @@ pub struct AttrPair {
     pub to: Text,
 }
 
-/// A `connect` table: its two sides, its pairs of attributes, when it delivers, whether the right side may ask the left for data,
-/// and the initial values by source attribute, as an object.
+/// A `connect` table: its two sides, its pairs of attributes, when it delivers, whether the right side may ask the left
+/// for data and set them, and the initial values by source attribute, as an object.
 #[derive(Drop)]
 pub struct Block {
     pub from: Place,
@@ -56,7 +57,8 @@ pub struct Block {
     pub initial: Json,
 }
 
-/// A scenario: the end of its time, how many rounds of a same-time loop it allows, how many entries of a journal, and its parts.
+/// A scenario: the end of its time, the last round that a same-time loop may have, counted from 0, how many entries a
+/// journal may have, and its parts.
 #[derive(Drop)]
 pub struct Scenario {
     pub until: i64,

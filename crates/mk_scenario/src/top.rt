@@ -22,7 +22,7 @@ const MOST_GROUPS: usize = 10_000;
 
 const MOST_BLOCKS: usize = 100_000;
 
-// The most rounds of a same-time loop and entries of a journal, and how many where none are said.
+// The greatest loop limit and the most entries of a journal, and what stands for each where it isn't said.
 const MOST_LOOPS: u32 = 1000;
 
 const LOOPS: u32 = 100;

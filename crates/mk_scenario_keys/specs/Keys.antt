@@ -58,7 +58,7 @@ count_within least most path value = passed (whole_within (pos least) (pos most)
 abbrev pub truth : List ℕ → Json → Result Bool ScenarioFault
 truth path value = found (WrongKind path) (bool_in value)
 
--- the width of a value that is this truth value, or none
+-- the width that a value says: by its truth value, where it is one, else by its number
 abbrev pub width_by : Option Bool → List ℕ → Json → Result (Option ℕ) ScenarioFault
 width_by (Some shifted) path value = Ok (if shifted then Some 1 else None)
 width_by None path value = passed (count_within 1 1000000 path value) (λ width. Ok (Some width))

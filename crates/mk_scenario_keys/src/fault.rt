@@ -5,11 +5,11 @@ use mk_base::{Mem, Text};
 use std::fmt;
 use thiserror::Error;
 
-/// Why a text is no scenario: the first test that it fails, or want of memory. The first text of a fault is a key's path, as
-/// `connect[2].attrs[0]`, its tables and items counted from 0.
+/// Why a text is no scenario: the first test that it fails, or want of memory. The first text of a fault, but for
+/// `Taken`, is the path of a key, an item or a table, as `connect[2].attrs[0]`, its tables and items counted from 0.
 #[derive(Drop, Error)]
 pub enum ScenarioFault {
-    /// It is no TOML.
+    /// It is no TOML 1.1 in UTF-8.
     #[error("not TOML")]
     NotToml,
     /// A key that must stand there doesn't.
@@ -24,16 +24,16 @@ pub enum ScenarioFault {
     /// A value that isn't in its key's range: the number, the length of the list, or the text.
     #[error("a value out of range")]
     OutOfRange(Text, Text),
-    /// A simulator's id that isn't there.
+    /// The id of a simulator that isn't there, behind its path.
     #[error("an unknown simulator")]
     UnknownSim(Text, Text),
-    /// A group's id that isn't there.
+    /// The id of a group that isn't there, behind its path.
     #[error("an unknown group")]
     UnknownGroup(Text, Text),
     /// A simulator begun in two ways, or a connection of two kinds, by its table's path.
     #[error("two kinds")]
     TwoKinds(Text),
-    /// A connection's sides have so many entities, neither one nor equally many.
+    /// A connection's sides have so many entities, neither one nor equally many, by its table's path.
     #[error("sides that don't pair")]
     Uneven(Text, u32, u32),
     /// A group's id that an earlier table has.

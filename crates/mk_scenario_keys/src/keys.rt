@@ -221,8 +221,9 @@ pub fn required_time(alloc: Global, key: &str, document: &Json) -> Result<i64, S
     }
 }
 
-/// The tables, from 1 to `most` of them, under a key that must stand in the top table. Errors: `Missing` without it, `WrongKind` of
-/// another value, or of the first item that is no table, `OutOfRange` with the number of others; `Mem`.
+/// The tables, from 1 to `most` of them, under a key that must stand in the top table. Errors: `Missing` without it,
+/// `WrongKind` of another value, or of the first item that is no table, `OutOfRange` with how many there are where they
+/// are none or more; `Mem`.
 pub fn required_tables<'a>(
     alloc: Global,
     most: usize,
@@ -243,8 +244,9 @@ pub fn required_tables<'a>(
     }
 }
 
-/// The tables, at most `most` of them, under a key that the top table may leave out, none then. Errors: `WrongKind` of another value, or
-/// of the first item that is no table, `OutOfRange` with the number of more; `Mem`.
+/// The tables, at most `most` of them, under a key that the top table may leave out, none then. Errors: `WrongKind` of
+/// another value, or of the first item that is no table, `OutOfRange` with how many there are where they are more;
+/// `Mem`.
 pub fn tables_or_none<'a>(
     alloc: Global,
     most: usize,

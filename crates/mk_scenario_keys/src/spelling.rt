@@ -40,7 +40,8 @@ fn begins_name(b: u8) -> bool
     (b'A' <= b && b <= b'Z') || (b'a' <= b && b <= b'z') || b == b'_'
 }
 
-/// The number that the bytes spell by at least one and at most so many decimal digits, of which there may be nine.
+/// The number that the bytes spell by at least one and at most so many decimal digits, nine or fewer; `None` for any
+/// other bytes.
 pub fn spelled(most: usize, bytes: &[u8]) -> Option<u64>
     requires { most ≤ 9 }
     ensures { result ≡ spelling.spelled most bytes.now }

@@ -5,7 +5,7 @@ use mk_base::Mem;
 use std::fmt;
 use thiserror::Error;
 
-/// Why bytes have no tree.
+/// Why bytes have no tree; or want of memory.
 #[derive(Drop, Error)]
 pub enum TomlFault {
     /// The bytes aren't UTF-8, or no TOML.

@@ -15,7 +15,7 @@ use toml::{Table, Value};
 /// an integer, a truth value, a text, an array nor a table is `Odd`: floats, infinity and `nan`
 /// among them, dates and times. `NotToml` comes for any other bytes, as for a text that gives a key
 /// twice, that has an integer outside of 64 bits with a sign, that has more than 80 arrays and
-/// inline tables in one another, or a key of more than 80 parts.
+/// inline tables in one another, or a key of more than 80 parts; `Mem` for want of memory.
 pub fn read_toml(alloc: Global, bytes: &[u8]) -> Result<Json, TomlFault>
     ensures ok { IfOk result (λ tree. toml_of bytes.now ≡ Some tree) }
     ensures sound { IfOk result (λ tree. (is_in_range tree ≡ true) × (is_object tree ≡ true)) }

@@ -6,7 +6,8 @@ pub record Listing : Type 0 where
   pub count : ℕ
   pub order : List ℕ
 
--- a number is marked exactly if it is listed, and as many are marked as are listed
+-- a number is marked exactly if it is listed, as many are marked as are listed, and each is listed
+-- at most once
 pub record MarksListed (marks : List Bool) (order : List ℕ) : Type 0 where
   pub listed : (s : ℕ) → slice_index_or marks s false ≡ true → IsIn s order
   pub marked : (s : ℕ) → IsIn s order → slice_index_or marks s false ≡ true

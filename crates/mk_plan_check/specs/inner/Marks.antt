@@ -41,11 +41,11 @@ second_order a b = slice_cmp nat_cmp (a.second ∷ a.text.now) (b.second ∷ b.t
 abbrev pub comes_first : Mark → Mark → Bool
 comes_first a b = is_lt (mark_order a b)
 
--- the labels differ
+-- the labels' keys differ
 abbrev pub differ : Label → Label → Bool
 differ a b = not (same_text a.key b.key)
 
--- the flags are the same where the labels are
+-- the flags are the same where the keys are
 abbrev pub agree : Label → Label → Bool
 agree a b = implies (same_text a.key b.key) (same_bool a.flag b.flag)
 
