@@ -8,9 +8,11 @@ use Rattle.mk_base.specs.Trees.{text_in, items_in, members_in, is_datum, is_in_r
 abbrev pub is_such : {X : Type 0} → (X → Bool) → Option X → Bool
 is_such {X} test o = unwrap_or (option_map test o) false
 
+-- each of these trees is a text
 abbrev pub are_texts : List Json → Bool
 are_texts trees = list_all (λ t. is_some (text_in t)) trees
 
+-- a list of texts
 abbrev pub is_texts : Json → Bool
 is_texts tree = is_such are_texts (items_in tree)
 
@@ -18,7 +20,7 @@ is_texts tree = is_such are_texts (items_in tree)
 abbrev pub each_passes : (Json → Bool) → List (List ℕ × Json) → Bool
 each_passes test ms = list_all (λ (m : List ℕ × Json). test m.1) ms
 
--- an object of such values
+-- an object whose members pass
 abbrev pub is_object_of : (Json → Bool) → Json → Bool
 is_object_of test tree = is_such (each_passes test) (members_in tree)
 
@@ -26,8 +28,10 @@ is_object_of test tree = is_such (each_passes test) (members_in tree)
 abbrev pub is_value : Json → Bool
 is_value tree = is_datum tree && is_in_range tree
 
+-- an object of values
 abbrev pub is_values : Json → Bool
 is_values = is_object_of is_datum
 
+-- an object of objects of values
 abbrev pub is_destinations : Json → Bool
 is_destinations = is_object_of is_values

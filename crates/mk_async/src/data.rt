@@ -21,9 +21,10 @@ use mk_plan::Plan;
 use mk_plan_names::Names;
 use std::alloc::Global;
 
-/// The content of the answer to a `get_data` that was judged, asked in a step at `at`: under each entity's full id an object of
-/// the wanted attributes, each with the value that was made last up to `at`. An attribute without a value is left out. What it
-/// costs doesn't grow with the plan, but with the request and the values.
+/// The content of the answer to a `get_data` that was judged, asked in a step at `at`: under each entity's full id an
+/// object of the wanted attributes, each with the value that was made last up to `at`. An attribute without a value is
+/// left out. What it costs grows with the request, with the values, and with the attributes that connections take from
+/// the entities that it names. Fails for want of memory alone.
 pub fn data_content(
     alloc: Global,
     plan: &Plan,

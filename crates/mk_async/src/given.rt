@@ -14,8 +14,9 @@ use mk_plan::{Plan, SetValue};
 use mk_plan_names::Names;
 use std::alloc::Global;
 
-/// The values that a request sets, in byte order of source, destination and attribute; none but of `set_data`. Where the
-/// request was judged, each is set under the full id of an entity of the asking simulator.
+/// The values that a request sets, in byte order of source, destination and attribute; none but of `set_data`. Where
+/// the request was judged, each is set under the full id of an entity of the asking simulator. Fails for want of memory
+/// alone.
 pub fn given_values(
     alloc: Global,
     plan: &Plan,
@@ -153,8 +154,7 @@ fn put_values(
     Ok(())
 }
 
-// The entity of that full id. There is one where the request was judged; else entity 0, which nothing
-// asks for.
+// The entity of that full id. There is one where the request was judged; where there is none, entity 0.
 fn place_of(plan: &Plan, names: &Names, id: &Text) -> u32
     requires { AreNamesOf plan.now names.now }
     ensures { result ≡ unwrap_or (entity_of plan.now id.now) 0 }

@@ -26,10 +26,11 @@ const UNKNOWN_NAME: u8 = 3;
 
 const NO_PAIR: u8 = 4;
 
-/// What a simulator asks for by a request in its step (mosaik 3, low-level API), or the number of the first of four tests
-/// that the request fails: 1, there is no such function; 2, its arguments haven't the form of the function; 3, an entity or
-/// an attribute isn't known; 4, an asynchronous connection isn't there. What it costs doesn't grow with the plan, but with
-/// the request and the attributes of the models that it names. Takes no memory.
+/// What a simulator asks for by a request in its step (mosaik 3, low-level API), or the number of the first of four
+/// tests that the request fails: 1, there is no such function; 2, its arguments haven't the form of the function; 3, an
+/// entity isn't there, an attribute isn't one that a connection takes (`get_data`) or that its entity may be given
+/// (`set_data`), or a source isn't the simulator's own; 4, an asynchronous connection isn't there. What it costs
+/// doesn't grow with the plan, but with the request and the attributes of the models that it names. Takes no memory.
 pub fn judge<'a>(
     plan: &Plan,
     names: &Names,

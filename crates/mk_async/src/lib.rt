@@ -1,4 +1,5 @@
-//! The asynchronous requests of a step: why one is refused, or what it asks for, the values that it sets, and the content of its answer.
+//! The asynchronous requests of a step: why one is refused, or what it asks for, the values that it sets, and the
+//! content of its answer.
 #![tactic(auto)]
 
 mod data;

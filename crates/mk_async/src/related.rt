@@ -18,8 +18,8 @@ use mk_plan_names::Names;
 use std::alloc::Global;
 
 /// The content of the answer to a request that was judged, where it needs no output: `null` for `set_data`; for
-/// `get_related_entities` an object of related entities with their models, and of a list one such object for each. `None`
-/// exactly for `get_data`.
+/// `get_related_entities` an object of related entities with their models, and of a list an object of one such object
+/// under each full id. `None` exactly for `get_data`.
 pub fn plain_content(
     alloc: Global,
     plan: &Plan,
@@ -152,7 +152,7 @@ fn put_type(alloc: Global, plan: &Plan, members: &mut Members<Json>, entity: u32
     members.put(name, Json::Text(model))
 }
 
-// The name of the model of an entity.
+// The name of the model of an entity; nothing where it has none.
 fn model_name(alloc: Global, plan: &Plan, entity: u32) -> Result<Text, Mem>
     ensures { IfOk result (λ name. name ≡ model_name plan.now entity) }
 {

@@ -25,8 +25,8 @@ sources (c ∷ cs) = if list_any (same_source c) cs then sources cs else c ∷ s
 abbrev pub comes_late : Plan → Tier → Tier → Conn → Bool
 comes_late P mark x c = not (up_to (delayed x c.via) mark) && int_lt (delayed x c.via).time P.until
 
--- the making of an output of the attribute, or its delivery over some connection, is later than the
--- mark
+-- the making of an output of the attribute, or its delivery before the run's end by a connection that
+-- takes it, is later than the mark
 abbrev pub is_late : Plan → Tier → ℕ → List ℕ → Tier → Bool
 is_late P mark e attr x = not (up_to x mark)
     || list_any (λ c. (c.from == e) && same_text c.from_attr attr && comes_late P mark x c) P.conns

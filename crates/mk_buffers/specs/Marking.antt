@@ -6,6 +6,7 @@ use Rattle.mk_plan.specs.Plans.{owner}
 use Rattle.mk_base.specs.declared.tier.Tier.{Tier}
 use Rattle.mk_base.specs.Tiers.{IsUpTo, up_to}
 
+-- each simulator's mark and whether it asks, and the least mark of those that ask
 pub record Marked : Type 0 where
   pub marks : List Tier
   pub asks : List Bool

@@ -20,11 +20,12 @@ input_in i v = record { eid = i.eid; attr = i.attr; source = i.source; value = v
 abbrev pub same_key : Input → Input → Bool
 same_key k n = is_eq (input_order k n)
 
--- the last of these, if there is one
+-- the first, if it is there, else the second
 abbrev pub or_before : Option Timed → Timed → Option Timed
 or_before None t = Some t
 or_before (Some u) t = Some u
 
+-- the last of these, if there is one
 abbrev pub last_of : List Timed → Option Timed
 last_of [] = None
 last_of (t ∷ ts) = or_before (last_of ts) t
@@ -48,6 +49,6 @@ abbrev pub SameLast : Tier → List Timed → List Timed → Type 0
 SameLast m ks hs = (p : Option Tier) (x : Tier) → IsUpTo m x
     → last_within p x ks ≡ last_within p x hs
 
--- slots answer as what these set values give a simulator
+-- under each key slots answer, at or after the mark, as what these set values give a simulator
 abbrev pub AnswerGifts : Plan → ℕ → Tier → List Slot → List Gift → Type 0
 AnswerGifts P s m slots all = (k : Input) → SameLast m (held_for k slots) (given_for P s k all)

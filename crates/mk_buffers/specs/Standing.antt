@@ -156,8 +156,8 @@ pub record IsLookedAt (b : Buffers) (i : ℕ) (o : Outlet) : Type 0 where
   pub end : i < part.end
   pub noted : o.sim < length b.next_marks.items
 
--- the outlets of the first n simulators hold few outputs that have nothing later than the mark, and
--- all hold few from the mark on until they are looked at again
+-- the outlets of the first n simulators hold few outputs that have nothing later than the mark; all
+-- hold few from the mark on until they are looked at again, each with those of its simulator
 pub record IsSwept (mark : Tier) (n : ℕ) (b : Buffers) : Type 0 where
   pub few : (i : ℕ) (o : Outlet) → slice_get b.outlets.items i ≡ Some o → o.sim < n
       → IsFew o.vias.items b.until mark o.log
@@ -189,7 +189,8 @@ pub record IsOfPlan (P : Plan) (b : Buffers) : Type 0 where
   pub tight : IsTight b
 
 -- what the buffers keep is among this supply, and they answer as it, at every question for a value
--- from the least mark on, and at every question for the inputs of a simulator from its mark on
+-- from the least mark on, and at every question for the inputs of a simulator from its mark on; the
+-- supply's values are texts of values
 pub record StandFor (P : Plan) (b : Buffers) (S : Supply) : Type 0 where
   pub of_plan : IsOfPlan P b
   pub texts : HasValueTexts S
@@ -220,10 +221,11 @@ last_for b i x = option_and_then
 abbrev pub value_for : Buffers → Inlet → Option Tier → Tier → Option (List ℕ)
 value_for b i p x = chosen_for i p x (last_for b i x)
 
+-- the input of that value, if there is one
 abbrev pub given : Buffers → Inlet → Option Tier → Tier → List Input
 given b i p x = option_to_list (option_map (input_of i) (value_for b i p x))
 
--- the tables are those of the plan, and nothing has come
+-- the tables are those of the plan, nothing has come, and each mark is at the start
 pub record IsNew (P : Plan) (b : Buffers) : Type 0 where
   pub of_plan : IsOfPlan P b
   pub unset : IsUnset b

@@ -48,7 +48,7 @@ pub struct Buffers {
 impl Buffers {
     ghost use Rattle.mk_buffers.specs.Standing.{HasKey, LacksKey, StandFor, least_mark, outputs_held, IsNew, IsOfPlan, IsOutletFor};
 
-    /// Buffers of a plan before anything was added.
+    /// Buffers of a plan before anything was added. Fails for want of memory alone.
     pub fn new(alloc: Global, plan: &Plan) -> Result<Buffers, Mem>
         requires { IsValidPlan plan.now }
         ensures { IfOk result (λ b. IsNew plan.now b) }
@@ -117,7 +117,8 @@ impl Buffers {
         }
     }
 
-    /// The outlet of an entity's attribute, if a connection takes it; takes no memory.
+    /// The outlet of an entity's attribute; `None` exactly where the entity has none of that attribute. Takes no
+    /// memory.
     pub fn outlet(&self, entity: u32, attr: &Text) -> Option<usize>
         ensures found { IfSome result (λ i. HasKey self.now entity attr.now i) }
         ensures none { IfNone result (LacksKey self.now entity attr.now) }
@@ -129,8 +130,8 @@ impl Buffers {
     }
 
     /// How many outputs are held; takes no memory. They are at most as many as there are connections, distinct source
-    /// attributes, and late outputs of all that were added: outputs whose making, or whose delivery over some connection, is
-    /// later than the least mark.
+    /// attributes, and late outputs of all that were added: outputs whose making, or whose delivery over some
+    /// connection before the run's end, is later than the least mark.
     pub fn kept(&self) -> usize
         ensures count { result ≡ min (outputs_held self.now) 18446744073709551615 }
         ensures few { (P : Plan) (S : Supply) → StandFor P self.now S

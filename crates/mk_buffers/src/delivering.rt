@@ -14,7 +14,8 @@ impl Buffers {
     ghost use Rattle.mk_buffers.specs.Standing.{HasKey, StandFor, HasSameMarks, IsUnchanged};
     ghost use Rattle.mk_buffers.specs.inner.Standing.{Delivers, IsNoted, HasNoted};
 
-    /// Adds an output of an entity's attribute that some connection takes, made at `at`: the text of a value.
+    /// Adds an output of an entity's attribute that some connection takes, made at `at`: the text of a value. At want
+    /// of memory nothing changes.
     pub fn deliver(&mut self, entity: u32, attr: &Text, at: Tier, value: Datum) -> Result<(), Mem>
         requires early { pos 0 ≤ℤ at.time }
         requires late { at.time ≤ℤ pos 1000000000000000000 }
@@ -32,7 +33,8 @@ impl Buffers {
         }
     }
 
-    /// Adds an output of the attribute whose outlet this is, made at `at`: the text of a value.
+    /// Adds an output of the attribute whose outlet this is, made at `at`: the text of a value. At want of memory
+    /// nothing changes.
     pub fn deliver_to(&mut self, outlet: usize, at: Tier, value: Datum) -> Result<(), Mem>
         requires early { pos 0 ≤ℤ at.time }
         requires late { at.time ≤ℤ pos 1000000000000000000 }
@@ -68,7 +70,7 @@ impl Buffers {
         Ok(())
     }
 
-    // Notes when something of the outlet may be given up.
+    // Notes when the outlet has to be looked at again.
     fn note(&mut self, outlet: usize)
         requires { outlet < length self.old.outlets.items }
         ensures same { IsNoted self.old self.new }

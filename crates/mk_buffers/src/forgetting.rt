@@ -14,7 +14,7 @@ impl Buffers {
     ghost use Rattle.mk_buffers.specs.Standing.{StandFor, HasRaised, IsSwept, next_of};
     ghost use Rattle.mk_buffers.specs.inner.Standing.{IsNoted, HasThinned, IsPartSwept, IsSweptAt, IsLookedAgain};
 
-    /// Tells that `sim` will ask nothing before `at`; takes no memory.
+    /// Tells that `sim` will ask nothing before `at`: its mark becomes the greater of it and `at`. Takes no memory.
     pub fn forget_before(&mut self, sim: SimNo, at: Tier)
         ensures stands { (P : Plan) (S : Supply) → StandFor P self.old S → StandFor P self.new S }
         ensures marks { (P : Plan) (S : Supply) → StandFor P self.old S → sim.0 < length P.sims
@@ -52,7 +52,7 @@ impl Buffers {
         }
     }
 
-    // Gives up what these outlets needn't keep, and finds the least mark at which something more may be given up.
+    // Gives up what these outlets needn't keep, and finds the mark at which they have to be looked at again.
     fn forget_part(&mut self, part: Part, mark: Tier) -> Option<Tier>
         ensures thinned { HasThinned mark self.old self.new }
         ensures marks { self.new.next_marks ≡ self.old.next_marks }
@@ -66,7 +66,7 @@ impl Buffers {
         next_mark
     }
 
-    // Gives up what the outlet at the place needn't keep, and finds the least mark at which it may give up more.
+    // Gives up what the outlet at the place needn't keep, and finds the mark at which it has to be looked at again.
     fn forget_at(&mut self, place: usize, mark: Tier) -> Option<Tier>
         ensures thinned { HasThinned mark self.old self.new }
         ensures swept { IsSweptAt mark place result self.old self.new }
@@ -108,7 +108,7 @@ fn is_due(next: Option<Tier>, mark: Tier) -> bool
     }
 }
 
-// The lesser of two times, of which one may be missing.
+// The lesser of two times, of which both may be missing.
 pub fn least_of(first: Option<Tier>, second: Option<Tier>) -> Option<Tier>
     ensures first { (m : Tier) → is_due result m ≡ false → is_due first m ≡ false }
     ensures second { (m : Tier) → is_due result m ≡ false → is_due second m ≡ false }

@@ -21,7 +21,8 @@ impl Buffers {
     ghost use Rattle.mk_buffers.specs.Standing.{StandFor, IsSourced, HasSameMarks, IsUnchanged};
     ghost use Rattle.mk_buffers.specs.inner.Standing.{HasSet, TargetOf};
 
-    /// Adds a set value that is delivered at `at`: the text of a value, under the full id of an entity.
+    /// Adds a set value that is delivered at `at`: the text of a value, under the full id of an entity. At want of
+    /// memory nothing changes.
     pub fn give(&mut self, at: Tier, set: SetValue) -> Result<(), Mem>
         ensures ok { (P : Plan) (S : Supply) (e : ℕ) → StandFor P self.old S → IsSourced P e set
             → OnOk result (StandFor P self.new (with_gift S e (record { at = at; given = set }))) }
@@ -56,7 +57,7 @@ impl Buffers {
         Ok(())
     }
 
-    // The simulator of an entity, and the entity's name there.
+    // The simulator of an entity, and the entity's name there; `None` where there is no such entity.
     fn target_of(&self, entity: u32) -> Result<Option<Target>, Mem>
         ensures tables { IfOk result (λ o. ForSome o (λ t. (t.sim < length self.now.sets.items)
             × (t.sim < length self.now.marks.marks))) }

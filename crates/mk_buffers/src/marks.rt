@@ -136,7 +136,7 @@ fn starts(alloc: Global, count: usize) -> Result<Vec<Tier>, Mem>
     Ok(marks)
 }
 
-// The last of the simulators that ask whose mark is the least.
+// A simulator that asks and whose mark is the least of those of all that ask; `None` where none asks.
 fn least_asking(marks: &[Tier], asks: &[bool]) -> Option<usize>
     requires { length marks.now ≡ length asks.now }
     ensures { IsBest marks.now asks.now (length marks.now) result }

@@ -48,7 +48,8 @@ impl Outlet {
         Ok(())
     }
 
-    // Gives up what no question at or after the mark can reach, and finds the least mark at which it may give up more.
+    // Gives up what no question at or after the mark can reach, and finds the mark at which it has to be looked at
+    // again.
     pub fn give_up(&mut self, until: &i64, mark: Tier) -> Option<Tier>
         ensures thinned { IsThinned until.now mark self.old self.new }
         ensures few { IsFew self.new.vias.items until.now mark self.new.log }
@@ -58,7 +59,7 @@ impl Outlet {
         self.next_mark(until, mark)
     }
 
-    // The least mark at which something more may be given up, if there is one.
+    // The mark at which it has to be looked at again, if there is one.
     pub fn next_mark(&self, until: &i64, mark: Tier) -> Option<Tier>
         ensures { IsFew self.now.vias.items until.now mark self.now.log
             → StaysFew self.now.vias.items until.now mark result self.now.log }
@@ -67,7 +68,7 @@ impl Outlet {
     }
 }
 
-// Where the outlets of a simulator or an entity stand among all, and the least mark at which something of them may be given up.
+// Where the outlets of a simulator or an entity stand among all: from the first on, before the end.
 #[derive(Clone, Copy)]
 pub struct Part {
     pub first: usize,
@@ -85,7 +86,8 @@ pub struct Source<'a> {
     place: usize,
 }
 
-// The outlets of a plan by simulator, eid and attribute, and for each connection the place of its outlet.
+// The outlets of a plan by simulator, eid and attribute, for each connection the place of its outlet, and where those
+// of each simulator and of each entity stand.
 #[derive(Drop)]
 pub struct Outlets {
     pub all: Vec<Outlet>,
@@ -94,6 +96,7 @@ pub struct Outlets {
     pub of_entity: Vec<Part>,
 }
 
+// The outlets of a plan.
 pub fn outlets_of(alloc: Global, plan: &Plan) -> Result<Outlets, Mem>
     requires references { RefersInside plan.now }
     requires names { HasDistinctNames plan.now }

@@ -20,7 +20,8 @@ impl Buffers {
     ghost use Rattle.mk_buffers.specs.Standing.{StandFor, mark_of, least_mark, given, value_for, last_for};
     ghost use Rattle.mk_buffers.specs.inner.Standing.{HasGathered, IsAfterStart};
 
-    /// The inputs of a step of `sim` at `at`, where its step before was at `previous`: sorted by eid, attribute and source.
+    /// The inputs of a step of `sim` at `at`, at or after its mark, where its step before was at `previous`: sorted by
+    /// eid, attribute and source. Fails for want of memory alone.
     pub fn inputs_at(
         &self,
         sim: SimNo,
@@ -71,7 +72,8 @@ impl Buffers {
         Ok(())
     }
 
-    /// The value of an entity's attribute that was made last up to `at`; takes no memory.
+    /// The value of an entity's attribute, which some connection takes, that was made last up to `at`, a time at or
+    /// after the least mark; `None` exactly where none was made. Takes no memory.
     pub fn value_at(&self, entity: u32, attr: &Text, at: Tier) -> Option<&Datum>
         ensures value { (P : Plan) (S : Supply) → StandFor P self.now S
             → gives_attr P entity attr.now ≡ true → IsUpTo (least_mark self.now) at

@@ -47,7 +47,8 @@ impl Delay {
     }
 }
 
-/// What is made at a time is delivered by a connection's delay up to `at`, and before the run's end.
+/// What is made at a time is delivered by a connection's delay up to `at`, and before the run's end, where there is
+/// one.
 pub fn is_delivered(made: Tier, via: Delay, until: Option<i64>, at: Tier) -> bool
     requires early { pos 0 ≤ℤ made.time }
     requires late { made.time ≤ℤ pos 1000000000000000000 }
@@ -68,7 +69,7 @@ fn is_in_time(arrival: Tier, until: Option<i64>) -> bool
     }
 }
 
-/// The time comes after the previous step, if there was one.
+/// The time comes after the previous step, or there was none.
 pub fn is_since(previous: Option<Tier>, arrival: Tier) -> bool
     ensures { result ≡ is_since previous arrival }
 {
@@ -158,8 +159,8 @@ fn comes_by_or_never(made: Tier, via: Delay, until: i64, mark: Tier) -> bool
     arrival.is_up_to(mark) || until <= arrival.time
 }
 
-/// From the mark on, what is made second answers every question that what is made first could: by each of these delays the
-/// second has come, or the first never comes before the run's end.
+/// At the mark what is made second has come, and by each of these delays it has come before the run's end too, or the
+/// first never comes before that end.
 pub fn is_overtaken(first: Tier, second: Tier, vias: &[Delay], until: i64, mark: Tier) -> bool
     requires early { pos 0 ≤ℤ first.time }
     requires late { first.time ≤ℤ pos 1000000000000000000 }
@@ -266,7 +267,8 @@ fn comes_in_time(made: Tier, via: Delay, until: i64) -> bool
     made.after(via.via()).time < until
 }
 
-/// The least time by which what is made at a time has come, on its own and by each of these delays.
+/// A time that is no later than any mark by which what is made at a time has come, on its own and by each of these
+/// delays.
 pub fn arrived(made: Tier, vias: &[Delay]) -> Tier
     requires early { pos 0 ≤ℤ made.time }
     requires late { made.time ≤ℤ pos 1000000000000000000 }
@@ -280,7 +282,7 @@ pub fn arrived(made: Tier, vias: &[Delay]) -> Tier
     last
 }
 
-// The later of two times.
+// The later of two times: it is up to every time up to which both are.
 fn later_of(first: Tier, second: Tier) -> Tier
     ensures { (m : Tier) → IsUpTo first m → IsUpTo second m → IsUpTo result m }
 {

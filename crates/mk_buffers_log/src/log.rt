@@ -1,4 +1,5 @@
-//! The outputs of one entity and attribute: the search for the one that counts, and the giving up of those that no question can reach.
+//! The outputs of one entity and attribute: the search for the one that counts, and the giving up of those that no
+//! question can reach.
 ghost use Rattle.std.specs.Prelude.{◌≡◌, ◌+◌, ◌<◌, ◌≤◌, true, false, [], ◌∷◌, ◌++◌, length, get_or, option_map, Some, OnOk, OnErr, pos, ◌≤ℤ◌};
 ghost use Rattle.std.specs.List.{insert, remove};
 ghost use Rattle.std.specs.List.Sorted.{IsPartitionPoint};
@@ -56,7 +57,8 @@ impl Log {
         self.entries.len()
     }
 
-    /// Takes one more output, which came after all others.
+    /// Takes one more output, which came after all others: questions are answered as with it at the end. At want of
+    /// memory the outputs are as before.
     pub fn push(&mut self, new: Made) -> Result<(), Mem>
         ensures ok { OnOk result (Takes new self.old self.new) }
         ensures among { OnOk result (IsAmong self.new (self.old ++ new ∷ [])) }
@@ -71,7 +73,8 @@ impl Log {
         }
     }
 
-    /// The one that is delivered last up to `at`, of equal ones the one that came last.
+    /// The one that is delivered last up to `at` by this delay, and before the run's end `until`, where there is one;
+    /// of equal ones the one that came last. `None` exactly where none is.
     pub fn latest(&self, via: Delay, until: Option<i64>, at: Tier) -> Option<&Made>
         ensures { option_map (λ m. arrival via m.now) result
             ≡ latest (by at (arrivals via until self.now)) }
@@ -83,14 +86,15 @@ impl Log {
         }
     }
 
-    /// The one that was made last up to `at`, of equal ones the one that came last.
+    /// The one that was made last up to `at`, of equal ones the one that came last; `None` exactly where none was.
     pub fn latest_made(&self, at: Tier) -> Option<&Made>
         ensures { option_map (λ m. m.now) result ≡ latest (by at self.now) }
     {
         self.latest(Delay::of(Via::Plain), None, at)
     }
 
-    /// Gives up what is overtaken for every question at or after the mark.
+    /// Gives up outputs that no question at or after the mark needs: each is answered as before, by the making and by
+    /// these delays, and few are left that have nothing later than the mark (`IsFew`).
     pub fn forget(&mut self, vias: &[Delay], until: &i64, mark: Tier)
         ensures answers { AnswersFrom vias.now until.now mark self.new self.old }
         ensures among { IsAmong self.new self.old }
@@ -104,7 +108,8 @@ impl Log {
         }
     }
 
-    /// The least mark at which something more may be given up, if there is one.
+    /// The mark at which outputs have to be looked at again: where few have nothing later than `mark`, few have from
+    /// there on up to the mark before that one. `None` where they stay few.
     pub fn next_mark(&self, vias: &[Delay], until: &i64, mark: Tier) -> Option<Tier>
         ensures { IsFew vias.now until.now mark self.now
             → StaysFew vias.now until.now mark result self.now }
@@ -188,6 +193,7 @@ fn made_by(entries: &VecDeque<Made>, at: Tier) -> usize
     }
 }
 
+// Of rising entries the one that is delivered last up to `at`, of equal ones the one that came last.
 fn latest_rising(
     entries: &VecDeque<Made>,
     via: Delay,
@@ -258,6 +264,7 @@ fn passing_from_end(entries: &VecDeque<Made>, via: Delay, until: Option<i64>, at
     }
 }
 
+// Of entries in any order the one that is delivered last up to `at`, of equal ones the one that came last.
 fn latest_of_all(
     entries: &VecDeque<Made>,
     via: Delay,
@@ -361,7 +368,7 @@ fn goes_on(entries: &VecDeque<Made>, place: usize, vias: &[Delay], until: &i64, 
     }
 }
 
-// The least mark at which something more of rising entries may be given up, if there is one.
+// The mark at which rising entries have to be looked at again, if there is one.
 fn next_rising(entries: &VecDeque<Made>, vias: &[Delay], until: &i64, mark: Tier) -> Option<Tier>
     requires { IsAscending entries.now.items }
     ensures { IsFew vias.now until.now mark entries.now.items

@@ -24,7 +24,7 @@ impl Model for Made {
 }
 
 impl Made {
-    /// An output that was made at this time, which is within the limits.
+    /// An output that was made at this time, which is from 0 to 10^18, with a tier of at most 1,000,000.
     pub fn new(at: Tier, value: Datum) -> Made
         requires early { pos 0 ≤ℤ at.time }
         requires late { at.time ≤ℤ pos 1000000000000000000 }

@@ -165,7 +165,7 @@ pub record IsUnanswered (old : CoreState) (sim : SimNo) (message : Message) (fau
   pub full : length (with_message old sim message) ≡ old.plan.entries
   pub ended : new ≡ moved old (with_message old sim message) (Some (Faulty fault))
 
--- what an answer to `arrive` means
+-- what an answer to `take` and to `arrive` means
 abbrev pub ArriveOf : CoreState → SimNo → Message → Taken → CoreState → Type 0
 ArriveOf old sim message taken.Quiet new = IsQuiet old sim message new
 ArriveOf old sim message taken.Send new = IsAnswered old sim message new

@@ -28,7 +28,7 @@ pub record IsMarked (P : Plan) (V : View) (s : ℕ) (m : Tier) : Type 0 where
       → IsUpTo (moment P.until) m
 
 -- so many outputs are held, by buffers that stand for additions whose outputs are those of the acts
--- in order, and in which each simulator has its mark
+-- in order, and in which each simulator has its mark; they are at most `most_kept` at the least mark
 pub record IsHeld (P : Plan) (J : List Entry) (n : ℕ) : Type 0 where
   pub buffers : Buffers
   pub added : Supply

@@ -53,7 +53,7 @@ impl Model for Core {
 }
 
 impl Core {
-    /// The core of a run that has not begun.
+    /// The core of a run that has not begun. Fails for want of memory alone.
     pub fn new(alloc: Global, plan: Plan) -> Result<Core, Mem>
         requires { IsValidPlan plan }
         ensures { IfOk result (λ core. core ≡ record { plan = plan; entries = []; ended = None }) }
@@ -73,7 +73,8 @@ impl Core {
     }
 
     /// What is to be done next. Where a simulator is ready, and the journal has room, the first such one is asked: the
-    /// journal then ends with its Step. After a fault it is that fault, and nothing changes; after want of memory it is want of memory.
+    /// journal then ends with its Step; where it has no room, that is the fault. After a fault it is that fault, and
+    /// nothing changes; at want of memory the journal is as before, and after it it is want of memory.
     pub fn next(&mut self) -> Result<Next, Mem>
         ensures ok { IfOk result (λ next. NextOf self.old next self.new) }
         ensures err { IfErr result (λ _. IsOutOfMemory self.old self.new) }
@@ -111,8 +112,10 @@ impl Core {
         }
     }
 
-    /// Takes a message of a simulator: the journal gets it, and what is owed after it, which is then to be sent to that simulator. After a
-    /// fault it is that fault, and nothing changes; after want of memory it is want of memory.
+    /// Takes a message of a simulator: the journal gets it, and what is owed after it, which is then to be sent to that
+    /// simulator. Where there is no room for the message, or for what is owed after it, the journal doesn't get that,
+    /// which is the fault. After a fault it is that fault, and nothing changes; at want of memory the journal is as
+    /// before, and after it it is want of memory.
     pub fn take(&mut self, sim: SimNo, message: Message) -> Result<Taken, Mem>
         requires there { sim.0 < sim_count self.old.plan }
         requires form { is_message_in_range message ≡ true }
@@ -163,8 +166,9 @@ impl Core {
     /// than `m`, which is any time before which there is neither the run's end, nor an outstanding step, nor a step that may
     /// still come.
     ///
-    /// They are then also held so (`IsHeld`): by buffers that stand for the outputs of the acts, in which each simulator's mark is the
-    /// earliest time at which it may still step; so they are few at the least of these marks.
+    /// They are then also held so (`IsHeld`): by buffers that stand for the outputs of the acts, in which each
+    /// simulator's mark is the earliest time at which it may still step, or is at or after the run's end where that
+    /// time isn't before it or there is none; so they are few at the least of these marks.
     pub fn kept(&self) -> usize
         ensures held { self.now.ended ≡ None → (SomeReady self.now.plan self.now.entries → ⊥)
             → IsHeld self.now.plan self.now.entries result }

@@ -3,9 +3,10 @@ use mk_base::SimNo;
 
 /// Why a run cannot go on.
 ///
-/// `Wrong` is a wrong message, by the place among its simulator's messages, counted from 0, and the number of its cause.
-/// `Failed` is a failure reply. `LoopLimit` is a trigger beyond the limit of a same-time loop. `TooLong` says that the
-/// journal holds as many entries as the plan allows, and that one more is needed.
+/// `Wrong` is a wrong message, by its place among its simulator's messages, counted from 0, and the number of its cause
+/// (`docs/rules.md`). `Failed` is a failure reply, by its place likewise. `LoopLimit` is a trigger beyond the limit of
+/// a same-time loop: the simulator that it triggers, and the time, in the unit of the scenario. `TooLong` says that the
+/// journal holds as many entries as the plan allows, that is `entries`, and that one more is needed.
 #[derive(Clone, Copy, Debug, PartialEq, Eq)]
 pub enum CoreFault {
     Wrong { sim: SimNo, place: u64, cause: u8 },

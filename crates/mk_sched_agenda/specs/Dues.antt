@@ -1,5 +1,5 @@
--- What an agenda keeps: the steps to come of each simulator, its last step, whose turn is open, the
--- bounds of their starts; and what holds of it at any time.
+-- What an agenda keeps of each simulator, its steps to come and its last step; and the limits of a
+-- run.
 use Rattle.std.specs.Prelude.{ℕ, List, [], Option, None, unwrap_or, slice_get}
 use Rattle.mk_base.specs.declared.tier.Tier.{Tier}
 use Rattle.mk_plan.specs.declared.Plan.{Plan}

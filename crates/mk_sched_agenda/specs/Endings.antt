@@ -21,8 +21,9 @@ use Rattle.mk_sched_agenda.specs.Mirrors.{AgendaState, Mirrors}
 abbrev pub given_by : Plan → ℕ → Act → List Bool
 given_by P s f = map (λ c. is_some (output P f c.from c.from_attr)) (triggering_from P s)
 
--- the message is right, and the last of the turn T of s, whose outputs are made then and go to the
--- given ones of its triggering connections, and which returned this next time
+-- the message may come next in the orderly journal J of a valid plan; it is right, and the last of
+-- the turn T of s, whose outputs are made at x and go to the flagged ones of its triggering
+-- connections, and which returned the next time n
 pub record IsLast (P : Plan) (J : List Entry) (s : SimNo) (T : OpenTurn) (m : Message) (x : Tier)
     (n : Option ℤ) (flags : List Bool) : Type 0 where
   pub valid : IsValidPlan P
@@ -35,7 +36,7 @@ pub record IsLast (P : Plan) (J : List Entry) (s : SimNo) (T : OpenTurn) (m : Me
   pub next : n ≡ next_time (ended_turn T m)
   pub given : flags ≡ given_by P s.0 (ended_turn T m)
 
--- an output may be made at this time
+-- an output may be made at this time: from 0 to 10^18, with a tier of at most 1,000,000
 pub record CanBeMade (x : Tier) : Type 0 where
   pub early : pos 0 ≤ℤ x.time
   pub late : x.time ≤ℤ pos 1000000000000000000

@@ -5,7 +5,7 @@ ghost use Rattle.mk_order.proofs.Tables.{sooner, advance_by};
 use crate::limits::Limits;
 use mk_base::Tier;
 
-// The sooner of a trigger and an outer bound.
+// The sooner time of a trigger and an outer bound; `None` where neither is there.
 pub fn sooner(trigger: Option<Tier>, outer: Option<i64>) -> Option<i64>
     ensures { result ≡ sooner trigger outer }
 {
@@ -16,7 +16,8 @@ pub fn sooner(trigger: Option<Tier>, outer: Option<i64>) -> Option<i64>
     }
 }
 
-// The last time before the sooner one, but within the run, and no earlier than the step.
+// The last time before the sooner one, but no earlier than the step, and no later than the run's end; that end where
+// there is no sooner one.
 pub fn advance_by(limits: &Limits, at: Tier, sooner: Option<i64>) -> i64
     ensures { result ≡ advance_by limits.now.until at.time sooner }
 {

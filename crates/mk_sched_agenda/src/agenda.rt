@@ -40,8 +40,8 @@ pub struct Ready {
 
 /// When each simulator of a plan is due, whose turn is open, and who may be asked next.
 ///
-/// Contracts see its parts; what these mean is that the agenda mirrors the view of a journal (`Mirrors`): each call says
-/// for which entry it keeps that.
+/// Contracts see its parts; what these mean is that the agenda mirrors the view of a journal (`Mirrors`): each call
+/// that changes it says for which entry it keeps that.
 #[derive(Drop)]
 pub struct Agenda {
     limits: Limits,
@@ -70,7 +70,7 @@ impl Model for Agenda {
 }
 
 impl Agenda {
-    /// The agenda of a run that has not begun.
+    /// The agenda of a run that has not begun. Fails for want of memory alone.
     pub fn new(alloc: Global, plan: &Plan) -> Result<Agenda, Mem>
         requires { IsValidPlan plan.now }
         ensures { IfOk result (λ agenda. Mirrors plan.now empty_view agenda) }
@@ -122,7 +122,8 @@ impl Agenda {
         self.dues.is_any_open()
     }
 
-    /// The `max_advance` of the step of a simulator at `at`, for which it may be asked now. Takes no memory.
+    /// The `max_advance` of the step at `at` for which a simulator may be asked, in the unit of the scenario: the time
+    /// up to which others won't trigger it (mosaik 3, low-level API). Takes no memory.
     pub fn max_advance(&mut self, sim: SimNo, at: Tier) -> i64
         requires { sim.0 < length self.old.queues }
         ensures same { self.new ≡ self.old }
@@ -136,8 +137,8 @@ impl Agenda {
         advance_by(&self.limits, at, sooner(trigger, outer))
     }
 
-    /// The least tiered time at which a simulator may still step, by what is due and what that may trigger; `None` exactly
-    /// where nothing can make it step any more.
+    /// The least tiered time at which a simulator may still step, by the starts of all and what these may trigger;
+    /// `None` exactly where there is no such time.
     pub fn earliest(&self, sim: SimNo) -> Option<Tier>
         requires { sim.0 < length self.now.queues }
         ensures earliest { (P : Plan) → (V : View) → IsValidPlan P → Mirrors P V self.now
@@ -149,8 +150,8 @@ impl Agenda {
         self.dues.bounds.earliest(sim)
     }
 
-    /// A simulator that may be asked for a step was sent it: its turn opens. Whoever may then step from another time on than
-    /// before is noted. Takes no memory.
+    /// A simulator that may be asked for a step was sent it: its turn opens. Whoever may then step from another time on
+    /// than before is noted. Takes no memory.
     pub fn step(&mut self, sim: SimNo, noted: &mut Bits)
         requires { sim.0 < length self.old.queues }
         ensures count { length self.new.queues ≡ length self.old.queues }
@@ -164,9 +165,9 @@ impl Agenda {
     }
 
     /// The last message of a simulator's turn came: its outputs are made at `made` and go to those of its triggering
-    /// connections that `given` marks, and it asked for the next time `next`. Answers the first trigger beyond the loop limit,
-    /// if there is one, and changes nothing then. Whoever may then step from another time on than before is noted. After want
-    /// of memory the agenda says nothing any more.
+    /// connections that `given` marks, and it asked for the next time `next`. Answers the first trigger beyond the loop
+    /// limit, if there is one, and changes nothing then; else `None`. Whoever may then step from another time on than
+    /// before is noted. After want of memory the agenda says nothing any more.
     pub fn end_turn(
         &mut self,
         sim: SimNo,

@@ -53,7 +53,8 @@ impl Dues {
         self.opened.is_any_open()
     }
 
-    // The simulator is asked for the first of its steps: its turn opens. Whoever may then step from another time on is noted.
+    // The simulator is asked for the first of its steps: its turn opens. Whoever may then step from another time on
+    // than before is noted.
     pub fn begin_turn(&mut self, sim: SimNo, noted: &mut Bits)
         requires sim { sim.0 < length self.old.queues.items }
         requires lasts { sim.0 < length self.old.lasts.items }

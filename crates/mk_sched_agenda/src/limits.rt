@@ -6,7 +6,7 @@ ghost use Rattle.mk_sched_agenda.specs.inner.Dues.{is_inside};
 use mk_base::Tier;
 use mk_plan::Plan;
 
-// The end of a run, and how many rounds its times may have.
+// The end of a run, in the unit of the scenario, and the highest tier that its steps may have.
 #[derive(Clone, Copy)]
 pub struct Limits {
     pub until: i64,

@@ -35,7 +35,7 @@ impl OpenTurns {
         }
     }
 
-    /// Adds a simulator whose turn isn't open.
+    /// Adds a simulator whose turn isn't open. At want of memory nothing changes.
     pub fn push(&mut self) -> Result<(), Mem>
         ensures ok { OnOk result (self.new ≡ self.old ++ false ∷ []) }
         ensures err { OnErr result (self.new ≡ self.old) }

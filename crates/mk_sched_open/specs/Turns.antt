@@ -20,11 +20,11 @@ pub record IsRight (P : Plan) (V : View) (s : ℕ) (m : Message) (T : OpenTurn)
   pub right : wrong P s T.place m ≡ None
   pub goes : next_place P s T.place m ≡ q
 
--- the next time that a message returns
+-- the whole number that a message's content is: of a reply to a Step the next time that it returns
 abbrev pub next_in : Message → Option ℤ
 next_in m = option_and_then whole_in (content_of m)
 
--- a tiered time within a run
+-- a tiered time within the limits of all plans
 pub record IsInRun (x : Tier) : Type 0 where
   pub early : pos 0 ≤ℤ x.time
   pub late : x.time ≤ℤ pos 1000000000

@@ -20,8 +20,8 @@ use mk_plan::{Place, Plan};
 use std::alloc::Global;
 use std::marker::Model;
 
-/// What is kept of a simulator: what is open at it, the next time that the reply to the open turn's Step returned, the id of
-/// its next request, and how many right messages came from it.
+/// What is kept of a simulator: what is open at it; where that is a GetData, the next time that the reply to the Step
+/// returned, in the unit of the scenario; the id of its next Step; and how many right messages came from it.
 #[derive(Clone, Copy)]
 pub struct Sim {
     pub place: Place,
@@ -33,7 +33,8 @@ pub struct Sim {
 /// What is open at each simulator of a run, the ids of its requests, and how many of its messages were right.
 ///
 /// Contracts see the list of what is kept of each; what it means is that these are the simulators of a journal's view
-/// (`AreSimsOf`): each call says for which entry it keeps that.
+/// (`AreSimsOf`): each call that changes them says for which entry it keeps that, in a journal of at most 20,000,000
+/// entries.
 #[derive(Drop)]
 pub struct Sims {
     kept: List<Sim>,
@@ -49,7 +50,7 @@ impl Model for Sims {
 }
 
 impl Sims {
-    /// The simulators of a run that has not begun.
+    /// The simulators of a run that has not begun. Fails for want of memory alone.
     pub fn new(alloc: Global, plan: &Plan) -> Result<Sims, Mem>
         requires { IsValidPlan plan.now }
         ensures { IfOk result (λ sims. AreSimsOf plan.now empty_view 0 sims) }
@@ -61,7 +62,7 @@ impl Sims {
         Ok(Sims { kept })
     }
 
-    /// What is open at a simulator.
+    /// What is open at a simulator: nothing, a Step or a GetData.
     pub fn place(&self, sim: SimNo) -> Place
         requires { sim.0 < length self.now }
         ensures place { (P : Plan) → (V : View) → (n : ℕ) → AreSimsOf P V n self.now
@@ -81,7 +82,8 @@ impl Sims {
         self.kept.at(sim.0 as usize).heard
     }
 
-    /// The next time that a simulator's open turn returned with the reply to its Step, where that reply came.
+    /// Where a GetData is open at a simulator, the next time that the reply to its Step returned; `None` where it
+    /// returned none.
     pub fn next(&self, sim: SimNo) -> Option<i64>
         requires { sim.0 < length self.now }
         ensures { (P : Plan) → (V : View) → (n : ℕ) → (T : OpenTurn) → (x : Tier) → (id : ℕ)
@@ -184,7 +186,7 @@ fn ended_sim(sim: &Sim) -> Sim
     }
 }
 
-// The id of what is open, or of the next request where nothing is.
+// The id of what is open, or of the next Step where nothing is.
 fn open_id(sim: &Sim) -> u64
     ensures { result ≡ open_id sim.now.place sim.now.next_id }
 {

@@ -30,9 +30,9 @@ impl Stock {
     ghost use Rattle.mk_sched_supply.specs.Asking.{IsStepOpen};
     ghost use Rattle.mk_sched_supply.specs.inner.Gifts.{HasGivenAll, HasGivenOf, IsAnswerBy, gifts_in, wants_data};
 
-    /// The item that answers a request in an open step of the simulator at `at`: its content, or the number of the first of
-    /// four tests that the request fails (mosaik 3, asynchronous requests). The values that an answered request sets are
-    /// given. After want of memory the stock says nothing any more.
+    /// The item that answers a request in an open step of the simulator at `at`: its content, or the number of the
+    /// first of four tests that the request fails (mosaik 3, asynchronous requests). The values that an answered
+    /// request sets are given, from the next time on. After want of memory the stock says nothing any more.
     pub fn answer(
         &mut self,
         plan: &Plan,
@@ -119,7 +119,7 @@ impl Stock {
         }
     }
 
-    // Gives the values that a step at `at` sets.
+    // Gives the values that a step at `at` sets: each is delivered at the next time.
     fn give_all(&mut self, at: Tier, sets: List<SetValue>) -> Result<(), Mem>
         requires early { pos 0 ≤ℤ at.time }
         requires late { at.time ≤ℤ pos 1000000000000000000 }

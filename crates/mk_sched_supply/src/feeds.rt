@@ -65,7 +65,7 @@ fn add_conn(plan: &Plan, feeds: &mut Vec<Feed>, place: usize, conn: &Conn) -> Re
     Ok(())
 }
 
-// The place of a want among these.
+// The place of a want among sorted ones, which have it.
 fn place_of(wants: &[Want], eid: &Text, attr: &Text) -> usize
     ensures { IsStrictlySortedBy want_order wants.now → IsIn (names_of eid.now attr.now) wants.now
         → slice_get wants.now result ≡ Some (names_of eid.now attr.now) }

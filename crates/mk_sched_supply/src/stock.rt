@@ -33,8 +33,8 @@ use std::alloc::Global;
 
 /// What has been delivered in a run of a plan, as far as its questions can still reach it, and the names of the plan.
 ///
-/// What it means is that it is the stock of the view of a journal (`IsStockOf`): each call says for which entry it keeps
-/// that.
+/// What it means is that it is the stock of the view of a journal (`IsStockOf`): each call that changes it says for
+/// which entry it keeps that.
 #[derive(Drop)]
 pub struct Stock {
     pub(crate) alloc: Global,
@@ -47,7 +47,7 @@ impl Stock {
     ghost use Rattle.mk_sched_supply.specs.Stock.{IsStockFor, IsStockOf, MayComeNext};
     ghost use Rattle.mk_sched_supply.specs.inner.Making.{HasSameRest, HasGiven};
 
-    /// The stock of a run that has not begun.
+    /// The stock of a run that has not begun. Fails for want of memory alone.
     pub fn new(alloc: Global, plan: &Plan) -> Result<Stock, Mem>
         requires { IsValidPlan plan.now }
         ensures { IfOk result (λ stock. IsStockOf plan.now empty_view stock) }
@@ -73,8 +73,8 @@ impl Stock {
         &self.feeds[sim.0 as usize].wants
     }
 
-    /// The inputs of the step at `at` for which the simulator may be asked now, where its step before was at `previous`: sorted
-    /// by eid, attribute and source.
+    /// The inputs of the step at `at` for which the simulator may be asked, where its step before was at `previous`:
+    /// sorted by eid, attribute and source. Fails for want of memory alone.
     pub fn inputs_at(
         &self,
         sim: SimNo,
@@ -90,9 +90,9 @@ impl Stock {
         Ok(inputs)
     }
 
-    /// What the data of a reply of the simulator give: a value for each want, and for each of its triggering connections in
-    /// plan order whether it is given one. Each value is read once, in the order of the wants; of data that are right each
-    /// is one that a simulator may give.
+    /// What the data of a reply of the simulator give: a value for each want, and for each of its triggering
+    /// connections in plan order whether it is given one. Each value is read once, in the order of the wants; of data
+    /// that are right each is one that a simulator may give. Fails for want of memory alone.
     pub fn outputs<'a>(&self, sim: SimNo, content: &'a Json) -> Result<Outputs<'a>, Mem>
         ensures outputs { (P : Plan) → IsStockFor P self.now → sim.0 < sim_count P
             → IfOk result (λ outs. AreOutputsIn P sim.0 content.now outs) }
@@ -154,7 +154,8 @@ impl Stock {
         Ok(())
     }
 
-    /// Tells that nothing is asked of the simulator before `at`; takes no memory.
+    /// Tells that the simulator can't step before `at`, so that it asks nothing before: its mark becomes the greater of
+    /// it and `at`. Takes no memory.
     pub fn forget_before(&mut self, sim: SimNo, at: Tier)
         ensures stock { (P : Plan) (V : View) → IsStockOf P V self.old → sim.0 < sim_count P
             → IsMarkOf P V sim.0 at → IsStockOf P V self.new }
@@ -165,8 +166,8 @@ impl Stock {
     }
 
     /// How many outputs are held; takes no memory. They are at most as many as there are connections, distinct source
-    /// attributes, and late outputs of the acts so far: outputs whose making, or whose delivery over some connection, is
-    /// later than the least mark.
+    /// attributes, and late outputs of the acts so far: outputs whose making, or whose delivery over some connection
+    /// before the run's end, is later than the least mark.
     pub fn kept(&self) -> usize
         ensures count { result ≡ min (outputs_held self.now.buffers) 18446744073709551615 }
         ensures few { (P : Plan) (V : View) → IsStockOf P V self.now

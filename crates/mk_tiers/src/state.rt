@@ -22,8 +22,8 @@ pub fn own_number(own: Option<Tier>) -> u64
     }
 }
 
-// Of each simulator its start, its label, whether it has a step outstanding, and at which arc a search from it begins, among those
-// that trigger it and among those that it waits for; and who is ready.
+// Of each simulator its start, its label, whether it has a step outstanding, and at which arc a search begins, among
+// those that trigger it and among those that it waits for; and who is ready.
 #[derive(Drop)]
 pub struct State {
     pub owns: Vec<u64>,

@@ -9,7 +9,7 @@ abbrev pub IsAskedRequest : Option Asked → Option Request → Type 0
 IsAskedRequest None request = request ≡ None
 IsAskedRequest (Some asked) request = (asked_in asked ≡ request) × IsSome request
 
--- a request that is there is in range
+-- where something is asked for, the whole numbers that it sets are in range
 abbrev pub HasRange : Option Asked → Type 0
 HasRange None = ⊤
 HasRange (Some asked) = is_asked_in_range asked ≡ true

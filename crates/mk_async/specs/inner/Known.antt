@@ -10,6 +10,7 @@ use Rattle.mk_async.specs.Forms.{is_such}
 use Rattle.mk_async.specs.declared.request.Asked.{Asked}
 use Rattle.mk_async.specs.declared.request.Asked.TheVariants as as_asked
 
+-- the members of an object
 abbrev pub Members : Type 0
 Members = List (List ℕ × Json)
 

@@ -19,6 +19,7 @@ gathered_by {A} key value done xs = fold
 abbrev pub type_tree : Plan → ℕ → tree.Json
 type_tree P e = tree.Object ((codes "type", tree.Text (model_name P e)) ∷ [])
 
+-- the descriptions of these entities, under their full ids
 abbrev pub described : Plan → List ℕ → Members
 described P es = gathered_by (full_id P) (type_tree P) [] es
 

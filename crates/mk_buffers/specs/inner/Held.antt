@@ -6,7 +6,7 @@ use Rattle.mk_buffers.specs.declared.outlets.Outlet.{Outlet}
 use Rattle.mk_buffers_log.specs.Logs.{AnswersFrom, IsAmong}
 use Rattle.mk_buffers.specs.Held.{has_key}
 
--- an outlet whose outputs answer as before, from the mark on
+-- an outlet whose outputs are some of those before, and answer as these, from the mark on
 pub record IsThinned (until : ℤ) (mark : Tier) (old new : Outlet) : Type 0 where
   pub sim : new.sim ≡ old.sim
   pub entity : new.entity ≡ old.entity
@@ -15,7 +15,7 @@ pub record IsThinned (until : ℤ) (mark : Tier) (old new : Outlet) : Type 0 whe
   pub answers : AnswersFrom old.vias.items until mark new.log old.log
   pub among : IsAmong new.log old.log
 
--- the same of each outlet
+-- the same of each two outlets at the same place
 abbrev pub AreThinned : ℤ → Tier → List Outlet → List Outlet → Type 0
 AreThinned until mark [] [] = ⊤
 AreThinned until mark [] (n ∷ ns) = ⊥
@@ -32,6 +32,7 @@ pub record HasTaken (until : ℤ) (mark : Tier) (t : Timed) (old new : Outlet) :
       → AnswersFrom old.vias.items until mark new.log (hs ++ t ∷ [])
   pub among : (hs : List Timed) → IsAmong old.log hs → IsAmong new.log (hs ++ t ∷ [])
 
+-- the outlet at the place is that of this attribute of the entity
 abbrev pub IsKeyAt : List Outlet → ℕ → List ℕ → ℕ → Type 0
 IsKeyAt outlets e attr i = has_key outlets e attr i ≡ true
 

@@ -17,6 +17,7 @@ slot_order a b = input_order (input_in a []) (input_in b [])
 abbrev pub set_input : Option Tier → Tier → Slot → Option Input
 set_input p x i = option_map (λ t. input_in i t.value) (last_within p x i.values)
 
+-- the inputs that slots give it, in their order
 abbrev pub set_inputs : List Slot → Option Tier → Tier → List Input
 set_inputs slots p x = flat_map (λ i. option_to_list (set_input p x i)) slots
 

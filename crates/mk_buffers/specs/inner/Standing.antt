@@ -125,7 +125,7 @@ pub record IsSweptAt (mark : Tier) (i : ℕ) (next : Option Tier) (old new : Buf
 abbrev pub IsAfterStart : Buffers → Inlet → Tier → Type 0
 IsAfterStart b i x = IfSome (last_for b i x) (λ d. IsUpTo (moment (pos 0)) d.at)
 
--- what these inlets give, in their order
+-- what these inlets give, in their order; none of it comes before the start
 pub record HasGathered (b : Buffers) (l : List Inlet) (p : Option Tier) (x : Tier)
     (ins : List Input) : Type 0 where
   pub inputs : ins ≡ flat_map (λ i. given b i p x) l

@@ -87,7 +87,8 @@ abbrev pub IsNeeded : List Via → ℤ → Tier → List Timed → ℕ → Type 
 IsNeeded vias until mark ts p = (d : Timed) → is_settled vias until mark (get_or ts p d).at ≡ true
     → IsNewestAt Plain None mark ts p ⊎ IsNewestByOf vias until mark ts p
 
--- how many of ascending outputs have come by the mark, on their own and by each of these delays
+-- how many outputs stand before the first that has not come by the mark, on its own and by each of
+-- these delays
 pub record IsFirstToCome (vias : List Via) (mark : Tier) (ts : List Timed) (n : ℕ) : Type 0 where
   pub within : n ≤ length ts
   pub before : (k : ℕ) (d : Timed) → k < n → is_past vias mark (get_or ts k d).at ≡ true

@@ -58,7 +58,7 @@ pub record IsDerived (P : Plan) (J : List Entry) (K : Derived) (end : Option End
 abbrev pub core_of : Plan → List Entry → Option Ended → CoreState
 core_of P J end = record { plan = P; entries = J; ended = end }
 
--- what a core answers after these answers, if it has ended
+-- what a core answers after these answers to `next` and to `take`, if it has ended
 abbrev pub end_after_next : Result Next Mem → Option Ended
 end_after_next (Ok (next.Ask sim)) = None
 end_after_next (Ok next.Wait) = None
@@ -81,7 +81,7 @@ pub record HasAdvanced (P : Plan) (J : List Entry) (answer : Result Next Mem) (L
       (λ next. NextOf (core_of P J None) next (core_of P M (end_after_next answer)))
   pub err : IfErr answer (λ _. M ≡ J)
 
--- what `arrive` leaves
+-- what `take` leaves
 pub record HasTaken (P : Plan) (J : List Entry) (sim : SimNo) (m : Message)
     (answer : Result Taken Mem) (L : Derived) (M : List Entry) : Type 0 where
   pub derived : IsDerived P M L (end_after_arrive answer)
@@ -105,7 +105,8 @@ entries_by J sim m (upshot.Fault fault) = J ++ Got sim m ∷ []
 abbrev pub Leaves : Plan → List Entry → SimNo → Message → Upshot → Derived → Type 0
 Leaves P J sim m u L = HasTaken P J sim m (Ok (taken_by u)) L (entries_by J sim m u)
 
--- there is room for the message
+-- a message in range, of a simulator of the plan, comes to a core that hasn't ended and has room for
+-- it
 pub record IsTaking (P : Plan) (J : List Entry) (K : Derived) (sim : SimNo)
     (m : Message) : Type 0 where
   pub derived : IsDerived P J K None

@@ -1,4 +1,4 @@
--- For proofs alone. What stands of a journal to which whoever was ready was asked first.
+-- For proofs alone. Journals in which whoever was ready was asked before a message was taken.
 use Rattle.std.specs.Prelude.{◌≡◌, ℕ, List, ◌∷◌, ◌++◌}
 use Rattle.mk_base.specs.declared.SimNo.{SimNo}
 use Rattle.mk_base.specs.declared.tier.Tier.{Tier}

@@ -32,7 +32,7 @@ pub record IsEnding (P : Plan) (s : ℕ) (f : Act) (L : Limits) (os : List Outle
   pub kept : IsInLimit P s f
 
 -- what these connections bring by the act of s has come; where its turn has closed, so has its next
--- time
+-- time; starts are outstanding where a turn is open, that of s until it closes
 pub record HasCome (P : Plan) (V : View) (s : ℕ) (f : Act) (closed : Bool) (cs : List Conn)
     (Q : List (List Due)) (B : Seen) : Type 0 where
   pub plan : AreOfPlan P B
@@ -45,7 +45,7 @@ pub record HasCome (P : Plan) (V : View) (s : ℕ) (f : Act) (closed : Bool) (cs
 
 -- ---- the search for a trigger beyond the loop limit
 
--- a step then is just beyond the loop limit
+-- a step then is before the run's end, and just beyond the loop limit
 abbrev pub is_beyond : Limits → Tier → Bool
 is_beyond L x = int_lt x.time L.until && (x.tier == L.loops + 1)
 

@@ -56,8 +56,8 @@ abbrev pub with_trigger : Seen → List Bool → List Due → ℕ → Tier → S
 with_trigger B opened q i x = if is_first x q && not (is_open opened i)
     then with_start B i (Some x) false else B
 
--- steps to come are in order and within the limits of all plans; where no turn is open, the first
--- of them is the simulator's start
+-- steps to come are in order and within the limits of all plans; a start is outstanding where a turn
+-- is open, and where none is, the first of the steps is the start
 pub record IsTidy (queues : List (List Due)) (opened : List Bool) (B : Seen) : Type 0 where
   pub owns : length B.owns ≡ length queues
   pub opens : length opened ≡ length queues
@@ -68,7 +68,8 @@ pub record IsTidy (queues : List (List Due)) (opened : List Bool) (B : Seen) : T
   pub rising : (i : ℕ) → IsRising time_of (queue_in queues i)
   pub within : (i : ℕ) (d : Due) → IsIn d (queue_in queues i) → IsOwn (Some d.at)
 
--- the limits are those that a plan may have, and outlets lead to simulators
+-- the limits are those that a plan may have, and outlets lead to simulators, by widths that a time
+-- shift may have
 pub record IsSound (L : Limits) (rows : List (List Outlet))
     (queues : List (List Due)) : Type 0 where
   pub until : L.until ≤ℤ pos 1000000000

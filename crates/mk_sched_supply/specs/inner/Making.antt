@@ -48,7 +48,7 @@ pub record HasNoTriggers (P : Plan) (n : ℕ) (feeds : List Feed) : Type 0 where
   pub each : (s : ℕ) (f : Feed) → slice_get feeds s ≡ Some f → (f.wants ≡ wanted P s)
       × (f.triggers.items ≡ [])
 
--- nothing but the outputs that are held has changed
+-- the names, the feeds and the marks are as they were
 pub record HasSameRest (old new : Stock) : Type 0 where
   pub names : new.names ≡ old.names
   pub feeds : new.feeds ≡ old.feeds

@@ -24,7 +24,8 @@ IsHeld own arcs labels mark = (own ≤ mark) ⊎ ((a : Arc) × IsIn a arcs × (e
 abbrev pub IsFree : List Arc → List ℕ → ℕ → Type 0
 IsFree arcs labels mark = (a : Arc) → IsIn a arcs → mark < end labels a
 
--- the arcs by their targets and by their sources are the same, between n simulators
+-- arcs between n simulators, 255 at most, by their targets and by their sources: each of the first is
+-- among the second
 pub record IsNet (n : ℕ) (ins outs : List (List Arc)) : Type 0 where
   pub few : n ≤ 255
   pub ins_count : length ins ≡ n

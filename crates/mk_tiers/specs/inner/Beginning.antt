@@ -5,7 +5,7 @@ use Rattle.mk_tiers.specs.declared.filled.Hints.{Hints}
 use Rattle.mk_tiers.specs.declared.filled.Tables.{Tables}
 use Rattle.mk_tiers.specs.Times.{never}
 
--- n starts and labels that never come
+-- n starts and labels that never come, and n places for labels to be tried
 pub record AreNever (n : ℕ) (t : Labels) : Type 0 where
   pub owns_count : length t.owns.items ≡ n
   pub labels_count : length t.labels.items ≡ n
@@ -18,7 +18,7 @@ pub record AreFirst (n : ℕ) (t : Hints) : Type 0 where
   pub hints : length t.hints.items ≡ n
   pub blocks : length t.blocks.items ≡ n
 
--- the tables of n simulators, of which none has a start
+-- the tables of n simulators, of which none has a start or is busy
 pub record AreIdle (n : ℕ) (t : Tables) : Type 0 where
   pub labels : AreNever n t.labels
   pub busy_count : length t.busy.items ≡ n

@@ -7,6 +7,7 @@ use Rattle.mk_tiers.specs.Times.{never}
 use Rattle.mk_tiers.specs.Arcs.{row}
 use Rattle.mk_tiers.specs.inner.Arcs.{IsFree}
 
+-- the simulator is clear
 pub record IsClearAt (waits : List (List Arc)) (owns labels : List ℕ) (busy : List Bool)
     (v : ℕ) : Type 0 where
   pub some : slice_index owns v ≡ never → ⊥

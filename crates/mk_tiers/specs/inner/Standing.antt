@@ -32,7 +32,7 @@ pub record AreLabelled (net : Net) (owns labels : List ℕ) (busy : List Bool)
   pub within : IsWithin (length owns) ready
   pub said : (v : ℕ) → v < length owns → IsMarkedClear net.waits.ins owns labels busy ready v
 
--- it is known where nothing comes back
+-- to a simulator that isn't marked nothing of its own comes back over others
 abbrev pub IsLoopedIn : ℕ → Net → List Bool → Type 0
 IsLoopedIn n net looped = (v : ℕ) → v < n → slice_index_or looped v true ≡ false
     → IsApart net.triggers.ins v
