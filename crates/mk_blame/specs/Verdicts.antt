@@ -11,8 +11,8 @@ use Rattle.mk_blame.specs.declared.verdict.Verdict.{Verdict}
 use Rattle.mk_blame.specs.declared.verdict.Verdict.TheVariants as verdicts
 use Rattle.mk_blame.specs.Talks.{talk, messages, last_step, PartByMessages}
 
--- simulator i answered the same differently: its talks are equal up to a message of each, and these
--- differ
+-- simulator i answered the same differently: its talks are equal up to a place at which both have a
+-- message, and these differ
 pub record IsToBlame (J K : List Entry) (i : ℕ) : Type 0 where
   pub before : List Said
   pub message : Message

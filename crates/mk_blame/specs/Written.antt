@@ -9,7 +9,8 @@ use Rattle.mk_blame.specs.declared.verdict.Blamed.{Blamed}
 use Rattle.mk_blame.specs.declared.verdict.Verdict.{Verdict}
 use Rattle.mk_blame.specs.declared.verdict.Verdict.TheVariants as verdicts
 
--- three lines for a simulator to blame: which message of it, in which step, and both messages
+-- three lines for a simulator to blame: its id, which message of it and behind which step, and both
+-- messages
 abbrev pub lines_of : Plan → Blamed → List ℕ
 lines_of P b = sim_id P b.sim.0 ++ codes " message " ++ decimal b.place ++ codes " step "
     ++ signed_decimal b.at.time ++ codes ":" ++ decimal b.at.tier

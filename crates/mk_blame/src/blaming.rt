@@ -20,7 +20,7 @@ use std::alloc::Global;
 /// Which simulators are to blame that two finished journals of a plan differ: those whose talks are
 /// equal up to a place at which both have a message, and these differ. A simulator whose inputs
 /// changed, since another one answered differently, isn't among them; and where the talks of some
-/// simulator differ, there is one at least.
+/// simulator differ, there is one at least. `Mem` is want of memory.
 pub fn blame(alloc: Global, plan: &Plan, first: &Journal, second: &Journal) -> Result<Verdict, Mem>
     requires valid { IsValidPlan plan.now }
     requires first_orderly { IsOrderly plan.now first.now.entries }

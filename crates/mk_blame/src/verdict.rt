@@ -2,8 +2,8 @@
 use mk_base::{List, SimNo, Tier};
 use mk_plan::Message;
 
-/// A simulator that is to blame: how many messages it had sent before, the time of its step there,
-/// and its messages at that place in both journals.
+/// A simulator that is to blame: how many messages it had sent before, the tiered time of its last
+/// Step before, and its messages at that place in both journals.
 #[derive(Drop)]
 pub struct Blamed {
     pub sim: SimNo,

@@ -10,9 +10,9 @@ use mk_message::write;
 use mk_plan::{Message, Plan, put_id};
 use std::alloc::Global;
 
-/// The text of a verdict on two journals of this plan: for each simulator to blame its id, the
-/// place of its message, the time of its step there, and both messages; and at the end how many
-/// there are. If all is equal, that alone.
+/// The text of a verdict on two journals of this plan (`docs/formats.md`, "Blame"): for each simulator
+/// to blame its id, the place of its message, from 0, the tiered time of its last Step before, and both
+/// messages; and at the end how many there are. If all is equal, that alone. `Mem` is want of memory.
 pub fn write_verdict(alloc: Global, plan: &Plan, verdict: &Verdict) -> Result<Vec<u8>, Mem>
     requires { is_writable verdict.now ≡ true }
     ensures { IfOk result (λ text. text.items ≡ verdict_text plan.now verdict.now) }

@@ -14,6 +14,7 @@ IsFirstOther record_has journal_has (Some n) = (n < length record_has)
     × (take n record_has ≡ take n journal_has)
     × (slice_get record_has n ≡ slice_get journal_has n → ⊥)
 
+-- the same of entries that are compared; where none are, there is no such place
 abbrev pub IsFirstOtherOf : List RecordEntry → Option (List RecordEntry) → Option ℕ → Type 0
 IsFirstOtherOf journal_has None n = n ≡ None
 IsFirstOtherOf journal_has (Some record_has) n = IsFirstOther record_has journal_has n
@@ -24,6 +25,6 @@ abbrev pub entries_compared : List Arrival → Option (List Asked) → Option (L
 entries_compared A None = None
 entries_compared A (Some steps) = Some (entries_in A steps)
 
--- the same of a record with these messages and steps, and a journal
+-- the same of a record with these messages and steps, and of a journal's Steps and messages
 abbrev pub IsOther : List Arrival → Option (List Asked) → List Entry → Option ℕ → Type 0
 IsOther A steps J n = IsFirstOtherOf (entries_of J) (entries_compared A steps) n

@@ -18,8 +18,9 @@ use mk_base::{List, SimNo, Tier};
 use mk_plan::{Entry, Item, Journal, Message};
 use mk_record_read::{Arrival, Asked, Saved};
 
-/// The first entry of a record, from 0, that isn't the journal's entry at that place among its Steps and messages, or for
-/// which the journal has none. A record of version 1 has no such entry. The journal has at most 20,000,000 entries.
+/// The number, from 0, of the first entry of a record that isn't the journal's entry at that place among its Steps and
+/// messages, or for which the journal has none; `None` where the journal begins with all that the record has, and
+/// always of a record of version 1. The journal has at most 20,000,000 entries.
 pub fn first_other(saved: &Saved, journal: &Journal) -> Option<u32>
     requires { length journal.now.entries ≤ 20000000 }
     ensures { IsOther (map came saved.now.arrivals) saved.now.asks journal.now.entries result }
@@ -35,7 +36,8 @@ pub fn first_other(saved: &Saved, journal: &Journal) -> Option<u32>
     }
 }
 
-/// The same of a record whose steps alone are at hand, and how many messages it has, of which the journal has the first.
+/// The same of a record of which the steps alone are at hand, and how many messages it has; the journal's messages are
+/// the first of these.
 pub fn first_other_step(count: usize, steps: &Option<List<Asked>>, journal: &Journal) -> Option<u32>
     requires { length journal.now.entries ≤ 20000000 }
     ensures { (A : List journals.Arrival) → length A ≡ count

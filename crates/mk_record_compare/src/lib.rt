@@ -1,4 +1,5 @@
-//! Compares a record with a journal: which of the record's entries is the first that isn't the journal's.
+//! Compares a record with a journal: which of the record's entries is the first that isn't the journal's. And whether
+//! two messages, or two trees, are the same.
 #![tactic(auto)]
 
 mod first;

@@ -6,7 +6,7 @@ use crate::trees::{same_items, same_tree};
 use mk_plan::Message;
 use mk_plan_same::Same;
 
-/// Whether two messages are the same.
+/// Whether two messages are the same, their trees as in `same_tree`.
 pub fn same_message(one: &Message, other: &Message) -> bool
     ensures { Decides result (one.now ≡ other.now) }
 {

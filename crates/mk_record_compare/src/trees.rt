@@ -5,7 +5,7 @@ ghost use Rattle.mk_plan_same.specs.Decisions.{Decides};
 use mk_base::{Json, List, Members, Text};
 use mk_plan_same::Same;
 
-/// Whether two trees are the same.
+/// Whether two trees are the same. Of a number that isn't whole a tree keeps no value, so any two of them are.
 #[cycle(same)]
 pub fn same_tree(one: &Json, other: &Json) -> bool
     ensures { Decides result (one.now ≡ other.now) }

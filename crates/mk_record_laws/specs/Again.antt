@@ -35,7 +35,7 @@ steps_after n (MessageOf a ∷ entries) = steps_after (n + 1) entries
 abbrev pub steps_of : List Entry → List Asked
 steps_of J = steps_after 0 (entries_of J)
 
--- a message that some payload has, and that nests so that the list around it may stand in a line
+-- a message that a payload may have, and that nests so that the list around it may stand in a line
 abbrev pub is_sayable : Message → Bool
 is_sayable m = is_readable m && is_in_range m && is_proper (message_tree m)
     && nat_le (nesting (message_tree m)) 126
@@ -61,8 +61,8 @@ pub record HasTexts (P : Plan) : Type 0 where
   pub conns : list_all conn_is_text P.conns ≡ true
   pub initials : Each (λ (c : Conn). IfSome c.initial IsDatumText) P.conns
 
--- the plan is valid and made of texts; and the journal's Steps and messages are of its simulators
--- and within the limits of a record
+-- the plan is valid, made of texts, and of at most 2,000,000 models; and the journal's Steps and
+-- messages are of its simulators, within the limits of a record, and fewer than 2^64
 pub record IsRecordable (P : Plan) (J : List Entry) : Type 0 where
   pub valid : IsValidPlan P
   pub texts : HasTexts P

@@ -5,7 +5,7 @@ ghost use Rattle.mk_json.specs.Parsed.{parsed};
 ghost use Rattle.mk_record_laws.specs.Sound.{IsSoundTree};
 
 /// The tree that bytes have, if they have one, is made of texts in UTF-8, has the names of each object in byte order, each
-/// once, whole numbers that fit in 64 bits, and nests at most 127 deep.
+/// once, whole numbers from -2^63 to 2^64 - 1, and nests at most 127 deep.
 pub fn parsed_is_sound()
     ensures { (bytes : List ℕ) → (tree : Json) → parsed bytes ≡ Some tree → IsSoundTree tree }
 {}

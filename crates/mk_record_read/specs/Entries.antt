@@ -16,8 +16,8 @@ pub data RecordEntry : Type 0 where
 abbrev pub step_of : Asked → RecordEntry
 step_of a = StepOf a.sim.0 a.at a.max_advance
 
--- the entries of messages, of which n came before, and of steps: each step stands after the
--- messages that came before it
+-- the entries of messages, behind n others, and of steps: each step stands after the messages that
+-- came before it
 abbrev pub entries_after : ℕ → List Arrival → List Asked → List RecordEntry
 entries_after n A [] = map MessageOf A
 entries_after n A (a ∷ steps) = map MessageOf (take (a.before - n) A)

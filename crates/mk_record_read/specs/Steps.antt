@@ -1,4 +1,4 @@
--- What the answers on a line mean.
+-- What holds of each message that was read.
 use Rattle.std.specs.Prelude.{◌≡◌, ◌<◌, true}
 use Rattle.mk_plan.specs.declared.Plan.{Plan}
 use Rattle.mk_plan.specs.Journals.{Arrival}

@@ -1,13 +1,13 @@
 // Why a record isn't read.
 use thiserror::Error;
 
-/// Why a text is no record: the line, from 1, and the number of its fault.
+/// Why a text is no record: `Line` has the line, from 1, and the number of the fault; `Mem` is want of memory.
 ///
 /// 1: the line isn't of a kind that may stand there, or not of its kind's form. 2: a number is
 /// outside its limits, a reference is to nothing that stands before, or a type or via is unknown.
 /// 3: the plan before the first `ask`, `got` or `end` line isn't valid. 4: the number of `end` isn't the
-/// number of `ask` and `got` lines. 5: the text ends before a whole `end` line. 6: bytes stand after the
-/// `end` line.
+/// number of `ask` and `got` lines. 5: the text ends before a whole `end` line; the line is the one behind
+/// the last whole one. 6: bytes stand after the `end` line; the line is the one behind it.
 #[derive(Debug, Drop, Error)]
 pub enum RecordFault {
     #[error("no record")]

@@ -1,4 +1,4 @@
-//! Records: the plan of a run, the messages that came in it, and the steps that were asked for, as a text of lines.
+//! Records read: from a text of lines to the plan of a run, the messages that came, and the steps that were asked for.
 #![tactic(auto)]
 
 mod faults;

@@ -244,7 +244,7 @@ fn position_of(byte: u8, bytes: &[u8]) -> Option<usize>
     bytes.iter().position(|b| *b == byte)
 }
 
-// The first line, without its line feed, and what stands after that.
+// The first line, without its line feed, and what stands after that; none where no line feed comes.
 fn line_and_rest(bytes: &[u8]) -> Option<(&[u8], &[u8])>
     ensures cut { MatchOption result (slice_split is_feed bytes.now ≡ bytes.now ∷ [])
         (λ p. slice_split is_feed bytes.now ≡ p.0.now ∷ slice_split is_feed p.1.now) }
@@ -256,8 +256,9 @@ fn line_and_rest(bytes: &[u8]) -> Option<(&[u8], &[u8])>
     }
 }
 
-/// What a record of version 1 or 2 says: its plan, which is valid, the messages that came and, in version 2, the steps that
-/// were asked for. `Line` has the line and the number of the first fault.
+/// What a record of version 1 or 2 says: its plan, which is valid, the messages that came, each from a simulator of the
+/// plan and its whole numbers from -2^63 to 2^64 - 1, and in version 2 the steps that were asked for. `Line` has the
+/// line and the number of the first fault; `Mem` is want of memory.
 pub fn read_record(alloc: Global, bytes: &[u8]) -> Result<Saved, RecordFault>
     ensures ok { IfOk result (λ s. reading bytes.now ≡ said_by s) }
     ensures valid { IfOk result (λ s. IsValidPlan s.plan) }

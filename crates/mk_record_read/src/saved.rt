@@ -2,7 +2,7 @@
 use mk_base::{List, SimNo, Tier};
 use mk_plan::{Message, Plan};
 
-/// A message, and the simulator that it came from.
+/// A message, and the number of the simulator that it came from.
 #[derive(Drop)]
 pub struct Arrival {
     pub sim: SimNo,
@@ -19,8 +19,8 @@ pub struct Asked {
     pub max_advance: i64,
 }
 
-/// What a record says: the plan of a run, the messages that came, in their order, and in version 2 the steps that were asked
-/// for, in theirs.
+/// What a record says: the plan of a run, the messages that came, in their order, and the steps that were asked for, in
+/// theirs: `Some` in version 2, `None` in version 1.
 #[derive(Drop)]
 pub struct Saved {
     pub plan: Plan,

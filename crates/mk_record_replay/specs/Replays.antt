@@ -21,16 +21,17 @@ use Rattle.mk_record_replay.specs.declared.replaying.ReplayEnd.TheVariants.{Done
 abbrev pub messages_from : List Arrival → Messages
 messages_from A i = map (λ a. a.message) (filter (λ a. a.sim == i) A)
 
--- the journal J is a replay of the messages A, or of the first of them: no message is given while a
--- simulator is ready
+-- the journal J is a replay of the messages A, or of the first of them: it is eager, so no message is
+-- given while a simulator is ready, agrees with sequential execution, and is within the limit of
+-- entries
 pub record IsReplay (P : Plan) (A : List Arrival) (J : List Entry) : Type 0 where
   pub agrees : Agrees P J
   pub eager : IsEager P J
   pub given : BeginsWith A (arrivals J)
   pub within : length J ≤ P.entries
 
--- all messages were given, nothing is left to do or owed, and each simulator was sent what
--- sequential execution over these messages sends it
+-- all messages were given, nothing is left to do or owed, each message is used and each turn ends, and
+-- each simulator was sent what sequential execution over these messages sends it, max_advance aside
 pub record IsWhole (P : Plan) (A : List Arrival) (J : List Entry) : Type 0 where
   pub given : arrivals J ≡ A
   pub done : IsDone P (view P J)
@@ -38,7 +39,8 @@ pub record IsWhole (P : Plan) (A : List Arrival) (J : List Entry) : Type 0 where
   pub finished : IsFinished P J
   pub sent : (i : ℕ) → i < sim_count P → map bare (sent J i) ≡ run_items P (messages_from A) i
 
--- all messages were given, nobody is ready, nothing is owed, and n requests are open
+-- all messages were given, no fault was met, nobody is ready, nothing is owed, and n requests are
+-- open, at least one
 pub record IsShort (P : Plan) (A : List Arrival) (J : List Entry) (n : ℕ) : Type 0 where
   pub given : arrivals J ≡ A
   pub no_fault : (view P J).fault ≡ None
@@ -47,7 +49,7 @@ pub record IsShort (P : Plan) (A : List Arrival) (J : List Entry) (n : ℕ) : Ty
   pub count : n ≡ open_count P (view P J)
   pub some : 1 ≤ n
 
--- not all messages were given
+-- the messages that were given are the first of A, and not all
 abbrev pub SomeUngiven : List Arrival → List Entry → Type 0
 SomeUngiven A J = (a : Arrival) × (more : List Arrival) × (A ≡ arrivals J ++ a ∷ more)
 

@@ -9,7 +9,8 @@ use Rattle.mk_record_replay.specs.declared.replaying.ReplayEnd.{ReplayEnd}
 use Rattle.mk_record_replay.specs.declared.replaying.ReplayEnd.TheVariants.{Done, Core, Short, Other}
 use Rattle.mk_record_replay.specs.Replays.{IsReplay, EndsBy}
 
--- the core takes the message
+-- a core of this plan takes the message: it came from one of the plan's simulators, and its whole
+-- numbers are in range
 abbrev pub CanArrive : Plan → Arrival → Type 0
 CanArrive P a = (a.sim.0 < sim_count P) × (is_message_in_range a.message ≡ true)
 
@@ -20,7 +21,8 @@ IsGoingAfter (Core f) core = ⊤
 IsGoingAfter (Short n) core = core.ended ≡ None
 IsGoingAfter (Other n) core = ⊤
 
--- the replay of the messages A came to its end
+-- the core's journal is a replay of the messages A, with this end, and the core goes on where the end
+-- is no fault
 pub record HasReplayed (P : Plan) (A : List journals.Arrival) (end : ReplayEnd)
     (new : CoreState) : Type 0 where
   pub plan : new.plan ≡ P

@@ -76,7 +76,7 @@ fn pop_message(waiting: &mut Vec<List<Message>>, sim: u32) -> Option<Message>
     waiting[sim as usize].pop()
 }
 
-/// Gives each simulator's messages to a core, in the order of this number.
+/// Gives each simulator's messages to a core, in the order of this number; how the replay ends.
 pub fn run_in_order(
     alloc: Global,
     core: &mut Core,

@@ -25,8 +25,9 @@ use mk_record_read::{Arrival, Saved};
 use mk_sched::{Core, CoreFault, Taken};
 use std::alloc::Global;
 
-/// How a replay ends: nothing is left to do; the core met a fault; all messages were given, and this many simulators still
-/// owe a reply; or the record's entry of this number, from 0, isn't the journal's.
+/// How a replay ends: nothing is left to do; the core met a fault, the limit of entries among them; all messages were
+/// given, and this many simulators, at least one, still owe a reply; or the record's entry of this number, from 0, is
+/// the first that isn't the journal's.
 #[derive(Clone, Copy, Debug, PartialEq, Eq)]
 pub enum ReplayEnd {
     Done,
@@ -47,8 +48,9 @@ pub struct Replayed {
 /// on, up to the first fault, or until all were given and nobody is ready.
 ///
 /// Without an order the messages are given as they came; where no fault was met, the entries of a record of version 2 are then
-/// compared with the journal. With an order each simulator's messages are given as they came, and which simulator's is next is
-/// drawn by numbers that begin with the order; nothing is compared.
+/// compared with the journal. With an order each simulator's messages are given as they came, and which simulator's is
+/// next is drawn by numbers that begin with the order (`docs/formats.md`, "Replay in another order"); nothing is
+/// compared. `Mem` is want of memory.
 pub fn replay(alloc: Global, saved: Saved, order: Option<u32>) -> Result<Replayed, Mem>
     requires valid { IsValidPlan saved.plan }
     requires known { All (IsKnown saved.plan) (map came saved.arrivals) }
@@ -166,7 +168,7 @@ pub fn replay_is_one()
 
 /// Gives these messages to a new core, in their order. Whoever is ready is asked before each and
 /// after the last. It keeps none that was given. The end is `Done`, `Short` or a fault of the core;
-/// where it is no fault, the core goes on.
+/// where it is no fault, the core goes on. `Mem` is want of memory.
 pub fn give_all(core: &mut Core, arrivals: List<Arrival>) -> Result<ReplayEnd, Mem>
     requires new { core.old ≡ record { plan = core.old.plan; entries = []; ended = None } }
     requires known { All (CanArrive core.old.plan) arrivals }
@@ -224,7 +226,7 @@ fn give(core: &mut Core, arrival: Arrival) -> Result<Option<CoreFault>, Mem>
     }
 }
 
-// Gives one message; the fault that it makes.
+// Gives one message; the fault that comes of it, if one does.
 pub fn take(core: &mut Core, arrival: Arrival) -> Result<Option<CoreFault>, Mem>
     requires going { core.old.ended ≡ None }
     requires known { CanArrive core.old.plan arrival }

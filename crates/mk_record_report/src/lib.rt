@@ -1,4 +1,4 @@
-//! The report of a run, what each simulator was sent, and its summary.
+//! The report of a journal, which shows what each simulator was sent, and its summary.
 #![tactic(auto)]
 
 mod lines;

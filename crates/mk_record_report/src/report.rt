@@ -9,8 +9,9 @@ use mk_base::{Mem, put};
 use mk_plan::{Journal, Plan, PlanSim};
 use std::alloc::Global;
 
-/// The report of a journal: for each simulator in the order of the plan its id and the lines of what it was sent, and at
-/// the end how many Steps there were. It says nothing of `max_advance` and of the ids of requests.
+/// The report of a journal (`docs/formats.md`, "Report"): for each simulator in the order of the plan its id and the
+/// lines of the Steps, answers and refusals that it was sent, and at the end how many Steps there were. It says nothing
+/// of `max_advance`, of GetDatas, and of the ids of Steps. `Mem` is want of memory.
 pub fn write_report(alloc: Global, plan: &Plan, journal: &Journal) -> Result<Vec<u8>, Mem>
     ensures { IfOk result (λ text. text.items ≡ report plan.now (sent journal.now.entries)) }
 {

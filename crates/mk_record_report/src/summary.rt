@@ -12,9 +12,9 @@ use mk_base::{Mem, put};
 use mk_plan::{Entry, Item, Journal, Plan};
 use std::alloc::Global;
 
-/// The summary of a journal: for each simulator in the order of the plan its id, the number of its Steps and that of the
-/// input values over them, then the totals of both, and at last the line of the last Step of the greatest-numbered
-/// simulator that has one.
+/// The summary of a journal (`docs/formats.md`, "Summary"): for each simulator in the order of the plan its id, the
+/// number of its Steps and that of the input values over them, then the totals of both, and at last the line of the
+/// last Step of the greatest-numbered simulator that has one, if one has. `Mem` is want of memory.
 pub fn write_summary(alloc: Global, plan: &Plan, journal: &Journal) -> Result<Vec<u8>, Mem>
     ensures { IfOk result (λ text. text.items ≡ summary plan.now (sent journal.now.entries)) }
 {

@@ -12,7 +12,8 @@ use Rattle.mk_record_replay.specs.Replays.{IsReplay, IsFull}
 use Rattle.mk_record_restored.specs.declared.restoring.Restored.{Restored}
 use Rattle.mk_record_restored.specs.declared.restoring.Restored.TheVariants as restored
 
--- the messages A were given, in their order, and whoever was ready then was asked; no fault was met
+-- the messages A were given, in their order and as a replay does, and whoever was ready then was
+-- asked; no fault was met, and nothing is owed
 pub record IsRestored (P : Plan) (A : List Arrival) (J : List Entry) : Type 0 where
   pub replay : IsReplay P A J
   pub given : arrivals J ≡ A

@@ -25,13 +25,13 @@ pub enum Restored {
     Onward(Core),
     /// The record's entry of this number, from 0, is the first that isn't the journal's.
     Other(u32),
-    /// The core met a fault.
+    /// The core met this fault, the limit of entries among them; its plan, and its journal up to there.
     Faulted(CoreFault, Plan, Journal),
 }
 
 /// Gives the messages of a record to a core of this plan, in their order and as a replay does, asks
-/// whoever is ready then, and compares the record's steps with the journal. The plan has its own
-/// limit of entries.
+/// whoever is ready then, and compares the record's steps with the journal; of a record of version 1
+/// nothing is compared. The plan has its own limit of entries. `Mem` is want of memory.
 pub fn restore(
     alloc: Global,
     plan: Plan,

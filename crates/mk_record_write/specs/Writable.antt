@@ -1,4 +1,4 @@
--- Which entries of a journal have a line in its record, and which can be written.
+-- Which entries of a journal can be written into its record.
 use Rattle.std.specs.Prelude.{Bool, true}
 use Rattle.mk_plan.specs.declared.Entry.{Entry}
 use Rattle.mk_plan.specs.declared.Entry.TheVariants.{Sent, Got}

@@ -21,9 +21,10 @@ use std::alloc::Global;
 /// The record of a plan and of a journal, version 2: the parts of the plan in their order, and the Steps and the messages of
 /// the journal in theirs. The whole numbers in the messages are those that a payload may have, from -2^63 to 2^64 - 1.
 ///
-/// Read again, it gives the plan, the messages in their order, and the Steps with their tiered times, `max_advance` and places
-/// among the messages: where the plan is valid, the numbers of each Step are within the limits of a record, and each message is
-/// one that `mk_message::read` gives for a payload and nests no deeper than 126.
+/// Read again, it gives the plan, the messages in their order, and the Steps with their tiered times, `max_advance` and
+/// places among the messages: where the plan is valid, each Step and message is of one of its simulators, the numbers
+/// of each Step are within the limits of a record, and each message is one that `mk_message::read` gives for a payload
+/// and nests no deeper than 126, its own list counted. `Mem` is want of memory.
 pub fn write_record(alloc: Global, plan: &Plan, journal: &Journal) -> Result<Vec<u8>, Mem>
     requires { list_all is_writable journal.now.entries ≡ true }
     ensures text { IfOk result (λ text. text.items ≡ record_text plan.now journal.now.entries) }

@@ -13,12 +13,13 @@ places_from i first (e ∷ J) = if is_of i e then first ∷ places_from i (suc f
 abbrev pub own_count : ℕ → List Entry → ℕ
 own_count i J = length (filter (is_of i) J)
 
--- how many entries an index has, and the places of each simulator's among them
+-- an index: of each simulator the places of its entries, and how many entries there are
 pub record Indexed : Type 0 where
   pub own : List (List ℕ)
   pub count : ℕ
 
--- these entries are those of the journal
+-- the index is one of this journal: it has as many entries, and of each simulator that it has a list
+-- for the places of its entries
 pub record IsIndexOf (J : List Entry) (index : Indexed) : Type 0 where
   pub count : index.count ≡ length J
   pub own : (i : ℕ) (places : List ℕ) → slice_get index.own i ≡ Some places

@@ -6,7 +6,8 @@ use Rattle.mk_plan.specs.declared.Entry.{Entry}
 use Rattle.mk_plan.specs.declared.Entry.TheVariants.{Sent, Got}
 use Rattle.mk_plan.specs.Journals.{sent}
 
--- the beginning of a journal up to the message of simulator i that comes after n others of it
+-- the beginning of a journal up to the message of simulator i that comes after n others of it; all of
+-- the journal where there is none
 abbrev pub up_to : ℕ → ℕ → List Entry → List Entry
 up_to i n [] = []
 up_to i n (Sent s item ∷ J) = Sent s item ∷ up_to i n J

@@ -12,7 +12,7 @@ use Rattle.mk_resume_walk.specs.Talks.{up_to}
 abbrev pub is_of : ℕ → Entry → Bool
 is_of i e = sim_of e == i
 
--- none of the entries is
+-- none of the entries is one of simulator i
 abbrev pub has_none : ℕ → List Entry → Bool
 has_none i J = list_all (λ e. not (is_of i e)) J
 

@@ -30,7 +30,7 @@ impl Model for Index {
 }
 
 impl Index {
-    /// The index of a journal without entries, for so many simulators.
+    /// The index of a journal without entries, for so many simulators. `Mem` is want of memory.
     pub fn new(alloc: Global, sims: usize) -> Result<Index, Mem>
         ensures sims { IfOk result (λ index. length index.own ≡ sims) }
         ensures none { IfOk result (λ index. IsIndexOf [] index) }
@@ -71,8 +71,8 @@ impl Index {
         Ok(())
     }
 
-    /// The place of the simulator's next entry, where so many of its entries were gone through; `None`
-    /// exactly where there are no more. It takes no memory.
+    /// The place in the journal, from 0, of the simulator's next entry, where so many of its entries
+    /// were gone through; `None` exactly where there are no more. It takes no memory.
     pub fn next(&self, sim: SimNo, gone: usize) -> Option<usize>
         requires { sim.0 < length self.now.own }
         ensures { (J : List Entry) → (from : ℕ) → IsIndexOf J self.now

@@ -13,11 +13,11 @@ use Rattle.mk_watch_read.specs.Folds.{value_of}
 abbrev pub is_watched : List ℕ → List ℕ → Input → Bool
 is_watched eid attr i = same_text i.eid eid && same_text i.attr attr
 
--- its number, if it is one; what isn't a whole number within 64 bits counts as 0
+-- its number, if it is such an input; what isn't a whole number within 64 bits counts as 0
 abbrev pub number_at : List ℕ → List ℕ → Input → Option ℤ
 number_at eid attr i = if is_watched eid attr i then Some (number_in i.value) else None
 
--- the numbers at the attribute, in order
+-- the numbers of the entity at the attribute, in order
 abbrev pub numbers_at : List ℕ → List ℕ → List Input → List ℤ
 numbers_at eid attr inputs = filter_map (number_at eid attr) inputs
 
@@ -26,11 +26,11 @@ abbrev pub with_number : Fold → Option ℤ → ℤ → Option ℤ
 with_number f None n = Some n
 with_number f (Some v) n = Some (value_of f v n)
 
--- the value of these numbers, from the first on
+-- the value of these numbers, from the first on; none where there is no number
 abbrev pub folded : Fold → List ℤ → Option ℤ
 folded f numbers = fold (with_number f) None numbers
 
--- the row of a Step whose inputs have some at the attribute
+-- the row of an item: of a Step whose inputs have some of the entity at the attribute
 abbrev pub row_of : Fold → List ℕ → List ℕ → Item → Option Row
 row_of f eid attr (Step at inputs advance) =
     option_map (λ v. let r : Row = record { at = at; value = v } in r)

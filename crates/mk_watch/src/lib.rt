@@ -1,4 +1,5 @@
-//! Tables of attribute values over a run, made by rules that the caller stores.
+//! Tables of attribute values over a run, made by rules that the caller stores: their form is in `docs/formats.md`,
+//! "Watches".
 #![tactic(auto)]
 
 mod lines;

@@ -14,7 +14,7 @@ pub struct Row {
     pub value: i64,
 }
 
-// The row of a Step whose inputs have some at the attribute of the entity.
+// The row of an item: of a Step whose inputs have some at the attribute of the entity.
 pub fn row_of(rule: &Rule, eid: &Text, attr: &Text, item: &Item) -> Option<Row>
     ensures { result ≡ row_of rule.now.fold eid.now attr.now item.now }
 {

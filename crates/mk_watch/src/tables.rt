@@ -26,8 +26,9 @@ use std::alloc::Global;
 /// The tables of these watches over what each simulator was sent in a journal: for each watch its
 /// head, a row for each Step whose inputs have some at the attribute of the entity, with the rule's
 /// value of their numbers from the first on, and at the end how many rows there are, and the rule's
-/// value of theirs. The journal is gone through once; then each watch goes through what its
-/// entity's simulator was sent.
+/// value of theirs. A value that isn't a whole number from -2^63 to 2^63 - 1 counts as 0. The journal
+/// is gone through once; then each watch goes through what its entity's simulator was sent. `Mem` is
+/// want of memory.
 pub fn write_tables(
     alloc: Global,
     watches: &List<Watch>,

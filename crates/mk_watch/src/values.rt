@@ -47,7 +47,7 @@ pub fn with_number(rule: &Rule, so_far: Option<i64>, n: i64) -> Option<i64>
     }
 }
 
-// The number of an input, if it is one of the attribute.
+// The number of an input, if it is one of the entity at the attribute.
 fn number_at(eid: &Text, attr: &Text, input: &Input) -> Option<i64>
     ensures { result ≡ number_at eid.now attr.now input.now }
 {

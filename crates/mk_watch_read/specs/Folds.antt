@@ -4,7 +4,7 @@ use Rattle.std.specs.Int.{w64, saturate_signed, int_min, int_max}
 use Rattle.mk_watch_read.specs.declared.rule.Fold.{Fold}
 use Rattle.mk_watch_read.specs.declared.rule.Fold.TheVariants.{Sum, Least, Greatest, Last}
 
--- what each fold makes of two numbers
+-- what each fold makes of two numbers: the sum stays at the bound where it goes beyond 64 bits
 abbrev pub value_of : Fold → ℤ → ℤ → ℤ
 value_of Sum a b = saturate_signed w64 (a +ℤ b)
 value_of Least a b = int_min a b

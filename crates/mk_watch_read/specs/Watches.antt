@@ -77,7 +77,7 @@ watch_at P names path table =
     keyed (required (key_in path (codes "rule")) text (member (codes "rule") table)) (λ rule.
     watch_named P names path entity attr rule))))
 
--- the watch of the table at a place
+-- the watch of the table that stands beside its place, from 0
 abbrev pub watch_in : Plan → List (List ℕ) → ℕ × Json → Result Watch WatchFault
 watch_in P names t = watch_at P names (item_in (codes "watch") t.0) t.1
 

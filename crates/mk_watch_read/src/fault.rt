@@ -6,11 +6,11 @@ use mk_scenario_keys::ScenarioFault;
 use std::fmt;
 use thiserror::Error;
 
-/// Why a text says no watches: the first test that it fails, or want of memory. The first text of a
-/// fault is a key's path, as `watch[0].rule`, its tables counted from 0.
+/// Why a text says no watches: the first test that it fails, or `Mem`, want of memory. The first text
+/// of a fault is a key's path, as `watch[0].rule`, its tables counted from 0.
 #[derive(Drop, Error)]
 pub enum WatchFault {
-    /// It is no TOML.
+    /// It is no TOML, or not in UTF-8.
     #[error("not TOML")]
     NotToml,
     /// A key that must stand there doesn't.
@@ -22,13 +22,13 @@ pub enum WatchFault {
     /// A key that isn't known.
     #[error("an unknown key")]
     UnknownKey(Text),
-    /// So many tables aren't allowed.
+    /// The list has so many tables, by the second text; 1 to 1,000 are allowed.
     #[error("a value out of range")]
     OutOfRange(Text, Text),
-    /// A rule's name that isn't there.
+    /// No rule has this name, the second text.
     #[error("an unknown rule")]
     NoRule(Text, Text),
-    /// An entity's full id that isn't there.
+    /// No entity has this full id, the second text.
     #[error("an unknown entity")]
     NoEntity(Text, Text),
     #[error("out of memory")]

@@ -3,7 +3,7 @@ ghost use Rattle.std.specs.Prelude.{◌≡◌};
 ghost use Rattle.mk_watch_read.specs.Folds.{value_of};
 ghost use Rattle.mk_watch_read.specs.declared.rule.Fold.TheVariants as folds;
 
-/// The sum of two numbers, kept within 64 bits.
+/// The sum of two numbers, or the bound of 64 bits that it goes beyond.
 pub fn sum(first: i64, second: i64) -> i64
     ensures { result ≡ value_of folds.Sum first second }
 {

@@ -10,7 +10,7 @@ const TOP_KEYS: [&str; 1] = ["watch"];
 
 const WATCH_KEYS: [&str; 3] = ["entity", "attr", "rule"];
 
-// The document itself, or a table of its list.
+// The document itself, or a table of its list `watch`.
 #[derive(Clone, Copy)]
 pub enum Table {
     Top,

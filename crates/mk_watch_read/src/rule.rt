@@ -5,8 +5,8 @@ ghost use Rattle.mk_watch_read.specs.Folds.{value_of};
 
 use mk_base::Text;
 
-/// What a rule makes of two numbers: their sum, kept within 64 bits; the lesser; the greater; or
-/// the second.
+/// What a rule makes of two numbers: their sum, or the bound of 64 bits that it goes beyond; the
+/// lesser; the greater; or the second.
 #[derive(Clone, Copy, Debug, PartialEq, Eq)]
 pub enum Fold {
     Sum,
@@ -15,8 +15,8 @@ pub enum Fold {
     Last,
 }
 
-/// A rule: a name, and a body that may be called on every two numbers and answers there what the
-/// fold makes of them.
+/// A rule: a name, a fold, and a body that may be called on every two numbers of 64 bits and answers
+/// there what the fold makes of them.
 #[derive(Drop)]
 pub struct Rule {
     pub name: Text,
@@ -39,7 +39,7 @@ impl Rule {
         Rule { name, fold, body }
     }
 
-    /// The body's answer.
+    /// What the fold makes of these two numbers, as the body answers it.
     pub fn take(&self, first: i64, second: i64) -> i64
         ensures { result ≡ value_of self.now.fold first second }
     {

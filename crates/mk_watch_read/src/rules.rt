@@ -6,7 +6,7 @@ use crate::rule::Rule;
 use mk_base::{List, Mem};
 use std::alloc::Global;
 
-/// The rules that a program has, each under a name of its own.
+/// The rules that a program has, in the order in which they were added; fewer than 2^32.
 #[derive(Drop)]
 pub struct Rules {
     rules: List<Rule>,
@@ -26,7 +26,8 @@ impl Rules {
         }
     }
 
-    /// Adds a rule, whose name isn't there yet. At `Mem` the rule is dropped.
+    /// Adds a rule behind the others, whose name isn't there yet. At `Mem`, want of memory, the rule is
+    /// dropped, and the others stay.
     pub fn add(&mut self, rule: Rule) -> Result<(), Mem>
         requires new_name { has_name rule.name (names_in self.old) ≡ false }
         requires few { length (names_in self.old) < 2 ^ 32 - 1 }
@@ -38,7 +39,7 @@ impl Rules {
         self.rules.push(rule)
     }
 
-    /// The place of the rule of this name, from 0; `None` exactly where no rule has it.
+    /// The place of the first rule of this name, from 0; `None` exactly where no rule has it.
     pub fn find(&self, name: &str) -> Option<u32>
         ensures { result ≡ place_of name.now (names_in self.now) }
     {

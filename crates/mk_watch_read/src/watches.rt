@@ -21,7 +21,8 @@ use std::alloc::Global;
 // How many watches there may be.
 const MOST_WATCHES: usize = 1000;
 
-/// What is watched: an attribute of an entity, by a rule.
+/// What is watched: an attribute of an entity, by its number in the plan, and the rule for it, by its
+/// place in the store; both from 0.
 #[derive(Drop)]
 pub struct Watch {
     pub entity: u32,
@@ -32,7 +33,7 @@ pub struct Watch {
 /// The watches that a text of TOML says, over the entities of a plan and these rules, or the first
 /// test that it fails: that it is TOML, that it has no key but `watch`, which is a list of 1 to
 /// 1,000 tables; then of each table in order: that it has no key but `entity`, `attr` and `rule`,
-/// which are texts; that the rule is there, and the entity by its full id.
+/// which are texts; that the rule is there, and the entity by its full id. Or `Mem`, want of memory.
 pub fn read_watches(
     alloc: Global,
     bytes: &[u8],

@@ -20,10 +20,10 @@ use mosaikrun_endings::Ending;
 use mosaikrun_records::finished;
 use std::alloc::Global;
 
-/// The text that names the simulators that are to blame that two records, of these bytes, differ; or
-/// why there is none. The first record is replayed, then the second, each as its messages came; the
-/// first replay that isn't done gives its ending. Then `Ending::OtherPlan` names the first part in
-/// which the plans differ; the limit of entries is no part.
+/// The text that names the simulators that are to blame that two records differ; or why there is none.
+/// The first record is replayed, then the second, each as its messages came; the first replay that
+/// isn't done gives its ending. Then `Ending::OtherPlan` names the first part, from 1, in which the
+/// plans differ; the limit of entries is no part. `Ending::Mem` is want of memory.
 pub fn blamed(alloc: Global, first: Saved, second: Saved) -> Result<Vec<u8>, Ending>
     requires first_valid { IsValidPlan first.plan }
     requires first_known { All (IsKnown first.plan) (map came first.arrivals) }

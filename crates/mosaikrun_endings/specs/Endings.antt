@@ -9,7 +9,7 @@ use Rattle.mosaikrun_endings.specs.Scenarios.{text_of_scenario}
 use Rattle.mosaikrun_endings.specs.Setups.{text_of_setup}
 use Rattle.mosaikrun_endings.specs.Watches.{text_of_watches}
 
--- what is said of it
+-- what is said of an ending
 abbrev pub text_of : Ending → List ℕ
 text_of Usage = codes
     "usage: run SCENARIO [--record FILE] or replay RECORD [--order N] or check SCENARIO or demo N or migrate OLD NEW or resume SCENARIO RECORD [--record FILE] or watch RECORD SPEC or blame FIRST SECOND or paced SCENARIO FACTOR [--strict MS] [--record FILE]"
@@ -50,11 +50,11 @@ text_of Mem = codes "out of memory"
 abbrev pub unbroken : ℕ → ℕ
 unbroken b = if (b == 10) || (b == 13) then 32 else b
 
--- the line of it
+-- the line of an ending, with its line feed
 abbrev pub line_of : Ending → List ℕ
 line_of ending = codes "mosaikrun: " ++ map unbroken (text_of ending) ++ codes "\n"
 
--- the status of it
+-- the status of an ending
 abbrev pub status_of : Ending → ℕ
 status_of Usage = 2
 status_of (Missing name) = 3

@@ -39,7 +39,7 @@ text_of_create sim (create.TooMany count) = codes "create 6:" ++ spaced sim
     ++ spaced (decimal count)
 text_of_create sim create.Mem = codes "out of memory"
 
--- of groups and connections, whose entities are named by their full ids
+-- of groups, by simulator or model, and of connections, whose entities are named by their full ids
 abbrev pub text_of_connect : ConnectFault → List ℕ
 text_of_connect (connect.NoEntity id) = codes "connect 1:" ++ spaced id
 text_of_connect (connect.NoSourceAttr id attr) = codes "connect 2:" ++ spaced id ++ spaced attr

@@ -42,7 +42,8 @@ pub enum Ending {
         line: u64,
         fault: u8,
     },
-    /// A simulator's message, by its place among those of this simulator, counted from 0, is wrong.
+    /// A simulator's message, by its place among those of this simulator, counted from 0, is wrong, by this cause
+    /// (`docs/rules.md`).
     Wrong {
         sim: Text,
         place: u64,
@@ -88,13 +89,13 @@ pub enum Ending {
         late: u64,
         allowed: u64,
     },
-    /// The links to the simulators failed, or the clock did.
+    /// The links to the simulators failed, or couldn't be started, or the clock failed.
     Fleet,
     /// The folder failed.
     Folder,
     /// The output failed.
     Output,
-    /// The journal has as many entries as it may have, and one more is needed.
+    /// The journal has this many entries, as many as it may have, and one more is needed.
     Entries {
         entries: u32,
     },

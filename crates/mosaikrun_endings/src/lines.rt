@@ -13,8 +13,8 @@ use mk_base::{List, Text};
 use std::alloc::{AllocError, Global};
 
 impl Ending {
-    /// The line, with its line feed, that is written to the error output. Line feeds and carriage returns within names are
-    /// written as spaces, so it is one line.
+    /// The line, with its line feed, that is written to the error output. Line feeds and carriage returns within it are
+    /// written as spaces, so it is one line. `AllocError` is want of memory.
     pub fn line(&self, alloc: Global) -> Result<Vec<u8>, AllocError>
         ensures { IfOk result (λ line. line.items ≡ line_of self.now) }
     {

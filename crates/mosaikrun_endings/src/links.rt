@@ -11,7 +11,7 @@ use std::alloc::{AllocError, Global};
 pub enum LinkFault {
     /// The simulator closed it.
     Closed,
-    /// The next frame has no message, by this test of the five that a payload has to pass.
+    /// The next frame has no message: this is the first, from 1, of the five tests of a payload that it fails.
     Garbled(u8),
     /// The next frame's header says that it has this many bytes, more than a frame may have.
     LongFrame(u32),

@@ -17,9 +17,10 @@ use mosaikrun_endings::Ending;
 use mosaikrun_sayings::stopped;
 use std::alloc::Global;
 
-/// The record of version 2 of a record that is replayed as its messages came, whatever the replay's end; or why there is none:
-/// the bytes are no record, an entry of the record differs, or a fault came before all its messages were in the journal. Read
-/// again, it gives the same plan and messages.
+/// The record of version 2 of the journal of a record that is replayed as its messages came; also where the replay
+/// isn't done, but all its messages came to be in the journal. Or why there is none: the bytes are no record, an entry
+/// of the record differs, a fault came before all its messages were in the journal, or memory is wanting. Read again,
+/// it gives the same plan and messages, and the journal's Steps.
 pub fn migrated(alloc: Global, bytes: &[u8]) -> Result<Vec<u8>, Ending>
     ensures record { IfOk result (λ text. IsRecordOf bytes.now text.items) }
     ensures none { IfErr result (λ e. Unmigrated bytes.now e) }

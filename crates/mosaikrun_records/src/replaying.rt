@@ -9,7 +9,8 @@ use mk_record::write_report;
 use mosaikrun_endings::Ending;
 use std::alloc::Global;
 
-/// The report of a record that is replayed in this order, or as its messages came; or why there is none.
+/// The report of a record that is replayed in this order, or as its messages came; or why there is none: the bytes are
+/// no record, the replay isn't done, or memory is wanting.
 pub fn reported(alloc: Global, bytes: &[u8], order: Option<u32>) -> Result<Vec<u8>, Ending>
     ensures report { IfOk result (λ text. IsReportOf bytes.now order text.items) }
     ensures none { IfErr result (λ e. Unreported bytes.now order e) }

@@ -13,8 +13,9 @@ use mosaikrun_endings::Ending;
 use mosaikrun_sayings::stopped;
 use std::alloc::Global;
 
-/// What a record's bytes say, in version 1 or 2; or why they say nothing: `Ending::Record` with the
-/// line and the number of their first fault, or want of memory.
+/// What a record's bytes say, in version 1 or 2, its plan being valid and each message known
+/// (`IsKnown`); or why they say nothing: `Ending::Record` with the line, from 1, and the number of their
+/// first fault, or `Ending::Mem`.
 pub fn saved_of(alloc: Global, bytes: &[u8]) -> Result<Saved, Ending>
     ensures read { IfOk result
         (λ saved. reading bytes.now ≡ Said saved.plan (map came saved.arrivals) saved.asks) }

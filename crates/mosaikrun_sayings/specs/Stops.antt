@@ -10,14 +10,14 @@ use Rattle.mk_sched.specs.declared.faults.CoreFault.TheVariants as core
 use Rattle.mosaikrun_endings.specs.declared.ending.Ending.{Ending}
 use Rattle.mosaikrun_endings.specs.declared.ending.Ending.TheVariants.{Wrong, Failed, LoopLimit, Entries}
 
--- the text of a failure reply
+-- the text of a failure reply, and the empty text of another entry
 abbrev pub failure_in : Entry → List ℕ
 failure_in (entries.Got s (messages.Failure id text)) = text
 failure_in (entries.Got s (messages.Ask id name args named)) = []
 failure_in (entries.Got s (messages.Success id content)) = []
 failure_in (entries.Sent s item) = []
 
--- the text of the failure reply that a journal ends with
+-- the text of the failure reply that a journal ends with, and the empty text where it ends otherwise
 abbrev pub last_failure : List Entry → List ℕ
 last_failure J = unwrap_or (option_map failure_in (slice_get J (length J - 1))) []
 

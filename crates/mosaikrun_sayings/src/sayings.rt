@@ -8,7 +8,7 @@ use mk_setup::SetupFault;
 use mosaikrun_endings::{Ending, SetupEnding};
 use std::alloc::Global;
 
-/// The ids of a scenario's simulators, in order.
+/// The ids of a scenario's simulators, in order. `Mem` is want of memory.
 pub fn ids_of(alloc: Global, scenario: &Scenario) -> Result<List<Text>, Mem>
     ensures { IfOk result (λ ids. ids ≡ ids_of scenario.now) }
 {
@@ -19,7 +19,7 @@ pub fn ids_of(alloc: Global, scenario: &Scenario) -> Result<List<Text>, Mem>
     Ok(ids)
 }
 
-/// The id of a simulator; no text where there is none of this number.
+/// The id of a simulator, by its number; the empty text where there is none of this number.
 pub fn id_in(alloc: Global, ids: &List<Text>, sim: SimNo) -> Result<Text, Mem>
     ensures { IfOk result (λ id. id ≡ id_in ids.now sim) }
 {
@@ -29,7 +29,8 @@ pub fn id_in(alloc: Global, ids: &List<Text>, sim: SimNo) -> Result<Text, Mem>
     }
 }
 
-/// What is said of a fault of the handshake, the simulators having these ids.
+/// What is said of a fault of the handshake, the simulators having these ids: `Ending::Mem` of its want of memory, else
+/// `Ending::Setup`.
 pub fn setup_ending(alloc: Global, ids: &List<Text>, fault: SetupFault) -> Result<Ending, Mem>
     ensures { IfOk result (λ e. e ≡ setup_ending ids.now fault) }
 {

@@ -9,7 +9,8 @@ use mk_sched::CoreFault;
 use mosaikrun_endings::Ending;
 use std::alloc::Global;
 
-/// What is said of a fault of the core, by which a replay or a run ended.
+/// What is said of a fault of the core, by which a replay or a run of this plan ended, with this journal. A failure
+/// reply's text is that of the journal's last entry. `Mem` is want of memory.
 pub fn stopped(
     alloc: Global,
     plan: &Plan,
@@ -36,8 +37,7 @@ pub fn stopped(
     }
 }
 
-// The id of a simulator of the plan; no text where there is none of this number, which no fault
-// names.
+// The id of a simulator of the plan; the empty text where there is none of this number.
 fn sim_id(alloc: Global, plan: &Plan, sim: SimNo) -> Result<Text, Mem>
     ensures { IfOk result (λ id. id ≡ sim_id plan.now sim.0) }
 {
@@ -47,7 +47,7 @@ fn sim_id(alloc: Global, plan: &Plan, sim: SimNo) -> Result<Text, Mem>
     }
 }
 
-// The text of the failure reply that the journal ends with.
+// The text of the failure reply that the journal ends with; the empty text where it ends otherwise.
 fn last_failure(alloc: Global, journal: &Journal) -> Result<Text, Mem>
     ensures { IfOk result (λ text. text ≡ last_failure journal.now.entries) }
 {
@@ -57,7 +57,7 @@ fn last_failure(alloc: Global, journal: &Journal) -> Result<Text, Mem>
     }
 }
 
-// The text of a failure reply; no text for another entry, with which no failed journal ends.
+// The text of a failure reply; the empty text of another entry.
 fn failure_in(alloc: Global, entry: &Entry) -> Result<Text, Mem>
     ensures { IfOk result (λ text. text ≡ failure_in entry.now) }
 {

@@ -1,4 +1,4 @@
-//! The command `watch`: a record is replayed, and the tables of the attributes that a file says are
+//! The command `watch`: a record is replayed, and the tables of the watches that a file says are
 //! written. What such a file says, and what its tables are, is `mk_watch`'s.
 #![tactic(auto)]
 

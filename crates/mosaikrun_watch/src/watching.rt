@@ -63,7 +63,7 @@ fn plan_watches(
 }
 
 /// The tables of these watches over the replay of a record, its messages as they came, where all is
-/// done; or why there are none: how the replay ended, or want of memory.
+/// done; or why there are none: how the replay ended, or want of memory (`Ending::Mem`).
 pub fn tabled(
     alloc: Global,
     rules: &Rules,

@@ -1,5 +1,4 @@
--- For proofs alone. What the comparison has found out about one entry of the journal: a help for
--- its proof alone.
+-- For proofs alone. What the comparison has found out about one entry of the journal.
 use Rattle.std.specs.Prelude.{◌≡◌, ℕ, ◌+◌, ◌≤◌, List, [], ◌∷◌, length, map, drop, slice_get, Option, Some, None}
 use Rattle.mk_base.specs.declared.SimNo.{SimNo}
 use Rattle.mk_base.specs.Lists.{BeginsWith}

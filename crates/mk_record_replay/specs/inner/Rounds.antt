@@ -42,6 +42,7 @@ abbrev pub may_be_next : Bool → CoreState → List (List Message) → ℕ → 
 may_be_next any core waiting i = (any || is_some (open_id core i))
     && is_some_left (slice_get waiting i)
 
+-- those of so many simulators that may be next, in rising number
 abbrev pub next_among : Bool → CoreState → List (List Message) → ℕ → List ℕ
 next_among any core waiting count = filter (may_be_next any core waiting) (range_with_len 0 count)
 
@@ -103,6 +104,7 @@ pub record HasEnded (A : List journals.Arrival) (N : ℕ) (old : CoreState) (end
   pub plan : new.plan ≡ old.plan
   pub replay : IsReplayInOrder old.plan A N new.entries end
 
+-- what comes of giving the message that is next
 abbrev pub GivenNext : List journals.Arrival → ℕ → CoreState → Given → CoreState
     → List (List Message) → ℕ → Type 0
 GivenNext A N old Going new waiting number = HasGone A N old new waiting number
