@@ -12,8 +12,9 @@ use mk_base::{List, SimNo, Text};
 use mk_scenario::{Begin, Scenario};
 use std::alloc::Global;
 
-/// Looks for the first simulator, in the scenario's order, that can't be begun: by a command whose template has a fault, or
-/// within the program by a kind whose name isn't among these.
+/// Looks for the first simulator, in the scenario's order, that can't be begun: by a command whose template has a
+/// fault, or within the program by a kind whose name isn't among these. At `LaunchFault::Mem` nothing is said of any
+/// simulator.
 pub fn prepare(alloc: Global, scenario: &Scenario, kinds: &List<Text>) -> Result<(), Unready>
     requires { length scenario.now.sims < 2 ^ 32 }
     ensures prepared { OnOk result (IsPrepared scenario.now kinds.now) }

@@ -17,8 +17,8 @@ pub struct Part {
     at: u64,
 }
 
-// What was read of a template: whole words, the word that goes on, if one does, and the part within quotation marks that goes
-// on, if one does.
+// What was read of a template: whole words, the word that goes on, if one does, and the part within quotation marks
+// that goes on, if one does.
 #[derive(Drop)]
 pub struct Reader {
     alloc: Global,

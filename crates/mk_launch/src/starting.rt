@@ -28,12 +28,12 @@ pub enum Begun {
     Mem,
 }
 
-/// Starts the simulators in their order, and puts a place for each into `links`: its link, or `None` within the program. Before
-/// each start by a command it listens, and makes the command's words for that port: over a fleet that tells what it was asked,
-/// `asked` says so.
+/// Starts the simulators in their order, and puts a place for each into `links`, which has none before: its link, or
+/// `None` within the program. Before each start by a command it listens, and makes the command's words for that port:
+/// over a fleet that tells what it was asked, `asked` says so.
 ///
-/// At a refusal the places are those of the simulators before the one at which it stopped, and their links stay open. A link
-/// whose place found no memory has been closed.
+/// At a fault the places are those of the simulators before the one at which it stopped, which `Failed` names, and
+/// their links stay open. Where there was no memory for a link's place, that link has been closed.
 pub fn start_all<F: Fleet>(
     alloc: Global,
     scenario: &Scenario,

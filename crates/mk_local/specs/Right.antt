@@ -24,8 +24,8 @@ use Rattle.mk_local.specs.Replies.{after_item, item_reply, replies}
 use Rattle.mk_local.specs.Rows.{IsStepOf, IsStepTime}
 use Rattle.mk_local.specs.Simulators.{Simulator}
 
--- the plan's simulator i fits the kind: it has the kind's type, and nothing of an entity called
--- `time` is wanted of it
+-- the plan's simulator i fits the simulator L: it has the type of L's kind, nothing of an entity called
+-- `time` is wanted of it, and L's step is one that the kind may have
 pub record Fits (P : Plan) (i : ℕ) (L : Simulator) : Type 0 where
   pub kind : kind_of P i ≡ type_of L.kind
   pub wants : Each (λ (w : Want). w.eid ≢ codes "time") (wanted P i)
@@ -45,8 +45,8 @@ AreDataRepliesRight = (P : Plan) (i : ℕ) (L : Simulator) → Fits P i L → (x
     → item_reply (after_item L (Step x inputs advance)) id (GetData asked) ≡ Some m
     → wrong P i (Fetching x id) m ≡ None
 
--- what the simulator sent last after these items is a success with the id of the last of them, and
--- right there
+-- what the simulator sent last after these items, of which the first that is replied to has the id
+-- `first`, is a success with this id, and right at this place
 pub record EndsRight (P : Plan) (i : ℕ) (L : Simulator) (first : ℕ) (items : List Item) (id : ℕ)
     (place : Place) : Type 0 where
   pub content : tree.Json

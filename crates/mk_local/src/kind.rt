@@ -14,7 +14,8 @@ pub struct Kind {
 }
 
 impl Kind {
-    /// The kind whose entities take this turn, which the body computes.
+    /// The kind whose entities take this turn. Its body must compute it for each step from the row's least to
+    /// 1,000,000, each time from 0 to 1,000,000,000, and each setting, state and sum of 64 bits.
     pub fn new(turn: Turn, body: Box<dyn Fn(EntityStep) -> EntityTurn>) -> Kind
         requires callable { (s : _) → IsAllowed turn s → pre body s }
         requires answers { (s : _) (t : _) → IsAllowed turn s → post body s t → t ≡ row turn s }

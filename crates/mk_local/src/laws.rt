@@ -2,8 +2,8 @@
 ghost use Rattle.mk_local.specs.Accepted.{IsMetadataAccepted};
 ghost use Rattle.mk_local.specs.Right.{AreBareRepliesSame, AreDataRepliesRight, AreNumbersRead, AreRightInOrder, AreStepRepliesRight};
 
-/// No reply of a simulator within the program is wrong at its place, in a plan that it fits, whatever it was sent before; and
-/// it makes no difference how far a Step says that time may advance.
+/// No reply of a simulator within the program to a Step, or to a GetData behind one, is wrong at its place, in a plan
+/// that it fits, whatever it was sent before; and it makes no difference how far a Step says that time may advance.
 pub fn replies_are_right()
     ensures to_step { AreStepRepliesRight }
     ensures to_get_data { AreDataRepliesRight }
@@ -16,7 +16,7 @@ pub fn metadata_is_accepted()
     ensures { IsMetadataAccepted }
 {}
 
-/// The text of a value is read as the whole number that it writes.
+/// The text of a whole number within 64 bits is read as that number.
 pub fn numbers_are_read()
     ensures { AreNumbersRead }
 {}

@@ -1,4 +1,5 @@
-//! Simulators within the program: their kinds, each with a body that answers the kind's row, and what such a simulator replies.
+//! Simulators within the program: their kinds, each with a body that answers the kind's row, and what such a simulator
+//! replies.
 #![tactic(auto)]
 
 mod calls;

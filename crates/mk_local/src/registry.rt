@@ -17,7 +17,7 @@ pub struct Registry {
 }
 
 impl Registry {
-    /// No kind.
+    /// A registry without kinds.
     pub fn new(alloc: Global) -> Registry
         ensures { rows_in result ≡ [] }
     {

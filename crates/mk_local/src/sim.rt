@@ -20,8 +20,8 @@ use mk_plan::{Call, Item, Message};
 use std::alloc::Global;
 use std::marker::Model;
 
-/// A simulator within the program: its kind, the step that it took over, and its entities, each with its setting, its state
-/// and the output and output time of its last Step.
+/// A simulator within the program: its kind, its step, and its entities, each with its setting, its state, and the
+/// output and output time of its last Step.
 #[derive(Drop)]
 pub struct LocalSim {
     turn: Turn,
@@ -41,7 +41,7 @@ impl Model for LocalSim {
 }
 
 impl LocalSim {
-    /// A simulator of the kind of this name.
+    /// A simulator of the kind of this name, which is one of these kinds, before any request.
     pub fn new(alloc: Global, kinds: &Registry, name: &Text) -> Result<LocalSim, Mem>
         requires { has_kind name.now (rows_in kinds.now) ≡ true }
         ensures named { IfOk result (λ s. kind_named name.now (rows_in kinds.now) ≡ Some s.kind) }
@@ -59,7 +59,8 @@ impl LocalSim {
         }
     }
 
-    /// The reply to a request before the run, which isn't `stop`.
+    /// The reply to a request before the run, which isn't `stop`: a failure where the request is refused, which changes
+    /// nothing. At `Mem` nothing has changed.
     pub fn answer_call(
         &mut self,
         alloc: Global,
@@ -89,7 +90,8 @@ impl LocalSim {
         }
     }
 
-    /// The reply to an item of the run, a Step or a GetData.
+    /// The reply to an item of the run, a Step at a time from 0 to 1,000,000,000 or a GetData. The simulator's kind is
+    /// one of these kinds. At `Mem` nothing has changed.
     pub fn answer_item(
         &mut self,
         alloc: Global,

@@ -340,8 +340,8 @@ fn turned(turn: Turn, step: EntityStep) -> EntityTurn {
     }
 }
 
-// The row of a kind, whether the entity has an input, and the sum of its inputs; the entity's state from then on, its output, the
-// next time at which it wants a step, and the time at which its output is made.
+// The row of a kind, whether the entity has an input, and the sum of its inputs; the entity's state from then on, its
+// output, the next time at which it wants a step, and the time at which its output is made.
 type TurnRow = (Turn, bool, i64, i64, Option<i64>, Option<i64>, Option<i64>);
 
 // Whether the row is the turn at 10 of an entity with the step 4, the setting 7 and the state 5.

@@ -1,5 +1,5 @@
-//! What is said between the program and its simulators, and what it is made of: values, trees, frames, messages, the ids of
-//! requests, metadata and entities. The crate has tests alone.
+//! What is said between the program and its simulators, and what it is made of: values, trees, frames, messages, the
+//! ids of requests, metadata and entities. The crate has tests alone.
 #![tactic(auto)]
 
 #[cfg(test)]

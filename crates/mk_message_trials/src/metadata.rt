@@ -16,8 +16,8 @@ fn are(texts: &List<Text>, wanted: &[&str]) -> bool {
     texts.len() == wanted.len()
 }
 
-// A model: its name, whether it is public, whether it takes any input; its parameters, its attributes, those that trigger, those
-// that aren't persistent.
+// A model: its name, whether it is public, whether it takes any input; its parameters, its attributes, those that
+// trigger, those that aren't persistent.
 type Model = (
     &'static str,
     bool,

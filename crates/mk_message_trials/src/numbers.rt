@@ -11,7 +11,8 @@ const AGAIN: Answered = Answered::Unasked {
     outstanding: None,
 };
 
-// What is answered to an id that wasn't drawn, to the one that was, and to this again; and the ids drawn before and after.
+// What is answered to an id that wasn't drawn, to the one that was, and to this again; and the ids drawn before and
+// after.
 fn told() -> ([Answered; 3], [u64; 2]) {
     let mut numbers = Numbers::new(2);
     let first = numbers.draw();

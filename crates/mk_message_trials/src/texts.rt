@@ -6,7 +6,7 @@ use mk_base::{Datum, Json, Mem};
 use mk_json::{datum, read_json};
 use std::alloc::Global;
 
-// The tree of a text; one that is no value where the text has none.
+// The tree of a text, or `Odd` where it is no JSON.
 pub fn tree_of(alloc: Global, text: &str) -> Json
     ensures { is_in_range result ≡ true }
 {

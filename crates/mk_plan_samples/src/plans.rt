@@ -5,7 +5,7 @@ use mk_base::{Datum, List, Mem, SimKind, SimNo, Text, Via};
 use mk_plan::{Conn, Plan, PlanEntity, PlanModel, PlanSim};
 use std::alloc::Global;
 
-/// A simulator whose requests begin with this id.
+/// A simulator of this id, kind and rank, without initial events, whose requests begin with the id `first_id`.
 pub fn simulator(
     alloc: Global,
     id: &str,
@@ -141,7 +141,8 @@ fn count_of(sims: &List<PlanSim>) -> u32 {
     sims.len().min(9) as u32
 }
 
-/// A plan of fewer than ten simulators, until this time and with at most as many rounds.
+/// A plan of fewer than ten simulators with an entity each and these connections, until this time and with this loop
+/// limit.
 pub fn plan_of(
     alloc: Global,
     until: i64,

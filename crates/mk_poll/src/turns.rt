@@ -9,8 +9,8 @@ use std::alloc::Global;
 use std::collections::VecDeque;
 use std::marker::Model;
 
-/// The turns that links take. Each link that was added is ready, taken or parked, and only one of these. Ready links are
-/// taken in the order in which they became ready.
+/// The turns that links take. Each link that was added is ready, taken or parked, and only one of these. The link
+/// that has been ready for longest is taken first.
 #[derive(Drop)]
 pub struct Turns {
     ready: VecDeque<LinkNo>,
@@ -54,7 +54,8 @@ impl Turns {
         }
     }
 
-    /// Adds a link, which is ready. At want of memory nothing changes.
+    /// Adds a link that wasn't added before, which is ready. At `Mem`, which comes also where 2^32 - 1 were added,
+    /// nothing has changed.
     pub fn add(&mut self, link: LinkNo) -> Result<(), Mem>
         requires { ¬ IsAdded link self.old }
         ensures ok { OnOk result (self.new ≡ added link self.old) }

@@ -54,7 +54,7 @@ fn python(alloc: Global, program: &str, port: u16, file: &str) -> Result<Start, 
     Ok(Start::Command(words_of(alloc, &words)?))
 }
 
-// The link of a child, which is started behind a `listen`.
+// The link that a start gives, that of a child behind a `listen`.
 fn begin<F: Fleet>(fleet: &mut F, start: &Start) -> Option<LinkNo>
     ensures { IfSome result (λ link. F.open_links fleet.new ≡ F.open_links fleet.old ++ link ∷ []) }
 {

@@ -12,8 +12,8 @@ use Rattle.mk_outside.specs.Logs.{heard_on, said_on, last_read, last_write}
 use Rattle.mk_run_laws.specs.Hearing.{Takes}
 use Rattle.mk_run_laws.specs.Payloads.{AreFramed, IsFramed}
 
--- the link, the bytes heard and not yet given, the bytes unsent, whether it is parked, and the next
--- id
+-- the link, what was heard on it and isn't given yet, what is unsent, whether it is parked, and the id
+-- that comes next
 pub record Channel : Type 0 where
   pub link : LinkNo
   pub held : List ℕ
@@ -35,7 +35,8 @@ pub record StaysParked (entries : List LogEntry) (old new : Channel) : Type 0 wh
   pub unread : last_read old.link entries ≡ None
   pub unwritten : last_write old.link entries ≡ None
 
--- by these entries the channel came from old to new, and gave these messages
+-- by these entries the channel came from old to new, and gave these messages; where it is parked then,
+-- it is so by them, or it was and nothing was read or written on it
 pub record IsMoved (entries : List LogEntry) (given : List Message)
     (old new : Channel) : Type 0 where
   pub link : new.link ≡ old.link
@@ -45,8 +46,7 @@ pub record IsMoved (entries : List LogEntry) (given : List Message)
   pub parked : new.parked ≡ true → IsParkedIn entries new ⊎ StaysParked entries old new
 
 -- over the whole log the channel gave these messages, these payloads, each of them one that a frame
--- may
--- have, were queued on it, and this is the next id
+-- may have, were queued on it, and this is the next id; where it is parked, it is so by the log
 pub record IsChannelAt (log : List LogEntry) (messages : List Message) (payloads : List (List ℕ))
     (next : ℕ) (channel : Channel) : Type 0 where
   pub heard : Takes (heard_on channel.link log) messages channel.held
@@ -55,7 +55,7 @@ pub record IsChannelAt (log : List LogEntry) (messages : List Message) (payloads
   pub next_id : channel.next ≡ next
   pub parked : channel.parked ≡ true → IsParkedIn log channel
 
--- the channel with one more payload to be said
+-- the channel with one more payload to be said, and with this next id; it isn't parked
 abbrev pub queued : List ℕ → ℕ → Channel → Channel
 queued payload next channel = record {
   link = channel.link;

@@ -71,9 +71,8 @@ pub record IsUnheard (entries : List LogEntry) (old new : CrewState) : Type 0 wh
   pub moved : AreMoved entries (λ i. []) old new
   pub parked : AreParkedAtRests entries old
 
--- an item, whose payload a frame may have, was queued on the channel of simulator s, with the
--- channel's next
--- id
+-- an item, whose payload with this id a frame may have, was queued on the channel of simulator s,
+-- whose next id is then the one behind the item
 pub record IsSentOnLink (s : ℕ) (item : Item) (id : ℕ) (old new : CrewState) : Type 0 where
   pub channel : Channel
   pub there : channel_at old s ≡ Some channel

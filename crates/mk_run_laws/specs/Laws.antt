@@ -58,12 +58,13 @@ DoneIsAll P = (X : Exchange) (J : List Entry) → IsJournalOf X P J → IsDone P
     → (R : Messages) → IsPossible X P R
     → (i : ℕ) → (map bare (sent J i) ≡ run_items P R i) × (all_ended (sequential P R i) ≡ true)
 
--- and whatever goes on with the journal answers by kind, so there are such messages
+-- where nothing is left to do, whatever goes on with the journal answers by kind
 abbrev pub DoneAnswers : Plan → Type 0
 DoneAnswers P = (X : Exchange) (J : List Entry) → IsJournalOf X P J → IsDone P (view P J)
     → (R : Messages) → Continues P J R → AnswersByKind X.reply (is_within X.scenario) P R
 
--- the max_advance of each Step is a promise over all messages that may come
+-- the max_advance of each Step is a promise over all messages that may come where its simulator
+-- sends no more than it had before the Step
 abbrev pub StepsPromise : Plan → Type 0
 StepsPromise P = (X : Exchange) (J : List Entry) → IsJournalOf X P J
     → (H : List Entry) (s : SimNo) (x : Tier) (inputs : List Input) (advance : ℤ)

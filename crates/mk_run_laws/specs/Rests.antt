@@ -87,7 +87,8 @@ abbrev pub all_counts : ℕ → Scenario → List LogEntry → ℕ → Option �
 all_counts started S log i = option_map (λ (l : LinkNo). length (messages_heard (heard_on l log)))
     (sim_link started S i)
 
--- where the handshake rests: each request was said up to the first whose reply hadn't come
+-- where the handshake rests: each request was said up to the first whose reply hadn't come, and
+-- nothing more had come
 pub record IsWellInSetup (started : ℕ) (S : Scenario) (before : List LogEntry) : Type 0 where
   pub said : (i : ℕ) (l : LinkNo) → sim_link started S i ≡ Some l
       → SaysAll l before (frames_of
@@ -96,7 +97,7 @@ pub record IsWellInSetup (started : ℕ) (S : Scenario) (before : List LogEntry)
   pub heard_all : (i : ℕ) (l : LinkNo) → sim_link started S i ≡ Some l
       → last_read l before ≡ Some (NotHeard l)
 
--- at each rest of a run's whole log: the run's clause where all had set up, else the handshake's
+-- at each rest of a run's whole log at which all had set up: the run's clause
 abbrev pub RestsWell : ℕ → Scenario → Plan → List Entry → List LogEntry → Type 0
 RestsWell started S P J log = (before after : List LogEntry) → log ≡ before ++ Rest ∷ after
     → AllSetUp started S before → IsWellAtRest started S P J before

@@ -52,7 +52,8 @@ abbrev pub BeginsOnLink : ℕ → Scenario → List Entry → Type 0
 BeginsOnLink started S more = (s : SimNo) × (m : Message) × (later : List Entry) × (l : LinkNo)
     × (more ≡ Got s m ∷ later) × (sim_link started S s.0 ≡ Some l)
 
--- after each rest of the run a message of a link came, if anything did
+-- each rest at which all had set up is one of the journal (`IsRestOf`), and after it a message of a
+-- link came, if anything did
 abbrev pub RestsEnd : ℕ → Scenario → SetupReplies → Plan → List Entry → List LogEntry → Type 0
 RestsEnd started S replies P J log = (before after : List LogEntry) → log ≡ before ++ Rest ∷ after
     → AllSetUp started S before

@@ -70,7 +70,7 @@ pub record SaysRight (X : Exchange) (plan : Option Plan) (i : ℕ) (l : LinkNo) 
   pub as_executed : (P : Plan) → plan ≡ Some P → (R : Messages) → IsPossible X P R
       → i < sim_count P → BeginsWith (run_items P R i) (map bare items)
 
--- all of it was said, but where a write took nothing or the count of faults rose
+-- all of it was said, a stop too, but where a write took nothing or the count of faults rose
 abbrev pub SaidWhole : Scenario → List LogEntry → Type 0 → ℕ → LinkNo → ℕ → List Item → Type 0
 SaidWhole S log risen i l asked items = (said_on l log
     ≡ frames_of (link_payloads S i asked items true))

@@ -95,7 +95,8 @@ impl Within {
         }
     }
 
-    /// The reply of a simulator within the program to a request before the run, which isn't `stop`. At `Mem` nothing has changed.
+    /// The reply of a simulator within the program to a request before the run, which isn't `stop`. At `Mem` nothing
+    /// has changed.
     pub fn answer_call(
         &mut self,
         kinds: &Registry,
@@ -116,8 +117,9 @@ impl Within {
         Ok(reply)
     }
 
-    /// Keeps the reply of a simulator within the program to an item of the run, a Step or a GetData, behind those that are kept.
-    /// The kinds are those that the simulators were made of. At `Mem` nothing has changed.
+    /// Keeps the reply of a simulator within the program to an item of the run, a Step at a time from 0 to
+    /// 1,000,000,000 or a GetData, behind those that are kept. The kinds are those that the simulators were made of. At
+    /// `Mem` nothing has changed.
     pub fn answer_item(
         &mut self,
         kinds: &Registry,

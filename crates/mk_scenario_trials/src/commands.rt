@@ -4,8 +4,8 @@ use mk_base::{Mem, Text};
 use mosaikrun_words::{FileCommand, PairCommand, Request, read_words};
 use std::alloc::Global;
 
-// A request: its command, its names, and its number, which is -1 where there is none. Of a run that goes on the number is the length
-// of the third name.
+// A request: its command, its names, and its number, which is -1 where there is none. Of a run that goes on the number
+// is the length of the third name.
 type Parts<'a> = (&'a str, &'a str, &'a str, i64);
 
 fn parts(request: &Request) -> Parts<'_> {

@@ -110,8 +110,8 @@ const THREE: &str = "until = 1
 sim = [{name = 'A', command = '\"my sim\" --at=%(addr)s 100%%'}, {name = 'B', local = 'sum'}, {name = 'C', connect = '127.0.0.1:4000'}]
 ";
 
-// The fleet fails at no call, at the start of the fourth simulator, and at that of the first; and of three simulators at no call,
-// at the second start, at the first one, and as it is to listen.
+// The fleet fails at no call, as it is to listen for the fourth simulator, and at the start of the first; and of three
+// simulators at no call, at the second start, at the first one, and as it is to listen.
 const STARTS: [Row; 7] = [
     (
         FOUR,

@@ -1,5 +1,6 @@
-//! Before anything runs: words of the command line, a scenario file, the demo, ranks and cycles, and how simulators are begun.
-//! The crate has tests alone. Words that ask for nothing and faults of files are among the cases that the built program runs.
+//! Before anything runs: words of the command line, a scenario file, the demo, ranks and cycles, and how simulators are
+//! begun. The crate has tests alone. Faults of files, and more words that ask for nothing, are among the cases that the
+//! built program runs.
 #![tactic(auto)]
 
 #[cfg(test)]

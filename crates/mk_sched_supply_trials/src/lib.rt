@@ -1,5 +1,5 @@
-//! The values of connections and of asynchronous requests: what names stand for, what is delivered, and what a step or a request
-//! gets of it. The crate has tests alone.
+//! The values of connections and of asynchronous requests: what names stand for, what is delivered, and what a step or
+//! a request gets of it. The crate has tests alone.
 #![tactic(auto)]
 
 #[cfg(test)]

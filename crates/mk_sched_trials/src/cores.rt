@@ -84,8 +84,8 @@ fn reply(alloc: Global, core: &mut Core, sim: u32, text: &str) -> &'static str {
     }
 }
 
-// Who says what, or `next`; what the core answers, and how many of the counter's outputs it keeps then at most. The counter makes
-// all seven before the sum replies for the first time; those before the sum's step are given up.
+// Who says what, or `next`; what the core answers, and how many of the counter's outputs it keeps then at most. The
+// counter makes all seven before the sum replies for the first time; those before the sum's step are given up.
 type Line = (u32, &'static str, &'static str, usize);
 
 const LINES: [Line; 32] = [

@@ -1,5 +1,5 @@
-//! The core and what it stands on: plans that are valid, messages that are right, bounds, steps that are pending, turns, and a
-//! run of two simulators. The crate has tests alone.
+//! The core and what it stands on: plans that are valid, messages that are right, bounds, steps that are pending,
+//! turns, and a run of two simulators. The crate has tests alone.
 #![tactic(auto)]
 
 #[cfg(test)]

@@ -29,8 +29,8 @@ enum Move {
     End,
 }
 
-// What comes about at a simulator, and what is open from then on, with the next time of its turn and how many messages were
-// right.
+// What comes about at a simulator, and what is open from then on, with the next time of its turn and how many messages
+// were right.
 type Row = (Who, Move, Place, Option<i64>, u64);
 
 // Does what the row says, and tells whether that came of it.

@@ -47,7 +47,8 @@ const FARTHER: Tie = Tie {
     ..ALSO
 };
 
-// Up to when a plan goes, the rank of its second simulator, its connections from the first to the second, and what is told of it.
+// Up to when a plan goes, the rank of its second simulator, its connections from the first to the second, and what is
+// told of it.
 type Row = (i64, u32, &'static [Tie], u8);
 
 fn plan(alloc: Global, row: &Row) -> Result<Plan, Mem> {

@@ -2,7 +2,8 @@
 
 use crate::handshake::Said;
 
-/// A time-based simulator T, an event-based one E and a hybrid one H, with an entity or two of each, and each kind of connection.
+/// A time-based simulator T, an event-based one E and a hybrid one H, with an entity or two created of each, and each
+/// kind of connection.
 pub const CONNECTED: &str = "until = 9
 sim = [{name = 'T', local = 't', initial_events = [4]}, {name = 'E', local = 'e'}, {name = 'H', local = 'h'}]
 entities = [{id = 't', sim = 'T-0', model = 'M', num = 2, params = {p = 1}}, {id = 'e', sim = 'E-0', model = 'M'}, {id = 'h', sim = 'H-0', model = 'M', num = 2}]

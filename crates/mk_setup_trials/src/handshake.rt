@@ -17,8 +17,8 @@ use std::alloc::Global;
 /// A payload, and the number of the simulator that says it.
 pub type Said = (u32, &'static str);
 
-/// The handshake of a scenario with these messages, each of which comes while a request is outstanding; empty where the text is
-/// no scenario that can be run.
+/// The handshake of a scenario with these messages, each of which comes while a request is outstanding; empty where the
+/// text is no scenario that can be run.
 pub fn transcript(alloc: Global, file: &str, said: &[Said]) -> Result<Vec<u8>, Mem> {
     match begun(alloc, file) {
         Some(setup) => whole(alloc, setup, said),

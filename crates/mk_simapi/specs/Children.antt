@@ -32,8 +32,8 @@ status_of (served.TooLong n) = 5
 status_of (served.LongReply n) = 7
 status_of served.Mem = 8
 
--- the fleet failed to start a link, or there was no memory for one; none was started, and nothing
--- was heard or said
+-- the fleet failed to start a link, or there was no memory; none was started, and nothing was heard
+-- or said
 pub record IsUnstarted (started_before started_after : ℕ) (before after : List LinkNo)
     (old new : Option (List LogEntry)) (answer : ℕ) : Type 0 where
   pub status : (answer ≡ 6) ⊎ (answer ≡ 8)

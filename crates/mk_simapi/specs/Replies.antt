@@ -11,6 +11,7 @@ use Rattle.mk_local.specs.Calls.{call_reply, after_call}
 use Rattle.mk_local.specs.Replies.{item_reply, after_item}
 use Rattle.mk_simapi.specs.Requests.{call_in, item_in}
 
+-- the call is the stop
 abbrev pub is_stop_call : Call → Bool
 is_stop_call (Init sim params) = false
 is_stop_call (Create num model params) = false

@@ -40,8 +40,8 @@ pub record HasHeardStop (L : Simulator) (link : LinkNo) (log : List LogEntry) : 
   pub short : AreShort L before
   pub said : SaysAll link log (frames_of (payloads L before))
 
--- a message was heard whose reply has n bytes, which is more than a frame may have, and all replies
--- before it are short
+-- a message was heard whose reply has n bytes, which is more than a frame may have; all replies before
+-- it are short, and no stop came up to it
 pub record IsLong (L : Simulator) (link : LinkNo) (log : List LogEntry) (n : ℕ) : Type 0 where
   pub before : List Message
   pub asks : Message

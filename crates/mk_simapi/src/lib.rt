@@ -1,4 +1,5 @@
-//! A simulator's side of the protocol: a simulator of one of the kinds is served over a link, and a program that is one.
+//! A simulator's side of the protocol: a simulator of one of the kinds is served over a link, and a program that is
+//! one.
 #![tactic(auto)]
 
 mod forms;

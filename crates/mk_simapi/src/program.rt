@@ -68,10 +68,11 @@ fn status_of(end: Served) -> u8
     }
 }
 
-/// Connects to the address that the words name, which starts one link or none, serves a simulator of the kind that they name there, and closes the link.
-/// Answers the program's status: 2 exactly where the words aren't the name of one of these kinds and an address, `127.0.0.1`
-/// or `localhost` with a port; 0 at a stop, 5 where the link ended or what was heard is no message, 6 where the fleet
-/// failed, 7 where a reply is too long for a frame, 8 for want of memory.
+/// Connects to the address that the words name, which starts one link or none, serves a simulator of the kind that they
+/// name there, and closes the link. Answers the program's status: 2 exactly where the words aren't the name of one of
+/// these kinds and an address, `127.0.0.1` or `localhost` with a port; 0 at a stop, 5 where the link ended or what was
+/// heard is no message or too long for one, 6 where the fleet failed, 7 where a reply is too long for a frame, 8 for
+/// want of memory.
 pub fn child<F: Fleet, R: Wait>(
     rt: &R,
     alloc: Global,

@@ -1,8 +1,8 @@
 // How a serving ends.
 
 /// Why a simulator is no longer served. `Garbled` has the first test that the payload of the next frame fails, as
-/// `mk_message::read` numbers them, `TooLong` the length that its header gives, and `LongReply` the length in bytes of the
-/// reply that is next, which is more than a frame may have.
+/// `mk_message::read` numbers them, `TooLong` the length that its header gives, and `LongReply` the length in bytes of
+/// the reply that is next, which is more than a frame may have.
 #[derive(Clone, Copy, Debug, PartialEq, Eq)]
 pub enum Served {
     /// A stop was heard.

@@ -89,7 +89,8 @@ impl Service {
         }
     }
 
-    // Queues the reply that a message got, if it got one; an end where the message is a stop, or the reply can't be queued.
+    // Queues the reply that a message got, if it got one; an end where the message is a stop, or the reply can't be
+    // queued.
     fn say(&mut self, answer: Answer) -> Option<Served>
         ensures same { self.new.servant ≡ self.old.servant }
         ensures link { self.new.session.link ≡ self.old.session.link }
@@ -198,9 +199,11 @@ impl Service {
     }
 }
 
-/// Serves a simulator of the kind of this name on a link: answers each request in order, until a stop. A request that asks
-/// for nothing that is known gets the failure reply `unknown request`, and replies are ignored. `Closed` and `Failed` come
-/// only where the fleet answered so, and `LongReply` exactly where a reply is longer than a frame may be.
+/// Serves a simulator of the kind of this name on a link: answers each request in order, until a stop. A request that
+/// asks for nothing that is known gets the failure reply `unknown request`, and replies are ignored. At `Stopped` all
+/// replies before the stop were said, or the last write took nothing. `Closed` comes only where the last read found the
+/// link's end, `Failed` only where the fleet's count of faults rose, and `LongReply` only where a reply is longer than
+/// a frame may be.
 pub fn serve<F: Fleet, R: Wait>(
     rt: &R,
     alloc: Global,

@@ -46,13 +46,13 @@ abbrev pub without_place : Option LinkNo → List LinkNo → List LinkNo
 without_place None links = links
 without_place (Some link) links = without link links
 
--- what the start of a link asks
+-- what the start of a link adds to what the fleet was asked: nothing where it gave no link
 abbrev pub begun_asks : Begun → Start → List Asked
 begun_asks (Place place) start = to_start start ∷ []
 begun_asks Failed start = []
 begun_asks Mem start = []
 
--- what the start of one simulator asks: all of it where it has come to its place
+-- what the start of one simulator adds to that: all of it where the simulator has come to its place
 abbrev pub BegunAsks : Begun → Begin → List Asked → Type 0
 BegunAsks (Place place) begin asks = AsksFor begin asks
 BegunAsks Failed begin asks = AsksSome begin asks

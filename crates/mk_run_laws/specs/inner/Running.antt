@@ -32,7 +32,7 @@ abbrev pub awaited : Scenario → Replies → Plan → List Entry → ℕ → Li
 awaited S reply P J i = if is_within S i && is_some ((view P J).open_at i)
     then reply i (map bare (sent J i)) ∷ [] else []
 
--- and something did
+-- each rest at which all had set up is one of the journal, and after it a message of a link came
 abbrev pub RestsOver : ℕ → Scenario → SetupReplies → Plan → List Entry → List LogEntry → Type 0
 RestsOver started S replies P J log = (before after : List LogEntry) → log ≡ before ++ Rest ∷ after
     → AllSetUp started S before

@@ -9,7 +9,7 @@ use Rattle.mk_local.specs.Simulators.{Simulator}
 use Rattle.mk_run_local.specs.Seen.{WithinState, sim_at}
 use Rattle.mk_run_local.specs.Calls.{IsFitSuccess}
 
--- the same, if it is there
+-- the number is within 64 bits, if it is there
 abbrev pub IsShortIfThere : Option ℤ → Type 0
 IsShortIfThere None = ⊤
 IsShortIfThere (Some n) = FitsIn64 n
@@ -25,7 +25,8 @@ pub record IsFitEntity (e : Entity) : Type 0 where
 abbrev pub IsFit : Simulator → Type 0
 IsFit L = Each IsFitEntity L.entities
 
--- the numbers of each simulator, and of each reply that is kept, are in range
+-- the numbers of each simulator are within 64 bits, and each reply that is kept is a success whose
+-- whole numbers are in range
 pub record AreFit (W : WithinState) : Type 0 where
   pub sims : (i : ℕ) (L : Simulator) → sim_at W i ≡ Some L → IsFit L
   pub kept : Each (λ (a : Arrival). IsFitSuccess a.message) W.kept
