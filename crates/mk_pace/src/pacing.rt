@@ -41,13 +41,13 @@ use std::sync::Wait;
 
 /// Runs a prepared scenario with its ranks over a fleet with a clock, as `mk_run::run` does, but
 /// that each Step waits for its moment: what the clock told when the handshake was over, and
-/// `factor` milliseconds for each unit of time. Order and inputs are those of `run`. What is owed
-/// behind a Step that waits is said right behind it. Where nothing comes it sleeps, 5 milliseconds
-/// at most. With `strict`, it ends at the first Step that is to be sent next and is more
-/// milliseconds late.
+/// `factor` milliseconds, 1 to 86,400,000, for each unit of time. Order and inputs are those of
+/// `run`. What is owed behind a Step that waits is said right behind it. Where nothing comes it
+/// sleeps, 5 milliseconds at most. With `strict`, a number of at most 86,400,000 milliseconds, it
+/// ends at the first Step that is to be sent next and is later than that.
 ///
 /// The plan and the journal are there wherever the handshake was made, the clock told the origin,
-/// and there was memory for the run.
+/// and there was memory for the run. A clock that fails ends it as a fleet that fails does.
 pub fn paced<F: Paced, R: Wait>(
     rt: &R,
     alloc: Global,

@@ -4,15 +4,15 @@ ghost use Rattle.mk_pace_held.specs.Firsts.{earlier_of, is_no_later};
 
 use mk_base::{SimNo, Tier};
 
-/// When a Step is due: its time, and the moment before which it isn't sent.
+/// When a Step is due: its time, and the moment before which it isn't sent, in milliseconds of the clock.
 #[derive(Clone, Copy, Debug, PartialEq, Eq)]
 pub struct Due {
     pub at: Tier,
     pub moment: u64,
 }
 
-/// An item that isn't sent yet: its place among the entries of the journal, the id that it goes with, and when it is due, if it
-/// is a Step.
+/// An item that isn't sent yet: its place among the entries of the journal, the id that it goes with, and when it is
+/// due, if it is a Step.
 #[derive(Clone, Copy, Debug, PartialEq, Eq)]
 pub struct Held {
     pub place: usize,

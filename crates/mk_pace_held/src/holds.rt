@@ -87,8 +87,8 @@ impl Holds {
         self.queues[sim.0 as usize].push(held)
     }
 
-    /// The Step that is to be sent next: of those before which nothing waits of their simulators, the one with the least moment,
-    /// and of these the one that was asked for first. `None` exactly where there is none.
+    /// The Step that is to be sent next: of those before which nothing waits of their simulators, the one with the
+    /// least moment, and of these the one that was asked for first. `None` exactly where there is none.
     pub fn first(&self) -> Option<First>
         ensures some { IfSome result (λ f. IsFirst f self.now) }
         ensures none { result ≡ None → (i : ℕ) (q : List Held) → slice_get self.now i ≡ Some q

@@ -52,7 +52,8 @@ abbrev pub IsAskedBefore : List Entry → SimNo → Tier → SimNo → Tier → 
 IsAskedBefore J s x t y = (before between after : List Entry) × (a b : List Input) × (m n : ℤ)
     × (J ≡ before ++ Sent s (Step x a m) ∷ (between ++ Sent t (Step y b n) ∷ after))
 
--- this Step was to be sent next, and was later than is allowed by so many milliseconds in all
+-- this Step was to be sent next, its moment being so many milliseconds before what the clock told
+-- last, which is more than are allowed
 pub record IsLate (T : Timing) (J : List Entry) (log : List LogEntry) (sim : SimNo) (time : ℤ)
     (late allowed : ℕ) : Type 0 where
   pub strict_is : T.strict ≡ Some allowed

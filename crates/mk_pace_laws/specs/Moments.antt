@@ -13,13 +13,13 @@ use Rattle.mk_plan.specs.Report.{is_step}
 use Rattle.mk_pace_laws.specs.declared.end.Moment.{Moment}
 use Rattle.mk_pace_laws.specs.Clocks.{IsRising}
 
--- what the clock told at a run's begin, and how many milliseconds a unit of time has
+-- what the clock told when the handshake was over, and how many milliseconds a unit of time has
 pub record Tempo : Type 0 where
   pub origin : ℕ
   pub factor : ℕ
 
--- how a run is paced: its tempo, how late a Step may be sent, if there is a bound, and the moments
--- of the Steps that were sent
+-- how a run is paced: its tempo, how many milliseconds late a Step may be sent, if there is a bound,
+-- and the moments of the Steps that were sent
 pub record Timing : Type 0 where
   pub tempo : Tempo
   pub strict : Option ℕ

@@ -27,7 +27,8 @@ AreAllLinked S = (i : ℕ) → is_within S i ≡ true → ⊥
 
 -- where a run sleeps, J being its journal: what was there by then has all messages heard by then,
 -- nobody is ready in it, all of its items were said before the first early Step of each simulator,
--- and nothing more had come
+-- and nothing behind these, or a beginning of them after which a write took nothing, and the last
+-- read of each link found nothing
 pub record IsWellAtNap (started : ℕ) (S : Scenario) (P : Plan) (T : Tempo) (J : List Entry)
     (before : List LogEntry) : Type 0 where
   pub has_all : (i : ℕ) (l : LinkNo) → sim_link started S i ≡ Some l
@@ -69,8 +70,8 @@ abbrev pub AreTold : Tempo → List LogEntry → List Item → Type 0
 AreTold T log items = (first later : List Item) (x : Tier) (inputs : List Input) (advance : ℤ)
     → items ≡ first ++ Step x inputs advance ∷ later → HasTold (moment_at T x.time) log
 
--- of the journal's items to simulator i these were queued on its link, which was parked, and what
--- waits was early
+-- of the journal's items to simulator i these were queued on its link, which was parked, the moment
+-- of each Step among them having been told, and what waits was early
 pub record IsChannelAtNap (S : Scenario) (replies : SetupReplies) (T : Tempo) (at : List Entry)
     (before : List LogEntry) (i : ℕ) (l : LinkNo) : Type 0 where
   pub channel : Channel
@@ -84,7 +85,8 @@ pub record IsChannelAtNap (S : Scenario) (replies : SetupReplies) (T : Tempo) (a
   pub early : IsEarly T (last_told before) waiting
 
 -- when the fleet slept behind these entries, the journal was a beginning of J, nobody was ready,
--- and each channel was parked, in step with that journal but for what waits
+-- each channel was parked, in step with that journal but for what waits, and the journal got a
+-- message of a link next, if anything
 pub record IsNapOf (started : ℕ) (S : Scenario) (replies : SetupReplies) (P : Plan) (T : Tempo)
     (J : List Entry) (before : List LogEntry) : Type 0 where
   pub at : List Entry

@@ -41,7 +41,8 @@ use Rattle.mk_pace_laws.specs.Naps.{AreAllLinked, IsTimely, NapsLook, NapsWell}
 abbrev pub IsAwake : List LogEntry → Type 0
 IsAwake entries = (before after : List LogEntry) → entries ≡ before ++ Nap ∷ after → ⊥
 
--- the clock was first looked at when all had set up, and told the origin
+-- the clock was first looked at when all had set up, and told the origin; until then the fleet
+-- didn't sleep
 pub record IsOrigin (started : ℕ) (S : Scenario) (log : List LogEntry) (origin : ℕ) : Type 0 where
   pub before : List LogEntry
   pub later : List LogEntry
@@ -61,9 +62,11 @@ pub record IsPacedLink (X : Exchange) (replies : SetupReplies) (J : List Entry) 
 
 -- a paced run with a plan and a journal, over the entries that it added to the log: what holds of a
 -- run holds of it, but for items that were never sent; a simulator within the program replied to
--- what was sent alone; the fleet rests only in the handshake; where it sleeps, nothing is due, and
--- each link has been looked at; where the run was broken off some request was open, and nobody was
--- ready; and no link but the run's was read or written
+-- what was sent alone; the fleet rests only in the handshake; where it sleeps, the last read of each
+-- link found nothing, and, the clock never having gone back and no simulator being within the
+-- program, nothing was due; the journal has the fault that the end names, if it names one; where the
+-- run was broken off some request was open, and nobody was ready; and no link but the run's was read
+-- or written
 pub record IsPaced (X : Exchange) (P : Plan) (J : List Entry) (T : Timing)
     (faults new_faults : ℕ) (end : PaceEnd) : Type 0 where
   pub replies : SetupReplies

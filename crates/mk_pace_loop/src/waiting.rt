@@ -14,9 +14,9 @@ use mk_plan::Item;
 use std::alloc::Global;
 use std::marker::Model;
 
-/// For each simulator what waits of its items, the moments of the Steps that were sent, and the
-/// tempo: what the clock told at the begin, how many milliseconds a unit of time has, and how many
-/// milliseconds late a Step may be.
+/// For each simulator what waits of its items, the moments of the Steps that were sent, the tempo,
+/// which is what the clock told when the handshake was over and how many milliseconds a unit of time
+/// has, and how many milliseconds late a Step may be, if there is a bound.
 #[derive(Drop)]
 pub struct Waiting {
     holds: Holds,
@@ -84,7 +84,7 @@ impl Waiting {
         self.origin + time as u64 * self.factor
     }
 
-    /// When an item is due, if it is a Step.
+    /// When an item is due; `None` where it is no Step.
     pub fn due_of(&self, item: &Item) -> Option<Due>
         requires { HasTime item.now }
         ensures { DueAs self.now.tempo item.now result }
@@ -126,7 +126,7 @@ impl Waiting {
         self.holds.front(sim)
     }
 
-    /// The Step that is to be sent next, as `Holds::first`.
+    /// The Step that is to be sent next, as by `Holds::first`.
     pub fn first(&self) -> Option<First>
         ensures some { IfSome result (λ f. IsFirst f self.now.holds) }
         ensures none { result ≡ None → (i : ℕ) (q : List Held) → slice_get self.now.holds i ≡ Some q
@@ -164,7 +164,8 @@ impl Waiting {
         self.moments.pop();
     }
 
-    /// The end of the run, where the Step that is to be sent next is later than is allowed.
+    /// The end of the run, where the Step that is to be sent next is later than is allowed; `None` where
+    /// it isn't.
     pub fn too_late(&self, first: First, told: u64) -> Option<PaceEnd>
         requires { first.due.moment ≤ told }
         ensures some { IfSome result (λ end. IsTooLate first told self.now end) }

@@ -122,9 +122,9 @@ ResumedRunsComplete = (X : Exchange) (P : Plan) (saved : Saved) (J : List Entry)
     → IsFaultless X P r.first J r.heard faults new_faults
     → (end ≡ ends.Outcome outcome.Done) ⊎ (end ≡ ends.Outcome outcome.Mem)
 
--- each end of a record that isn't taken comes exactly where its cause is there: the plan is another
--- in this part; or it is the same, and this entry is another, or the messages meet this fault,
--- unless memory was wanting
+-- each end of a record that isn't taken comes wherever its cause is there: the plan is another in
+-- this part; or it is the same, and this entry is another, or the messages meet this fault, unless
+-- memory was wanting. That it comes nowhere else, `ResumesAs` says
 pub record EndsExactly (P : Plan) (saved : Saved) (end : ResumeEnd) : Type 0 where
   pub other_plan : (n : ℕ) → IsFirstOther P saved.plan (Some n) → end ≡ ends.OtherPlan n
   pub other_entry : (n : ℕ) → IsFirstOther P saved.plan None

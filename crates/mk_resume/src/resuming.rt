@@ -60,7 +60,8 @@ pub struct ResumeRan {
 /// stopped and closed, for which no memory is needed. Where all simulators are within the program
 /// nothing is done with the fleet.
 ///
-/// The messages of the record are known ones, as `read_record` ensures.
+/// It ends as a run does, or by a record that isn't this run's, or by another message; memory may be
+/// wanting at any time. The messages of the record are known ones, as `read_record` ensures.
 pub fn resume<F: Fleet, R: Wait>(
     rt: &R,
     alloc: Global,

@@ -20,7 +20,7 @@ use mk_scenario::Scenario;
 use std::alloc::Global;
 use std::sync::Wait;
 
-// A fleet that starts no link, never fails, and tells no log. It has one that it was given, until that is closed, or none.
+// A fleet that starts no link, never fails, and tells no log. A link that it was given is open until it is closed.
 #[derive(Drop)]
 struct NoFleet {
     link: Option<LinkNo>,

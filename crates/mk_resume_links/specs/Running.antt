@@ -33,7 +33,8 @@ pub record IsRestOf (saved : Counts) (started : ℕ) (S : Scenario) (replies : S
       × (w.parked ≡ true)
       × IsInStep S replies before i (repeated at i (heard i)) (free_items at i (heard i)) w
 
--- after each rest of the run the journal got a message of a link next, if anything
+-- after each rest of the run at which all had set up the journal got a message of a link next, if
+-- anything
 abbrev pub RestsEnd : Counts → ℕ → Scenario → SetupReplies → Plan → List Entry → List LogEntry
     → Type 0
 RestsEnd saved started S replies P J log = (before after : List LogEntry)

@@ -11,8 +11,8 @@ use Rattle.mk_resume_walk.specs.Talks.{up_to}
 
 -- the link of a resumed run with the journal J, on which n messages were taken: it is that of a run
 -- with the beginning of J up to the simulator's message n, from 0. So its first messages are the
--- setup replies, the next n those of J; what was said is a beginning of the frames of the handshake,
--- of these first of the items that were free by then, and of a stop
+-- setup replies, the next ones the first n of J; what was said is a beginning of the frames of the
+-- handshake, of these items, the first of those that were free by then, and of a stop
 abbrev pub IsLinkOfResumed : Scenario → SetupReplies → List Entry → List LogEntry → Type 0 → ℕ
     → LinkNo → ℕ → List Item → Type 0
 IsLinkOfResumed S replies J log risen i l n items = IsLinkOfRun S replies (up_to i n J) log risen i

@@ -21,7 +21,7 @@ use Rattle.mk_resume_walk.specs.Talks.{free_items}
 use Rattle.mk_resume_links.specs.Rests.{Counts}
 
 -- all that is free was queued; but for the last, where it was too long or there was no memory for
--- it
+-- it. Where the plan or an entry is another, nothing was
 abbrev pub QueuedAllAt : ResumeEnd → List Item → List Item → Type 0
 QueuedAllAt (ends.Outcome o) all queued = QueuedAll o all queued
 QueuedAllAt (ends.OtherPlan n) all queued = queued ≡ []

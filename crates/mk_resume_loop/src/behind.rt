@@ -14,7 +14,8 @@ use std::alloc::Global;
 use std::marker::Model;
 
 /// Where a simulator stands that is behind: the place in the journal of the message that it has to
-/// send again next, how many of its entries stand up to that one, and the id of its next request.
+/// send again next, how many of its entries stand up to and with that one, and the id of its next
+/// request.
 #[derive(Drop, Clone, Copy)]
 pub struct Standing {
     pub place: usize,
@@ -55,7 +56,8 @@ impl Behind {
         })
     }
 
-    /// Adds the entries that the journal has got behind those of the index.
+    /// Adds the entries that the journal has got behind those of the index. After an `Err` the first
+    /// of them may have been added.
     pub fn grow(&mut self, entries: &[Entry]) -> Result<(), Mem>
         ensures sims { self.new.sims ≡ self.old.sims }
         ensures own { length self.new.index.own ≡ length self.old.index.own }
@@ -65,7 +67,8 @@ impl Behind {
         self.index.grow(entries)
     }
 
-    /// The place of the simulator's next entry behind so many of its entries.
+    /// The place of the simulator's next entry behind so many of its entries; `None` where it has no
+    /// more.
     pub fn next(&self, sim: SimNo, gone: usize) -> Option<usize>
         requires { sim.0 < length self.now.index.own }
         ensures { (J : List Entry) → (from : ℕ) → IsIndexOf J self.now.index
@@ -74,7 +77,7 @@ impl Behind {
         self.index.next(sim, gone)
     }
 
-    /// Where the simulator stands.
+    /// Where the simulator stands; `None` where it has caught up.
     pub fn standing(&self, sim: SimNo) -> Option<Standing>
         requires { sim.0 < length self.now.sims }
         ensures { slice_get self.now.sims sim.0 ≡ Some result }

@@ -320,8 +320,8 @@ fn turn<F: Fleet, R: Wait>(
     hear(rt, alloc, core, crew, fleet, kinds, behind)
 }
 
-/// Goes on until the first end: whoever is ready is asked, and one message is heard, which its simulator has to send again
-/// or the core takes.
+/// Goes on until the first end: whoever is ready is asked, and one message is heard, which its simulator has to send
+/// again or the core takes.
 pub fn drive<F: Fleet, R: Wait>(
     rt: &R,
     alloc: Global,

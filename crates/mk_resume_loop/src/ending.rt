@@ -15,7 +15,8 @@ pub enum ResumeEnd {
     OtherPlan(u8),
     /// The record's entry of this number, from 0, isn't the journal's that its messages make.
     OtherEntry(u32),
-    /// The simulator's message of this number, from 0 after its setup, isn't the saved one.
+    /// The simulator's message of this number, from 0 after its setup, isn't the saved one: `kept` is
+    /// that one, and `heard` the one that came.
     Differs {
         sim: SimNo,
         place: u64,

@@ -1,5 +1,5 @@
-//! The loop of a resumed run: each simulator is sent again what the journal has for it, its messages are compared with the
-//! saved ones, and behind these the core takes them.
+//! The loop of a resumed run: each simulator is sent again what the journal has for it, its messages are compared with
+//! the saved ones, and behind these the core takes them.
 #![tactic(auto)]
 
 mod behind;

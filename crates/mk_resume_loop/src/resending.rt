@@ -100,7 +100,8 @@ pub fn go_on(
     }
 }
 
-/// Sends each simulator its first item.
+/// Sends each simulator the item that its entries in the journal begin with, if they do; or the run
+/// ends.
 pub fn begin(
     core: &Core,
     crew: &mut Crew,

@@ -74,13 +74,14 @@ EndsOutcome risen S P J log C = EndsAs risen (IsDone P (view P J))
     (HasGivenPaced S J log C) (λ i l g. g.channel.channel.held)
     (IsLongAmong S.started S.scenario P J) P J log
 
+-- what an end shows before the crew is stopped
 abbrev pub EndsPace : Type 0 → Setting → Plan → Timing → List Entry → List LogEntry → CrewState
     → PaceEnd → Type 0
 EndsPace risen S P T J log C (pace.Outcome end) = EndsOutcome risen S P J log C end
 EndsPace risen S P T J log C
     (pace.Late sim time late allowed) = IsLate T J log sim time late allowed
 
--- the paced run has come to its end
+-- the paced run has come to its end, and its crew is still to be stopped
 pub record HasPacedOut (risen : Type 0) (S : Setting) (T : Timing) (P : Plan) (J : List Entry)
     (log : List LogEntry) (C : CrewState) (end : PaceEnd) : Type 0 where
   pub suits : Suits S P

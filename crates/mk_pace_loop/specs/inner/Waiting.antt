@@ -14,7 +14,7 @@ use Rattle.mk_pace_laws.specs.declared.end.PaceEnd.TheVariants as pace
 use Rattle.mk_pace_laws.specs.Moments.{Tempo, Timing, moment_at, timing}
 
 -- for each simulator what waits of its items, the moments of what was sent, the tempo, and how many
--- milliseconds late a Step may be
+-- milliseconds late a Step may be, if there is a bound
 pub record WaitingSeen : Type 0 where
   pub holds : List (List Held)
   pub moments : List Moment
@@ -30,7 +30,7 @@ waiting_seen T strict holds moments = record {
   strict = strict;
 }
 
--- by what the Steps that wait were paced so far
+-- how the run was paced so far
 abbrev pub timing_of : WaitingSeen → Timing
 timing_of W = timing W.tempo W.strict W.moments
 
@@ -76,7 +76,7 @@ pub record IsTooLate (first : First) (told : ℕ) (W : WaitingSeen) (end : PaceE
   pub beyond : allowed < late
   pub is : end ≡ pace.Late first.sim (first.due.at).time late allowed
 
--- a Step is at a time of a run
+-- a Step is at a time of a run, 0 to 1,000,000,000; another item has none
 abbrev pub HasTime : Item → Type 0
 HasTime (Step x inputs advance) = (pos 0 ≤ℤ x.time) × (x.time ≤ℤ pos 1000000000)
 HasTime (GetData wanted) = ⊤

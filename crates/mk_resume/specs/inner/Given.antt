@@ -2,7 +2,7 @@
 use Rattle.std.specs.Prelude.{List, [], ◌∷◌, Option, None, Some}
 use Rattle.mk_base.specs.declared.LinkNo.{LinkNo}
 
--- the link that it was given, if it has one
+-- the open links of a fleet that has this one, or none
 abbrev pub given : Option LinkNo → List LinkNo
 given None = []
 given (Some link) = link ∷ []

@@ -20,7 +20,7 @@ use Rattle.mk_resume_links.specs.Rests.{Counts}
 use Rattle.mk_resume_links.specs.Running.{IsRestOf}
 
 -- over the log each channel gave its setup replies and these messages, and its handshake and these
--- items were queued on it; and these replies are kept
+-- items were queued on it; no simulator within the program has one; and these replies are kept
 pub record IsInTouch (messages : ℕ → List Message) (items : ℕ → List Item)
     (awaits : ℕ → List Message) (started : ℕ) (S : Scenario) (replies : SetupReplies)
     (log : List LogEntry) (C : CrewState) : Type 0 where
@@ -40,7 +40,7 @@ abbrev pub IsResting : Scenario → Plan → List Entry → Type 0
 IsResting S P J = IsUnready P J
     × ((i : ℕ) → is_within S i ≡ true → (view P J).open_at i ≡ None)
 
--- after each rest so far the journal got a message of a link next
+-- after each rest so far at which all had set up the journal got a message of a link next
 abbrev pub RestsOver : Counts → ℕ → Scenario → SetupReplies → Plan → List Entry → List LogEntry
     → Type 0
 RestsOver saved started S replies P J log = (before after : List LogEntry)

@@ -3,7 +3,7 @@ use Rattle.std.specs.Prelude.{◌≡◌, ℕ, ◌+◌, Option, Some, None, slice
 use Rattle.mk_resume_loop.specs.declared.behind.Standing.{Standing}
 use Rattle.mk_resume_loop.specs.inner.Underway.{BehindSeen}
 
--- where a simulator stands, once its next entry was looked up behind so many
+-- where a simulator stands, once its next entry, a message, was looked up behind so many
 abbrev pub standing_at : Option ℕ → ℕ → ℕ → Option Standing
 standing_at None gone id = None
 standing_at (Some p) gone id = Some (record { place = p; gone = gone + 1; id = id })
