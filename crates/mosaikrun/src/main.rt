@@ -1,7 +1,7 @@
 //! The program mosaikrun: reads the words of the command line and does what they ask, over the system's files, streams,
 //! sockets and child programs: runs a scenario, by the clock or without, or the demo, goes on with a run that was cut
-//! short, checks a scenario, replays or migrates a record, makes tables of its values, and says who answered otherwise in
-//! another record.
+//! short, checks a scenario, replays or migrates a record, makes tables of its values, and says who answered otherwise
+//! in another record.
 #![tactic(auto)]
 
 use mk_base::{Mem, Text};

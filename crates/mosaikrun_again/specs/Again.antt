@@ -50,7 +50,7 @@ abbrev pub IsFaultAgain : CoreFault → ReplayEnd → Type 0
 IsFaultAgain f end = (end ≡ Core f) ⊎ ((fault_in f ≡ None) × ((n : ℕ) × (end ≡ Short n)))
 
 -- the replay of a run that was done is done; of one that ended by a fault of the core, it ends by
--- the same
+-- that again, as `IsFaultAgain` says; nothing is said of the others
 abbrev pub EndsAlike : Outcome → ReplayEnd → Type 0
 EndsAlike outcome.Done end = end ≡ Done
 EndsAlike (outcome.Setup f) end = ⊤

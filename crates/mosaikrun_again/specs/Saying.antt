@@ -64,7 +64,7 @@ pub record ReplaysSayTheSame : Type 0 where
       → IsLimitAgain (saying_of Report ids P J (outcome.Core f)) o
 
 -- the record of a run is read as its plan and journal; the replay of that has to do with the run
--- what is said above, and `replay` says the same
+-- what `IsRunAgain` says, and `replay` says the same
 pub record IsRecordOfRun (ids : List (List ℕ)) (P : Plan) (J : List Entry) (end : Outcome)
     : Type 0 where
   pub read : IsReadAs P J

@@ -9,11 +9,11 @@ use Rattle.mk_scenario.specs.declared.parts.Scenario.{Scenario}
 abbrev pub counted : List ℕ → ℕ → List ℕ
 counted word n = word ++ codes " " ++ decimal n ++ codes "\n"
 
--- the id of a simulator
+-- the id of a simulator; no text where there is none of this number
 abbrev pub id_at : Scenario → ℕ → List ℕ
 id_at S s = unwrap_or (option_map (λ (part : SimPart). part.id) (slice_get S.sims s)) []
 
--- the simulator of a rank
+-- the simulator of a rank; 0 where none has it
 abbrev pub sim_of_rank : List ℕ → ℕ → ℕ
 sim_of_rank ranks r = unwrap_or (position (λ x. x == r) ranks) 0
 

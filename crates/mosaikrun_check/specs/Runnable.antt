@@ -18,8 +18,8 @@ use Rattle.mosaikrun_check.specs.CheckText.{id_at}
 abbrev pub AreRanks : Scenario → List ℕ → Type 0
 AreRanks S ranks = IsRanking (has_edge (edges_of S)) (length S.sims) ranks
 
--- the scenario has these ranks, so they are 0 to the count, each once, and rise along its edges;
--- and each of its simulators can be begun
+-- the scenario has these ranks, so each number below the count of simulators is there once, and they
+-- rise along its edges; and each of its simulators can be begun
 pub record IsRunnable (kinds : List (List ℕ)) (S : Scenario) (ranks : List ℕ) : Type 0 where
   pub ranked : AreRanks S ranks
   pub each_once : IsEachOnce (length S.sims) ranks

@@ -20,9 +20,9 @@ use mk_scenario::{Scenario, ScenarioFault, read_scenario};
 use mosaikrun_endings::Ending;
 use std::alloc::Global;
 
-/// What `check` prints of a scenario file with these bytes, the kinds within the program having these names: how many simulators,
-/// groups and blocks it has, and the simulators' ids in rising rank. Else why it is no scenario, the cycle that leaves no ranks,
-/// or the first simulator that can't be begun.
+/// What `check` prints of a scenario file with these bytes, the kinds within the program having these names: how many
+/// simulators, groups and blocks it has, and the simulators' ids in rising rank. Else why it is no scenario, the cycle
+/// that leaves no ranks, the first simulator that can't be begun, or that memory is wanting.
 pub fn checked(alloc: Global, kinds: &List<Text>, bytes: &[u8]) -> Result<Vec<u8>, Ending>
     ensures checked { IfOk result (λ text. IsChecked kinds.now bytes.now text.items) }
     ensures unchecked { IfErr result (λ ending. IsUnchecked kinds.now bytes.now ending) }
@@ -34,7 +34,7 @@ pub fn checked(alloc: Global, kinds: &List<Text>, bytes: &[u8]) -> Result<Vec<u8
     }
 }
 
-/// The scenario of a file with these bytes, or why they are none.
+/// The scenario of a file with these bytes, which is well-formed; or why they are none, or that memory is wanting.
 pub fn scenario_of(alloc: Global, bytes: &[u8]) -> Result<Scenario, Ending>
     ensures read { IfOk result (λ s. scenario_of bytes.now ≡ Ok s) }
     ensures wellformed { IfOk result (λ s. IsWellformed s) }
@@ -47,8 +47,8 @@ pub fn scenario_of(alloc: Global, bytes: &[u8]) -> Result<Scenario, Ending>
     }
 }
 
-/// The ranks of a scenario's simulators, each of which can be begun, the kinds within the program having these names. Else the
-/// cycle that leaves no ranks, or the first simulator that can't be begun.
+/// The ranks of a scenario's simulators, each of which can be begun, the kinds within the program having these names.
+/// Else the cycle that leaves no ranks, the first simulator that can't be begun, or that memory is wanting.
 pub fn ranked(alloc: Global, kinds: &List<Text>, scenario: &Scenario) -> Result<List<u32>, Ending>
     requires { IsWellformed scenario.now }
     ensures runnable { IfOk result (λ ranks. IsRunnable kinds.now scenario.now ranks) }
@@ -100,8 +100,8 @@ fn ids_of(alloc: Global, scenario: &Scenario, walk: &List<SimNo>) -> Result<List
     Ok(ids)
 }
 
-/// One file has one status: two texts or endings that `check` may answer of the same bytes, with the same kinds, have the same,
-/// want of memory aside.
+/// One file has one status: two texts or endings that `check` may answer of the same bytes, with the same kinds, have
+/// the same, want of memory aside.
 pub fn scenario_has_one_status()
     ensures { (kinds : List (List ℕ)) → (bytes : List ℕ) → (o : Result (List ℕ) Ending)
         → (p : Result (List ℕ) Ending)

@@ -13,9 +13,8 @@ use mosaikrun_run::{Form, played};
 use std::alloc::Global;
 use std::sync::Wait;
 
-/// Runs the demo scenario of this size, 1 to 100, its simulators being of these kinds, and answers the summary of what each was
-/// sent, or why there is none. All its simulators are within the program, so the fleet is as before: its log has no new entry,
-/// none of its counts rises, and the links that were open before are open after it, and no others.
+/// Runs the demo scenario of this size, 1 to 100, its simulators being of these kinds, and answers the summary of what
+/// each was sent, or why there is none. All its simulators are within the program, so the fleet is as before.
 pub fn summed<F: Fleet, R: Wait>(
     rt: &R,
     alloc: Global,

@@ -1,5 +1,5 @@
-//! The command `paced`: a run of a scenario over a fleet with a clock, each Step waiting for its moment; its report and its record are
-//! those of a run.
+//! The command `paced`: a run of a scenario over a fleet with a clock, each Step waiting for its moment; its report and
+//! its record are those of a run.
 #![tactic(auto)]
 
 mod laws;

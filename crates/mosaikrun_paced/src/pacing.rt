@@ -29,9 +29,11 @@ use mosaikrun_run::{Accepted, Told, accept};
 use std::alloc::Global;
 use std::sync::Wait;
 
-/// Reads a scenario file's bytes, and runs the scenario over a fleet with a clock, its simulators within the program being of these
-/// kinds: with `factor` milliseconds to a unit of time, and no Step being sent more than `strict` milliseconds late, where that is
-/// given. It may wait for others. Every link that it starts is closed at the end.
+/// Reads a scenario file's bytes, and runs the scenario over a fleet with a clock, its simulators within the program
+/// being of these kinds: with `factor` milliseconds to a unit of time, 1 to 86,400,000, and no Step being sent more
+/// than `strict` milliseconds late, at most 86,400,000, where that is given. Answers its report, or why there is none,
+/// with its record, where one is wanted and it has a journal. It may wait for others. Every link that it starts is
+/// closed at the end.
 pub fn paced_ran<F: Paced, R: Wait>(
     rt: &R,
     alloc: Global,

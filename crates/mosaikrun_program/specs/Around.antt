@@ -58,8 +58,8 @@ pub record RulesSeen : Type 0 where
 abbrev pub rules_seen : {g : _} {f : _} {h : _} → Rules g f h → RulesSeen
 rules_seen {g} {f} {h} r = record { names = names_in r; folds = folds_in r }
 
--- the words of a call, the kinds and rules within the program and what happened at its fleet, its folder and
--- its output
+-- the words of a call, the kinds and rules within the program and what happened at its fleet, its
+-- folder and its output
 pub record Around : Type 0 where
   pub words : List (List ℕ)
   pub outside : Outside
@@ -106,7 +106,8 @@ pub record KeepsCountsAndLinks (folder : FolderSeen) (links : LinksSeen)
   pub err_count : err.faults ≤ err.new_faults
   pub links_closed : AreNumbered links.started links.before → links.after ≡ links.before
 
--- nothing was put to the output, nothing saved, and nothing done with the fleet
+-- nothing was put to the output, nothing saved, nothing added to the fleet's log, and its count of
+-- faults didn't rise
 pub record IsUntouched (S : Around) : Type 0 where
   pub unput : S.output.after ≡ S.output.before
   pub unsaved : S.folder.files_after ≡ S.folder.files

@@ -75,8 +75,8 @@ abbrev pub OfTwo : (List ℕ → List ℕ → Result (List ℕ) Ending → Type 
     → Result (List ℕ) Ending → Type 0
 OfTwo = OfTwoBy IsRecord
 
--- what a command makes of these files' bytes, the program having these kinds and rules: its text, or why there
--- is none
+-- what a command makes of these files' bytes, the program having these kinds and rules: its text, or
+-- why there is none
 abbrev pub IsOutcomeOf : List Turn → RulesSeen → FileCommand → List (List ℕ)
     → Result (List ℕ) Ending → Type 0
 IsOutcomeOf kinds rules (Replay name order) = OfOne (λ bytes. reports.IsOutcome bytes order)
@@ -85,7 +85,7 @@ IsOutcomeOf kinds rules (Pair Migrate old new) = OfOne IsMigration
 IsOutcomeOf kinds rules (Pair Watch name spec) = OfTwo (IsWatchOutcome rules.names rules.folds)
 IsOutcomeOf kinds rules (Pair Blame first second) = OfTwo IsBlameOutcome
 
--- the words ask for nothing
+-- the words ask for nothing, or memory is wanting
 abbrev pub IsUnasked : List (List ℕ) → Ending → Type 0
 IsUnasked words e = (e ≡ ends.Mem) ⊎ ((e ≡ ends.Usage) × ((R : Request) → IsAsked words R → ⊥))
 
@@ -107,7 +107,8 @@ IsNext (first ∷ names) [] name = first ≡ name
 IsNext (first ∷ names) (bytes ∷ read) name = IsNext names read name
 
 -- what the first of two files has to be, so that the second is read: a scenario that can be run, the
--- kinds having these names, where the run of it is to go on, and else a record
+-- kinds having these names, where the run of it is to go on, and else a record. A request with one
+-- file or none has no use for it
 abbrev pub IsAccepted : List (List ℕ) → Request → List ℕ → Type 0
 IsAccepted kinds (Resume scenario recorded saved) = IsStudy kinds
 IsAccepted kinds (Run scenario saved) = IsRecord

@@ -44,6 +44,7 @@ pub record IsResumeWithin (words : List (List ℕ)) (files : Option Files) : Typ
   pub asked : IsAsked words (Resume name recorded saved)
   pub file : IsHeldWithin files name
 
--- no run is asked for, nor one that goes on, or one in which no simulator has a link
+-- no run is asked for, by a clock or without, nor one that goes on; or the folder tells that the
+-- scenario of the run, or of the one that goes on, has no simulator with a link
 abbrev pub NeedsNoFleet : List (List ℕ) → Option Files → Type 0
 NeedsNoFleet words files = IsNoRun words ⊎ (IsRunWithin words files ⊎ IsResumeWithin words files)

@@ -7,8 +7,8 @@ use Rattle.mosaikrun_program.specs.Around.{Around}
 use Rattle.mosaikrun_program.specs.Answers.{TextAnswer}
 use Rattle.mosaikrun_program.specs.Commands.{IsAsked, ComesOfFiles, target_of}
 
--- the words ask for a command on files, of which this text or ending came, and nothing was done with
--- the fleet
+-- the words ask for a command on files, of which this text or ending came; nothing was added to the
+-- fleet's log, and its count of faults didn't rise
 pub record HasMade (S : Around) (answer : Result (Unit {0}) Ending) : Type 0 where
   pub command : FileCommand
   pub asked : IsAsked S.words (Files command)

@@ -30,9 +30,10 @@ use Rattle.mosaikrun_program.specs.Running.{RunAnswer}
 -- the scenario, with its ranks, was run by the clock, by this plan, with this journal and these
 -- moments: what was said
 -- on each link begins what sequential execution sends, no Step before its moment, each Step's
--- max_advance is a promise, and where the fleet slept nothing was due. At status 0 messages may come,
--- and over all that may, the output has grown by exactly the report of what sequential execution
--- sends; and the record of the plan and the journal was saved under the name that was given for it
+-- max_advance is a promise, and where the fleet slept, its clock never having gone back and no
+-- simulator being within the program, nothing was due. At status 0 messages may come, and over all
+-- that may, the output has grown by exactly the report of what sequential execution sends; and the
+-- record of the plan and the journal was saved under the name that was given for it
 pub record IsRightPacedRun (C : Around) (factor : ℕ) (strict : Option ℕ) (S : Scenario)
     (saved : Option (List ℕ)) (n : ℕ) : Type 0 where
   pub ranks : List ℕ
@@ -51,8 +52,8 @@ pub record IsRightPacedRun (C : Around) (factor : ℕ) (strict : Option ℕ) (S 
   pub recorded : n ≡ 0 → (name : List ℕ) → saved ≡ Some name → C.folder.files_after
       ≡ option_map (with_file name (record_text plan journal)) C.folder.files
 
--- the scenario wasn't run: the handshake ended early, memory was wanting, or the clock failed when it was
--- first looked at
+-- the scenario wasn't run: the handshake ended early, memory was wanting, or the clock failed when it
+-- was first looked at
 abbrev pub IsUnpacedBy : Outside → Scenario → Type 0
 IsUnpacedBy O S = (text : Result (List ℕ) Ending) × (kept : Option (List ℕ))
     × IsUnpaced O S text kept

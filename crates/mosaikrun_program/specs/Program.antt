@@ -15,7 +15,7 @@ use Rattle.mosaikrun_program.specs.Resuming.{IsNewRecordKept}
 use Rattle.mosaikrun_program.specs.Pacing.{IsPaceRecordKept}
 use Rattle.mosaikrun_program.specs.Running.{HasRunAs}
 
--- the words ask for nothing
+-- the words ask for nothing, or there was no memory to read them
 pub record IsMisused (S : Around) (e : Ending) : Type 0 where
   pub cause : IsUnasked S.words e
   pub untouched : IsUntouched S
@@ -62,7 +62,7 @@ Told (Ok done) failed old new = new ≡ old
 Told (Err e) failed old new = TookLine (line_of e) failed old new
 
 -- the program has ended with this status: by some answer, which holds and was told at the error
--- output; and the record of a run is kept
+-- output; and the record is kept of a run, of one that goes on, and of one by a clock
 pub record EndsWith (S : Around) (failed : Type 0) (err_before err_after : Option (List ℕ))
     (n : ℕ) : Type 0 where
   pub answer : Result (Unit {0}) Ending

@@ -99,8 +99,8 @@ pub record IsRefused (S : Around) (bytes recorded : List ℕ) : Type 0 where
   pub read : reading recorded ≡ Said old.plan (map came old.arrivals) old.asks
   pub untaken : IsUntaken S.outside study.scenario study.ranks old
 
--- or all files are as before, since the run didn't go on: the bytes are no scenario that can be run, or no
--- record, or it was refused
+-- or all files are as before, since the run didn't go on: the bytes are no scenario that can be run,
+-- or no record, or it was refused
 pub record KeepsOldFiles (S : Around) (bytes recorded : List ℕ) : Type 0 where
   pub same : S.folder.files_after ≡ S.folder.files
   pub cause : (IsStudy (map name_of S.outside.kinds) bytes → ⊥)

@@ -24,8 +24,8 @@ use mosaikrun_watch::{tabled, watches_of};
 use mosaikrun_words::{FileCommand, PairCommand};
 use std::alloc::Global;
 
-// The text that a command makes of its files, or why there is none. They are read in order, the second once the first is
-// accepted.
+// The text that a command makes of its files, or why there is none. They are read in order, the second once the first
+// is accepted.
 pub fn made<D: Folder>(
     alloc: Global,
     kinds: &Registry,

@@ -10,7 +10,8 @@ use mk_outside::{FileSave, Folder, PutAll, Sink, put_all};
 use mosaikrun_endings::Ending;
 use mosaikrun_run::Told;
 
-// Saves the record of what was done over a fleet, if there is one, under the name, if one is given, and prints the text.
+// Saves the record of what was done over a fleet, if there is one, under the name, if one is given, and prints the
+// text; or says why there is none, or why it isn't printed.
 pub fn hand_out<D: Folder, K: Sink>(
     told: Told,
     name: &Option<Text>,
@@ -56,7 +57,8 @@ fn report<D: Folder, K: Sink>(
     }
 }
 
-// Saves the record where there is no text, and says why there is none, or that memory was wanting for the record.
+// Saves the record where there is no text, and says why there is none, or that memory was wanting for saving it. That
+// the folder failed isn't said.
 fn explained<D: Folder>(
     ending: Ending,
     made: &Option<Vec<u8>>,

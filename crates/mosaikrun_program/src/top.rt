@@ -43,18 +43,23 @@ use mosaikrun_words::{FileCommand, Request, read_words};
 use std::alloc::Global;
 use std::sync::Wait;
 
-/// Does what the words ask. A command on files reads them, and puts what it makes of them to `out`; a migration puts nothing
-/// there, and saves a record. A run reads its scenario's file, is made over the fleet, and may wait for others; it saves its
-/// record, where the words give a name, however it ended. A run that goes on from a record reads that file too, once its scenario
-/// is accepted, and saves the record of the whole run. A run by the clock holds each Step until its moment. The demo is a run
-/// too, of a scenario that is no file. Answers the status. A scenario's simulators within the program are of these kinds, and
-/// tables are made by these rules.
+/// Does what the words ask. A command on files reads them, and puts what it makes of them to `out`; a migration puts
+/// nothing there, and saves a record. A run reads its scenario's file, is made over the fleet, and may wait for
+/// others; it saves its record, where the words give a name, however it ended, if it has a journal. A run that goes on
+/// from a record reads that file too, once its scenario is accepted, and saves the record of the whole run, if it took
+/// the old one. A run by the clock holds each Step until its moment. The demo is a run too, of a scenario that is no
+/// file. A scenario's simulators within the program are of these kinds, and tables are made by these rules.
 ///
-/// Nothing is done with the fleet, unless the words ask for a run by a clock, or for a run, or one that goes on from a record, of a
-/// scenario in which some simulator has a link.
+/// Answers the status: 0 where all is done; 2 where the words ask for nothing; 3 where a file isn't there, is too long
+/// or is refused; 4 where the handshake is; 5 where a run or a replay ended by a message, a link, a record that differs
+/// or a Step that was too late; 6 where the folder, the fleet or `out` failed; 7 at the limit of entries or of an
+/// item's bytes; 8 where memory was wanting.
 ///
-/// At a status other than 0 `err` gets a line that says why, and `out` gets nothing, or a beginning of the text where it failed
-/// or found no memory.
+/// Nothing is done with the fleet, where the folder tells, unless the words ask for a run by a clock, or for a run, or
+/// one that goes on from a record, of a scenario in which some simulator has a link.
+///
+/// At a status other than 0 `err` gets a line that says why, or a beginning of it where it failed or found no memory,
+/// and `out` gets nothing, or a beginning of the text where it failed or found no memory.
 pub fn program<D: Folder, F: Paced, K: Sink, E: Sink, R: Wait>(
     rt: &R,
     alloc: Global,
@@ -259,8 +264,8 @@ fn asked(alloc: Global, words: &[String]) -> Result<Request, Ending>
     }
 }
 
-// Reads a scenario's file and runs it over the fleet; the record is saved under the name, if there is one, and the report is
-// printed.
+// Reads a scenario's file and runs it over the fleet; the record is saved under the name, if there is one, and the
+// report is printed.
 fn play<D: Folder, F: Fleet, K: Sink, R: Wait>(
     rt: &R,
     alloc: Global,
@@ -288,8 +293,8 @@ fn play<D: Folder, F: Fleet, K: Sink, R: Wait>(
     hand_out(told, name, folder, out)
 }
 
-// Reads a scenario's file and then, where it can be run, that of a record, and goes on with the run over the fleet; the new record
-// is saved under the name, if there is one, and the report is printed.
+// Reads a scenario's file and then, where it can be run, that of a record, and goes on with the run over the fleet; the
+// new record is saved under the name, if there is one, and the report is printed.
 fn carry_on<D: Folder, F: Fleet, K: Sink, R: Wait>(
     rt: &R,
     alloc: Global,
@@ -328,8 +333,8 @@ fn carry_on<D: Folder, F: Fleet, K: Sink, R: Wait>(
     hand_out(told, name, folder, out)
 }
 
-// Reads a scenario's file and runs it over the fleet by its clock, with so many milliseconds to a unit of time; the record is saved
-// under the name, if there is one, and the report is printed.
+// Reads a scenario's file and runs it over the fleet by its clock, with so many milliseconds to a unit of time; the
+// record is saved under the name, if there is one, and the report is printed.
 fn pace<D: Folder, F: Paced, K: Sink, R: Wait>(
     rt: &R,
     alloc: Global,

@@ -37,8 +37,8 @@ ResumedTextsAreSequential = (O : Outside) (wanted : Bool) (S : Scenario) (ranks 
     → IsWholeReport O wanted S ranks saved text kept gone
 
 -- a run and a resumed run, whatever fleets they are over, by the same plan, which both have a report:
--- where they got the same messages of each simulator, they sent each the same items, and have one
--- report
+-- where they got the same messages of each simulator, they sent each the same items, but for their
+-- max_advance, and have one report
 abbrev pub SameMessagesAreOneText : Type 0
 SameMessagesAreOneText = (O Q : Outside) (wanted also : Bool) (S T : Scenario) (ranks : List ℕ)
     (saved : Saved) (text other : List ℕ) (kept new : Option (List ℕ))

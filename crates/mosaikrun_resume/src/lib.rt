@@ -1,5 +1,5 @@
-//! The command `resume`: a run of a scenario that was cut short goes on from its record over a fleet whose simulators are started
-//! anew; its report and its record are those of the whole run.
+//! The command `resume`: a run of a scenario that was cut short goes on from its record over a fleet whose simulators
+//! are started anew; its report and its record are those of the whole run.
 #![tactic(auto)]
 
 mod laws;

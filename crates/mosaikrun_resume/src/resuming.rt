@@ -42,8 +42,8 @@ pub struct Study {
     pub ids: List<Text>,
 }
 
-/// The scenario of a file with these bytes, which can be run, its simulators within the program being of these kinds; or why there
-/// is none, as `check` says it.
+/// The scenario of a file with these bytes, which can be run, its simulators within the program being of these kinds;
+/// or why there is none, as `check` says it.
 pub fn study_of(alloc: Global, kinds: &Registry, bytes: &[u8]) -> Result<Study, Ending>
     ensures read { IfOk result (λ study. scenario_of bytes.now ≡ Ok study.scenario) }
     ensures wellformed { IfOk result (λ study. IsWellformed study.scenario) }
@@ -74,9 +74,10 @@ fn with_ranks(scenario: Scenario, accepted: Accepted) -> Study
     }
 }
 
-/// Goes on with a run of the study from the record of these bytes, over a fleet, its simulators within the program being of these
-/// kinds; and says what it comes to, with the record of the whole run, where one is wanted and the old one was taken. It may wait
-/// for others. Every link that it starts is closed at the end; where all simulators are within the program the fleet is as before.
+/// Goes on with a run of the study from the record of these bytes, over a fleet, its simulators within the program
+/// being of these kinds. Answers its report, or why there is none, the bytes being no record among that, with the
+/// record of the whole run, where one is wanted and the old one was taken. It may wait for others. Every link that it
+/// starts is closed at the end; where all simulators are within the program the fleet is as before.
 pub fn resumed<F: Fleet, R: Wait>(
     rt: &R,
     alloc: Global,

@@ -65,7 +65,7 @@ abbrev pub HoldsOver : {F : Type 0} → (F → Option (List LogEntry)) → (F �
 HoldsOver log started faults kinds old new Holds = (entries : List LogEntry)
     × Adds entries (log old) (log new) × Holds (outside started faults kinds old new entries)
 
--- nothing was done with the fleet, and there is no record
+-- nothing was added to the fleet's log, its count of faults didn't rise, and there is no record
 pub record IsIdle (O : Outside) (record_ : Option (List ℕ)) : Type 0 where
   pub quiet : O.log ≡ []
   pub same_faults : O.new_faults ≡ O.faults

@@ -1,5 +1,5 @@
-//! A scenario is run over a fleet, its report or its summary is written, and its record where one is wanted; by the command `run`
-//! it is read from a file.
+//! A scenario is run over a fleet, its report or its summary is written, and its record where one is wanted; by the
+//! command `run` it is read from a file.
 #![tactic(auto)]
 
 mod laws;

@@ -31,7 +31,8 @@ use mosaikrun_sayings::ids_of;
 use std::alloc::Global;
 use std::sync::Wait;
 
-/// What a run comes to: its text, or why there is none; and the record, where one is wanted and the run has a journal.
+/// What a run comes to: its text, or why there is none; and the record, where one is wanted, the run has a journal
+/// that is to be saved, and there was memory for it.
 #[derive(Drop)]
 pub struct Told {
     pub text: Result<Vec<u8>, Ending>,
@@ -50,7 +51,8 @@ impl Told {
         }
     }
 
-    /// A run with a plan and a journal, of which this is said, and its record where one is wanted; or memory is wanting for that.
+    /// A run with a plan and a journal, of which this is said, and its record where one is wanted; or memory is wanting
+    /// for that.
     pub fn recorded(
         alloc: Global,
         text: Result<Vec<u8>, Ending>,
@@ -73,9 +75,10 @@ impl Told {
     }
 }
 
-/// Reads a scenario file's bytes, and runs the scenario over a fleet, its simulators within the program being of these kinds. It
-/// may wait for others. Every link that it starts is closed at the end; where all simulators are within the program the fleet
-/// is as before.
+/// Reads a scenario file's bytes, and runs the scenario over a fleet, its simulators within the program being of these
+/// kinds. Answers its report, or why there is none, with its record, where one is wanted and it has a journal. It may
+/// wait for others. Every link that it starts is closed at the end; where all simulators are within the program the
+/// fleet is as before.
 pub fn ran<F: Fleet, R: Wait>(
     rt: &R,
     alloc: Global,
@@ -102,9 +105,9 @@ pub fn ran<F: Fleet, R: Wait>(
     }
 }
 
-/// Runs a scenario over a fleet, its simulators within the program being of these kinds, and writes its text in this form. It may
-/// wait for others. Every link that it starts is closed at the end; where all simulators are within the program the fleet is as
-/// before.
+/// Runs a scenario over a fleet, its simulators within the program being of these kinds. Answers its text in this
+/// form, or why there is none, with its record, where one is wanted and it has a journal. It may wait for others.
+/// Every link that it starts is closed at the end; where all simulators are within the program the fleet is as before.
 pub fn played<F: Fleet, R: Wait>(
     rt: &R,
     alloc: Global,
@@ -148,7 +151,8 @@ pub struct Accepted {
     pub ids: List<Text>,
 }
 
-/// The ranks and ids of a scenario's simulators, those within the program being of these kinds; or why it can't be run.
+/// The ranks and ids of a scenario's simulators, those within the program being of these kinds; or why it can't be
+/// run, or that memory is wanting.
 pub fn accept(alloc: Global, kinds: &Registry, scenario: &Scenario) -> Result<Accepted, Ending>
     requires { IsWellformed scenario.now }
     ensures runnable { IfOk result

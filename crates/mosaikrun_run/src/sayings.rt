@@ -20,7 +20,8 @@ use std::alloc::Global;
 pub enum Form {
     /// What each simulator was sent.
     Report,
-    /// How many steps each simulator had and how many input values, and the last step of the last simulator with one.
+    /// How many steps each simulator had and how many input values, the totals of both, and the last step of the last
+    /// simulator with one.
     Summary,
 }
 

@@ -1,5 +1,5 @@
-//! What several crates of tests need: simulators' messages over links in memory, what a run comes to as a text, a counter, and how
-//! many rows are right.
+//! What several crates of tests need: simulators' messages over links in memory, what a run comes to as a text, a
+//! counter, and how many rows are right.
 #![tactic(auto)]
 
 mod counter;

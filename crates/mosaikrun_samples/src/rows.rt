@@ -2,7 +2,7 @@
 
 use mk_base::Mem;
 
-/// How many rows are right, up to the first that isn't.
+/// How many rows stand before the first that isn't right; all, where none is wrong.
 pub fn count_right<T, F: Fn(&T) -> Result<bool, Mem>>(rows: &[T], is_right: F) -> Result<usize, Mem>
     requires { F.IsAlwaysCallable is_right }
 {

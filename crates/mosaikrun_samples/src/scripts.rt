@@ -8,7 +8,7 @@ use std::alloc::Global;
 /// A request on a link and the reply to it, as payloads.
 pub type Exchange = (&'static str, &'static str);
 
-/// On which link something comes: once so many bytes were said on the other one.
+/// On which link something comes: once so many bytes, `after`, were said on the link `on`.
 #[derive(Clone, Copy)]
 pub struct When {
     pub link: u32,
@@ -25,7 +25,7 @@ pub fn once(after: u64) -> When {
     }
 }
 
-/// Appends the frame of a payload.
+/// Appends the frame of a payload. `Mem` is answered as well where the payload is too long for a frame.
 pub fn push_frame(bytes: &mut Vec<u8>, payload: &[u8]) -> Result<(), Mem> {
     match put_frame(bytes, payload) {
         Ok(()) => Ok(()),
@@ -42,7 +42,7 @@ pub fn frames_of(alloc: Global, payloads: &[&str]) -> Result<Vec<u8>, Mem> {
     Ok(bytes)
 }
 
-/// How many bytes the frames of payloads have.
+/// How many bytes the frames of payloads have, each four more than its payload.
 pub fn length_of(payloads: &[&str]) -> u64 {
     let mut length = 0u64;
     for payload in payloads {

@@ -7,7 +7,8 @@ use Rattle.mk_base.specs.Numbers.{number_of, is_digit}
 abbrev pub most_digits : ℕ
 most_digits = 10
 
--- one to ten decimal digits, leading zeros among them, of a number from the least to the most
+-- one to ten decimal digits, leading zeros among them, which write a number from the least to the
+-- most
 pub record IsNumber (least most n : ℕ) (text : List ℕ) : Type 0 where
   pub some : 1 ≤ length text
   pub few : length text ≤ most_digits

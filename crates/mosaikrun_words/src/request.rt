@@ -11,16 +11,16 @@ pub enum Request {
         scenario: Text,
         record: Option<Text>,
     },
-    /// Goes on with a run of the scenario of this file from the record of this one, and saves the record of the whole run under the
-    /// third name, where one is given.
+    /// Goes on with a run of the scenario of this file from the record of this one, and saves the record of the whole
+    /// run under the third name, where one is given.
     Resume {
         scenario: Text,
         record: Text,
         save: Option<Text>,
     },
-    /// Runs the scenario of this file by a clock, with so many milliseconds to a unit of time, from 1 to 86,400,000; no Step may be sent
-    /// more milliseconds late than the number for it, at most 86,400,000, where one is given; and saves the record of the run under the
-    /// other name, where one is given.
+    /// Runs the scenario of this file by a clock, with so many milliseconds to a unit of time, from 1 to 86,400,000;
+    /// no Step may be sent more milliseconds late than the number for it, at most 86,400,000, where one is given; and
+    /// saves the record of the run under the other name, where one is given.
     Paced {
         scenario: Text,
         factor: u32,
@@ -36,7 +36,7 @@ pub enum Request {
 /// A command that reads files, with the names that it was given, and its option, `None` where it isn't given.
 #[derive(Drop)]
 pub enum FileCommand {
-    /// Replays the record in the order of this number, or as its messages came.
+    /// Replays the record in the order of this number, 0 to 4,294,967,295, or as its messages came.
     Replay {
         record: Text,
         order: Option<u32>,

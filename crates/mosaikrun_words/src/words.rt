@@ -26,8 +26,9 @@ const COMMANDS: [(&str, Command); 9] = [
     ("paced", Command::Paced),
 ];
 
-/// The request that the words are; `None` where they are none. The words are those after the program's name: the command, its
-/// files, and its options before or behind them, as `--NAME VALUE` or `--NAME=VALUE`.
+/// The request that the words are; `None` where they are none. The words are those after the program's name: the
+/// command, its files and numbers in order, and its options anywhere before, between or behind these, each once at
+/// most, as `--NAME VALUE` or `--NAME=VALUE`. A number has 1 to 10 decimal digits.
 pub fn read_words(alloc: Global, words: &[String]) -> Result<Option<Request>, Mem>
     ensures { IfOk result (λ found. (R : Request)
         → (found ≡ Some R) ↔ IsRequest (map string_bytes words.now) R) }
