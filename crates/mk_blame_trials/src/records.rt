@@ -38,7 +38,7 @@ const NINE: &str = "got [0,[1,5,2]]\ngot [0,[1,6,{\"0\":{\"out\":9}}]]\n";
 const MORE: &str =
     "got [0,[1,7,3]]\ngot [0,[1,8,{\"0\":{\"out\":2}}]]\ngot [0,[1,9,4]]\ngot [0,[1,10,{\"0\":{\"out\":3}}]]\ngot [0,[1,11,5]]\ngot [0,[1,12,{\"0\":{\"out\":4}}]]\ngot [0,[1,13,6]]\ngot [0,[1,14,{\"0\":{\"out\":5}}]]\ngot [0,[1,15,7]]\ngot [0,[1,16,{\"0\":{\"out\":6}}]]\n";
 
-// The sum's messages: its first, and its others.
+// The sum's messages: its first, and its others; and all of a sum that steps at each fourth time.
 const THREE: &str = "got [1,[1,3,3]]\n";
 
 const SIX_NINE: &str = "got [1,[1,4,6]]\ngot [1,[1,5,9]]\n";
@@ -106,7 +106,7 @@ const PAIRS: [(Pieces, Pieces, &str); 10] = [
         &[LIMITED, COUNTED, LAST_COUNTED, "end 3\n"],
         "equal\n",
     ),
-    // what ends it comes in this order
+    // the fault of a record's text comes before an open request, in either place, and this before another plan
     (
         FAULTY_RECORD,
         OPEN_RECORD,

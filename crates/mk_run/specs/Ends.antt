@@ -35,8 +35,8 @@ use Rattle.mk_run_links.specs.Entries.{AreOn, IsRunLink}
 use Rattle.mk_run.specs.declared.outcome.Outcome.{Outcome}
 use Rattle.mk_run.specs.declared.outcome.Outcome.TheVariants as outcome
 
--- every item of the journal was queued; but for the last, where it was too long or there was no
--- memory for it
+-- every item of the journal was queued; nothing is said of that where one was too long or memory was
+-- wanting
 abbrev pub QueuedAll : Outcome → List Item → List Item → Type 0
 QueuedAll outcome.Done all queued = queued ≡ all
 QueuedAll (outcome.Setup f) all queued = queued ≡ all
@@ -103,7 +103,7 @@ pub record IsLongItem (started : ℕ) (S : Scenario) (P : Plan) (J : List Entry)
   pub bytes : length (item_text (id_after (first_id P i) (sent before i)) item) ≡ n
   pub beyond : limit < n
 
--- what the outcome shows
+-- what the outcome shows of the log, the plan and the journal
 abbrev pub ShownBy : Exchange → Plan → List Entry → ℕ → ℕ → Outcome → Type 0
 ShownBy X P J faults new_faults outcome.Done = IsDone P (view P J)
 ShownBy X P J faults new_faults (outcome.Setup f) = ⊥
@@ -144,20 +144,21 @@ fault_named (outcome.LongFrame i n) = None
 fault_named (outcome.LongItem i n) = None
 fault_named outcome.Mem = None
 
--- at each rest of the handshake its clause stands
+-- at each rest before all had set up, what was asked by then had been said and nothing more had come
 abbrev pub SetupRestsWell : ℕ → Scenario → List LogEntry → Type 0
 SetupRestsWell started S log = (before after : List LogEntry) → log ≡ before ++ Rest ∷ after
     → (AllSetUp started S before → ⊥) → IsWellInSetup started S before
 
--- each message in the journal has whole numbers that may be written
+-- the numbers of each message in the journal may be written
 abbrev pub AreInRange : List Entry → Type 0
 AreInRange J = (H : List Entry) (s : SimNo) (m : Message) (more : List Entry)
     → J ≡ H ++ Got s m ∷ more → is_in_range m ≡ true
 
--- a run with a plan and a journal, over the entries that it added to the log: the journal has at
--- most as many entries as the plan allows, and no fault but one that the outcome names; where the
--- run was broken off some request was open, and nobody was ready; and no link but the run's was
--- read or written
+-- a run with a plan and a journal, over the entries that it added to the log: the plan is valid; the
+-- journal is orderly and eager, keeps to the kinds, has at most as many entries as the plan allows,
+-- and no fault but one that the outcome names; each link is that of the journal, and each rest is
+-- right; the outcome shows its cause; where the run was broken off some request was open, and nobody
+-- was ready; no link but the run's was read or written, no clock was read, and no nap was taken
 pub record IsRun (X : Exchange) (P : Plan) (J : List Entry) (faults new_faults : ℕ)
     (end : Outcome) : Type 0 where
   pub replies : SetupReplies

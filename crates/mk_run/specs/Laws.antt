@@ -34,8 +34,7 @@ use Rattle.mk_run.specs.Ran.{HasRun}
 
 -- what is said on a simulator's link: its handshake, items that begin what sequential execution
 -- sends it, and a stop; all of it, but where a write took nothing or the count of faults rose; and
--- the items are all of the journal's, but for the last where it was too long or there was no memory
--- for it
+-- the items are all of the journal's, unless one was too long or memory was wanting
 pub record LinkSaysRight (X : Exchange) (P : Plan) (J : List Entry) (risen : Type 0) (end : Outcome)
     (i : ℕ) (l : LinkNo) : Type 0 where
   pub items : List Item
@@ -44,7 +43,8 @@ pub record LinkSaysRight (X : Exchange) (P : Plan) (J : List Entry) (risen : Typ
   pub all : QueuedAll end (sent J i) items
 
 -- where nothing is left to do, each simulator was sent all that sequential execution sends it over
--- whatever may still come, in which no turn is cut; and there are such messages
+-- whatever may still come, in which no turn is cut; whatever goes on with the journal answers by kind,
+-- so there are such messages; and so it is over the journal's messages alone, each of which is used
 pub record HasSentAll (X : Exchange) (P : Plan) (J : List Entry) : Type 0 where
   pub all : (R : Messages) → IsPossible X P R → (i : ℕ)
       → (map bare (sent J i) ≡ run_items P R i) × (all_ended (sequential P R i) ≡ true)
@@ -60,7 +60,7 @@ ArePromised X P J = (H : List Entry) (s : SimNo) (x : Tier) (inputs : List Input
     → (R : Messages) → IsPossibleUpTo X P H s.0 R
     → IsPromised P R s.0 x.time advance
 
--- what holds of a run
+-- what holds of a run: of its journal, of its links, of its end, of its promises, and of its rests
 pub record IsRightRun (X : Exchange) (P : Plan) (J : List Entry) (risen : Type 0)
     (end : Outcome) : Type 0 where
   pub agrees : Agrees P J

@@ -20,8 +20,8 @@ use Rattle.mk_run.specs.Ends.{IsRun}
 use Rattle.mk_run.specs.Outcomes.{outcome_of}
 
 -- the handshake was made, and what came of the run then: the plan is made of the answers to all
--- requests, those of simulators within the program being their kinds', and each simulator's run
--- begins behind its requests
+-- requests, those of simulators within the program being their kinds' and those of links the replies
+-- of the run, and each simulator's run begins behind its requests
 pub record HasRun (A : Attempt) (P : Plan) (J : List Entry) (faults new_faults : ℕ)
     (end : Outcome) : Type 0 where
   pub answers : List Message

@@ -6,13 +6,15 @@ use mk_local::metadata_is_accepted;
 use mk_run_local::kinds_are_right;
 use mk_setup::replies_make;
 
-/// A run with a plan has said on its links what sequential execution sends over all messages that may come, and at its end all
-/// of it; the max_advance of each Step is a promise; and wherever it rested, nobody was ready and all was said.
+/// A run with a plan has said on each link a beginning of what sequential execution sends over all messages that may
+/// come, and where nothing is left to do it has sent all of that; the max_advance of each Step is a promise; and
+/// wherever it rested once all had set up, nobody was ready, and all was said or a write took nothing.
 pub fn runs_are_right()
     ensures { RunsAreRight }
 {}
 
-/// A run in which nothing went wrong ends because nothing is left to do, or for want of memory.
+/// A run with a plan in which nothing went wrong that it can show ends because nothing is left to do, or for want of
+/// memory.
 pub fn runs_complete()
     ensures { Completes }
 {}

@@ -7,7 +7,7 @@ use mk_run_crew::Halt;
 use mk_sched::CoreFault;
 use mk_setup::SetupFault;
 
-/// How a run ends.
+/// How a run ends; `Mem` is want of memory.
 #[derive(Drop)]
 pub enum Outcome {
     /// Nothing is left to do.
@@ -16,13 +16,13 @@ pub enum Outcome {
     Setup(SetupFault),
     /// The core met a fault: a wrong message, a failure, the loop limit or the limit of entries.
     Core(CoreFault),
-    /// The fleet failed.
+    /// The fleet failed: its count of faults has risen.
     Fleet,
     /// The simulator's link has ended.
     Gone(SimNo),
     /// The next frame of the simulator's link has no message, by this test of `mk_message::read`.
     Garbled(SimNo, u8),
-    /// The header of the next frame of the simulator's link gives this length, which is more than a frame may have.
+    /// The header of the next frame of the simulator's link gives this many bytes, more than 67,108,864.
     LongFrame(SimNo, u32),
     /// A payload to the simulator's link has so many bytes, more than 67,108,864.
     LongItem(SimNo, usize),

@@ -33,12 +33,14 @@ use mk_sched::Core;
 use std::alloc::Global;
 use std::sync::Wait;
 
-/// Runs a prepared scenario with its ranks over a fleet whose open links have the numbers of started ones. The simulators
-/// are started and the handshake is made with each; then whoever is ready is asked, and one message is heard, and so on
-/// until the first outcome. Simulators within the program are of these kinds. At the end each link that was started is stopped and closed, for which no memory is needed.
+/// Runs a prepared scenario with its ranks over a fleet. The simulators are started and the handshake is made with
+/// each; then whoever is ready is asked, and one message is heard, and so on until the first outcome. It may wait for
+/// others. Simulators within the program are of these kinds. At the end each link that was started is stopped, if its
+/// channel was there, and closed, for which no memory is needed: where the open links have numbers of started ones,
+/// they are those from before.
 ///
-/// The plan and the journal are there wherever the handshake was made and there was memory for the run. Where all simulators are
-/// within the program the fleet isn't used: it is `run_local`.
+/// The plan and the journal are there wherever the handshake was made and there was memory for the run. Where all
+/// simulators are within the program the fleet isn't used: it is `run_local`.
 pub fn run<F: Fleet, R: Wait>(
     rt: &R,
     alloc: Global,

@@ -18,8 +18,8 @@ use mk_plan::{Entry, Item};
 use mk_run_crew::Crew;
 use mk_sched::Core;
 
-/// Sends the simulator the item that the journal ends with, with the id of the request that is open there. What stands in the way is
-/// an outcome, and the crew is then as it was.
+/// Sends the simulator the item that the journal ends with, with the id of the request that is open there. What stands
+/// in the way is an outcome, `LongItem` or `Mem`, and the crew is then as it was.
 pub fn send_last(core: &Core, crew: &mut Crew, kinds: &Registry, sim: SimNo) -> Result<(), Outcome>
     requires going { core.now.ended ≡ None }
     requires there { sim.0 < sim_count core.now.plan }
@@ -53,8 +53,8 @@ fn item_at(entries: &[Entry], place: usize) -> &Item
     }
 }
 
-/// Sends the simulator the item at this place of the journal, with this id. What stands in the way is
-/// an outcome, and the crew is then as it was.
+/// Sends the simulator the item at this place of the journal, from 0, with this id. What stands in the way is an
+/// outcome, `LongItem` or `Mem`, and the crew is then as it was.
 pub fn send_at(
     core: &Core,
     crew: &mut Crew,

@@ -21,9 +21,10 @@ use Rattle.mk_run_crew.specs.Answers.{answers_to, AreKindAnswers}
 use Rattle.mk_run_crew.specs.Seen.{CrewSeen, crew_of, within_of}
 
 -- the handshake is over: the plan is made of the answers to all requests, which were heard on the
--- links over the log, or are those of kinds; where the fleet rested, what was asked by then had
--- been said; each simulator within the program is what its setup made of it; and no link but the
--- run's was read or written
+-- links over the log, or are those of kinds; it is valid, has the scenario's simulators, and each
+-- one's first id is how many requests it got; where the fleet rested, what was asked by then had
+-- been said; each simulator within the program is what its setup made of it; there is no halt; no
+-- link but the run's was read or written, no clock was read, and no nap was taken
 pub record HasBegun (A : Attempt) (C : CrewSeen) (P : Plan) : Type 0 where
   pub answers : List Message
   pub made : IsMade A.scenario A.ranks answers P

@@ -58,7 +58,7 @@ ShowsUnsent (halt.LongItem sim n) s item C = (sim.0 ≡ s) × (is_here C s ≡ f
     × IsLengthOf n item s C.channels × (limit < n)
 ShowsUnsent halt.Mem s item C = ⊤
 
--- a reply is kept, or there is a link
+-- a reply is kept, or some simulator has a channel
 abbrev pub CanHear : CrewSeen → Type 0
 CanHear C = C.kept ≡ [] → (i : ℕ) × IsLinked i C.channels
 
@@ -77,7 +77,7 @@ pub record HearsNothing (h : Halt) (entries : List LogEntry) (old new : CrewSeen
   pub unheard : IsUnheard entries (crew_of old) (crew_of new)
   pub shown : ShowsHalt why entries new.channels
 
--- a message was heard; or nothing was
+-- a message was heard; or nothing was, for this cause
 abbrev pub HearsAs : Result (SimNo × Message) Halt → List LogEntry → CrewSeen → CrewSeen → Type 0
 HearsAs (Ok p) entries old new = IsHeard entries p.0.0 p.1 (crew_of old) (crew_of new)
 HearsAs (Err h) entries old new = HearsNothing h entries old new

@@ -86,7 +86,7 @@ ShowsCause A risen queued later halt.Mem = ⊤
 -- stop was said, none with a payload longer than a frame's may be, and all of it, unless a write
 -- took nothing or the count of faults rose, or memory was wanting before anything was said or heard
 -- on any link; where the fleet rested, what was asked by then had been said, and not all had set
--- up; and no link but the run's was read or written
+-- up; no link but the run's was read or written; and the halt shows its cause
 pub record HasHalted (A : Attempt) (risen : Type 0) (h : Halt) : Type 0 where
   pub queued : List Request
   pub later : List Request

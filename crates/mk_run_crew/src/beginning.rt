@@ -422,8 +422,9 @@ impl Crew {
         }
     }
 
-    /// Starts the simulators of a prepared scenario with these ranks, and makes the handshake with each: `init`, `create` for
-    /// each group, `setup_done`. The plan is made of their replies.
+    /// Starts the simulators of a prepared scenario with these ranks, and makes the handshake: `init` to each of them,
+    /// `create` for each group, `setup_done` to each, one request after the reply to another. The plan is made of their
+    /// replies. It may wait for others.
     ///
     /// At a halt each link that was started has been stopped, if its channel was there, and closed.
     pub fn begin<F: Fleet, R: Wait>(

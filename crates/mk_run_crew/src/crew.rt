@@ -108,8 +108,9 @@ impl Crew {
         }
     }
 
-    /// Gives the oldest reply that is kept of a simulator within the program, or where none is kept the next message of a link. A
-    /// halt but for want of memory is answered again by each later call, which then does nothing.
+    /// Gives the oldest reply that is kept of a simulator within the program, or where none is kept the next message of
+    /// a link, for which it may wait. A halt but for want of memory is answered again by each later call, which then
+    /// does nothing.
     pub fn hear<F: Fleet, R: Wait>(
         &mut self,
         rt: &R,
@@ -199,8 +200,8 @@ impl Crew {
         self.within.take()
     }
 
-    /// Says what is unsent and then a stop on each link, until all is said or a write takes nothing, and closes the links. It
-    /// takes no memory, and may wait for others.
+    /// Says what is unsent and then a stop on each link, until all is said there or a write takes nothing or fails, and
+    /// closes the links. It takes no memory, and may wait for others.
     pub fn stop<F: Fleet>(self, fleet: &mut F)
         requires { AreOpen self.channels (F.open_links fleet.old) }
         ensures count { F.faults fleet.old ≤ F.faults fleet.new }

@@ -5,18 +5,18 @@ use mk_base::{Mem, SimNo};
 use mk_run_links::LinkHalt;
 use mk_setup::SetupFault;
 
-/// Why a crew didn't begin, sent no item, or hears nothing more.
+/// Why a crew didn't begin, sent no item, or hears nothing more; or want of memory.
 #[derive(Drop)]
 pub enum Halt {
     /// The handshake has a fault, which isn't want of memory.
     Setup(SetupFault),
-    /// The fleet failed.
+    /// The fleet failed: its count of faults has risen.
     Fleet,
     /// The simulator's link has ended.
     Gone(SimNo),
     /// The next frame of the simulator's link has no message, by this test of `mk_message::read`.
     Garbled(SimNo, u8),
-    /// The header of the next frame of the simulator's link gives this length, which is more than a frame may have.
+    /// The header of the next frame of the simulator's link gives this many bytes, more than 67,108,864.
     LongFrame(SimNo, u32),
     /// A payload to the simulator's link has so many bytes, more than 67,108,864.
     LongItem(SimNo, usize),

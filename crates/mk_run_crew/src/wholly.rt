@@ -190,8 +190,9 @@ impl Crew {
         }
     }
 
-    /// Makes the handshake with the simulators of a prepared scenario with these ranks, which all run within the program: `init`,
-    /// `create` for each group, `setup_done`. The plan is made of their replies. It needs no fleet and waits for nobody.
+    /// Makes the handshake of a prepared scenario with these ranks, whose simulators all run within the program: `init`
+    /// to each of them, `create` for each group, `setup_done` to each. The plan is made of their replies. It needs no
+    /// fleet and waits for nobody.
     ///
     /// A halt is a fault of the handshake or want of memory.
     pub fn begin_within(

@@ -24,7 +24,7 @@ HearsAs (Ok p) entries old new = IsHeard entries p.0.0 p.1 (crew old) (crew new)
 HearsAs (Err h) entries old new = IsUnheard entries (crew old) (crew new) × ShowsHalt h entries new
 
 -- by these entries each channel was looked at, nothing had come on it, and all of it is said or its
--- last write took nothing
+-- last write took nothing; it is parked
 abbrev pub ArePending : List LogEntry → Channels → Type 0
 ArePending entries channels = (i : ℕ) (w : Channel) → at channels i ≡ Some w
     → (w.parked ≡ true) × IsParkedIn entries w

@@ -27,7 +27,7 @@ IsOn has Nap = ⊥
 abbrev pub AreOn : (LinkNo → Type 0) → List LogEntry → Type 0
 AreOn has = Each (IsOn has)
 
--- or a clock may have been read, and naps taken
+-- the same, or a clock was read or a nap taken
 abbrev pub IsOnOrOfClock : (LinkNo → Type 0) → LogEntry → Type 0
 IsOnOrOfClock has (Heard on bytes) = has on
 IsOnOrOfClock has (NotHeard on) = has on

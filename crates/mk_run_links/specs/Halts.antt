@@ -13,7 +13,7 @@ use Rattle.mk_run_links.specs.declared.answers.LinkHalt.TheVariants as halt
 use Rattle.mk_run_links.specs.Places.{Channels, at}
 
 -- why no message was heard: the link has ended where no whole frame was held, or what is held
--- begins with something else
+-- begins with a frame that has no message, or with the header of one that is too long
 abbrev pub ShowsHeard : Heard → List LogEntry → Channel → Type 0
 ShowsHeard (heard.Message message) entries w = ⊤
 ShowsHeard (heard.Garbled test) entries w = BeginsGarbled w.held test
@@ -23,7 +23,7 @@ ShowsHeard heard.Closed entries w = IsUnfinished w.held
 ShowsHeard heard.Failed entries w = ⊤
 ShowsHeard heard.Mem entries w = ⊤
 
--- simulator s has a channel, of which this was heard
+-- simulator s has a channel, which shows that this was heard
 abbrev pub HeardOf : ℕ → Heard → List LogEntry → Channels → Type 0
 HeardOf s h entries new = (w : Channel) × (at new s ≡ Some w) × ShowsHeard h entries w
 

@@ -13,7 +13,7 @@ use Rattle.mk_run_laws.specs.Crews.{CrewState}
 abbrev pub Channels : Type 0
 Channels = List (Option Channel)
 
--- the channel of simulator i
+-- the channel of simulator i, if it has one
 abbrev pub at : Channels → ℕ → Option Channel
 at channels i = option_and_then (λ (o : Option Channel). o) (slice_get channels i)
 

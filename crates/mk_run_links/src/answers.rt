@@ -5,16 +5,16 @@ use mk_base::{Mem, SimNo};
 use mk_plan::Message;
 use mk_session::{Heard, QueueFault};
 
-/// Why nothing more is heard on a run's links.
+/// Why nothing more is heard on a run's links; or want of memory.
 #[derive(Clone, Copy)]
 pub enum LinkHalt {
-    /// The fleet failed.
+    /// The fleet failed: its count of faults has risen.
     Fleet,
-    /// The simulator's link has ended.
+    /// The simulator's link has ended, and no whole frame is left.
     Gone(SimNo),
     /// The next frame of the simulator's link has no message, by this test of `mk_message::read`.
     Garbled(SimNo, u8),
-    /// The header of the next frame of the simulator's link gives this length, which is more than a frame may have.
+    /// The header of the next frame of the simulator's link gives this many bytes, more than 67,108,864.
     LongFrame(SimNo, u32),
     Mem,
 }

@@ -84,7 +84,8 @@ impl CrewChannel {
         self.parked = false;
     }
 
-    // Queues a payload, after which the link isn't parked and has this next id. After a fault nothing has changed.
+    // Queues a payload, after which the link isn't parked and has this next id. `TooLong` has the payload's length in
+    // bytes. After a fault nothing has changed.
     pub fn queue(&mut self, payload: &[u8], next: u64) -> Result<(), QueueFault>
         ensures ok { OnOk result (self.new ≡ queued payload.now next self.old) }
         ensures allowed { OnOk result (length payload.now ≤ limit) }
@@ -98,7 +99,7 @@ impl CrewChannel {
         Ok(())
     }
 
-    // Says what is unsent, and gives the next message; where neither goes on, the link is parked.
+    // Says what is unsent, and gives the next message or why there is none; where neither goes on, the link is parked.
     pub fn poll<F: Fleet>(&mut self, fleet: &mut F) -> Polled
         requires { IsIn self.old.link (F.open_links fleet.old) }
         ensures count { F.faults fleet.old ≤ F.faults fleet.new }
@@ -115,7 +116,7 @@ impl CrewChannel {
         polled
     }
 
-    // Says what is unsent and then these bytes, until all are said or a write takes none.
+    // Says what is unsent and then these bytes, until all are said or a write takes none or fails.
     pub fn flush<F: Fleet>(&self, fleet: &mut F, last: &[u8])
         requires { IsIn self.now.link (F.open_links fleet.old) }
         ensures count { F.faults fleet.old ≤ F.faults fleet.new }
@@ -129,7 +130,7 @@ impl CrewChannel {
         self.session.flush(fleet, last);
     }
 
-    // Says what is unsent and then a stop, until all is said or a write takes nothing. It takes no memory.
+    // Says what is unsent and then a stop, until all is said or a write takes nothing or fails. It takes no memory.
     pub fn stop<F: Fleet>(&self, fleet: &mut F)
         requires { IsIn self.now.link (F.open_links fleet.old) }
         ensures count { F.faults fleet.old ≤ F.faults fleet.new }

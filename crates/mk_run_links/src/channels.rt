@@ -111,7 +111,7 @@ impl CrewChannels {
         }
     }
 
-    // The simulator whose channel is on this link.
+    // The simulator whose channel is on this link, if there is one.
     pub fn sim_on(&self, link: LinkNo) -> Option<SimNo>
         ensures some { IfSome result (λ sim. (w : Channel) × (at self.now sim.0 ≡ Some w)
             × (w.link ≡ link)) }
@@ -184,7 +184,8 @@ impl CrewChannels {
         }
     }
 
-    // Says what is unsent on the channel of a simulator, and a stop; where there is no channel nothing is done. It takes no memory.
+    // Says what is unsent on the channel of a simulator, and a stop, until all is said or a write takes nothing or
+    // fails; where there is no channel nothing is done. It takes no memory.
     pub fn stop<F: Fleet>(&self, sim: SimNo, fleet: &mut F)
         requires there { sim.0 < length self.now }
         requires open { IsOpenAt sim.0 self.now (F.open_links fleet.old) }

@@ -8,7 +8,7 @@ ghost use Rattle.mk_run_links.specs.Places.{AreDistinct, without_all};
 use mk_base::LinkNo;
 use mk_outside::Fleet;
 
-/// Closes the links that have a place. It may wait for others.
+/// Closes the links at these places. It may wait for others.
 pub fn close_all<F: Fleet>(links: &[Option<LinkNo>], fleet: &mut F)
     requires open { Each (λ link. IsIn link (F.open_links fleet.old)) (links_in links.now) }
     requires distinct { AreDistinct links.now }

@@ -29,7 +29,7 @@ use std::alloc::Global;
 use std::marker::Model;
 use std::sync::Wait;
 
-/// The links of a run, and the halt that `hear` answers again.
+/// The links of a run, and the halt that `hear` and `try_hear` answer again.
 #[derive(Drop)]
 pub struct Links {
     channels: CrewChannels,
@@ -174,7 +174,8 @@ fn listen<F: Fleet>(channels: &mut CrewChannels, turns: &mut Turns, fleet: &mut 
 }
 
 impl Links {
-    /// The links at these places, one place for each simulator: nothing was heard on them, and nothing is to be said.
+    /// The links at these places, one place for each simulator: nothing was heard on them, nothing is to be said, and
+    /// the next id of each is 0.
     pub fn new(alloc: Global, links: &[Option<LinkNo>]) -> Result<Links, Mem>
         requires few { length links.now < 2 ^ 32 }
         requires distinct { AreDistinct links.now }
@@ -201,14 +202,15 @@ impl Links {
         self.channels.next(sim)
     }
 
-    /// The halt that `hear` answers again, if there is one.
+    /// The halt that `hear` and `try_hear` answer again, if there is one.
     pub fn halt(&self) -> Option<LinkHalt>
         ensures { result ≡ self.now.halt }
     {
         self.halt
     }
 
-    /// Queues a payload on a simulator's link, after which this is its next id. After a fault nothing has changed.
+    /// Queues a payload on a simulator's link, after which this is its next id. `TooLong` has the payload's length,
+    /// which may be at most 67,108,864 bytes. After a fault nothing has changed.
     pub fn queue(&mut self, sim: SimNo, payload: &[u8], next: u64) -> Result<(), QueueFault>
         requires { IsLinked sim.0 self.old.channels }
         ensures ok { OnOk result ((w : Channel)
@@ -249,7 +251,7 @@ impl Links {
         Ok(())
     }
 
-    // Polls links, each in its turn, until something is heard or all are parked.
+    // Polls links, each in its turn, until something is heard or all are parked. It waits for nobody.
     fn listen<F: Fleet>(&mut self, fleet: &mut F) -> Listened
         requires { AreOpen self.old.channels (F.open_links fleet.old) }
         ensures count { F.faults fleet.old ≤ F.faults fleet.new }
@@ -389,8 +391,8 @@ impl Links {
         }
     }
 
-    /// Gives the next message of a link. A halt but for want of memory is answered again by each later call, which then
-    /// does nothing.
+    /// Gives the next message of a link, and whose it is. It says what is unsent, and waits for others where nothing
+    /// comes. A halt but for want of memory is answered again by each later call, which then does nothing.
     pub fn hear<F: Fleet, R: Wait>(
         &mut self,
         rt: &R,
@@ -424,8 +426,9 @@ impl Links {
         }
     }
 
-    /// Gives the next message of a link, as `hear` does, but waits for nobody: it looks at each link, and gives `None` only where
-    /// nothing has come on any of them and each has said all, or takes no more for now. A halt is answered again as by `hear`.
+    /// Gives the next message of a link, as `hear` does, but waits for nobody: it looks at the links until one gives a
+    /// message, and gives `None` only where nothing has come on any of them and each has said all, or takes no more for
+    /// now. A halt is answered again as by `hear`.
     pub fn try_hear<F: Fleet>(
         &mut self,
         fleet: &mut F,
@@ -455,7 +458,8 @@ impl Links {
         }
     }
 
-    /// Says what is unsent and then a stop on each link, until all is said or a write takes nothing. It takes no memory.
+    /// Says what is unsent and then a stop on each link, until all is said there or a write takes nothing or fails. It
+    /// takes no memory.
     pub fn stop<F: Fleet>(&self, fleet: &mut F)
         requires { AreOpen self.now.channels (F.open_links fleet.old) }
         ensures count { F.faults fleet.old ≤ F.faults fleet.new }

@@ -30,13 +30,14 @@ pub record IsRequested (U : SetupState) (sim : SimNo) (call : Call) (id : ℕ)
   pub few : id < 2 ^ 32
   pub asked : V ≡ record U { asked = true }
 
--- a request is outstanding
+-- a request is outstanding, and nothing has changed
 pub record IsWaiting (U V : SetupState) : Type 0 where
   pub going : U.fault ≡ None
   pub asked : U.asked ≡ true
   pub same : V ≡ U
 
--- all requests were answered, and this is the plan, which is valid
+-- all requests were answered, and this is the plan, which is valid: it has the scenario's simulators,
+-- each one's first id is how many requests it got, and nothing has changed
 pub record IsReady (U : SetupState) (P : Plan) (V : SetupState) : Type 0 where
   pub going : U.fault ≡ None
   pub resting : U.asked ≡ false

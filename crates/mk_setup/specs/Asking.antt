@@ -39,6 +39,7 @@ abbrev pub lasting : Option SetupFault → Option ConnectFault → Option SetupF
 lasting (Some fault) test = Some fault
 lasting None test = option_map Connect test
 
+-- the same of a state
 abbrev pub fault_before : SetupState → Option SetupFault
 fault_before U = lasting U.fault (test_before U (request_of U))
 

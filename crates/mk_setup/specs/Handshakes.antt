@@ -24,11 +24,11 @@ begun S ranks = record {
   fault = None;
 }
 
--- the simulator that the next request goes to
+-- the simulator that the next request goes to, or 0 where there is no next request
 abbrev pub next_sim : SetupState → ℕ
 next_sim U = unwrap_or (option_map (λ (r : Request). r.sim) (request_of U)) 0
 
--- the message comes from the simulator that the next request goes to
+-- the state after this message of that simulator, or the fault that it makes
 abbrev pub after_answer : Message → SetupState → Result SetupState SetupFault
 after_answer message U = after_reply U (record { sim = next_sim U; message = message })
 

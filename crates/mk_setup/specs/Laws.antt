@@ -19,7 +19,8 @@ use Rattle.mk_setup.specs.Replies.{after_reply}
 use Rattle.mk_setup.specs.Requests.{id_before, request_of}
 use Rattle.mk_setup.specs.Seen.{SetupState}
 
--- what is sure of a state that these replies lead to
+-- a state that these replies lead to has this scenario and these ranks, has met no fault, and counts
+-- the replies
 pub record IsOfReplies (S : Scenario) (ranks : List ℕ) (answers : List Message)
     (U : SetupState) : Type 0 where
   pub scenario : U.scenario ≡ S
@@ -27,7 +28,7 @@ pub record IsOfReplies (S : Scenario) (ranks : List ℕ) (answers : List Message
   pub going : U.fault ≡ None
   pub count : U.answered ≡ length answers
 
--- the message is a success reply to request number k
+-- the message is a success reply to request number k, from 0, with its id
 pub record IsReplyTo (S : Scenario) (k : ℕ) (message : Message) : Type 0 where
   pub request : Request
   pub content : Json
@@ -44,7 +45,9 @@ pub record IsKindSaid (answers : List Message) (P : Plan) (sim : ℕ) : Type 0 w
   pub kind : kind_of P sim ≡ meta.kind
 
 -- from the beginning on: a request that is made, and a message that is taken, lead to what the
--- replies make; the plan at the end, and each fault, are theirs
+-- replies make; a message that is taken comes of the simulator of the request that was made; the plan
+-- at the end, and each fault, are the replies'; each of them is a success reply to its request; and
+-- the plan has the kinds that they say
 pub record RepliesMake : Type 0 where
   pub begins : (S : Scenario) (ranks : List ℕ) → IsReached S ranks [] (begun S ranks)
   pub asks : (S : Scenario) (ranks : List ℕ) (answers : List Message) (U V : SetupState)

@@ -27,12 +27,12 @@ arrival sim message = record { sim = sim.0; message = message }
 abbrev pub moved : SetupState → SetupState
 moved U = record U { answered = U.answered + 1; asked = false }
 
--- the simulator's metadata is known
+-- the simulator's metadata is known, or why its reply has none
 abbrev pub with_meta : SetupState → SimNo → Result Meta MetaFault → Result SetupState SetupFault
 with_meta U sim (Ok meta) = Ok (record (moved U) { metas = U.metas ++ meta ∷ [] })
 with_meta U sim (Err e) = Err (fault.Meta sim e)
 
--- the group's entities are there
+-- the entities with the group's among them, or why its reply adds none
 abbrev pub with_entities : SetupState → SimNo → Result (List EntityInfo) CreateFault
     → Result SetupState SetupFault
 with_entities U sim (Ok entities) = Ok (record (moved U) { entities = entities })
@@ -62,6 +62,7 @@ after_message U r sim (Failure id text) = Err (if is_reply U r sim.0 id then fau
 abbrev pub outstanding : SetupState → Option Request
 outstanding U = if U.asked then request_of U else None
 
+-- the same where this request, or none, is outstanding
 abbrev pub after_any : SetupState → Option Request → SimNo → Message → Result SetupState SetupFault
 after_any U None sim message = Err (fault.Unasked sim)
 after_any U (Some r) sim message = after_message U r sim message

@@ -9,6 +9,6 @@ pub enum SetupNext {
     Request { sim: SimNo, call: Call, id: u64 },
     /// The reply to the request that was made last hasn't come.
     Wait,
-    /// All have replied: the plan of the run.
+    /// All requests are answered: the plan of the run.
     Ready(Plan),
 }

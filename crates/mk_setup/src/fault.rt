@@ -20,10 +20,10 @@ pub enum SetupFault {
     /// A group can't be created, or a connection can't be made.
     #[error("no connection")]
     Connect(ConnectFault),
-    /// What came of the simulator is no reply to the request that was made last, or none was made.
+    /// What came of the simulator is no reply to the outstanding request, or no request is outstanding.
     #[error("an unasked message")]
     Unasked(SimNo),
-    /// The simulator's failure reply, and its text.
+    /// The simulator's failure reply to the outstanding request, and its text.
     #[error("a failure reply")]
     Failed(SimNo, Text),
     #[error("out of memory")]

@@ -20,11 +20,11 @@ use mk_scenario::Scenario;
 use std::alloc::Global;
 use std::marker::Model;
 
-/// The setup of a run, request by request: `init` to each simulator, `create` for each group, `setup_done` to each simulator,
-/// each request after the reply to the one before.
+/// The setup of a run, request by request: `init` to each simulator, `create` for each group, `setup_done` to each
+/// simulator, each request after the reply to the one before (mosaik 3, low-level API).
 ///
-/// Contracts see it as its scenario, the ranks of its simulators, the metadata and entities so far, how many requests were
-/// answered, whether the next one was made, and the fault that it answers from now on, if it has met one.
+/// Contracts see it as its scenario, the ranks of its simulators, the metadata and entities so far, how many requests
+/// were answered, whether the next one was made, and the fault that it answers from now on, if it has met one.
 #[derive(Drop)]
 pub struct Setup {
     progress: Progress,
@@ -48,7 +48,7 @@ impl Model for Setup {
 }
 
 impl Setup {
-    /// The setup of a scenario with these ranks of its edges: no request was made.
+    /// The setup of a scenario with these ranks of its simulators: no request was made.
     pub fn new(alloc: Global, scenario: Scenario, ranks: List<u32>) -> Result<Setup, Mem>
         requires wellformed { IsWellformed scenario }
         requires ranked { AreRanksOf scenario ranks }
@@ -72,9 +72,9 @@ impl Setup {
         })
     }
 
-    /// What comes next. Before a group's `create` the group is tested, and before the first `setup_done` the connections are: a
-    /// plan can be made of them. After a fault but want of memory it is that fault or want of memory; after want of memory
-    /// nothing has changed.
+    /// What comes next. Before a group's `create` the group is tested, and before the first `setup_done` the
+    /// connections are: a plan can be made of them. `Connect` is the first test that fails. After a fault but want of
+    /// memory each call answers that fault or want of memory; after want of memory nothing has changed.
     pub fn next(&mut self) -> Result<SetupNext, SetupFault>
         ensures ok { IfOk result (λ next. NextOf self.old next self.new) }
         ensures refused { IfErr result (λ e. GivesNoRequest self.old e self.new) }
@@ -88,8 +88,10 @@ impl Setup {
         }
     }
 
-    /// Takes a message of a simulator. It has to be the success reply to the request that was made last. After a fault but want
-    /// of memory each call answers that fault or want of memory; after want of memory nothing has changed.
+    /// Takes a message of a simulator. It has to be the success reply to the outstanding request: a failure reply to
+    /// that is `Failed`, all else is `Unasked`. `Meta` and `Create` tell why the content of a reply to `init` or
+    /// `create` isn't taken. After a fault but want of memory each call answers that fault or want of memory; after
+    /// want of memory nothing has changed.
     pub fn arrive(&mut self, sim: SimNo, message: &Message) -> Result<(), SetupFault>
         ensures ok { OnOk result (after_reply self.old (arrival sim message.now) ≡ Ok self.new) }
         ensures refused { IfErr result

@@ -1,4 +1,4 @@
-// Faults again.
+// A fault that is answered again, and the faults of a setup's parts as its own.
 ghost use Rattle.std.specs.Prelude.{◌≡◌, ◌≢◌, ◌⊎◌, IfOk, None, Some};
 
 use crate::fault::SetupFault;
@@ -121,7 +121,7 @@ pub fn create_fault(sim: SimNo, fault: CreateFault) -> SetupFault
     }
 }
 
-// Why a request isn't made.
+// Why a request isn't made, or no plan.
 pub fn connect_fault(fault: ConnectFault) -> SetupFault
     ensures { (result ≡ SetupFault.Mem)
         ⊎ ((result ≡ SetupFault.Connect fault) × (fault ≢ ConnectFault.Mem)) }

@@ -5,12 +5,12 @@
 pub enum Recorded {
     /// A battery and its controller, in a loop within one time.
     Battery,
-    /// Two sources and what they are summed by, three steps each. Among their values are the greatest number of 64 bits, one
-    /// more, and a text.
+    /// Two sources and what they are summed by, three steps each. Among their values are the greatest signed number of
+    /// 64 bits, one more, and a text.
     Numbers,
     /// A counter's, without its last message.
     Short,
-    /// One whose last line is none.
+    /// A counter's, whose last line counts one message too many.
     Broken,
 }
 

@@ -13,7 +13,8 @@ use std::sync::Wait;
 /// How many milliseconds a unit of time has.
 pub const FACTOR: u64 = 1000;
 
-/// A clock: how much later each reading is than the one before, and how many times the fleet sleeps.
+/// A clock: by how many milliseconds each reading is later than the one before, sleeps aside, and how many times the
+/// fleet sleeps before a sleep fails.
 #[derive(Clone, Copy)]
 pub struct Clock {
     pub tick: u64,

@@ -16,7 +16,8 @@ struct Row {
     kept: &'static str,
 }
 
-// By naps alone the clock comes to each moment just then; it goes on by 7 at each look; the fleet sleeps three times alone.
+// A clock that goes on by naps alone and so comes to each moment just then; one that goes on by 7 ms at each look; and
+// one of a fleet that sleeps only three times.
 const BY_NAPS: Clock = Clock {
     tick: 0,
     naps: 1000,
@@ -29,7 +30,7 @@ const BY_LOOKS: Clock = Clock {
 
 const SLEEPLESS: Clock = Clock { tick: 0, naps: 3 };
 
-// The record of the run that came to no step, and of the one whose second step waits.
+// The record of the run whose first step is too late to be sent, and of the one whose second step waits.
 const UNSTEPPED: &str = r#"mosaikrun 2
 run [3,100,2000000]
 sim ["A-0","time-based",3,0,[]]

@@ -89,7 +89,7 @@ fn is_front(holds: &Holds, held: Option<Held>) -> bool
     holds.is_held(SimNo(0)) == held.is_some() && holds.front(SimNo(0)) == held
 }
 
-// A request isn't the first; it goes with the Step before it.
+// A request without a Step is never the first to be sent; it is taken of its simulator.
 fn is_behind(holds: &mut Holds) -> bool
     requires { length holds.old ≡ 1 }
 {

@@ -40,7 +40,8 @@ const FOLDER: &str = "mosaikrun: outside: folder\n";
 
 const OUTPUT: &str = "mosaikrun: outside: output\n";
 
-// Each call of each one in turn, up to the first that isn't made.
+// Each call that `run`, `replay` and `resume` make in turn, then mostly the first that they don't make; and those of a
+// line that is told where there is no such file.
 const ROWS: &[Row] = &[
     Row {
         words: RUN,

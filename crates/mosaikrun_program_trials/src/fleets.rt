@@ -122,7 +122,8 @@ fn goes_right<R: Wait>(
     is_right(rt, alloc, kinds, &mut fleet, cut)
 }
 
-// The first call that doesn't go right: one before the last message has come ends the run, and one of the stop or beyond doesn't.
+// The first call that doesn't go right, or 0 where the run to which nothing fails doesn't: one before the last message
+// has come ends the run, and one of the stop or beyond doesn't.
 fn first_wrong<R: Wait>(rt: &R, alloc: Global, kinds: &Registry) -> Result<Option<u64>, Mem> {
     let Some(before) = calls_made(rt, alloc, kinds)? else {
         return Ok(Some(0));

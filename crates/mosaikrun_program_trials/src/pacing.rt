@@ -8,8 +8,8 @@ use mk_local::Registry;
 use std::alloc::Global;
 use std::sync::Wait;
 
-// Words, how far the clock goes on at each look, and what comes of it: the status, what the outputs have, and what is saved as `k`, if
-// something is.
+// Words, by how many milliseconds the clock goes on at each look, and what comes of it: the status, what the outputs
+// have, and what is saved as `k`, if something is.
 struct Row {
     words: &'static [&'static str],
     tick: u64,

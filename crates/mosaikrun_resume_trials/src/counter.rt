@@ -10,7 +10,7 @@ use mosaikrun_samples::{
 use std::alloc::Global;
 use std::sync::Wait;
 
-// The same with more time, and with a limit of entries.
+// The counter's scenario with more time, and with a limit of entries.
 const LONGER: &str = r#"until = 4
 [[sim]]
 name = "A"
@@ -36,7 +36,7 @@ model = "Count"
 params = { start = 0 }
 "#;
 
-// The record of the run that was cut short, and that of one that came to a limit of four entries.
+// The record of the run that was cut short, and one of a plan with a limit of four entries that has all its messages.
 const CUT: &str = r#"mosaikrun 1
 run [3,100,2000000]
 sim ["A-0","time-based",3,0,[]]

@@ -1,4 +1,5 @@
-// A counter over a link, stepped three times: what is said to it byte for byte, however its replies are cut.
+// A counter over a link, stepped three times: what is said to it byte for byte, however its replies and the writes are
+// cut.
 
 use crate::runs::told_alone;
 use mk_base::{LinkNo, List, Mem};

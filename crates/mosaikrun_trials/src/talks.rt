@@ -17,7 +17,7 @@ pub struct Part {
     pub setup: [&'static str; 3],
 }
 
-/// A reply on a link, by their numbers, that comes only once this request was said on another one.
+/// A reply on a link, by their numbers from 0, that comes only once this request was said on another one.
 pub struct Hold {
     pub link: u32,
     pub reply: usize,
@@ -37,7 +37,7 @@ fn push_item(alloc: Global, requests: &mut Vec<u8>, item: &Item, id: u64) -> Res
     push_frame(requests, payload.as_slice())
 }
 
-// What is said to a simulator in a run with this journal.
+// What is said in a run with this journal to a simulator that asks nothing.
 fn push_items(
     alloc: Global,
     requests: &mut Vec<u8>,

@@ -14,8 +14,7 @@ use Rattle.mk_run.specs.declared.outcome.Outcome.TheVariants as outcome
 use Rattle.mk_sched.specs.Answers.{IsLastFaulty}
 
 -- what an outcome shows, by what stands where a fault of the fleet has risen; where all is done;
--- where the journal is full, which is this fault; where the channel of a simulator gave all
--- messages
+-- where the journal is full, which is this fault; where the channel of a simulator gave all messages
 -- that were taken of it, and what bytes it holds then; and where an item to a simulator has so many
 -- bytes, more than a frame may have
 abbrev pub EndsAs : (risen done : Type 0) (Full : CoreFault → Type 0)

@@ -139,8 +139,7 @@ pub record HasGiven (T : Setting) (J : List Entry) (log : List LogEntry) (C : Cr
   pub none_held : first_message channel.channel.held ≡ None
 
 -- a message was heard on a link that the journal hasn't got: the channel gave it behind those that
--- the
--- journal got
+-- the journal got
 pub record IsAhead (T : Setting) (J : List Entry) (log : List LogEntry)
     (C : CrewState) : Type 0 where
   pub sim : SimNo

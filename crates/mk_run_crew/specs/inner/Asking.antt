@@ -73,8 +73,7 @@ abbrev pub Asks : ℕ → Call → ℕ → ℕ → Message → List LogEntry →
 Asks i call id from m entries old new = AsksWithin i call id from m entries old new
     ⊎ AsksOnLink i call id from m entries old new
 
--- why a link didn't take the request: its payload is longer than a frame may be, or memory was
--- wanting
+-- the halt has the simulator of the request, and how many bytes its payload has, more than a frame may
 pub record IsLongCall (h : Halt) (i : ℕ) (call : Call) (id : ℕ) : Type 0 where
   pub sim : SimNo
   pub bytes : ℕ
@@ -83,10 +82,12 @@ pub record IsLongCall (h : Halt) (i : ℕ) (call : Call) (id : ℕ) : Type 0 whe
   pub length_is : bytes ≡ length (call_text id call)
   pub beyond : limit < bytes
 
+-- why a link didn't take the request: its payload is longer than a frame may be, or memory was
+-- wanting
 abbrev pub IsUnqueued : Halt → ℕ → Call → ℕ → Type 0
 IsUnqueued h i call id = (h ≡ halt.Mem) ⊎ IsLongCall h i call id
 
--- the payload is longer than a frame may be
+-- the same, of a simulator that isn't within the program
 pub record IsTooLongToAsk (h : Halt) (i : ℕ) (call : Call) (id : ℕ) (old : CrewSeen) : Type 0 where
   pub sim : SimNo
   pub bytes : ℕ
@@ -117,6 +118,7 @@ pub record AsksInVain (h : Halt) (i : ℕ) (call : Call) (id : ℕ) (entries : L
   pub shown : ShowsHalt why entries new.channels
   pub on_links : AreOn (IsChannelLink mid) entries
 
+-- why no message was heard of a request: it wasn't made, or it was in vain
 abbrev pub AsksFail : Halt → ℕ → Call → ℕ → List LogEntry → CrewSeen → CrewSeen → Type 0
 AsksFail h i call id entries old new = AsksNot h i call id entries old new
     ⊎ AsksInVain h i call id entries old new
@@ -155,8 +157,7 @@ abbrev pub AnswersNot : Type 0 → Halt → ℕ → Call → ℕ → List LogEnt
 AnswersNot risen h i call id entries old new U = (AsksFail h i call id entries old new
     × (h ≡ halt.Fleet → risen)) ⊎ IsNotTaken h i call id entries old new U
 
--- what the setup asks for next can be asked: it gets a reply, and its simulator has a channel,
--- unless
+-- what the setup asks for next can be asked: it gets a reply, and its simulator has a channel, unless
 -- it is within the program
 abbrev pub CanAsk : CrewSeen → SetupState → Type 0
 CanAsk C U = (sim : SimNo) (call : Call) (id : ℕ) (V : SetupState) → IsRequested U sim call id V
@@ -204,6 +205,7 @@ pub record IsUnmade (h : Halt) (entries : List LogEntry) (old new : CrewSeen)
   pub state : SetupState
   pub unready : GivesNoRequest U fault state
 
+-- why a step came to nothing
 abbrev pub StepsNot : Type 0 → Halt → List LogEntry → CrewSeen → CrewSeen → SetupState → Type 0
 StepsNot risen h entries old new U = IsStuck risen h entries old new U
     ⊎ IsUnmade h entries old new U
@@ -219,7 +221,7 @@ pub record IsNewCrew (started : ℕ) (rows : List Turn) (S : Scenario) (open_lin
   pub halt : C.halt ≡ None
   pub are_open : (i : ℕ) (l : LinkNo) → sim_link started S i ≡ Some l → IsIn l open_links
 
--- after these answers
+-- the crew after these answers: what was heard, asked and kept is theirs, and there is no halt
 pub record IsAnswered (started : ℕ) (S : Scenario) (rows : List Turn) (log : List LogEntry)
     (answers : List Message) (C : CrewSeen) : Type 0 where
   pub replies : SetupReplies

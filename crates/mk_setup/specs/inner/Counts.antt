@@ -6,7 +6,8 @@ use Rattle.mk_scenario.specs.Wellformed.{IsWellformed}
 use Rattle.mk_run_laws.specs.Handshake.{Request, setup_requests}
 use Rattle.mk_setup.specs.Requests.{id_before}
 
--- the first k requests are counted by their simulators
+-- of a well-formed scenario, which has at least k requests, each id is how many of the first k go to its
+-- simulator
 pub record IsCounted (S : Scenario) (k : ℕ) (ids : List ℕ) : Type 0 where
   pub wellformed : IsWellformed S
   pub within : k ≤ length (setup_requests S)
@@ -16,5 +17,6 @@ pub record IsCounted (S : Scenario) (k : ℕ) (ids : List ℕ) : Type 0 where
 abbrev pub sim_after : Scenario → ℕ → Option ℕ
 sim_after S k = option_map (λ (r : Request). r.sim) (slice_get (setup_requests S) k)
 
+-- request number k is there, and goes to this simulator
 abbrev pub IsToSim : Scenario → ℕ → ℕ → Type 0
 IsToSim S k sim = sim_after S k ≡ Some sim

@@ -18,7 +18,7 @@ use Rattle.mk_setup.specs.Seen.{SetupState}
 use Rattle.mk_setup.specs.inner.Standing.{IsSoundSetup}
 use Rattle.mk_setup.specs.Kept.{state_of}
 
--- what is kept stands
+-- what is kept is sound, whatever fault was met
 abbrev pub IsSoundProgress : Progress → Type 0
 IsSoundProgress p = IsSoundSetup (state_of p None) p.ids p.plan
 

@@ -14,7 +14,8 @@ use Rattle.mk_setup.specs.Ranked.{AreRanksOf}
 use Rattle.mk_setup.specs.Requests.{id_before, request_of}
 use Rattle.mk_setup.specs.Seen.{SetupState}
 
--- the plan is that of the state, all groups being created
+-- the plan is that of the state, all groups being created: it is valid, has the scenario's simulators,
+-- and each one's first id is how many requests it gets before the run
 pub record IsPlanOf (U : SetupState) (P : Plan) : Type 0 where
   pub created : length U.scenario.sims + length U.scenario.groups ≤ U.answered
   pub made : plan_of U ≡ Ok P
@@ -22,8 +23,9 @@ pub record IsPlanOf (U : SetupState) (P : Plan) : Type 0 where
   pub sims : sim_count P ≡ length U.scenario.sims
   pub first : (i : ℕ) → i < length U.scenario.sims → first_id P i ≡ setup_count U.scenario i
 
--- the scenario is well-formed and ranked; each id is how many requests were answered; an
--- outstanding request has passed its test; and entities are of models and groups
+-- the scenario is well-formed and ranked; each id is how many requests to its simulator were answered;
+-- an outstanding request is there and has passed its test; each reply to `init` gave its metadata, and
+-- their models are listed; entities are of models and groups; and a plan that is kept is the state's
 pub record IsSoundSetup (U : SetupState) (ids : List ℕ) (plan : Option Plan) : Type 0 where
   pub wellformed : IsWellformed U.scenario
   pub ranked : AreRanksOf U.scenario U.ranks
