@@ -1,4 +1,5 @@
--- The content of an answer to a request for data is the text of a proper tree that nests two deeper than its values.
+-- The content of an answer to a request for data is the text of a proper tree that nests two deeper
+-- than its values.
 use Rattle.std.proofs.Common.{◌≡◌, ℕ, ◌-◌, ◌≤◌, nat_le, nat_lt, true, List, [], ◌∷◌, map, filter, fold, Option, Some, None, option_map, refl, sym, ap, ◌∙◌, subst, arith}
 use Rattle.std.specs.BTreeMap.{insert_entry}
 use Rattle.std.specs.List.{list_all}

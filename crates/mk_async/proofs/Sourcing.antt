@@ -1,4 +1,5 @@
--- Each value that a request sets is the text of a value, under the full id of an entity of the asking simulator.
+-- Each value that a request sets is the text of a value, under the full id of an entity of the
+-- asking simulator.
 use Rattle.std.proofs.Common.{◌≡◌, ℕ, zero, suc, Bool, true, List, [], ◌∷◌, Option, Some, None, unwrap_or, refl, sym, ap, subst, ◌∙◌, inl, inr, arith, true≢false, ◌==◌}
 use Rattle.std.proofs.lemmas.Bool.{eqb-true}
 use Rattle.std.specs.Prelude.{All}

@@ -201,7 +201,8 @@ fn is_text(tree: &Json) -> bool
     }
 }
 
-/// Whether each member is an object of objects of values, as the argument of `set_data` and the inputs of a step have it.
+/// Whether each member is an object of objects of values, as the argument of `set_data` and the inputs of a step have
+/// it.
 pub fn are_sources(sources: &Members<Json>) -> bool
     ensures { result ≡ each_passes is_destinations sources.now }
 {

@@ -1,4 +1,4 @@
-// Decimal digits, and the number that they spell.
+//! Decimal digits, and the number that they spell.
 ghost use Rattle.std.specs.Prelude.{◌≡◌, ◌≤◌, length};
 ghost use Rattle.std.specs.List.{list_all};
 ghost use Rattle.mk_base.specs.Numbers as numbers;

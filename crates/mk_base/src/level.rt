@@ -1,4 +1,4 @@
-// What a tree is, looked at one level deep.
+//! What a tree is, looked at one level deep.
 ghost use Rattle.std.specs.Prelude.{◌≡◌, option_map};
 ghost use Rattle.mk_base.specs.Trees.{is_null, bool_in, whole_in, text_in, items_in, members_in, is_object};
 

@@ -1,4 +1,4 @@
-// Where a name stands among entries whose names rise.
+//! Where a name stands among entries whose names rise.
 ghost use Rattle.std.specs.Prelude.{◌≡◌, true, length, option_map, slice_get};
 ghost use Rattle.std.specs.Ordering.{nat_cmp, is_gt};
 ghost use Rattle.std.specs.Cmp.Lexicographic.{slice_cmp};

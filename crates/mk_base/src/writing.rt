@@ -1,4 +1,4 @@
-// What is written behind bytes: a text, a number in decimal digits.
+//! What is written behind bytes: a text, a number in decimal digits.
 ghost use Rattle.std.specs.Prelude.{◌≡◌, ◌++◌, decimal, OnOk};
 ghost use Rattle.std.specs.Fmt.{signed_decimal};
 

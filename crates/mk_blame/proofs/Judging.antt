@@ -1,4 +1,5 @@
--- Who is to blame, one simulator more at a time; that somebody is; and that one verdict comes of two journals.
+-- Who is to blame, one simulator more at a time; that somebody is; and that one verdict comes of
+-- two journals.
 use Rattle.std.proofs.Common.{◌≡◌, ℕ, ◌+◌, ◌<◌, Bool, true, false, List, [], ◌∷◌, ◌++◌, length, ◌⊎◌, inl, inr, refl, sym, ap, ◌∙◌, subst, arith, true≢false}
 use Rattle.std.proofs.lemmas.Bool.{cases_lt}
 use Rattle.mk_base.specs.Lists.{IsIn}

@@ -1,4 +1,4 @@
-// Which simulators are to blame: the crate's call.
+//! Which simulators are to blame: the crate's call.
 ghost use Rattle.std.specs.Prelude.{◌≡◌, List, map, IfOk};
 ghost use Rattle.mk_plan.specs.declared.Plan.{Plan};
 ghost use Rattle.mk_plan.specs.declared.Entry.{Entry};

@@ -1,4 +1,4 @@
-// Whether two entries say the same.
+//! Whether two entries say the same.
 ghost use Rattle.std.specs.Prelude.{◌≡◌};
 ghost use Rattle.mk_plan_same.specs.Decisions.{Decides};
 ghost use Rattle.mk_plan.specs.Journals.{bare};

@@ -1,4 +1,4 @@
-// Where two talks part.
+//! Where two talks part.
 ghost use Rattle.std.specs.Prelude.{◌≡◌, map, if◌then◌else◌};
 ghost use Rattle.mk_blame.specs.Talks.{said, step_after};
 ghost use Rattle.mk_plan.specs.Acts.{Told};

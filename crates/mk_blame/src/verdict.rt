@@ -1,4 +1,4 @@
-// What comes of two journals.
+//! What comes of two journals.
 use mk_base::{List, SimNo, Tier};
 use mk_plan::Message;
 

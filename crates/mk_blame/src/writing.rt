@@ -1,4 +1,4 @@
-// The text of a verdict.
+//! The text of a verdict.
 ghost use Rattle.std.specs.Prelude.{◌≡◌, ◌++◌, true, IfOk, OnOk};
 ghost use Rattle.std.specs.Fmt.{signed_decimal};
 ghost use Rattle.mk_message.specs.Written.{message_text, is_in_range};

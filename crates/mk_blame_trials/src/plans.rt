@@ -1,4 +1,4 @@
-// Records of two plans: the first part that differs is named.
+//! Records of two plans: the first part that differs is named.
 
 use crate::said::is_said;
 use mk_base::Mem;

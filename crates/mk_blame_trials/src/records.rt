@@ -1,4 +1,4 @@
-// Two records each, and what is said of them: texts as they are printed.
+//! Two records each, and what is said of them: texts as they are printed.
 
 use crate::said::is_said;
 use mk_base::Mem;

@@ -1,4 +1,4 @@
-// What is said of two records.
+//! What is said of two records.
 
 use mk_base::Mem;
 use mosaikrun_blame::blamed;

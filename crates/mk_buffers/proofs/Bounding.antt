@@ -1,4 +1,5 @@
--- Outputs that are held are at most as many as there are connections, source attributes, and late outputs.
+-- Outputs that are held are at most as many as there are connections, source attributes, and late
+-- outputs.
 use Rattle.std.proofs.Common.{◌≡◌, inl, inr, ℕ, suc, ◌+◌, ◌≤◌, ℤ, Bool, true, false, not, ◌&&◌, ◌||◌, if◌then◌else◌, List, [], ◌∷◌, length, filter, Some, slice_get, refl, sym, ap, subst, ◌∙◌, ◌==◌, arith, true≢false, int_lt, int_le}
 use Rattle.std.specs.List.{list_all, list_any, sum_by}
 use Rattle.std.proofs.lemmas.Int.{ints}

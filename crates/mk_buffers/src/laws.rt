@@ -9,8 +9,9 @@ ghost use Rattle.mk_buffers.specs.declared.buffers.Buffers.{Buffers};
 ghost use Rattle.mk_buffers.specs.Marking.{asks_of};
 ghost use Rattle.mk_buffers.specs.Standing.{HasKey, IsNew, IsOutletFor, IsUnchanged, StandFor, least_mark, mark_of};
 
-/// New buffers stand for a supply of nothing, unchanged ones for what they stood for; a wanted attribute's outlet is that of
-/// an entity of its simulator; the least mark is that of a simulator that asks, and up to those of all that ask.
+/// New buffers stand for a supply of nothing, unchanged ones for what they stood for; a wanted attribute's outlet is
+/// that of an entity of its simulator; the least mark is that of a simulator that asks, and up to those of all that
+/// ask.
 pub fn buffers_stand()
     ensures new { (P : Plan) (b : Buffers) (S : Supply) → IsNew P b
         → ((e : ℕ) (attr : List ℕ) → S.outputs e attr ≡ []) → ((e : ℕ) → S.gifts e ≡ [])

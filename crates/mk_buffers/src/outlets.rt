@@ -1,4 +1,5 @@
-//! Outlets: the attributes that connections take, by simulator, entity and attribute, each with its delays and its outputs.
+//! Outlets: the attributes that connections take, by simulator, entity and attribute, each with its delays and its
+//! outputs.
 ghost use Rattle.std.specs.Bool.{OnTrue};
 ghost use Rattle.mk_base.specs.Lists.{IsIn};
 ghost use Rattle.mk_base.specs.Tiers.{HasWidth};

@@ -229,7 +229,8 @@ impl Sets {
         }
     }
 
-    // Takes one more value in the slot of these names, and gives up those that it lets no question at or after the mark reach.
+    // Takes one more value in the slot of these names, and gives up those that it lets no question at or after the mark
+    // reach.
     pub fn take_in(&mut self, fresh: Slot, new: Setting, mark: Tier) -> Result<(), Mem>
         requires { fresh.values ≡ [] }
         ensures ok { OnOk result (HaveTaken mark (input_in fresh []) new self.old self.new) }

@@ -1,4 +1,5 @@
--- How many outputs a walk that gives up what is overtaken leaves, and until which mark no more of them may be given up.
+-- How many outputs a walk that gives up what is overtaken leaves, and until which mark no more of
+-- them may be given up.
 use Rattle.std.proofs.Common.{◌≡◌, ◌⊎◌, inl, inr, ℕ, zero, suc, ◌+◌, ◌-◌, ◌<◌, ◌≤◌, ℤ, Bool, true, false, not, ◌&&◌, ◌||◌, cond, List, [], ◌∷◌, ◌++◌, length, filter, get_or, take, Some, refl, sym, ap, subst, ◌∙◌, arith, true≢false, int_lt, int_le, length-append}
 use Rattle.std.proofs.lemmas.List.{take_more}
 use Rattle.std.specs.List.{list_all, list_any, remove, insert}
@@ -277,7 +278,8 @@ module _ (vias : List Via) (until : ℤ) (mark m : Tier) (from : IsUpTo mark m) 
   settled_past x h = let p = and_both (up_to x mark) (list_all (λ v. up_to (delayed x v) mark) vias) h in
       and_is (up_to x mark) (list_all (λ v. up_to (delayed x v) mark || int_le until (delayed x v).time) vias) p.0 (past_settled vias x p.1)
 
-  -- what doesn't come by the mark leaves what was made later unsettled, while that comes before the run's end
+  -- what doesn't come by the mark leaves what was made later unsettled, while that comes before the
+  -- run's end
   late_later : (vs : List Via) (x y : Tier) → IsUpTo x y → list_all (λ v. int_lt (delayed y v).time until) vs ≡ true → list_all (λ v. up_to (delayed x v) m) vs ≡ false → list_all (λ v. up_to (delayed y v) m || int_le until (delayed y v).time) vs ≡ false
   late_later [] x y h ends late = absurd (true≢false late)
   late_later (v ∷ vs) x y h ends late = go (λ r. late_later vs x y h in_time.1 r) (up_to (delayed x v) m) refl

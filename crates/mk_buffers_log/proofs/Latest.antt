@@ -163,7 +163,8 @@ in_above (f ∷ fs) (Some b) e (inl q) = go (up_to b.at f.at) refl
     go false p = let r = holds_above fs b in (r.0, r.1, subst (λ (w : Timed). IsUpTo w.at r.0.at) (sym q) (up_to_trans f.at b.at r.0.at (up_to_total f.at b.at p) r.2))
 in_above (f ∷ fs) o e (inr m) = in_above fs (later o f) e m
 
--- one that an earlier one of the list is later than may be left out, where that passes the test if it does
+-- one that an earlier one of the list is later than may be left out, where that passes the test if
+-- it does
 pub without_front : (test : Timed → Bool) (front back : List Timed) (d e : Timed) → IsIn e front → up_to e.at d.at ≡ false → (test d ≡ true → test e ≡ true) → latest (filter test (front ++ d ∷ back)) ≡ latest (filter test (front ++ back))
 without_front test front back d e m h goes = ap latest (filter_append test front (d ∷ back)) ∙ by_test (test d) refl ∙ sym (ap latest (filter_append test front back))
   where

@@ -111,7 +111,8 @@ module _ (vias : List Via) (until : ℤ) (mark : Tier) where
     settled = and_both (up_to d.at mark) (list_all (λ v. up_to (delayed d.at v) mark || int_le until (delayed d.at v).time) vias)
         (subst (λ (t : Timed). is_settled vias until mark t.at ≡ true) (sym is) (spare.settled d))
 
-    -- it may be left out of what a connection delivers, where another counts rather than it, and passes the test if it does
+    -- it may be left out of what a connection delivers, where another counts rather than it, and
+    -- passes the test if it does
     left_out : (v : Via) (ends : Option ℤ) (test : Timed → Bool) → does_come v ends mark d.at ≡ true → IsOutdoneAt v ends mark ts p
         → ((e : Timed) → does_come v ends mark e.at ≡ true → up_to (delayed d.at v) (delayed e.at v) ≡ true → test (arrival v d) ≡ true → test (arrival v e) ≡ true)
         → latest (filter test (map (arrival v) (front ++ d ∷ back))) ≡ latest (filter test (map (arrival v) (front ++ back)))

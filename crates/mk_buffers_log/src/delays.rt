@@ -118,7 +118,8 @@ fn comes_by(made: Tier, via: Delay, mark: Tier) -> bool
     made.after(via.via()).is_up_to(mark)
 }
 
-/// Neither the making nor, by any of these delays, the delivery before the run's end of what is made at a time is later than the mark.
+/// Neither the making nor, by any of these delays, the delivery before the run's end of what is made at a time is later
+/// than the mark.
 pub fn is_settled(made: Tier, vias: &[Delay], until: i64, mark: Tier) -> bool
     requires early { pos 0 ≤ℤ made.time }
     requires late { made.time ≤ℤ pos 1000000000000000000 }
@@ -210,7 +211,8 @@ fn replaces_by(first: Tier, second: Tier, via: Delay, until: i64, mark: Tier) ->
     is_delivered(second, via, Some(until), mark) || until <= first.after(via.via()).time
 }
 
-/// By one of these delays what is made first comes after the mark, while what is made last still comes before the run's end.
+/// By one of these delays what is made first comes after the mark, while what is made last still comes before the run's
+/// end.
 pub fn is_held_up(first: Tier, last: Tier, vias: &[Delay], until: i64, mark: Tier) -> bool
     requires early { pos 0 ≤ℤ first.time }
     requires late { first.time ≤ℤ pos 1000000000000000000 }

@@ -212,7 +212,8 @@ fn latest_rising(
     }
 }
 
-// How many of rising entries are delivered up to `at`: where what is overtaken was given up, most often the first alone.
+// How many of rising entries are delivered up to `at`: where what is overtaken was given up, most often the first
+// alone.
 fn passing(entries: &VecDeque<Made>, via: Delay, until: Option<i64>, at: Tier) -> usize
     requires { IsAscending entries.now.items }
     ensures within { result ≤ length entries.now.items }

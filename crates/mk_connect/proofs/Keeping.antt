@@ -1,4 +1,5 @@
--- Whether connections of the plan that is made keep their values and trigger fits the types of their simulators.
+-- Whether connections of the plan that is made keep their values and trigger fits the types of
+-- their simulators.
 use Rattle.std.proofs.Common.{◌≡◌, ℕ, ◌<◌, true, false, List, length, Option, Some, sym, ap, ◌∙◌, slice_get, arith}
 use Rattle.std.specs.Prelude.{option_and_then}
 use Rattle.mk_base.specs.declared.SimKind.TheVariants.{TimeBased, EventBased}

@@ -94,7 +94,8 @@ in_pairs p (f ∷ g ∷ fs) (t ∷ u ∷ ts) inside = in_zip p (f ∷ g ∷ fs) 
 
 -- ---- connections
 
--- a block's connection: its ends are at the block's places, and all that follows from the metadata and the block
+-- a block's connection: its ends are at the block's places, and all that follows from the metadata
+-- and the block
 pub record IsSoundConn (models : List SimModel) (es : List EntityInfo) (blocks : List Block) (c : Conn) : Type 0 where
   pub block : Block
   pub of_scenario : IsIn block blocks

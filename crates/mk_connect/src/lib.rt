@@ -1,5 +1,5 @@
-//! From a scenario and what its simulators said to a plan: which simulators connections put before which, and the plan that its
-//! connections make.
+//! From a scenario and what its simulators said to a plan: which simulators connections put before which, and the plan
+//! that its connections make.
 #![tactic(auto)]
 
 mod asyncs;

@@ -45,8 +45,8 @@ pub fn plan(
 ) -> Result<Plan, ConnectFault>
     requires { IsWellformed scenario.now }
 
-    // No two connections lead the same way; initial values stand where they have to, and none on a plain connection; connections
-    // of one source's attribute agree, and those to one target's.
+    // No two connections lead the same way; initial values stand where they have to, and none on a plain connection;
+    // connections of one source's attribute agree, and those to one target's.
     ensures apart { IfOk result (λ P. HasOneConnectionEach P) }
     ensures initials { IfOk result (λ P. HasInitialValues P) }
     ensures sources { IfOk result (λ P. SourcesAgree P) }

@@ -10,9 +10,9 @@ use mk_cycles::Edge;
 use mk_scenario::{Block, Group, Place, Scenario};
 use std::alloc::Global;
 
-/// One edge for each block that orders its simulators: a plain one that connects attributes, or an asynchronous one, whose
-/// left side has to come first (mosaik 3, scenario definition). The edges stand in the order of their blocks. Fails for
-/// want of memory alone.
+/// One edge for each block that orders its simulators: a plain one that connects attributes, or an asynchronous one,
+/// whose left side has to come first (mosaik 3, scenario definition). The edges stand in the order of their blocks.
+/// Fails for want of memory alone.
 pub fn edges(alloc: Global, scenario: &Scenario) -> Result<List<Edge>, Mem>
     requires { IsWellformed scenario.now }
     ensures edges { IfOk result (λ edges. edges ≡ edges_of scenario.now) }

@@ -220,7 +220,8 @@ fn attrs_fault(
     Ok(None)
 }
 
-// Beside those that there are, the connection is the only one of its way; it has the initial value that it needs; and there is room.
+// Beside those that there are, the connection is the only one of its way; it has the initial value that it needs; and
+// there is room.
 fn conn_fault(
     alloc: Global,
     study: &Study,

@@ -5,8 +5,8 @@ use mk_base::{Mem, Text};
 use std::fmt;
 use thiserror::Error;
 
-/// Why a scenario's groups and connections make no plan: the first test that fails, or want of memory. An entity is named by its
-/// full id: its simulator's id, a dot and its eid.
+/// Why a scenario's groups and connections make no plan: the first test that fails, or want of memory. An entity is
+/// named by its full id: its simulator's id, a dot and its eid.
 #[derive(Drop, Error)]
 pub enum ConnectFault {
     /// A full id, as the scenario has it, that no entity has.

@@ -1,5 +1,5 @@
-//! The tests of a scenario's groups and connections, and the connections that pass them: models, entities and texts by their
-//! numbers, and what a block pairs.
+//! The tests of a scenario's groups and connections, and the connections that pass them: models, entities and texts by
+//! their numbers, and what a block pairs.
 #![tactic(auto)]
 
 mod attributes;

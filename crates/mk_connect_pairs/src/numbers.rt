@@ -145,8 +145,8 @@ fn number(
     }
 }
 
-/// The models of the simulators' metadata, in simulator order and in each as it says them. Fails for want of memory, or of
-/// numbers: there are 2^32.
+/// The models of the simulators' metadata, in simulator order and in each as it says them. Fails for want of memory, or
+/// of numbers: there are 2^32.
 pub fn models_of(alloc: Global, metas: &List<Meta>) -> Result<Models, Mem>
     ensures { IfOk result (λ models. models ≡ models_of metas.now) }
 {
@@ -207,8 +207,8 @@ fn roles(alloc: Global, model: &ModelMeta) -> Result<(Texts, Texts), Mem>
     Ok((trigger, events))
 }
 
-/// The numbers of the entities' models, in order, none for an entity whose simulator has no such model. Fails for want of memory
-/// alone.
+/// The numbers of the entities' models, in order, none for an entity whose simulator has no such model. Fails for want
+/// of memory alone.
 pub fn numbers_of(
     alloc: Global,
     models: &Models,

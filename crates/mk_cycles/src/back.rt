@@ -1,4 +1,4 @@
-// The way back from what has no rank, until it closes: the cycle.
+//! The way back from what has no rank, until it closes: the cycle.
 ghost use Rattle.std.specs.Prelude.{◌≡◌, ℕ, suc, ◌<◌, ◌≤◌, ◌^◌, ◌++◌, ◌∷◌, [], length, reverse, take, drop, slice_get, slice_index, Some, IfOk};
 ghost use Rattle.mk_base.specs.Lists.{Each, IsIn};
 ghost use Rattle.mk_cycles.specs.Cycles.{IsBack, IsUnplaced, IsLoop, IsGoneBackTo};

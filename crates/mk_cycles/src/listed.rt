@@ -1,4 +1,4 @@
-// Numbers in the order in which they were listed, each at most once.
+//! Numbers in the order in which they were listed, each at most once.
 ghost use Rattle.std.specs.Prelude.{◌≡◌, ℕ, ◌<◌, ◌≤◌, ◌↔◌, ◌++◌, ◌∷◌, [], length, slice_get, Some, IsTrue, IfOk, OnOk, OnErr, MatchOption};
 ghost use Rattle.mk_base.specs.Lists.{IsIn};
 ghost use Rattle.mk_cycles.specs.Cycles.{IsUnplaced};

@@ -1,4 +1,4 @@
-// Places given one after the other, to the least-numbered simulator that may follow.
+//! Places given one after the other, to the least-numbered simulator that may follow.
 ghost use Rattle.std.specs.Prelude.{◌≡◌, ℕ, ◌<◌, ◌^◌, ◌↔◌, length, slice_get, Some, IsTrue, IfOk, MatchOption};
 ghost use Rattle.mk_base.specs.Lists.{IsIn};
 ghost use Rattle.mk_cycles.specs.Orders.{MayFollow, IsNext, IsOrder};

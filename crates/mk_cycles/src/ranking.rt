@@ -1,4 +1,4 @@
-// Ranks along edges, or a cycle: the crate's call.
+//! Ranks along edges, or a cycle: the crate's call.
 ghost use Rattle.std.specs.Prelude.{◌≡◌, IfOk, IfErr};
 ghost use Rattle.mk_cycles.specs.Edges.{EndsBelow, has_edge};
 ghost use Rattle.mk_cycles.specs.Orders.{IsRanking};

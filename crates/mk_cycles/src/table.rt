@@ -1,4 +1,4 @@
-// Which simulator leads to which, as a table.
+//! Which simulator leads to which, as a table.
 ghost use Rattle.std.specs.Prelude.{◌≡◌, ◌<◌, ◌*◌, ◌^◌, IfOk};
 ghost use Rattle.mk_cycles.specs.Edges.{EndsBelow, has_edge};
 ghost use Rattle.mk_cycles.specs.inner.Tables.{leads};

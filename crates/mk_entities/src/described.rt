@@ -1,4 +1,4 @@
-// A reply's entities, depth first.
+//! A reply's entities, depth first.
 ghost use Rattle.std.specs.Prelude.{◌≡◌, ◌++◌, [], false, filter_map, flat_map, IfOk, OnOk};
 ghost use Rattle.std.specs.List.{cons_option};
 ghost use Rattle.mk_entities.specs.Descriptions.{described, eid_in, family, texts_under};

@@ -1,4 +1,4 @@
-// The entities of all simulators: the list of them, and how replies to `create` add to it.
+//! The entities of all simulators: the list of them, and how replies to `create` add to it.
 ghost use Rattle.std.specs.Prelude.{◌≡◌, ◌<◌, ◌≤◌, [], Some, Ok, Err, length, slice_get, option_map, OnOk, IfErr, ◌⊎◌};
 ghost use Rattle.mk_base.specs.Lists.{BeginsWith};
 ghost use Rattle.mk_entities.specs.Creation.{entities_added, most_entities, entity_number};

@@ -1,4 +1,4 @@
-// Why a reply to `create` is refused.
+//! Why a reply to `create` is refused.
 ghost use Rattle.std.specs.Prelude.{◌≡◌};
 
 use mk_base::{Mem, Text};

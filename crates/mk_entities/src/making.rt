@@ -1,4 +1,4 @@
-// The tests of a reply's entities, and what is made of them.
+//! The tests of a reply's entities, and what is made of them.
 ghost use Rattle.std.specs.Prelude.{◌≡◌, ◌+◌, ◌<◌, ◌≤◌, [], ◌∷◌, ◌++◌, None, Ok, Err, length, map, take, not, is_some, unwrap_or, filter_map, option_map, IfOk, IfErr, IfSome, OnOk, ◌⊎◌};
 ghost use Rattle.std.specs.List.{cons_option, find, list_any};
 ghost use Rattle.mk_base.specs.Lists.{BeginsWith, same_text};

@@ -1,4 +1,4 @@
-// The eids of one simulator, and the number of each.
+//! The eids of one simulator, and the number of each.
 ghost use Rattle.std.specs.Prelude.{◌≡◌, ℕ, ◌<◌, ◌++◌, [], ◌∷◌, None, length, take, OnOk, OnErr};
 ghost use Rattle.mk_base.specs.Lists.{value_under};
 ghost use Rattle.mk_entities.specs.inner.Tied.{names_at};

@@ -1,4 +1,4 @@
-// What the members of an entity's description are.
+//! What the members of an entity's description are.
 ghost use Rattle.std.specs.Prelude.{◌≡◌, [], unwrap_or, IfOk, option_map};
 ghost use Rattle.mk_base.specs.Trees.{items_in};
 ghost use Rattle.mk_base.specs.Names.{is_eid};

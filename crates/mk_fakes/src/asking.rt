@@ -1,4 +1,4 @@
-// A fleet that notes what it was asked to start.
+//! A fleet that notes what it was asked to start.
 ghost use Rattle.std.specs.Prelude.{◌≡◌, [], IfOk};
 ghost use Rattle.mk_fakes.specs.Asking.{asks_of};
 

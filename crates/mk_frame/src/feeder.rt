@@ -1,4 +1,4 @@
-// Frames taken off a stream of bytes.
+//! Frames taken off a stream of bytes.
 ghost use Rattle.std.specs.Prelude.{◌≡◌, ℕ, ◌++◌, ◌↔◌, [], length, IfOk, OnOk, OnErr};
 ghost use Rattle.mk_frame.specs.Frames.{IsTooLong, IsUnfinished};
 ghost use Rattle.mk_frame.specs.Answers.{NextOf};

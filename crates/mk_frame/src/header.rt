@@ -1,4 +1,4 @@
-// What stands at the front of a stream: a header, and how long its frame is.
+//! What stands at the front of a stream: a header, and how long its frame is.
 ghost use Rattle.std.specs.Prelude.{◌≡◌, ◌+◌, ◌≤◌, length, take};
 ghost use Rattle.byteorder.specs.Endian.{big_bytes};
 ghost use Rattle.mk_frame.specs.Frames.{limit, IsTooLong, IsUnfinished};

@@ -1,4 +1,4 @@
-// Laws of frames and of feeders.
+//! Laws of frames and of feeders.
 ghost use Rattle.std.specs.Prelude.{◌≡◌, ℕ, ◌≤◌, ◌++◌, List, length};
 ghost use Rattle.mk_frame.specs.Frames.{frame_of, frames_of, limit, BeginsWithFrame, Feeding, IsProperPrefix};
 

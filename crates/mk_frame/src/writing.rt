@@ -1,4 +1,4 @@
-// Payloads written as frames.
+//! Payloads written as frames.
 ghost use Rattle.std.specs.Prelude.{◌≡◌, ◌<◌, ◌≤◌, ◌++◌, length, Err, OnOk, OnErr};
 ghost use Rattle.mk_frame.specs.Frames.{frame_of, limit};
 

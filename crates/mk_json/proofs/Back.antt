@@ -276,7 +276,8 @@ read-print j numbers shallow =
     ap read_whole (ap (json.value max_depth) (tokens-print (written.json_tokens j) (ArePrintable-json_tokens j numbers) ∙ sym (append-nil (written.json_tokens j)))
     ∙ value-json_tokens j max_depth [] shallow)
 
--- the compact text of a proper tree, whose whole numbers are in range and which nests no deeper than 127, is read as that tree
+-- the compact text of a proper tree, whose whole numbers are in range and which nests no deeper
+-- than 127, is read as that tree
 pub parsed-text_of : (t : Json) → is_proper t ≡ true → is_in_range t ≡ true → nesting t ≤ 127 → parsed (text_of t) ≡ Some t
 parsed-text_of t proper ranges shallow =
     let w = by_layers Wanted written_each t proper ranges in

@@ -1,4 +1,4 @@
-// The data among the trees.
+//! The data among the trees.
 ghost use Rattle.std.specs.Prelude.{◌≡◌, ◌<◌, ◌↔◌, true, false, Err, IfOk, OnOk};
 ghost use Rattle.std.specs.Fmt.{signed_decimal};
 ghost use Rattle.mk_base.specs.Texts.{text_of};

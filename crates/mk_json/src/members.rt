@@ -1,4 +1,4 @@
-// Members in the order in which they were read, brought into byte order of their names.
+//! Members in the order in which they were read, brought into byte order of their names.
 ghost use Rattle.std.specs.Prelude.{◌≡◌, IfOk, IsTrue, []};
 ghost use Rattle.std.specs.Ordering.{nat_cmp, is_lt};
 ghost use Rattle.std.specs.Cmp.Lexicographic.{slice_cmp};

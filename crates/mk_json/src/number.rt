@@ -1,4 +1,4 @@
-// The tree of a number's text.
+//! The tree of a number's text.
 ghost use Rattle.std.specs.Prelude.{◌≡◌, ◌==◌, ◌<◌, length, option_map, slice_index, IsTrue, true, false};
 ghost use Rattle.serde_json.specs.Read as meant;
 ghost use Rattle.mk_json.specs.Parsed.{tree_of_number};

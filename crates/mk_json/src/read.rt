@@ -1,4 +1,4 @@
-// From bytes to a tree, token by token.
+//! From bytes to a tree, token by token.
 ghost use Rattle.std.specs.Prelude.{◌≡◌, ◌≤◌, ◌<◌, length, true, Err, IfOk, OnOk, None, Some};
 ghost use Rattle.json.specs.Json.{value, items, members};
 ghost use Rattle.serde_json.specs.Data as values;

@@ -1,4 +1,4 @@
-// What reading keeps from text to text: the parser's room, and the names of members that were read last.
+//! What reading keeps from text to text: the parser's room, and the names of members that were read last.
 ghost use Rattle.std.specs.Prelude.{◌≡◌, IfOk, IfSome};
 
 use mk_base::{Mem, Text};

@@ -1,4 +1,4 @@
-// From a tree to its compact text.
+//! From a tree to its compact text.
 ghost use Rattle.std.specs.Prelude.{◌≡◌, ◌≤◌, true, Some, ◌++◌, ◌∷◌, [], map, OnOk, OnErr};
 ghost use Rattle.std.specs.List.{list_all};
 ghost use Rattle.std.specs.Fmt.{signed_decimal};

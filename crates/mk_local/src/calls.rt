@@ -1,4 +1,4 @@
-// The replies to the requests before the run.
+//! The replies to the requests before the run.
 ghost use Rattle.std.specs.Prelude.{◌≡◌, [], ◌++◌, IfOk, OnErr, OnOk, codes, length, map, replicate};
 ghost use Rattle.std.specs.List.{range_with_len};
 ghost use Rattle.mk_base.specs.declared.json.Json as tree;

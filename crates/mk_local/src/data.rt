@@ -1,4 +1,4 @@
-// The reply to a GetData.
+//! The reply to a GetData.
 ghost use Rattle.std.specs.Prelude.{◌≡◌, IfOk, OnOk, option_map};
 ghost use Rattle.std.specs.Fmt.{decimal};
 ghost use Rattle.mk_base.specs.Lists.{same_text};

@@ -1,4 +1,4 @@
-// What each entity takes in a Step.
+//! What each entity takes in a Step.
 ghost use Rattle.std.specs.Prelude.{◌≡◌, ◌<◌, ℕ, [], ◌∷◌, ◌++◌, false, true, pos, length, replicate, IfOk, IfSome, Some, List};
 ghost use Rattle.std.specs.Fmt.{decimal};
 ghost use Rattle.mk_plan.specs.declared.Input.{Input};

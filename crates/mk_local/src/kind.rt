@@ -1,4 +1,4 @@
-// A kind of simulator within the program.
+//! A kind of simulator within the program.
 ghost use Rattle.std.specs.Prelude.{◌≡◌};
 ghost use Rattle.mk_local.specs.Rows.{IsAllowed, row};
 

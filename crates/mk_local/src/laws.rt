@@ -1,4 +1,4 @@
-// What follows from the definitions.
+//! What follows from the definitions.
 ghost use Rattle.mk_local.specs.Accepted.{IsMetadataAccepted};
 ghost use Rattle.mk_local.specs.Right.{AreBareRepliesSame, AreDataRepliesRight, AreNumbersRead, AreRightInOrder, AreStepRepliesRight};
 

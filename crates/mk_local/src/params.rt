@@ -1,4 +1,4 @@
-// The parameters of `init` and `create`.
+//! The parameters of `init` and `create`.
 ghost use Rattle.std.specs.Prelude.{◌≡◌, ◌≤ℤ◌, IfSome, option_map};
 ghost use Rattle.mk_local.specs.Calls.{as_setting, as_step, first_bad, is_create_param, is_init_param, params_in, setting_in, step_in, whole_from_to};
 ghost use Rattle.mk_local.specs.Rows.{IsStepOf};

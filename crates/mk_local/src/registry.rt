@@ -1,4 +1,4 @@
-// The kinds that a program has, by their names.
+//! The kinds that a program has, by their names.
 ghost use Rattle.std.specs.Prelude.{◌≡◌, false, [], ◌∷◌, ◌++◌, map, IfOk, IfSome, OnOk, OnErr};
 ghost use Rattle.mk_base.specs.Lists.{IsIn, same_text};
 ghost use Rattle.mk_local.specs.Kinds.{has_kind, kind_named, name_of};

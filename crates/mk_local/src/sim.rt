@@ -1,4 +1,4 @@
-// A simulator within the program, and its replies.
+//! A simulator within the program, and its replies.
 ghost use Rattle.std.specs.Prelude.{◌≡◌, true, Some, IfOk, OnOk, OnErr};
 ghost use Rattle.mk_base.specs.Lists.{IsIn};
 ghost use Rattle.mk_local.specs.Calls.{IsCallReplied, after_call, call_reply};

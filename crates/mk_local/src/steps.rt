@@ -1,4 +1,4 @@
-// The reply to a Step.
+//! The reply to a Step.
 ghost use Rattle.std.specs.Prelude.{◌≡◌, IfOk, OnErr, OnOk, filter_map};
 ghost use Rattle.mk_base.specs.Lists.{IsIn};
 ghost use Rattle.mk_local.specs.Registries.{rows_in};

@@ -1,4 +1,4 @@
-// From a request of the handshake, or a stop, to its payload.
+//! From a request of the handshake, or a stop, to its payload.
 ghost use Rattle.std.specs.Prelude.{◌≡◌, ◌++◌, true, codes, decimal, map, flat_map, IfOk, OnOk};
 ghost use Rattle.std.specs.List.{list_all, join_with_byte};
 ghost use Rattle.mk_base.specs.Lists.{text_order};

@@ -1,4 +1,4 @@
-// What is gathered by entity, written item by item.
+//! What is gathered by entity, written item by item.
 ghost use Rattle.std.specs.Prelude.{◌≡◌, ◌++◌, codes, IfOk, OnOk};
 ghost use Rattle.mk_base.specs.Lists.{same_text};
 ghost use Rattle.mk_base.specs.Texts.{quoted};

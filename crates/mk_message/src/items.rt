@@ -1,4 +1,4 @@
-// From an item to its payload.
+//! From an item to its payload.
 ghost use Rattle.std.specs.Prelude.{◌≡◌, ◌++◌, ◌∷◌, [], codes, decimal, IfOk};
 ghost use Rattle.std.specs.Fmt.{signed_decimal};
 ghost use Rattle.mk_base.specs.Texts.{list_text, quoted};

@@ -1,4 +1,4 @@
-// From a payload to its message.
+//! From a payload to its message.
 ghost use Rattle.std.specs.Prelude.{◌≡◌, ℕ, true, Ok, Err, None, Some, IfOk};
 ghost use Rattle.mk_base.specs.Trees as trees;
 ghost use Rattle.mk_message.specs.Written.{is_in_range};

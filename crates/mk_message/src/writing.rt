@@ -1,4 +1,4 @@
-// From a message to its payload.
+//! From a message to its payload.
 ghost use Rattle.std.specs.Prelude.{◌≡◌, ◌≤◌, ◌∷◌, [], pos, true, Ok, IfOk};
 ghost use Rattle.mk_base.specs.Trees as trees;
 ghost use Rattle.mk_base.specs.Trees.{nesting};

@@ -1,4 +1,4 @@
-// Replies to `create` that add entities.
+//! Replies to `create` that add entities.
 use crate::texts::tree_of;
 use mk_base::{SimNo, Text};
 use mk_entities::{CreateFault, Entities, EntityInfo};

@@ -1,4 +1,4 @@
-// Frames written, and given again for several cuttings.
+//! Frames written, and given again for several cuttings.
 use mk_base::Mem;
 use mk_frame::{Feeder, Framed, put_frame};
 use std::alloc::Global;

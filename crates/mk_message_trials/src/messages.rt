@@ -1,4 +1,4 @@
-// Payloads read and written, request by request and item by item.
+//! Payloads read and written, request by request and item by item.
 ghost use Rattle.std.specs.Prelude.{◌≡◌, true, IfOk};
 ghost use Rattle.mk_message.specs.Written.{is_call_in_range, is_in_range};
 

@@ -1,4 +1,4 @@
-// A reply to `init` that has metadata.
+//! A reply to `init` that has metadata.
 use crate::texts::tree_of;
 use mk_base::{Json, List, SimKind, Text};
 use mk_meta::{ModelMeta, read_meta};

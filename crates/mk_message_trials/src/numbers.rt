@@ -1,4 +1,4 @@
-// Ids drawn and answered.
+//! Ids drawn and answered.
 use mk_requests::{Answered, Numbers};
 
 const OTHER: Answered = Answered::Unasked {

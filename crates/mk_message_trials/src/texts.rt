@@ -1,4 +1,4 @@
-// Trees and data by their texts.
+//! Trees and data by their texts.
 ghost use Rattle.std.specs.Prelude.{◌≡◌, true};
 ghost use Rattle.mk_base.specs.Trees.{is_in_range};
 

@@ -1,4 +1,4 @@
-// Bytes read, trees written, and both again.
+//! Bytes read, trees written, and both again.
 ghost use Rattle.std.specs.Prelude.{◌≡◌, true};
 ghost use Rattle.mk_base.specs.Trees.{is_in_range};
 

@@ -1,4 +1,4 @@
-// Why a reply to `init` is refused.
+//! Why a reply to `init` is refused.
 ghost use Rattle.std.specs.Prelude.{◌≡◌};
 
 use mk_base::{Mem, Text};

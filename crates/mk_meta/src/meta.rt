@@ -1,4 +1,4 @@
-// The tests of a reply to `init`.
+//! The tests of a reply to `init`.
 ghost use Rattle.std.specs.Prelude.{◌≡◌, map, IfOk, IfErr, IfSome, ◌≤◌, length, Ok, Err, ◌⊎◌, option_map, option_and_then};
 ghost use Rattle.mk_base.specs.Lists.{Each, same_text};
 ghost use Rattle.mk_base.specs.Trees.{members_in};

@@ -1,4 +1,4 @@
-// The tests of a model's description.
+//! The tests of a model's description.
 ghost use Rattle.std.specs.Prelude.{◌≡◌, None, IfOk, Ok, Err, option_map, if◌then◌else◌};
 ghost use Rattle.mk_base.specs.Lists.{is_among};
 ghost use Rattle.mk_meta.specs.Metadata.{first_unknown, model_in, with_known};

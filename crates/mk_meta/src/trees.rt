@@ -1,4 +1,4 @@
-// What the members of metadata are.
+//! What the members of metadata are.
 ghost use Rattle.std.specs.Prelude.{◌≡◌, false, IfOk, option_and_then};
 ghost use Rattle.mk_base.specs.Trees.{bool_in, member, texts_in};
 ghost use Rattle.mk_meta.specs.Metadata.{hybrid_texts, unless_missing};

@@ -1,4 +1,5 @@
--- There always is a least end of walks: simulators are let in one by one, and none lets a walk end sooner by coming back to it.
+-- There always is a least end of walks: simulators are let in one by one, and none lets a walk end
+-- sooner by coming back to it.
 use Rattle.std.proofs.Common.{◌≡◌, ℕ, zero, suc, ◌<◌, ◌≤◌, ℤ, ◌≤ℤ◌, Bool, true, false, List, [], ◌++◌, length, filter, flat_map, Option, Some, None, option_map, refl, sym, ap, ◌∙◌, subst, ◌⊎◌, inl, inr, true≢false, arith, ◌==◌, if◌then◌else◌}
 use Rattle.std.specs.Prelude.{MatchOption, option_to_list}
 use Rattle.std.proofs.lemmas.Bool.{eqb-true, eq-eqb, cases_lt}

@@ -1,4 +1,5 @@
--- The supply of an act, output by output: after all that connections take it is the supply of the acts grown.
+-- The supply of an act, output by output: after all that connections take it is the supply of the
+-- acts grown.
 use Rattle.std.proofs.Common.{◌≡◌, ℕ, Bool, true, false, ◌&&◌, ◌||◌, List, [], ◌∷◌, ◌++◌, Some, None, refl, sym, ap, ◌∙◌, true≢false, ◌==◌, if◌then◌else◌}
 use Rattle.std.proofs.lemmas.Bool.{eqb-true, eq-eqb}
 use Rattle.mk_base.specs.Lists.{same_text}

@@ -1,4 +1,5 @@
--- What becomes due by the end of a turn is new to its simulator, and what connections of that simulator bring by it.
+-- What becomes due by the end of a turn is new to its simulator, and what connections of that
+-- simulator bring by it.
 use Rattle.std.proofs.Common.{◌≡◌, ℕ, ◌<◌, ℤ, Bool, true, false, ◌&&◌, List, [], ◌∷◌, ◌++◌, Option, Some, None, refl, sym, ap, ◌∙◌, subst, true≢false, int_lt, ◌==◌}
 use Rattle.std.proofs.lemmas.Bool.{eqb-true, eq-eqb}
 use Rattle.mk_base.specs.declared.SimNo.{SimNo}

@@ -94,7 +94,8 @@ chosen_without test front back d e over goes = ap latest (filter_append test fro
     by_test true p = latest_without (filter test front) (filter test back) d e (kept over (goes p))
     by_test false p = refl
 
--- a list that keeps all after the mark, and of the others the latest, answers each later question as the whole list does
+-- a list that keeps all after the mark, and of the others the latest, answers each later question
+-- as the whole list does
 pub latest_from_mark : (mark x : Tier) → IsUpTo mark x → (kept all : List Timed) → filter (λ d. not (up_to d.at mark)) kept ≡ filter (λ d. not (up_to d.at mark)) all
     → latest (filter (λ d. up_to d.at mark) kept) ≡ latest (filter (λ d. up_to d.at mark) all) → latest (filter (λ d. up_to d.at x) kept) ≡ latest (filter (λ d. up_to d.at x) all)
 latest_from_mark mark x = latest_kept Tier Timed up_to (λ d. d.at) up_to_trans (λ x y h. up_to_total x y h) mark x

@@ -1,4 +1,5 @@
--- Set values that are given as requests are answered: what each kind of entry does to those of acts and open turns, and the inputs by them.
+-- Set values that are given as requests are answered: what each kind of entry does to those of acts
+-- and open turns, and the inputs by them.
 use Rattle.std.proofs.Common.{◌≡◌, ℕ, ◌<◌, ℤ, Bool, true, false, List, [], ◌∷◌, ◌++◌, length, map, filter, flat_map, Option, Some, None, option_map, refl, sym, ap, ◌∙◌, subst, inl, inr, true≢false, int_lt, ◌==◌, ◌&&◌, ◌||◌, append_assoc}
 use Rattle.std.proofs.lemmas.Bool.{eqb-true, eq-eqb}
 use Rattle.mk_base.specs.declared.tier.Tier.{Tier}

@@ -1,4 +1,5 @@
--- Set values that are given one at a time are those of each source entity, in order, so the inputs are the same.
+-- Set values that are given one at a time are those of each source entity, in order, so the inputs
+-- are the same.
 use Rattle.std.proofs.Common.{◌≡◌, ℕ, ◌<◌, Bool, true, false, ◌&&◌, not, List, [], ◌∷◌, ◌++◌, length, map, filter, flat_map, Option, Some, None, option_map, unwrap_or, refl, sym, ap, ◌∙◌, inl, inr, true≢false, ◌==◌, nat_eq, arith, if◌then◌else◌, find, ◌||◌}
 use Rattle.std.proofs.lemmas.Bool.{eqb-true, eq-eqb}
 use Rattle.std.specs.List.{list_all, list_any, range_with_len}

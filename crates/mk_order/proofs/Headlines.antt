@@ -30,12 +30,14 @@ module _ (P : Plan) (valid : IsValidPlan P) where
   pub alone_finished : (J : List Entry) → IsOrderlyAlone P J → IsDone P (view P J) → IsFinished P J
   alone_finished J orderly done = finished IsReadyAlone IsOwnTime P (alone_ready P valid) valid J orderly.0 done.no_fault done.closed done.none_pending
 
-  -- the max_advance of the next Step of s is a promise over all messages that may come, where s sends none until its reply
+  -- the max_advance of the next Step of s is a promise over all messages that may come, where s
+  -- sends none until its reply
   pub advance_promised : (J : List Entry) → IsOrderlySoFar IsReady IsAdvance P J → (view P J).fault ≡ None → (s : ℕ) (x : Tier) (m : ℤ) → s < sim_count P → IsReady P (view P J) s x → IsAdvance P (view P J) s x m
       → (R : Messages) → Continues P J R → R s ≡ got J s → IsPromised P R s x.time m
   advance_promised J orderly fine s x m low ready number R on over = promised P valid (view P J) (reached IsReady IsAdvance P (λ V s x r. r) J orderly) s x ready R
       (goes_on IsReady IsAdvance P (λ V s x r. r) valid J orderly R on) (over ∙ got_is IsReady IsAdvance P (λ V s x r. r) J orderly fine s ∙ sym (heard_seen P (view P J) s)) m number
 
-  -- a finished journal's messages are alike to others over which each turn ends: then all that is said is the same
+  -- a finished journal's messages are alike to others over which each turn ends: then all that is
+  -- said is the same
   pub finished_alike : (J : List Entry) (Q : Messages) → IsFinished P J → ((i : ℕ) → i < sim_count P → all_ended (sequential P Q i) ≡ true) → Alike P (got J) Q → (i : ℕ) → run_talk P (got J) i ≡ run_talk P Q i
   finished_alike J Q f whole alike i = same_runs P valid (got J) Q (λ j h. (f j h).ended) whole alike i

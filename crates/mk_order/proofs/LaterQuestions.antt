@@ -1,4 +1,5 @@
--- Once a bound of a simulator is known, no later Step of it and no question of its turns comes before that bound.
+-- Once a bound of a simulator is known, no later Step of it and no question of its turns comes
+-- before that bound.
 use Rattle.std.proofs.Common.{◌≡◌, ℕ, ℤ, List, [], ◌∷◌, ◌++◌, fold, Option, Some, sym, ap, ◌∙◌, subst}
 use Rattle.std.proofs.lemmas.List.Sums.{fold-append}
 use Rattle.mk_base.specs.declared.tier.Tier.{Tier}

@@ -1,4 +1,5 @@
--- The fault of a turn's end is looked for connection by connection, each of which brings at most one output.
+-- The fault of a turn's end is looked for connection by connection, each of which brings at most
+-- one output.
 use Rattle.std.proofs.Common.{◌≡◌, ℕ, ◌+◌, Bool, true, false, ◌&&◌, List, [], ◌∷◌, map, filter, find, Option, Some, None, ap, ◌∙◌, int_lt, ◌==◌, if◌then◌else◌}
 use Rattle.mk_base.specs.Tiers.{delayed}
 use Rattle.mk_plan.specs.declared.Plan.{Plan}

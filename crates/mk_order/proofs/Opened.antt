@@ -1,4 +1,5 @@
--- Turns that are still open, taken as turns that were cut, change nothing of what a ready simulator is sent.
+-- Turns that are still open, taken as turns that were cut, change nothing of what a ready simulator
+-- is sent.
 use Rattle.std.proofs.Common.{◌≡◌, ℕ, false, List, [], ◌∷◌, ◌++◌, Option, Some, None, refl, ap, ◌∙◌}
 use Rattle.mk_base.specs.declared.tier.Tier.{Tier}
 use Rattle.mk_base.specs.Lists.{Each}

@@ -44,7 +44,8 @@ module _ (Ready : Plan → View → ℕ → Tier → Type 0) (Advance : Plan →
     | inr high ↦ closed_back P (view P J) j (above (parts P) (laws P valid) (seen P (view P J)) (its J orderly) j high).0
   ]) i y there
 
-  -- the messages R of a run in which each turn ends and each message is used come to the journal J in any order
+  -- the messages R of a run in which each turn ends and each message is used come to the journal J
+  -- in any order
   module _ (R : Messages) (used : (i : ℕ) → i < sim_count P → messages_in (sequential P R i) ≡ R i) (J : List Entry) (orderly : IsOrderlySoFar Ready Advance P J) (cont : Continues P J R) where
     -- an open turn has a right message left
     pub next_at : ((i : ℕ) → i < sim_count P → all_ended (sequential P R i) ≡ true) → (i : ℕ) (T : OpenTurn) → i < sim_count P → (view P J).open_at i ≡ Some T →

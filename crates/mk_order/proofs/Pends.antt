@@ -1,4 +1,5 @@
--- A queue holds what is pending at a simulator: what that says of its pending time, and what keeps it so entry by entry.
+-- A queue holds what is pending at a simulator: what that says of its pending time, and what keeps
+-- it so entry by entry.
 use Rattle.std.proofs.Common.{◌≡◌, ℕ, ◌<◌, ℤ, Bool, true, false, slice_get, List, [], ◌∷◌, ◌++◌, Option, Some, None, refl, sym, ap, ◌∙◌, subst, ◌⊎◌, inl, inr, true≢false, arith}
 use Rattle.std.proofs.lemmas.Int.{ints}
 use Rattle.mk_base.specs.declared.tier.Tier.{Tier}

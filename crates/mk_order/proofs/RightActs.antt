@@ -1,4 +1,5 @@
--- Outputs are made no earlier than their turn, next times are later, and each due time over right acts is visited.
+-- Outputs are made no earlier than their turn, next times are later, and each due time over right
+-- acts is visited.
 use Rattle.std.proofs.Common.{◌≡◌, ℕ, ◌+◌, ◌<◌, ℤ, pos, ◌≤ℤ◌, ◌<ℤ◌, nat_abs, Bool, true, false, cond, List, [], ◌∷◌, map, filter_map, All, Option, Some, None, is_some, option_map, option_and_then, unwrap_or, slice_get, refl, sym, ap, ◌∙◌, subst, inl, inr, arith, true≢false, int_lt, int_le, nat_le, if◌then◌else◌, ◌==◌}
 use Rattle.std.proofs.lemmas.Int.{ints}
 use Rattle.std.proofs.lemmas.Bool.{leb-true}

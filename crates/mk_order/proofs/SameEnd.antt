@@ -1,4 +1,5 @@
--- A replay comes to one end: of two eager journals over the same messages that have come to an end, each is the other.
+-- A replay comes to one end: of two eager journals over the same messages that have come to an end,
+-- each is the other.
 use Rattle.std.proofs.Common.{◌≡◌, ℕ, ◌≤◌, ◌+◌, ℤ, List, [], ◌∷◌, ◌++◌, length, Option, Some, None, refl, sym, ap, ◌∙◌, subst, ◌⊎◌, inl, inr, arith, append_assoc, length-append}
 use Rattle.mk_base.specs.declared.tier.Tier.{Tier}
 use Rattle.mk_base.specs.Lists.{BeginsWith}
@@ -55,7 +56,8 @@ module _ (Ready : Plan → View → ℕ → Tier → Type 0) (Advance : Plan →
   pub nothing_after : (V : View) (e : Entry) (f : Fault) → V.fault ≡ Some f → IsAllowed Ready Advance P V e → ⊥
   nothing_after V e f fault allowed = none_some (sym allowed.0 ∙ fault)
 
-  -- a replay of the messages A has come to its end: by a fault, at the limit of entries, or where all came and there is nothing to send
+  -- a replay of the messages A has come to its end: by a fault, at the limit of entries, or where
+  -- all came and there is nothing to send
   pub data IsAtEnd (A : List Arrival) (J : List Entry) : Type 0 where
     faulty : (f : Fault) → (view P J).fault ≡ Some f → IsAtEnd A J
     full : length J ≡ P.entries → IsAtEnd A J
@@ -109,6 +111,7 @@ replay_is_one P = end_is_one IsReady IsAdvance P (λ V s x r. r) (advance_once P
 pub done_is_quiet : (P : Plan) (V : View) → IsDone P V → (i : ℕ) (x : Tier) → IsReady P V i x → ⊥
 done_is_quiet P V done i x ready = none_some (sym (done.none_pending i (pending_below P V.acts i x ready.at_pending)) ∙ ready.at_pending)
 
--- so a replay in which all messages came and nothing is left to do, or only waits for a message, is at its end
+-- so a replay in which all messages came and nothing is left to do, or only waits for a message, is
+-- at its end
 pub done_is_end : (P : Plan) (A : List Arrival) (J : List Entry) → IsEagerBy IsReady IsAdvance P J → arrivals J ≡ A → IsDone P (view P J) → IsAtEnd IsReady IsAdvance P A J
 done_is_end P A J eager given done = waits_is_end IsReady IsAdvance P A J eager given (done_is_quiet P (view P J) done)

@@ -1,4 +1,5 @@
--- Sequential execution as a law: each act is the one that is due after the simulator's acts before, over all acts.
+-- Sequential execution as a law: each act is the one that is due after the simulator's acts before,
+-- over all acts.
 use Rattle.std.proofs.Common.{◌≡◌, ℕ, true, List, ◌∷◌, ◌++◌}
 use Rattle.mk_order_any.specs.Parts as theory
 use Rattle.mk_order_any.proofs.Folding.{seq_rises, seq_visited, seq_right, acts_when_due, made_by}

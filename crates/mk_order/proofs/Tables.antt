@@ -132,11 +132,13 @@ module _ (P : Plan) (V : View) (starts : ℕ → Option Tier) (busy : ℕ → Bo
     opened = λ j. mirror.opened j ∙ opened_case (λ (o : Option OpenTurn). is_some (V.open_at j) ≡ is_some o) V i _ j (λ e. ap is_some (ap V.open_at e ∙ is)) (λ n. refl);
   }
 
-  -- who is busy after the end of a turn of i; its starts are those of closed queues, and stay where a turn is open
+  -- who is busy after the end of a turn of i; its starts are those of closed queues, and stay where
+  -- a turn is open
   pub busy_ended : (i : ℕ) (m : Message) (T : OpenTurn) → (flags : ℕ → Bool) → flags i ≡ false → ((j : ℕ) → (j ≡ i → ⊥) → flags j ≡ busy j) → (j : ℕ) → flags j ≡ is_some ((note_right P V i m T None).open_at j)
   busy_ended i m T flags here others j = opened_case (λ (o : Option OpenTurn). flags j ≡ is_some o) V i None j (λ e. ap flags e ∙ here) (λ n. others j n ∙ mirror.opened j)
 
-  -- after the end of a turn of i: where one is open the start stays, and where none is it is the pending time over the acts grown
+  -- after the end of a turn of i: where one is open the start stays, and where none is it is the
+  -- pending time over the acts grown
   pub starts_ended : (i : ℕ) (m : Message) (T : OpenTurn) → V.open_at i ≡ Some T → (news : ℕ → Option Tier) (flags : ℕ → Bool) → flags i ≡ false → ((j : ℕ) → (j ≡ i → ⊥) → flags j ≡ busy j)
       → ((j : ℕ) (U : OpenTurn) → (j ≡ i → ⊥) → V.open_at j ≡ Some U → news j ≡ starts j) → ((j : ℕ) → (note_right P V i m T None).open_at j ≡ None → news j ≡ pending P (note_right P V i m T None).acts j)
       → StartsOf P (note_right P V i m T None) news flags

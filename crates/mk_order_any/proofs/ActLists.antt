@@ -1,4 +1,5 @@
--- Lists of acts: whether all have ended, their messages, their talk, and what is left of a list of messages after them.
+-- Lists of acts: whether all have ended, their messages, their talk, and what is left of a list of
+-- messages after them.
 use Rattle.std.proofs.Common.{◌≡◌, List, [], ◌∷◌, ◌++◌, length, drop, refl, ap, sym, ◌∙◌, append_assoc}
 use Rattle.std.specs.Prelude.{Bool, true, false, ◌&&◌, cond}
 use Rattle.std.proofs.Math.Bool.{and-false}

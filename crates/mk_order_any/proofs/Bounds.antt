@@ -1,4 +1,5 @@
--- What the lower bound gives: nothing comes before the bounds, nothing new comes to a simulator that is Ready, and nothing is left at the end.
+-- What the lower bound gives: nothing comes before the bounds, nothing new comes to a simulator
+-- that is Ready, and nothing is left at the end.
 use Rattle.std.proofs.Common.{◌≡◌, inl, ℕ, List, [], ◌∷◌, ◌++◌, refl, ap, sym, ◌∙◌, subst, append_assoc, append-nil}
 use Rattle.std.specs.Prelude.{false, Some, None}
 use Rattle.mk_order_any.specs.Parts.{Parts, In, Every, le, Late, Family, act, seq, View, Turn, start, case_of, Reach, nobody, Ready, heard_in, rest, used, whole, talk_of}

@@ -139,7 +139,8 @@ module _ (P : Parts) (L : Laws P) where
     unfolding seq
     walked vs is i = ap (λ l. after_visits P R (nothing P) l i) is
 
-    -- what stands at the cut of sequential execution at the visit (x, s): the acts before it, and the others, which are late
+    -- what stands at the cut of sequential execution at the visit (x, s): the acts before it, and
+    -- the others, which are late
     record Cut (s : ℕ) (x : Tier) : Type 0 where
       before : Family P
       others : Family P
@@ -200,7 +201,8 @@ module _ (P : Parts) (L : Laws P) where
         let known : due c.before s x ≡ true = due_known c.before c.others s x c.late c.own_others (others_right s x c) (subst (λ (F : Family P). due F s x ≡ true) (whole_of s x c) is) in
         (f, subst (λ (l : List Act). In f l) (sym (own_whole s x c true known)) (in_right f (c.before s) (f ∷ c.rest_of) (inl refl)), act_at c.before s x (c.before s) (R s))
 
-    -- each act of sequential execution is due, and is made of the acts of its simulator before it and of the whole
+    -- each act of sequential execution is due, and is made of the acts of its simulator before it
+    -- and of the whole
     pub made_by : (s : ℕ) (K : List Act) (u : Act) (M : List Act) → seq P R s ≡ K ++ u ∷ M → (due (seq P R) s (at u) ≡ true) × (u ≡ act P (seq P R) s (at u) K (R s))
     made_by s K u M parts = go (due (cut).before s x) refl
       where

@@ -1,4 +1,5 @@
--- The lower bound: what is closed under triggering connections and holds of all starts holds of all acts that are not known yet.
+-- The lower bound: what is closed under triggering connections and holds of all starts holds of all
+-- acts that are not known yet.
 use Rattle.std.proofs.Common.{◌≡◌, inl, inr, ℕ, List, [], ◌∷◌, ◌++◌, refl, ap, sym, ◌∙◌, subst}
 use Rattle.std.specs.Prelude.{Bool, true, false, not, Option, Some, None}
 use Rattle.mk_order_any.specs.Parts.{Parts, In, Every, Rising, le, lt, Prior, Visit, Family, seq, View, Turn, newer, last_after, fresh}

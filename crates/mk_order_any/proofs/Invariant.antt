@@ -1,4 +1,5 @@
--- The invariant: what the scheduler knows is a part of sequential execution, for every continuation of what was heard.
+-- The invariant: what the scheduler knows is a part of sequential execution, for every continuation
+-- of what was heard.
 use Rattle.std.proofs.Common.{◌≡◌, inl, inr, ℕ, List, [], ◌∷◌, ◌++◌, refl, ap, sym, ◌∙◌, subst, append_assoc, append-nil}
 use Rattle.std.specs.Prelude.{true, false, Option, Some, None}
 use Rattle.mk_order_any.specs.Parts.{Parts, In, Every, Rising, Prefix, le, lt, Late, Family, act, seq, View, Turn, case_of, Ready, Moves, Reached, heard_in, heard_of, rest, used, whole, talk_of}

@@ -102,7 +102,8 @@ module _ (T X : Type 0) (up_to : T → T → Bool) (at : X → T) where
         go rest false e true e' = ap (λ a. fold later a (filter (λ d. up_to (at d) x) l)) (high_step mark h o d low e) ∙ rest (later h d) o (later_high mark h d high e) low ∙ seen e'
         go rest false e false e' = rest h o high low ∙ unseen e'
 
-    -- a list that keeps all after the mark, and the latest at or before it, answers all questions from the mark on
+    -- a list that keeps all after the mark, and the latest at or before it, answers all questions
+    -- from the mark on
     pub latest_kept : (mark x : T) → up_to mark x ≡ true → (k l : List X) → filter (λ d. not (up_to (at d) mark)) k ≡ filter (λ d. not (up_to (at d) mark)) l →
         latest (filter (λ d. up_to (at d) mark) k) ≡ latest (filter (λ d. up_to (at d) mark) l) → latest (filter (λ d. up_to (at d) x) k) ≡ latest (filter (λ d. up_to (at d) x) l)
     unfolding After AtOrBefore

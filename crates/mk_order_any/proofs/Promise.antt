@@ -1,4 +1,5 @@
--- What is triggered from outside after a Step is known, or comes from the end of a walk that avoids the simulator.
+-- What is triggered from outside after a Step is known, or comes from the end of a walk that avoids
+-- the simulator.
 use Rattle.std.proofs.Common.{◌≡◌, ◌⊎◌, inl, inr, ℕ, ◌<◌, List, refl, ap, sym, ◌∙◌, subst}
 use Rattle.std.specs.Prelude.{true, false}
 use Rattle.mk_order_any.specs.Parts.{Parts, In, Every, Prefix, le, seq, View, Reach, Ready, Reached, Outer, heard_of}

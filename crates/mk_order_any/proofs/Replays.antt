@@ -1,4 +1,5 @@
--- Replays: a journal is fixed by its arrivals, and an order of a finished record's arrivals ends as the record.
+-- Replays: a journal is fixed by its arrivals, and an order of a finished record's arrivals ends as
+-- the record.
 use Rattle.std.proofs.Common.{◌≡◌, ◌⊎◌, inl, inr, ℕ, ◌<◌, List, [], ◌∷◌, ◌++◌, refl, ap, sym, ◌∙◌, subst, append_assoc}
 use Rattle.std.specs.Prelude.{Bool, true, false, Option, Some, None, cond, filter_map}
 use Rattle.mk_order_any.specs.Parts.{Parts, In, Every, Prefix, seq, act, View, Turn, Reached, heard_in, heard_of, rest, used, whole, talk_of, case_of}
@@ -10,7 +11,8 @@ use Rattle.mk_order_any.proofs.Folding.{made_by}
 use Rattle.mk_order_any.proofs.Invariant.{Opened, Agreeing, invariant_holds, heard_open}
 use Rattle.mk_order_any.proofs.Talks.{everywhere, at_end}
 
--- X views, E entries, G arrivals: what an entry makes of a view, which entries are allowed, which are arrivals, and where nobody is Ready
+-- X views, E entries, G arrivals: what an entry makes of a view, which entries are allowed, which
+-- are arrivals, and where nobody is Ready
 module _ (X E G : Type 0) (note : X → E → X) (Allowed : X → E → Type 0) (arrival : E → Option G) (Quiet : X → Type 0)
     (one_sent : (x : X) (e e' : E) → Allowed x e → Allowed x e' → arrival e ≡ None → arrival e' ≡ None → e ≡ e')
     (one_got : (e e' : E) (g : G) → arrival e ≡ Some g → arrival e' ≡ Some g → e ≡ e')

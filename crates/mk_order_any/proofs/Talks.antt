@@ -109,7 +109,8 @@ module _ (P : Parts) (L : Laws P) where
       go [] is = is
       go (u ∷ l) is = absurd (not_low (L.due_below (seq P R) i (at u) (made_by P L R i [] u l is).0))
 
-  -- what was said to each simulator and heard of it is a prefix of its talk in sequential execution, for every continuation of what was heard
+  -- what was said to each simulator and heard of it is a prefix of its talk in sequential
+  -- execution, for every continuation of what was heard
   pub agrees : (V : View P) → Reached P V → (R : ℕ → List Message) → ((i : ℕ) → i < P.count → Prefix (heard_of P V i) (R i)) → (i : ℕ) → Prefix (said_of P V i) (talk_in P (seq P R i))
   agrees V reached R cont = let inv : Invariant P L V = invariant_holds P L V reached in let all : (i : ℕ) → Prefix (heard_of P V i) (R i) = everywhere V reached R cont in
       prefix_of_talk V R inv.shape (inv.agreeing R all) all

@@ -1,4 +1,5 @@
--- Two families of messages whose talks agree wherever both have a message have one sequential execution, if no turn is cut.
+-- Two families of messages whose talks agree wherever both have a message have one sequential
+-- execution, if no turn is cut.
 use Rattle.std.proofs.Common.{◌≡◌, inl, inr, ℕ, ◌<◌, List, [], ◌∷◌, ◌++◌, refl, ap, sym, ◌∙◌, subst, append_assoc}
 use Rattle.std.specs.Prelude.{Bool, true, false, cond}
 use Rattle.std.proofs.Math.Dec.{eqb}

@@ -1,4 +1,4 @@
-// Items that aren't sent yet.
+//! Items that aren't sent yet.
 ghost use Rattle.std.specs.Prelude.{◌≡◌};
 ghost use Rattle.mk_pace_held.specs.Firsts.{earlier_of, is_no_later};
 

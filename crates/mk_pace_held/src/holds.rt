@@ -1,4 +1,4 @@
-// What waits of all simulators.
+//! What waits of all simulators.
 ghost use Rattle.std.specs.Prelude.{◌≡◌, ℕ, ◌<◌, List, [], ◌∷◌, ◌++◌, length, replicate, is_some, Some, None, IfOk, IfSome, MatchOption, OnOk, OnErr, slice_get};
 ghost use Rattle.mk_pace_held.specs.declared.held.Held.{Held};
 ghost use Rattle.mk_pace_held.specs.declared.held.First.{First};

@@ -1,4 +1,4 @@
-// What waits of one simulator.
+//! What waits of one simulator.
 ghost use Rattle.std.specs.Prelude.{◌≡◌, List, [], ◌∷◌, ◌++◌, MatchOption, OnOk, OnErr};
 ghost use Rattle.mk_pace_held.specs.declared.held.Held.{Held};
 

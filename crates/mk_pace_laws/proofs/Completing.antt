@@ -1,4 +1,5 @@
--- A paced run in which nothing went wrong and no Step was late ends with everything done, or for want of memory.
+-- A paced run in which nothing went wrong and no Step was late ends with everything done, or for
+-- want of memory.
 use Rattle.std.proofs.Common.{◌≡◌, Option, is_some, refl, sym, ap, ◌∙◌, ◌⊎◌, inl, inr, true≢false}
 use Rattle.mk_plan.specs.Journals as journals
 use Rattle.mk_run.specs.declared.outcome.Outcome.{Outcome}

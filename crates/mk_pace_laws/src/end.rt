@@ -1,4 +1,4 @@
-// How a paced run ends, and what it comes to.
+//! How a paced run ends, and what it comes to.
 use mk_base::{List, SimNo, Tier};
 use mk_plan::{Journal, Plan};
 use mk_run::Outcome;

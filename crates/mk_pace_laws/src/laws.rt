@@ -1,4 +1,4 @@
-// What holds of every paced run.
+//! What holds of every paced run.
 ghost use Rattle.mk_pace_laws.specs.Laws.{NapsAreWell, PacesAreRight, PacesComplete};
 
 /// A paced run with a plan has said on each link its handshake, items that begin what sequential

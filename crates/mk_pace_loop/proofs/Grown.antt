@@ -76,7 +76,8 @@ none_waits P T J s before (k ∷ held) items are e = absurd (apart e)
     apart : k ∷ held ≡ [] → ⊥
     apart q = cc
 
--- what is held begins with a Step where it did so before, or where a Step is held that was held by itself
+-- what is held begins with a Step where it did so before, or where a Step is held that was held by
+-- itself
 pub begins_push : (held : List Held) (h : Held) → BeginsWithStep held → (held ≡ [] → (d : Due) × (h.due ≡ Some d)) → BeginsWithStep (held ++ h ∷ [])
 begins_push [] h begins one = one refl
 begins_push (k ∷ held) h begins one = begins
@@ -167,7 +168,8 @@ module _ (S : Setting) (P : Plan) where
 -- ---- naps
 
 module _ (started : ℕ) (S : Scenario) (replies : SetupReplies) (P : Plan) (T : Tempo) (J : List Entry) (log : List LogEntry) (naps : AreNaps started S replies P T J log) where
-  -- the journal goes on with these entries, which begin with a link's message, or somebody is ready in it
+  -- the journal goes on with these entries, which begin with a link's message, or somebody is ready
+  -- in it
   pub naps_longer : (later : List Entry) → (((i : ℕ) (x : Tier) → IsReady P (view P J) i x → ⊥) → BeginsOnLink started S later) → AreNaps started S replies P T (J ++ later) log
   naps_longer later one before after is =
       let n = naps before after is in

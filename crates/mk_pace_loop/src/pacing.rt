@@ -1,5 +1,5 @@
-// The loop of a paced run: whoever is ready is asked, what is due is sent, and a message is taken
-// or the fleet sleeps.
+//! The loop of a paced run: whoever is ready is asked, what is due is sent, and a message is taken
+//! or the fleet sleeps.
 ghost use Rattle.std.specs.Prelude.{◌≡◌, ◌≤◌, ◌<◌, ℕ, List, [], None, Some, Err, OnErr, OnOk, true, length, slice_get};
 ghost use Rattle.mk_outside.specs.declared.fleet.LogEntry.{LogEntry};
 ghost use Rattle.mk_local.specs.Registries.{rows_in};

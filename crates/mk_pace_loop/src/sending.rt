@@ -1,4 +1,4 @@
-// What waits is sent: Steps whose moments have come, and what stands right behind them.
+//! What waits is sent: Steps whose moments have come, and what stands right behind them.
 ghost use Rattle.std.specs.Prelude.{◌≡◌, ◌≤◌, ◌<◌, ◌+◌, ℕ, List, ◌∷◌, None, OnOk, Some, false, length, slice_get, true};
 ghost use Rattle.mk_outside.specs.declared.fleet.LogEntry.{LogEntry};
 ghost use Rattle.mk_local.specs.Registries.{rows_in};

@@ -1,4 +1,4 @@
-// What waits of a paced run, and the moments of what was sent.
+//! What waits of a paced run, and the moments of what was sent.
 ghost use Rattle.std.specs.Prelude.{◌≡◌, ◌<◌, ◌≤◌, ◌+◌, ◌^◌, ℕ, List, [], ◌∷◌, ◌++◌, None, Some, IfOk, IfSome, MatchOption, OnErr, OnOk, is_some, length, pos, replicate, slice_get, ◌≤ℤ◌};
 ghost use Rattle.mk_pace_held.specs.declared.held.First.{First};
 ghost use Rattle.mk_pace_held.specs.declared.held.Held.{Held};

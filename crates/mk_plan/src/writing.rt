@@ -1,4 +1,4 @@
-// What is written of a plan.
+//! What is written of a plan.
 ghost use Rattle.std.specs.Prelude.{◌≡◌, ◌++◌, OnOk};
 ghost use Rattle.mk_plan.specs.Plans.{sim_id};
 

@@ -15,7 +15,8 @@ use Rattle.mk_plan_check.specs.Nesting.{is_opening, is_closing, scanned, nesting
 abbrev at : Place → ℕ → ℕ → Scan
 at p d m = record { place = p; depth = d; most = m }
 
--- from any place outside of texts, the text ends there with as many brackets open, and opens n at most on the way
+-- from any place outside of texts, the text ends there with as many brackets open, and opens n at
+-- most on the way
 abbrev pub Climbs : ℕ → List ℕ → Type 0
 Climbs n x = (d m : ℕ) → d ≤ m → fold scanned (at Outside d m) x ≡ at Outside d (max m (d + n))
 

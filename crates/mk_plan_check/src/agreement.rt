@@ -1,4 +1,4 @@
-// What holds between each two connections: the marks of both are compared where they stand side by side in order.
+//! What holds between each two connections: the marks of both are compared where they stand side by side in order.
 ghost use Rattle.std.specs.Prelude.{◌≡◌, map, IfOk};
 ghost use Rattle.mk_base.specs.Lists.{same_text};
 ghost use Rattle.mk_plan_check.specs.inner.Marks.{label_of, differ, agree, differ_by, agree_by, all_next};

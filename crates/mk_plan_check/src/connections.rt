@@ -1,4 +1,4 @@
-// What each connection has to be, by its kind and its ends.
+//! What each connection has to be, by its kind and its ends.
 ghost use Rattle.std.specs.Prelude.{◌≡◌, is_some, IfOk};
 ghost use Rattle.std.specs.List.{list_all};
 ghost use Rattle.mk_plan_check.specs.Tests.{initial_stands, persistence_fits, triggering_fits, kinds_fit, has_initial_values, has_kinds_of_connections};

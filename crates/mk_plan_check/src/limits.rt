@@ -1,4 +1,4 @@
-// Whether the numbers and lengths of a plan are within their limits.
+//! Whether the numbers and lengths of a plan are within their limits.
 ghost use Rattle.std.specs.Prelude.{◌≡◌, IfSome};
 ghost use Rattle.std.specs.Bool.{OnTrue};
 ghost use Rattle.mk_base.specs.Data.{IsDatumText};

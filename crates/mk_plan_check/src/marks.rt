@@ -1,5 +1,5 @@
-// What tells connections, or entities, apart: two numbers and a text, with a flag beside them. Sorted by these, the
-// marks that are alike stand side by side.
+//! What tells connections, or entities, apart: two numbers and a text, with a flag beside them. Sorted by these, the
+//! marks that are alike stand side by side.
 ghost use Rattle.std.specs.Prelude.{◌≡◌, map, IfOk, length};
 ghost use Rattle.std.specs.List.Sorted.{IsPermutation, IsSortedBy};
 ghost use Rattle.std.specs.List.{range_with_len};

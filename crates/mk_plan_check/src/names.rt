@@ -1,4 +1,4 @@
-// Whether the ids of simulators and the names of entities are distinct and may be such.
+//! Whether the ids of simulators and the names of entities are distinct and may be such.
 ghost use Rattle.std.specs.Prelude.{◌≡◌, not, IfOk};
 ghost use Rattle.std.specs.List.{list_all};
 ghost use Rattle.mk_base.specs.Lists.{same_text};

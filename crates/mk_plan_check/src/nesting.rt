@@ -1,4 +1,4 @@
-// How deep a JSON text nests.
+//! How deep a JSON text nests.
 ghost use Rattle.std.specs.Prelude.{◌≡◌, ◌+◌, ◌<◌, ◌^◌};
 ghost use Rattle.mk_plan_check.specs.Nesting.{place_after, scanned, nesting_of};
 

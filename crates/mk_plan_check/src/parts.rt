@@ -1,4 +1,4 @@
-// What a plan says of an entity and of a simulator.
+//! What a plan says of an entity and of a simulator.
 ghost use Rattle.std.specs.Prelude.{◌≡◌};
 ghost use Rattle.mk_plan.specs.Plans.{owner, eid_of, kind_of, rank_of};
 

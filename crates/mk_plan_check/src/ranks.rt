@@ -1,4 +1,4 @@
-// Whether each rank stands once, and plain connections and asynchronous pairs rise.
+//! Whether each rank stands once, and plain connections and asynchronous pairs rise.
 ghost use Rattle.std.specs.Prelude.{◌≡◌, ◌==◌, nat_lt, length};
 ghost use Rattle.std.specs.List.{list_all, range_with_len};
 ghost use Rattle.mk_plan_check.specs.Tests.{ranked, conn_rises, pair_rises, has_ranks};

@@ -1,4 +1,4 @@
-// Whether what a plan refers to is there.
+//! Whether what a plan refers to is there.
 ghost use Rattle.std.specs.Prelude.{◌≡◌, ◌<◌, nat_lt, length};
 ghost use Rattle.std.specs.List.{list_all};
 ghost use Rattle.mk_plan_check.specs.Tests.{entity_refers, conn_refers, pair_refers, refers_inside};

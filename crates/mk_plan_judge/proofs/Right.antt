@@ -95,7 +95,8 @@ right_output_time_fits wants x content right n is = by_time (time_in content) (n
     by_time None h e = absurd (none_some e)
     by_time (Some t) h e = moment_fits n (sym (number_is is_moment t n e) ∙ not_false _ h)
 
--- where the reply to a GetData is right, each value that it gives for what is asked is one that a simulator may give
+-- where the reply to a GetData is right, each value that it gives for what is asked is one that a
+-- simulator may give
 pub right_value_is_datum : (wants : List Want) (x : Tier) (content : Json) (w : Want) (v : Json) → wrong_data wants x content ≡ None → IsIn w wants → value_for content w ≡ Some v → is_datum v ≡ true
 right_value_is_datum wants x content w v right m is = both (is_whole v) (nat_le (nesting v) value_depth) (passed is_whole (data_tests wants x content right).1) (passed (λ t. nat_le (nesting t) value_depth) (data_tests wants x content right).2)
   where

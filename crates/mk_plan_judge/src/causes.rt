@@ -1,4 +1,4 @@
-// What a message is wrong by.
+//! What a message is wrong by.
 ghost use Rattle.std.specs.Prelude.{◌≡◌, ◌==◌, int_lt, nat_lt, if◌then◌else◌};
 ghost use Rattle.mk_plan.specs.Plans.{kind_of};
 ghost use Rattle.mk_plan.specs.Turns.{holds_of, is_number, most_asks, too_many_asks, unasked, time_in, wanted, wrong, wrong_data, wrong_next};

@@ -1,4 +1,4 @@
-// What the data of a reply gives, and whether it has the right form.
+//! What the data of a reply gives, and whether it has the right form.
 ghost use Rattle.std.specs.Prelude.{◌≡◌, not, nat_le, map, option_map, IfOk};
 ghost use Rattle.std.specs.List.{list_any};
 ghost use Rattle.mk_base.specs.Trees.{is_object, is_whole, nesting, value_depth};

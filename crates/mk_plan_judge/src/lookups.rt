@@ -1,5 +1,5 @@
-// Finds the values of wants in the data of a reply, one want after the other: a name is looked for first where it stands if
-// wants and data are in the same order, and only else by a search.
+//! Finds the values of wants in the data of a reply, one want after the other: a name is looked for first where it
+//! stands if wants and data are in the same order, and only else by a search.
 ghost use Rattle.std.specs.Prelude.{◌≡◌, true, Some, option_map, option_and_then};
 ghost use Rattle.mk_base.specs.Trees.{member};
 ghost use Rattle.mk_plan.specs.Turns.{part_for, value_for};
@@ -8,8 +8,8 @@ ghost use Rattle.mk_plan_judge.specs.inner.Parts.{HasPart};
 use mk_base::{Json, Near, Text};
 use mk_plan::Want;
 
-// How far the wants have been looked up: the entity of the last one, what the data give it, and the places in the data, and
-// in what they give the entity, behind what was found last.
+// How far the wants have been looked up: the entity of the last one, what the data give it, and the places in the data,
+// and in what they give the entity, behind what was found last.
 #[derive(Drop)]
 pub struct Lookups<'a, 'w> {
     content: &'a Json,

@@ -1,4 +1,4 @@
-// Times and bounds in messages.
+//! Times and bounds in messages.
 ghost use Rattle.std.specs.Prelude.{◌≡◌, int_le, int_lt, FitsSigned, option_and_then};
 ghost use Rattle.std.specs.Int.{w64};
 ghost use Rattle.std.specs.Option.{ForSome};

@@ -1,4 +1,4 @@
-// What is open after a right message.
+//! What is open after a right message.
 ghost use Rattle.std.specs.Prelude.{◌≡◌, ℕ, ◌<◌, ◌^◌, ◌+◌, None};
 ghost use Rattle.mk_plan.specs.declared.Plan.{Plan};
 ghost use Rattle.mk_plan.specs.Turns.{next_place, wanted, wrong};
@@ -7,9 +7,9 @@ ghost use Rattle.mk_plan_judge.specs.Places.{open_id};
 use mk_base::List;
 use mk_plan::{Message, Place, Want};
 
-/// The place of what is open after a right message at this place, of a simulator of which each GetData asks for `wants`;
-/// `None` where the turn has ended. A request leaves the Step open; the Step's reply is followed by a GetData under the
-/// next id, if it asks for anything, so if some connection leaves the simulator.
+/// The place of what is open after a right message at this place, of a simulator of which each GetData asks for
+/// `wants`; `None` where the turn has ended. A request leaves the Step open; the Step's reply is followed by a GetData
+/// under the next id, if it asks for anything, so if some connection leaves the simulator.
 pub fn next_place(wants: &List<Want>, place: &Place, message: &Message) -> Option<Place>
     requires right { (P : Plan) × (i : ℕ) × (wrong P i place.now message.now ≡ None) }
     requires more { open_id place.now + 1 < 2 ^ 64 }

@@ -1,4 +1,4 @@
-// Wanted attributes put in order.
+//! Wanted attributes put in order.
 ghost use Rattle.std.specs.Prelude.{◌≡◌, OnOk, length};
 ghost use Rattle.std.specs.List.Sorted.{IsStrictlySortedBy, IsBinarySearchResult, IsSearchInRange};
 ghost use Rattle.mk_base.specs.Lists.{put};

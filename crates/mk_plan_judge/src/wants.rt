@@ -1,4 +1,4 @@
-// What each GetData asks of a simulator.
+//! What each GetData asks of a simulator.
 ghost use Rattle.std.specs.Prelude.{◌≡◌, ◌==◌, ◌<◌, length, unwrap_or, option_map, IfOk};
 ghost use Rattle.mk_plan.specs.Plans.{RefersInside, sim_count, eid_of, owner};
 ghost use Rattle.mk_plan.specs.Turns.{wanted};

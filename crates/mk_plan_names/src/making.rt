@@ -1,4 +1,4 @@
-// How an index of names is made.
+//! How an index of names is made.
 ghost use Rattle.std.specs.Prelude.{◌≡◌, ◌<◌, ◌^◌, [], length, IfOk, OnOk};
 ghost use Rattle.std.specs.String.{string_bytes};
 ghost use Rattle.mk_plan.specs.Plans.{HasDistinctNames, RefersInside, full_id};

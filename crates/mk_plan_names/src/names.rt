@@ -1,4 +1,4 @@
-// What an index of names answers.
+//! What an index of names answers.
 ghost use Rattle.std.specs.Prelude.{◌≡◌, ◌<◌, ◌^◌, length, IfOk, IfSome};
 ghost use Rattle.mk_plan.specs.declared.Plan.{Plan};
 ghost use Rattle.mk_plan.specs.Plans.{HasDistinctNames, RefersInside, full_id, has_pair};

@@ -1,4 +1,4 @@
-// Whether two parts of plans, or of what is sent, are the same.
+//! Whether two parts of plans, or of what is sent, are the same.
 use crate::same::{Same, same_all};
 use mk_plan::{AsyncPair, Conn, Input, PlanEntity, PlanModel, PlanSim, Want};
 

@@ -1,4 +1,4 @@
-// The first part of two plans that isn't the same.
+//! The first part of two plans that isn't the same.
 ghost use Rattle.std.specs.Prelude.{◌≡◌};
 ghost use Rattle.mk_plan_same.specs.Decisions.{Decides};
 ghost use Rattle.mk_plan_same.specs.Parts.{HaveSameBounds, IsFirstOther, IsFirstPart, number};

@@ -1,4 +1,4 @@
-// Whether two values are the same.
+//! Whether two values are the same.
 ghost use Rattle.std.specs.Prelude.{◌≡◌};
 ghost use Rattle.mk_plan_same.specs.Decisions.{Decides};
 

@@ -1,4 +1,4 @@
-// Small plans: simulators with one model and one entity each, and connections between these.
+//! Small plans: simulators with one model and one entity each, and connections between these.
 ghost use Rattle.std.specs.Prelude.{◌≡◌, ◌<◌, length, IfOk};
 
 use mk_base::{Datum, List, Mem, SimKind, SimNo, Text, Via};

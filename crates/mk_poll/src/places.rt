@@ -1,4 +1,4 @@
-// Links in a vector.
+//! Links in a vector.
 ghost use Rattle.std.specs.Prelude.{◌≡◌, ◌≤◌, vec_capacity};
 ghost use Rattle.std.specs.List.{list_any};
 ghost use Rattle.mk_base.specs.Links.{same_link, without};

@@ -1,4 +1,4 @@
-// Whose turn it is: links that are ready, taken or parked.
+//! Whose turn it is: links that are ready, taken or parked.
 ghost use Rattle.std.specs.Prelude.{◌≡◌, OnOk, OnErr};
 ghost use Rattle.mk_base.specs.Lists.{IsIn};
 ghost use Rattle.mk_poll.specs.Links.{IsAdded, IsApart, TakeOf, added, made_parked, made_ready, no_links};

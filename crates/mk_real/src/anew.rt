@@ -1,5 +1,5 @@
-// How a file gets new bytes: they are written beside it and take its name at once, so that a failure leaves the old
-// ones.
+//! How a file gets new bytes: they are written beside it and take its name at once, so that a failure leaves the old
+//! ones.
 use std::alloc::Global;
 use std::fs::{self, Files, OpenFile, OpenOptions, Permissions};
 use std::io::{self, ErrorKind, Write};

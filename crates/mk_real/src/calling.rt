@@ -1,4 +1,4 @@
-// The words of the call.
+//! The words of the call.
 use crate::errors::is_want_of_memory;
 use mk_base::Mem;
 use std::{env, io};

@@ -1,4 +1,4 @@
-// What all links share: the system's set of sockets, and a buffer.
+//! What all links share: the system's set of sockets, and a buffer.
 ghost use Rattle.std.specs.Prelude.{◌≡◌, ◌≢◌, ◌<◌, ◌≤◌, ◌++◌, [], true, IfOk, IfSome, length, drop};
 ghost use Rattle.mk_base.specs.Lists.{IsIn};
 ghost use Rattle.mk_outside.specs.Fleets.{ReadAs};

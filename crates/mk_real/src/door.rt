@@ -1,4 +1,4 @@
-// How a connection comes to be: by a listening socket for one child, or by connecting to a port.
+//! How a connection comes to be: by a listening socket for one child, or by connecting to a port.
 use mio::event::Source;
 use mio::net::{TcpListener, TcpStream};
 use mio::{Events, Interest, Poll, Registry, Token};

@@ -1,4 +1,4 @@
-// What errors of the system are about.
+//! What errors of the system are about.
 use std::io::{self, ErrorKind};
 
 /// Whether this error, which is dropped here, is want of memory.

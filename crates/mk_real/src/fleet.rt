@@ -1,4 +1,4 @@
-// Links to simulators over sockets on this machine.
+//! Links to simulators over sockets on this machine.
 ghost use Rattle.std.specs.Prelude.{◌≡◌, ◌≢◌, ◌<◌, ◌≤◌, [], IfOk, length};
 ghost use Rattle.mk_base.specs.Links.{without};
 ghost use Rattle.mk_outside.specs.Counts.{HasRisen};

@@ -1,4 +1,4 @@
-// The system's files, by their paths.
+//! The system's files, by their paths.
 ghost use Rattle.std.specs.Prelude.{◌≡◌, ◌≢◌, IfOk};
 
 use crate::anew::write_anew;

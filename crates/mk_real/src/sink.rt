@@ -1,4 +1,4 @@
-// The standard streams.
+//! The standard streams.
 ghost use Rattle.std.specs.Prelude.{◌≡◌, ◌≤◌, IfOk, length};
 
 use mk_outside::{Sink, Wrote};

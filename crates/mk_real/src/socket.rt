@@ -1,4 +1,4 @@
-// The socket of a link, and the child program at its other side, awaited until it has connected.
+//! The socket of a link, and the child program at its other side, awaited until it has connected.
 ghost use Rattle.std.specs.Prelude.{◌≡◌, ◌≢◌, ◌≤◌, ◌<◌, ℕ, [], length};
 ghost use Rattle.mk_outside.specs.Fleets.{IsWritten};
 

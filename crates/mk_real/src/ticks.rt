@@ -1,4 +1,4 @@
-// The machine's clock that never goes back, in milliseconds.
+//! The machine's clock that never goes back, in milliseconds.
 ghost use Rattle.std.specs.Prelude.{◌≡◌, ◌≤◌, IfOk};
 ghost use Rattle.mk_outside.specs.Fleets.{last_moment};
 

@@ -1,4 +1,4 @@
-// Files of the system, and a standard stream.
+//! Files of the system, and a standard stream.
 use mk_outside::{FileRead, FileSave, Folder, Sink, Wrote};
 use mk_real::{RealFolder, RealSink};
 use std::alloc::{AllocGlobal, Global};

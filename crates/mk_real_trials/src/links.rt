@@ -1,4 +1,4 @@
-// Links to a child program and to a port, and the clock.
+//! Links to a child program and to a port, and the clock.
 ghost use Rattle.std.specs.Prelude.{◌≡◌, ◌≢◌, ◌++◌, ◌∷◌, [], IfSome};
 ghost use Rattle.mk_base.specs.Lists.{IsIn};
 

@@ -1,4 +1,4 @@
-// The first of a record's entries that isn't the journal's.
+//! The first of a record's entries that isn't the journal's.
 ghost use Rattle.std.specs.Prelude.{◌≡◌, ◌≤◌, ◌∷◌, List, length, map, drop, option_map, MatchOption};
 ghost use Rattle.mk_base.specs.Lists.{BeginsWith};
 ghost use Rattle.mk_plan.specs.declared.Input.{Input};
@@ -60,7 +60,8 @@ pub enum Match {
     Behind,
 }
 
-// Compares with the journal's entries the steps and so many messages: those at hand, or else those that the journal has first.
+// Compares with the journal's entries the steps and so many messages: those at hand, or else those that the journal has
+// first.
 fn other_among(
     messages: Option<&List<Arrival>>,
     count: usize,

@@ -1,4 +1,4 @@
-// Whether two trees are the same.
+//! Whether two trees are the same.
 ghost use Rattle.std.specs.Prelude.{◌≡◌};
 ghost use Rattle.mk_plan_same.specs.Decisions.{Decides};
 

@@ -1,4 +1,5 @@
--- For proofs alone. Things that are numbered below n, of which at most 10,000 have each number, are at most n times as many.
+-- For proofs alone. Things that are numbered below n, of which at most 10,000 have each number, are
+-- at most n times as many.
 use Rattle.std.proofs.Common.{◌≡◌, ℕ, zero, suc, ◌+◌, ◌*◌, ◌<◌, ◌≤◌, ◌==◌, ◌&&◌, nat_lt, Bool, true, false, cond, List, [], ◌∷◌, length, filter, refl, sym, ap, ◌∙◌, subst, arith, inl, inr}
 use Rattle.std.specs.List.{list_all}
 use Rattle.std.proofs.lemmas.Bool.{and_parts, and_from, ltb-true, lt-ltb, cases_lt, eq-eqb}

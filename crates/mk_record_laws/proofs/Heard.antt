@@ -1,4 +1,5 @@
--- For proofs alone. A plan and a journal that may stand in a record can be recorded, where the plan's texts are UTF-8 and its initial values data.
+-- For proofs alone. A plan and a journal that may stand in a record can be recorded, where the
+-- plan's texts are UTF-8 and its initial values data.
 use Rattle.std.proofs.Common.{◌≡◌, suc, ◌^◌, ◌<◌, ◌≤◌, true, List, [], ◌∷◌, length, All, refl, sym, subst, arith}
 use Rattle.std.specs.Prelude.{IfSome}
 use Rattle.std.specs.List.{list_all}

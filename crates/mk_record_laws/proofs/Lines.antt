@@ -244,7 +244,8 @@ entity_read P count few many last done e low high fits =
 
 -- ---- `conn`
 
--- a connection between two of these entities, within the limits, with texts in UTF-8 and a value of a simulator as its initial value
+-- a connection between two of these entities, within the limits, with texts in UTF-8 and a value of
+-- a simulator as its initial value
 pub record ConnFits (entities : ℕ) (c : Conn) : Type 0 where
   pub from : c.from < entities
   pub to : c.to < entities

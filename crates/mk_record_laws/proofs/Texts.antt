@@ -1,4 +1,5 @@
--- For proofs alone. What the lines of a record say is made of texts, and its messages may stand in a line again.
+-- For proofs alone. What the lines of a record say is made of texts, and its messages may stand in
+-- a line again.
 use Rattle.std.proofs.Common.{◌≡◌, ℕ, ◌+◌, ◌&&◌, nat_lt, nat_le, ℤ, pos, nat_abs, Bool, true, false, not, List, [], ◌∷◌, ◌++◌, length, map, Option, Some, None, option_and_then, is_none, refl, sym, ap, ◌∙◌, subst, arith, if◌then◌else◌}
 use Rattle.std.specs.Prelude.{⊤, Result, Ok, Err, IfSome, codes}
 use Rattle.std.specs.Result.{result_ok}

@@ -1,4 +1,5 @@
--- For proofs alone. The tokens of a text in UTF-8, and the values of its grammar, have their texts in UTF-8.
+-- For proofs alone. The tokens of a text in UTF-8, and the values of its grammar, have their texts
+-- in UTF-8.
 use Rattle.std.proofs.Common.{◌≡◌, ℕ, zero, suc, ◌==◌, ◌&&◌, Bool, true, false, cond, List, [], ◌∷◌, length, Option, Some, None, option_and_then, refl, arith}
 use Rattle.std.specs.Prelude.{⊤, IsUtf8}
 use Rattle.std.proofs.lemmas.Bool.{eqb-true}

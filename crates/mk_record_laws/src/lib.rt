@@ -1,5 +1,5 @@
-//! Laws of records: what is read as JSON, whatever the bytes; a record that was written, read again; and what a record says,
-//! recorded again.
+//! Laws of records: what is read as JSON, whatever the bytes; a record that was written, read again; and what a record
+//! says, recorded again.
 #![tactic(auto)]
 
 mod parsed;

@@ -1,4 +1,4 @@
-// A journal over what a record says.
+//! A journal over what a record says.
 ghost use Rattle.std.specs.Prelude.{◌≡◌, ◌≤◌, ℕ, List, Option, length};
 ghost use Rattle.mk_plan.specs.declared.Plan.{Plan};
 ghost use Rattle.mk_plan.specs.declared.Entry.{Entry};

@@ -150,7 +150,8 @@ pair = record {
   asyncs = record { from = record { 0 = 0 }; to = record { 0 = 1 } } ∷ [];
 }
 
--- a step, a request and its answer, another simulator's step, a reply with a number that isn't whole, and a failure
+-- a step, a request and its answer, another simulator's step, a reply with a number that isn't
+-- whole, and a failure
 abbrev talk : List Entry
 talk = Sent (record { 0 = 1 }) (Step (record { time = pos 2; tier = 1 }) [] (pos 9))
     ∷ Got (record { 0 = 1 }) (Ask 9 (codes "get_data") (json.Object ((codes "A-0.0", json.List (json.Text (codes "a") ∷ [])) ∷ []) ∷ []) (json.Object []))

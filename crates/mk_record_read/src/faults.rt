@@ -1,4 +1,4 @@
-// Why a record isn't read.
+//! Why a record isn't read.
 use thiserror::Error;
 
 /// Why a text is no record: `Line` has the line, from 1, and the number of the fault; `Mem` is want of memory.

@@ -1,4 +1,4 @@
-// The fields of a line, from its tree.
+//! The fields of a line, from its tree.
 ghost use Rattle.std.specs.Prelude.{◌≡◌, Some, None, map, IfOk, IfErr, true};
 ghost use Rattle.std.specs.List.{list_all};
 ghost use Rattle.mk_base.specs.Lists.{all_there, same_text};

@@ -1,4 +1,4 @@
-// The kinds of a record's lines, and where they may stand.
+//! The kinds of a record's lines, and where they may stand.
 ghost use Rattle.std.specs.Prelude.{◌≡◌};
 ghost use Rattle.mk_record_read.specs.inner.Seen.{is_second};
 ghost use Rattle.mk_record_read.specs.Reading.{kind_of_word, place, may_stand, ends_plan};

@@ -1,4 +1,4 @@
-// What each kind of line adds to the plan, to the messages that came, or to the steps that were asked for.
+//! What each kind of line adds to the plan, to the messages that came, or to the steps that were asked for.
 ghost use Rattle.std.specs.Prelude.{◌≡◌, Ok, Err, Some, OnOk, IfOk, IfErr, MatchOption, true, ◌&&◌, map, nat_abs, ◌∷◌, []};
 ghost use Rattle.std.specs.List.{list_all};
 ghost use Rattle.std.specs.Result.{result_ok};

@@ -1,4 +1,4 @@
-// What a line adds, by its kind and what stands after its word.
+//! What a line adds, by its kind and what stands after its word.
 ghost use Rattle.std.specs.Prelude.{◌≡◌, Ok, Some, OnOk, IfOk, IfErr, true, ◌&&◌};
 ghost use Rattle.std.specs.List.{list_all};
 ghost use Rattle.mk_base.specs.Trees.{is_in_range};

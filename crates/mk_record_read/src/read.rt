@@ -1,4 +1,4 @@
-// From a record's bytes to what it says.
+//! From a record's bytes to what it says.
 ghost use Rattle.std.specs.Prelude.{◌≡◌, ◌<◌, ◌+◌, ◌≤◌, ℕ, Some, None, Ok, Err, OnOk, IfOk, IfErr, IfSome, MatchOption, true, length, position, ◌==◌, map, All, ◌∷◌, ◌++◌, [], ◌^◌, unwrap_or, is_some};
 ghost use Rattle.std.specs.List.{slice_split};
 ghost use Rattle.mk_plan.specs.Plans.{IsValidPlan};

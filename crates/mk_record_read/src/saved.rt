@@ -1,4 +1,4 @@
-// A record that was read.
+//! A record that was read.
 use mk_base::{List, SimNo, Tier};
 use mk_plan::{Message, Plan};
 
@@ -9,8 +9,8 @@ pub struct Arrival {
     pub message: Message,
 }
 
-/// A step that a simulator was asked for: how many messages had come before, the simulator, the step's time, and the time up
-/// to which nothing from outside triggers the simulator.
+/// A step that a simulator was asked for: how many messages had come before, the simulator, the step's time, and the
+/// time up to which nothing from outside triggers the simulator.
 #[derive(Clone, Copy, Debug, PartialEq, Eq)]
 pub struct Asked {
     pub before: u64,

@@ -76,7 +76,8 @@ module _ (n : ℕ) (lists : List (List Message)) (i : ℕ) (more : List Message)
     each = λ k l e. elim (changed k l low e) [ inl t ↦ ap (list_all is_message_in_range) t.1 ∙ ranged | inr t ↦ h.each k l t.1 ];
   }
 
-  -- the lists are those of A behind C, if this one is, and the others were those of B behind D with the same in them
+  -- the lists are those of A behind C, if this one is, and the others were those of B behind D with
+  -- the same in them
   pub waiting_changed : (A B C D : List Arrival) → AreWaiting n B D lists → i < length lists → messages_from A i ≡ messages_from C i ++ reverse more
       → ((k : ℕ) → (k ≡ i → ⊥) → (messages_from A k ≡ messages_from B k) × (messages_from C k ≡ messages_from D k)) → AreWaiting n A C (slice_set lists i more)
   waiting_changed A B C D h low here else_ = record {

@@ -1,4 +1,4 @@
-// How whoever is ready is asked, one after another, until nobody is.
+//! How whoever is ready is asked, one after another, until nobody is.
 ghost use Rattle.std.specs.Prelude.{◌≡◌, None, IfOk};
 ghost use Rattle.mk_record_replay.specs.inner.Loops.{HasAskedAll};
 

@@ -1,5 +1,5 @@
-//! The replay of a record: the messages that came in a run are given to a core, one after another, and each time whoever is
-//! ready is asked before.
+//! The replay of a record: the messages that came in a run are given to a core, one after another, and each time
+//! whoever is ready is asked before.
 #![tactic(auto)]
 
 mod asking;

@@ -1,4 +1,4 @@
-// The replay of a record: whoever is ready is asked, and a message is given, until nothing is left to do.
+//! The replay of a record: whoever is ready is asked, and a message is given, until nothing is left to do.
 ghost use Rattle.std.specs.Prelude.{◌≡◌, ◌<◌, ◌^◌, ℕ, List, [], Option, None, map, reverse, All, IfOk, is_some, if◌then◌else◌};
 ghost use Rattle.mk_plan.specs.Plans.{IsValidPlan, sim_count};
 ghost use Rattle.mk_plan.specs.Journals as journals;
@@ -44,13 +44,13 @@ pub struct Replayed {
     pub journal: Journal,
 }
 
-/// Runs the plan of a record over the messages that came. Whoever is ready is asked first; then one message is given, and so
-/// on, up to the first fault, or until all were given and nobody is ready.
+/// Runs the plan of a record over the messages that came. Whoever is ready is asked first; then one message is given,
+/// and so on, up to the first fault, or until all were given and nobody is ready.
 ///
-/// Without an order the messages are given as they came; where no fault was met, the entries of a record of version 2 are then
-/// compared with the journal. With an order each simulator's messages are given as they came, and which simulator's is
-/// next is drawn by numbers that begin with the order (`docs/formats.md`, "Replay in another order"); nothing is
-/// compared. `Mem` is want of memory.
+/// Without an order the messages are given as they came; where no fault was met, the entries of a record of version 2
+/// are then compared with the journal. With an order each simulator's messages are given as they came, and which
+/// simulator's is next is drawn by numbers that begin with the order (`docs/formats.md`, "Replay in another order");
+/// nothing is compared. `Mem` is want of memory.
 pub fn replay(alloc: Global, saved: Saved, order: Option<u32>) -> Result<Replayed, Mem>
     requires valid { IsValidPlan saved.plan }
     requires known { All (IsKnown saved.plan) (map came saved.arrivals) }
@@ -157,8 +157,8 @@ fn end_with(end: ReplayEnd, other: Option<u32>) -> ReplayEnd
     }
 }
 
-/// A record has one replay in each order: two journals over its plan and its messages that have come to an end are the same,
-/// and so is their end.
+/// A record has one replay in each order: two journals over its plan and its messages that have come to an end are the
+/// same, and so is their end.
 pub fn replay_is_one()
     ensures { (P : Plan) → (A : List journals.Arrival) → (steps : Option (List Asked))
         → (order : Option ℕ) → (J : List Entry) → (K : List Entry) → (e : ReplayEnd)
@@ -194,8 +194,8 @@ fn last_first(arrivals: List<Arrival>) -> List<Arrival>
     List::from_vec(all)
 }
 
-// Gives back the room of the messages that were taken off, where no more are left than half of those that there were when it
-// was given back last; half of those that there were then.
+// Gives back the room of the messages that were taken off, where no more are left than half of those that there were
+// when it was given back last; half of those that there were then.
 fn give_room_back(left: &mut List<Arrival>, half: usize) -> usize
     ensures { left.new ≡ left.old }
 {

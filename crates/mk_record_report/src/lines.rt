@@ -1,4 +1,4 @@
-// The lines of a report, one for each item.
+//! The lines of a report, one for each item.
 ghost use Rattle.std.specs.Prelude.{◌≡◌, ◌++◌, codes, OnOk};
 ghost use Rattle.std.specs.Fmt.{decimal, signed_decimal};
 ghost use Rattle.mk_plan.specs.Report.{line_of, inputs_text};

@@ -1,4 +1,4 @@
-// The report of a journal: the crate's call.
+//! The report of a journal: the crate's call.
 ghost use Rattle.std.specs.Prelude.{◌≡◌, ◌++◌, codes, IfOk, OnOk};
 ghost use Rattle.mk_plan.specs.Journals.{sent};
 ghost use Rattle.mk_plan.specs.Report.{report};

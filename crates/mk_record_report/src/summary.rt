@@ -1,4 +1,4 @@
-// The summary of a journal.
+//! The summary of a journal.
 ghost use Rattle.std.specs.Prelude.{◌≡◌, ◌++◌, IfOk, OnOk, option_map};
 ghost use Rattle.mk_base.specs.Lists.{last_of};
 ghost use Rattle.mk_plan.specs.Journals.{sent};

@@ -1,4 +1,4 @@
-// How many Steps each simulator was sent, and how many input values over them.
+//! How many Steps each simulator was sent, and how many input values over them.
 ghost use Rattle.std.specs.Prelude.{◌≡◌, ◌<◌, ◌≤◌, ◌-◌, ◌+◌, ◌^◌, ◌++◌, ◌∷◌, [], ℕ, List, All, IfOk};
 ghost use Rattle.mk_plan.specs.declared.Entry.{Entry};
 ghost use Rattle.mk_record_report.specs.inner.Parts.{step_count};

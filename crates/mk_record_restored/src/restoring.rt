@@ -1,4 +1,4 @@
-// The core after the messages of a record.
+//! The core after the messages of a record.
 ghost use Rattle.std.specs.Prelude.{◌≡◌, All, IfOk, List, None, Option, length, map};
 ghost use Rattle.mk_plan.specs.declared.Plan.{Plan};
 ghost use Rattle.mk_plan.specs.Journals as journals;

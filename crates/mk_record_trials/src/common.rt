@@ -1,4 +1,4 @@
-// What several tests have in common: a counter's plan as lines, records of its three steps, and its journal.
+//! What several tests have in common: a counter's plan as lines, records of its three steps, and its journal.
 ghost use Rattle.std.specs.Prelude.{◌≡◌, ◌+◌, length, true, IfOk, OnOk};
 ghost use Rattle.std.specs.List.{list_all};
 ghost use Rattle.mk_record_write.specs.Writable.{is_writable};

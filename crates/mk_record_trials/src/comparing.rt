@@ -1,4 +1,4 @@
-// Records that differ from a journal, entry by entry.
+//! Records that differ from a journal, entry by entry.
 ghost use Rattle.std.specs.Prelude.{◌≡◌, length};
 
 use crate::common::{PLAN, counter_journal};

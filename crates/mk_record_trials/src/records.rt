@@ -1,4 +1,4 @@
-// Records of both versions, and one that is written.
+//! Records of both versions, and one that is written.
 ghost use Rattle.std.specs.Prelude.{◌≡◌, true};
 ghost use Rattle.std.specs.List.{list_all};
 ghost use Rattle.mk_record_write.specs.Writable.{is_writable};

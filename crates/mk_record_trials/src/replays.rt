@@ -1,4 +1,4 @@
-// Replays to each kind of end.
+//! Replays to each kind of end.
 
 use crate::common::{PLAN, replayed};
 use mk_base::{Mem, SimNo};

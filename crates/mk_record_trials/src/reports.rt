@@ -1,4 +1,4 @@
-// The report and the summary of a counter's replay.
+//! The report and the summary of a counter's replay.
 
 use crate::common::{NINE_LINES, replayed};
 use mk_base::Mem;

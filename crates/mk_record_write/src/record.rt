@@ -18,8 +18,9 @@ use mk_base::{Mem, put, put_unsigned};
 use mk_plan::{Journal, Plan};
 use std::alloc::Global;
 
-/// The record of a plan and of a journal, version 2: the parts of the plan in their order, and the Steps and the messages of
-/// the journal in theirs. The whole numbers in the messages are those that a payload may have, from -2^63 to 2^64 - 1.
+/// The record of a plan and of a journal, version 2: the parts of the plan in their order, and the Steps and the
+/// messages of the journal in theirs. The whole numbers in the messages are those that a payload may have, from -2^63
+/// to 2^64 - 1.
 ///
 /// Read again, it gives the plan, the messages in their order, and the Steps with their tiered times, `max_advance` and
 /// places among the messages: where the plan is valid, each Step and message is of one of its simulators, the numbers
@@ -36,7 +37,8 @@ pub fn write_record(alloc: Global, plan: &Plan, journal: &Journal) -> Result<Vec
     Ok(out)
 }
 
-// The bytes of the record, of which the names are UTF-8, the initial values data, and the entries no more than a number can tell.
+// The bytes of the record, of which the names are UTF-8, the initial values data, and the entries no more than a number
+// can tell.
 fn bytes_of(alloc: Global, plan: &Plan, journal: &Journal) -> Result<Vec<u8>, Mem>
     requires { list_all is_writable journal.now.entries ≡ true }
     ensures text { IfOk result (λ text. text.items ≡ record_text plan.now journal.now.entries) }

@@ -1,4 +1,4 @@
-// The ids of a link's requests, and whether an answer's id was asked for.
+//! The ids of a link's requests, and whether an answer's id was asked for.
 ghost use Rattle.std.specs.Prelude.{◌≡◌, ◌≢◌, ◌+◌, ◌-◌, ◌<◌, ◌^◌, ◌↔◌, Some, None};
 
 use std::marker::Model;

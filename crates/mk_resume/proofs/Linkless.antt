@@ -1,4 +1,5 @@
--- A resumed run whose simulators are all within the program: it has no links, and what it comes to holds over any fleet with which nothing is done.
+-- A resumed run whose simulators are all within the program: it has no links, and what it comes to
+-- holds over any fleet with which nothing is done.
 use Rattle.std.proofs.Common.{◌≡◌, inl, inr, ℕ, Bool, true, false, List, [], length, Option, None, Some, refl, arith}
 use Rattle.std.specs.Prelude.{IfSome}
 use Rattle.mk_base.specs.declared.LinkNo.{LinkNo}
@@ -34,7 +35,8 @@ never_risen : HasRisen 0 0 → ⊥
 never_risen (inl less) = absurd (omega (arith, less))
 never_risen (inr last) = absurd (omega (arith, last))
 
--- what holds over a fleet that had started no link and never failed, whatever its log, holds where a fleet is left as it was
+-- what holds over a fleet that had started no link and never failed, whatever its log, holds where
+-- a fleet is left as it was
 module _ (S : Scenario) (all : is_wholly_within S ≡ true) (started faults : ℕ) where
   never : (n i : ℕ) (l : LinkNo) → sim_link n S i ≡ Some l → ⊥
   never n i l linked = never_linked n S all i l linked

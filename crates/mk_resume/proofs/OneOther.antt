@@ -1,4 +1,5 @@
--- One part at most is the first in which two plans differ, and one end comes of a record that isn't taken.
+-- One part at most is the first in which two plans differ, and one end comes of a record that isn't
+-- taken.
 use Rattle.std.proofs.Common.{◌≡◌, inl, inr, ℕ, true, false, List, map, Option, None, Some, refl, sym, ap, ◌∙◌}
 use Rattle.mk_plan.specs.declared.Plan.{Plan}
 use Rattle.mk_plan.specs.declared.Entry.{Entry}

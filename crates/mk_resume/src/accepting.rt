@@ -1,4 +1,4 @@
-// A record that is taken, or isn't.
+//! A record that is taken, or isn't.
 ghost use Rattle.std.specs.Prelude.{◌≡◌, All, None, map, false};
 ghost use Rattle.mk_plan.specs.declared.Plan.{Plan};
 ghost use Rattle.mk_plan.specs.Plans.{IsValidPlan};

@@ -1,4 +1,4 @@
-// What holds of every resumed run.
+//! What holds of every resumed run.
 ghost use Rattle.mk_resume.specs.Laws.{DoneResumedRunsAreRuns, ResumeEndsExactly, ResumedRunsComplete, ResumedRunsSayRight, RunsAndResumedRunsAreAlike};
 
 /// A resumed run has said on each link its handshake, the first of the items that were free to the

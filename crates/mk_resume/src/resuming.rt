@@ -1,4 +1,4 @@
-// A resumed run over a fleet.
+//! A resumed run over a fleet.
 ghost use Rattle.std.specs.Prelude.{◌≡◌, ◌≤◌, All, List, None, map, true};
 ghost use Rattle.mk_outside.specs.declared.fleet.LogEntry.{LogEntry};
 ghost use Rattle.mk_outside.specs.Counts.{HasRisen};

@@ -1,4 +1,4 @@
-// A resumed run whose simulators are all within the program: over a fleet without links.
+//! A resumed run whose simulators are all within the program: over a fleet without links.
 ghost use Rattle.std.specs.Prelude.{◌≡◌, ℕ, [], All, map, true};
 ghost use Rattle.mk_launch.specs.Ready.{IsPrepared};
 ghost use Rattle.mk_run_crew.specs.Attempts.{attempt};

@@ -17,7 +17,8 @@ use Rattle.mk_resume_walk.proofs.UpTo.{up_to_got}
 use Rattle.mk_resume_links.specs.Rests.{repeated}
 use Rattle.mk_resume_links.specs.Runs.{IsLinkOfResumed}
 
--- the messages that were sent again were taken, and the first of the free items queued; a message that wasn't taken may stand behind them
+-- the messages that were sent again were taken, and the first of the free items queued; a message
+-- that wasn't taken may stand behind them
 pub resumed_link : (started : ℕ) (S : Scenario) (replies : SetupReplies) → ((i : ℕ) (l : LinkNo) → sim_link started S i ≡ Some l → length (replies i) ≡ setup_count S i) → (J : List Entry) (log entries : List LogEntry) (risen : Type 0) (C : CrewState)
     → AreStopped entries risen C → (i : ℕ) (l : LinkNo) → sim_link started S i ≡ Some l → (n : ℕ) (messages : List Message) (items : List Item) → HasChannel S replies log i l messages items C → BeginsWith messages (repeated J i n) → BeginsWith (free_items J i n) items
     → IsLinkOfResumed S replies J (log ++ entries) risen i l n items

@@ -1,4 +1,5 @@
--- Channels and kept replies as a resumed run goes on: an item is queued, a reply is kept, a message is taken.
+-- Channels and kept replies as a resumed run goes on: an item is queued, a reply is kept, a message
+-- is taken.
 use Rattle.std.proofs.Common.{◌≡◌, ℕ, ◌+◌, ◌==◌, Bool, true, false, not, List, [], ◌∷◌, ◌++◌, length, take, filter, Option, Some, None, option_map, option_and_then, unwrap_or, slice_get, refl, sym, ap, ◌∙◌, subst, inl, inr, arith, append_assoc, length-append, true≢false, if◌then◌else◌, cond}
 use Rattle.std.specs.List.{cons_option}
 use Rattle.mk_base.specs.declared.LinkNo.{LinkNo}

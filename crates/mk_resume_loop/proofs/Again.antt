@@ -1,4 +1,5 @@
--- A message was heard that its simulator has to send again, or a new one that the core took: what goes on.
+-- A message was heard that its simulator has to send again, or a new one that the core took: what
+-- goes on.
 use Rattle.std.proofs.Common.{◌≡◌, ℕ, true, List, [], ◌++◌, slice_get, Option, Some, refl, sym, ap, ◌∙◌, subst, true≢false}
 use Rattle.mk_base.specs.declared.SimNo.{SimNo}
 use Rattle.mk_plan.specs.declared.Plan.{Plan}
@@ -21,7 +22,8 @@ use Rattle.mk_resume_loop.specs.inner.Underway.{IsMet, IsResuming, IsResumingWit
 use Rattle.mk_resume_loop.proofs.Resting.{resting}
 use Rattle.mk_resume_loop.proofs.Hearing.{met_back, met_no_other, met_log_right}
 
--- what a message that was sent again leaves: nothing of simulator s is kept, of the others what was, and where it runs within the program a message has come since each rest
+-- what a message that was sent again leaves: nothing of simulator s is kept, of the others what
+-- was, and where it runs within the program a message has come since each rest
 pub record IsRepeated (T : Setting) (P : Plan) (first J : List Entry) (heard : Counts) (log : List LogEntry) (s : ℕ) (D : CrewState) (sims : List (Option Simulator)) : Type 0 where
   pub resuming : IsResumingWith (course_of T first (one_more heard s) (λ i. free_items J i (heard i)) (λ i. kept_of i D.kept) log) P J D sims
   pub none : kept_of s D.kept ≡ []

@@ -1,4 +1,5 @@
--- A resumed run begins where the handshake is over and the record's messages were taken; then each simulator is sent its first item.
+-- A resumed run begins where the handshake is over and the record's messages were taken; then each
+-- simulator is sent its first item.
 use Rattle.std.proofs.Common.{All, get_or, ◌≡◌, inl, inr, ℕ, suc, ◌+◌, ◌<◌, nat_lt, Bool, true, false, List, [], ◌∷◌, ◌++◌, length, map, if◌then◌else◌, refl, sym, ap, ◌∙◌, subst, arith}
 use Rattle.std.proofs.lemmas.Bool.{lt-ltb, ltb-true}
 use Rattle.mk_base.proofs.Lists.{append_nil, filter_map_append}

@@ -1,4 +1,5 @@
--- What sending a simulator its items anew comes to, by the calls that it is made of; and a message that was sent again.
+-- What sending a simulator its items anew comes to, by the calls that it is made of; and a message
+-- that was sent again.
 use Rattle.std.proofs.Common.{◌≡◌, ℕ, ◌+◌, ◌<◌, List, [], ◌∷◌, ◌++◌, length, take, slice_get, Option, Some, None, Ok, Err, refl, sym, ap, ◌∙◌, subst, arith, append_assoc}
 use Rattle.mk_base.specs.declared.SimNo.{SimNo}
 use Rattle.mk_base.proofs.Lists.{append_nil, filter_map_append, some_same}

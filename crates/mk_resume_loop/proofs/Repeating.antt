@@ -1,4 +1,5 @@
--- A message was sent again: its simulator is due what stands behind it, and when it was sent that the run goes on.
+-- A message was sent again: its simulator is due what stands behind it, and when it was sent that
+-- the run goes on.
 use Rattle.std.proofs.Common.{◌≡◌, inl, inr, ℕ, ◌+◌, ◌<◌, nat_lt, ◌&&◌, List, [], ◌∷◌, ◌++◌, length, map, take, slice_get, Option, Some, None, if◌then◌else◌, sym, ap, ◌∙◌, subst, append_assoc, length-append}
 use Rattle.std.specs.List.{cons_option}
 use Rattle.std.proofs.lemmas.Bool.{eq-eqb}

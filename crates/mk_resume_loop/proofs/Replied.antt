@@ -1,4 +1,5 @@
--- An item that is sent anew to a simulator within the program is one that it replies to: a Step, or what is owed after a success.
+-- An item that is sent anew to a simulator within the program is one that it replies to: a Step, or
+-- what is owed after a success.
 use Rattle.std.proofs.Common.{◌≡◌, ◌⊎◌, inl, inr, ℕ, true, List, [], ◌∷◌, ◌++◌, Option, Some, None, refl, sym, ap, ◌∙◌, subst, append_assoc}
 use Rattle.mk_base.specs.declared.SimNo.{SimNo}
 use Rattle.mk_base.proofs.Lists.{append_nil, none_some, some_same}
@@ -85,7 +86,8 @@ owed_by P H orderly o owed = elim (last_of H) [
 sent_same : (s t : SimNo) (item other : Item) → Sent s item ≡ Sent t other → (s ≡ t) × (item ≡ other)
 sent_same s t item other e = (cc, cc)
 
--- where the messages of the simulator that stand last before the item are successes, it replies to the item
+-- where the messages of the simulator that stand last before the item are successes, it replies to
+-- the item
 pub replied_anew : (P : Plan) → IsValidPlan P → (J gone between later : List Entry) (i : ℕ) (t : SimNo) (item : Item) → IsOrderlySoFar IsReady IsAdvance P J → J ≡ (gone ++ between) ++ Sent t item ∷ later → has_none i between ≡ true → t.0 ≡ i
     → ((H : List Entry) (s : SimNo) (m : Message) → gone ≡ H ++ Got s m ∷ [] → s.0 ≡ i → IsFitSuccess m) → IsItemReplied item
 replied_anew P valid J gone between later i t item orderly parts none own fit = go (view P H).owed refl allowed.1

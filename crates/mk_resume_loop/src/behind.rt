@@ -1,4 +1,4 @@
-// How far each simulator is behind what a journal has of it.
+//! How far each simulator is behind what a journal has of it.
 ghost use Rattle.std.specs.Prelude.{◌≡◌, ◌<◌, ℕ, length, take, IfOk, List, OnOk, None, Some, Option, [], true, false, is_some, slice_get, slice_set};
 ghost use Rattle.std.specs.List.{list_any};
 ghost use Rattle.mk_base.specs.Lists.{BeginsWith};

@@ -1,5 +1,5 @@
-// The loop of a resumed run: whoever is ready is asked, and one message is heard; it is one that
-// its simulator has to send again, or the core takes it.
+//! The loop of a resumed run: whoever is ready is asked, and one message is heard; it is one that
+//! its simulator has to send again, or the core takes it.
 ghost use Rattle.std.specs.Prelude.{◌≡◌, ◌≤◌, ◌<◌, ◌+◌, ◌⊎◌, ℕ, List, None, Some, Err, IfErr, OnErr, OnOk, true, false, length, slice_get};
 ghost use Rattle.mk_outside.specs.declared.fleet.LogEntry.{LogEntry};
 ghost use Rattle.mk_local.specs.Registries.{rows_in};

@@ -1,4 +1,4 @@
-// How a resumed run ends.
+//! How a resumed run ends.
 ghost use Rattle.std.specs.Prelude.{◌≡◌};
 
 use mk_base::{Mem, SimNo};

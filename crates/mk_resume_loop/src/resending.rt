@@ -1,4 +1,4 @@
-// What a simulator that was started anew is sent again: the items of the journal that are free.
+//! What a simulator that was started anew is sent again: the items of the journal that are free.
 ghost use Rattle.std.specs.Prelude.{◌≡◌, ◌<◌, ℕ, List, [], None, Some, OnOk, IfSome, length, slice_get};
 ghost use Rattle.mk_base.specs.declared.SimNo.{SimNo};
 ghost use Rattle.mk_outside.specs.declared.fleet.LogEntry.{LogEntry};

@@ -1,4 +1,4 @@
-// The index of a small journal, which grows.
+//! The index of a small journal, which grows.
 ghost use Rattle.std.specs.Prelude.{◌≡◌, ◌<◌, length, IfOk};
 
 use mk_base::{Json, List, Mem, SimNo, Tier};

@@ -1,4 +1,4 @@
-// What comes of a record's messages: a core that goes on, an entry that differs, a fault.
+//! What comes of a record's messages: a core that goes on, an entry that differs, a fault.
 use mk_base::SimNo;
 use mk_record_read::{Saved, read_record};
 use mk_record_restored::{Restored, restore};

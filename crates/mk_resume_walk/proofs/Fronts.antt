@@ -81,7 +81,8 @@ module _ (P : Plan) (J : List Entry) (orderly : IsOrderlySoFar IsReady IsAdvance
         (subst (λ (k : ℕ). (length (sent J i) ≡ k) ⊎ (length (sent J i) ≡ k + 1)) all (alternate P J orderly fine i))
   ]
 
--- a simulator to which nothing is owed, and which has sent as many messages as it was sent free items, has no request open
+-- a simulator to which nothing is owed, and which has sent as many messages as it was sent free
+-- items, has no request open
 pub all_replied : (P : Plan) (J : List Entry) (i n : ℕ) → IsOrderlySoFar IsReady IsAdvance P J → (view P J).fault ≡ None → (view P J).owed ≡ None → n ≤ length (got J i) → length (free_items J i n) ≤ n → (view P J).open_at i ≡ None
 all_replied P J i n orderly fine paid few replied = elim (few_or_more n (length (got J i)) few) [
   | inl more ↦ let one = one_more P J orderly fine i n more in absurd (omega (arith, one, replied))

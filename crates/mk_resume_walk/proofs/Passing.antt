@@ -54,7 +54,8 @@ module _ (i : ℕ) where
     pub left_is : drop from J ≡ g.left
     left_is = ap (drop from) g.parts ∙ ap (λ (k : ℕ). drop k (g.gone ++ g.left)) (sym g.at) ∙ drop-append_seam g.gone g.left
 
-    -- no entry of the simulator is left: it has sent all of its messages again, and all of its items are free and gone through
+    -- no entry of the simulator is left: it has sent all of its messages again, and all of its
+    -- items are free and gone through
     pub walk_ends : has_none i (drop from J) ≡ true → (n ≡ length (got J i)) × (free_items J i n ≡ sent g.gone i)
     walk_ends h =
         let none : has_none i g.left ≡ true = ap (has_none i) (sym left_is) ∙ h in
@@ -64,7 +65,8 @@ module _ (i : ℕ) where
           ap (λ (K : List Entry). sent K i) (up_to_all i n J (let c = count in omega (arith, c))) ∙ ap (λ (K : List Entry). sent K i) g.parts ∙ sent_beside g.gone g.left none,
         )
 
-    -- the next one is a message: it is the one that has to be sent again, and the items that are free were gone through
+    -- the next one is a message: it is the one that has to be sent again, and the items that are
+    -- free were gone through
     pub walk_waits : (B : List Entry) (s : SimNo) (m : Message) (later : List Entry) → drop from J ≡ B ++ Got s m ∷ later → has_none i B ≡ true → s.0 ≡ i → IsNextAt J i n (Some (from + length B)) × (free_items J i n ≡ sent g.gone i)
     walk_waits B s m later is none own = (
       (s, m, later, own, all ∙ ap (λ (K : List Entry). K ++ Got s m ∷ later) (sym front), ap length front ∙ length-append g.gone B ∙ ap (λ (k : ℕ). k + length B) g.at),

@@ -1,4 +1,4 @@
-// The index of a journal: where each simulator's entries stand.
+//! The index of a journal: where each simulator's entries stand.
 ghost use Rattle.std.specs.Prelude.{◌≡◌, ℕ, ◌+◌, ◌<◌, List, [], ◌∷◌, ◌++◌, length, take, IfOk, OnOk};
 ghost use Rattle.mk_base.specs.Lists.{BeginsWith};
 ghost use Rattle.mk_plan.specs.declared.Entry.{Entry};

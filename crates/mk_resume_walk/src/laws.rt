@@ -1,4 +1,4 @@
-// What holds of the walk through a journal.
+//! What holds of the walk through a journal.
 ghost use Rattle.mk_resume_walk.specs.Laws.{EntriesAreCounted, FreeItemsAlternate, FreeItemsGoOn, TurnsAlternate, WalksGoOn};
 
 /// Where an index was asked for a simulator's next entry, one more of its entries was gone through

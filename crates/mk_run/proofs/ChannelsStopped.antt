@@ -1,4 +1,5 @@
--- What the channels of a run show over the whole log once its crew was stopped, whatever was queued on them.
+-- What the channels of a run show over the whole log once its crew was stopped, whatever was queued
+-- on them.
 use Rattle.std.proofs.Common.{◌≡◌, ◌⊎◌, inl, inr, ℕ, List, [], ◌∷◌, ◌++◌, length, Some, None, sym, ◌∙◌, subst, append_assoc}
 use Rattle.mk_base.specs.declared.LinkNo.{LinkNo}
 use Rattle.mk_base.specs.declared.SimNo.{SimNo}
@@ -58,7 +59,8 @@ full_still started S P J log f ahead ungot full = record {
 }
 
 module _ (started : ℕ) (S : Scenario) (replies : SetupReplies) (counts : (i : ℕ) (l : LinkNo) → sim_link started S i ≡ Some l → length (replies i) ≡ setup_count S i) (log entries : List LogEntry) (risen : Type 0) (C : CrewState) (stopped : AreStopped entries risen C) where
-  -- a channel that gave these messages and holds no further one: they are all that were heard of the run, and behind them is what is held
+  -- a channel that gave these messages and holds no further one: they are all that were heard of
+  -- the run, and behind them is what is held
   module _ (i : ℕ) (l : LinkNo) (linked : sim_link started S i ≡ Some l) (messages : List Message) (items : List Item) (h : HasChannel S replies log i l messages items C) (none : first_message h.channel.held ≡ None) where
     pub all_heard : messages ≡ run_messages S (log ++ entries) i l
     all_heard = sym (all_given started S replies counts [] log entries risen C stopped i l linked messages items h none)
@@ -66,7 +68,8 @@ module _ (started : ℕ) (S : Scenario) (replies : SetupReplies) (counts : (i : 
     pub held_heard : h.channel.held ≡ rest_heard (heard_on l (log ++ entries))
     held_heard = sym (rest_held started S replies counts [] log entries risen C stopped i l linked messages items h none)
 
-  -- a message that a channel gave behind those of a journal was heard behind them, where the items queued are the first of the journal's
+  -- a message that a channel gave behind those of a journal was heard behind them, where the items
+  -- queued are the first of the journal's
   pub heard_behind : (J : List Entry) (s : SimNo) (m : Message) (l : LinkNo) → sim_link started S s.0 ≡ Some l → (items : List Item) → HasChannel S replies log s.0 l (got J s.0 ++ m ∷ []) items C → BeginsWith (sent J s.0) items → BeginsWith (run_messages S (log ++ entries) s.0 l) (got J s.0 ++ m ∷ [])
   heard_behind J s m l linked items channel queued = subst (BeginsWith (run_messages S (log ++ entries) s.0 l)) (got_last J s m)
       (link_ended started S replies counts (J ++ Got s m ∷ []) log entries risen C stopped s.0 l linked (got J s.0 ++ m ∷ []) items channel

@@ -1,4 +1,5 @@
--- An item was sent by the crew: what that keeps of the simulators within the program and of the channels.
+-- An item was sent by the crew: what that keeps of the simulators within the program and of the
+-- channels.
 use Rattle.std.proofs.Common.{◌≡◌, ◌⊎◌, inl, inr, ℕ, Bool, true, false, List, [], ◌∷◌, ◌++◌, map, Option, Some, is_some, refl, sym, ap, ◌∙◌, subst, true≢false}
 use Rattle.mk_base.proofs.Lists.{some_same}
 use Rattle.mk_plan.specs.declared.Item.{Item}

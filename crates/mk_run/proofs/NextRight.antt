@@ -1,4 +1,5 @@
--- In an orderly journal the next message of a simulator is right, where sequential execution over a family that goes on with it cuts no turn of that simulator.
+-- In an orderly journal the next message of a simulator is right, where sequential execution over a
+-- family that goes on with it cuts no turn of that simulator.
 use Rattle.std.proofs.Common.{◌≡◌, inl, ℕ, ◌<◌, Bool, true, false, cond, List, [], ◌∷◌, ◌++◌, Option, Some, None, option_map, refl, ap, sym, ◌∙◌, subst, append_assoc}
 use Rattle.mk_base.specs.declared.SimNo.{SimNo}
 use Rattle.mk_plan.specs.declared.Plan.{Plan}

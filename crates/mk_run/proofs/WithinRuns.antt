@@ -1,4 +1,5 @@
--- A run whose simulators are all within the program meets no fault of a message: its replies are its kinds', and these are right.
+-- A run whose simulators are all within the program meets no fault of a message: its replies are
+-- its kinds', and these are right.
 use Rattle.std.proofs.Common.{◌≡◌, ℕ, ◌<◌, Bool, true, false, List, [], ◌∷◌, Option, Some, None, refl, sym, ap, ◌∙◌, subst, true≢false}
 use Rattle.mk_base.specs.declared.SimNo.{SimNo}
 use Rattle.mk_plan.specs.declared.Plan.{Plan}

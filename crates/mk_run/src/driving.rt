@@ -1,4 +1,4 @@
-// The loop of a run: whoever is ready is asked, and one message is heard and taken, until the first outcome.
+//! The loop of a run: whoever is ready is asked, and one message is heard and taken, until the first outcome.
 ghost use Rattle.std.specs.Prelude.{◌≡◌, ◌≤◌, ◌<◌, List, None, Err, IfErr, OnOk, true};
 ghost use Rattle.mk_outside.specs.declared.fleet.LogEntry.{LogEntry};
 ghost use Rattle.mk_local.specs.Registries.{rows_in};

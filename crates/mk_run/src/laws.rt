@@ -1,4 +1,4 @@
-// What holds of every run.
+//! What holds of every run.
 ghost use Rattle.mk_run.specs.Ends.{Completes};
 ghost use Rattle.mk_run.specs.Laws.{KindsFit, RunsAreRight, WithinRunsEnd};
 
@@ -28,8 +28,8 @@ pub fn kinds_fit()
     kinds_are_right();
 }
 
-/// A run with a plan whose simulators are all within the program meets no fault of the core but a limit: that of loops within a
-/// time, or that of entries.
+/// A run with a plan whose simulators are all within the program meets no fault of the core but a limit: that of loops
+/// within a time, or that of entries.
 pub fn within_runs_end()
     ensures { WithinRunsEnd }
 {

@@ -1,5 +1,5 @@
-//! A run of a scenario over a fleet: the simulators are started, the handshake is made, and then whoever is ready is asked
-//! and a message is heard, until nothing is left to do or something stands in the way.
+//! A run of a scenario over a fleet: the simulators are started, the handshake is made, and then whoever is ready is
+//! asked and a message is heard, until nothing is left to do or something stands in the way.
 #![tactic(auto)]
 
 mod driving;

@@ -1,4 +1,4 @@
-// How a run ends, and what it comes to.
+//! How a run ends, and what it comes to.
 ghost use Rattle.std.specs.Prelude.{◌≡◌};
 
 use mk_base::{Mem, SimNo};

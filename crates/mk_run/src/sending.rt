@@ -1,5 +1,5 @@
-// The items of the journal that are sent: the one that an answer of the core left last, or one that
-// waited.
+//! The items of the journal that are sent: the one that an answer of the core left last, or one that
+//! waited.
 ghost use Rattle.std.specs.Prelude.{◌≡◌, ◌<◌, ℕ, List, IfErr, None, OnErr, OnOk};
 ghost use Rattle.mk_local.specs.declared.turn.Turn.{Turn};
 ghost use Rattle.mk_local.specs.Registries.{rows_in};

@@ -1,4 +1,4 @@
-// A run whose simulators are all within the program: over no fleet, and without waiting for anybody.
+//! A run whose simulators are all within the program: over no fleet, and without waiting for anybody.
 ghost use Rattle.std.specs.Prelude.{◌≡◌, ℕ, [], true, None, Err, map, IfErr, OnOk};
 ghost use Rattle.mk_scenario.specs.Wellformed.{IsWellformed};
 ghost use Rattle.mk_launch.specs.Ready.{IsPrepared};
@@ -105,8 +105,9 @@ fn run_plan_within(alloc: Global, plan: Plan, crew: Crew, kinds: &Registry) -> R
     }
 }
 
-/// Runs a prepared scenario with its ranks whose simulators all run within the program, and are of these kinds. It does what
-/// `run` does, without a fleet: it waits for nobody and so returns, by an outcome of `Done`, `Setup`, `Core` or `Mem`.
+/// Runs a prepared scenario with its ranks whose simulators all run within the program, and are of these kinds. It does
+/// what `run` does, without a fleet: it waits for nobody and so returns, by an outcome of `Done`, `Setup`, `Core` or
+/// `Mem`.
 ///
 /// The plan and the journal are there wherever the handshake was made and there was memory for the run.
 pub fn run_local(alloc: Global, scenario: Scenario, ranks: List<u32>, kinds: &Registry) -> Ran

@@ -1,4 +1,5 @@
--- A scenario whose simulators are all within the program has no links, and its handshake comes to an end.
+-- A scenario whose simulators are all within the program has no links, and its handshake comes to
+-- an end.
 use Rattle.std.proofs.Common.{◌≡◌, ℕ, zero, suc, ◌+◌, ◌-◌, ◌<◌, ◌&&◌, not, Bool, true, false, List, [], ◌∷◌, ◌++◌, length, map, take, Option, Some, None, slice_get, refl, sym, ap, ◌∙◌, subst, inl, inr, arith, true≢false, if◌then◌else◌}
 use Rattle.std.specs.Prelude.{filter, option_and_then, option_map, unwrap_or}
 use Rattle.std.specs.List.{list_all}

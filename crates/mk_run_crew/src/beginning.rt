@@ -1,4 +1,4 @@
-// The begin of a crew: the start of the simulators, and the handshake.
+//! The begin of a crew: the start of the simulators, and the handshake.
 ghost use Rattle.std.specs.Prelude.{◌≡◌, ◌≤◌, ◌<◌, ◌+◌, ◌⊎◌, ◌^◌, ℕ, List, [], ◌++◌, true, false, Some, None, length, map, IfOk, IfErr, OnOk, OnErr};
 ghost use Rattle.mk_base.specs.declared.LinkNo.{LinkNo};
 ghost use Rattle.mk_message.specs.Written.{call_text, is_call_in_range};

@@ -1,4 +1,4 @@
-// A crew in a run: items sent, messages heard, and the stop.
+//! A crew in a run: items sent, messages heard, and the stop.
 ghost use Rattle.std.specs.Prelude.{◌≡◌, [], ◌∷◌, ◌≤◌, List, true, false, None, Some, Err, IfOk, IfSome, MatchOption, OnOk, OnErr};
 ghost use Rattle.mk_outside.specs.declared.fleet.LogEntry.{LogEntry};
 ghost use Rattle.mk_outside.specs.Counts.{HasRisen};
@@ -79,12 +79,12 @@ impl Crew {
         self.places
     }
 
-    /// Sends an item to a simulator: a Step and a GetData with the next id of its link, an Answer and a Refuse, to a link, with
-    /// the id of what they answer. A simulator within the program answers at once, and its reply is kept; it gets a Step at a time
-    /// of 0 to 10^9, or a GetData. The kinds are those that it was begun with.
+    /// Sends an item to a simulator: a Step and a GetData with the next id of its link, an Answer and a Refuse, to a
+    /// link, with the id of what they answer. A simulator within the program answers at once, and its reply is kept; it
+    /// gets a Step at a time of 0 to 10^9, or a GetData. The kinds are those that it was begun with.
     ///
-    /// `LongItem` has the length of the item's payload to a link, which may have at most 67,108,864 bytes. Besides there is want
-    /// of memory alone. After a fault nothing has changed.
+    /// `LongItem` has the length of the item's payload to a link, which may have at most 67,108,864 bytes. Besides
+    /// there is want of memory alone. After a fault nothing has changed.
     pub fn send(&mut self, kinds: &Registry, sim: SimNo, item: &Item, id: u64) -> Result<(), Halt>
         requires known { AreOf (rows_in kinds.now) (within_of self.old) }
         requires replied { is_here self.old sim.0 ≡ true → IsItemReplied item.now }
@@ -149,8 +149,9 @@ impl Crew {
         }
     }
 
-    /// Gives a message as `hear` does, but waits for nobody: `None` only where no reply is kept of a simulator within the program,
-    /// nothing has come on any link, and each link has said all, or takes no more for now. A halt is answered again as by `hear`.
+    /// Gives a message as `hear` does, but waits for nobody: `None` only where no reply is kept of a simulator within
+    /// the program, nothing has come on any link, and each link has said all, or takes no more for now. A halt is
+    /// answered again as by `hear`.
     pub fn try_hear<F: Fleet>(&mut self, fleet: &mut F) -> Result<Option<(SimNo, Message)>, Halt>
         requires { AreOpen self.old.channels (F.open_links fleet.old) }
         ensures count { F.faults fleet.old ≤ F.faults fleet.new }
@@ -183,8 +184,8 @@ impl Crew {
         }
     }
 
-    /// Takes the oldest reply that is kept of a simulator within the program; `None` exactly where none is. It takes no memory,
-    /// and waits for nobody.
+    /// Takes the oldest reply that is kept of a simulator within the program; `None` exactly where none is. It takes no
+    /// memory, and waits for nobody.
     pub fn take_kept(&mut self) -> Option<(SimNo, Message)>
         ensures taken { MatchOption result ((self.old.kept ≡ [])
             × (self.new ≡ self.old))

@@ -1,4 +1,4 @@
-// Why a crew doesn't go on.
+//! Why a crew doesn't go on.
 ghost use Rattle.std.specs.Prelude.{◌≡◌};
 
 use mk_base::{Mem, SimNo};

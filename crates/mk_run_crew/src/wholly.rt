@@ -1,4 +1,4 @@
-// The begin of a crew whose simulators are all within the program: no link is started, and nobody is waited for.
+//! The begin of a crew whose simulators are all within the program: no link is started, and nobody is waited for.
 ghost use Rattle.std.specs.Prelude.{◌≡◌, ℕ, [], true, false, None, map, IfOk, IfErr, OnOk};
 ghost use Rattle.mk_outside.specs.Counts.{HasRisen};
 ghost use Rattle.mk_scenario.specs.Wellformed.{IsWellformed};

@@ -1,4 +1,5 @@
--- Where nothing is left to do there is a family that answers by kind: what came on the links, and what was got of the simulators within the program.
+-- Where nothing is left to do there is a family that answers by kind: what came on the links, and
+-- what was got of the simulators within the program.
 use Rattle.std.proofs.Common.{◌≡◌, ℕ, Bool, true, false, List, [], ◌∷◌, ◌++◌, map, Option, Some, None, option_map, refl, sym, ap, ◌∙◌, subst, ◌⊎◌, inl, inr, append_assoc, true≢false, if◌then◌else◌, pos}
 use Rattle.mk_base.specs.declared.SimNo.{SimNo}
 use Rattle.mk_base.proofs.Lists.{append_nil, flat_map_append}

@@ -58,7 +58,8 @@ module _ (started : ℕ) (S : Scenario) (replies : SetupReplies) (counts : (i : 
   run_heard = ap (drop (setup_count S i)) (all_heard ∙ append_assoc (replies i) messages (messages_heard w.held)) ∙ ap (λ (n : ℕ). drop n (replies i ++ (messages ++ messages_heard w.held))) (sym (counts i l linked))
       ∙ drop-append_seam (replies i) (messages ++ messages_heard w.held)
 
-  -- the link of a run that has ended: the messages given go on from those that the journal got, and the items queued are the first of those that it sent
+  -- the link of a run that has ended: the messages given go on from those that the journal got, and
+  -- the items queued are the first of those that it sent
   pub link_ended : BeginsWith messages (got J i) → BeginsWith (sent J i) items → IsLinkOfRun S replies J (log ++ entries) risen i l items
   link_ended given queued = record {
     replied = ap (take (setup_count S i)) (all_heard ∙ append_assoc (replies i) messages (messages_heard w.held)) ∙ ap (λ (n : ℕ). take n (replies i ++ (messages ++ messages_heard w.held))) (sym (counts i l linked))

@@ -1,4 +1,5 @@
--- Whatever the other simulators send, there are messages of those within the program that answer by kind.
+-- Whatever the other simulators send, there are messages of those within the program that answer by
+-- kind.
 use Rattle.std.proofs.Common.{◌≡◌, ℕ, ◌+◌, Bool, true, false, cond, ◌&&◌, List, [], ◌∷◌, ◌++◌, refl, sym, ap, ◌∙◌, subst, ◌⊎◌, inl, inr, append_assoc, true≢false, if◌then◌else◌}
 use Rattle.std.proofs.Math.Seq.{drop-append_seam}
 use Rattle.mk_base.specs.declared.json.Json.{Json}

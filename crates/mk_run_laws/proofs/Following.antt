@@ -1,4 +1,5 @@
--- What was got of simulators within the program begins with what they say in each family that answers by kind.
+-- What was got of simulators within the program begins with what they say in each family that
+-- answers by kind.
 use Rattle.std.proofs.Common.{◌≡◌, ℕ, ◌<◌, ◌==◌, Bool, true, false, List, [], ◌∷◌, ◌++◌, map, Option, Some, None, option_map, refl, sym, ap, ◌∙◌, subst, append_assoc, true≢false}
 use Rattle.std.proofs.lemmas.Bool.{eqb-true}
 use Rattle.mk_base.specs.declared.SimNo.{SimNo}
@@ -119,12 +120,14 @@ module _ (P : Plan) (valid : IsValidPlan P) where
               (ap (λ (G : List Entry). got G i) (is ∙ sym (append_assoc H (e ∷ []) K)) ∙ filter_map_append (got_from i) (H ++ e ∷ []) K) (links i low h))
         ] refl
 
-    -- what was got of each simulator within the program begins its list, where it begins the list of each simulator with a link
+    -- what was got of each simulator within the program begins its list, where it begins the list
+    -- of each simulator with a link
     pub followed : (J : List Entry) → IsOrderlySoFar IsReady IsAdvance P J → KeepsToKinds reply inside P J → ((i : ℕ) → i < sim_count P → inside i ≡ false → BeginsWith (R i) (got J i)) → Continues P J R
     unfolding Orderly
     followed J orderly keeps links = walk J orderly keeps links [] J refl (λ i low. (R i, refl))
 
-  -- where nothing is left to do, sequential execution over whatever goes on is what was sent, and no turn in it is cut
+  -- where nothing is left to do, sequential execution over whatever goes on is what was sent, and
+  -- no turn in it is cut
   pub record IsAllOf (J : List Entry) (R : Messages) (i : ℕ) : Type 0 where
     pub items : map bare (sent J i) ≡ run_items P R i
     pub talk : said (view P J) i ≡ run_talk P R i
@@ -142,4 +145,5 @@ module _ (P : Plan) (valid : IsValidPlan P) where
         messages = sym (ap (λ (F : Family). messages_in (F i)) (seq_is P R)) ∙ t.all_used ∙ heard_seen P (view P J) i ∙ sym (got_is IsReady IsAdvance P its J orderly done.no_fault i);
         ended = sym (ap (λ (F : Family). all_ended (F i)) (seq_is P R)) ∙ all_ended_of (parts P) (theory.seq (parts P) R i) t.all_whole;
       }
-  -- then the messages of the links and those that were got of the simulators within the program are a family that answers by kind, if the journal keeps to the kinds: so there is one
+  -- then the messages of the links and those that were got of the simulators within the program are
+  -- a family that answers by kind, if the journal keeps to the kinds: so there is one

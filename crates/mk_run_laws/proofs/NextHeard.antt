@@ -1,4 +1,5 @@
--- In sequential execution a simulator whose turns all end goes on, after what was said in its open turn, with a message.
+-- In sequential execution a simulator whose turns all end goes on, after what was said in its open
+-- turn, with a message.
 use Rattle.std.proofs.Common.{◌≡◌, inl, ℕ, ◌<◌, List, [], ◌∷◌, ◌++◌, refl, ap, sym, ◌∙◌, subst, append_assoc}
 use Rattle.std.specs.Prelude.{Bool, true, false, cond, Some}
 use Rattle.mk_order_any.specs.Parts.{Parts, In, Every, Prefix, act, seq, View, Turn, case_of, Reached, heard_in, talk_in, heard_of, said_of, rest, used, whole, talk_of}

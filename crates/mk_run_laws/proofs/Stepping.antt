@@ -569,7 +569,8 @@ module _ (started : ℕ) (S : Scenario) (replies : SetupReplies) (reply : Replie
         | inr apart ↦ but_away s.0 (awaited S reply P J) i apart ∙ sym (awaited_got J s m i apart)
       ]
 
-  -- a message of a simulator within the program was heard, and its reply to the item that it is answered with was kept
+  -- a message of a simulator within the program was heard, and its reply to the item that it is
+  -- answered with was kept
   pub answered_within : (J : List Entry) (log : List LogEntry) (C D : CrewState) (s : SimNo) (m : Message) (item : Item) (o : Owed)
       → IsRunningWith (but s.0 (awaited S reply P J)) started S replies reply P (J ++ Got s m ∷ []) log C → is_within S s.0 ≡ true → (view P J).owed ≡ None → (view P (J ++ Got s m ∷ [])).fault ≡ None
       → (view P (J ++ Got s m ∷ [])).owed ≡ Some o → IsSentWithin s.0 (reply s.0 (map bare (sent ((J ++ Got s m ∷ []) ++ Sent s item ∷ []) s.0))) C D

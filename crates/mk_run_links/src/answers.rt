@@ -1,4 +1,4 @@
-// What a run's links answer.
+//! What a run's links answer.
 ghost use Rattle.std.specs.Prelude.{◌≡◌};
 
 use mk_base::{Mem, SimNo};

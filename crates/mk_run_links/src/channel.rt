@@ -1,4 +1,4 @@
-// One channel of a crew.
+//! One channel of a crew.
 ghost use Rattle.std.specs.Prelude.{◌≡◌, ℕ, ◌≤◌, ◌<◌, List, length, Err, false, IfOk, OnOk, OnErr};
 ghost use Rattle.mk_base.specs.Lists.{IsIn};
 ghost use Rattle.mk_frame.specs.Frames.{limit};

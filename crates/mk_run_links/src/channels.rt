@@ -1,4 +1,4 @@
-// The channels of a crew, each at the place of its simulator.
+//! The channels of a crew, each at the place of its simulator.
 ghost use Rattle.std.specs.Prelude.{◌≡◌, ℕ, ◌+◌, ◌≤◌, ◌<◌, ◌^◌, List, [], ◌∷◌, ◌++◌, length, filter_map, None, Some, Err, IfOk, IfSome, OnOk, OnErr};
 ghost use Rattle.mk_frame.specs.Frames.{limit};
 ghost use Rattle.mk_outside.specs.declared.fleet.LogEntry.{LogEntry};
@@ -148,8 +148,8 @@ impl CrewChannels {
         }
     }
 
-    // Queues a payload on the channel of a simulator, which isn't parked then and has this next id. After a fault nothing has
-    // changed.
+    // Queues a payload on the channel of a simulator, which isn't parked then and has this next id. After a fault
+    // nothing has changed.
     pub fn queue(&mut self, sim: SimNo, payload: &[u8], next: u64) -> Result<(), QueueFault>
         requires { IsLinked sim.0 self.old }
         ensures ok { OnOk result ((w : Channel)

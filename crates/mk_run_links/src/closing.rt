@@ -1,4 +1,4 @@
-// The end of a run's links.
+//! The end of a run's links.
 ghost use Rattle.std.specs.Prelude.{◌≡◌, ◌≤◌, [], IfSome, option_to_list};
 ghost use Rattle.mk_base.specs.Lists.{Each, IsIn};
 ghost use Rattle.mk_outside.specs.Logs.{Adds};

@@ -1,4 +1,4 @@
-// The links of a run: what is queued, heard and said on them.
+//! The links of a run: what is queued, heard and said on them.
 ghost use Rattle.std.specs.Prelude.{◌≡◌, ℕ, ◌+◌, ◌≤◌, ◌<◌, ◌^◌, List, [], ◌∷◌, ◌++◌, length, None, Some, Err, IfOk, IfSome, OnOk, OnErr, option_map, option_to_list};
 ghost use Rattle.mk_frame.specs.Frames.{limit};
 ghost use Rattle.mk_base.specs.declared.SimNo.{SimNo};
@@ -227,9 +227,9 @@ impl Links {
         Ok(())
     }
 
-    /// Queues an item on a simulator's link: a Step and a GetData with the link's next id, an Answer and a Refuse with the
-    /// id of what they answer. `TooLong` has the length of the item's payload, which may have at most 67,108,864 bytes;
-    /// `Mem` means want of memory. After a fault nothing has changed.
+    /// Queues an item on a simulator's link: a Step and a GetData with the link's next id, an Answer and a Refuse with
+    /// the id of what they answer. `TooLong` has the length of the item's payload, which may have at most 67,108,864
+    /// bytes; `Mem` means want of memory. After a fault nothing has changed.
     pub fn send(&mut self, alloc: Global, sim: SimNo, item: &Item) -> Result<(), QueueFault>
         requires linked { IsLinked sim.0 self.old.channels }
         requires small { HasSmallNext sim.0 self.old.channels }

@@ -1,4 +1,4 @@
-// The frame of a stop, which is made without memory.
+//! The frame of a stop, which is made without memory.
 ghost use Rattle.std.specs.Prelude.{◌≡◌, ◌+◌, ◌≤◌, ◌++◌, length};
 ghost use Rattle.mk_frame.specs.Frames.{frame_of};
 ghost use Rattle.mk_message.specs.Written.{call_text};

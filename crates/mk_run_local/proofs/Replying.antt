@@ -1,4 +1,5 @@
--- A simulator whose numbers are within 64 bits replies with a success whose numbers are in the range of trees.
+-- A simulator whose numbers are within 64 bits replies with a success whose numbers are in the
+-- range of trees.
 use Rattle.std.proofs.Common.{◌≡◌, ℕ, zero, suc, ◌+◌, ℤ, pos, negsuc, ◌+ℤ◌, ◌≤ℤ◌, ◌==◌, int_lt, int_le, Bool, true, false, cond, ◌&&◌, List, [], ◌∷◌, length, map, filter_map, fold, slice_get, is_some, Option, Some, None, option_map, option_and_then, refl, sym, ap, ◌∙◌, subst, arith, if◌then◌else◌, codes}
 use Rattle.std.proofs.lemmas.Int.{ints}
 use Rattle.std.specs.List.{enumerate_from, list_all, cons_option}

@@ -1,4 +1,4 @@
-// What follows from the definitions.
+//! What follows from the definitions.
 ghost use Rattle.mk_run_local.specs.Laws.{KindsAreRight, RepliesAreKinds};
 
 /// Where a simulator within the program was sent some items after its setup, its reply to the next one is its kind's to

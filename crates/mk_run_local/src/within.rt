@@ -1,4 +1,4 @@
-// The simulators within the program: what each replies before and in a run.
+//! The simulators within the program: what each replies before and in a run.
 ghost use Rattle.std.specs.Prelude.{◌≡◌, List, [], None, map, IfOk, IfSome, OnOk, OnErr, is_some, MatchOption};
 ghost use Rattle.mk_base.specs.Lists.{Each};
 ghost use Rattle.mk_launch.specs.Ready.{CanBegin, IsPrepared, begin_fault};

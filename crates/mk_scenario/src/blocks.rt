@@ -1,4 +1,4 @@
-// The `connect` tables.
+//! The `connect` tables.
 ghost use Rattle.std.specs.Prelude.{◌≡◌, ◌||◌, ◌==◌, [], ℕ, List, map, not, length, option_map, codes, IfOk, IfErr, Ok};
 ghost use Rattle.std.specs.List.{find};
 ghost use Rattle.mk_base.specs.declared.json.Json.{Json};
@@ -429,7 +429,8 @@ fn sides_pair(m: u32, n: u32) -> bool
     n == 1 || m == 1 || m == n
 }
 
-// Initial values that a table of this path says stand only where the delivery is delayed, and only under source attributes.
+// Initial values that a table of this path says stand only where the delivery is delayed, and only under source
+// attributes.
 fn initial_fits(alloc: Global, path: &Text, said: &BlockSaid) -> Result<(), ScenarioFault>
     ensures ok { IfOk result (λ _. initial_fits path.now said.now ≡ Ok said.now.initial) }
     ensures refused { IfErr result (λ e. IsFaultOf (initial_fits path.now said.now) e) }

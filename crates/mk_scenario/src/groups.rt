@@ -1,4 +1,4 @@
-// The `entities` tables.
+//! The `entities` tables.
 ghost use Rattle.std.specs.Prelude.{◌≡◌, codes, IfOk, IfErr, Ok};
 ghost use Rattle.mk_base.specs.Trees.{member};
 ghost use Rattle.mk_scenario_keys.specs.Keys as keys;

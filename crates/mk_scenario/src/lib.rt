@@ -1,4 +1,5 @@
-//! A scenario file: a TOML text that says which simulators there are, which entities they create, and how these are connected.
+//! A scenario file: a TOML text that says which simulators there are, which entities they create, and how these are
+//! connected.
 #![tactic(auto)]
 
 mod blocks;

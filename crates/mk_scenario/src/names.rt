@@ -1,4 +1,4 @@
-// Ids in order, and where each stands.
+//! Ids in order, and where each stands.
 ghost use Rattle.std.specs.Prelude.{◌≡◌, ◌++◌, ◌∷◌, [], ℕ, List, is_some, Some, IfOk, OnOk};
 ghost use Rattle.std.specs.HashMap.{get_by_text};
 ghost use Rattle.std.specs.Map.{update};

@@ -1,8 +1,9 @@
-// What a scenario is made of.
+//! What a scenario is made of.
 
 use mk_base::{Json, List, SimNo, Text, Via};
 
-/// How a simulator is begun: a command's template, a port of this machine at which it listens, or a kind within the program.
+/// How a simulator is begun: a command's template, a port of this machine at which it listens, or a kind within the
+/// program.
 #[derive(Drop)]
 pub enum Begin {
     Command(Text),
@@ -30,7 +31,8 @@ pub struct Group {
     pub params: Json,
 }
 
-/// One side of a connection: a group's entities, the entity of a group at an index, or an entity by its simulator and eid.
+/// One side of a connection: a group's entities, the entity of a group at an index, or an entity by its simulator and
+/// eid.
 #[derive(Drop)]
 pub enum Place {
     Whole(u32),

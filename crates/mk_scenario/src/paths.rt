@@ -1,4 +1,4 @@
-// The paths of tables, and what a fault says beside a path.
+//! The paths of tables, and what a fault says beside a path.
 ghost use Rattle.std.specs.Prelude.{◌≡◌, IfOk};
 ghost use Rattle.mk_scenario_keys.specs.Tests.{item_in};
 

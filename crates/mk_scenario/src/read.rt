@@ -1,4 +1,4 @@
-// From a scenario file's bytes to the scenario.
+//! From a scenario file's bytes to the scenario.
 ghost use Rattle.std.specs.Prelude.{◌≡◌, IfOk, IfErr, Ok};
 ghost use Rattle.mk_scenario_keys.specs.Tests.{IsFaultOf};
 ghost use Rattle.mk_scenario.specs.Scenarios.{scenario_of};

@@ -1,4 +1,4 @@
-// What a reference refers to.
+//! What a reference refers to.
 ghost use Rattle.std.specs.Prelude.{◌≡◌, false, nat_lt, if◌then◌else◌, Some, None, Ok, MatchOption, IfOk, IfErr};
 ghost use Rattle.mk_scenario_keys.specs.Tests.{IsFaultOf};
 ghost use Rattle.mk_scenario.specs.References as references;

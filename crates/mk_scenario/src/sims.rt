@@ -1,4 +1,4 @@
-// The `sim` tables.
+//! The `sim` tables.
 ghost use Rattle.std.specs.Prelude.{◌≡◌, length, codes, false, option_map, option_and_then, unwrap_or, IfOk, IfErr, Ok};
 ghost use Rattle.std.specs.List.{filter};
 ghost use Rattle.mk_base.specs.Lists.{same_text};
@@ -101,7 +101,8 @@ fn sim_made(
     }
 }
 
-// The id of a simulator of this name after these tables, and how it is begun, in one of these ways with these parameters.
+// The id of a simulator of this name after these tables, and how it is begun, in one of these ways with these
+// parameters.
 fn begun(
     alloc: Global,
     path: &Text,
@@ -181,7 +182,8 @@ fn begin_of(
     }
 }
 
-// The id of a simulator of this name after those of these tables: the name, `-`, and how many of them have the same name.
+// The id of a simulator of this name after those of these tables: the name, `-`, and how many of them have the same
+// name.
 fn sim_id(alloc: Global, earlier: &[Json], name: &Text) -> Result<Text, Mem>
     ensures { IfOk result (λ t. t
         ≡ sims.sim_id (sims.texts_under (codes "name") earlier.now) name.now) }

@@ -1,4 +1,4 @@
-// A document: the top table, and then its simulators, groups and connections.
+//! A document: the top table, and then its simulators, groups and connections.
 ghost use Rattle.std.specs.Prelude.{◌≡◌, IfOk, IfErr, Ok};
 ghost use Rattle.mk_base.specs.Trees.{member};
 ghost use Rattle.mk_scenario_keys.specs.Keys as keys;

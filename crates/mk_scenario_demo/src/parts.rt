@@ -1,4 +1,4 @@
-// The parts of a scenario, each by a few texts.
+//! The parts of a scenario, each by a few texts.
 ghost use Rattle.std.specs.Prelude.{◌≡◌, [], ◌∷◌, pos, IfOk};
 ghost use Rattle.mk_base.specs.declared.json.Json as tree;
 ghost use Rattle.mk_scenario_demo.specs.Demo.{block, group, pair, sim};

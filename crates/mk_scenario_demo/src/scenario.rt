@@ -1,4 +1,4 @@
-// The parts of the demo scenario.
+//! The parts of the demo scenario.
 ghost use Rattle.std.specs.Prelude.{◌≡◌, ◌≤◌, IfOk};
 ghost use Rattle.mk_scenario_demo.specs.Demo.{blocks, demo_scenario, groups, sims};
 ghost use Rattle.mk_scenario.specs.Wellformed.{IsWellformed};

@@ -1,4 +1,4 @@
-// Why a text is no scenario.
+//! Why a text is no scenario.
 ghost use Rattle.std.specs.Prelude.{◌≡◌};
 
 use mk_base::{Mem, Text};

@@ -1,4 +1,4 @@
-// What stands under a table's keys. Each fault names the key by its path, or the item of its list.
+//! What stands under a table's keys. Each fault names the key by its path, or the item of its list.
 ghost use Rattle.std.specs.Prelude.{◌≡◌, [], None, Some, IfOk, IfErr, Ok, false, option_map, pos};
 ghost use Rattle.mk_base.specs.declared.json.Json.{Json};
 ghost use Rattle.mk_base.specs.declared.json.Json as tree;
@@ -13,7 +13,8 @@ use crate::values::LATEST;
 use mk_base::{Json, List, Members, Text};
 use std::alloc::Global;
 
-/// The text under a key that must stand in the table of this path. Errors: `Missing` without it, `WrongKind` of another value; `Mem`.
+/// The text under a key that must stand in the table of this path. Errors: `Missing` without it, `WrongKind` of another
+/// value; `Mem`.
 pub fn required_text<'a>(
     alloc: Global,
     path: &Text,
@@ -34,8 +35,9 @@ pub fn required_text<'a>(
     }
 }
 
-/// The text spelled as a name under a key that must stand in the table of this path: a letter or `_`, then letters, digits and `_`,
-/// at most 64 bytes in all. Errors: `Missing` without it, `WrongKind` of another value, `OutOfRange` of another text; `Mem`.
+/// The text spelled as a name under a key that must stand in the table of this path: a letter or `_`, then letters,
+/// digits and `_`, at most 64 bytes in all. Errors: `Missing` without it, `WrongKind` of another value, `OutOfRange` of
+/// another text; `Mem`.
 pub fn required_name<'a>(
     alloc: Global,
     path: &Text,
@@ -76,8 +78,9 @@ pub fn optional_text<'a>(
     }
 }
 
-/// The port, from 1, of an address on this machine under a key that the table of this path may leave out: `127.0.0.1` or `localhost`,
-/// a colon, the port's digits without a leading zero. Errors: `WrongKind` of a value that is no text, `OutOfRange` of another text; `Mem`.
+/// The port, from 1, of an address on this machine under a key that the table of this path may leave out: `127.0.0.1`
+/// or `localhost`, a colon, the port's digits without a leading zero. Errors: `WrongKind` of a value that is no text,
+/// `OutOfRange` of another text; `Mem`.
 pub fn optional_port(
     alloc: Global,
     path: &Text,
@@ -97,7 +100,8 @@ pub fn optional_port(
     }
 }
 
-/// The truth value under a key that the table of this path may leave out, false then. Errors: `WrongKind` of another value; `Mem`.
+/// The truth value under a key that the table of this path may leave out, false then. Errors: `WrongKind` of another
+/// value; `Mem`.
 pub fn truth_or_false(
     alloc: Global,
     path: &Text,
@@ -117,8 +121,9 @@ pub fn truth_or_false(
     }
 }
 
-/// The width of the time shift, in units of time, under a key that the table of this path may leave out, none then: none for false,
-/// 1 for true, or a number from 1 to 1,000,000. Errors: `WrongKind` of another value, `OutOfRange` of another number; `Mem`.
+/// The width of the time shift, in units of time, under a key that the table of this path may leave out, none then:
+/// none for false, 1 for true, or a number from 1 to 1,000,000. Errors: `WrongKind` of another value, `OutOfRange` of
+/// another number; `Mem`.
 pub fn width_or_none(
     alloc: Global,
     path: &Text,
@@ -138,9 +143,9 @@ pub fn width_or_none(
     }
 }
 
-/// A copy of the table of values under a key that the table of this path may leave out, an empty one then: each number in it is whole,
-/// and no value nests deeper than 100. Errors: `WrongKind` of a value that is no table, or by the first key in it whose value is no such
-/// one; `Mem`.
+/// A copy of the table of values under a key that the table of this path may leave out, an empty one then: each number
+/// in it is whole, and no value nests deeper than 100. Errors: `WrongKind` of a value that is no table, or by the first
+/// key in it whose value is no such one; `Mem`.
 pub fn values_or_none(
     alloc: Global,
     path: &Text,
@@ -160,8 +165,8 @@ pub fn values_or_none(
     }
 }
 
-/// The number from 1 to `most` under a key, itself of this path, that may be left out, and `instead` then. Errors: `WrongKind` of another
-/// value, `OutOfRange` of another number; `Mem`.
+/// The number from 1 to `most` under a key, itself of this path, that may be left out, and `instead` then. Errors:
+/// `WrongKind` of another value, `OutOfRange` of another number; `Mem`.
 pub fn count_or(
     alloc: Global,
     instead: u32,
@@ -183,8 +188,9 @@ pub fn count_or(
     }
 }
 
-/// The times under a key that the table of this path may leave out, none then: a list of numbers from 0 to 1,000,000,000. Errors:
-/// `WrongKind` of another value, or of the first item that is no whole number, `OutOfRange` of the first number that is another; `Mem`.
+/// The times under a key that the table of this path may leave out, none then: a list of numbers from 0 to
+/// 1,000,000,000. Errors: `WrongKind` of another value, or of the first item that is no whole number, `OutOfRange` of
+/// the first number that is another; `Mem`.
 pub fn times_or_none(
     alloc: Global,
     path: &Text,
@@ -204,8 +210,8 @@ pub fn times_or_none(
     }
 }
 
-/// The time, from 1 to 1,000,000,000, under a key that must stand in the top table. Errors: `Missing` without it, `WrongKind` of another
-/// value, `OutOfRange` of another number; `Mem`.
+/// The time, from 1 to 1,000,000,000, under a key that must stand in the top table. Errors: `Missing` without it,
+/// `WrongKind` of another value, `OutOfRange` of another number; `Mem`.
 pub fn required_time(alloc: Global, key: &str, document: &Json) -> Result<i64, ScenarioFault>
     ensures ok { IfOk result
         (λ n. keys.required key.now (keys.whole_within (pos 1) (pos 1000000000))

@@ -1,4 +1,4 @@
-// The keys that each kind of table has.
+//! The keys that each kind of table has.
 ghost use Rattle.std.specs.Prelude.{◌≡◌, ℕ, List, map, not, option_map};
 ghost use Rattle.std.specs.List.{find};
 ghost use Rattle.mk_base.specs.declared.json.Json.{Json};

@@ -1,4 +1,5 @@
-//! What stands under the keys of a scenario's tables: each value by its kind and range, or the fault, which names the key.
+//! What stands under the keys of a scenario's tables: each value by its kind and range, or the fault, which names the
+//! key.
 #![tactic(auto)]
 
 mod fault;

@@ -1,4 +1,4 @@
-// The paths of keys, and numbers as texts.
+//! The paths of keys, and numbers as texts.
 ghost use Rattle.std.specs.Prelude.{◌≡◌, IfOk};
 ghost use Rattle.std.specs.Fmt.{decimal, signed_decimal};
 ghost use Rattle.mk_scenario_keys.specs.Tests.{key_in, item_in};

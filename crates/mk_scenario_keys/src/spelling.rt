@@ -1,4 +1,4 @@
-// How names, numbers and ports are spelled.
+//! How names, numbers and ports are spelled.
 ghost use Rattle.std.specs.Prelude.{◌≡◌, ◌≤◌, nat_le, ◌&&◌, ◌||◌, if◌then◌else◌, length, Some, None};
 ghost use Rattle.std.specs.Fmt.{decimal};
 ghost use Rattle.std.specs.List.{list_all};
@@ -53,8 +53,8 @@ pub fn spelled(most: usize, bytes: &[u8]) -> Option<u64>
     }
 }
 
-/// The port of an address on this machine: `127.0.0.1` or `localhost`, a colon, and a port from 1 to 65535 in decimal digits
-/// without a leading zero; `None` for any other text.
+/// The port of an address on this machine: `127.0.0.1` or `localhost`, a colon, and a port from 1 to 65535 in decimal
+/// digits without a leading zero; `None` for any other text.
 pub fn port_of(address: &str) -> Option<u16>
     ensures { result ≡ spelling.port_of address.now }
 {

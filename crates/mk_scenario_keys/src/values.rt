@@ -1,4 +1,4 @@
-// What a value is, by its kind and range.
+//! What a value is, by its kind and range.
 ghost use Rattle.std.specs.Prelude.{◌≡◌, ℕ, List, IfOk, IfErr, Ok, Some, option_map, not, pos};
 ghost use Rattle.std.specs.List.{find};
 ghost use Rattle.mk_base.specs.declared.json.Json.{Json};

@@ -1,4 +1,4 @@
-// Why bytes have no tree.
+//! Why bytes have no tree.
 ghost use Rattle.std.specs.Prelude.{◌≡◌};
 
 use mk_base::Mem;

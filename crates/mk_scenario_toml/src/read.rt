@@ -1,4 +1,4 @@
-// From bytes to a tree.
+//! From bytes to a tree.
 ghost use Rattle.std.specs.Prelude.{◌≡◌, true, Err, IfOk, None, Some};
 ghost use Rattle.std.specs.List.{list_all};
 ghost use Rattle.mk_base.specs.Trees.{is_in_range, is_object};

@@ -1,4 +1,4 @@
-// Ranks and cycles of small graphs.
+//! Ranks and cycles of small graphs.
 ghost use Rattle.std.specs.Prelude.{◌≡◌, IfOk, OnOk};
 ghost use Rattle.mk_cycles.specs.Edges.{EndsBelow, edge};
 

@@ -1,4 +1,4 @@
-// Values of each type.
+//! Values of each type.
 use mk_base::Json;
 use mk_scenario_toml::read_toml;
 use std::alloc::Global;

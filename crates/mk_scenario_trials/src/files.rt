@@ -1,4 +1,4 @@
-// Scenario files that several trials read.
+//! Scenario files that several trials read.
 
 // The file of the demo scenario of size 1.
 pub const DEMO: &str = "until = 96

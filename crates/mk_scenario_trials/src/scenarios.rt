@@ -1,4 +1,4 @@
-// The demo scenario, as a file says it and as it is made.
+//! The demo scenario, as a file says it and as it is made.
 use crate::files::DEMO;
 use mk_base::{Json, Via};
 use mk_scenario::{AttrPair, Begin, Block, Group, Place, Scenario, SimPart, read_scenario};

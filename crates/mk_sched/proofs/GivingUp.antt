@@ -37,7 +37,8 @@ use Rattle.mk_sched.specs.Holding.{IsFloor, IsHeld, IsMarked}
 use Rattle.mk_sched.specs.inner.Holding.{AllAreTold, AreToldBut, HasToldRest, HasGivenUp, IsToldTo, Notes}
 use Rattle.mk_sched.specs.inner.Derived.{IsDerived, end_after_arrive}
 
--- a simulator's mark is the least tiered time at which it may still step, or any where nothing can make it step
+-- a simulator's mark is the least tiered time at which it may still step, or any where nothing can
+-- make it step
 pub mark_of_earliest : (P : Plan) (V : View) (s : ℕ) (end : Tier) (o : Option Tier) → MatchOption o ((y : Tier) → Reach P (start P V) nobody s y → ⊥) (λ e. IsEarliest P (start P V) s e) → (m : Tier) → m ≡ unwrap_or o end → IsMarkOf P V s m
 mark_of_earliest P V s end None h m is = unreached_is_mark P V s m h
 mark_of_earliest P V s end (Some e) h m is = subst (IsMarkOf P V s) (sym is) (earliest_is_mark P V s e h)

@@ -64,7 +64,8 @@ failed : (b : Bool) → (if b then Some Failed else Some (Wrong unasked)) ≡ No
 failed true e = none_some (sym e)
 failed false e = none_some (sym e)
 
--- a right message that ends a turn is a success reply; where it is the reply to the Step, no connection leaves the simulator
+-- a right message that ends a turn is a success reply; where it is the reply to the Step, no
+-- connection leaves the simulator
 pub record IsEnd (P : Plan) (i : ℕ) (m : Message) : Type 0 where
   pub answered : ℕ
   pub content : Json

@@ -1,4 +1,4 @@
-// How the first simulator that is ready is asked for its step.
+//! How the first simulator that is ready is asked for its step.
 ghost use Rattle.std.specs.Prelude.{◌≡◌, ◌≢◌, ◌<◌, length, None, IfOk, IfErr};
 ghost use Rattle.mk_plan.specs.declared.Plan.{Plan};
 ghost use Rattle.mk_plan.specs.Journals.{view};

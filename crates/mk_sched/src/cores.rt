@@ -1,4 +1,4 @@
-// The core: a run of a plan, message by message.
+//! The core: a run of a plan, message by message.
 ghost use Rattle.std.specs.Prelude.{◌≡◌, ◌<◌, ◌≤◌, [], true, IfOk, IfErr, IsSome, None};
 ghost use Rattle.mk_base.specs.declared.tier.Tier.{Tier};
 ghost use Rattle.mk_plan.specs.Plans.{IsValidPlan, sim_count};
@@ -22,9 +22,9 @@ use std::marker::Model;
 
 /// A run of a plan: the journal so far, and what happens next.
 ///
-/// Contracts see it as its plan, the entries of its journal, and what it answers from now on, if it has met a fault or want
-/// of memory. Its journal is orderly and agrees with sequential execution over all messages that may still come, which
-/// `journal` says.
+/// Contracts see it as its plan, the entries of its journal, and what it answers from now on, if it has met a fault or
+/// want of memory. Its journal is orderly and agrees with sequential execution over all messages that may still come,
+/// which `journal` says.
 #[derive(Drop)]
 pub struct Core {
     alloc: Global,
@@ -160,11 +160,11 @@ impl Core {
         id_at(&self.derived.sims.place(sim))
     }
 
-    /// How many outputs are held, since questions can still reach them. Where the core has not ended and nobody is ready, so
-    /// after each `Wait` and each `Done`, they are at most as many as there are connections, distinct source attributes, and
-    /// late outputs of the journal: outputs whose making, or whose delivery over some connection before the run's end, is later
-    /// than `m`, which is any time before which there is neither the run's end, nor an outstanding step, nor a step that may
-    /// still come.
+    /// How many outputs are held, since questions can still reach them. Where the core has not ended and nobody is
+    /// ready, so after each `Wait` and each `Done`, they are at most as many as there are connections, distinct source
+    /// attributes, and late outputs of the journal: outputs whose making, or whose delivery over some connection before
+    /// the run's end, is later than `m`, which is any time before which there is neither the run's end, nor an
+    /// outstanding step, nor a step that may still come.
     ///
     /// They are then also held so (`IsHeld`): by buffers that stand for the outputs of the acts, in which each
     /// simulator's mark is the earliest time at which it may still step, or is at or after the run's end where that

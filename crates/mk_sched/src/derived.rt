@@ -1,4 +1,4 @@
-// What is derived from the journal, and kept beside it so that it isn't read again.
+//! What is derived from the journal, and kept beside it so that it isn't read again.
 ghost use Rattle.std.specs.Prelude.{[], None, IfOk};
 ghost use Rattle.mk_plan.specs.Plans.{IsValidPlan};
 ghost use Rattle.mk_sched.specs.inner.Holding.{HasToldRest};

@@ -1,4 +1,4 @@
-// How a turn ends by its last message.
+//! How a turn ends by its last message.
 ghost use Rattle.std.specs.Prelude.{◌≡◌, None, IfOk, FitsSigned, option_and_then};
 ghost use Rattle.std.specs.Option.{ForSome};
 ghost use Rattle.std.specs.Int.{w64};

@@ -1,4 +1,4 @@
-// How entries are added to a journal, as far as there is room.
+//! How entries are added to a journal, as far as there is room.
 ghost use Rattle.std.specs.Prelude.{◌≡◌, ◌+◌, ◌∷◌, ◌++◌, ◌==◌, [], length, IfOk, IfErr};
 ghost use Rattle.mk_sched.specs.inner.Derived.{taken_by, entries_by};
 
@@ -31,7 +31,8 @@ pub fn too_long(plan: &Plan) -> CoreFault
     }
 }
 
-// Ends the journal with a message of the simulator, and with what is sent after it, if there is something; what follows then.
+// Ends the journal with a message of the simulator, and with what is sent after it, if there is something; what follows
+// then.
 pub fn push_all(
     journal: &mut Journal,
     sim: SimNo,

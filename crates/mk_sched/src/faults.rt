@@ -1,4 +1,4 @@
-// What a core answers.
+//! What a core answers.
 use mk_base::SimNo;
 
 /// Why a run cannot go on.
@@ -22,8 +22,8 @@ pub enum Ended {
     OutOfMemory,
 }
 
-/// What is to be done next: the simulator's Step, with which the journal now ends, is to be sent; a message is to be waited
-/// for; nothing is left to do; or the run has met a fault.
+/// What is to be done next: the simulator's Step, with which the journal now ends, is to be sent; a message is to be
+/// waited for; nothing is left to do; or the run has met a fault.
 #[derive(Clone, Copy, Debug, PartialEq, Eq)]
 pub enum Next {
     Ask(SimNo),
@@ -32,8 +32,8 @@ pub enum Next {
     Fault(CoreFault),
 }
 
-/// What follows a message: nothing is sent; what the journal now ends with is to be sent to the simulator that the message
-/// came from; or the run has met a fault.
+/// What follows a message: nothing is sent; what the journal now ends with is to be sent to the simulator that the
+/// message came from; or the run has met a fault.
 #[derive(Clone, Copy, Debug, PartialEq, Eq)]
 pub enum Taken {
     Quiet,

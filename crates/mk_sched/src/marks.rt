@@ -1,4 +1,4 @@
-// What no question reaches any more is given up.
+//! What no question reaches any more is given up.
 ghost use Rattle.std.specs.Prelude.{◌≡◌, ◌≢◌, ℕ, ◌≤◌, ◌<◌, length, List, None};
 ghost use Rattle.mk_base.specs.Tiers.{moment};
 ghost use Rattle.mk_plan.specs.declared.Entry.{Entry};

@@ -1,4 +1,4 @@
-// How a message is taken: what it is judged to be, and what follows.
+//! How a message is taken: what it is judged to be, and what follows.
 ghost use Rattle.std.specs.Prelude.{◌≡◌, ◌<◌, true, IfOk, Some, None, FitsSigned};
 ghost use Rattle.std.specs.Option.{ForSome};
 ghost use Rattle.std.specs.Int.{w64};

@@ -1,4 +1,5 @@
--- What is kept of simulators as they are added one by one, and that it mirrors the beginning of a journal.
+-- What is kept of simulators as they are added one by one, and that it mirrors the beginning of a
+-- journal.
 use Rattle.std.proofs.Common.{◌≡◌, ℕ, zero, suc, ◌+◌, ◌<◌, ◌≤◌, ℤ, pos, ◌≤ℤ◌, Bool, true, false, List, [], ◌∷◌, ◌++◌, length, length-append, map, fold, take, Option, Some, None, unwrap_or, slice_get, All, refl, sym, ap, ◌∙◌, subst, inl, inr, arith, add-one, if◌then◌else◌}
 use Rattle.std.proofs.lemmas.Bool.{cases_lt}
 use Rattle.std.proofs.lemmas.Int.{ints}

@@ -1,4 +1,5 @@
--- A turn's end: the trigger beyond the loop limit, what comes about by the act, and that the agenda mirrors the view then.
+-- A turn's end: the trigger beyond the loop limit, what comes about by the act, and that the agenda
+-- mirrors the view then.
 use Rattle.std.proofs.Common.{◌≡◌, ℕ, zero, suc, ◌+◌, ◌<◌, ◌≤◌, Bool, true, false, ◌&&◌, List, [], ◌∷◌, ◌++◌, length, map, take, drop, get_or, Option, Some, None, is_some, option_map, slice_get, slice_set, refl, sym, ap, ◌∙◌, subst, inl, inr, arith, add-one, true≢false, ◌==◌, int_lt, nat_le, if◌then◌else◌}
 use Rattle.std.proofs.lemmas.Bool.{eqb-true}
 use Rattle.mk_base.specs.declared.tier.Tier.{Tier}

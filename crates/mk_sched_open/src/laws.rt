@@ -1,4 +1,4 @@
-// What the replies that end turns make of them.
+//! What the replies that end turns make of them.
 ghost use Rattle.std.specs.Prelude.{◌≡◌, ◌<◌, ℕ, List, ◌∷◌, [], Some};
 ghost use Rattle.mk_base.specs.declared.tier.Tier.{Tier};
 ghost use Rattle.mk_base.specs.declared.json.Json.{Json};
@@ -11,8 +11,8 @@ ghost use Rattle.mk_plan.specs.Journals.{View, OpenTurn, ended_turn};
 ghost use Rattle.mk_sched_open.specs.declared.sims.Sim.{Sim};
 ghost use Rattle.mk_sched_open.specs.Sims.{AreSimsOf};
 
-/// What a success reply that ends a turn makes of it: its outputs where a GetData was open, and the only content that the
-/// turn has where a Step was. The place has the turn's time.
+/// What a success reply that ends a turn makes of it: its outputs where a GetData was open, and the only content that
+/// the turn has where a Step was. The place has the turn's time.
 pub fn ends_of_turns()
     ensures fetched { (P : Plan) → (V : View) → (n : ℕ) → (sims : List Sim) → (s : ℕ)
         → (T : OpenTurn) → (x : Tier) → (id : ℕ) → (m : Message) → (content : Json)

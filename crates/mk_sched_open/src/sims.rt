@@ -105,8 +105,8 @@ impl Sims {
         self.kept.set(sim.0 as usize, begun);
     }
 
-    /// A right message came after which the simulator's turn goes on, at `place` from now on, and what is owed after it was
-    /// sent; `next` is the next time that the message returned.
+    /// A right message came after which the simulator's turn goes on, at `place` from now on, and what is owed after it
+    /// was sent; `next` is the next time that the message returned.
     pub fn go_on(&mut self, sim: SimNo, place: Place, next: Option<i64>)
         requires { sim.0 < length self.old }
         ensures count { length self.new ≡ length self.old }

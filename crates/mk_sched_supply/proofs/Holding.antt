@@ -1,4 +1,5 @@
--- How many outputs may be held is the same for supplies that are the same where connections take them, and falls as the least mark rises.
+-- How many outputs may be held is the same for supplies that are the same where connections take
+-- them, and falls as the least mark rises.
 use Rattle.std.proofs.Common.{◌≡◌, inl, inr, ℕ, ◌+◌, ◌≤◌, ◌<◌, Bool, true, false, not, ◌&&◌, ◌||◌, if◌then◌else◌, List, [], ◌∷◌, length, filter, Some, unwrap_or, slice_get, ap, refl, sym, subst, ◌∙◌, ◌==◌, arith, true≢false, pos, int_lt}
 use Rattle.std.specs.List.{list_any, sum_by}
 use Rattle.std.proofs.lemmas.List.Sums.{sum_by-cons}
@@ -98,7 +99,8 @@ most_falls P S low high less =
 -- ---- the least mark of those that ask
 
 module _ (P : Plan) (b : Buffers) (S : Supply) (st : StandFor P b S) (m : Tier) (after : (s : ℕ) → s < sim_count P → IsUpTo m (mark_of b s)) where
-  -- a time that every mark is after or at is up to the least one, where there is a connection, whose target asks
+  -- a time that every mark is after or at is up to the least one, where there is a connection,
+  -- whose target asks
   pub least_after : (c : Conn) → IsIn c P.conns → IsUpTo m (least_mark b)
   least_after c here =
       let refers = st.of_plan.valid.well_formed.references in

@@ -1,4 +1,4 @@
-// What a request in a step is answered.
+//! What a request in a step is answered.
 ghost use Rattle.std.specs.Prelude.{◌≡◌, ℕ, ◌≤ℤ◌, ◌≤◌, pos, true, All, IfOk, IsSome, OnOk, Some, List, option_map};
 ghost use Rattle.std.specs.List.{list_all};
 ghost use Rattle.mk_base.specs.Tiers.{IsUpTo};

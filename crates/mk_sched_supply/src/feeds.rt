@@ -1,4 +1,4 @@
-// What each simulator is wanted to give, and where its triggering connections find it.
+//! What each simulator is wanted to give, and where its triggering connections find it.
 ghost use Rattle.std.specs.Prelude.{◌≡◌, ◌<◌, ◌+◌, ◌^◌, length, IfOk, OnOk, Some, slice_get};
 ghost use Rattle.mk_base.specs.Lists.{IsIn};
 ghost use Rattle.mk_plan.specs.declared.Want.{Want};
@@ -13,8 +13,8 @@ use mk_plan_judge::{owner, wanted};
 use std::alloc::Global;
 use std::cmp::Ordering;
 
-// What a simulator is wanted to give, and for each of its triggering connections in plan order the place among these wants
-// of what it takes.
+// What a simulator is wanted to give, and for each of its triggering connections in plan order the place among these
+// wants of what it takes.
 #[derive(Drop)]
 pub struct Feed {
     pub wants: List<Want>,

@@ -19,8 +19,8 @@ ghost use Rattle.mk_sched_open.specs.Turns.{IsRight};
 ghost use Rattle.mk_sched_supply.specs.declared.stock.Stock.{Stock};
 ghost use Rattle.mk_sched_supply.specs.Stock.{IsStockOf, MayComeNext};
 
-/// A stock stays that of the view where a Step is sent; where a reply comes after which the turn goes on, and what is owed
-/// is sent; and where a turn without outputs ends.
+/// A stock stays that of the view where a Step is sent; where a reply comes after which the turn goes on, and what is
+/// owed is sent; and where a turn without outputs ends.
 pub fn stock_stays()
     ensures step { (P : Plan) (J : List Entry) (k : Stock) (s : SimNo) (x : Tier) (ins : List Input)
         (advance : ℤ) → MayComeNext P J (Sent s (Step x ins advance)) → IsStockOf P (view P J) k

@@ -1,5 +1,5 @@
-//! What has been delivered in a run: the inputs of a step that may be asked for, the outputs of a turn that ends, and what is
-//! given up.
+//! What has been delivered in a run: the inputs of a step that may be asked for, the outputs of a turn that ends, and
+//! what is given up.
 #![tactic(auto)]
 
 mod answering;

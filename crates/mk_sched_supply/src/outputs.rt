@@ -1,4 +1,4 @@
-// What the data of a reply give.
+//! What the data of a reply give.
 ghost use Rattle.std.specs.Prelude.{◌≡◌, map, IfOk, option_map};
 ghost use Rattle.mk_plan.specs.Turns.{value_for};
 ghost use Rattle.mk_sched_supply.specs.Outputs.{found_values};

@@ -64,8 +64,8 @@ impl Stock {
         })
     }
 
-    /// What each GetData asks of the simulator: the attributes that some connection takes from its entities, each once, in
-    /// byte order of the entity's name and then of the attribute's.
+    /// What each GetData asks of the simulator: the attributes that some connection takes from its entities, each once,
+    /// in byte order of the entity's name and then of the attribute's.
     pub fn wants(&self, sim: SimNo) -> &List<Want>
         requires { sim.0 < length self.now.feeds.items }
         ensures { (P : Plan) → IsStockFor P self.now → result.now ≡ wanted P sim.0 }
@@ -106,8 +106,8 @@ impl Stock {
         }
     }
 
-    /// Takes the outputs of a turn of the simulator that ends, made at `made`. After want of memory the stock says nothing
-    /// any more.
+    /// Takes the outputs of a turn of the simulator that ends, made at `made`. After want of memory the stock says
+    /// nothing any more.
     pub fn take_outputs(&mut self, sim: SimNo, made: Tier, outputs: &Outputs) -> Result<(), Mem>
         requires early { pos 0 ≤ℤ made.time }
         requires late { made.time ≤ℤ pos 1000000000000000000 }

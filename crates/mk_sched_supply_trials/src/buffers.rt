@@ -1,4 +1,4 @@
-// Buffers of two simulators: a counter that feeds a sum.
+//! Buffers of two simulators: a counter that feeds a sum.
 
 use crate::common::{are_lines, at, sum_plan};
 use mk_base::{Datum, Mem, SimNo, Text};

@@ -1,4 +1,4 @@
-// What several tests have in common: two simulators A and B, plans of them, times and trees.
+//! What several tests have in common: two simulators A and B, plans of them, times and trees.
 ghost use Rattle.std.specs.Prelude.{◌≡◌, ◌≤◌, pos, ◌≤ℤ◌, true, IfOk};
 ghost use Rattle.mk_base.specs.Trees.{is_in_range};
 ghost use Rattle.mk_plan.specs.Plans.{IsValidPlan};

@@ -1,4 +1,4 @@
-// Names of a small plan, found and not found.
+//! Names of a small plan, found and not found.
 
 use crate::common::{checked, lending_plan};
 use mk_base::{SimNo, Text};

@@ -1,4 +1,4 @@
-// A stock of two simulators: a counter that feeds a sum.
+//! A stock of two simulators: a counter that feeds a sum.
 ghost use Rattle.std.specs.Prelude.{◌≡◌, ◌<◌, true, IfOk};
 ghost use Rattle.mk_base.specs.Trees.{is_in_range};
 ghost use Rattle.mk_plan.specs.Plans.{IsValidPlan, sim_count};

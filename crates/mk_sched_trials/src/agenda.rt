@@ -1,4 +1,4 @@
-// A run of a small plan, step by step.
+//! A run of a small plan, step by step.
 ghost use Rattle.std.specs.Prelude.{◌≡◌, ◌≤ℤ◌, pos, length, IfOk};
 ghost use Rattle.std.specs.Option.{ForSome};
 ghost use Rattle.mk_plan.specs.Plans.{sim_count};

@@ -1,4 +1,4 @@
-// Bounds of two simulators that trigger one another.
+//! Bounds of two simulators that trigger one another.
 ghost use Rattle.std.specs.Prelude.{◌≡◌, ◌<◌, length, IfOk};
 ghost use Rattle.mk_plan.specs.Plans.{sim_count};
 ghost use Rattle.mk_tiers.specs.Standing.{IsOwn};

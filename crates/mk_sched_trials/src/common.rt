@@ -1,4 +1,4 @@
-// Plans of two simulators A and B with an entity each, of which some connections trigger.
+//! Plans of two simulators A and B with an entity each, of which some connections trigger.
 ghost use Rattle.std.specs.Prelude.{◌≡◌, length, IfOk};
 
 use mk_base::{Mem, SimKind, Via};

@@ -1,4 +1,4 @@
-// A run of two simulators, message by message.
+//! A run of two simulators, message by message.
 ghost use Rattle.std.specs.Prelude.{◌≡◌, true, IfOk};
 ghost use Rattle.mk_sched.specs.Cores.{is_message_in_range};
 

@@ -1,4 +1,4 @@
-// A message judged, the place after it, and what the data give.
+//! A message judged, the place after it, and what the data give.
 ghost use Rattle.std.specs.Prelude.{◌≡◌};
 ghost use Rattle.mk_plan.specs.Turns.{wanted};
 

@@ -1,4 +1,4 @@
-// Messages are copied whole.
+//! Messages are copied whole.
 
 use mk_base::{Json, List, Mem, Text};
 use mk_plan::Message;

@@ -1,4 +1,4 @@
-// Steps added and taken.
+//! Steps added and taken.
 
 use mk_base::{Mem, Tier};
 use mk_nextstep::Queue;

@@ -1,4 +1,4 @@
-// Turns of the simulators of a small plan, entry by entry.
+//! Turns of the simulators of a small plan, entry by entry.
 ghost use Rattle.std.specs.Prelude.{◌≡◌, length, IfOk};
 ghost use Rattle.mk_plan.specs.Plans.{sim_count};
 

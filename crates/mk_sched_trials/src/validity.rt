@@ -1,4 +1,4 @@
-// Plans that fail each part, and how deep texts nest.
+//! Plans that fail each part, and how deep texts nest.
 
 use mk_base::{List, Mem, SimKind, Via};
 use mk_plan::{Plan, PlanSim};

@@ -1,4 +1,4 @@
-// Bytes on a link, as the fakes give them.
+//! Bytes on a link, as the fakes give them.
 use mk_base::{LinkNo, List, Mem};
 use mk_fakes::Chunk;
 use std::alloc::Global;

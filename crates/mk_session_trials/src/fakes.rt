@@ -1,4 +1,4 @@
-// Each call of each fake, right and failing.
+//! Each call of each fake, right and failing.
 ghost use Rattle.std.specs.Prelude.{◌≡◌, [], ◌∷◌, IfOk};
 ghost use Rattle.mk_base.specs.Lists.{IsIn};
 

@@ -1,4 +1,4 @@
-// A session over a fleet in memory, polled as a future too.
+//! A session over a fleet in memory, polled as a future too.
 ghost use Rattle.std.specs.Prelude.{◌≡◌};
 ghost use Rattle.mk_base.specs.Lists.{IsIn};
 

@@ -1,4 +1,4 @@
-// Links take turns.
+//! Links take turns.
 use mk_base::{LinkNo, Mem};
 use mk_poll::Turns;
 use std::alloc::Global;

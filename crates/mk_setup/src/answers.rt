@@ -1,4 +1,4 @@
-// What a setup answers.
+//! What a setup answers.
 use mk_base::SimNo;
 use mk_plan::{Call, Plan};
 

@@ -1,4 +1,4 @@
-// The next request, after its test.
+//! The next request, after its test.
 ghost use Rattle.std.specs.Prelude.{◌≡◌, ◌+◌, ◌<◌, ◌⊎◌, false, length, IfOk, IfErr, OnOk, None, Some};
 ghost use Rattle.mk_setup.specs.Answers.{NextOf};
 ghost use Rattle.mk_setup.specs.Asking.{test_before};

@@ -1,4 +1,4 @@
-// The requests of a handshake.
+//! The requests of a handshake.
 ghost use Rattle.std.specs.Prelude.{◌≡◌, IfOk};
 
 use mk_base::Mem;

@@ -1,4 +1,4 @@
-// How many requests the simulators get.
+//! How many requests the simulators get.
 ghost use Rattle.std.specs.Prelude.{◌≡◌, ℕ, ◌+◌, ◌<◌, ◌^◌, IfOk, Some, length, replicate, slice_get, slice_set};
 ghost use Rattle.mk_scenario.specs.Wellformed.{IsWellformed};
 ghost use Rattle.mk_setup.specs.Requests.{first_ids};

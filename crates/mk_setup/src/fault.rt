@@ -1,4 +1,4 @@
-// Why a handshake makes no plan.
+//! Why a handshake makes no plan.
 ghost use Rattle.std.specs.Prelude.{◌≡◌};
 
 use mk_base::{Mem, SimNo, Text};

@@ -1,4 +1,4 @@
-// The setup of a run: what its simulators have replied so far, and what comes next.
+//! The setup of a run: what its simulators have replied so far, and what comes next.
 ghost use Rattle.std.specs.Prelude.{◌≡◌, IfOk, IfErr, OnOk, Ok};
 ghost use Rattle.mk_scenario.specs.Wellformed.{IsWellformed};
 ghost use Rattle.mk_setup.specs.Answers.{NextOf, GivesNoRequest, IsRefused};

@@ -1,5 +1,5 @@
-//! The handshake with the simulators of a scenario: which request is to be made next, what its reply adds, and at the end the
-//! plan of the run. It knows replies alone, no link.
+//! The handshake with the simulators of a scenario: which request is to be made next, what its reply adds, and at the
+//! end the plan of the run. It knows replies alone, no link.
 #![tactic(auto)]
 
 mod answers;

@@ -1,4 +1,4 @@
-// The plan, once all groups are created.
+//! The plan, once all groups are created.
 ghost use Rattle.std.specs.Prelude.{◌≡◌, ◌+◌, ◌≤◌, IfOk, IfErr, OnOk, None, length};
 ghost use Rattle.mk_connect_pairs.specs.Faults.{IsFaultOf};
 ghost use Rattle.mk_setup.specs.Asking.{plan_of, refusal};

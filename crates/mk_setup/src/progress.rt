@@ -1,4 +1,4 @@
-// What a setup keeps, but for the fault that it has met.
+//! What a setup keeps, but for the fault that it has met.
 ghost use Rattle.std.specs.Prelude.{◌≡◌, ◌+◌, false, length};
 ghost use Rattle.mk_scenario.specs.Wellformed.{IsWellformed};
 ghost use Rattle.mk_setup.specs.inner.Counts.{IsCounted, IsToSim};

@@ -1,4 +1,4 @@
-// A fault that is answered again, and the faults of a setup's parts as its own.
+//! A fault that is answered again, and the faults of a setup's parts as its own.
 ghost use Rattle.std.specs.Prelude.{◌≡◌, ◌≢◌, ◌⊎◌, IfOk, None, Some};
 
 use crate::fault::SetupFault;

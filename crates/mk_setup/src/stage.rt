@@ -1,4 +1,4 @@
-// Which request comes next, by how many were answered.
+//! Which request comes next, by how many were answered.
 ghost use Rattle.std.specs.Prelude.{◌≤◌};
 ghost use Rattle.mk_setup.specs.inner.Stages.{IsStage};
 

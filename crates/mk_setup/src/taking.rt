@@ -1,4 +1,4 @@
-// What a message adds.
+//! What a message adds.
 ghost use Rattle.std.specs.Prelude.{◌≡◌, ◌+◌, ◌<◌, ◌≤◌, true, length, IfErr, OnOk, None, Some, Ok, option_map, slice_get};
 ghost use Rattle.mk_meta.specs.Metadata.{meta_in};
 ghost use Rattle.mk_scenario.specs.declared.parts.Group.{Group};

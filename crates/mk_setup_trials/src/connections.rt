@@ -1,4 +1,4 @@
-// Each kind of connection in a plan.
+//! Each kind of connection in a plan.
 
 use crate::handshake::Said;
 

@@ -1,4 +1,4 @@
-// A handshake as a text: each request, that its reply is waited for, and the plan or the fault at the end.
+//! A handshake as a text: each request, that its reply is waited for, and the plan or the fault at the end.
 ghost use Rattle.std.specs.Prelude.{◌≡◌, true, IfOk, IfSome};
 ghost use Rattle.mk_message.specs.Written.{is_call_in_range};
 ghost use Rattle.mk_scenario.specs.Wellformed.{IsWellformed};

@@ -1,4 +1,4 @@
-// Which requests are made in which order, and replies that nothing asked for.
+//! Which requests are made in which order, and replies that nothing asked for.
 
 use crate::connections::{CONNECTED, PLAN, SAID};
 use crate::handshake::{Said, transcript};

@@ -1,4 +1,4 @@
-// Whether a request has arguments at all.
+//! Whether a request has arguments at all.
 ghost use Rattle.std.specs.Prelude.{◌≡◌};
 ghost use Rattle.mk_simapi.specs.Requests.{is_bare, is_unnamed};
 

@@ -1,4 +1,4 @@
-// The inputs of a step and what is wanted, gathered from an argument.
+//! The inputs of a step and what is wanted, gathered from an argument.
 ghost use Rattle.std.specs.Prelude.{◌≡◌, ◌++◌, ◌∷◌, [], true, IfOk, OnOk};
 ghost use Rattle.mk_base.specs.Texts.{text_of};
 ghost use Rattle.mk_base.specs.Trees.{is_in_range};

@@ -1,4 +1,4 @@
-// A program that is one simulator: it connects to an address, and is served there.
+//! A program that is one simulator: it connects to an address, and is served there.
 ghost use Rattle.std.specs.Prelude.{◌≡◌, ◌↔◌, ℕ, ◌≤◌, [], ◌∷◌, List, Some, None, map, string_bytes, option_map};
 ghost use Rattle.mk_outside.specs.Counts.{HasRisen};
 ghost use Rattle.mk_local.specs.Registries.{rows_in};

@@ -1,4 +1,4 @@
-// What a request asks for, by its function and its arguments.
+//! What a request asks for, by its function and its arguments.
 ghost use Rattle.std.specs.Prelude.{◌≡◌, true, IfOk, IfSome, option_map};
 ghost use Rattle.std.specs.List.{list_all};
 ghost use Rattle.mk_base.specs.Trees.{is_in_range};

@@ -1,4 +1,4 @@
-// A simulator that answers the messages that it hears.
+//! A simulator that answers the messages that it hears.
 ghost use Rattle.std.specs.Prelude.{◌≡◌, true, false, Some, IfOk, IfSome, OnOk};
 ghost use Rattle.std.specs.List.{list_all};
 ghost use Rattle.mk_base.specs.Lists.{IsIn};

@@ -1,4 +1,4 @@
-// How a serving ends.
+//! How a serving ends.
 
 /// Why a simulator is no longer served. `Garbled` has the first test that the payload of the next frame fails, as
 /// `mk_message::read` numbers them, `TooLong` the length that its header gives, and `LongReply` the length in bytes of

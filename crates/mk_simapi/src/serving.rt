@@ -1,4 +1,4 @@
-// A simulator served over a link.
+//! A simulator served over a link.
 ghost use Rattle.std.specs.Prelude.{◌≡◌, ◌≤◌, ◌++◌, [], true, List, Some, None, IfOk};
 ghost use Rattle.mk_base.specs.Lists.{IsIn};
 ghost use Rattle.mk_outside.specs.declared.fleet.LogEntry.{LogEntry};

@@ -1,4 +1,4 @@
-// What bounds keep of each simulator, and how a new start of one changes it.
+//! What bounds keep of each simulator, and how a new start of one changes it.
 ghost use Rattle.std.specs.Prelude.{◌≡◌, ◌<◌, length, slice_set};
 ghost use Rattle.mk_tiers.specs.Standing.{IsOwn};
 ghost use Rattle.mk_tiers.specs.inner.Arcs.{AreKept};

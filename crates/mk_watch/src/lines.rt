@@ -1,4 +1,4 @@
-// The lines of a table.
+//! The lines of a table.
 ghost use Rattle.std.specs.Prelude.{◌≡◌, ◌++◌, codes, OnOk};
 ghost use Rattle.std.specs.Fmt.{signed_decimal};
 ghost use Rattle.mk_plan.specs.Plans.{sim_id};

@@ -1,4 +1,4 @@
-// The rows of a table.
+//! The rows of a table.
 ghost use Rattle.std.specs.Prelude.{◌≡◌};
 ghost use Rattle.mk_watch.specs.Values.{row_of};
 

@@ -1,4 +1,4 @@
-// What each simulator was sent in a journal.
+//! What each simulator was sent in a journal.
 ghost use Rattle.std.specs.Prelude.{◌++◌, ◌∷◌, [], ℕ, List, map, IfOk, OnOk};
 ghost use Rattle.mk_plan.specs.declared.Entry.{Entry};
 ghost use Rattle.mk_plan.specs.declared.Entry.TheVariants as entry;

@@ -1,4 +1,4 @@
-// The tables of watches over a journal.
+//! The tables of watches over a journal.
 ghost use Rattle.std.specs.Prelude.{◌≡◌, ◌<◌, ◌++◌, ℕ, List, length, map, IfOk, OnOk};
 ghost use Rattle.mk_plan.specs.declared.Entry.{Entry};
 ghost use Rattle.mk_plan.specs.Plans.{IsValidPlan, RefersInside, eid_of, full_id, owner, sim_count};

@@ -1,4 +1,4 @@
-// The value of an attribute in the inputs of a Step.
+//! The value of an attribute in the inputs of a Step.
 ghost use Rattle.std.specs.Prelude.{◌≡◌};
 ghost use Rattle.mk_base.specs.Lists.{same_text};
 ghost use Rattle.mk_local.specs.Inputs.{number_in};

@@ -1,4 +1,4 @@
-// Why a text says no watches.
+//! Why a text says no watches.
 ghost use Rattle.std.specs.Prelude.{◌≡◌};
 
 use mk_base::{Mem, Text};

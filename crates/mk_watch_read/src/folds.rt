@@ -1,4 +1,4 @@
-// The values of the folds.
+//! The values of the folds.
 ghost use Rattle.std.specs.Prelude.{◌≡◌};
 ghost use Rattle.mk_watch_read.specs.Folds.{value_of};
 ghost use Rattle.mk_watch_read.specs.declared.rule.Fold.TheVariants as folds;

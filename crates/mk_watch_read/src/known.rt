@@ -1,4 +1,4 @@
-// The keys that may stand in a text of watches.
+//! The keys that may stand in a text of watches.
 ghost use Rattle.std.specs.Prelude.{◌≡◌, option_map};
 ghost use Rattle.mk_scenario_keys.specs.Keys.{first_unknown};
 ghost use Rattle.mk_watch_read.specs.Watches.{keys_of};

@@ -1,4 +1,4 @@
-// A rule: its name, its fold, and its body.
+//! A rule: its name, its fold, and its body.
 ghost use Rattle.std.specs.Prelude.{◌≡◌, ℤ};
 ghost use Rattle.mk_base.specs.Numbers.{FitsIn64};
 ghost use Rattle.mk_watch_read.specs.Folds.{value_of};

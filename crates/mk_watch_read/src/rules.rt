@@ -1,4 +1,4 @@
-// The rules that a program has, by their names.
+//! The rules that a program has, by their names.
 ghost use Rattle.std.specs.Prelude.{◌≡◌, ◌<◌, ◌-◌, ◌^◌, [], ◌∷◌, ◌++◌, false, length, slice_get, OnOk, OnErr};
 ghost use Rattle.mk_base.specs.Lists.{same_text};
 

@@ -1,4 +1,4 @@
-// From a text to the watches that it says.
+//! From a text to the watches that it says.
 ghost use Rattle.std.specs.Prelude.{◌≡◌, IfOk, IfErr, Ok, length, codes};
 ghost use Rattle.mk_plan.specs.declared.Plan.{Plan};
 ghost use Rattle.mk_plan.specs.Plans.{IsValidPlan};

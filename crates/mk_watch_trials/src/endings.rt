@@ -1,4 +1,4 @@
-// Why there are no tables, with the exact lines.
+//! Why there are no tables, with the exact lines.
 
 use crate::records::Recorded;
 use crate::said::Row;

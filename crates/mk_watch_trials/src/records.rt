@@ -1,4 +1,4 @@
-// Records that are watched.
+//! Records that are watched.
 
 /// Which record.
 #[derive(Clone, Copy)]

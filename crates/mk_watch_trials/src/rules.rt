@@ -1,4 +1,4 @@
-// What is tried with the rules, which are made as a program's `main` makes them.
+//! What is tried with the rules, which are made as a program's `main` makes them.
 
 use crate::endings::ENDINGS;
 use crate::said::first_other;

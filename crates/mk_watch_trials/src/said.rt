@@ -1,4 +1,4 @@
-// What is said of a record and a file of watches.
+//! What is said of a record and a file of watches.
 
 use crate::records::{Recorded, text_of};
 use mk_base::Mem;

@@ -1,4 +1,4 @@
-// Tables, with their exact texts.
+//! Tables, with their exact texts.
 
 use crate::records::Recorded;
 use crate::said::Row;

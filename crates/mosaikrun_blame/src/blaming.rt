@@ -1,4 +1,4 @@
-// From two records to the text that says who is to blame for their difference, or why there is none.
+//! From two records to the text that says who is to blame for their difference, or why there is none.
 ghost use Rattle.std.specs.Prelude.{◌≡◌, ℕ, List, None, Result, Ok, Err, All, map, IfOk, IfErr};
 ghost use Rattle.mk_plan.specs.Plans.{IsValidPlan};
 ghost use Rattle.mk_plan.specs.Journals.{arrivals};

@@ -1,4 +1,4 @@
-// From a scenario file's bytes to the text that is printed of it, or why there is none.
+//! From a scenario file's bytes to the text that is printed of it, or why there is none.
 ghost use Rattle.std.specs.Prelude.{◌≡◌, ℕ, ◌<◌, ◌^◌, ◌⊎◌, List, Result, Ok, Err, IfOk, IfErr, OnOk, length, map};
 ghost use Rattle.mk_base.specs.declared.SimNo.{SimNo};
 ghost use Rattle.mk_launch.specs.Ready.{IsPrepared};

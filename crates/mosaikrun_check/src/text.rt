@@ -1,4 +1,4 @@
-// The text that `check` prints.
+//! The text that `check` prints.
 ghost use Rattle.std.specs.Prelude.{◌≡◌, ◌++◌, ◌==◌, ◌<◌, ◌^◌, length, position, IfOk, OnOk};
 ghost use Rattle.mosaikrun_check.specs.CheckText.{check_text, counted, id_at, ids_by_rank, sim_of_rank};
 

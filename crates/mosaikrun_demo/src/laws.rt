@@ -1,4 +1,4 @@
-// Which endings the demo's run doesn't have.
+//! Which endings the demo's run doesn't have.
 ghost use Rattle.std.specs.Prelude.{ℕ, List, Err};
 ghost use Rattle.mosaikrun_endings.specs.declared.ending.Ending.TheVariants as ends;
 ghost use Rattle.mosaikrun_endings.specs.declared.links.LinkFault.{LinkFault};

@@ -1,4 +1,4 @@
-// From a size to the summary of a run of the demo scenario.
+//! From a size to the summary of a run of the demo scenario.
 ghost use Rattle.std.specs.Prelude.{◌≡◌, ◌≤◌, IfOk, IfErr, Ok, Err};
 ghost use Rattle.mk_launch.specs.Starts.{AreNumbered};
 ghost use Rattle.mk_local.specs.Registries.{rows_in};

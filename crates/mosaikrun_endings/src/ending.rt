@@ -1,4 +1,4 @@
-// The endings, and the status of each.
+//! The endings, and the status of each.
 ghost use Rattle.std.specs.Prelude.{◌≡◌};
 
 use crate::links::LinkFault;
@@ -72,8 +72,8 @@ pub enum Ending {
     Differs {
         entry: u32,
     },
-    /// The record is of another plan than the one that it is compared with: this part of it, counted from 1, is the first that
-    /// differs.
+    /// The record is of another plan than the one that it is compared with: this part of it, counted from 1, is the
+    /// first that differs.
     OtherPlan {
         part: u8,
     },
@@ -82,7 +82,8 @@ pub enum Ending {
         sim: Text,
         place: u64,
     },
-    /// A simulator's step at this time was to be asked for so many milliseconds after its moment, more than are allowed.
+    /// A simulator's step at this time was to be asked for so many milliseconds after its moment, more than are
+    /// allowed.
     Late {
         sim: Text,
         time: i64,

@@ -1,4 +1,4 @@
-// What is said of a simulator that can't be begun.
+//! What is said of a simulator that can't be begun.
 ghost use Rattle.std.specs.Prelude.{◌≡◌, [], ◌++◌, OnOk};
 ghost use Rattle.mosaikrun_endings.specs.Launches.{text_of_launch};
 

@@ -1,4 +1,5 @@
-//! How the program ends otherwise than with the text that a command prints: by one ending, with its status and its line.
+//! How the program ends otherwise than with the text that a command prints: by one ending, with its status and its
+//! line.
 #![tactic(auto)]
 
 mod ending;

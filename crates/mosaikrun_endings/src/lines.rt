@@ -1,4 +1,4 @@
-// The line that is written of an ending.
+//! The line that is written of an ending.
 ghost use Rattle.std.specs.Prelude.{◌≡◌, [], ◌++◌, IfOk, OnOk, flat_map, ◌∷◌, codes};
 ghost use Rattle.std.specs.Fmt.{decimal, signed_decimal};
 ghost use Rattle.mosaikrun_endings.specs.Endings.{line_of, text_of, unbroken};

@@ -1,4 +1,4 @@
-// What is said of a link that ended, or on which no message came.
+//! What is said of a link that ended, or on which no message came.
 ghost use Rattle.std.specs.Prelude.{◌≡◌, [], OnOk};
 ghost use Rattle.mosaikrun_endings.specs.Links.{text_of_link};
 

@@ -1,4 +1,4 @@
-// What is said of a file that is no scenario.
+//! What is said of a file that is no scenario.
 ghost use Rattle.std.specs.Prelude.{◌≡◌, [], OnOk};
 ghost use Rattle.mosaikrun_endings.specs.Scenarios.{text_of_scenario};
 

@@ -1,4 +1,4 @@
-// What is said where no plan can be made.
+//! What is said where no plan can be made.
 ghost use Rattle.std.specs.Prelude.{◌≡◌, [], ◌++◌, OnOk};
 ghost use Rattle.std.specs.Fmt.{decimal};
 ghost use Rattle.mosaikrun_endings.specs.Setups.{spaced, text_of_connect, text_of_create, text_of_meta, text_of_setup};
@@ -10,7 +10,8 @@ use mk_entities::CreateFault;
 use mk_meta::MetaFault;
 use std::alloc::{AllocError, Global};
 
-/// Why what simulators said before a run, and what the scenario connects, makes no plan. A simulator is named by its id.
+/// Why what simulators said before a run, and what the scenario connects, makes no plan. A simulator is named by its
+/// id.
 #[derive(Drop)]
 pub enum SetupEnding {
     /// A simulator's reply to `init` has no metadata.

@@ -1,4 +1,4 @@
-// What is said of a file that says no watches.
+//! What is said of a file that says no watches.
 ghost use Rattle.std.specs.Prelude.{◌≡◌, [], OnOk};
 ghost use Rattle.mosaikrun_endings.specs.Watches.{text_of_watches};
 

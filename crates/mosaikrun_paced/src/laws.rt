@@ -1,4 +1,4 @@
-// What holds of the text and of the record of every paced run.
+//! What holds of the text and of the record of every paced run.
 ghost use Rattle.mosaikrun_paced.specs.Laws.{PacedRecordsAreThere, PacedTextsAreSequential, PacesAreOneText};
 
 use mk_pace::paces_are_right;

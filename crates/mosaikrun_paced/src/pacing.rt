@@ -1,4 +1,4 @@
-// From the bytes of a scenario's file to the text and the record of its paced run.
+//! From the bytes of a scenario's file to the text and the record of its paced run.
 ghost use Rattle.std.specs.Prelude.{◌≡◌, ◌≤◌, ◌⊎◌, List, IfOk, IfErr, IfSome, IsSome, Ok, Err, None, map, option_map, true};
 ghost use Rattle.std.specs.List.{list_all};
 ghost use Rattle.mk_outside.specs.declared.fleet.LogEntry.{LogEntry};

@@ -1,4 +1,4 @@
-// A counter that replies to steps before they are sent: all is done then, and these steps are never said.
+//! A counter that replies to steps before they are sent: all is done then, and these steps are never said.
 
 use crate::pacing::{Clock, comes_to, ticking};
 use mk_base::{LinkNo, List, Mem};

@@ -1,5 +1,5 @@
-//! Runs whose steps wait for a clock in memory: what is said on the links and when, what is printed and recorded, and what waits
-//! meanwhile. The crate has tests alone.
+//! Runs whose steps wait for a clock in memory: what is said on the links and when, what is printed and recorded, and
+//! what waits meanwhile. The crate has tests alone.
 #![tactic(auto)]
 
 #[cfg(test)]

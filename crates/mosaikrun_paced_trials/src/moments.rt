@@ -1,4 +1,4 @@
-// The moments of the counter's steps, and what the clock told when each was sent.
+//! The moments of the counter's steps, and what the clock told when each was sent.
 ghost use Rattle.std.specs.Prelude.{map};
 ghost use Rattle.mk_local.specs.Kinds.{name_of};
 ghost use Rattle.mk_local.specs.Registries.{rows_in};

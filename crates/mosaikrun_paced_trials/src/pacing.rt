@@ -1,4 +1,4 @@
-// A paced run over a fleet in memory, and what it comes to.
+//! A paced run over a fleet in memory, and what it comes to.
 ghost use Rattle.std.specs.Prelude.{◌≤◌, IfSome};
 
 use mk_base::{List, Mem};
@@ -84,8 +84,8 @@ fn is_told_of<R: Wait>(
     right
 }
 
-/// Whether the paced run of the counter over the fleet comes to this text and this record, no kind being there; if it is strict, no
-/// step may be late.
+/// Whether the paced run of the counter over the fleet comes to this text and this record, no kind being there; if it
+/// is strict, no step may be late.
 pub fn comes_to<R: Wait>(
     rt: &R,
     alloc: Global,

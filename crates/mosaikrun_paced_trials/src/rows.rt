@@ -1,4 +1,4 @@
-// The counter's run by clocks that go on by themselves or by its naps alone, with and without an allowance.
+//! The counter's run by clocks that go on by themselves or by its naps alone, with and without an allowance.
 
 use crate::pacing::{Clock, comes_to, ticking};
 use mk_base::Mem;

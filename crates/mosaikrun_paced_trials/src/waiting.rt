@@ -1,4 +1,4 @@
-// What waits of three simulators, and which Step of theirs is to be sent first.
+//! What waits of three simulators, and which Step of theirs is to be sent first.
 ghost use Rattle.std.specs.Prelude.{◌≡◌, length, IfOk};
 
 use mk_base::{Mem, SimNo, Tier};

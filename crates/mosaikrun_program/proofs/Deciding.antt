@@ -1,4 +1,5 @@
--- The status of a command on files is that of what comes of them, and of a file that isn't there it is 3.
+-- The status of a command on files is that of what comes of them, and of a file that isn't there it
+-- is 3.
 use Rattle.std.proofs.Common.{◌≡◌, ℕ, ◌<◌, ◌⊎◌, inl, inr, sym, ap, ◌∙◌, subst, arith, List, length, map, Option, None, Some, Result, Ok, Err}
 use Rattle.std.specs.Prelude.{IfSome}
 use Rattle.mk_base.proofs.Lists.{some_same}
@@ -44,7 +45,8 @@ said_status wanted why e (inl same) is = elim (is_memory why) [
   | inr other ↦ inl (ap status_of same ∙ is other)
 ]
 
--- the status of an answer is that of the text, or that of a failed output or folder, or of want of memory
+-- the status of an answer is that of the text, or that of a failed output or folder, or of want of
+-- memory
 text_status : (wanted : ℕ) (S : Around) (target : Option (List ℕ)) (text : Result (List ℕ) Ending) (r : Result (Unit {0}) Ending) → TextAnswer S target text r → ((text ≡ Err Mem → ⊥) → outcome_status text ≡ wanted) → IsStatusOr wanted (status r)
 text_status wanted S None (Ok t) (Ok done) said is = inl (is (λ w. cc))
 text_status wanted S (Some name) (Ok t) (Ok done) said is = inl (is (λ w. cc))

@@ -1,4 +1,5 @@
--- A run that goes on, and in which nothing goes wrong, comes to its end, and one whose scenario or record is refused has the status 3.
+-- A run that goes on, and in which nothing goes wrong, comes to its end, and one whose scenario or
+-- record is refused has the status 3.
 use Rattle.std.proofs.Common.{◌≡◌, ℕ, ◌≤◌, ◌⊎◌, inl, inr, refl, sym, ap, ◌∙◌, subst, List, [], ◌∷◌, length, map, Option, None, Some, Result, Ok, Err}
 use Rattle.std.specs.Prelude.{IfSome, is_some}
 use Rattle.mk_base.proofs.Lists.{some_same}

@@ -1,4 +1,5 @@
--- A run in which nothing goes wrong comes to its end, and one of a scenario that is refused has the status 3.
+-- A run in which nothing goes wrong comes to its end, and one of a scenario that is refused has the
+-- status 3.
 use Rattle.std.proofs.Common.{◌≡◌, ℕ, ◌≤◌, ◌⊎◌, inl, inr, refl, sym, ap, ◌∙◌, subst, List, [], ◌∷◌, length, map, Option, None, Some, Result, Ok, Err}
 use Rattle.std.specs.Prelude.{IfSome, is_some}
 use Rattle.mk_outside.specs.Counts.{HasRisen}

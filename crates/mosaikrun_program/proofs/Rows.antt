@@ -1,4 +1,5 @@
--- What holds of each command on files, and of each that is done over a fleet: one line, or a few, a command.
+-- What holds of each command on files, and of each that is done over a fleet: one line, or a few, a
+-- command.
 use Rattle.std.proofs.Common.{◌≡◌, ℕ, ◌<◌, ◌≤◌, ◌⊎◌, inl, inr, refl, sym, ap, ◌∙◌, subst, arith, List, [], ◌∷◌, map, length, Option, None, Some, Result, Err}
 use Rattle.std.specs.Prelude.{is_some}
 use Rattle.mk_base.proofs.Lists.{some_same}
@@ -186,8 +187,8 @@ row_of kinds rules (Pair Blame one other) = two_row _ (λ first second o p a b m
     never first second (inr (inr (inr (inl stopped)))) = stopped_not_usage second None stopped.stopped
     never first second (inr (inr (inr (inr other)))) = let is = other.is in cc
 
--- what comes of a request over a fleet: the file that comes next is there as well, and it never says that
--- the words are none
+-- what comes of a request over a fleet: the file that comes next is there as well, and it never
+-- says that the words are none
 pub record IsRowOver (O : Outside) (R : Request) : Type 0 where
   pub next : (held : Files) (read before : List (List ℕ)) (name : List ℕ) (text : Result (List ℕ) Ending) (kept : Option (List ℕ)) → AreHeld (Some held) (files_of R) read → AreHeld (Some held) (files_of R) before → IsReadOn (IsAccepted (map name_of O.kinds) R) before → IsOutcomeOver O R read text kept → IsNext (files_of R) before name → IsThere held name
   pub never : (read : List (List ℕ)) (text : Result (List ℕ) Ending) (kept : Option (List ℕ)) → IsOutcomeOver O R read text kept → text ≡ Err Usage → ⊥

@@ -1,4 +1,4 @@
-// The commands on files: what each makes of the files that it reads.
+//! The commands on files: what each makes of the files that it reads.
 ghost use Rattle.std.specs.Prelude.{◌≡◌, ◌∷◌, [], ◌≤◌, ◌⊎◌, List, Ok, Err, IfOk, IfErr, map, option_map};
 ghost use Rattle.mk_local.specs.declared.turn.Turn.{Turn};
 ghost use Rattle.mk_local.specs.Kinds.{name_of};

@@ -1,4 +1,4 @@
-// What becomes of a text and of a record: they are printed and saved, or it is said why not.
+//! What becomes of a text and of a record: they are printed and saved, or it is said why not.
 ghost use Rattle.std.specs.Prelude.{◌≡◌, ◌≤◌, ◌⊎◌, IsSome, Ok, Err, IfOk, IfErr, option_map};
 ghost use Rattle.mk_outside.specs.Counts.{HasRisen};
 ghost use Rattle.mosaikrun_program.specs.Answers.{PrintAnswer};

@@ -1,4 +1,4 @@
-// The top call: all that the program does, over a folder, a fleet and two sinks.
+//! The top call: all that the program does, over a folder, a fleet and two sinks.
 ghost use Rattle.std.specs.Prelude.{◌≡◌, ℕ, ◌≤◌, ◌⊎◌, List, Some, Result, Err, IfSome, IsSome, IfOk, IfErr, OnOk, OnErr, map, option_map};
 ghost use Rattle.std.specs.String.{string_bytes};
 ghost use Rattle.mk_outside.specs.Counts.{HasRisen};

@@ -1,4 +1,4 @@
-// A call of the program, over a fleet to which no simulator connects or another one.
+//! A call of the program, over a fleet to which no simulator connects or another one.
 
 use mk_base::{List, Mem};
 use mk_fakes::{MemFolder, PlainFleet};
@@ -17,7 +17,8 @@ fn owned(alloc: Global, words: &[&str]) -> Result<Vec<String>, Mem> {
     Ok(copies)
 }
 
-/// The status of the call with these words, by a program without rules of tables, over a fleet whose clock stands still.
+/// The status of the call with these words, by a program without rules of tables, over a fleet whose clock stands
+/// still.
 pub fn status_of<R: Wait, D: Folder, K: Sink, E: Sink>(
     rt: &R,
     alloc: Global,

@@ -1,4 +1,4 @@
-// Calls of the program in which one call of the folder or of an output fails.
+//! Calls of the program in which one call of the folder or of an output fails.
 
 use crate::calls::{is_saved, status_over};
 use crate::files::{RECORD, SAVED, SUM_RECORD, SUM_STEPS, THREE_STEPS, WITHIN};

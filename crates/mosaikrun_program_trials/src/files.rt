@@ -1,4 +1,4 @@
-// The files that the program is called on, and what it prints and saves of them.
+//! The files that the program is called on, and what it prints and saves of them.
 
 /// A counter by itself, as a kind within the program.
 pub const WITHIN: &str =

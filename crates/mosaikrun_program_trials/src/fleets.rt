@@ -1,4 +1,4 @@
-// Calls of the program that run a counter over a fleet of which one call fails.
+//! Calls of the program that run a counter over a fleet of which one call fails.
 
 use crate::calls::status_over;
 use crate::files::{SAVED, THREE_STEPS};
@@ -87,8 +87,8 @@ fn is_right<R: Wait>(
     }
 }
 
-// How many calls of a run to which nothing fails there are before the last message has come. Before those that are logged there
-// are one that listens and one that starts.
+// How many calls of a run to which nothing fails there are before the last message has come. Before those that are
+// logged there are one that listens and one that starts.
 fn calls_before(log: &[LogEntry]) -> u64 {
     let mut all: u64 = 2;
     let mut before: u64 = 2;

@@ -1,4 +1,4 @@
-// What is tried with a kind of simulators within the program, which is made as the program's `main` makes it.
+//! What is tried with a kind of simulators within the program, which is made as the program's `main` makes it.
 
 use crate::failing::first_wrong;
 use crate::pacing::first_wrong_pace;
@@ -8,8 +8,8 @@ use mk_local::{EntityStep, Kind, Registry, Turn, counter_turn};
 use std::alloc::Global;
 use std::sync::Wait;
 
-// Whether a run's record is saved and replayed; which row of the calls that fail isn't as it says, if one isn't; and which of those by
-// a clock.
+// Whether a run's record is saved and replayed; which row of the calls that fail isn't as it says, if one isn't; and
+// which of those by a clock.
 type Right = (bool, Option<usize>, Option<usize>);
 
 fn are_right<R: Wait>(rt: &R, alloc: Global, kinds: &Registry) -> Result<Right, Mem> {

@@ -1,5 +1,5 @@
-//! Calls of the program over a folder, sinks and a fleet in memory: what the stored cases, which run the built program, can't do.
-//! The crate has tests alone.
+//! Calls of the program over a folder, sinks and a fleet in memory: what the stored cases, which run the built program,
+//! can't do. The crate has tests alone.
 #![tactic(auto)]
 
 #[cfg(test)]

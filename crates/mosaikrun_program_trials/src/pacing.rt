@@ -1,4 +1,4 @@
-// Calls of the program that run a scenario by a clock in memory.
+//! Calls of the program that run a scenario by a clock in memory.
 
 use crate::calls::{is_saved, status_by_clock};
 use crate::files::{LATE, SAVED, THREE_STEPS, WITHIN};

@@ -1,4 +1,4 @@
-// A report that is put to an output in pieces of each size.
+//! A report that is put to an output in pieces of each size.
 
 use crate::calls::status_of;
 use crate::files::{RECORD, THREE_STEPS};

@@ -1,4 +1,4 @@
-// A run that saves its record, and the replay of what it saved.
+//! A run that saves its record, and the replay of what it saved.
 
 use crate::calls::status_of;
 use crate::files::{THREE_STEPS, WITHIN};

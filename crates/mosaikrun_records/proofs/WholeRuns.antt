@@ -41,7 +41,8 @@ got_is [] i = refl
 got_is (Sent s item ∷ J) i = got_is J i
 got_is (Got s m ∷ J) i = one_more (s.0 == i) (record { sim = s.0; message = m }) _ _ (got_is J i)
 
--- a replay that ends with all done is one of messages that ends so, and whose entries are those of the record
+-- a replay that ends with all done is one of messages that ends so, and whose entries are those of
+-- the record
 done_ends : (e : ReplayEnd) (other : Option ℕ) → Done ≡ end_with e other → (e ≡ Done) × (other ≡ None)
 done_ends Done None is = (refl, refl)
 done_ends Done (Some n) is = cc
@@ -57,7 +58,8 @@ done_by P A steps None J end r done =
     (r.0, subst (λ (n : Option ℕ). IsOther A steps J n) so.1 r.1.compared, subst (λ e. EndsBy P A J e) so.0 r.1.ends)
 done_by P A steps (Some N) J end r done = subst (IsReplayInOrder P A N J) done r
 
--- where all messages were given in some order, each simulator was sent what sequential execution over the messages sends it
+-- where all messages were given in some order, each simulator was sent what sequential execution
+-- over the messages sends it
 record IsAllSent (P : Plan) (A : List Arrival) (J : List Entry) : Type 0 where
   heard : got J ≡ messages_from A
   finished : IsFinished P J
@@ -75,7 +77,8 @@ all_sent : (P : Plan) (A : List Arrival) (steps : Option (List Asked)) (order : 
 all_sent P A steps None J done = whole_sent P A A J (λ i. refl) done.2
 all_sent P A steps (Some N) J done = whole_sent P A done.order J done.same done.ends
 
--- the report of a replay that ends with all done is that of the sequential execution of its plan over the messages that came
+-- the report of a replay that ends with all done is that of the sequential execution of its plan
+-- over the messages that came
 pub report_done : (bytes text : List ℕ) (P Q : Plan) (A : List Arrival) (steps : Option (List Asked)) (order : Option ℕ) (J : List Entry)
     → reading bytes ≡ Said P A steps → IsValidPlan P → Q ≡ P → IsDoneBy P A steps order J → text ≡ report Q (sent J) → IsReportOf bytes order text
 report_done bytes text P Q A steps order J read valid same by reported =

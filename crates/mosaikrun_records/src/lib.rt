@@ -1,6 +1,6 @@
-//! The commands on records: `replay`, a record is read and replayed, and its report is written; `migrate`, the record of that
-//! replay is written. And what the other commands on records begin with: a record is read (`saved_of`), and replayed until all
-//! is done (`finished`).
+//! The commands on records: `replay`, a record is read and replayed, and its report is written; `migrate`, the record
+//! of that replay is written. And what the other commands on records begin with: a record is read (`saved_of`), and
+//! replayed until all is done (`finished`).
 #![tactic(auto)]
 
 mod migrating;

@@ -1,4 +1,4 @@
-// From a record's bytes to the record of its replay, or why there is none.
+//! From a record's bytes to the record of its replay, or why there is none.
 ghost use Rattle.std.specs.Prelude.{◌≡◌, ◌==◌, ℕ, List, Result, true, false, length, Err, IfOk, IfErr, if◌then◌else◌};
 ghost use Rattle.std.specs.List.{list_all};
 ghost use Rattle.mk_plan.specs.Journals.{arrivals};
@@ -84,8 +84,8 @@ fn is_message(entry: &Entry) -> bool
     }
 }
 
-/// One record has one migration, want of memory aside: two texts or endings that `migrate` may make of the same bytes are the
-/// same.
+/// One record has one migration, want of memory aside: two texts or endings that `migrate` may make of the same bytes
+/// are the same.
 pub fn record_has_one_migration()
     ensures { (bytes : List ℕ) → (o : Result (List ℕ) Ending) → (p : Result (List ℕ) Ending)
         → IsMigration bytes o → IsMigration bytes p → (o ≡ Err ends.Mem → ⊥)

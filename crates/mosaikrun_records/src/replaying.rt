@@ -1,4 +1,4 @@
-// From a record's bytes to its report, or why there is none.
+//! From a record's bytes to its report, or why there is none.
 ghost use Rattle.std.specs.Prelude.{◌≡◌, ℕ, List, Option, Result, Err, IfOk, IfErr};
 ghost use Rattle.mosaikrun_endings.specs.declared.ending.Ending.{Ending};
 ghost use Rattle.mosaikrun_endings.specs.declared.ending.Ending.TheVariants as ends;
@@ -20,8 +20,9 @@ pub fn reported(alloc: Global, bytes: &[u8], order: Option<u32>) -> Result<Vec<u
     Ok(write_report(alloc, &replayed.plan, &replayed.journal)?)
 }
 
-/// One record has one outcome in each order, want of memory aside: two texts or endings that `replay` may answer of the same
-/// bytes in the same order are the same. And it has one report: two texts that it may answer are the same, whatever the orders.
+/// One record has one outcome in each order, want of memory aside: two texts or endings that `replay` may answer of the
+/// same bytes in the same order are the same. And it has one report: two texts that it may answer are the same,
+/// whatever the orders.
 pub fn record_has_one_outcome()
     ensures outcome { (bytes : List ℕ) → (order : Option ℕ) → (o : Result (List ℕ) Ending)
         → (p : Result (List ℕ) Ending)

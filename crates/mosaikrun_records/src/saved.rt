@@ -1,4 +1,4 @@
-// What all commands on records do first: a record's bytes are read, and the record is replayed.
+//! What all commands on records do first: a record's bytes are read, and the record is replayed.
 ghost use Rattle.std.specs.Prelude.{◌≡◌, ℕ, List, All, map, IfOk, IfErr, OnOk};
 ghost use Rattle.mk_plan.specs.Plans.{IsValidPlan};
 ghost use Rattle.mk_record.specs.Reading.{reading, Said};

@@ -1,4 +1,4 @@
-// What holds of the text of every resumed run.
+//! What holds of the text of every resumed run.
 ghost use Rattle.mosaikrun_resume.specs.Laws.{ResumedTextsAreSequential, SameMessagesAreOneText};
 
 /// The report of a resumed run is that of what sequential execution sends, over the messages of its journal and

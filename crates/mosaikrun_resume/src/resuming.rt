@@ -1,4 +1,4 @@
-// From the bytes of a scenario's file and of a record to the text and the record of the run that goes on.
+//! From the bytes of a scenario's file and of a record to the text and the record of the run that goes on.
 ghost use Rattle.std.specs.Prelude.{◌≡◌, ◌≤◌, ◌⊎◌, All, IfOk, IfErr, IfSome, Ok, Err, None, map, option_map, true, false};
 ghost use Rattle.std.specs.List.{list_all};
 ghost use Rattle.mk_launch.specs.Starts.{AreNumbered};

@@ -1,4 +1,4 @@
-// What is said of how a resumed run ended.
+//! What is said of how a resumed run ended.
 ghost use Rattle.std.specs.Prelude.{◌≡◌, [], IfOk, IfErr, Ok, Err};
 ghost use Rattle.mk_plan.specs.declared.Plan.{Plan};
 ghost use Rattle.mk_run_crew.specs.declared.halt.Halt.{Halt};

@@ -1,4 +1,4 @@
-// Two counters over links, of which one is still behind while the other has caught up and goes on.
+//! Two counters over links, of which one is still behind while the other has caught up and goes on.
 
 use crate::going::told;
 use mk_base::{List, Mem};
@@ -84,8 +84,8 @@ got [1,[1,5,3]]
 end 12
 "#;
 
-// When the reply of this place comes on the link: once its request was said there; but the first message that B-0 has to send again
-// only once all was said to A-0.
+// When the reply of this place comes on the link: once its request was said there; but the first message that B-0 has
+// to send again only once all was said to A-0.
 fn when(link: u32, place: usize) -> When {
     if link == 1 && place == 3 {
         return When {

@@ -1,4 +1,5 @@
-// A counter over a link, which was stepped twice when its run was cut short: what the run comes to that goes on from its record.
+//! A counter over a link, which was stepped twice when its run was cut short: what the run comes to that goes on from
+//! its record.
 
 use crate::going::told;
 use mk_base::{LinkNo, List, Mem};

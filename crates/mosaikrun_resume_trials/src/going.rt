@@ -1,4 +1,4 @@
-// A run that goes on from a record over a fleet in memory, and what it comes to.
+//! A run that goes on from a record over a fleet in memory, and what it comes to.
 ghost use Rattle.std.specs.Prelude.{◌≡◌, map};
 ghost use Rattle.mk_local.specs.Kinds.{name_of};
 ghost use Rattle.mk_local.specs.Registries.{rows_in};

@@ -1,4 +1,5 @@
--- Two runs of a scenario whose simulators are all within the program say the same, and so do two whose simulators answer alike.
+-- Two runs of a scenario whose simulators are all within the program say the same, and so do two
+-- whose simulators answer alike.
 use Rattle.std.proofs.Common.{◌≡◌, inl, inr, ℕ, zero, suc, ◌+◌, ◌<◌, ◌≤◌, Bool, true, false, List, [], ◌∷◌, ◌++◌, length, take, map, slice_get, Option, Some, Result, Ok, refl, sym, ap, ◌∙◌, subst, arith}
 use Rattle.std.proofs.Math.Path.{fun_ext}
 use Rattle.std.proofs.lemmas.List.{take_all}

@@ -1,4 +1,4 @@
-// What holds of the text and of the record of every run.
+//! What holds of the text and of the record of every run.
 ghost use Rattle.mosaikrun_run.specs.Laws.{AlikeIsOneText, RecordsAreThere, TextsAreSequential, WithinIsOneText};
 
 use mk_run::kinds_fit;

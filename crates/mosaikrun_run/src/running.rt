@@ -1,4 +1,4 @@
-// From a scenario, or a file's bytes, to the text and the record of its run.
+//! From a scenario, or a file's bytes, to the text and the record of its run.
 ghost use Rattle.std.specs.Prelude.{◌≡◌, ◌≤◌, ◌⊎◌, IfOk, IfErr, IfSome, Some, None, Ok, Err, map, option_map, true};
 ghost use Rattle.std.specs.List.{list_all};
 ghost use Rattle.mk_scenario.specs.declared.parts.Scenario.{Scenario};

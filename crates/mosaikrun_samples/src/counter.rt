@@ -1,4 +1,4 @@
-// A counter over a link, stepped three times: its scenario, what is said on its link, and what its run comes to.
+//! A counter over a link, stepped three times: its scenario, what is said on its link, and what its run comes to.
 
 use crate::scripts::{Exchange, push_frame, requests_of};
 use mk_base::Mem;

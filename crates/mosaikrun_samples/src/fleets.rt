@@ -1,4 +1,4 @@
-// A fleet in memory, and what was said on its links.
+//! A fleet in memory, and what was said on its links.
 
 use mk_base::{LinkNo, List, Mem};
 use mk_fakes::{Chunk, LogEntry, MemFleet};

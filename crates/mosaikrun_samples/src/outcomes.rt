@@ -1,4 +1,4 @@
-// What a run comes to as a text: the status, what is printed, and the record.
+//! What a run comes to as a text: the status, what is printed, and the record.
 
 use mk_base::Mem;
 use mosaikrun_endings::Ending;

@@ -1,4 +1,4 @@
-// How many rows of a table of tests are right.
+//! How many rows of a table of tests are right.
 
 use mk_base::Mem;
 

@@ -1,4 +1,4 @@
-// What simulators say over links in memory, and when.
+//! What simulators say over links in memory, and when.
 
 use mk_base::{LinkNo, List, Mem};
 use mk_fakes::Chunk;

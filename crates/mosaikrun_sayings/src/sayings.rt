@@ -1,4 +1,4 @@
-// What is said of a fault of the handshake, by the ids of a scenario's simulators.
+//! What is said of a fault of the handshake, by the ids of a scenario's simulators.
 ghost use Rattle.std.specs.Prelude.{◌≡◌, IfOk};
 ghost use Rattle.mosaikrun_sayings.specs.Sayings.{id_in, ids_of, setup_ending};
 

@@ -1,4 +1,4 @@
-// What is said of a fault of the core, by which a replay or a run ended.
+//! What is said of a fault of the core, by which a replay or a run ended.
 ghost use Rattle.std.specs.Prelude.{◌≡◌, IfOk};
 ghost use Rattle.mk_plan.specs.Plans.{sim_id};
 ghost use Rattle.mosaikrun_sayings.specs.Stops.{failure_in, last_failure, stop_of};

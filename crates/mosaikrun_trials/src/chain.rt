@@ -1,4 +1,4 @@
-// A run of simulators within the program alone: a counter at the head of a long chain.
+//! A run of simulators within the program alone: a counter at the head of a long chain.
 
 use crate::within::journal_within;
 use mk_base::Mem;
@@ -71,7 +71,8 @@ fn entries_within(alloc: Global, kinds: &Registry, text: &str) -> usize {
     }
 }
 
-/// Whether all of them are done, each with as many turns as there are times: four entries a turn, and two of the last relay.
+/// Whether all of them are done, each with as many turns as there are times: four entries a turn, and two of the last
+/// relay.
 pub fn is_long_chain_run(alloc: Global, kinds: &Registry) -> Result<bool, Mem> {
     let text = chain(alloc)?;
     Ok(entries_within(alloc, kinds, text.as_str()) == 159_600)

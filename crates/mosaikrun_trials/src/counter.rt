@@ -1,5 +1,5 @@
-// A counter over a link, stepped three times: what is said to it byte for byte, however its replies and the writes are
-// cut.
+//! A counter over a link, stepped three times: what is said to it byte for byte, however its replies and the writes are
+//! cut.
 
 use crate::runs::told_alone;
 use mk_base::{LinkNo, List, Mem};
@@ -34,9 +34,9 @@ fn is_said(alloc: Global, fleet: &MemFleet, said: &[u8]) -> Result<bool, Mem> {
     Ok(heard.as_slice() == said)
 }
 
-// Of how many bytes the pieces are in which replies come, how many bytes are taken at a time, at each which write none are, and
-// whether the stop is said. Where none are taken at each second write, the last write of the last request takes the place of an
-// odd number, so the first one of the stop takes nothing.
+// Of how many bytes the pieces are in which replies come, how many bytes are taken at a time, at each which write none
+// are, and whether the stop is said. Where none are taken at each second write, the last write of the last request
+// takes the place of an odd number, so the first one of the stop takes nothing.
 type Way = (usize, usize, u64, bool);
 
 const WAYS: [Way; 4] = [

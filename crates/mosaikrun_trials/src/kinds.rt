@@ -1,4 +1,4 @@
-// What is tried with kinds of simulators within the program, which are made as a program's `main` makes them.
+//! What is tried with kinds of simulators within the program, which are made as a program's `main` makes them.
 
 use crate::chain::is_long_chain_run;
 use crate::orders::is_study_one;
@@ -11,8 +11,8 @@ use mk_local::{
 use std::alloc::Global;
 use std::sync::Wait;
 
-// Whether a counter that is stepped three times and stopped replies as it must; whether a long chain is run to its end; and
-// whether a study has one text over links, in each order of replies, and within the program.
+// Whether a counter that is stepped three times and stopped replies as it must; whether a long chain is run to its end;
+// and whether a study has one text over links, in each order of replies, and within the program.
 type Right = (bool, bool, bool);
 
 fn are_right<R: Wait>(rt: &R, alloc: Global, kinds: &Registry) -> Result<Right, Mem> {

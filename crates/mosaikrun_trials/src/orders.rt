@@ -1,4 +1,4 @@
-// The household study over links whose simulators answer in different orders, beside the same run within the program.
+//! The household study over links whose simulators answer in different orders, beside the same run within the program.
 
 use crate::runs::told;
 use crate::talks::{Hold, Part, Talk, replies_in, talks_of};
@@ -9,7 +9,8 @@ use mosaikrun_samples::{Outcome, willing};
 use std::alloc::Global;
 use std::sync::Wait;
 
-// The household study: forty households and a photovoltaic plant at a grid, a battery and its controller, and a collector.
+// The household study: forty households and a photovoltaic plant at a grid, a battery and its controller, and a
+// collector.
 const STUDY: [Part; 6] = [
     Part {
         table: "[[sim]]\nname = \"House\"\n",
@@ -125,7 +126,8 @@ attrs = [["soc", "in"]]
 // How the report of the study ends.
 const STUDY_END: &str = "\nstep 95:0 {\"0\":{\"in\":{\"Grid-0.0\":3847}}}\nend 320\n";
 
-// All as soon as they are asked; the households after the whole of the plant; the plant and the battery after the households.
+// All as soon as they are asked; the households after the whole of the plant; the plant and the battery after the
+// households.
 const STUDY_ORDERS: [&[Hold]; 3] = [
     &[],
     &[Hold {

@@ -1,4 +1,4 @@
-// A run over a fleet in memory, and what it comes to.
+//! A run over a fleet in memory, and what it comes to.
 
 use mk_base::Mem;
 use mk_local::Registry;

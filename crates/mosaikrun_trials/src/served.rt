@@ -1,4 +1,4 @@
-// What a child of one of the kinds says on its link, as it is served there.
+//! What a child of one of the kinds says on its link, as it is served there.
 
 use mk_base::{LinkNo, List, Mem};
 use mk_fakes::{Chunk, MemFleet};

@@ -1,4 +1,4 @@
-// What children say on their links in the whole of a run, and when it comes.
+//! What children say on their links in the whole of a run, and when it comes.
 
 use crate::served::replies_to;
 use mk_base::{List, Mem, SimNo};
@@ -10,7 +10,8 @@ use mosaikrun_samples::{STOP, When, frames_of, push_chunk, push_frame};
 use std::alloc::Global;
 use std::sync::Wait;
 
-/// A simulator of one of the kinds: its table in the scenario but for how it is begun, and what is said to it before the run.
+/// A simulator of one of the kinds: its table in the scenario but for how it is begun, and what is said to it before
+/// the run.
 pub struct Part {
     pub table: &'static str,
     pub kind: &'static str,

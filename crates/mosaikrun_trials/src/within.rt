@@ -1,4 +1,4 @@
-// A run of simulators within the program alone.
+//! A run of simulators within the program alone.
 ghost use Rattle.std.specs.Prelude.{IfSome, map};
 ghost use Rattle.mk_scenario.specs.Wellformed.{IsWellformed};
 ghost use Rattle.mk_local.specs.Kinds.{name_of};

@@ -1,4 +1,4 @@
-// From a record and a file of watches to the text of their tables, or why there is none.
+//! From a record and a file of watches to the text of their tables, or why there is none.
 ghost use Rattle.std.specs.Prelude.{◌≡◌, ℕ, List, Result, Ok, Err, All, length, map, IfOk, IfErr};
 ghost use Rattle.mk_plan.specs.Plans.{IsValidPlan};
 ghost use Rattle.mk_record.specs.Reading.{reading, Said};

@@ -1,4 +1,4 @@
-// The words after a command, brought into one spelling: the positional words, and then the option as two words.
+//! The words after a command, brought into one spelling: the positional words, and then the option as two words.
 ghost use Rattle.std.specs.Prelude.{◌≡◌, ◌&&◌, ◌++◌, ℕ, List, IfOk, MatchOption, map, option_map, if◌then◌else◌};
 ghost use Rattle.std.specs.String.{string_bytes};
 ghost use Rattle.mosaikrun_words.specs.inner.Arranged.{alone, behind, long, name_of, one_word, only_word, pair, start, two_words, value_after, word_with};

@@ -1,4 +1,4 @@
-// Numbers on the command line.
+//! Numbers on the command line.
 ghost use Rattle.std.specs.Prelude.{◌≡◌, ◌&&◌, nat_le, Some, None, if◌then◌else◌};
 ghost use Rattle.mosaikrun_words.specs.inner.Arranged.{number_in};
 

@@ -1,4 +1,4 @@
-// What `clap` reads of words in the one spelling that they were brought into.
+//! What `clap` reads of words in the one spelling that they were brought into.
 ghost use Rattle.std.specs.Prelude.{◌≡◌, true, false, IfOk, Some, is_some, map};
 ghost use Rattle.clap.specs.Words.{HasMatchesOf, app_of, first_value, found_of, rule_of, takes};
 ghost use Rattle.clap.specs.declared.builder.Command.TheViews.{out-Command as fields_of};

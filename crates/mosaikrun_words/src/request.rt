@@ -1,4 +1,4 @@
-// What the command line asks for.
+//! What the command line asks for.
 use mk_base::Text;
 
 /// What the words ask for: a command on files, a run, one that goes on, one by a clock, or the demo.

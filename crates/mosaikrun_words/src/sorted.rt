@@ -1,4 +1,4 @@
-// The words after a command with two options, sorted: which are its own, and which are the values of options.
+//! The words after a command with two options, sorted: which are its own, and which are the values of options.
 ghost use Rattle.std.specs.Prelude.{◌≡◌, None, Some, map, option_map};
 ghost use Rattle.std.specs.String.{string_bytes};
 ghost use Rattle.mosaikrun_words.specs.inner.Sorted.{joined, named, nothing, seen, single, sorted_of, with_option, with_plain, with_save, with_strict};

@@ -1,4 +1,4 @@
-// From words to a request: the crate's call.
+//! From words to a request: the crate's call.
 ghost use Rattle.std.specs.Prelude.{◌≡◌, ◌↔◌, IfOk, Some, map, option_map};
 ghost use Rattle.std.specs.String.{string_bytes};
 ghost use Rattle.mosaikrun_words.specs.inner.Asked.{check_of, demo_of, number_given, pace_in, pace_of, paced_from, paced_of, pair_of, replay_in, replay_of, request_among, request_by, request_of, resume_from, resume_of, resume_with, run_of};
