@@ -14,7 +14,7 @@ use crate::ends::{ends_at, full_id, pairs_between, place_fault};
 use crate::fault::ConnectFault;
 use crate::made::Made;
 use crate::study::Study;
-use mk_base::{Datum, Json, List, Mem, Text, Via};
+use mk_base::{Datum, Json, Mem, Text, Via};
 use mk_json::datum_of;
 use mk_plan::Conn;
 use mk_scenario::{AttrPair, Block};

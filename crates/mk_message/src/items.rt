@@ -8,7 +8,7 @@ ghost use Rattle.mk_message.specs.Written.{refusal_text, item_text};
 use crate::groups::{inputs_bytes, wanted_bytes};
 use mk_base::{List, Mem, Text, Tier, put_signed, put_unsigned};
 use mk_json::put_text;
-use mk_plan::{Input, Item, Want};
+use mk_plan::{Input, Item};
 use std::alloc::Global;
 
 /// The payload of an item. A `Step` and a `GetData` take this id, an `Answer` and a `Refuse` carry

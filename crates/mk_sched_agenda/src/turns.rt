@@ -1,5 +1,5 @@
 //! Whose turn is open.
-ghost use Rattle.std.specs.Prelude.{◌≡◌, ◌<◌, ◌++◌, ◌∷◌, [], false, true, length, slice_index_or, slice_set, IfOk, OnOk, OnErr};
+ghost use Rattle.std.specs.Prelude.{◌≡◌, ◌<◌, ◌++◌, ◌∷◌, [], false, true, length, slice_index_or, slice_set, OnOk, OnErr};
 ghost use Rattle.std.specs.List.{list_any};
 
 use mk_base::Mem;
