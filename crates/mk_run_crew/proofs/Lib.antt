@@ -2,6 +2,7 @@ mod Asked
 mod Completing
 mod Composing
 mod Ending
+mod Faultless
 mod Going
 mod Halting
 mod Looping

@@ -1,5 +1,5 @@
--- When a handshake comes to its end.
-use Rattle.std.specs.Prelude.{◌≡◌, ℕ, ◌⊎◌, List, ◌++◌, Some}
+-- When a handshake comes to its end, and when nothing goes wrong in it.
+use Rattle.std.specs.Prelude.{◌≡◌, ℕ, ◌⊎◌, true, List, ◌++◌, Some}
 use Rattle.mk_base.specs.declared.LinkNo.{LinkNo}
 use Rattle.mk_base.specs.Lists.{IsIn}
 use Rattle.mk_frame.specs.Frames.{IsTooLong}
@@ -7,13 +7,19 @@ use Rattle.mk_outside.specs.Counts.{HasRisen}
 use Rattle.mk_outside.specs.declared.fleet.LogEntry.TheVariants.{Ended}
 use Rattle.mk_outside.specs.Logs.{heard_on}
 use Rattle.mk_run_crew.specs.Attempts.{Attempt}
+use Rattle.mk_plan.specs.declared.Message.{Message}
+use Rattle.mk_plan.specs.declared.Plan.{Plan}
+use Rattle.mk_scenario.specs.Wellformed.{IsWellformed}
 use Rattle.mk_session.specs.Fronts.{BeginsGarbled}
 use Rattle.mk_run_laws.specs.Handshake.{Request, setup_requests, sim_link}
 use Rattle.mk_run_laws.specs.Hearing.{rest_heard}
 use Rattle.mk_setup.specs.declared.fault.SetupFault.{SetupFault}
+use Rattle.mk_setup.specs.Handshakes.{IsMade}
 use Rattle.mk_run_crew.specs.declared.halt.Halt.{Halt}
 use Rattle.mk_run_crew.specs.declared.halt.Halt.TheVariants as halt
+use Rattle.mk_run_crew.specs.Answers.{AreKindAnswers}
 use Rattle.mk_run_crew.specs.Halted.{HasHalted, IsLongRequest, IsSetupFault}
+use Rattle.mk_run_crew.specs.Wholly.{is_wholly_within}
 
 -- nothing went wrong that a handshake can show: no fault of what was heard, no risen count, no link
 -- that ended or brought no message, and no request that is too long
@@ -34,3 +40,11 @@ abbrev pub HandshakesComplete : Type 0
 HandshakesComplete = (A : Attempt) (faults new_faults : ℕ) (h : Halt)
     → HasHalted A (HasRisen faults new_faults) h
     → IsFaultlessHandshake A (HasRisen faults new_faults) → h ≡ halt.Mem
+
+-- where a well-formed scenario's simulators all run within the program, the answers of their kinds
+-- make a plan, and the count didn't rise, nothing went wrong
+abbrev pub WithinHandshakesAreFaultless : Type 0
+WithinHandshakesAreFaultless = (A : Attempt) (answers : List Message) (P : Plan)
+    (faults new_faults : ℕ) → IsWellformed A.scenario → is_wholly_within A.scenario ≡ true
+    → IsMade A.scenario A.ranks answers P → AreKindAnswers A.rows A.scenario answers
+    → (HasRisen faults new_faults → ⊥) → IsFaultlessHandshake A (HasRisen faults new_faults)
