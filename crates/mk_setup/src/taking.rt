@@ -105,10 +105,7 @@ fn take_content(progress: &mut Progress, sim: SimNo, content: &Json) -> Result<(
             take_done(progress, sim);
             Ok(())
         }
-        Stage::Over => {
-            take_done(progress, sim);
-            Ok(())
-        }
+        Stage::Over => unreachable!(),
     }
 }
 

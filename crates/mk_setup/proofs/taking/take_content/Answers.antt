@@ -1,5 +1,10 @@
-use Rattle.std.proofs.Common.{◌+◌, ◌≤◌, None, length, arith}
+use Rattle.std.proofs.Common.{◌≡◌, ◌+◌, ◌≤◌, None, length, option_map, sym, ap, ◌∙◌, arith}
+use Rattle.std.proofs.lemmas.Option.{slice_get_past}
+use Rattle.mk_base.proofs.Lists.{none_some}
+use Rattle.mk_run_laws.specs.Handshake.{Request, setup_requests}
+use Rattle.mk_setup.specs.inner.Counts.{sim_after}
 use Rattle.mk_setup.specs.Kept.{state_of}
+use Rattle.mk_setup.proofs.Sequence.{request_count}
 use Rattle.mk_setup.proofs.Heard.{create_ok, create_sim, create_untaken, done_ok, init_ok, init_sim, init_untaken}
 use Rattle.mk_setup.proofs.taking.take_content.Goals as goal
 
@@ -34,8 +39,10 @@ returns-in-Done-clause-ok c =
     let late : length c.args.progress.now.scenario.sims + length c.args.progress.now.scenario.groups ≤ c.args.progress.now.answered = omega (arith, at) in
     done_ok (state_of c.args.progress.now None) (state_of c.take_done.new.progress None) c.args.sim c.args.content.now late c.take_done.ensures.moved
 
-pub returns-in-Over-clause-ok : goal.returns-in-Over-clause-ok
-returns-in-Over-clause-ok c =
-    let at : length c.args.progress.now.scenario.sims + length c.args.progress.now.scenario.groups + length c.args.progress.now.scenario.sims ≤ c.args.progress.now.answered = c.in-Over.ensures in
-    let late : length c.args.progress.now.scenario.sims + length c.args.progress.now.scenario.groups ≤ c.args.progress.now.answered = omega (arith, at) in
-    done_ok (state_of c.args.progress.now None) (state_of c.take_done-in-Over.new.progress None) c.args.sim c.args.content.now late c.take_done-in-Over.ensures.moved
+pub unreachable-requires : goal.unreachable-requires
+unreachable-requires c =
+    let S = c.args.progress.now.scenario in
+    let all = request_count S in
+    let over = c.in-Over.ensures in
+    let none : sim_after S c.args.progress.now.answered ≡ None = ap (option_map (λ (r : Request). r.sim)) (slice_get_past (setup_requests S) c.args.progress.now.answered (omega (arith, all, over))) in
+    none_some (sym none ∙ c.requires.next)
