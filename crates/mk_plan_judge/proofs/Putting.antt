@@ -45,7 +45,7 @@ module _ {X : Type 0} (order : X → X → Ordering) (total : IsTotalOrder order
   sorted_at (x ∷ xs) zero (suc j) d sorted before there = all_at (λ y. order x y ≡ Less) xs j d (omega arith) sorted.0
   sorted_at (x ∷ xs) (suc i) (suc j) d sorted before there = sorted_at xs i j d sorted.1 (omega arith) (omega arith)
 
-  put_sorted : (x : X) (xs : List X) → IsStrictlySortedBy order xs → IsStrictlySortedBy order (put order x xs)
+  pub put_sorted : (x : X) (xs : List X) → IsStrictlySortedBy order xs → IsStrictlySortedBy order (put order x xs)
   unfolding IsStrictlySortedBy
   put_sorted x [] sorted = (tt, tt)
   put_sorted x (y ∷ ys) sorted = elim (order x y) as (λ o. order x y ≡ o → IsStrictlySortedBy order (placed o x y ys (put order x ys))) [

@@ -1,3 +1,4 @@
 -- What proofs alone need.
 pub mod Numbers
 pub mod Parts
+pub mod Takings

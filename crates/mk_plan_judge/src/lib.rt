@@ -2,6 +2,7 @@
 //! is open after a right one.
 #![tactic(auto)]
 
+mod all_wants;
 mod causes;
 mod data;
 mod lookups;
@@ -10,6 +11,7 @@ mod places;
 mod sorted;
 mod wants;
 
+pub use all_wants::wants_of_all;
 pub use causes::wrong;
 pub use data::values_for;
 pub use numbers::{next_time, output_time};

@@ -17,7 +17,8 @@ use Rattle.mk_plan.specs.Asks.{gives_attr}
 use Rattle.mk_plan.specs.Deliveries.{Timed, supply, outputs_of}
 use Rattle.mk_plan.specs.Sequential.{grown}
 use Rattle.mk_order.proofs.Entries.{outputs_after, outputs_apart, output_given, output_missing}
-use Rattle.mk_sched_supply.proofs.Wanting.{is_want, of_want, one_of, given_is_wanted, wanted_sorted}
+use Rattle.mk_plan_judge.proofs.Taken.{wanted_sorted}
+use Rattle.mk_sched_supply.proofs.Wanting.{is_want, of_want, one_of, given_is_wanted}
 
 pub take_get : {X : Type 0} (xs : List X) (k : ℕ) (x : X) → slice_get xs k ≡ Some x → take (suc k) xs ≡ take k xs ++ x ∷ []
 take_get [] k x is = cc

@@ -1,8 +1,9 @@
 -- The feeds of simulators, as connections are added one by one.
-use Rattle.std.proofs.Common.{◌≡◌, ℕ, zero, suc, ◌+◌, ◌<◌, Bool, true, false, ◌&&◌, List, [], ◌∷◌, ◌++◌, length, map, take, get_or, slice_get, slice_set, Some, None, option_map, unwrap_or, length-append, refl, sym, ap, ◌∙◌, subst, ◌⊎◌, inl, inr, arith, add-one, ◌==◌, if◌then◌else◌}
+use Rattle.std.proofs.Common.{◌≡◌, ℕ, zero, suc, ◌+◌, Bool, true, false, ◌&&◌, List, [], ◌∷◌, ◌++◌, length, map, take, slice_get, slice_set, Some, option_map, unwrap_or, refl, sym, ap, ◌∙◌, subst, ◌⊎◌, inl, inr, add-one, ◌==◌, if◌then◌else◌}
+use Rattle.std.proofs.lemmas.List.{length-map}
 use Rattle.std.proofs.lemmas.Bool.{eqb-true, eq-eqb}
 use Rattle.mk_base.specs.Lists.{IsIn}
-use Rattle.mk_base.proofs.Lists.{append_nil, at_in, filter_append, length_set, map_append, set_else, set_here, none_some, some_same}
+use Rattle.mk_base.proofs.Lists.{append_nil, at_in, filter_append, in_either, length_set, map_append, set_else, set_here, some_same}
 use Rattle.mk_plan.specs.declared.Plan.{Plan}
 use Rattle.mk_plan.specs.declared.Conn.{Conn}
 use Rattle.mk_plan.specs.declared.PlanEntity.{PlanEntity}
@@ -15,16 +16,10 @@ use Rattle.mk_sched_supply.specs.Stock.{ArePlaces, IsFeedOf, taken}
 use Rattle.mk_sched_supply.specs.inner.Making.{AreFeedsOf, HasNoTriggers, IsFeedSoFar, names_of, triggering_in}
 use Rattle.mk_sched_supply.proofs.Bringing.{take_all, take_get}
 
-pub at_index : {X : Type 0} (xs : List X) (k : ℕ) (x : X) → k < length xs → x ≡ get_or xs k x → slice_get xs k ≡ Some x
-at_index [] k x low is = absurd (omega arith)
-at_index (y ∷ ys) zero x low is = ap Some (sym is)
-at_index (y ∷ ys) (suc k) x low is = at_index ys k x (omega arith) is
-
-get_more : {X : Type 0} (xs : List X) (x y : X) (i : ℕ) → slice_get (xs ++ x ∷ []) i ≡ Some y → (slice_get xs i ≡ Some y) ⊎ ((i ≡ length xs) × (y ≡ x))
-get_more [] x y zero is = inr (refl, sym (some_same is))
-get_more [] x y (suc i) is = cc
-get_more (z ∷ xs) x y zero is = inl is
-get_more (z ∷ xs) x y (suc i) is = elim (get_more xs x y i is) [ inl a ↦ inl a | inr b ↦ inr (ap suc b.0, b.1) ]
+get_map : {X Y : Type 0} (f : X → Y) (xs : List X) (i : ℕ) (x : X) → slice_get xs i ≡ Some x → slice_get (map f xs) i ≡ Some (f x)
+get_map f [] i x at = cc
+get_map f (y ∷ ys) zero x at = ap Some (ap f (some_same at))
+get_map f (y ∷ ys) (suc i) x at = get_map f ys i x at
 
 same_or : (i j : ℕ) → (i ≡ j) ⊎ (i ≡ j → ⊥)
 same_or i j = elim (i == j) as (λ b. (i == j) ≡ b → (i ≡ j) ⊎ (i ≡ j → ⊥)) [ true ↦ λ e. inl (eqb-true i j e) | false ↦ λ e. inr (λ q. let k : true ≡ false = sym (eq-eqb i j q) ∙ e in cc) ] refl
@@ -76,20 +71,24 @@ module _ (P : Plan) where
         eid_is = sym (ap (λ o. unwrap_or (option_map (λ (n : PlanEntity). n.eid) o) []) at)
 
   -- before any connection
-  pub feeds_none : (F : List Feed) → HasNoTriggers P (length P.sims) F → AreFeedsOf P 0 F
+  pub feeds_none : (F : List Feed) → HasNoTriggers P F → AreFeedsOf P 0 F
   feeds_none F none = record { count = none.count; each = λ s f at. let o = none.each s f at in record { wants = o.0; places = ap (map (λ p. slice_get (wanted P s) p)) o.1 } }
 
-  pub none_first : (F : List Feed) → F ≡ [] → HasNoTriggers P 0 F
-  none_first F is = record { count = ap length is; each = λ s f at. let k : None ≡ Some f = ap (λ (l : List Feed). slice_get l s) (sym is) ∙ at in absurd (none_some k) }
+  -- one feed for each of the wants
+  pub feeds_new : (F : List Feed) (lists : List (List Want)) → map (λ f. f.wants) F ≡ lists → ((f : Feed) → IsIn f F → f.triggers.items ≡ []) → length lists ≡ length P.sims → ((s : ℕ) (ws : List Want) → slice_get lists s ≡ Some ws → ws ≡ wanted P s) → HasNoTriggers P F
+  feeds_new F lists is none count each = record {
+    count = sym (length-map F (λ (f : Feed). f.wants)) ∙ ap length is ∙ count;
+    each = λ s f at. (each s f.wants (ap (λ (l : List (List Want)). slice_get l s) (sym is) ∙ get_map (λ (f : Feed). f.wants) F s f at), none f (at_in f F s at));
+  }
 
-  pub none_more : (n : ℕ) (F G : List Feed) (new : Feed) → HasNoTriggers P n F → G ≡ F ++ new ∷ [] → new.wants ≡ wanted P n → new.triggers.items ≡ [] → HasNoTriggers P (n + 1) G
-  none_more n F G new h is wants empty = subst (HasNoTriggers P (n + 1)) (sym is) (record {
-    count = length-append F (new ∷ []) ∙ ap (λ (m : ℕ). m + 1) h.count;
-    each = λ s f at. elim (get_more F new f s at) [
-      | inl old ↦ h.each s f old
-      | inr last ↦ (ap (λ (f : Feed). f.wants) last.1 ∙ wants ∙ ap (wanted P) (sym (last.0 ∙ h.count)), ap (λ (f : Feed). f.triggers.items) last.1 ∙ empty)
-    ];
-  })
+  pub no_trigger_more : (F G : List Feed) (new : Feed) → ((f : Feed) → IsIn f F → f.triggers.items ≡ []) → G ≡ F ++ new ∷ [] → new.triggers.items ≡ [] → (f : Feed) → IsIn f G → f.triggers.items ≡ []
+  no_trigger_more F G new none is empty f m = elim (in_either f F (new ∷ []) (subst (IsIn f) is m)) [
+    | inl r ↦ none f r
+    | inr r ↦ elim r [ inl q ↦ ap (λ (f : Feed). f.triggers.items) q ∙ empty | inr z ↦ absurd z ]
+  ]
+
+  pub wants_more : (F G : List Feed) (new : Feed) (w : List Want) (lists : List (List Want)) → map (λ f. f.wants) F ≡ lists → G ≡ F ++ new ∷ [] → new.wants ≡ w → map (λ f. f.wants) G ≡ lists ++ w ∷ []
+  wants_more F G new w lists so_far is of = ap (map (λ (f : Feed). f.wants)) is ∙ map_append (λ (f : Feed). f.wants) F (new ∷ []) ∙ (λ i. so_far i ++ of i ∷ [])
 
   pub feeds_whole : (F : List Feed) (n : ℕ) → n ≡ length P.conns → AreFeedsOf P n F → (s : ℕ) (f : Feed) → slice_get F s ≡ Some f → IsFeedOf P s f
   feeds_whole F n all fs s f at = let o = fs.each s f at in record { wants = o.wants; places = subst (λ (cs : List Conn). ArePlaces P s (triggering_in P s cs) f.triggers.items) (ap (λ (m : ℕ). take m P.conns) all ∙ take_all P.conns) o.places }

@@ -1,13 +1,12 @@
 -- What is wanted of a simulator: in order, each once, and found by a search.
-use Rattle.std.proofs.Common.{◌≡◌, ℕ, zero, suc, ◌<◌, ◌≤◌, Bool, true, false, ◌&&◌, nat_eq, List, [], ◌∷◌, ◌++◌, length, filter, flat_map, fold, get_or, slice_get, Some, refl, sym, ap, ◌∙◌, subst, ◌⊎◌, inl, inr, ◌+◌, arith, ◌==◌, if◌then◌else◌}
+use Rattle.std.proofs.Common.{◌≡◌, ℕ, zero, suc, ◌<◌, ◌≤◌, Bool, true, false, ◌&&◌, nat_eq, List, [], ◌∷◌, ◌++◌, length, flat_map, get_or, slice_get, Some, refl, sym, ap, ◌∙◌, subst, ◌⊎◌, inl, inr, ◌+◌, arith, ◌==◌, if◌then◌else◌}
 use Rattle.std.specs.List.{AllByRecursion, HoldsAt}
 use Rattle.std.specs.List.Sorted.{IsStrictlySortedBy, IsPartitionPoint, IsNonDecreasingBy}
-use Rattle.std.specs.Ordering.{ordering_index, ordering_reverse, ordering_then, is_lt}
+use Rattle.std.specs.Ordering.{ordering_index, ordering_reverse, is_lt}
 use Rattle.std.specs.declared.cmp.Ordering.{Ordering}
 use Rattle.std.specs.declared.cmp.Ordering.TheVariants.{Less, Equal, Greater}
 use Rattle.std.proofs.lemmas.List.Sorted.{searchable_from_sorted}
-use Rattle.std.proofs.lemmas.Map.Lookups.{exact_bytes}
-use Rattle.mk_base.specs.Lists.{IsIn, put, same_text, text_order}
+use Rattle.mk_base.specs.Lists.{IsIn, same_text}
 use Rattle.mk_base.proofs.Lists.{in_at, get_is, some_passes, append_nil}
 use Rattle.mk_plan.specs.declared.Plan.{Plan}
 use Rattle.mk_plan.specs.declared.Conn.{Conn}
@@ -16,29 +15,12 @@ use Rattle.mk_plan.specs.Plans.{owner, eid_of}
 use Rattle.mk_plan.specs.Turns.{wanted, want_order}
 use Rattle.mk_plan.specs.Asks.{gives_attr}
 use Rattle.mk_plan_judge.proofs.Putting.{names_total}
-use Rattle.mk_plan_judge.proofs.Taken.{taken_is_wanted}
-use Rattle.mk_order.proofs.Assembled.{put_sorted}
+use Rattle.mk_plan_judge.proofs.Taken.{same_names, taken_is_wanted}
 use Rattle.mk_order.proofs.Reasons.{and_both, both_and}
 use Rattle.mk_order.proofs.GivenValues.{text_is}
 use Rattle.std.proofs.lemmas.Bool.{eqb-true, eq-eqb}
 
-fold_sorted : {C : Type 0} (f : C → Want) (cs : List C) (ws : List Want) → IsStrictlySortedBy want_order ws → IsStrictlySortedBy want_order (fold (λ ws c. put want_order (f c) ws) ws cs)
-fold_sorted f [] ws sorted = sorted
-fold_sorted f (c ∷ cs) ws sorted = fold_sorted f cs (put want_order (f c) ws) (put_sorted want_order names_total (f c) ws sorted)
-
-pub wanted_sorted : (P : Plan) (s : ℕ) → IsStrictlySortedBy want_order (wanted P s)
-unfolding IsStrictlySortedBy
-wanted_sorted P s = fold_sorted (λ (c : Conn). record { eid = eid_of P c.from; attr = c.from_attr }) (filter (λ c. owner P c.from == s) P.conns) [] tt
-
 -- ---- equal names
-
-both_equal : (o p : Ordering) → ordering_then o p ≡ Equal → (o ≡ Equal) × (p ≡ Equal)
-both_equal Less p e = cc
-both_equal Equal p e = (refl, e)
-both_equal Greater p e = cc
-
-same_want : (v w : Want) → want_order v w ≡ Equal → v ≡ w
-same_want v w e = let t = both_equal (text_order v.eid w.eid) (text_order v.attr w.attr) e in λ i. record { eid = exact_bytes v.eid w.eid t.0 i; attr = exact_bytes v.attr w.attr t.1 i }
 
 not_itself : (w : Want) → want_order w w ≡ Less → ⊥
 not_itself w h = let k : Less ≡ Greater = sym h ∙ names_total.antisymm w w ∙ ap ordering_reverse h in cc
@@ -123,7 +105,7 @@ some_at (x ∷ xs) zero d low = refl
 some_at (x ∷ xs) (suc i) d low = some_at xs i d (omega arith)
 
 pub found_at : (ws : List Want) (v : Want) (i : ℕ) → i < length ws → HoldsAt (λ w. want_order w v ≡ Equal) ws i → slice_get ws i ≡ Some v
-found_at ws v i low holds = some_at ws i v low ∙ ap Some (same_want (get_or ws i v) v (holds v))
+found_at ws v i low holds = some_at ws i v low ∙ ap Some (same_names (get_or ws i v) v (holds v))
 
 pub not_missing : (ws : List Want) (v : Want) (i : ℕ) → (IsNonDecreasingBy (λ w. ordering_index (want_order w v)) ws → IsPartitionPoint (λ w. want_order w v ≡ Less) (λ w. want_order w v ≡ Greater) ws i) → IsStrictlySortedBy want_order ws → IsIn v ws → slice_get ws i ≡ Some v
 not_missing ws v i parts sorted m =

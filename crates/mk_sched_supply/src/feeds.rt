@@ -1,5 +1,5 @@
 //! What each simulator is wanted to give, and where its triggering connections find it.
-ghost use Rattle.std.specs.Prelude.{◌≡◌, ◌<◌, ◌+◌, ◌^◌, length, IfOk, OnOk, Some, slice_get};
+ghost use Rattle.std.specs.Prelude.{◌≡◌, ◌<◌, ◌+◌, length, IfOk, OnOk, Some, slice_get};
 ghost use Rattle.mk_base.specs.Lists.{IsIn};
 ghost use Rattle.mk_plan.specs.declared.Want.{Want};
 ghost use Rattle.mk_plan.specs.Plans.{RefersInside};
@@ -7,9 +7,9 @@ ghost use Rattle.mk_plan.specs.Turns.{want_order};
 ghost use Rattle.std.specs.List.Sorted.{IsStrictlySortedBy, IsBinarySearchResult, IsSearchInRange};
 ghost use Rattle.mk_sched_supply.specs.inner.Making.{AreFeedsOf, HasNoTriggers, names_of};
 
-use mk_base::{List, Mem, SimNo, Text};
+use mk_base::{List, Mem, Text};
 use mk_plan::{Conn, Plan, Want};
-use mk_plan_judge::{owner, wanted};
+use mk_plan_judge::{owner, wants_of_all};
 use std::alloc::Global;
 use std::cmp::Ordering;
 
@@ -24,7 +24,6 @@ pub struct Feed {
 // The feeds of all simulators.
 pub fn feeds_of(alloc: Global, plan: &Plan) -> Result<Vec<Feed>, Mem>
     requires references { RefersInside plan.now }
-    requires few { length plan.now.sims < 2 ^ 32 }
     ensures { IfOk result (λ feeds. AreFeedsOf plan.now (length plan.now.conns) feeds.items) }
 {
     let mut feeds = no_triggers(alloc, plan)?;
@@ -36,13 +35,13 @@ pub fn feeds_of(alloc: Global, plan: &Plan) -> Result<Vec<Feed>, Mem>
 
 // The feeds of all simulators before any connection.
 fn no_triggers(alloc: Global, plan: &Plan) -> Result<Vec<Feed>, Mem>
-    requires few { length plan.now.sims < 2 ^ 32 }
-    ensures { IfOk result (λ feeds. HasNoTriggers plan.now (length plan.now.sims) feeds.items) }
+    requires references { RefersInside plan.now }
+    ensures { IfOk result (λ feeds. HasNoTriggers plan.now feeds.items) }
 {
     let mut feeds = Vec::with_capacity(alloc, plan.sims.len())?;
-    for sim in 0..plan.sims.len() {
+    for wants in wants_of_all(alloc, plan)? {
         feeds.push(Feed {
-            wants: wanted(alloc, plan, SimNo(sim as u32))?,
+            wants,
             triggers: Vec::new(alloc),
         })?;
     }

@@ -42,9 +42,9 @@ pub record AreFeedsOf (P : Plan) (k : ℕ) (feeds : List Feed) : Type 0 where
   pub count : length feeds ≡ sim_count P
   pub each : (s : ℕ) (f : Feed) → slice_get feeds s ≡ Some f → IsFeedSoFar P k s f
 
--- the feeds of the first n simulators before any connection
-pub record HasNoTriggers (P : Plan) (n : ℕ) (feeds : List Feed) : Type 0 where
-  pub count : length feeds ≡ n
+-- the feeds of all simulators before any connection
+pub record HasNoTriggers (P : Plan) (feeds : List Feed) : Type 0 where
+  pub count : length feeds ≡ sim_count P
   pub each : (s : ℕ) (f : Feed) → slice_get feeds s ≡ Some f → (f.wants ≡ wanted P s)
       × (f.triggers.items ≡ [])
 

@@ -7,9 +7,10 @@ use Rattle.mk_plan.specs.declared.Want.{Want}
 use Rattle.mk_plan.specs.Plans.{sim_count}
 use Rattle.mk_plan.specs.Turns.{wanted, want_order}
 use Rattle.mk_order.proofs.EntityNames.{owner_is_below}
+use Rattle.mk_plan_judge.proofs.AtPlaces.{get_some}
+use Rattle.mk_plan_judge.proofs.Taken.{wanted_sorted}
 use Rattle.mk_sched_supply.specs.inner.Making.{names_of}
-use Rattle.mk_sched_supply.proofs.Feeding.{at_index, conn_wanted, feeds_kept, feeds_pushed, named_taken}
-use Rattle.mk_sched_supply.proofs.Wanting.{wanted_sorted}
+use Rattle.mk_sched_supply.proofs.Feeding.{conn_wanted, feeds_kept, feeds_pushed, named_taken}
 use Rattle.mk_sched_supply.proofs.feeds.add_conn.Goals as goal
 
 pub returns-in_ok-push : goal.returns-in_ok-push
@@ -18,7 +19,7 @@ returns-in_ok-push c =
     let conn = c.args.conn.now in
     let s : ℕ = c.owner.result.0 in
     let low : s < sim_count P = subst (λ (i : ℕ). i < sim_count P) (sym c.owner.ensures) (owner_is_below P c.requires.references conn.from (all_at (λ (d : Conn). (d.from < length P.entities) × (d.to < length P.entities)) P.conns c.args.place conn c.requires.references.conns c.requires.there).0) in
-    let here = at_index c.args.feeds.now.items s c.index_mut-feed.result.now (omega (arith, low, c.requires.feeds.count)) c.index_mut-feed.ensures.value in
+    let here = get_some c.args.feeds.now.items s c.index_mut-feed.result.now (omega (arith, low, c.requires.feeds.count)) c.index_mut-feed.ensures.value in
     let wants = (c.requires.feeds.each s c.index_mut-feed.result.now here).wants in
     let name = named_taken P c.args.place conn c.requires.there c.at.result.now c.at.ensures in
     let all : c.as_slice.result.now ≡ wanted P s = c.as_slice.ensures ∙ wants in

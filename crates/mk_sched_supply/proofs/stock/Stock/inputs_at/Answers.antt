@@ -1,4 +1,4 @@
-use Rattle.std.proofs.Common.{◌≡◌, ◌∙◌}
+use Rattle.std.proofs.Common.{◌∙◌}
 use Rattle.mk_order.proofs.LaterQuestions.{step_after}
 use Rattle.mk_buffers.specs.Standing.{mark_of}
 use Rattle.mk_sched_supply.proofs.Keeping.{ready_below}
