@@ -43,14 +43,15 @@ use Rattle.mk_buffers_log.specs.Logs.{IsFew}
 use Rattle.mk_buffers.proofs.Naming.{owner_there}
 use Rattle.mk_buffers.proofs.Collecting.{outlets_total, key_of}
 use Rattle.mk_buffers.proofs.Aligning.{aligned}
-use Rattle.mk_buffers.proofs.Rising.{all_of, get_more}
+use Rattle.mk_plan_judge.proofs.Puts.{all_has}
+use Rattle.mk_buffers.proofs.Rising.{get_more}
 use Rattle.mk_buffers.proofs.Standing.{key_is, both_from}
 
 sorted_at : {X : Type 0} (order : X → X → Ordering) (xs : List X) (i j : ℕ) (x y : X) → IsStrictlySortedBy order xs → i < j → slice_get xs i ≡ Some x → slice_get xs j ≡ Some y → order x y ≡ Less
 unfolding IsStrictlySortedBy
 sorted_at order [] i j x y s l at to = cc
 sorted_at order (z ∷ zs) i zero x y s l at to = absurd (omega (arith, l))
-sorted_at order (z ∷ zs) zero (suc j) x y s l at to = subst (λ w. order w y ≡ Less) (some_same at) (all_of (λ w. order z w ≡ Less) zs y s.0 (at_in y zs j to))
+sorted_at order (z ∷ zs) zero (suc j) x y s l at to = subst (λ w. order w y ≡ Less) (some_same at) (all_has (λ w. order z w ≡ Less) zs y s.0 (at_in y zs j to))
 sorted_at order (z ∷ zs) (suc i) (suc j) x y s l at to = sorted_at order zs i j x y s.1 (omega (arith, l)) at to
 
 order_cases : (d e : ℕ) → (d ≡ e) ⊎ ((d < e) ⊎ (e < d))

@@ -4,7 +4,6 @@ use Rattle.std.specs.Prelude.{option_to_list}
 use Rattle.std.specs.Cmp.{IsTotalOrder}
 use Rattle.std.specs.List.{AllByRecursion}
 use Rattle.std.specs.List.Sorted.{IsStrictlySortedBy}
-use Rattle.std.specs.Ordering.{ordering_reverse}
 use Rattle.std.specs.declared.cmp.Ordering.{Ordering}
 use Rattle.std.specs.declared.cmp.Ordering.TheVariants.{Less, Equal, Greater}
 use Rattle.std.proofs.lemmas.List.{take_all, take_more}
@@ -28,6 +27,8 @@ use Rattle.mk_buffers.specs.declared.inlets.Inlet.{Inlet}
 use Rattle.mk_buffers.specs.declared.buffers.Buffers.{Buffers}
 use Rattle.mk_buffers.specs.Listing.{inlet_order}
 use Rattle.mk_buffers.specs.Held.{input_of}
+use Rattle.mk_plan_judge.proofs.Putting.{turned}
+use Rattle.mk_plan_judge.proofs.Puts.{all_has, put_from, put_is_in, puts_from, puts_sorted, same_sorted}
 use Rattle.mk_order.proofs.Assembled.{last_with, puts_by_last}
 use Rattle.mk_order.proofs.GivenValues.{is_for, assemble_given}
 use Rattle.mk_buffers.specs.declared.sets.Slot.{Slot}
@@ -40,60 +41,7 @@ use Rattle.mk_buffers.proofs.Putting.{inputs_total}
 use Rattle.mk_buffers.proofs.Picking.{given_same}
 
 module _ {X : Type 0} where
-  all_on : (P Q : X → Type 0) → ((x : X) → P x → Q x) → (xs : List X) → AllByRecursion P xs → AllByRecursion Q xs
-  all_on P Q f [] all = tt
-  all_on P Q f (x ∷ xs) all = (f x all.0, all_on P Q f xs all.1)
-
-  all_has : (P : X → Type 0) (xs : List X) (x : X) → AllByRecursion P xs → IsIn x xs → P x
-  all_has P [] x all m = absurd m
-  all_has P (y ∷ ys) x all (inl q) = subst P (sym q) all.0
-  all_has P (y ∷ ys) x all (inr m) = all_has P ys x all.1 m
-
-  all_put : (order : X → X → Ordering) (P : X → Type 0) (x : X) (xs : List X) → P x → AllByRecursion P xs → AllByRecursion P (put order x xs)
-  all_put order P x [] here all = (here, tt)
-  all_put order P x (y ∷ ys) here all = elim (order x y) as (λ o. AllByRecursion P (placed o x y ys (put order x ys))) [
-    | Less ↦ (here, all)
-    | Equal ↦ (here, all.1)
-    | Greater ↦ (all.0, all_put order P x ys here all.1)
-  ]
-
   module _ (order : X → X → Ordering) (total : IsTotalOrder order) where
-    turned : (x y : X) (o : Ordering) → order y x ≡ o → order x y ≡ ordering_reverse o
-    turned x y o e = total.antisymm x y ∙ ap ordering_reverse e
-
-    not_both : (x y : X) → order x y ≡ Less → order y x ≡ Less → ⊥
-    not_both x y h k = let e : Less ≡ Greater = sym h ∙ turned x y Less k in cc
-
-    put_sorted : (x : X) (xs : List X) → IsStrictlySortedBy order xs → IsStrictlySortedBy order (put order x xs)
-    unfolding IsStrictlySortedBy
-    put_sorted x [] sorted = (tt, tt)
-    put_sorted x (y ∷ ys) sorted = elim (order x y) as (λ o. order x y ≡ o → IsStrictlySortedBy order (placed o x y ys (put order x ys))) [
-      | Less ↦ λ e. ((e, all_on (λ z. order y z ≡ Less) (λ z. order x z ≡ Less) (λ z h. total.trans x y z e h) ys sorted.0), sorted)
-      | Equal ↦ λ e. (all_on (λ z. order y z ≡ Less) (λ z. order x z ≡ Less) (λ z h. total.congr x y z e ∙ h) ys sorted.0, sorted.1)
-      | Greater ↦ λ e. (all_put order (λ z. order y z ≡ Less) x ys (turned y x Greater e) sorted.0, put_sorted x ys sorted.1)
-    ] refl
-
-    pub puts_sorted : (news xs : List X) → IsStrictlySortedBy order xs → IsStrictlySortedBy order (fold (λ sorted new. put order new sorted) xs news)
-    puts_sorted [] xs sorted = sorted
-    puts_sorted (n ∷ ns) xs sorted = puts_sorted ns (put order n xs) (put_sorted n xs sorted)
-
-    put_from : (x n : X) (ys : List X) → IsIn x (put order n ys) → (x ≡ n) ⊎ IsIn x ys
-    put_from x n [] (inl q) = inl q
-    put_from x n [] (inr m) = absurd m
-    put_from x n (y ∷ ys) m = by (order n y) m (put_from x n ys)
-      where
-        by : (o : Ordering) → IsIn x (placed o n y ys (put order n ys)) → (IsIn x (put order n ys) → (x ≡ n) ⊎ IsIn x ys) → (x ≡ n) ⊎ IsIn x (y ∷ ys)
-        by Less (inl q) rest = inl q
-        by Less (inr r) rest = inr r
-        by Equal (inl q) rest = inl q
-        by Equal (inr r) rest = inr (inr r)
-        by Greater (inl q) rest = inr (inl q)
-        by Greater (inr r) rest = elim (rest r) [ inl q ↦ inl q | inr t ↦ inr (inr t) ]
-
-    put_new : (n : X) (ys : List X) → IsIn n (put order n ys)
-    put_new n [] = inl refl
-    put_new n (y ∷ ys) = elim (order n y) as (λ o. IsIn n (placed o n y ys (put order n ys))) [ Less ↦ inl refl | Equal ↦ inl refl | Greater ↦ inr (put_new n ys) ]
-
     put_old : (x n : X) (ys : List X) → ((y : X) → IsIn y ys → order n y ≡ Equal → n ≡ y) → IsIn x ys → IsIn x (put order n ys)
     put_old x n [] same m = absurd m
     put_old x n (y ∷ ys) same m = by (order n y) refl m (put_old x n ys (λ z r. same z (inr r)))
@@ -105,16 +53,12 @@ module _ {X : Type 0} where
         by Greater e (inl q) rest = inl q
         by Greater e (inr r) rest = inr (rest r)
 
-    pub puts_from : (x : X) (news xs : List X) → IsIn x (fold (λ sorted new. put order new sorted) xs news) → IsIn x news ⊎ IsIn x xs
-    puts_from x [] xs m = inr m
-    puts_from x (n ∷ ns) xs m = elim (puts_from x ns (put order n xs) m) [ inl r ↦ inl (inr r) | inr r ↦ elim (put_from x n xs r) [ inl q ↦ inl (inl q) | inr t ↦ inr t ] ]
-
     pub puts_in : (all : List X) → ((y z : X) → IsIn y all → IsIn z all → order y z ≡ Equal → y ≡ z) → (x : X) (news xs : List X) → ((y : X) → IsIn y news → IsIn y all) → ((y : X) → IsIn y xs → IsIn y all) → IsIn x news ⊎ IsIn x xs → IsIn x (fold (λ sorted new. put order new sorted) xs news)
     puts_in all same x [] xs f g (inl m) = absurd m
     puts_in all same x [] xs f g (inr m) = m
-    puts_in all same x (n ∷ ns) xs f g m = puts_in all same x ns (put order n xs) (λ y r. f y (inr r)) (λ y r. elim (put_from y n xs r) [ inl q ↦ subst (λ (z : X). IsIn z all) (sym q) (f n (inl refl)) | inr t ↦ g y t ])
+    puts_in all same x (n ∷ ns) xs f g m = puts_in all same x ns (put order n xs) (λ y r. f y (inr r)) (λ y r. elim (put_from order total y n xs r) [ inl q ↦ subst (λ (z : X). IsIn z all) (sym q) (f n (inl refl)) | inr t ↦ g y t ])
         (elim m [
-          | inl r ↦ elim r [ inl q ↦ inr (subst (λ (z : X). IsIn z (put order n xs)) (sym q) (put_new n xs)) | inr t ↦ inl t ]
+          | inl r ↦ elim r [ inl q ↦ inr (subst (λ (z : X). IsIn z (put order n xs)) (sym q) (put_is_in order n xs)) | inr t ↦ inl t ]
           | inr r ↦ inr (put_old x n xs (λ y t e. same n y (f n (inl refl)) (g y t) e) r)
         ])
 
@@ -123,24 +67,8 @@ module _ {X : Type 0} where
     equal_in [] y z sorted m n e = absurd m
     equal_in (x ∷ xs) y z sorted (inl q) (inl r) e = q ∙ sym r
     equal_in (x ∷ xs) y z sorted (inl q) (inr n) e = let less : order y z ≡ Less = subst (λ (w : X). order w z ≡ Less) (sym q) (all_has (λ w. order x w ≡ Less) xs z sorted.0 n) in let k : Less ≡ Equal = sym less ∙ e in cc
-    equal_in (x ∷ xs) y z sorted (inr m) (inl r) e = let less : order z y ≡ Less = subst (λ (w : X). order w y ≡ Less) (sym r) (all_has (λ w. order x w ≡ Less) xs y sorted.0 m) in let k : Greater ≡ Equal = sym (turned y z Less less) ∙ e in cc
+    equal_in (x ∷ xs) y z sorted (inr m) (inl r) e = let less : order z y ≡ Less = subst (λ (w : X). order w y ≡ Less) (sym r) (all_has (λ w. order x w ≡ Less) xs y sorted.0 m) in let k : Greater ≡ Equal = sym (turned order total y z Less less) ∙ e in cc
     equal_in (x ∷ xs) y z sorted (inr m) (inr n) e = equal_in xs y z sorted.1 m n e
-
-    pub same_sorted : (xs ys : List X) → IsStrictlySortedBy order xs → IsStrictlySortedBy order ys → ((x : X) → IsIn x xs → IsIn x ys) → ((y : X) → IsIn y ys → IsIn y xs) → xs ≡ ys
-    unfolding IsStrictlySortedBy
-    same_sorted [] [] s t f g = refl
-    same_sorted [] (y ∷ ys) s t f g = absurd (g y (inl refl))
-    same_sorted (x ∷ xs) [] s t f g = absurd (f x (inl refl))
-    same_sorted (x ∷ xs) (y ∷ ys) s t f g =
-        let head : x ≡ y = heads (f x (inl refl)) (g y (inl refl)) in
-        ap (λ z. z ∷ xs) head ∙ ap (λ l. y ∷ l) (same_sorted xs ys s.1 t.1
-        (λ z m. elim (f z (inr m)) [ inl q ↦ absurd (let h : order x z ≡ Less = all_has (λ w. order x w ≡ Less) xs z s.0 m in let k : z ≡ x = q ∙ sym head in not_both x x (subst (λ (w : X). order x w ≡ Less) k h) (subst (λ (w : X). order x w ≡ Less) k h)) | inr n ↦ n ])
-        (λ z m. elim (g z (inr m)) [ inl q ↦ absurd (let h : order y z ≡ Less = all_has (λ w. order y w ≡ Less) ys z t.0 m in let k : z ≡ y = q ∙ head in not_both y y (subst (λ (w : X). order y w ≡ Less) k h) (subst (λ (w : X). order y w ≡ Less) k h)) | inr n ↦ n ]))
-      where
-        heads : IsIn x (y ∷ ys) → IsIn y (x ∷ xs) → x ≡ y
-        heads (inl q) n = q
-        heads (inr m) (inl q) = sym q
-        heads (inr m) (inr n) = absurd (not_both x y (all_has (λ w. order x w ≡ Less) xs y s.0 n) (all_has (λ w. order y w ≡ Less) ys x t.0 m))
 
 module _ (b : Buffers) (p : Option Tier) (x : Tier) where
   abbrev gives : Inlet → List Input
@@ -176,9 +104,9 @@ module _ (P : Plan) (b : Buffers) (S : Supply) (s : ℕ) (l : List Inlet) (p : O
   in_order : flat_map (gives b p x) l ≡ put_all (flat_map of_conn (connections_to P s)) []
   unfolding IsStrictlySortedBy
   in_order = let sorted = given_sorted b p x l are.sorted in
-      same_sorted input_order inputs_total (flat_map (gives b p x) l) (put_all (flat_map of_conn (connections_to P s)) []) sorted (puts_sorted input_order inputs_total (flat_map of_conn (connections_to P s)) [] tt)
+      same_sorted input_order inputs_total (flat_map (gives b p x) l) (put_all (flat_map of_conn (connections_to P s)) []) sorted (puts_sorted input_order inputs_total (λ n. n) (flat_map of_conn (connections_to P s)) [] tt)
       (λ n m. puts_in input_order inputs_total (flat_map (gives b p x) l) (λ y z k h e. equal_in input_order inputs_total (flat_map (gives b p x) l) y z sorted k h e) n (flat_map of_conn (connections_to P s)) [] out_of (λ y r. absurd r) (inl (into n m)))
-      (λ n m. elim (puts_from input_order inputs_total n (flat_map of_conn (connections_to P s)) [] m) [ inl r ↦ out_of n r | inr r ↦ absurd r ])
+      (λ n m. elim (puts_from input_order inputs_total (λ n. n) n (flat_map of_conn (connections_to P s)) [] m) [ inl r ↦ out_of n (subst (λ (y : Input). IsIn y (flat_map of_conn (connections_to P s))) (sym r.2) r.1) | inr r ↦ absurd r ])
 
   pub gathered_sorted : (ins : List Input) → ins ≡ flat_map (gives b p x) l → IsStrictlySortedBy input_order ins
   unfolding IsStrictlySortedBy

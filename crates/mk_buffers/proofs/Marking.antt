@@ -1,10 +1,10 @@
 -- The least mark, found one by one and kept as marks rise.
-use Rattle.std.proofs.Common.{◌≡◌, ◌≢◌, ◌⊎◌, inl, inr, ℕ, zero, suc, ◌+◌, ◌<◌, ◌≤◌, if◌then◌else◌, Bool, true, false, List, [], ◌∷◌, ◌++◌, pos, length, Option, Some, None, slice_get, slice_set, get_or, unwrap_or, refl, sym, ap, subst, ◌∙◌, arith, true≢false}
+use Rattle.std.proofs.Common.{◌≡◌, inl, inr, ℕ, zero, suc, ◌+◌, ◌<◌, ◌≤◌, if◌then◌else◌, Bool, true, false, List, [], ◌∷◌, ◌++◌, pos, length, Option, Some, None, slice_get, slice_set, get_or, unwrap_or, refl, sym, ap, subst, ◌∙◌, arith, true≢false}
 use Rattle.mk_base.specs.declared.tier.Tier.{Tier}
 use Rattle.mk_base.specs.Tiers.{up_to, IsUpTo, moment}
 use Rattle.mk_base.proofs.TierOrder.{up_to_self, up_to_total, up_to_trans, up_to_antisym}
 use Rattle.mk_base.proofs.Lists.{some_same, below_get, get_is, set_here, set_else, length_set}
-use Rattle.mk_buffers.specs.Marking.{Marked, IsLow, IsLeastMark, greater}
+use Rattle.mk_buffers.specs.Marking.{Marked, IsLow, IsLeastMark}
 use Rattle.mk_buffers.specs.inner.Marking.{AreStarts, IsLeastOf, IsNoneOf, IsBest, Raised, HoldsLeast}
 use Rattle.mk_buffers_log.proofs.Places.{apart_or_same, below_or_same, get_some}
 

@@ -28,7 +28,8 @@ use Rattle.mk_buffers.specs.inner.Slots.{slot_order, set_inputs, TakesLast, Have
 use Rattle.mk_buffers.proofs.Lasts.{or_last, last_filtered}
 use Rattle.mk_plan_judge.proofs.Putting.{put_found, put_unfound}
 use Rattle.mk_buffers_log.proofs.Places.{get_some}
-use Rattle.mk_buffers.proofs.Rising.{then_equal, all_of}
+use Rattle.mk_plan_judge.proofs.Puts.{all_has}
+use Rattle.mk_buffers.proofs.Rising.{then_equal}
 
 pub slots_total : IsTotalOrder slot_order
 slots_total = then_total (on_texts (λ (i : Slot). i.eid)) (then_total (on_texts (λ (i : Slot). i.attr)) (on_texts (λ (i : Slot). i.source)))
@@ -109,7 +110,7 @@ held_at k (y ∷ ys) zero o sorted at h =
     let mine : same_key k (input_in y []) ≡ true = ap (λ (z : Slot). same_key k (input_in z [])) same ∙ h in
     ap (λ (c : Bool). cond c y.values [] ++ held_for k ys) mine ∙ ap (λ (l : List Timed). y.values ++ l) (none_after k y ys mine sorted.0) ∙ append_nil y.values ∙ ap (λ (z : Slot). z.values) same
 held_at k (y ∷ ys) (suc i) o sorted at h =
-    let less : slot_order y o ≡ Less = all_of (λ z. slot_order y z ≡ Less) ys o sorted.0 (at_in o ys i at) in
+    let less : slot_order y o ≡ Less = all_has (λ z. slot_order y z ≡ Less) ys o sorted.0 (at_in o ys i at) in
     let more : slot_order o y ≡ Greater = slots_total.antisymm o y ∙ ap ordering_reverse less in
     ap (λ (c : Bool). cond c y.values [] ++ held_for k ys) (apart_greater k o y h more) ∙ held_at k ys i o sorted.1 at h
 

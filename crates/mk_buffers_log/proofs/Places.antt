@@ -1,12 +1,7 @@
 -- What stands at a place of a list, and how places compare.
 use Rattle.std.specs.Prelude.{OnOk, OnErr}
-use Rattle.std.proofs.Common.{◌≡◌, ◌≢◌, ◌⊎◌, inl, inr, ℕ, zero, suc, ◌+◌, ◌<◌, List, [], ◌∷◌, length, Some, Result, Ok, Err, slice_get, get_or, refl, ap, sym, arith}
-use Rattle.mk_base.proofs.Lists.{some_same}
-
-pub get_some : {X : Type 0} (xs : List X) (i : ℕ) (d : X) → i < length xs → d ≡ get_or xs i d → slice_get xs i ≡ Some d
-get_some [] i d there is = absurd (omega arith)
-get_some (x ∷ xs) zero d there is = ap Some (sym is)
-get_some (x ∷ xs) (suc i) d there is = get_some xs i d (omega arith) is
+use Rattle.std.proofs.Common.{◌≡◌, ◌≢◌, ◌⊎◌, inl, inr, ℕ, zero, suc, ◌+◌, ◌<◌, List, [], ◌∷◌, length, Some, Result, Ok, Err, slice_get, get_or, refl, arith}
+pub use Rattle.mk_plan_judge.proofs.AtPlaces.{get_any, get_some}
 
 pub get_or_some : {X : Type 0} (xs : List X) (i : ℕ) (d : X) → i < length xs → slice_get xs i ≡ Some (get_or xs i d)
 get_or_some [] i d there = absurd (omega arith)
@@ -21,11 +16,6 @@ apart_or_same i j = elim (compared i j) [ inl less ↦ inr (λ e. omega arith) |
 
 pub below_or_same : (s n : ℕ) → s < n + 1 → (s ≡ n) ⊎ (s < n)
 below_or_same s n h = grind arith
-
-pub get_any : {X : Type 0} (xs : List X) (i : ℕ) (d x : X) → slice_get xs i ≡ Some x → get_or xs i d ≡ x
-get_any [] i d x at = cc
-get_any (y ∷ ys) zero d x at = some_same at
-get_any (y ∷ ys) (suc i) d x at = get_any ys i d x at
 
 -- what follows either way
 pub either_way : {A E : Type 0} {P Q R : Type 0} (r : Result A E) → OnOk r P → OnErr r Q → (P → R) → (Q → R) → R

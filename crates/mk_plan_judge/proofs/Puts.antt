@@ -4,14 +4,14 @@ use Rattle.std.specs.Prelude.{unwrap_or}
 use Rattle.std.specs.Cmp.{IsTotalOrder}
 use Rattle.std.specs.List.{AllByRecursion}
 use Rattle.std.specs.List.Sorted.{IsStrictlySortedBy}
-use Rattle.std.specs.Ordering.{is_eq, ordering_reverse}
+use Rattle.std.specs.Ordering.{is_eq}
 use Rattle.std.specs.declared.cmp.Ordering.{Ordering}
 use Rattle.std.specs.declared.cmp.Ordering.TheVariants.{Less, Equal, Greater}
 use Rattle.mk_base.specs.Lists.{IsIn, put, placed, last_of}
-use Rattle.mk_plan_judge.proofs.Putting.{put_sorted}
+use Rattle.mk_plan_judge.proofs.Putting.{put_sorted, turned}
 
 module _ {X : Type 0} where
-  all_has : (P : X → Type 0) (xs : List X) (x : X) → AllByRecursion P xs → IsIn x xs → P x
+  pub all_has : (P : X → Type 0) (xs : List X) (x : X) → AllByRecursion P xs → IsIn x xs → P x
   all_has P [] x all m = absurd m
   all_has P (y ∷ ys) x all (inl q) = subst P (sym q) all.0
   all_has P (y ∷ ys) x all (inr m) = all_has P ys x all.1 m
@@ -30,7 +30,7 @@ module _ {X : Type 0} where
   other_than_last order n xs items b same is = ap (is_other order n) (sym (last_is xs)) ∙ ap (λ (l : List X). is_other order n (slice_get l (length l - 1))) (sym same) ∙ sym is
 
 module _ {X : Type 0} (order : X → X → Ordering) where
-  put_is_in : (x : X) (ys : List X) → IsIn x (put order x ys)
+  pub put_is_in : (x : X) (ys : List X) → IsIn x (put order x ys)
   put_is_in x [] = inl refl
   put_is_in x (y ∷ ys) = elim (order x y) as (λ o. IsIn x (placed o x y ys (put order x ys))) [ Less ↦ inl refl | Equal ↦ inl refl | Greater ↦ inr (put_is_in x ys) ]
 
@@ -51,11 +51,8 @@ module _ {X : Type 0} (order : X → X → Ordering) where
     all_put_in f c (d ∷ cs) ys (inr (inr m)) = all_put_in f c cs (put order (f d) ys) (inr m)
 
 module _ {X : Type 0} (order : X → X → Ordering) (total : IsTotalOrder order) where
-  turned : (x y : X) (o : Ordering) → order y x ≡ o → order x y ≡ ordering_reverse o
-  turned x y o e = total.antisymm x y ∙ ap ordering_reverse e
-
   not_both : (x y : X) → order x y ≡ Less → order y x ≡ Less → ⊥
-  not_both x y h k = let e : Less ≡ Greater = sym h ∙ turned x y Less k in cc
+  not_both x y h k = let e : Less ≡ Greater = sym h ∙ turned order total x y Less k in cc
 
   pub puts_sorted : {C : Type 0} (f : C → X) (cs : List C) (xs : List X) → IsStrictlySortedBy order xs → IsStrictlySortedBy order (fold (λ ys c. put order (f c) ys) xs cs)
   puts_sorted f [] xs sorted = sorted
@@ -100,8 +97,8 @@ module _ {X : Type 0} (order : X → X → Ordering) (total : IsTotalOrder order
   first_below y z n low a b = by (order y n) refl
     where
       by : (o : Ordering) → order y n ≡ o → order n y ≡ Greater
-      by Less e = turned n y Less e
-      by Equal e = absurd (b (turned z n Less (sym (total.congr y n z e) ∙ low)))
+      by Less e = turned order total n y Less e
+      by Equal e = absurd (b (turned order total z n Less (sym (total.congr y n z e) ∙ low)))
       by Greater e = absurd (a e)
 
   pub put_end : (n : X) (xs : List X) → IsStrictlySortedBy order xs → ((y : X) → IsIn y xs → order y n ≡ Greater → ⊥) → is_other order n (last_of xs) ≡ true → put order n xs ≡ xs ++ n ∷ []
@@ -110,7 +107,7 @@ module _ {X : Type 0} (order : X → X → Ordering) (total : IsTotalOrder order
   put_end n (y ∷ []) sorted last other = ap (λ o. placed o n y [] (n ∷ [])) (by (order y n) refl other)
     where
       by : (o : Ordering) → order y n ≡ o → not (is_eq o) ≡ true → order n y ≡ Greater
-      by Less e h = turned n y Less e
+      by Less e h = turned order total n y Less e
       by Equal e h = absurd (true≢false (sym h))
       by Greater e h = absurd (last y (inl refl) e)
   put_end n (y ∷ z ∷ zs) sorted last other = ap (λ o. placed o n y (z ∷ zs) (put order n (z ∷ zs))) (first_below y z n sorted.0.0 (last y (inl refl)) (last z (inr (inl refl))))
@@ -124,7 +121,7 @@ module _ {X : Type 0} (order : X → X → Ordering) (total : IsTotalOrder order
       where
         by : (o : Ordering) → order y n ≡ o → not (is_eq o) ≡ false → put order n (y ∷ []) ≡ y ∷ []
         by Less e h = absurd (true≢false h)
-        by Equal e h = ap (λ o. placed o n y [] (n ∷ [])) (turned n y Equal e) ∙ ap (λ x. x ∷ []) (sym (exact y n e))
+        by Equal e h = ap (λ o. placed o n y [] (n ∷ [])) (turned order total n y Equal e) ∙ ap (λ x. x ∷ []) (sym (exact y n e))
         by Greater e h = absurd (last y (inl refl) e)
     put_again n (y ∷ z ∷ zs) sorted last same = ap (λ o. placed o n y (z ∷ zs) (put order n (z ∷ zs))) (first_below y z n sorted.0.0 (last y (inl refl)) (last z (inr (inl refl))))
         ∙ ap (λ l. y ∷ l) (put_again n (z ∷ zs) sorted.1 (λ w m. last w (inr m)) same)

@@ -31,7 +31,7 @@ module _ {X : Type 0} where
   ]
 
 module _ {X : Type 0} (order : X → X → Ordering) (total : IsTotalOrder order) where
-  turned : (x y : X) (o : Ordering) → order y x ≡ o → order x y ≡ ordering_reverse o
+  pub turned : (x y : X) (o : Ordering) → order y x ≡ o → order x y ≡ ordering_reverse o
   turned x y o e = total.antisymm x y ∙ ap ordering_reverse e
 
   -- of two in order, the first is below each that equals the second

@@ -15,6 +15,7 @@ use Rattle.mk_plan.specs.Plans.{owner, eid_of}
 use Rattle.mk_plan.specs.Turns.{wanted, want_order}
 use Rattle.mk_plan.specs.Asks.{gives_attr}
 use Rattle.mk_plan_judge.proofs.Putting.{names_total}
+use Rattle.mk_plan_judge.proofs.Puts.{all_has}
 use Rattle.mk_plan_judge.proofs.Taken.{same_names, taken_is_wanted}
 use Rattle.mk_order.proofs.Reasons.{and_both, both_and}
 use Rattle.mk_order.proofs.GivenValues.{text_is}
@@ -48,11 +49,6 @@ text_itself (b ∷ s) = both_and (nat_eq b b) (same_text s s) (eq-eqb b b refl) 
 
 is_want_itself : (v : Want) → is_want v v ≡ true
 is_want_itself v = rw (text_itself v.eid, text_itself v.attr) refl
-
-all_has : {X : Type 0} (Q : X → Type 0) (xs : List X) (x : X) → AllByRecursion Q xs → IsIn x xs → Q x
-all_has Q [] x all m = absurd m
-all_has Q (y ∷ ys) x all (inl e) = subst Q (sym e) all.0
-all_has Q (y ∷ ys) x all (inr m) = all_has Q ys x all.1 m
 
 module _ {Y : Type 0} (f : Want → List Y) (v : Want) where
   abbrev pub of_want : Want → List Y
