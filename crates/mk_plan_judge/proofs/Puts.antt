@@ -1,4 +1,5 @@
--- Items put in order, one after the other: what comes of them depends on which they are, and not on the order in which they come.
+-- Items put in order, one after the other: what comes of them depends on which they are, and not on
+-- the order in which they come.
 use Rattle.std.proofs.Common.{◌≡◌, ◌⊎◌, inl, inr, suc, ◌-◌, Bool, true, false, true≢false, not, List, [], ◌∷◌, ◌++◌, length, fold, Option, option_map, slice_get, refl, sym, ap, subst, ◌∙◌, arith}
 use Rattle.std.specs.Prelude.{unwrap_or}
 use Rattle.std.specs.Cmp.{IsTotalOrder}

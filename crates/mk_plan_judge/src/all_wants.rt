@@ -1,4 +1,4 @@
-// What each GetData asks of each simulator, from one pass over all connections.
+//! What each GetData asks of each simulator, from one pass over all connections.
 ghost use Rattle.std.specs.Prelude.{◌≡◌, ◌<◌, ℕ, List, [], length, Some, IfOk, OnOk, slice_get};
 ghost use Rattle.std.specs.Ordering.{is_lt};
 ghost use Rattle.std.specs.List.Sorted.{IsPermutation, IsSortedBy, IsStrictlySortedBy};
