@@ -1,5 +1,5 @@
 -- What is said on the links is what sequential execution sends, over all that may still come.
-use Rattle.std.proofs.Common.{◌≡◌, ℕ, ℤ, ◌<◌, Bool, true, false, not, List, [], ◌∷◌, ◌++◌, length, map, take, filter, Option, Some, None, option_map, option_and_then, unwrap_or, refl, sym, ap, ◌∙◌, subst, ◌⊎◌, inl, inr, append_assoc, true≢false, if◌then◌else◌, ◌+◌, ◌==◌}
+use Rattle.std.proofs.Common.{◌≡◌, ℕ, ℤ, ◌<◌, Bool, true, false, not, List, [], ◌∷◌, ◌++◌, length, map, take, filter, Option, Some, None, option_map, option_and_then, unwrap_or, refl, sym, ap, ◌∙◌, subst, ◌⊎◌, inl, inr, append_assoc, true≢false, if◌then◌else◌, ◌+◌, ◌==◌, ◌&&◌}
 use Rattle.std.proofs.lemmas.Bool.{eqb-true, eq-eqb}
 use Rattle.mk_base.specs.declared.LinkNo.{LinkNo}
 use Rattle.mk_base.specs.declared.SimNo.{SimNo}
@@ -31,7 +31,7 @@ use Rattle.mk_run_laws.specs.Exchanges.{exchange}
 use Rattle.mk_run_laws.specs.Handshake.{is_local, has_link, is_within, sim_link}
 use Rattle.mk_run_laws.specs.Kinds.{Replies, KeepsToKinds}
 use Rattle.mk_run_laws.specs.Rests.{run_messages}
-use Rattle.mk_run_laws.specs.Runs.{IsPossible, IsPossibleUpTo}
+use Rattle.mk_run_laws.specs.Runs.{IsPossible, IsPossibleUpTo, is_other_within}
 use Rattle.mk_run_laws.proofs.Following.{followed, all_done}
 
 -- a simulator that isn't within the program has a link
@@ -103,8 +103,22 @@ module _ (P : Plan) (valid : IsValidPlan P) (started : ℕ) (S : Scenario) (sims
           same_or_not : (a b : ℕ) → (a ≡ b) ⊎ (a ≡ b → ⊥)
           same_or_not a b = elim (a == b) as (λ c. (a == b) ≡ c → (a ≡ b) ⊎ (a ≡ b → ⊥)) [ true ↦ λ e. inl (eqb-true a b e) | false ↦ λ e. inr (λ q. true≢false (sym (eq-eqb a b q) ∙ e)) ] refl
 
+          first_holds : (a b : Bool) → (a && b) ≡ true → a ≡ true
+          first_holds true b e = refl
+          first_holds false b e = e
+
+          not_first : (a b : Bool) → (a && not b) ≡ false → b ≡ false → a ≡ false
+          not_first true b e f = absurd (true≢false (ap not (sym f) ∙ e))
+          not_first false b e f = refl
+
+          other : (a b : ℕ) → (a ≡ b → ⊥) → (a == b) ≡ false
+          other a b apart = elim (a == b) as (λ c. (a == b) ≡ c → (a == b) ≡ false) [ true ↦ λ e. absurd (apart (eqb-true a b e)) | false ↦ λ e. e ] refl
+
+          others_before : KeepsToKinds reply (is_other_within S s.0) P H
+          others_before G t m later is here = kinds_before G t m later is (first_holds (is_within S t.0) (not (t.0 == s.0)) here)
+
           cont : Continues P H R
-          cont = followed P valid reply (is_within S) R may.by_kind H front.0 kinds_before (λ i h out. elim (same_or_not i s.0) [
+          cont = followed P valid reply (is_other_within S s.0) R may.by_kind H front.0 others_before (λ i h out. elim (same_or_not i s.0) [
             | inl e ↦ ([], ap R e ∙ may.ends ∙ ap (got H) (sym e) ∙ sym (append_nil (got H i)))
-            | inr apart ↦ let t = low_link i h out in begins_twice (R i) (got J i) (got H i) (begins_twice (R i) (run_messages S log i t.0) (got J i) (may.links i t.0 t.1 apart) (links i t.0 t.1)) (got_before i)
+            | inr apart ↦ let t = low_link i h (not_first (is_within S i) (i == s.0) out (other i s.0 apart)) in begins_twice (R i) (got J i) (got H i) (begins_twice (R i) (run_messages S log i t.0) (got J i) (may.links i t.0 t.1 apart) (links i t.0 t.1)) (got_before i)
           ])

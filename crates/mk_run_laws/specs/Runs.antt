@@ -1,6 +1,6 @@
 -- What the log of a whole run means: what is said on each link, what is heard, and what both have
 -- to do with its journal.
-use Rattle.std.specs.Prelude.{◌≡◌, ℕ, ◌<◌, ◌≤◌, ◌⊎◌, Bool, true, List, [], map, take, Option, Some, IsSome}
+use Rattle.std.specs.Prelude.{◌≡◌, ◌==◌, ◌&&◌, ℕ, ◌<◌, ◌≤◌, ◌⊎◌, Bool, true, not, List, [], map, take, Option, Some, IsSome}
 use Rattle.mk_base.specs.declared.LinkNo.{LinkNo}
 use Rattle.mk_base.specs.Lists.{BeginsWith}
 use Rattle.mk_plan.specs.declared.Plan.{Plan}
@@ -29,10 +29,14 @@ pub record IsPossible (X : Exchange) (P : Plan) (R : Messages) : Type 0 where
   pub links : (i : ℕ) (l : LinkNo) → sim_link X.started X.scenario i ≡ Some l
       → BeginsWith (R i) (run_messages X.scenario X.log i l)
 
--- the same, but that simulator s, on link k, sends no more than its messages in J
+-- simulator i is within the program, and isn't s
+abbrev pub is_other_within : Scenario → ℕ → ℕ → Bool
+is_other_within S s i = is_within S i && not (i == s)
+
+-- the same, but that simulator s sends no more than its messages in J: its last turn is cut
 pub record IsPossibleUpTo (X : Exchange) (P : Plan) (J : List Entry) (s : ℕ)
     (R : Messages) : Type 0 where
-  pub by_kind : AnswersByKind X.reply (is_within X.scenario) P R
+  pub by_kind : AnswersByKind X.reply (is_other_within X.scenario s) P R
   pub links : (i : ℕ) (l : LinkNo) → sim_link X.started X.scenario i ≡ Some l → (i ≡ s → ⊥)
       → BeginsWith (R i) (run_messages X.scenario X.log i l)
   pub ends : R s ≡ got J s

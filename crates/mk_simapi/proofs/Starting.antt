@@ -21,13 +21,14 @@ pub is_open : (link : LinkNo) (before after : List LinkNo) → after ≡ before 
 is_open link before after is = subst (IsIn link) (sym is) (in_back link before (link ∷ []) (inl refl))
 
 pub has_served : (rows : List Turn) (kind asked text : List ℕ) (port number started one_more going ended : ℕ) (link : LinkNo) (end : Served) (before opened served closed : List LinkNo) (old one two new : Option (List LogEntry)) (status : ℕ) (given : Option (List ℕ × ℕ))
-    → given ≡ Some (asked, number) → given ≡ Some (kind, port) → text ≡ asked → one_more ≡ started + 1 → going ≡ one_more → ended ≡ going → opened ≡ before ++ link ∷ [] → served ≡ opened → closed ≡ without link served
+    → given ≡ Some (asked, number) → given ≡ Some (kind, port) → text ≡ asked → link.0 ≡ started → one_more ≡ started + 1 → going ≡ one_more → ended ≡ going → opened ≡ before ++ link ∷ [] → served ≡ opened → closed ≡ without link served
     → Adds [] old one → ((entries : List LogEntry) × Adds entries one two × ((row : Turn) → kind_named text rows ≡ Some row → Serves (new_simulator row) link end entries)) → Adds [] two new → status ≡ status_of end
     → HasEnded rows kind started ended before closed old new status
-has_served rows kind asked text port number started one_more going ended link end before opened served closed old one two new status given words wanted named one_link goes_on at_end opens kept shut first did last is =
+has_served rows kind asked text port number started one_more going ended link end before opened served closed old one two new status given words wanted named numbered one_link goes_on at_end opens kept shut first did last is =
     let same : asked ≡ kind = ap (λ (p : List ℕ × ℕ). p.0) (some_same (sym words ∙ wanted)) in
     inr (record {
       link = link;
+      is = numbered;
       end = end;
       entries = did.0 ++ [];
       adds = adds_more did.0 [] old two new (adds_more [] did.0 old one two first did.1) last;

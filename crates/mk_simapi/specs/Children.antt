@@ -41,11 +41,12 @@ pub record IsUnstarted (started_before started_after : ℕ) (before after : List
   pub links : after ≡ before
   pub silent : Adds [] old new
 
--- one link was started, a simulator of the kind of this name was served on it, and the link was
--- closed again; the status is that of the serving's end
+-- one link was started, which has the next number, a simulator of the kind of this name was served on
+-- it, and the link was closed again; the status is that of the serving's end
 pub record HasServed (rows : List Turn) (kind : List ℕ) (started_before started_after : ℕ)
     (before after : List LinkNo) (old new : Option (List LogEntry)) (answer : ℕ) : Type 0 where
   pub link : LinkNo
+  pub is : link.0 ≡ started_before
   pub end : Served
   pub entries : List LogEntry
   pub adds : Adds entries old new

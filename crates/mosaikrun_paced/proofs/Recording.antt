@@ -76,7 +76,7 @@ module _ (O : Outside) (factor : ℕ) (strict : Option ℕ) (S : Scenario) (text
   there (inl unready) not due = absurd (not_unready unready due)
   there (inr (inl unpaced)) not due = absurd (not_unpaced unpaced not due)
   there (inr (inr p)) not due = elim p.recorded [
-    | inl is ↦ record { ranks = p.ranks; plan = p.plan; journal = p.journal; moments = p.moments; end = p.end; run = p.run; said = p.said; is = is; again = subst (λ (k : Option (List ℕ)). IfSome k (IsReadAgain p.plan p.journal)) is p.again }
+    | inl is ↦ record { ranks = p.ranks; runnable = p.runnable; plan = p.plan; journal = p.journal; moments = p.moments; end = p.end; run = p.run; said = p.said; is = is; again = subst (λ (k : Option (List ℕ)). IfSome k (IsReadAgain p.plan p.journal)) is p.again }
     | inr none ↦ absurd (not none.1)
   ]
 
@@ -84,7 +84,7 @@ module _ (O : Outside) (factor : ℕ) (strict : Option ℕ) (S : Scenario) (text
   only (inl unready) = inl unready.idle.unrecorded
   only (inr (inl unpaced)) = inl unpaced.unrun.unrecorded
   only (inr (inr p)) = elim p.recorded [
-    | inl is ↦ inr (record { ranks = p.ranks; plan = p.plan; journal = p.journal; moments = p.moments; end = p.end; run = p.run; said = p.said; is = is; again = subst (λ (k : Option (List ℕ)). IfSome k (IsReadAgain p.plan p.journal)) is p.again })
+    | inl is ↦ inr (record { ranks = p.ranks; runnable = p.runnable; plan = p.plan; journal = p.journal; moments = p.moments; end = p.end; run = p.run; said = p.said; is = is; again = subst (λ (k : Option (List ℕ)). IfSome k (IsReadAgain p.plan p.journal)) is p.again })
     | inr none ↦ inl none.0
   ]
 

@@ -1,5 +1,5 @@
 -- When the record of a paced run has to be there, and what it is.
-use Rattle.std.specs.Prelude.{◌≡◌, ◌⊎◌, ℕ, ℤ, ⊤, List, Option, Some, Result, Ok, Err}
+use Rattle.std.specs.Prelude.{◌≡◌, ◌⊎◌, ℕ, ℤ, ⊤, List, map, Option, Some, Result, Ok, Err}
 use Rattle.mk_plan.specs.declared.Plan.{Plan}
 use Rattle.mk_plan.specs.declared.Entry.{Entry}
 use Rattle.mk_scenario.specs.declared.parts.Scenario.{Scenario}
@@ -7,6 +7,8 @@ use Rattle.mk_record.specs.Texts.{record_text}
 use Rattle.mk_pace_laws.specs.declared.end.Moment.{Moment}
 use Rattle.mk_pace_laws.specs.declared.end.PaceEnd.{PaceEnd}
 use Rattle.mk_pace_laws.specs.Paced.{HasPaced}
+use Rattle.mosaikrun_check.specs.Runnable.{IsRunnable}
+use Rattle.mk_local.specs.Kinds.{name_of}
 use Rattle.mosaikrun_endings.specs.declared.ending.Ending.{Ending}
 use Rattle.mosaikrun_endings.specs.declared.ending.Ending.TheVariants.{Late}
 use Rattle.mosaikrun_run.specs.Outcomes.{IsReadAgain, IsSaid, Outside, attempt_in}
@@ -27,11 +29,12 @@ abbrev pub EndsOfItselfPaced : {V : Type 0} → Result V Ending → Type 0
 EndsOfItselfPaced (Ok value) = ⊤
 EndsOfItselfPaced (Err e) = IsRunFault e ⊎ IsLateEnding e
 
--- there is a record, which is that of the plan and the journal of a paced run, and says these where it
--- is read again; and what was said of this same run, of its end, is its report, or why there is none
+-- there is a record, which is that of the plan and the journal of a paced run of the scenario, with
+-- its ranks, and says these where it is read again; and what was said of this same run, of its end, is its report, or why there is none
 pub record HasPaceRecord (O : Outside) (factor : ℕ) (strict : Option ℕ) (S : Scenario)
     (text : Result (List ℕ) Ending) (kept : Option (List ℕ)) : Type 0 where
   pub ranks : List ℕ
+  pub runnable : IsRunnable (map name_of O.kinds) S ranks
   pub plan : Plan
   pub journal : List Entry
   pub moments : List Moment

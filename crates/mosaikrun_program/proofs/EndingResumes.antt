@@ -140,24 +140,24 @@ module _ (C : Around) (name : Option (List ℕ)) (bytes recorded : List ℕ) (te
 
   -- no fault is shown by what follows on this scenario and this record
   abbrev ShowsRight : Scenario → Saved → Type 0
-  ShowsRight S old = (any : List ℕ) (P : Plan) → HasRefused (attempt_in C.outside S any) P (HasRisen C.outside.faults C.outside.new_faults) → IsRightRecord P old
+  ShowsRight S old = (any : List ℕ) (P : Plan) → AreRanks S any → HasRefused (attempt_in C.outside S any) P (HasRisen C.outside.faults C.outside.new_faults) → IsRightRecord P old
 
   abbrev ShowsFaultless : Scenario → Saved → Type 0
-  ShowsFaultless S old = (any : List ℕ) (P : Plan) (J : List Entry) (end : ResumeEnd) → (h : HasResumed (attempt_in C.outside S any) old P J C.outside.faults C.outside.new_faults end)
+  ShowsFaultless S old = (any : List ℕ) (P : Plan) (J : List Entry) (end : ResumeEnd) → AreRanks S any → (h : HasResumed (attempt_in C.outside S any) old P J C.outside.faults C.outside.new_faults end)
       → IsFaultless (exchange_in C.outside S) P h.run.first J h.run.heard C.outside.faults C.outside.new_faults
 
   abbrev ShowsHandshake : Scenario → Type 0
   ShowsHandshake S = (any : List ℕ) → AreRanks S any → IsFaultlessHandshake (attempt_in C.outside S any) (HasRisen C.outside.faults C.outside.new_faults)
 
-  went : HandshakesComplete → (S : Scenario) (ranks : List ℕ) (old : Saved) → ShowsHandshake S → ShowsRight S old → ShowsFaultless S old → IsSavedOutcome C.outside (is_some name) S ranks old text kept → IsStatusOr 0 (status r)
-  went law S ranks old handshake right fine (inl u) =
+  went : HandshakesComplete → (S : Scenario) (ranks : List ℕ) → AreRanks S ranks → (old : Saved) → ShowsHandshake S → ShowsRight S old → ShowsFaultless S old → IsSavedOutcome C.outside (is_some name) S ranks old text kept → IsStatusOr 0 (status r)
+  went law S ranks ranked old handshake right fine (inl u) =
       let mem = law (attempt_in C.outside S u.ranks) C.outside.faults C.outside.new_faults u.halt u.halted (handshake u.ranks u.runnable.ranked) in
       status_of_none C name text kept r said Mem (elim u.said [ inl is ↦ is ∙ ap (λ h. Err (halt_ending (ids_of S) h)) mem | inr is ↦ is ]) 0 (inl refl)
-  went law S ranks old handshake right fine (inr (inl n)) =
-      let mem = untaken_for_memory n.plan old n.journal n.end (right ranks n.plan n.refused) n.cause in
+  went law S ranks ranked old handshake right fine (inr (inl n)) =
+      let mem = untaken_for_memory n.plan old n.journal n.end (right ranks n.plan ranked n.refused) n.cause in
       status_of_none C name text kept r said Mem (elim n.said [ inl is ↦ is ∙ ap (resume_saying (ids_of S) n.plan n.journal) mem | inr is ↦ is ]) 0 (inl refl)
-  went law S ranks old handshake right fine (inr (inr g)) =
-      elim (resume_completes (exchange_in C.outside S) g.plan old g.journal C.outside.faults C.outside.new_faults g.end g.run.run (fine ranks g.plan g.journal g.end g.run)) [
+  went law S ranks ranked old handshake right fine (inr (inr g)) =
+      elim (resume_completes (exchange_in C.outside S) g.plan old g.journal C.outside.faults C.outside.new_faults g.end g.run.run (fine ranks g.plan g.journal g.end ranked g.run)) [
         | inl done ↦ elim g.said [
           | inl is ↦ status_of_text C name text kept r said (text_of Report g.plan (journals.sent g.journal)) (is ∙ ap (resume_saying (ids_of S) g.plan g.journal) done)
           | inr is ↦ status_of_none C name text kept r said Mem is 0 (inl refl)
@@ -176,7 +176,7 @@ module _ (C : Around) (name : Option (List ℕ)) (bytes recorded : List ℕ) (te
     | inr rec ↦
         let same : f.scenario ≡ has.study.scenario = one_scenario bytes f.scenario has.study.scenario f.read has.study.read in
         let one : f.old ≡ rec.saved = one_saved recorded f.old rec.saved f.old_read rec.read in
-        went law has.study.scenario has.study.ranks rec.saved
+        went law has.study.scenario has.study.ranks has.study.runnable.ranked rec.saved
         (subst ShowsHandshake same f.handshake)
         (subst (ShowsRight has.study.scenario) one (subst (λ (X : Scenario). ShowsRight X f.old) same f.right))
         (subst (ShowsFaultless has.study.scenario) one (subst (λ (X : Scenario). ShowsFaultless X f.old) same f.run))

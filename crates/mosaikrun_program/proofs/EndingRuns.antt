@@ -90,7 +90,7 @@ module _ (C : Around) (name : Option (List ℕ)) (bytes : List ℕ) (text : Resu
           let mem = law (attempt_in C.outside has.scenario u.ranks) C.outside.faults C.outside.new_faults u.halt u.halted fine in
           status_of_none C name text kept r said Mem (elim u.said [ inl is ↦ is ∙ ap (λ h. Err (halt_ending (ids_of has.scenario) h)) mem | inr is ↦ is ]) 0 (inl refl)
       go (inr (inr p)) =
-          let fine = subst (λ (X : Scenario). (any : List ℕ) (P : Plan) (J : List Entry) (end : Outcome) → HasRun (attempt_in C.outside X any) P J C.outside.faults C.outside.new_faults end → IsFaultless (exchange_in C.outside X) P J C.outside.faults C.outside.new_faults) same f.run p.ranks p.plan p.journal p.outcome p.run in
+          let fine = subst (λ (X : Scenario). (any : List ℕ) (P : Plan) (J : List Entry) (end : Outcome) → AreRanks X any → HasRun (attempt_in C.outside X any) P J C.outside.faults C.outside.new_faults end → IsFaultless (exchange_in C.outside X) P J C.outside.faults C.outside.new_faults) same f.run p.ranks p.plan p.journal p.outcome p.runnable.ranked p.run in
           elim (run_completes (exchange_in C.outside has.scenario) p.plan p.journal C.outside.faults C.outside.new_faults p.outcome p.run.run fine) [
             | inl done ↦ elim p.said [
               | inl is ↦ status_of_text C name text kept r said (text_of Report p.plan (sent p.journal)) (is ∙ ap (saying_of Report (ids_of has.scenario) p.plan p.journal) done)

@@ -18,8 +18,8 @@ use Rattle.mosaikrun_endings.specs.declared.ending.Ending.{Ending}
 use Rattle.mosaikrun_endings.specs.declared.ending.Ending.TheVariants as ends
 use Rattle.mosaikrun_endings.specs.Endings.{status_of}
 use Rattle.mosaikrun_records.specs.Saved.{IsRecord, IsUnread}
-use Rattle.mosaikrun_run.specs.Outcomes.{IsReadAgain}
-use Rattle.mosaikrun_resume.specs.Outcomes.{IsResumeOutcome, IsSavedOutcome, IsStudy}
+use Rattle.mosaikrun_run.specs.Outcomes.{IsReadAgain, IsUnrun}
+use Rattle.mosaikrun_resume.specs.Outcomes.{IsNotTaken, IsResumeOutcome, IsSavedOutcome, IsStudy}
 use Rattle.mosaikrun_program.specs.Around.{Around}
 use Rattle.mosaikrun_program.specs.Commands.{AreHeld, IsAccepted, IsAsked, HasBytes, IsNext, IsStuckBy, IsUnasked, IsUnreadable, OfTwoBy, files_of}
 use Rattle.mosaikrun_program.specs.Program.{EndedAs, HasPerformed, status}
@@ -42,7 +42,7 @@ no_record bytes e (inr fault) not r = let other = r.read in let is = fault.3 in 
 
 module _ (S : Around) (bytes recorded name : List ℕ) where
   abbrev Kept : Result (Unit {0}) Ending → Type 0
-  Kept answer = KeepsOldFiles S bytes recorded ⊎ HoldsNewRecord S answer bytes recorded name
+  Kept answer = KeepsOldFiles S answer bytes recorded name ⊎ HoldsNewRecord S answer bytes recorded name
 
   same_files : (kept : Option (List ℕ)) → kept ≡ None → IsSaved S.folder (Some name) kept → S.folder.files_after ≡ S.folder.files
   same_files kept none saved = subst (λ (k : Option (List ℕ)). IsFolderAfter (Some name) k S.folder.files S.folder.files_after) none saved
@@ -53,8 +53,22 @@ module _ (S : Around) (bytes recorded name : List ℕ) where
 
     module _ (s : IsStudy (map name_of S.outside.kinds) bytes) (old : Saved) (read : reading recorded ≡ Said old.plan (map came_ old.arrivals) old.asks) where
       went : IsSavedOutcome S.outside true s.scenario s.ranks old text kept → Kept answer
-      went (inl unrun) = inl (record { same = same_files kept unrun.unrecorded saved; cause = inr (inr (record { study = s; old = old; read = read; untaken = (text, kept, inl unrun) })) })
-      went (inr (inl rest)) = inl (record { same = same_files kept rest.unrecorded saved; cause = inr (inr (record { study = s; old = old; read = read; untaken = (text, kept, inr rest) })) })
+      went (inl unrun) = inl (record { same = same_files kept unrun.unrecorded saved; cause = inr (inr (record {
+        study = s;
+        old = old;
+        read = read;
+        said = text;
+        untaken = inl (subst (λ (k : Option (List ℕ)). IsUnrun S.outside s.scenario text k) unrun.unrecorded unrun);
+        answered = subst (λ (k : Option (List ℕ)). RunAnswer S.folder S.output (Some name) text k answer) unrun.unrecorded told;
+      })) })
+      went (inr (inl rest)) = inl (record { same = same_files kept rest.unrecorded saved; cause = inr (inr (record {
+        study = s;
+        old = old;
+        read = read;
+        said = text;
+        untaken = inr (subst (λ (k : Option (List ℕ)). IsNotTaken S.outside s.scenario s.ranks old text k) rest.unrecorded rest);
+        answered = subst (λ (k : Option (List ℕ)). RunAnswer S.folder S.output (Some name) text k answer) rest.unrecorded told;
+      })) })
       went (inr (inr gone)) = elim gone.recorded [
         | inl is ↦ inr (record {
           study = s;
@@ -155,7 +169,7 @@ new_record_kept S answer n is ended = by_files S.folder.files refl
   where
     by_files : (files : Option Files) → S.folder.files ≡ files
         → IfSome files (λ held. (scenario record_ name bytes recorded : List ℕ) → IsAsked S.words (Resume scenario record_ (Some name)) → held scenario ≡ Some bytes → length bytes ≤ file_limit → held record_ ≡ Some recorded → length recorded ≤ file_limit
-        → (HasRisen S.folder.faults S.folder.new_faults → ⊥) → (n ≡ 8 → ⊥) → KeepsOldFiles S bytes recorded ⊎ HoldsNewRecord S answer bytes recorded name)
+        → (HasRisen S.folder.faults S.folder.new_faults → ⊥) → (n ≡ 8 → ⊥) → KeepsOldFiles S answer bytes recorded name ⊎ HoldsNewRecord S answer bytes recorded name)
     by_files None told = tt
     by_files (Some held) told = λ scenario record_ name bytes recorded asked there short there_too short_too unrisen other.
         ended_keeps S held told scenario record_ name bytes recorded asked there short there_too short_too unrisen answer (λ (mem : answer ≡ Err ends.Mem). other (is ∙ ap status mem)) ended

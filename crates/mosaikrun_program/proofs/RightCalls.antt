@@ -134,6 +134,7 @@ module _ (C : Around) (form : Form) (wanted : Bool) (S : Scenario) (saved : Opti
       record {
         plan = Some p.plan;
         there = λ zero. refl;
+        unplanned = λ none. cc;
         links = λ i l linked.
             let t = right.links i l linked in
             record {
@@ -158,6 +159,7 @@ module _ (C : Around) (form : Form) (wanted : Bool) (S : Scenario) (saved : Opti
           within = p.run.kinds;
           journal = p.journal;
           of_run = p.run.run.journal;
+          said = λ i l linked. let t = p.run.run.links i l linked in record { items = t.0; first = t.1.items_sent; said = t.1.said };
           promised = right.promised;
           setup_rests = p.run.run.setup_rests;
           rests = right.rests;
@@ -190,6 +192,7 @@ module _ (C : Around) (form : Form) (wanted : Bool) (S : Scenario) (saved : Opti
   halted text kept u not wanting = record {
     plan = None;
     there = λ zero. absurd (not zero);
+    unplanned = λ none. record { ranks = u.ranks; ranked = own_ranks (map name_of C.outside.kinds) S u.ranks u.runnable; halt = u.halt; halted = u.halted; wanting = λ mem. wanting (mem_said mem) };
     links = λ i l linked. record {
       asked = count_to i u.halted.queued;
       items = [];
@@ -291,6 +294,7 @@ onward C name (Ok t) kept r said S ranks old p =
       journal = p.journal;
       end = p.end;
       run = p.run;
+      done = λ zero. (resuming.done_alone (ids_of S) p.plan p.journal p.end t p.said).0;
       text = λ zero R goes. shown.put t refl zero ∙ ap (λ x. appended x C.output.before) (whole.text_is R goes);
       heard = λ zero. whole.heard;
       recorded = elim p.recorded [ inl is ↦ filed_by C name (Ok t) kept r said p.plan p.journal is | inr none ↦ cc ];
@@ -302,6 +306,7 @@ onward C name (Err e) kept r said S ranks old p =
       journal = p.journal;
       end = p.end;
       run = p.run;
+      done = λ zero. absurd (not zero);
       text = λ zero R goes. absurd (not zero);
       heard = λ zero i l linked low. absurd (not zero);
       recorded = λ zero target named. absurd (not zero);
@@ -360,6 +365,7 @@ module _ (C : Around) (factor : ℕ) (strict : Option ℕ) (S : Scenario) (name 
         end = p.end;
         run = p.run;
         right = right;
+        done = over;
         possible = λ zero. (
           come,
           record {

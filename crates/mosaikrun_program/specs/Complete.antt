@@ -49,7 +49,7 @@ pub record IsFaultlessStudy (O : Outside) (bytes : List ℕ) : Type 0 where
   pub prepared : IsPrepared scenario (map name_of O.kinds)
   pub handshake : (any : List ℕ) → AreRanks scenario any
       → IsFaultlessHandshake (attempt_in O scenario any) (HasRisen O.faults O.new_faults)
-  pub run : (any : List ℕ) (P : Plan) (J : List Entry) (end : Outcome)
+  pub run : (any : List ℕ) (P : Plan) (J : List Entry) (end : Outcome) → AreRanks scenario any
       → HasRun (attempt_in O scenario any) P J O.faults O.new_faults end
       → IsFaultless (exchange_in O scenario) P J O.faults O.new_faults
 
@@ -87,9 +87,10 @@ pub record IsFaultlessResume (O : Outside) (bytes recorded : List ℕ) : Type 0 
       → IsFaultlessHandshake (attempt_in O scenario any) (HasRisen O.faults O.new_faults)
   pub old : Saved
   pub old_read : reading recorded ≡ Said old.plan (map came old.arrivals) old.asks
-  pub right : (any : List ℕ) (P : Plan) → HasRefused (attempt_in O scenario any) P
-      (HasRisen O.faults O.new_faults) → IsRightRecord P old
-  pub run : (any : List ℕ) (P : Plan) (J : List Entry) (end : ResumeEnd)
+  pub right : (any : List ℕ) (P : Plan) → AreRanks scenario any
+      → HasRefused (attempt_in O scenario any) P (HasRisen O.faults O.new_faults)
+      → IsRightRecord P old
+  pub run : (any : List ℕ) (P : Plan) (J : List Entry) (end : ResumeEnd) → AreRanks scenario any
       → (h : HasResumed (attempt_in O scenario any) old P J O.faults O.new_faults end)
       → onward.IsFaultless (exchange_in O scenario) P h.run.first J h.run.heard O.faults
       O.new_faults

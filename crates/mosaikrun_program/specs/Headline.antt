@@ -3,12 +3,13 @@
 -- execution of the scenario's plan sends; in which order messages came stands nowhere in it.
 use Rattle.std.specs.Prelude.{◌≡◌, ℕ, ◌⊎◌, true, List, [], map, option_map, take, Option, Some, None, IsSome, IfSome, Ok}
 use Rattle.mk_base.specs.declared.LinkNo.{LinkNo}
+use Rattle.mk_base.specs.Lists.{BeginsWith}
 use Rattle.mk_plan.specs.declared.Plan.{Plan}
 use Rattle.mk_plan.specs.declared.Item.{Item}
 use Rattle.mk_plan.specs.declared.Entry.{Entry}
 use Rattle.mk_plan.specs.declared.Message.{Message}
 use Rattle.mk_plan.specs.Agreement.{IsFinished}
-use Rattle.mk_plan.specs.Journals.{bare}
+use Rattle.mk_plan.specs.Journals.{bare, sent}
 use Rattle.mk_plan.specs.Plans.{IsValidPlan}
 use Rattle.mk_plan.specs.Sequential.{Messages, run_items}
 use Rattle.mk_outside.specs.Counts.{HasRisen}
@@ -21,10 +22,14 @@ use Rattle.mk_run_laws.specs.Handshake.{setup_count, setup_requests, sim_link}
 use Rattle.mk_run_laws.specs.Hearing.{messages_heard}
 use Rattle.mk_run_laws.specs.Laws.{IsJournalOf}
 use Rattle.mk_run_laws.specs.Rests.{RestsWell}
-use Rattle.mk_run_laws.specs.Runs.{IsPossible, SaidWhole, SaysRight}
-use Rattle.mk_outside.specs.Logs.{heard_on}
+use Rattle.mk_run_laws.specs.Runs.{IsPossible, SaidWhole, SaysRight, run_frames}
+use Rattle.mk_outside.specs.declared.fleet.LogEntry.{LogEntry}
+use Rattle.mk_outside.specs.Logs.{heard_on, said_on}
 use Rattle.mk_run_links.specs.Entries.{AreOnOrOfClock, IsRunLink}
+use Rattle.mk_run_crew.specs.declared.halt.Halt.{Halt}
+use Rattle.mk_run_crew.specs.declared.halt.Halt.TheVariants as halts
 use Rattle.mk_run_crew.specs.Answers.{AreKindAnswers, answers_to}
+use Rattle.mk_run_crew.specs.Halted.{HasHalted}
 use Rattle.mk_run.specs.Ends.{SetupRestsWell}
 use Rattle.mk_run.specs.Laws.{ArePromised}
 use Rattle.mk_setup.specs.Handshakes.{IsMade}
@@ -35,7 +40,7 @@ use Rattle.mosaikrun_words.specs.declared.request.FileCommand.{FileCommand}
 use Rattle.mosaikrun_words.specs.declared.request.Request.TheVariants.{Files, Run, Resume, Paced, Demo}
 use Rattle.mosaikrun_run.specs.declared.sayings.Form.{Form}
 use Rattle.mosaikrun_run.specs.declared.sayings.Form.TheVariants.{Report, Summary}
-use Rattle.mosaikrun_run.specs.Outcomes.{Outside, exchange_in}
+use Rattle.mosaikrun_run.specs.Outcomes.{Outside, attempt_in, exchange_in}
 use Rattle.mosaikrun_run.specs.Sayings.{text_of}
 use Rattle.mosaikrun_program.specs.Around.{Around}
 use Rattle.mosaikrun_program.specs.Commands.{AreHeld, IsAsked, HasBytes, IsOutcomeOf, read_by, target_of}
@@ -63,9 +68,17 @@ pub record IsRightLink (O : Outside) (S : Scenario) (plan : Option Plan) (n i : 
   pub whole : ((n ≡ 8) × (O.log ≡ []) → ⊥)
       → SaidWhole S O.log (HasRisen O.faults O.new_faults) i l asked items
 
+-- what was said to simulator i on its link begins the frames of its handshake, of the first items that
+-- the journal sent it, and of a stop
+pub record IsSaidBy (S : Scenario) (J : List Entry) (log : List LogEntry) (i : ℕ)
+    (l : LinkNo) : Type 0 where
+  pub items : List Item
+  pub first : BeginsWith (sent J i) items
+  pub said : BeginsWith (run_frames S i items) (said_on l log)
+
 -- what the simulators were sent by this plan, which is valid, and that of the replies to their
--- handshake, with the ranks of the scenario; and by this journal of what was sent and heard. Each
--- Step's max_advance is a promise. Wherever the fleet was waited for: until all had set up, each
+-- handshake, with the ranks of the scenario; and by this journal, whose items were said on the links, or
+-- the first of them, and which has the first messages that were heard. Each Step's max_advance is a promise. Wherever the fleet was waited for: until all had set up, each
 -- request was said up to the first whose reply hadn't come; from then on all messages heard were in
 -- the journal, and all replies of simulators within the program, nobody was ready, and all that was
 -- owed was said, in both cases but where a link's last write took nothing. At status 0 the items of
@@ -85,6 +98,8 @@ pub record IsRightRunBy (C : Around) (form : Form) (S : Scenario) (saved : Optio
   pub within : AreKindAnswers C.outside.kinds S answers
   pub journal : List Entry
   pub of_run : IsJournalOf (exchange_in C.outside S) P journal
+  pub said : (i : ℕ) (l : LinkNo) → sim_link C.outside.started S i ≡ Some l
+      → IsSaidBy S journal C.outside.log i l
   pub promised : ArePromised (exchange_in C.outside S) P journal
   pub setup_rests : SetupRestsWell C.outside.started S C.outside.log
   pub rests : RestsWell C.outside.started S P journal C.outside.log
@@ -95,12 +110,21 @@ pub record IsRightRunBy (C : Around) (form : Form) (S : Scenario) (saved : Optio
   pub recorded : n ≡ 0 → (name : List ℕ) → saved ≡ Some name → C.folder.files_after
       ≡ option_map (with_file name (record_text P journal)) C.folder.files
 
+-- the handshake ended early, for a cause that the log shows, or for want of memory at status 8
+pub record HasHaltedAt (O : Outside) (S : Scenario) (n : ℕ) : Type 0 where
+  pub ranks : List ℕ
+  pub ranked : AreRanksOf S ranks
+  pub halt : Halt
+  pub halted : HasHalted (attempt_in O S ranks) (HasRisen O.faults O.new_faults) halt
+  pub wanting : halt ≡ halts.Mem → n ≡ 8
+
 -- a scenario was run, with a plan where its handshake came to one, and no link but those of its
 -- simulators was read or written
 pub record IsRightStudy (C : Around) (form : Form) (S : Scenario) (saved : Option (List ℕ))
     (n : ℕ) : Type 0 where
   pub plan : Option Plan
   pub there : n ≡ 0 → IsSome plan
+  pub unplanned : plan ≡ None → HasHaltedAt C.outside S n
   pub links : (i : ℕ) (l : LinkNo) → sim_link C.outside.started S i ≡ Some l
       → IsRightLink C.outside S plan n i l
   pub on_links : AreOnOrOfClock (IsRunLink C.outside.started S) C.outside.log

@@ -14,7 +14,9 @@ use Rattle.mk_record.specs.Texts.{record_text}
 use Rattle.mk_run_laws.specs.Runs.{IsPossible}
 use Rattle.mk_setup.specs.Ranked.{AreRanksOf}
 use Rattle.mk_pace_laws.specs.declared.end.Moment.{Moment}
+use Rattle.mk_run.specs.declared.outcome.Outcome.TheVariants as outcome
 use Rattle.mk_pace_laws.specs.declared.end.PaceEnd.{PaceEnd}
+use Rattle.mk_pace_laws.specs.declared.end.PaceEnd.TheVariants as pace_end
 use Rattle.mk_pace_laws.specs.Laws.{IsRightPace}
 use Rattle.mk_pace_laws.specs.Paced.{HasPaced, IsAwake}
 use Rattle.mosaikrun_words.specs.declared.request.Request.TheVariants.{Paced}
@@ -31,7 +33,7 @@ use Rattle.mosaikrun_program.specs.Running.{RunAnswer}
 -- moments: what was said
 -- on each link begins what sequential execution sends, no Step before its moment, each Step's
 -- max_advance is a promise, and where the fleet slept, its clock never having gone back and no
--- simulator being within the program, nothing was due. At status 0 messages may come, and over all
+-- simulator being within the program, nothing was due. At status 0 all is done, messages may come, and over all
 -- that may, the output has grown by exactly the report of what sequential execution sends; and the
 -- record of the plan and the journal was saved under the name that was given for it
 pub record IsRightPacedRun (C : Around) (factor : ℕ) (strict : Option ℕ) (S : Scenario)
@@ -46,6 +48,7 @@ pub record IsRightPacedRun (C : Around) (factor : ℕ) (strict : Option ℕ) (S 
       C.outside.faults C.outside.new_faults end
   pub right : IsRightPace (exchange_in C.outside S) plan journal moments
       (HasRisen C.outside.faults C.outside.new_faults) end
+  pub done : n ≡ 0 → end ≡ pace_end.Outcome outcome.Done
   pub possible : n ≡ 0 → (R : Messages) × IsPossible (exchange_in C.outside S) plan R
   pub text : n ≡ 0 → (R : Messages) → IsPossible (exchange_in C.outside S) plan R
       → C.output.after ≡ appended (report plan (run_items plan R)) C.output.before

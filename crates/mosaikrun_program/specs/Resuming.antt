@@ -1,6 +1,6 @@
 -- What a call has done that goes on with a run: that it is right, and what becomes of the file that it
 -- saves the new record in.
-use Rattle.std.specs.Prelude.{◌≡◌, ◌⊎◌, ℕ, ◌<◌, ◌≤◌, true, List, length, map, Option, Some, option_map, IfSome, Result}
+use Rattle.std.specs.Prelude.{◌≡◌, ◌⊎◌, ℕ, ◌<◌, ◌≤◌, true, List, length, map, Option, Some, None, option_map, IfSome, Result}
 use Rattle.mk_base.specs.declared.LinkNo.{LinkNo}
 use Rattle.mk_base.specs.Lists.{BeginsWith}
 use Rattle.mk_plan.specs.declared.Plan.{Plan}
@@ -21,7 +21,9 @@ use Rattle.mk_record.specs.Texts.{record_text}
 use Rattle.mk_record_read.specs.declared.saved.Saved.{Saved}
 use Rattle.mk_run_laws.specs.Handshake.{sim_link}
 use Rattle.mk_run_laws.specs.Rests.{run_messages}
+use Rattle.mk_run.specs.declared.outcome.Outcome.TheVariants as outcome
 use Rattle.mk_resume_loop.specs.declared.ending.ResumeEnd.{ResumeEnd}
+use Rattle.mk_resume_loop.specs.declared.ending.ResumeEnd.TheVariants as resume_end
 use Rattle.mk_resume.specs.Resumed.{HasResumed}
 use Rattle.mosaikrun_words.specs.declared.request.Request.TheVariants.{Resume}
 use Rattle.mosaikrun_endings.specs.declared.ending.Ending.{Ending}
@@ -32,8 +34,8 @@ use Rattle.mosaikrun_program.specs.Around.{Around}
 use Rattle.mosaikrun_program.specs.Commands.{IsAsked, HasBytes}
 use Rattle.mosaikrun_program.specs.Running.{RunAnswer}
 
--- the run has gone on by this plan, with this journal, which begins with the record's. At status 0,
--- over whatever goes on with the messages of the journal, the output has grown by exactly the report
+-- the run has gone on by this plan, with this journal, which begins with the record's. At status 0 all
+-- is done, and over whatever goes on with the messages of the journal, the output has grown by exactly the report
 -- of what sequential execution sends; each link brought, behind its handshake, all messages that the
 -- journal has of its simulator; and the record of the plan and the journal was saved under the name
 -- that was given for it
@@ -44,6 +46,7 @@ pub record IsRightOnward (C : Around) (S : Scenario) (ranks : List ℕ) (old : S
   pub end : ResumeEnd
   pub run : HasResumed (attempt_in C.outside S ranks) old plan journal
       C.outside.faults C.outside.new_faults end
+  pub done : n ≡ 0 → end ≡ resume_end.Outcome outcome.Done
   pub text : n ≡ 0 → (R : Messages) → Continues plan journal R
       → C.output.after ≡ appended (report plan (run_items plan R)) C.output.before
   pub heard : n ≡ 0 → (i : ℕ) (l : LinkNo) → sim_link C.outside.started S i ≡ Some l
@@ -92,19 +95,24 @@ pub record HoldsNewRecord (S : Around) (answer : Result (Unit {0}) Ending)
   pub filed : S.folder.files_after ≡ option_map (with_file name text) S.folder.files
 
 -- the bytes are a scenario, which can be run, and a record, but the handshake ended early, or the record
--- wasn't taken
-pub record IsRefused (S : Around) (bytes recorded : List ℕ) : Type 0 where
+-- wasn't taken, so that there is no new one; what was said of this is what the answer tells
+pub record IsRefused (S : Around) (answer : Result (Unit {0}) Ending)
+    (bytes recorded name : List ℕ) : Type 0 where
   pub study : IsStudy (map name_of S.outside.kinds) bytes
   pub old : Saved
   pub read : reading recorded ≡ Said old.plan (map came old.arrivals) old.asks
-  pub untaken : IsUntaken S.outside study.scenario study.ranks old
+  pub said : Result (List ℕ) Ending
+  pub untaken : IsUnrun S.outside study.scenario said None
+      ⊎ IsNotTaken S.outside study.scenario study.ranks old said None
+  pub answered : RunAnswer S.folder S.output (Some name) said None answer
 
 -- or all files are as before, since the run didn't go on: the bytes are no scenario that can be run,
 -- or no record, or it was refused
-pub record KeepsOldFiles (S : Around) (bytes recorded : List ℕ) : Type 0 where
+pub record KeepsOldFiles (S : Around) (answer : Result (Unit {0}) Ending)
+    (bytes recorded name : List ℕ) : Type 0 where
   pub same : S.folder.files_after ≡ S.folder.files
   pub cause : (IsStudy (map name_of S.outside.kinds) bytes → ⊥)
-      ⊎ ((IsRecord recorded → ⊥) ⊎ IsRefused S bytes recorded)
+      ⊎ ((IsRecord recorded → ⊥) ⊎ IsRefused S answer bytes recorded name)
 
 -- so it is where the words ask to go on with the run of a scenario from a record, whose files have these
 -- bytes, and give this name for the new record, the folder tells, its count of faults didn't rise,
@@ -115,4 +123,4 @@ IsNewRecordKept S answer n = IfSome S.folder.files
     → IsAsked S.words (Resume scenario record_ (Some name)) → held scenario ≡ Some bytes
     → length bytes ≤ file_limit → held record_ ≡ Some recorded → length recorded ≤ file_limit
     → (HasRisen S.folder.faults S.folder.new_faults → ⊥) → (n ≡ 8 → ⊥)
-    → KeepsOldFiles S bytes recorded ⊎ HoldsNewRecord S answer bytes recorded name)
+    → KeepsOldFiles S answer bytes recorded name ⊎ HoldsNewRecord S answer bytes recorded name)

@@ -30,7 +30,7 @@ use Rattle.mosaikrun_resume.specs.Outcomes.{HasGoneOn}
 use Rattle.mosaikrun_resume.specs.Sayings.{resume_saying}
 
 -- a report is said of a run that is done alone
-done_alone : (ids : List (List ℕ)) (P : Plan) (J : List Entry) (end : ResumeEnd) (text : List ℕ) → IsSaid (resume_saying ids P J end) (Ok text) → (end ≡ ends.Outcome outcome.Done) × (text ≡ report P (sent J))
+pub done_alone : (ids : List (List ℕ)) (P : Plan) (J : List Entry) (end : ResumeEnd) (text : List ℕ) → IsSaid (resume_saying ids P J end) (Ok text) → (end ≡ ends.Outcome outcome.Done) × (text ≡ report P (sent J))
 done_alone ids P J (ends.Outcome o) text said = let t = said_is_done Report ids P J o text said in (ap (λ x. ends.Outcome x) t.0, t.1)
 done_alone ids P J (ends.OtherPlan n) text (inl is) = absurd cc
 done_alone ids P J (ends.OtherPlan n) text (inr wanting) = absurd cc

@@ -93,7 +93,7 @@ module _ (O : Outside) (form : Form) (S : Scenario) (text : Result (List ℕ) En
   there (inl unready) not due = absurd (unready_not unready due)
   there (inr (inl unrun)) not due = absurd (unrun_not unrun not due)
   there (inr (inr p)) not due = elim p.recorded [
-    | inl is ↦ record { ranks = p.ranks; plan = p.plan; journal = p.journal; outcome = p.outcome; run = p.run; said = p.said; is = is; again = subst (λ (k : Option (List ℕ)). IfSome k (IsReadAgain p.plan p.journal)) is p.again }
+    | inl is ↦ record { ranks = p.ranks; runnable = p.runnable; plan = p.plan; journal = p.journal; outcome = p.outcome; run = p.run; said = p.said; is = is; again = subst (λ (k : Option (List ℕ)). IfSome k (IsReadAgain p.plan p.journal)) is p.again }
     | inr none ↦ absurd (not none.1)
   ]
 
@@ -101,7 +101,7 @@ module _ (O : Outside) (form : Form) (S : Scenario) (text : Result (List ℕ) En
   only (inl unready) = inl unready.idle.unrecorded
   only (inr (inl unrun)) = inl unrun.unrecorded
   only (inr (inr p)) = elim p.recorded [
-    | inl is ↦ inr (record { ranks = p.ranks; plan = p.plan; journal = p.journal; outcome = p.outcome; run = p.run; said = p.said; is = is; again = subst (λ (k : Option (List ℕ)). IfSome k (IsReadAgain p.plan p.journal)) is p.again })
+    | inl is ↦ inr (record { ranks = p.ranks; runnable = p.runnable; plan = p.plan; journal = p.journal; outcome = p.outcome; run = p.run; said = p.said; is = is; again = subst (λ (k : Option (List ℕ)). IfSome k (IsReadAgain p.plan p.journal)) is p.again })
     | inr none ↦ inl none.0
   ]
 

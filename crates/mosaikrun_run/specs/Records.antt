@@ -1,5 +1,5 @@
 -- When the record of a run has to be there, and what it is.
-use Rattle.std.specs.Prelude.{◌≡◌, ℕ, ℤ, ⊤, List, [], ◌∷◌, ◌++◌, take, Option, Some, Result, Ok, Err}
+use Rattle.std.specs.Prelude.{◌≡◌, ℕ, ℤ, ⊤, List, [], ◌∷◌, ◌++◌, map, take, Option, Some, Result, Ok, Err}
 use Rattle.mk_base.specs.declared.LinkNo.{LinkNo}
 use Rattle.mk_base.specs.declared.tier.Tier.{Tier}
 use Rattle.mk_base.specs.Lists.{BeginsWith}
@@ -16,6 +16,8 @@ use Rattle.mk_run_laws.specs.Handshake.{setup_payloads, sim_link}
 use Rattle.mk_record.specs.Texts.{record_text}
 use Rattle.mk_run.specs.declared.outcome.Outcome.{Outcome}
 use Rattle.mk_run.specs.Ran.{HasRun}
+use Rattle.mosaikrun_check.specs.Runnable.{IsRunnable}
+use Rattle.mk_local.specs.Kinds.{name_of}
 use Rattle.mosaikrun_endings.specs.declared.ending.Ending.{Ending}
 use Rattle.mosaikrun_endings.specs.declared.ending.Ending.TheVariants as ends
 use Rattle.mosaikrun_sayings.specs.Sayings.{ids_of}
@@ -74,12 +76,13 @@ abbrev pub EndsOfItself : {V : Type 0} → Result V Ending → Type 0
 EndsOfItself (Ok value) = ⊤
 EndsOfItself (Err e) = IsRunFault e
 
--- there is a record, which is that of the plan and the journal of a run, and says these where it is
--- read again; and what was said of this same run, of its outcome, is its text in this form, or why
+-- there is a record, which is that of the plan and the journal of a run of the scenario, with its
+-- ranks, and says these where it is read again; and what was said of this same run, of its outcome, is its text in this form, or why
 -- there is none
 pub record HasRecord (O : Outside) (form : Form) (S : Scenario) (text : Result (List ℕ) Ending)
     (kept : Option (List ℕ)) : Type 0 where
   pub ranks : List ℕ
+  pub runnable : IsRunnable (map name_of O.kinds) S ranks
   pub plan : Plan
   pub journal : List Entry
   pub outcome : Outcome

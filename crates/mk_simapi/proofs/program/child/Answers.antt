@@ -12,7 +12,7 @@ close-requires g c = record { «open» = is_open c.in-Link.link (g.F.Fleet.open_
 
 pub returns-in-Link-clause-ended : goal.returns-in-Link-clause-ended
 returns-in-Link-clause-ended g c = λ kind port e. has_served (rows_in c.args.kinds.now) kind c.in-Some.asked.kind.now c.in-Ok.kind port c.in-Some.asked.port (g.F.Fleet.started c.args.fleet.now) _ _ _ c.in-Link.link c.serve-end.result
-    (g.F.Fleet.open_links c.args.fleet.now) _ _ _ _ _ _ _ c.status_of.result (asked (rows_in c.args.kinds.now) (map string_bytes c.args.words.now)) (sym c.read_words.ensures ∙ ap (option_map (λ a. let p : List ℕ × ℕ = (a.kind.now, a.port) in p)) c.in-Some.is) e c.in-Ok.ensures c.in-Link.ensures.starts.2 c.serve-end.ensures.same_count c.close.ensures.same_count c.in-Link.ensures.starts.3 c.serve-end.ensures.same_links c.close.ensures.closed c.in-Link.ensures.logged c.serve-end.ensures.served c.close.ensures.logged c.status_of.ensures
+    (g.F.Fleet.open_links c.args.fleet.now) _ _ _ _ _ _ _ c.status_of.result (asked (rows_in c.args.kinds.now) (map string_bytes c.args.words.now)) (sym c.read_words.ensures ∙ ap (option_map (λ a. let p : List ℕ × ℕ = (a.kind.now, a.port) in p)) c.in-Some.is) e c.in-Ok.ensures c.in-Link.ensures.starts.0 c.in-Link.ensures.starts.2 c.serve-end.ensures.same_count c.close.ensures.same_count c.in-Link.ensures.starts.3 c.serve-end.ensures.same_links c.close.ensures.closed c.in-Link.ensures.logged c.serve-end.ensures.served c.close.ensures.logged c.status_of.ensures
 
 pub returns-in-Link-clause-connects : goal.returns-in-Link-clause-connects
 returns-in-Link-clause-connects g c = λ kind port e.
