@@ -30,7 +30,8 @@ EndsOfItselfPaced (Ok value) = ⊤
 EndsOfItselfPaced (Err e) = IsRunFault e ⊎ IsLateEnding e
 
 -- there is a record, which is that of the plan and the journal of a paced run of the scenario, with
--- its ranks, and says these where it is read again; and what was said of this same run, of its end, is its report, or why there is none
+-- its ranks, and says these where it is read again; and what was said of this same run, of its end,
+-- is its report, or why there is none
 pub record HasPaceRecord (O : Outside) (factor : ℕ) (strict : Option ℕ) (S : Scenario)
     (text : Result (List ℕ) Ending) (kept : Option (List ℕ)) : Type 0 where
   pub ranks : List ℕ

@@ -77,14 +77,15 @@ pub record IsSaidBy (S : Scenario) (J : List Entry) (log : List LogEntry) (i : �
   pub said : BeginsWith (run_frames S i items) (said_on l log)
 
 -- what the simulators were sent by this plan, which is valid, and that of the replies to their
--- handshake, with the ranks of the scenario; and by this journal, whose items were said on the links, or
--- the first of them, and which has the first messages that were heard. Each Step's max_advance is a promise. Wherever the fleet was waited for: until all had set up, each
--- request was said up to the first whose reply hadn't come; from then on all messages heard were in
--- the journal, and all replies of simulators within the program, nobody was ready, and all that was
+-- handshake, with the ranks of the scenario; and by this journal, whose items were said on the
+-- links, or the first of them, and which has the first messages that were heard. Each Step's
+-- max_advance is a promise. Wherever the fleet was waited for: until all had set up, each request
+-- was said up to the first whose reply hadn't come; from then on all messages heard were in the
+-- journal, and all replies of simulators within the program, nobody was ready, and all that was
 -- owed was said, in both cases but where a link's last write took nothing. At status 0 the items of
--- the journal are all that sequential execution sends over its messages; messages may come, and over
--- all that may, the output has grown by exactly the text of what sequential execution sends; and the
--- record of the plan and the journal was saved under the name that was given for it
+-- the journal are all that sequential execution sends over its messages; messages may come, and
+-- over all that may, the output has grown by exactly the text of what sequential execution sends;
+-- and the record of the plan and the journal was saved under the name that was given for it
 pub record IsRightRunBy (C : Around) (form : Form) (S : Scenario) (saved : Option (List ℕ)) (n : ℕ)
     (P : Plan) : Type 0 where
   pub ranks : List ℕ

@@ -34,11 +34,11 @@ use Rattle.mosaikrun_program.specs.Around.{Around}
 use Rattle.mosaikrun_program.specs.Commands.{IsAsked, HasBytes}
 use Rattle.mosaikrun_program.specs.Running.{RunAnswer}
 
--- the run has gone on by this plan, with this journal, which begins with the record's. At status 0 all
--- is done, and over whatever goes on with the messages of the journal, the output has grown by exactly the report
--- of what sequential execution sends; each link brought, behind its handshake, all messages that the
--- journal has of its simulator; and the record of the plan and the journal was saved under the name
--- that was given for it
+-- the run has gone on by this plan, with this journal, which begins with the record's. At status 0
+-- all is done, and over whatever goes on with the messages of the journal, the output has grown by
+-- exactly the report of what sequential execution sends; each link brought, behind its handshake,
+-- all messages that the journal has of its simulator; and the record of the plan and the journal
+-- was saved under the name that was given for it
 pub record IsRightOnward (C : Around) (S : Scenario) (ranks : List ℕ) (old : Saved)
     (saved : Option (List ℕ)) (n : ℕ) : Type 0 where
   pub plan : Plan

@@ -77,8 +77,8 @@ EndsOfItself (Ok value) = ⊤
 EndsOfItself (Err e) = IsRunFault e
 
 -- there is a record, which is that of the plan and the journal of a run of the scenario, with its
--- ranks, and says these where it is read again; and what was said of this same run, of its outcome, is its text in this form, or why
--- there is none
+-- ranks, and says these where it is read again; and what was said of this same run, of its outcome,
+-- is its text in this form, or why there is none
 pub record HasRecord (O : Outside) (form : Form) (S : Scenario) (text : Result (List ℕ) Ending)
     (kept : Option (List ℕ)) : Type 0 where
   pub ranks : List ℕ
