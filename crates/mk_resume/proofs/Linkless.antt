@@ -89,8 +89,7 @@ module _ (S : Scenario) (all : is_wholly_within S ≡ true) (started faults : �
     within = r.within;
     in_range = r.in_range;
     heard = r.heard;
-    few = r.few;
-    caught = r.caught;
+    counts = r.counts;
     kinds = r.kinds;
     links = λ i l linked. absurd (never started i l linked);
     rests = λ before after is up. absurd (restless before after is);

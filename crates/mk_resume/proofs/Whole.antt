@@ -122,8 +122,7 @@ module _ (T : Setting) (P : Plan) (first J : List Entry) (heard : Counts) (log e
     within = ended.stands.within;
     in_range = ended.in_range;
     heard = heard;
-    few = λ i. let e = ended.counts i in omega (arith, e);
-    caught = λ i low. let e = ended.counts i in omega (arith, e, low);
+    counts = ended.counts;
     kinds = ended.kinds;
     links = λ i l linked. let t = ended.channels i l linked in (t.items, linked_so i l linked t, t.queued_all);
     rests = rests_well (saved_of first) T.started T.scenario T.replies ended.suits.counts P J (log ++ entries) (end_stopped (saved_of first) T.started T.scenario T.replies P J log entries restless ended.rests);

@@ -1,5 +1,5 @@
 -- What a resumed run means, over its whole log, and what each end shows.
-use Rattle.std.specs.Prelude.{◌≡◌, ◌⊎◌, ℕ, ◌<◌, ◌≤◌, ⊤, true, false, Bool, List, [], ◌∷◌, ◌++◌, length, take, map, Option, Some, None, slice_get}
+use Rattle.std.specs.Prelude.{◌≡◌, ◌⊎◌, ℕ, ◌<◌, ◌≤◌, max, ⊤, true, false, Bool, List, [], ◌∷◌, ◌++◌, length, take, map, Option, Some, None, slice_get}
 use Rattle.mk_base.specs.declared.LinkNo.{LinkNo}
 use Rattle.mk_base.specs.declared.SimNo.{SimNo}
 use Rattle.mk_base.specs.Lists.{BeginsWith, IsIn}
@@ -116,9 +116,10 @@ IsWaiting P J heard = (SomeReady P J → ⊥)
 -- a resumed run with a plan and a journal, of a record with these messages and steps, over the
 -- entries that it added to the log. `first` is the journal after the record's messages, which the
 -- run's begins with. Each simulator has sent so many of the journal's messages again in this call
--- (`heard`): where it has sent all that the record has of it, these are all; those of a simulator
--- within the program are its kind's replies; and each was sent what is free then, which is what
--- stands in the journal before its next message. No link but the run's was read or written
+-- (`heard`), and the journal has of it as many as the record, or as were heard, whichever are more;
+-- those of a simulator within the program are its kind's replies; and each was sent what is free
+-- then, which is what stands in the journal before its next message. No link but the run's was read
+-- or written
 pub record IsResumed (X : Exchange) (P : Plan) (saved : Saved) (J : List Entry)
     (faults new_faults : ℕ) (end : ResumeEnd) : Type 0 where
   pub replies : SetupReplies
@@ -133,8 +134,7 @@ pub record IsResumed (X : Exchange) (P : Plan) (saved : Saved) (J : List Entry)
   pub within : length J ≤ P.entries
   pub in_range : AreInRange J
   pub heard : Counts
-  pub few : (i : ℕ) → heard i ≤ length (got J i)
-  pub caught : (i : ℕ) → length (got first i) ≤ heard i → heard i ≡ length (got J i)
+  pub counts : (i : ℕ) → length (got J i) ≡ max (length (got first i)) (heard i)
   pub kinds : (i n : ℕ) (m : Message) → is_within X.scenario i ≡ true → n < heard i
       → slice_get (got J i) n ≡ Some m → m ≡ X.reply i (map bare (free_items J i n))
   pub links : (i : ℕ) (l : LinkNo) → sim_link X.started X.scenario i ≡ Some l → (items : List Item)
