@@ -155,11 +155,11 @@ module _ (P : Plan) (saved : Saved) where
   exactly_refused (ends.Differs sim place kept other) r = absurd r
 
 pub ends_exactly : ResumeEndsExactly
-ends_exactly A saved true (Some P) (Some J) faults new_faults end r = inr (record { plan = P; answers = r.answers; made = r.made; heard = λ i l linked. (r.run.links i l linked).1.replied ∙ r.told i l linked; exactly = exactly_taken P saved r.run.first end r.plans r.run.restored r.run.same })
+ends_exactly A saved true (Some P) (Some J) faults new_faults end r = inr (record { plan = P; answers = r.answers; made = r.made; kinds = r.kinds; heard = λ i l linked. (r.run.links i l linked).1.replied ∙ r.told i l linked; exactly = exactly_taken P saved r.run.first end r.plans r.run.restored r.run.same })
 ends_exactly A saved true (Some P) None faults new_faults end r = absurd r
 ends_exactly A saved true None J faults new_faults end r = absurd r
-ends_exactly A saved false (Some P) (Some J) faults new_faults end r = inr (record { plan = P; answers = r.1.answers; made = r.1.made; heard = λ i l linked. r.1.replied i l linked ∙ r.1.told i l linked; exactly = exactly_faulty P saved J.entries end r.0 })
+ends_exactly A saved false (Some P) (Some J) faults new_faults end r = inr (record { plan = P; answers = r.1.answers; made = r.1.made; kinds = r.1.kinds; heard = λ i l linked. r.1.replied i l linked ∙ r.1.told i l linked; exactly = exactly_faulty P saved J.entries end r.0 })
 ends_exactly A saved false (Some P) None faults new_faults end r = absurd r
 ends_exactly A saved false None (Some J) faults new_faults end r = absurd r
-ends_exactly A saved false None None faults new_faults end (inl r) = inr (record { plan = r.0; answers = r.2.answers; made = r.2.made; heard = λ i l linked. r.2.replied i l linked ∙ r.2.told i l linked; exactly = exactly_refused r.0 saved end r.1 })
+ends_exactly A saved false None None faults new_faults end (inl r) = inr (record { plan = r.0; answers = r.2.answers; made = r.2.made; kinds = r.2.kinds; heard = λ i l linked. r.2.replied i l linked ∙ r.2.told i l linked; exactly = exactly_refused r.0 saved end r.1 })
 ends_exactly A saved false None None faults new_faults end (inr r) = inl r

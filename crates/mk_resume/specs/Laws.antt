@@ -31,7 +31,7 @@ use Rattle.mk_run_laws.specs.Handshake.{setup_count, setup_requests, sim_link}
 use Rattle.mk_run_laws.specs.Payloads.{AreFramed, link_payloads}
 use Rattle.mk_run_laws.specs.Runs.{SaidWhole, run_frames}
 use Rattle.mk_run_laws.specs.Laws.{IsJournalOf}
-use Rattle.mk_run_crew.specs.Answers.{answers_to}
+use Rattle.mk_run_crew.specs.Answers.{AreKindAnswers, answers_to}
 use Rattle.mk_run.specs.declared.outcome.Outcome.TheVariants as outcome
 use Rattle.mk_run.specs.Ends.{IsRun}
 use Rattle.mk_run.specs.Laws.{ArePromised, HasSentAll, LinkSaysRight}
@@ -134,12 +134,13 @@ pub record EndsExactly (P : Plan) (saved : Saved) (end : ResumeEnd) : Type 0 whe
       → IsFaulted P (map came saved.arrivals) J f
       → (end ≡ ends.Outcome (outcome.Core f)) ⊎ (end ≡ ends.Outcome outcome.Mem)
 
--- the handshake made a plan of answers, which on each link are the first messages that were heard,
--- and over it the ends are those
+-- the handshake made a plan of answers, which of each simulator within the program are its kind's
+-- replies, and on each link are the first messages that were heard, and over it the ends are those
 pub record HasEndedExactly (A : Attempt) (saved : Saved) (end : ResumeEnd) : Type 0 where
   pub plan : Plan
   pub answers : List Message
   pub made : IsMade A.scenario A.ranks answers plan
+  pub kinds : AreKindAnswers A.rows A.scenario answers
   pub heard : (i : ℕ) (l : LinkNo) → sim_link A.started A.scenario i ≡ Some l
       → take (setup_count A.scenario i) (messages_heard (heard_on l A.log))
       ≡ answers_to i (setup_requests A.scenario) answers
