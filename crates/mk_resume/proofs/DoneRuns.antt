@@ -79,7 +79,7 @@ was_open P J H more s m orderly fine is closed =
 keeps : (P : Plan) (S : Scenario) (reply : Replies) (J : List Entry) (heard : Counts) → sim_count P ≡ length S.sims → IsOrderlySoFar IsReady IsAdvance P J → (view P J).fault ≡ None → ((i : ℕ) → i < sim_count P → heard i ≡ length (got J i)) → RepeatsByKind reply (is_within S) J heard
     → KeepsToKinds reply (is_within S) P J
 keeps P S reply J heard sims orderly fine all kinds H s m more is within = record {
-  is = kinds s.0 n m within few there ∙ ap (λ (K : List Entry). reply s.0 (map bare (sent K s.0))) (ap (up_to s.0 n) is ∙ up_to_there s m H more);
+  is = (kinds s.0 n m within few there).0 ∙ ap (λ (K : List Entry). reply s.0 (map bare (sent K s.0))) (ap (up_to s.0 n) is ∙ up_to_there s m H more);
   open_there = was_open P J H more s m orderly fine is;
 }
   where

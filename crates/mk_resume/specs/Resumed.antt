@@ -117,9 +117,9 @@ IsWaiting P J heard = (SomeReady P J → ⊥)
 -- entries that it added to the log. `first` is the journal after the record's messages, which the
 -- run's begins with. Each simulator has sent so many of the journal's messages again in this call
 -- (`heard`), and the journal has of it as many as the record, or as were heard, whichever are more;
--- those of a simulator within the program are its kind's replies; and each was sent what is free
--- then, which is what stands in the journal before its next message. No link but the run's was read
--- or written
+-- those of a simulator within the program are its kind's replies, each of which was awaited, an item
+-- before it not being answered; and each simulator was sent what is free then, which is what stands
+-- in the journal before its next message. No link but the run's was read or written
 pub record IsResumed (X : Exchange) (P : Plan) (saved : Saved) (J : List Entry)
     (faults new_faults : ℕ) (end : ResumeEnd) : Type 0 where
   pub replies : SetupReplies
@@ -136,7 +136,8 @@ pub record IsResumed (X : Exchange) (P : Plan) (saved : Saved) (J : List Entry)
   pub heard : Counts
   pub counts : (i : ℕ) → length (got J i) ≡ max (length (got first i)) (heard i)
   pub kinds : (i n : ℕ) (m : Message) → is_within X.scenario i ≡ true → n < heard i
-      → slice_get (got J i) n ≡ Some m → m ≡ X.reply i (map bare (free_items J i n))
+      → slice_get (got J i) n ≡ Some m
+      → (m ≡ X.reply i (map bare (free_items J i n))) × (n < length (free_items J i n))
   pub links : (i : ℕ) (l : LinkNo) → sim_link X.started X.scenario i ≡ Some l → (items : List Item)
       × IsLinkOfResumed X.scenario replies J X.log (HasRisen faults new_faults) i l (heard i) items
       × QueuedAllAt end (free_items J i (heard i)) items

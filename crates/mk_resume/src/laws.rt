@@ -32,7 +32,8 @@ pub fn resumed_runs_complete()
 
 /// A call of `resume` whose handshake was made ends by another plan, by another entry or by a fault
 /// among the record's messages wherever these are there, by the plan that the answers make which
-/// were heard on the links; for the last two memory may be wanting before.
+/// were heard on the links, or are the replies of the kinds; for the last two memory may be wanting
+/// before.
 pub fn resume_ends_exactly()
     ensures { ResumeEndsExactly }
 {}

@@ -173,7 +173,7 @@ module _ (saved : Counts) (started : ℕ) (S : Scenario) (replies : SetupReplies
         over,
       )
     where
-      kinds_new : (s : SimNo) (m : Message) → ((n : Message) → is_within S s.0 ≡ true → slice_get (got (J ++ Got s m ∷ []) s.0) (heard s.0) ≡ Some n → n ≡ reply s.0 (map bare (free_items (J ++ Got s m ∷ []) s.0 (heard s.0))))
+      kinds_new : (s : SimNo) (m : Message) → ((n : Message) → is_within S s.0 ≡ true → slice_get (got (J ++ Got s m ∷ []) s.0) (heard s.0) ≡ Some n → (n ≡ reply s.0 (map bare (free_items (J ++ Got s m ∷ []) s.0 (heard s.0)))) × (heard s.0 < length (free_items (J ++ Got s m ∷ []) s.0 (heard s.0))))
           → RepeatsByKind reply (is_within S) (J ++ Got s m ∷ []) (one_more heard s.0)
       kinds_new s m own = kinds_more reply (is_within S) (J ++ Got s m ∷ []) heard (one_more heard s.0) s.0 (kinds_longer reply (is_within S) J heard (Got s m ∷ []) (few J heard c.counts) c.kinds) (more_here heard s.0) (more_away heard s.0) own
 
@@ -240,7 +240,7 @@ module _ (saved : Counts) (started : ℕ) (S : Scenario) (replies : SetupReplies
           counts = counts_again J heard s m c.counts there;
           touch = seen_as started S replies (λ i. repeated J i (heard i)) (λ i. repeated J i (one_more heard s i)) (λ i. free_items J i (heard i)) (λ i. free_items J i (heard i)) (λ i. kept_of i D.kept) (λ i. kept_of i D.kept) (log ++ entries) D t.0
               (λ i l linked. ap (repeated J i) (sym (more_away heard s i (λ q. true≢false (sym was.inside ∙ ap (is_within S) (sym q) ∙ linked_out started S replies i l linked))))) (λ i l linked. refl) (λ i. refl);
-          kinds = kinds_more reply (is_within S) J heard (one_more heard s) s c.kinds (more_here heard s) (more_away heard s) (λ n inside got_it. some_same (sym got_it ∙ there) ∙ was.is);
+          kinds = kinds_more reply (is_within S) J heard (one_more heard s) s c.kinds (more_here heard s) (more_away heard s) (λ n inside got_it. (some_same (sym got_it ∙ there) ∙ was.is, was.more));
           rests = over_so_far saved started S replies P J (log ++ entries) D.kept over;
         },
         over,
@@ -261,7 +261,7 @@ module _ (saved : Counts) (started : ℕ) (S : Scenario) (replies : SetupReplies
               (λ i l linked. let apart : i ≡ s.0 → ⊥ = (λ q. true≢false (sym was.inside ∙ ap (is_within S) (sym q) ∙ linked_out started S replies i l linked)) in
               repeated_away J s.0 m i (heard i) apart ∙ messages_new J heard s m caught i) (λ i l linked. refl) (λ i. refl);
           kinds = kinds_more reply (is_within S) (J ++ Got s m ∷ []) heard (one_more heard s.0) s.0 (kinds_longer reply (is_within S) J heard (Got s m ∷ []) (few J heard c.counts) c.kinds) (more_here heard s.0) (more_away heard s.0)
-              (λ n inside got_it. own n got_it was.is);
+              (λ n inside got_it. own n got_it was.is was.more);
           rests = over_so_far saved started S replies P (J ++ Got s m ∷ []) (log ++ entries) D.kept over;
         },
         over,
@@ -269,8 +269,13 @@ module _ (saved : Counts) (started : ℕ) (S : Scenario) (replies : SetupReplies
       )
     where
       -- the message is the last one, and as many items were free before it
-      own : (n : Message) → slice_get (got (J ++ Got s m ∷ []) s.0) (heard s.0) ≡ Some n → m ≡ reply s.0 (map bare (free_items J s.0 (heard s.0))) → n ≡ reply s.0 (map bare (free_items (J ++ Got s m ∷ []) s.0 (heard s.0)))
-      own n got_it is = some_same (sym got_it ∙ last_there (got J s.0) (got (J ++ Got s m ∷ []) s.0) m (heard s.0) caught (got_here J s m)) ∙ is ∙ ap (λ (l : List Item). reply s.0 (map bare l)) (sym (free_before J s m (heard s.0) caught))
+      own : (n : Message) → slice_get (got (J ++ Got s m ∷ []) s.0) (heard s.0) ≡ Some n → m ≡ reply s.0 (map bare (free_items J s.0 (heard s.0))) → heard s.0 < length (free_items J s.0 (heard s.0))
+          → (n ≡ reply s.0 (map bare (free_items (J ++ Got s m ∷ []) s.0 (heard s.0)))) × (heard s.0 < length (free_items (J ++ Got s m ∷ []) s.0 (heard s.0)))
+      own n got_it is more =
+          let before : free_items J s.0 (heard s.0) ≡ free_items (J ++ Got s m ∷ []) s.0 (heard s.0) = sym (free_before J s m (heard s.0) caught) in (
+            some_same (sym got_it ∙ last_there (got J s.0) (got (J ++ Got s m ∷ []) s.0) m (heard s.0) caught (got_here J s m)) ∙ is ∙ ap (λ (l : List Item). reply s.0 (map bare l)) before,
+            subst (λ (l : List Item). heard s.0 < length l) before more,
+          )
 
   -- a reply was taken, and the run ends by it
   pub apart_within : (J : List Entry) (heard : Counts) (log entries : List LogEntry) (C D : CrewState) (s : ℕ) (m : Message) → IsCatching saved (exchange started S reply log) replies P J heard C

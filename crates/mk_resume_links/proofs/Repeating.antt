@@ -36,13 +36,15 @@ module _ (reply : Replies) (within : ℕ → Bool) (J : List Entry) where
   kinds_longer heard K few kinds i n m inside low is =
       let more : n < length (got J i) = below_more n (heard i) (length (got J i)) low (few i) in
       let there : slice_get (got J i) n ≡ Some m = sym (ap (λ (l : List Message). slice_get l n) (filter_map_append (got_from i) J K) ∙ get_front (got J i) (got K i) n more) ∙ is in
-      kinds i n m inside low there ∙ ap (λ (l : List Item). reply i (map bare l)) (sym (free_front J K i n more))
+      let own = kinds i n m inside low there in
+      let front : free_items J i n ≡ free_items (J ++ K) i n = sym (free_front J K i n more) in
+      (own.0 ∙ ap (λ (l : List Item). reply i (map bare l)) front, subst (λ (l : List Item). n < length l) front own.1)
 
   pub kinds_more : (heard next : Counts) (s : ℕ) → RepeatsByKind reply within J heard → next s ≡ heard s + 1 → ((i : ℕ) → (i ≡ s → ⊥) → next i ≡ heard i)
-      → ((m : Message) → within s ≡ true → slice_get (got J s) (heard s) ≡ Some m → m ≡ reply s (map bare (free_items J s (heard s)))) → RepeatsByKind reply within J next
+      → ((m : Message) → within s ≡ true → slice_get (got J s) (heard s) ≡ Some m → (m ≡ reply s (map bare (free_items J s (heard s)))) × (heard s < length (free_items J s (heard s)))) → RepeatsByKind reply within J next
   kinds_more heard next s kinds one others own i n m inside low is = elim (same_or_not i s) [
     | inl q ↦ elim (same_or_not n (heard s)) [
-      | inl last ↦ subst (λ (j : ℕ). m ≡ reply j (map bare (free_items J j n))) (sym q) (subst (λ (k : ℕ). m ≡ reply s (map bare (free_items J s k))) (sym last)
+      | inl last ↦ subst (λ (j : ℕ). (m ≡ reply j (map bare (free_items J j n))) × (n < length (free_items J j n))) (sym q) (subst (λ (k : ℕ). (m ≡ reply s (map bare (free_items J s k))) × (k < length (free_items J s k))) (sym last)
           (own m (ap within (sym q) ∙ inside) (ap (slice_get (got J s)) (sym last) ∙ ap (λ (j : ℕ). slice_get (got J j) n) (sym q) ∙ is)))
       | inr before ↦ kinds i n m inside (before_last n (heard i) (next i) low (ap next q ∙ one ∙ ap (λ (j : ℕ). heard j + 1) (sym q)) (λ e. before (e ∙ ap heard q))) is
     ]

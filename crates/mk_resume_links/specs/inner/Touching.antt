@@ -1,5 +1,5 @@
 -- For proofs alone. What was given and queued on each link so far, and what is kept.
-use Rattle.std.specs.Prelude.{◌≡◌, ◌⊎◌, ℕ, ◌<◌, true, Bool, List, [], ◌∷◌, ◌++◌, map, Some, None, slice_get}
+use Rattle.std.specs.Prelude.{◌≡◌, ◌⊎◌, ℕ, ◌<◌, true, Bool, List, [], ◌∷◌, ◌++◌, length, map, Some, None, slice_get}
 use Rattle.mk_base.specs.declared.LinkNo.{LinkNo}
 use Rattle.mk_plan.specs.declared.Plan.{Plan}
 use Rattle.mk_plan.specs.declared.Item.{Item}
@@ -30,10 +30,12 @@ pub record IsInTouch (messages : ℕ → List Message) (items : ℕ → List Ite
   pub kept : (i : ℕ) → kept_of i C.kept ≡ awaits i
 
 -- the messages that the simulators within the program have sent again are their kinds': each is the
--- reply to the items that were free before it
+-- reply to the items that were free before it, and was awaited, since there are more of these than
+-- messages before it
 abbrev pub RepeatsByKind : Replies → (ℕ → Bool) → List Entry → Counts → Type 0
 RepeatsByKind reply within J heard = (i n : ℕ) (m : Message) → within i ≡ true → n < heard i
-    → slice_get (got J i) n ≡ Some m → m ≡ reply i (map bare (free_items J i n))
+    → slice_get (got J i) n ≡ Some m
+    → (m ≡ reply i (map bare (free_items J i n))) × (n < length (free_items J i n))
 
 -- nobody is ready, and no request is open within the program
 abbrev pub IsResting : Scenario → Plan → List Entry → Type 0
