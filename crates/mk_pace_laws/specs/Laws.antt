@@ -27,7 +27,7 @@ use Rattle.mk_pace_laws.specs.declared.end.Moment.{Moment}
 use Rattle.mk_pace_laws.specs.declared.end.PaceEnd.{PaceEnd}
 use Rattle.mk_pace_laws.specs.declared.end.PaceEnd.TheVariants as pace
 use Rattle.mk_pace_laws.specs.Clocks.{IsRising}
-use Rattle.mk_pace_laws.specs.Ends.{IsLate, IsLongAmong, QueuedOut}
+use Rattle.mk_pace_laws.specs.Ends.{IsLongAmong, QueuedOut}
 use Rattle.mk_pace_laws.specs.Moments.{Tempo, Timing, sent_out}
 use Rattle.mk_pace_laws.specs.Naps.{AreNaps, NapsWell}
 use Rattle.mk_pace_laws.specs.Paced.{IsPaced}
@@ -65,8 +65,8 @@ NapsAreWell = (started : ℕ) (S : Scenario) (replies : SetupReplies)
     → (P : Plan) (T : Tempo) (J : List Entry) (log : List LogEntry)
     → IsRising log → AreNaps started S replies P T J log → NapsWell started S P T J log
 
--- nothing went wrong that a paced run can show
-pub record IsFaultlessPace (X : Exchange) (P : Plan) (J : List Entry) (T : Timing)
+-- nothing went wrong that a paced run can show, but that a Step may be too late
+pub record IsFaultlessPace (X : Exchange) (P : Plan) (J : List Entry)
     (faults new_faults : ℕ) : Type 0 where
   pub no_fault : (view P J).fault ≡ None
   pub roomy : length J ≡ P.entries
@@ -78,12 +78,21 @@ pub record IsFaultlessPace (X : Exchange) (P : Plan) (J : List Entry) (T : Timin
       → BeginsGarbled (rest_heard (heard_on l X.log)) n
       ⊎ IsTooLong n (rest_heard (heard_on l X.log)) → ⊥
   pub short_items : (i n : ℕ) → IsLongAmong X.started X.scenario P J i n → ⊥
-  pub in_time : (sim : SimNo) (time : ℤ) (late allowed : ℕ)
-      → IsLate T J X.log sim time late allowed → ⊥
 
--- then it ended because nothing was left to do, or for want of memory
+-- it ended because a Step was too late by the bound that was given
+pub record EndsLate (T : Timing) (end : PaceEnd) : Type 0 where
+  pub sim : SimNo
+  pub time : ℤ
+  pub late : ℕ
+  pub allowed : ℕ
+  pub is : end ≡ pace.Late sim time late allowed
+  pub bound : T.strict ≡ Some allowed
+
+-- where nothing else went wrong, it ended because nothing was left to do, for want of memory, or
+-- because a Step was too late
 abbrev pub PacesComplete : Type 0
 PacesComplete = (X : Exchange) (P : Plan) (J : List Entry) (T : Timing) (faults new_faults : ℕ)
     (end : PaceEnd) → IsPaced X P J T faults new_faults end
-    → IsFaultlessPace X P J T faults new_faults
-    → (end ≡ pace.Outcome outcome.Done) ⊎ (end ≡ pace.Outcome outcome.Mem)
+    → IsFaultlessPace X P J faults new_faults
+    → (end ≡ pace.Outcome outcome.Done)
+    ⊎ ((end ≡ pace.Outcome outcome.Mem) ⊎ EndsLate T end)

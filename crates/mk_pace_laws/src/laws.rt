@@ -18,8 +18,8 @@ pub fn naps_are_well()
     ensures { NapsAreWell }
 {}
 
-/// A paced run in which nothing went wrong and no Step was late ends because nothing is left to do,
-/// or for want of memory.
+/// A paced run in which nothing else went wrong ends because nothing is left to do, for want of
+/// memory, or because a Step was too late by the bound that was given.
 pub fn paces_complete()
     ensures { PacesComplete }
 {}

@@ -1,6 +1,6 @@
 -- When a run, one that goes on from a record, or one by a clock comes to its end, and when its scenario
 -- or its record is refused.
-use Rattle.std.specs.Prelude.{◌≡◌, ℕ, ◌≤◌, length, map, List, Option, Some, None, IfSome, Ok}
+use Rattle.std.specs.Prelude.{◌≡◌, ℕ, ◌≤◌, ◌⊎◌, length, map, List, Option, Some, None, IfSome, IsSome, Ok}
 use Rattle.mk_plan.specs.declared.Plan.{Plan}
 use Rattle.mk_plan.specs.declared.Entry.{Entry}
 use Rattle.mk_outside.specs.Counts.{HasRisen}
@@ -24,7 +24,6 @@ use Rattle.mk_pace_laws.specs.declared.end.Moment.{Moment}
 use Rattle.mk_pace_laws.specs.declared.end.PaceEnd.{PaceEnd}
 use Rattle.mk_pace_laws.specs.Laws.{IsFaultlessPace}
 use Rattle.mk_pace_laws.specs.Paced.{HasPaced}
-use Rattle.mk_pace_laws.specs.Moments.{timing}
 use Rattle.mk_resume.specs.Laws as onward
 use Rattle.mk_resume.specs.Resumed.{HasRefused, HasResumed}
 use Rattle.mosaikrun_words.specs.declared.request.Request.TheVariants.{Run, Resume, Paced}
@@ -109,9 +108,9 @@ EndsResume C n = IfSome C.folder.files (λ held. (scenario recorded : List ℕ)
     → (IsFaultlessResume C.outside bytes old → IsStatusOr 0 n)
     × ((e : Ending) → IsUnread old e → (e ≡ ends.Mem → ⊥) → IsStatusOr 3 n)))
 
--- nothing went wrong: the bytes are such a scenario, whose handshake shows no fault, and neither does a
--- paced run of it: no message is wrong in its place, no limit is met, no link ends, no frame is garbled
--- or too long, no count rises, and no Step is too late
+-- nothing went wrong, but that a Step may be too late: the bytes are such a scenario, whose handshake
+-- shows no fault, and neither does a paced run of it: no message is wrong in its place, no limit is
+-- met, no link ends, no frame is garbled or too long, no count rises
 pub record IsFaultlessPacedStudy (O : Outside) (factor : ℕ) (strict : Option ℕ)
     (bytes : List ℕ) : Type 0 where
   pub scenario : Scenario
@@ -122,19 +121,23 @@ pub record IsFaultlessPacedStudy (O : Outside) (factor : ℕ) (strict : Option �
   pub handshake : (any : List ℕ) → AreRanks scenario any
       → IsFaultlessHandshake (attempt_in O scenario any) (HasRisen O.faults O.new_faults)
   pub run : (any : List ℕ) (P : Plan) (J : List Entry) (moments : List Moment) (end : PaceEnd)
-      → (h : HasPaced (attempt_in O scenario any) factor strict P J moments O.faults
-      O.new_faults end)
-      → IsFaultlessPace (exchange_in O scenario) P J
-      (timing (record { origin = h.origin; factor = factor }) strict moments) O.faults O.new_faults
+      → HasPaced (attempt_in O scenario any) factor strict P J moments O.faults O.new_faults end
+      → IsFaultlessPace (exchange_in O scenario) P J O.faults O.new_faults
 
--- a paced run of a file's bytes, where nothing goes wrong, comes to its end: its status is 0, or that of
--- a folder or an output that failed, or of want of memory. Where the bytes are refused, as by a run, it
--- is 3, or one of these
+-- the status of a paced run in which nothing else goes wrong: 0, or that of a folder or an output that
+-- failed, or of want of memory; or, where a bound was given, that of a Step that was too late
+abbrev pub IsPacedStatus : Option ℕ → ℕ → Type 0
+IsPacedStatus strict n = IsStatusOr 0 n ⊎ (IsSome strict × (n ≡ 5))
+
+-- a paced run of a file's bytes, where nothing goes wrong, comes to its end, or, where a bound was
+-- given, to a Step that is too late: its status is 0, or that of a folder or an output that failed, or
+-- of want of memory, or 5 with a bound alone. Where the bytes are refused, as by a run, it is 3, or that
+-- of such a failure or want
 abbrev pub EndsPaced : Around → ℕ → Type 0
 EndsPaced C n = IfSome C.folder.files (λ held. (scenario : List ℕ) (factor : ℕ) (strict : Option ℕ)
     (saved : Option (List ℕ)) (bytes : List ℕ)
     → IsAsked C.words (Paced scenario factor strict saved) → held scenario ≡ Some bytes
     → length bytes ≤ file_limit
-    → (IsFaultlessPacedStudy C.outside factor strict bytes → IsStatusOr 0 n)
+    → (IsFaultlessPacedStudy C.outside factor strict bytes → IsPacedStatus strict n)
     × ((e : Ending) → IsUnchecked (map name_of C.outside.kinds) bytes e → (e ≡ ends.Mem → ⊥)
     → IsStatusOr 3 n))
