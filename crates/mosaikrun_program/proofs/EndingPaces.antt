@@ -57,7 +57,7 @@ module _ (C : Around) (factor : ℕ) (strict : Option ℕ) (name : Option (List 
   ShowsFaultless S = (any : List ℕ) (P : Plan) (J : List Entry) (moments : List Moment) (end : PaceEnd) → HasPaced (attempt_in C.outside S any) factor strict P J moments C.outside.faults C.outside.new_faults end
       → IsFaultlessPace (exchange_in C.outside S) P J C.outside.faults C.outside.new_faults
 
-  -- where nothing goes wrong
+  -- where nothing goes wrong, but that a Step may be too late
   ended : HandshakesComplete → IsPacedOutcome C.outside factor strict (is_some name) bytes text kept → IsFaultlessPacedStudy C.outside factor strict bytes → IsPacedStatus strict (status r)
   ended law (inl none) f = elim none.cause [
     | inl mem ↦ inl (status_of_none C name text kept r said none.ending none.is 0 (inl mem))
