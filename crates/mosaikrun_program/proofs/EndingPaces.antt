@@ -54,7 +54,7 @@ too_late strict allowed n bound (inr other) = inl (inr other)
 module _ (C : Around) (factor : ℕ) (strict : Option ℕ) (name : Option (List ℕ)) (bytes : List ℕ) (text : Result (List ℕ) Ending) (kept : Option (List ℕ)) (r : Result (Unit {0}) Ending) (said : RunAnswer C.folder C.output name text kept r) where
   -- what a faultless study says of each paced run of this scenario
   abbrev ShowsFaultless : Scenario → Type 0
-  ShowsFaultless S = (any : List ℕ) (P : Plan) (J : List Entry) (moments : List Moment) (end : PaceEnd) → HasPaced (attempt_in C.outside S any) factor strict P J moments C.outside.faults C.outside.new_faults end
+  ShowsFaultless S = (any : List ℕ) (P : Plan) (J : List Entry) (moments : List Moment) (end : PaceEnd) → AreRanks S any → HasPaced (attempt_in C.outside S any) factor strict P J moments C.outside.faults C.outside.new_faults end
       → IsFaultlessPace (exchange_in C.outside S) P J C.outside.faults C.outside.new_faults
 
   -- where nothing goes wrong, but that a Step may be too late
@@ -77,7 +77,7 @@ module _ (C : Around) (factor : ℕ) (strict : Option ℕ) (name : Option (List 
           let mem = law (attempt_in C.outside has.scenario u.ranks) C.outside.faults C.outside.new_faults u.halt u.halted fine in
           inl (status_of_none C name text kept r said Mem (elim u.said [ inl is ↦ is ∙ ap (λ h. Err (halt_ending (ids_of has.scenario) h)) mem | inr is ↦ is ]) 0 (inl refl))
       go (inr (inr p)) =
-          let fine = subst ShowsFaultless same f.run p.ranks p.plan p.journal p.moments p.end p.run in
+          let fine = subst ShowsFaultless same f.run p.ranks p.plan p.journal p.moments p.end p.runnable.ranked p.run in
           by_end (pace_completes (exchange_in C.outside has.scenario) p.plan p.journal (timing (record { origin = p.run.origin; factor = factor }) strict p.moments) C.outside.faults C.outside.new_faults p.end p.run.run fine)
         where
           by_end : (p.end ≡ pace.Outcome outcome.Done) ⊎ ((p.end ≡ pace.Outcome outcome.Mem) ⊎ EndsLate (timing (record { origin = p.run.origin; factor = factor }) strict p.moments) p.end) → IsPacedStatus strict (status r)

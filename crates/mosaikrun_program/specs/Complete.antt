@@ -121,6 +121,7 @@ pub record IsFaultlessPacedStudy (O : Outside) (factor : ℕ) (strict : Option �
   pub handshake : (any : List ℕ) → AreRanks scenario any
       → IsFaultlessHandshake (attempt_in O scenario any) (HasRisen O.faults O.new_faults)
   pub run : (any : List ℕ) (P : Plan) (J : List Entry) (moments : List Moment) (end : PaceEnd)
+      → AreRanks scenario any
       → HasPaced (attempt_in O scenario any) factor strict P J moments O.faults O.new_faults end
       → IsFaultlessPace (exchange_in O scenario) P J O.faults O.new_faults
 
