@@ -53,22 +53,28 @@ module _ (S : Around) (bytes recorded name : List ℕ) where
 
     module _ (s : IsStudy (map name_of S.outside.kinds) bytes) (old : Saved) (read : reading recorded ≡ Said old.plan (map came_ old.arrivals) old.asks) where
       went : IsSavedOutcome S.outside true s.scenario s.ranks old text kept → Kept answer
-      went (inl unrun) = inl (record { same = same_files kept unrun.unrecorded saved; cause = inr (inr (record {
-        study = s;
-        old = old;
-        read = read;
-        said = text;
-        untaken = inl (subst (λ (k : Option (List ℕ)). IsUnrun S.outside s.scenario text k) unrun.unrecorded unrun);
-        answered = subst (λ (k : Option (List ℕ)). RunAnswer S.folder S.output (Some name) text k answer) unrun.unrecorded told;
-      })) })
-      went (inr (inl rest)) = inl (record { same = same_files kept rest.unrecorded saved; cause = inr (inr (record {
-        study = s;
-        old = old;
-        read = read;
-        said = text;
-        untaken = inr (subst (λ (k : Option (List ℕ)). IsNotTaken S.outside s.scenario s.ranks old text k) rest.unrecorded rest);
-        answered = subst (λ (k : Option (List ℕ)). RunAnswer S.folder S.output (Some name) text k answer) rest.unrecorded told;
-      })) })
+      went (inl unrun) = inl (record {
+        same = same_files kept unrun.unrecorded saved;
+        cause = inr (inr (record {
+          study = s;
+          old = old;
+          read = read;
+          said = text;
+          untaken = inl (subst (λ (k : Option (List ℕ)). IsUnrun S.outside s.scenario text k) unrun.unrecorded unrun);
+          answered = subst (λ (k : Option (List ℕ)). RunAnswer S.folder S.output (Some name) text k answer) unrun.unrecorded told;
+        }));
+      })
+      went (inr (inl rest)) = inl (record {
+        same = same_files kept rest.unrecorded saved;
+        cause = inr (inr (record {
+          study = s;
+          old = old;
+          read = read;
+          said = text;
+          untaken = inr (subst (λ (k : Option (List ℕ)). IsNotTaken S.outside s.scenario s.ranks old text k) rest.unrecorded rest);
+          answered = subst (λ (k : Option (List ℕ)). RunAnswer S.folder S.output (Some name) text k answer) rest.unrecorded told;
+        }));
+      })
       went (inr (inr gone)) = elim gone.recorded [
         | inl is ↦ inr (record {
           study = s;
