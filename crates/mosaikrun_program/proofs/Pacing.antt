@@ -58,7 +58,7 @@ module _ (S : Around) (factor : ℕ) (strict : Option ℕ) (bytes name : List �
     read = read;
     said = text;
     text = record_text has.plan has.journal;
-    record_ = record { ranks = has.ranks; plan = has.plan; journal = has.journal; moments = has.moments; end = has.end; run = has.run; said = has.said; is = refl; again = has.again };
+    record_ = record { ranks = has.ranks; runnable = has.runnable; plan = has.plan; journal = has.journal; moments = has.moments; end = has.end; run = has.run; said = has.said; is = refl; again = has.again };
     answered = subst (λ (k : Option (List ℕ)). RunAnswer S.folder S.output (Some name) text k answer) has.is told;
     saved = subst (λ (k : Option (List ℕ)). IsFolderAfter (Some name) k S.folder.files S.folder.files_after) has.is saved;
   }
