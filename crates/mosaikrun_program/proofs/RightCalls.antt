@@ -64,6 +64,7 @@ use Rattle.mk_pace_laws.specs.declared.end.PaceEnd.TheVariants as pace_end
 use Rattle.mk_pace_laws.proofs.PacesRight.{paces_right}
 use Rattle.mk_pace_laws.specs.Moments.{timing}
 use Rattle.mosaikrun_paced.specs.Outcomes.{IsPacedOutcome, IsPacedRun, IsPacedScenario}
+use Rattle.mosaikrun_paced.specs.Sayings.{pace_saying}
 use Rattle.mosaikrun_paced.proofs.Reporting as pacing
 use Rattle.mosaikrun_program.proofs.Playing.{WasPaced, WasRun, was_paced, was_run}
 
@@ -277,11 +278,11 @@ module _ (C : Around) (name : Option (List ℕ)) (text : Result (List ℕ) Endin
 
   module _ (S : Scenario) (ranks : List ℕ) (old : Saved) where
     not_onward : IsUnrun C.outside S text kept ⊎ IsNotTaken C.outside S ranks old text kept → IsNotOnward C S ranks old (status r)
-    not_onward (inl unrun) = let t = ending_seen (halt_ending (ids_of S) unrun.halt) unrun.said in record { untaken = (text, kept, inl unrun); unput = t.0; status = t.1 }
+    not_onward (inl unrun) = let t = ending_seen (halt_ending (ids_of S) unrun.halt) unrun.said in record { untaken = (text, kept, inl unrun); wanting = seen.wanting; unput = t.0; status = t.1 }
     not_onward (inr rest) =
         let e = refused_ending (ids_of S) rest.plan rest.journal old rest.end rest.cause in
         let t = ending_seen e.0 (subst (λ (x : Result (List ℕ) Ending). IsSaid x text) e.1 rest.said) in
-        record { untaken = (text, kept, inr rest); unput = t.0; status = t.1 }
+        record { untaken = (text, kept, inr rest); wanting = seen.wanting; unput = t.0; status = t.1 }
 
 -- it went on
 onward : (C : Around) (name : Option (List ℕ)) (text : Result (List ℕ) Ending) (kept : Option (List ℕ)) (r : Result (Unit {0}) Ending) (said : RunAnswer C.folder C.output name text kept r) (S : Scenario) (ranks : List ℕ) (old : Saved)
@@ -295,18 +296,21 @@ onward C name (Ok t) kept r said S ranks old p =
       end = p.end;
       run = p.run;
       done = λ zero. (resuming.done_alone (ids_of S) p.plan p.journal p.end t p.said).0;
+      wanting = λ mem. shown.wanting (elim p.said [ inl same ↦ same ∙ ap (resume_saying (ids_of S) p.plan p.journal) mem | inr is ↦ is ]);
       text = λ zero R goes. shown.put t refl zero ∙ ap (λ x. appended x C.output.before) (whole.text_is R goes);
       heard = λ zero. whole.heard;
       recorded = elim p.recorded [ inl is ↦ filed_by C name (Ok t) kept r said p.plan p.journal is | inr none ↦ cc ];
     }
 onward C name (Err e) kept r said S ranks old p =
-    let not = ((shown_by_run C name (Err e) kept r said).unput e refl).1 in
+    let shown = shown_by_run C name (Err e) kept r said in
+    let not = (shown.unput e refl).1 in
     record {
       plan = p.plan;
       journal = p.journal;
       end = p.end;
       run = p.run;
       done = λ zero. absurd (not zero);
+      wanting = λ mem. shown.wanting (elim p.said [ inl same ↦ same ∙ ap (resume_saying (ids_of S) p.plan p.journal) mem | inr is ↦ is ]);
       text = λ zero R goes. absurd (not zero);
       heard = λ zero i l linked low. absurd (not zero);
       recorded = λ zero target named. absurd (not zero);
@@ -349,10 +353,10 @@ resume_right C r scenario recorded name d = by d.read d.held d.outcome
 -- a run by a clock
 module _ (C : Around) (factor : ℕ) (strict : Option ℕ) (S : Scenario) (name : Option (List ℕ)) where
   -- a run with its plan
-  paced : (text : Result (List ℕ) Ending) (kept : Option (List ℕ)) (n : ℕ) (p : IsPacedRun C.outside factor strict (is_some name) S text kept) → (n ≡ 0 → p.end ≡ pace_end.Outcome outcome.Done)
+  paced : (text : Result (List ℕ) Ending) (kept : Option (List ℕ)) (n : ℕ) (p : IsPacedRun C.outside factor strict (is_some name) S text kept) → (n ≡ 0 → p.end ≡ pace_end.Outcome outcome.Done) → (p.end ≡ pace_end.Outcome outcome.Mem → n ≡ 8)
       → (n ≡ 0 → (R : Messages) → MayCome C.outside S p.plan R → C.output.after ≡ appended (report p.plan (run_items p.plan R)) C.output.before)
       → Filed C name n p.plan p.journal → IsRightPacedRun C factor strict S name n
-  paced text kept n p over told filed =
+  paced text kept n p over short told filed =
       let O = C.outside in
       let right = paces_right (exchange_in O S) p.plan p.journal (timing (record { origin = p.run.origin; factor = factor }) strict p.moments) O.faults O.new_faults p.end p.run.run in
       let come : Messages = λ i. coming (sim_link O.started S i) (run_messages S O.log i) (got p.journal i) in
@@ -366,6 +370,7 @@ module _ (C : Around) (factor : ℕ) (strict : Option ℕ) (S : Scenario) (name 
         run = p.run;
         right = right;
         done = over;
+        wanting = short;
         possible = λ zero. (
           come,
           record {
@@ -382,11 +387,13 @@ module _ (C : Around) (factor : ℕ) (strict : Option ℕ) (S : Scenario) (name 
       let shown = shown_by_run C name (Ok t) kept r said in
       paced (Ok t) kept (status r) p
       (λ zero. (pacing.done_alone (ids_of S) p.plan p.journal p.end t p.said).0)
+      (λ mem. shown.wanting (elim p.said [ inl same ↦ same ∙ ap (pace_saying (ids_of S) p.plan p.journal) mem | inr is ↦ is ]))
       (λ zero R may. shown.put t refl zero ∙ ap (λ x. appended x C.output.before) (pacing.texts_sequential paces_right C.outside factor strict (is_some name) S t kept p R may).0)
       (elim p.recorded [ inl is ↦ filed_by C name (Ok t) kept r said p.plan p.journal is | inr none ↦ cc ])
   paced_as (Err e) kept r said p =
-      let not = ((shown_by_run C name (Err e) kept r said).unput e refl).1 in
-      paced (Err e) kept (status r) p (λ zero. absurd (not zero)) (λ zero R may. absurd (not zero)) (λ zero target named. absurd (not zero))
+      let shown = shown_by_run C name (Err e) kept r said in
+      let not = (shown.unput e refl).1 in
+      paced (Err e) kept (status r) p (λ zero. absurd (not zero)) (λ mem. shown.wanting (elim p.said [ inl same ↦ same ∙ ap (pace_saying (ids_of S) p.plan p.journal) mem | inr is ↦ is ])) (λ zero R may. absurd (not zero)) (λ zero target named. absurd (not zero))
 
 pace_right : (C : Around) (r : Result (Unit {0}) Ending) (scenario : List ℕ) (factor : ℕ) (strict : Option ℕ) (name : Option (List ℕ)) → WasPaced C scenario factor strict name r → NothingWasRun C (status r) ⊎ IsRightPaced C scenario factor strict name (status r)
 pace_right C r scenario factor strict name ran = by ran.outcome
@@ -395,7 +402,7 @@ pace_right C r scenario factor strict name ran = by ran.outcome
     went S read (inl unready) = inl (quiet C name ran.text ran.kept r ran.ended unready.ending unready.is unready.idle.quiet)
     went S read (inr (inl unpaced)) =
         let t = ending_seen C name ran.text ran.kept r ran.ended (halt_ending (ids_of S) unpaced.unrun.halt) unpaced.unrun.said in
-        inr (record { bytes = ran.bytes; held = ran.held; scenario = S; read = read; went = inl (record { unpaced = (ran.text, ran.kept, unpaced); unput = t.0; status = t.1 }) })
+        inr (record { bytes = ran.bytes; held = ran.held; scenario = S; read = read; went = inl (record { unpaced = (ran.text, ran.kept, unpaced); wanting = (shown_by_run C name ran.text ran.kept r ran.ended).wanting; unput = t.0; status = t.1 }) })
     went S read (inr (inr p)) = inr (record { bytes = ran.bytes; held = ran.held; scenario = S; read = read; went = inr (paced_as C factor strict S name ran.text ran.kept r ran.ended p) })
 
     by : IsPacedOutcome C.outside factor strict (is_some name) ran.bytes ran.text ran.kept → NothingWasRun C (status r) ⊎ IsRightPaced C scenario factor strict name (status r)

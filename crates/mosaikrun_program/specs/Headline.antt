@@ -111,7 +111,7 @@ pub record IsRightRunBy (C : Around) (form : Form) (S : Scenario) (saved : Optio
   pub recorded : n ≡ 0 → (name : List ℕ) → saved ≡ Some name → C.folder.files_after
       ≡ option_map (with_file name (record_text P journal)) C.folder.files
 
--- the handshake ended early, for a cause that the log shows, or for want of memory at status 8
+-- the handshake ended early, for one of the causes of a halt, and for want of memory at status 8 alone
 pub record HasHaltedAt (O : Outside) (S : Scenario) (n : ℕ) : Type 0 where
   pub ranks : List ℕ
   pub ranked : AreRanksOf S ranks

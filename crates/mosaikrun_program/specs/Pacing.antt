@@ -1,6 +1,6 @@
 -- What a call has done that runs a scenario by a clock: that it is right, and what becomes of the file
 -- that it saves its record in.
-use Rattle.std.specs.Prelude.{◌≡◌, ◌⊎◌, ℕ, List, Option, Some, option_map, IfSome, Result, Ok}
+use Rattle.std.specs.Prelude.{◌≡◌, ◌⊎◌, ℕ, List, Option, Some, option_map, IfSome, Result, Ok, Err}
 use Rattle.mk_plan.specs.declared.Plan.{Plan}
 use Rattle.mk_plan.specs.declared.Entry.{Entry}
 use Rattle.mk_plan.specs.Report.{report}
@@ -21,6 +21,7 @@ use Rattle.mk_pace_laws.specs.Laws.{IsRightPace}
 use Rattle.mk_pace_laws.specs.Paced.{HasPaced, IsAwake}
 use Rattle.mosaikrun_words.specs.declared.request.Request.TheVariants.{Paced}
 use Rattle.mosaikrun_endings.specs.declared.ending.Ending.{Ending}
+use Rattle.mosaikrun_endings.specs.declared.ending.Ending.TheVariants as endings
 use Rattle.mosaikrun_run.specs.Outcomes.{Outside, attempt_in, exchange_in}
 use Rattle.mosaikrun_run.specs.Records.{IsStepSaid}
 use Rattle.mosaikrun_paced.specs.Outcomes.{IsUnpaced}
@@ -32,7 +33,8 @@ use Rattle.mosaikrun_program.specs.Running.{RunAnswer}
 -- the scenario, with its ranks, was run by the clock, by this plan, with this journal and these
 -- moments: what was said on each link begins what sequential execution sends, no Step before its
 -- moment, each Step's max_advance is a promise, and where the fleet slept, its clock never having
--- gone back and no simulator being within the program, nothing was due. At status 0 all is done,
+-- gone back and no simulator being within the program, nothing was due. Where memory was wanting the
+-- status is 8. At status 0 all is done,
 -- messages may come, and over all that may, the output has grown by exactly the report of what
 -- sequential execution sends; and the record of the plan and the journal was saved under the name
 -- that was given for it
@@ -49,6 +51,7 @@ pub record IsRightPacedRun (C : Around) (factor : ℕ) (strict : Option ℕ) (S 
   pub right : IsRightPace (exchange_in C.outside S) plan journal moments
       (HasRisen C.outside.faults C.outside.new_faults) end
   pub done : n ≡ 0 → end ≡ pace_end.Outcome outcome.Done
+  pub wanting : end ≡ pace_end.Outcome outcome.Mem → n ≡ 8
   pub possible : n ≡ 0 → (R : Messages) × IsPossible (exchange_in C.outside S) plan R
   pub text : n ≡ 0 → (R : Messages) → IsPossible (exchange_in C.outside S) plan R
       → C.output.after ≡ appended (report plan (run_items plan R)) C.output.before
@@ -61,9 +64,10 @@ abbrev pub IsUnpacedBy : Outside → Scenario → Type 0
 IsUnpacedBy O S = (text : Result (List ℕ) Ending) × (kept : Option (List ℕ))
     × IsUnpaced O S text kept
 
--- so nothing was put out, and the status isn't 0
+-- so nothing was put out, and the status isn't 0, and 8 where memory was wanting
 pub record IsNotPaced (C : Around) (S : Scenario) (n : ℕ) : Type 0 where
   pub unpaced : IsUnpacedBy C.outside S
+  pub wanting : unpaced.0 ≡ Err endings.Mem → n ≡ 8
   pub unput : C.output.after ≡ C.output.before
   pub status : n ≡ 0 → ⊥
 

@@ -1,6 +1,6 @@
 -- What a call has done that goes on with a run: that it is right, and what becomes of the file that it
 -- saves the new record in.
-use Rattle.std.specs.Prelude.{◌≡◌, ◌⊎◌, ℕ, ◌<◌, ◌≤◌, true, List, length, map, Option, Some, None, option_map, IfSome, Result}
+use Rattle.std.specs.Prelude.{◌≡◌, ◌⊎◌, ℕ, ◌<◌, ◌≤◌, true, List, length, map, Option, Some, None, option_map, IfSome, Result, Err}
 use Rattle.mk_base.specs.declared.LinkNo.{LinkNo}
 use Rattle.mk_base.specs.Lists.{BeginsWith}
 use Rattle.mk_plan.specs.declared.Plan.{Plan}
@@ -27,6 +27,7 @@ use Rattle.mk_resume_loop.specs.declared.ending.ResumeEnd.TheVariants as resume_
 use Rattle.mk_resume.specs.Resumed.{HasResumed}
 use Rattle.mosaikrun_words.specs.declared.request.Request.TheVariants.{Resume}
 use Rattle.mosaikrun_endings.specs.declared.ending.Ending.{Ending}
+use Rattle.mosaikrun_endings.specs.declared.ending.Ending.TheVariants as endings
 use Rattle.mosaikrun_records.specs.Saved.{IsRecord}
 use Rattle.mosaikrun_run.specs.Outcomes.{IsUnrun, Outside, attempt_in}
 use Rattle.mosaikrun_resume.specs.Outcomes.{HasGoneOn, IsNotTaken, IsStudy}
@@ -34,11 +35,11 @@ use Rattle.mosaikrun_program.specs.Around.{Around}
 use Rattle.mosaikrun_program.specs.Commands.{IsAsked, HasBytes}
 use Rattle.mosaikrun_program.specs.Running.{RunAnswer}
 
--- the run has gone on by this plan, with this journal, which begins with the record's. At status 0
--- all is done, and over whatever goes on with the messages of the journal, the output has grown by
--- exactly the report of what sequential execution sends; each link brought, behind its handshake,
--- all messages that the journal has of its simulator; and the record of the plan and the journal
--- was saved under the name that was given for it
+-- the run has gone on by this plan, with this journal, which begins with the record's; where memory
+-- was wanting the status is 8. At status 0 all is done, and over whatever goes on with the messages
+-- of the journal, the output has grown by exactly the report of what sequential execution sends;
+-- each link brought, behind its handshake, all messages that the journal has of its simulator; and
+-- the record of the plan and the journal was saved under the name that was given for it
 pub record IsRightOnward (C : Around) (S : Scenario) (ranks : List ℕ) (old : Saved)
     (saved : Option (List ℕ)) (n : ℕ) : Type 0 where
   pub plan : Plan
@@ -47,6 +48,7 @@ pub record IsRightOnward (C : Around) (S : Scenario) (ranks : List ℕ) (old : S
   pub run : HasResumed (attempt_in C.outside S ranks) old plan journal
       C.outside.faults C.outside.new_faults end
   pub done : n ≡ 0 → end ≡ resume_end.Outcome outcome.Done
+  pub wanting : end ≡ resume_end.Outcome outcome.Mem → n ≡ 8
   pub text : n ≡ 0 → (R : Messages) → Continues plan journal R
       → C.output.after ≡ appended (report plan (run_items plan R)) C.output.before
   pub heard : n ≡ 0 → (i : ℕ) (l : LinkNo) → sim_link C.outside.started S i ≡ Some l
@@ -59,10 +61,11 @@ abbrev pub IsUntaken : Outside → Scenario → List ℕ → Saved → Type 0
 IsUntaken O S ranks old = (text : Result (List ℕ) Ending) × (kept : Option (List ℕ))
     × (IsUnrun O S text kept ⊎ IsNotTaken O S ranks old text kept)
 
--- so the run didn't go on: nothing was put out, and the status isn't 0
+-- so the run didn't go on: nothing was put out, and the status isn't 0, and 8 where memory was wanting
 pub record IsNotOnward (C : Around) (S : Scenario) (ranks : List ℕ) (old : Saved)
     (n : ℕ) : Type 0 where
   pub untaken : IsUntaken C.outside S ranks old
+  pub wanting : untaken.0 ≡ Err endings.Mem → n ≡ 8
   pub unput : C.output.after ≡ C.output.before
   pub status : n ≡ 0 → ⊥
 
