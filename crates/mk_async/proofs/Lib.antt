@@ -1,3 +1,4 @@
+-- The lemmas of mk_async, by their files.
 pub mod Depths
 pub mod Entities
 pub mod Giving

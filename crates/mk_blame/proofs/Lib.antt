@@ -1,3 +1,4 @@
+-- The lemmas of mk_blame, by their files.
 pub mod Grouping
 pub mod Judging
 pub mod Parts

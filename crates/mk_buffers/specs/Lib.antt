@@ -1,3 +1,4 @@
+-- The definitions of mk_buffers, by their files.
 pub mod Marking
 pub mod Held
 pub mod Slots

@@ -1,3 +1,4 @@
+-- The lemmas of mk_buffers_log, by their files.
 pub mod Places
 pub mod Walking
 pub mod Latest

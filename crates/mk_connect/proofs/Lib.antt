@@ -1,3 +1,4 @@
+-- The lemmas of mk_connect, by their files.
 pub mod Below
 pub mod ByPlaces
 pub mod Joins

@@ -1,3 +1,4 @@
+-- The definitions of mk_connect, by their files.
 pub mod Agreeing
 pub mod Asyncs
 pub mod ByPlace

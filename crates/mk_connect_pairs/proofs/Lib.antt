@@ -1,3 +1,4 @@
+-- The lemmas of mk_connect_pairs, by their files.
 pub mod Going
 pub mod Initials
 pub mod Membership

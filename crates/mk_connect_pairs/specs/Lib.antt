@@ -1,3 +1,4 @@
+-- The definitions of mk_connect_pairs, by their files.
 pub mod Connections
 pub mod Ends
 pub mod Faults

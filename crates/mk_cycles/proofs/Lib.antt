@@ -1,3 +1,4 @@
+-- The lemmas of mk_cycles, by their files.
 pub mod Chains
 pub mod Listings
 pub mod Loops

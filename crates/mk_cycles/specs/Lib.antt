@@ -1,3 +1,4 @@
+-- The definitions of mk_cycles, by their files.
 pub mod Edges
 pub mod Orders
 pub mod Cycles

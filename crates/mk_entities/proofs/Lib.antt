@@ -1,3 +1,4 @@
+-- The lemmas of mk_entities, by their files.
 pub mod Adding
 pub mod Distinct
 pub mod Families

@@ -1,3 +1,4 @@
+-- The definitions of mk_entities, by their files.
 pub mod Creation
 pub mod Descriptions
 pub mod Sound

@@ -1,1 +1,2 @@
+-- The lemmas of mk_frame, by their files.
 pub mod OnFrames

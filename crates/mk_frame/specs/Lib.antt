@@ -1,2 +1,3 @@
+-- The definitions of mk_frame, by their files.
 pub mod Frames
 pub mod Answers

@@ -1,3 +1,4 @@
+-- The lemmas of mk_json, by their files.
 pub mod LevelTests
 pub mod Layers
 pub mod Values

@@ -1,2 +1,3 @@
+-- The definitions of mk_json, by their files.
 pub mod Parsed
 pub mod inner

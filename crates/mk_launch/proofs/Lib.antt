@@ -1,3 +1,4 @@
+-- The lemmas of mk_launch, by their files.
 pub mod Asking
 pub mod Bytes
 pub mod Faulty

@@ -1,3 +1,4 @@
+-- The definitions of mk_launch, by their files.
 pub mod Asking
 pub mod Marks
 pub mod Parts

@@ -1,3 +1,4 @@
+-- The lemmas of mk_local, by their files.
 pub mod Accepting
 pub mod DataRight
 pub mod Described

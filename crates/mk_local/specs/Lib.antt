@@ -1,3 +1,4 @@
+-- The definitions of mk_local, by their files.
 pub mod Accepted
 pub mod Calls
 pub mod Data

@@ -1,3 +1,4 @@
+-- The lemmas of mk_message, by their files.
 pub mod Gathering
 pub mod Parameters
 pub mod Ranges

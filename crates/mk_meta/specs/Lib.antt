@@ -1,1 +1,2 @@
+-- The definitions of mk_meta, by their files.
 pub mod Metadata

@@ -1,3 +1,4 @@
+-- The lemmas of mk_pace, by their files.
 pub mod Beginning
 pub mod Early
 pub mod Telling

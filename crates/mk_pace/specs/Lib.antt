@@ -1,1 +1,2 @@
+-- The definitions of mk_pace, by their files.
 pub mod inner

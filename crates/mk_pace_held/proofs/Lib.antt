@@ -1,2 +1,3 @@
+-- The lemmas of mk_pace_held, by their files.
 mod Changing
 mod Choosing

@@ -1,1 +1,2 @@
+-- The definitions of mk_pace_held, by their files.
 pub mod Firsts

@@ -1,3 +1,4 @@
+-- The lemmas of mk_pace_laws, by their files.
 pub mod Completing
 pub mod Napping
 pub mod Ordering

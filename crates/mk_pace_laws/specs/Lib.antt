@@ -1,3 +1,4 @@
+-- The definitions of mk_pace_laws, by their files.
 pub mod Clocks
 pub mod Ends
 pub mod Laws

@@ -1,3 +1,4 @@
+-- The lemmas of mk_pace_loop, by their files.
 pub mod Answering
 pub mod Asking
 pub mod Ending

@@ -1,3 +1,4 @@
+-- The definitions of mk_plan_check, by their files.
 pub mod FirstBad
 pub mod Nesting
 pub mod Tests

@@ -1,3 +1,4 @@
+-- The lemmas of mk_plan_judge, by their files.
 pub mod AtPlaces
 pub mod Leaving
 pub mod Putting

@@ -1,2 +1,3 @@
+-- The definitions of mk_plan_judge, by their files.
 pub mod Places
 pub mod inner

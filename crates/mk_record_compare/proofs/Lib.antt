@@ -1,3 +1,4 @@
+-- The lemmas of mk_record_compare, by their files.
 pub mod Left
 pub mod Levels
 pub mod Matching

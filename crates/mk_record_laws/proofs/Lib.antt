@@ -1,3 +1,4 @@
+-- The lemmas of mk_record_laws, by their files.
 mod Characters
 pub mod Clean
 mod Counting

@@ -1,3 +1,4 @@
+-- The lemmas of mk_record_read, by their files.
 pub mod Gathering
 pub mod Known
 pub mod Ranges

@@ -1,3 +1,4 @@
+-- The definitions of mk_record_read, by their files.
 pub mod Entries
 pub mod Fields
 pub mod Lines

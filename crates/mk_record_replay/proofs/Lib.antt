@@ -1,3 +1,4 @@
+-- The lemmas of mk_record_replay, by their files.
 pub mod Counting
 pub mod Drawing
 pub mod Giving

@@ -1,3 +1,4 @@
+-- The lemmas of mk_record_report, by their files.
 pub mod Bare
 mod Lasts
 mod Parting

@@ -1,1 +1,2 @@
+-- The definitions of mk_record_report, by their files.
 pub mod inner

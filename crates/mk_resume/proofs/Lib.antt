@@ -1,3 +1,4 @@
+-- The lemmas of mk_resume, by their files.
 pub mod Alike
 pub mod Beginning
 pub mod Completing

@@ -1,3 +1,4 @@
+-- The definitions of mk_resume, by their files.
 pub mod Laws
 pub mod Resumed
 pub mod inner

@@ -1,3 +1,4 @@
+-- The lemmas of mk_resume_links, by their files.
 pub mod Catching
 pub mod Closing
 pub mod Ended

@@ -1,3 +1,4 @@
+-- The definitions of mk_resume_links, by their files.
 pub mod Laws
 pub mod Rests
 pub mod Running

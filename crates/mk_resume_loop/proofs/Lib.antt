@@ -1,3 +1,4 @@
+-- The lemmas of mk_resume_loop, by their files.
 pub mod Again
 pub mod Answered
 pub mod Asked

@@ -1,3 +1,4 @@
+-- The lemmas of mk_resume_walk, by their files.
 pub mod Alternating
 pub mod Fronts
 pub mod GoingOn

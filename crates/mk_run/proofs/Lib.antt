@@ -1,3 +1,4 @@
+-- The lemmas of mk_run, by their files.
 pub mod Beginning
 pub mod Completing
 pub mod Endings

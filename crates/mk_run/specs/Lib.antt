@@ -1,3 +1,4 @@
+-- The definitions of mk_run, by their files.
 pub mod Outcomes
 pub mod Ends
 pub mod Laws

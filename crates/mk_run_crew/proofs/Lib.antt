@@ -1,3 +1,4 @@
+-- The lemmas of mk_run_crew, by their files.
 mod Asked
 mod Completing
 mod Composing

@@ -1,3 +1,4 @@
+-- The definitions of mk_run_crew, by their files.
 pub mod Attempts
 pub mod Seen
 pub mod Calls

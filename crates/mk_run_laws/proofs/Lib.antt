@@ -1,3 +1,4 @@
+-- The lemmas of mk_run_laws, by their files.
 pub mod Taking
 pub mod Moving
 pub mod NextHeard

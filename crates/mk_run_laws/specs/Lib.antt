@@ -1,3 +1,4 @@
+-- The definitions of mk_run_laws, by their files.
 pub mod Hearing
 pub mod Handshake
 pub mod Payloads

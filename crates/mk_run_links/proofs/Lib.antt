@@ -1,3 +1,4 @@
+-- The lemmas of mk_run_links, by their files.
 mod Beginning
 mod Hearing
 mod Linking

@@ -1,3 +1,4 @@
+-- The definitions of mk_run_links, by their files.
 pub mod Places
 pub mod Entries
 pub mod Halts

@@ -1,3 +1,4 @@
+-- The lemmas of mk_scenario, by their files.
 pub mod Referring
 pub mod Refusing
 pub mod Earlier

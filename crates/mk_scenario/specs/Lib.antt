@@ -1,3 +1,4 @@
+-- The definitions of mk_scenario, by their files.
 pub mod Sims
 pub mod Places
 pub mod Groups

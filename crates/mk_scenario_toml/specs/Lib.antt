@@ -1,1 +1,2 @@
+-- The definitions of mk_scenario_toml, by their files.
 pub mod Document

@@ -1,3 +1,4 @@
+-- The lemmas of mk_sched, by their files.
 pub mod Standing
 pub mod GivingUp
 pub mod Asked

@@ -1,3 +1,4 @@
+-- The lemmas of mk_sched_agenda, by their files.
 pub mod Counting
 pub mod Queued
 pub mod Tabled

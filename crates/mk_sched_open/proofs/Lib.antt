@@ -1,3 +1,4 @@
+-- The lemmas of mk_sched_open, by their files.
 pub mod OneSim
 pub mod Every
 pub mod Messages

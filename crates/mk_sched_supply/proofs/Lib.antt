@@ -1,3 +1,4 @@
+-- The lemmas of mk_sched_supply, by their files.
 pub mod Supplying
 pub mod Keeping
 pub mod Replying

@@ -1,3 +1,4 @@
+-- The lemmas of mk_setup, by their files.
 mod Sequence
 mod Replied
 mod Reaching

@@ -1,3 +1,4 @@
+-- The definitions of mk_setup, by their files.
 pub mod Answers
 pub mod Asking
 pub mod Handshakes

@@ -1,3 +1,4 @@
+-- The lemmas of mk_simapi, by their files.
 mod Forming
 mod Ranges
 mod Answering

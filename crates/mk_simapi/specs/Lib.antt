@@ -1,3 +1,4 @@
+-- The definitions of mk_simapi, by their files.
 pub mod Requests
 pub mod Replies
 pub mod Serving

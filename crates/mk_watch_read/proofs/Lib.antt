@@ -1,2 +1,3 @@
+-- The lemmas of mk_watch_read, by their files.
 mod Gathered
 mod Inside

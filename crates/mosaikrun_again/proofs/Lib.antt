@@ -1,3 +1,4 @@
+-- The lemmas of mosaikrun_again, by their files.
 mod Again
 mod KindReplies
 mod LinkMessages

@@ -1,3 +1,4 @@
+-- The lemmas of mosaikrun_blame, by their files.
 pub mod Comparing
 pub mod Limit
 pub mod OneBlame

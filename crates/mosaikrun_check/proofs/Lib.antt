@@ -1,3 +1,4 @@
+-- The lemmas of mosaikrun_check, by their files.
 mod Ranges
 pub mod OneRanking
 pub mod OfEdges

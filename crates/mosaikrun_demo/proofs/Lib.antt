@@ -1,2 +1,3 @@
+-- The lemmas of mosaikrun_demo, by their files.
 mod NoLinks
 mod OfDemo

@@ -1,1 +1,2 @@
+-- The definitions of mosaikrun_demo, by their files.
 pub mod Outcomes

@@ -1,3 +1,4 @@
+-- The definitions of mosaikrun_endings, by their files.
 pub mod Endings
 pub mod Launches
 pub mod Scenarios

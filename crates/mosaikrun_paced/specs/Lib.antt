@@ -1,3 +1,4 @@
+-- The definitions of mosaikrun_paced, by their files.
 pub mod Laws
 pub mod Outcomes
 pub mod Records

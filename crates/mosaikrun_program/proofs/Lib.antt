@@ -1,3 +1,4 @@
+-- The lemmas of mosaikrun_program, by their files.
 mod Answering
 mod CarryingOn
 mod Deciding

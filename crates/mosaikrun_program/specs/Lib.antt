@@ -1,3 +1,4 @@
+-- The definitions of mosaikrun_program, by their files.
 pub mod Answers
 pub mod Around
 pub mod Commands

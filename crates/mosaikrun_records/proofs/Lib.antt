@@ -1,3 +1,4 @@
+-- The lemmas of mosaikrun_records, by their files.
 mod Keeping
 pub mod OneMigration
 pub mod OneOutcome

@@ -1,3 +1,4 @@
+-- The definitions of mosaikrun_records, by their files.
 pub mod Migrations
 pub mod Reports
 pub mod Saved

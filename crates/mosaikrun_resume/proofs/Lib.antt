@@ -1,2 +1,3 @@
+-- The lemmas of mosaikrun_resume, by their files.
 pub mod Reporting
 pub mod Telling

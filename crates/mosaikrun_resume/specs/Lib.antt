@@ -1,3 +1,4 @@
+-- The definitions of mosaikrun_resume, by their files.
 pub mod Laws
 pub mod Outcomes
 pub mod Sayings

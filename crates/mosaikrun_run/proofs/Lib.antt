@@ -1,3 +1,4 @@
+-- The lemmas of mosaikrun_run, by their files.
 mod Halting
 mod OneText
 pub mod Recording

@@ -1,2 +1,3 @@
+-- The definitions of mosaikrun_sayings, by their files.
 pub mod Sayings
 pub mod Stops

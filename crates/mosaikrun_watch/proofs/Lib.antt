@@ -1,2 +1,3 @@
+-- The lemmas of mosaikrun_watch, by their files.
 pub mod OneWatch
 mod Outcomes

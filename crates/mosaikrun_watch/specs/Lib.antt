@@ -1,1 +1,2 @@
+-- The definitions of mosaikrun_watch, by their files.
 pub mod Watched

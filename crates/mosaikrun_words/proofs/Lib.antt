@@ -1,3 +1,4 @@
+-- The lemmas of mosaikrun_words, by their files.
 pub mod Gives
 pub mod Groups
 pub mod Requested

@@ -1,3 +1,4 @@
+-- The definitions of mosaikrun_words, by their files.
 pub mod Numbers
 pub mod Requests
 pub mod Words

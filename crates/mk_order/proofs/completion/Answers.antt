@@ -1,3 +1,4 @@
+-- Answers to the goals of `completion` that the prover leaves.
 use Rattle.mk_order.proofs.Headlines.{orderly_finished}
 use Rattle.mk_order.proofs.completion.Goals as goal
 

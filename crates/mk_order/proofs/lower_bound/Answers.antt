@@ -1,3 +1,4 @@
+-- Answers to the goals of `lower_bound` that the prover leaves.
 use Rattle.mk_order.proofs.LowerBound.{bounded_below}
 use Rattle.mk_order.proofs.lower_bound.Goals as goal
 

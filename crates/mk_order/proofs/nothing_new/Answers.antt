@@ -1,3 +1,4 @@
+-- Answers to the goals of `nothing_new` that the prover leaves.
 use Rattle.mk_order.proofs.LowerBound.{has_all}
 use Rattle.mk_order.proofs.nothing_new.Goals as goal
 

@@ -1,3 +1,4 @@
+-- Answers to the goals of `promise` that the prover leaves.
 use Rattle.mk_order.proofs.Headlines.{advance_promised}
 use Rattle.mk_order.proofs.promise.Goals as goal
 

@@ -1,3 +1,4 @@
+-- Answers to the goals of `reordering` that the prover leaves.
 use Rattle.mk_plan.specs.Ready.{IsReady}
 use Rattle.mk_plan.specs.Advance.{IsAdvance}
 use Rattle.mk_order.proofs.Orders.{next_at}

@@ -1,3 +1,4 @@
+-- Answers to the goals of `rising` that the prover leaves.
 use Rattle.std.proofs.Common.{sym, subst}
 use Rattle.mk_plan.specs.Journals.{View, view}
 use Rattle.mk_plan.specs.Ready.{IsReady}

@@ -1,3 +1,4 @@
+-- Answers to the goals of `check_plan` that the prover leaves.
 use Rattle.std.proofs.Common.{◌≡◌, Some, None, sym, ◌∙◌}
 use Rattle.std.proofs.lemmas.Bool.{OnTrue_at}
 use Rattle.mk_plan_check.specs.Tests.{first_bad}

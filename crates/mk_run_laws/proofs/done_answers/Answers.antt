@@ -1,3 +1,4 @@
+-- Answers to the goals of `done_answers` that the prover leaves.
 use Rattle.mk_run_laws.specs.Handshake.{is_within}
 use Rattle.mk_run_laws.proofs.Answering as answering
 use Rattle.mk_run_laws.proofs.done_answers.Goals as goal

@@ -1,3 +1,4 @@
+-- Answers to the goals of `done_is_all` that the prover leaves.
 use Rattle.mk_run_laws.proofs.Saying.{items_all}
 use Rattle.mk_run_laws.proofs.done_is_all.Goals as goal
 

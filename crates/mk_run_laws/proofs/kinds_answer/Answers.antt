@@ -1,3 +1,4 @@
+-- Answers to the goals of `kinds_answer` that the prover leaves.
 use Rattle.mk_run_laws.proofs.Existing.{there_are}
 use Rattle.mk_run_laws.proofs.kinds_answer.Goals as goal
 

@@ -1,3 +1,4 @@
+-- Answers to the goals of `links_say_right` that the prover leaves.
 use Rattle.mk_outside.specs.Counts.{HasRisen}
 use Rattle.mk_run_laws.proofs.Clauses.{run_says}
 use Rattle.mk_run_laws.proofs.links_say_right.Goals as goal

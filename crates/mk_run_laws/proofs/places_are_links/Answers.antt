@@ -1,3 +1,4 @@
+-- Answers to the goals of `places_are_links` that the prover leaves.
 use Rattle.mk_run_laws.proofs.Starting.{place_is}
 use Rattle.mk_run_laws.proofs.places_are_links.Goals as goal
 

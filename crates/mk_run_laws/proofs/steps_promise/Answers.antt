@@ -1,3 +1,4 @@
+-- Answers to the goals of `steps_promise` that the prover leaves.
 use Rattle.mk_run_laws.proofs.Saying.{step_promised}
 use Rattle.mk_run_laws.proofs.steps_promise.Goals as goal
 

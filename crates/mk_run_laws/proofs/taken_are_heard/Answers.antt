@@ -1,3 +1,4 @@
+-- Answers to the goals of `taken_are_heard` that the prover leaves.
 use Rattle.mk_run_laws.proofs.Taking.{taken_heard, taken_rest}
 use Rattle.mk_run_laws.proofs.taken_are_heard.Goals as goal
 

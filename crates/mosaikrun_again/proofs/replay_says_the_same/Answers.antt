@@ -1,3 +1,4 @@
+-- Answers to the goals of `replay_says_the_same` that the prover leaves.
 use Rattle.mosaikrun_again.proofs.Saying.{replays_say_the_same}
 use Rattle.mosaikrun_again.proofs.replay_says_the_same.Goals as goal
 

@@ -1,3 +1,4 @@
+-- Answers to the goals of `data::data_content` that the prover leaves.
 use Rattle.std.proofs.Common.{◌++◌, ap, ◌∙◌, subst, sym}
 use Rattle.std.specs.Prelude.{Some}
 use Rattle.mk_plan.specs.Inputs.{value_at}

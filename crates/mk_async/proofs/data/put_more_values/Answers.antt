@@ -1,3 +1,4 @@
+-- Answers to the goals of `data::put_more_values` that the prover leaves.
 use Rattle.mk_async.specs.inner.Content.{IsNamed, member_text}
 use Rattle.mk_async.proofs.Writing.{commas_more, each_more}
 use Rattle.mk_async.proofs.data.put_more_values.Goals as goal

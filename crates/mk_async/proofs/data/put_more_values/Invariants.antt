@@ -1,3 +1,4 @@
+-- The invariants and measures of the loops of `data::put_more_values`.
 use Rattle.std.proofs.Common.{◌≡◌, ◌++◌, codes, flat_map, take}
 use Rattle.mk_async.specs.inner.Content.{AreNamed, member_text}
 use Rattle.mk_async.proofs.data.put_more_values.Given as goal

@@ -1,3 +1,4 @@
+-- Answers to the goals of `data::put_more_wants` that the prover leaves.
 use Rattle.std.proofs.Common.{ℕ, List, ◌++◌, flat_map, codes, append-nil, arith, sym, ap, ◌∙◌, subst}
 use Rattle.std.proofs.lemmas.List.{take_all}
 use Rattle.mk_base.specs.declared.json.Json.{Json}

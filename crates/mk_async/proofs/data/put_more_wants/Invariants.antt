@@ -1,3 +1,4 @@
+-- The invariants and measures of the loops of `data::put_more_wants`.
 use Rattle.std.proofs.Common.{◌≡◌, ◌++◌, codes, flat_map, take}
 use Rattle.mk_plan.specs.Deliveries.{Supply}
 use Rattle.mk_plan.specs.Inputs.{value_at}

@@ -1,3 +1,4 @@
+-- Answers to the goals of `data::put_values` that the prover leaves.
 use Rattle.std.proofs.Common.{ℕ, List, ◌-◌, length, take, drop, arith, subst, sym}
 use Rattle.mk_async.specs.inner.Content.{AreNamed, Texts}
 use Rattle.mk_async.proofs.Writing.{object_written, split_first}

@@ -1,3 +1,4 @@
+-- Answers to the goals of `data::put_wants` that the prover leaves.
 use Rattle.std.proofs.Common.{ℕ, List, ◌-◌, length, take, drop, arith, subst, sym, ap, ◌∙◌}
 use Rattle.mk_base.specs.declared.json.Json.{Json}
 use Rattle.mk_plan.specs.Inputs.{value_at}

@@ -1,3 +1,4 @@
+-- Answers to the goals of `data::values_by` that the prover leaves.
 use Rattle.mk_base.specs.declared.json.Json.{Json}
 use Rattle.mk_base.specs.Trees.{text_in}
 use Rattle.mk_plan.specs.Asks.{gives_attr}

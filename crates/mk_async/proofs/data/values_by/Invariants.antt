@@ -1,3 +1,4 @@
+-- The invariants and measures of the loops of `data::values_by`.
 use Rattle.std.proofs.Common.{◌≡◌, take}
 use Rattle.mk_plan.specs.Deliveries.{Supply}
 use Rattle.mk_plan.specs.Inputs.{value_at}

@@ -1,3 +1,4 @@
+-- Answers to the goals of `forms::get_of` that the prover leaves.
 use Rattle.std.proofs.Common.{refl, ◌∙◌, sym}
 use Rattle.mk_async.specs.Asked.{get_in}
 use Rattle.mk_async.proofs.Reading.{get_there, none_there, some_there}

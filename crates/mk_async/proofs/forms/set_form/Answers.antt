@@ -1,3 +1,4 @@
+-- Answers to the goals of `forms::set_form` that the prover leaves.
 use Rattle.std.proofs.Common.{sym, ap, ◌∙◌, option_map}
 use Rattle.mk_async.proofs.Giving.{range_members}
 use Rattle.mk_async.proofs.forms.set_form.Goals as goal

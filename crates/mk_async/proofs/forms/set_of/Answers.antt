@@ -1,3 +1,4 @@
+-- Answers to the goals of `forms::set_of` that the prover leaves.
 use Rattle.std.proofs.Common.{refl, ◌∙◌, sym}
 use Rattle.mk_async.specs.inner.Forms.{set_of}
 use Rattle.mk_async.proofs.Reading.{set_there, none_there, some_there}

@@ -1,3 +1,4 @@
+-- Answers to the goals of `given::given_values` that the prover leaves.
 use Rattle.std.proofs.Common.{◌≡◌, List, Some, All, IsSome, option_map, sym, ap, subst, ◌∙◌}
 use Rattle.std.proofs.lemmas.Result.{IfOk-weaker}
 use Rattle.mk_plan.specs.declared.SetValue.{SetValue}

@@ -1,3 +1,4 @@
+-- The invariants and measures of the loops of `given::put_sources`.
 use Rattle.std.proofs.Common.{◌≡◌, ◌++◌, take}
 use Rattle.mk_async.specs.inner.Given.{values_in}
 use Rattle.mk_async.proofs.given.put_sources.Given as goal

@@ -1,3 +1,4 @@
+-- The invariants and measures of the loops of `given::put_values`.
 use Rattle.std.proofs.Common.{◌≡◌, ◌++◌, take}
 use Rattle.mk_async.specs.inner.Given.{values_to}
 use Rattle.mk_async.proofs.given.put_values.Given as goal

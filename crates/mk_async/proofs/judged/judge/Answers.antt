@@ -1,3 +1,4 @@
+-- Answers to the goals of `judged::judge` that the prover leaves.
 use Rattle.mk_async.specs.Asked.{refusal_by}
 use Rattle.mk_async.proofs.Judging.{judged_so, passed_known, passed_permitted, read_there}
 use Rattle.mk_async.proofs.judged.judge.Goals as goal

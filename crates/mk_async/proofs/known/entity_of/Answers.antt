@@ -1,3 +1,4 @@
+-- Answers to the goals of `known::entity_of` that the prover leaves.
 use Rattle.mk_async.proofs.Entities.{entity_inside}
 use Rattle.mk_async.proofs.known.entity_of.Goals as goal
 

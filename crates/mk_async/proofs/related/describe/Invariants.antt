@@ -1,3 +1,4 @@
+-- The invariants and measures of the loops of `related::describe`.
 use Rattle.std.proofs.Common.{◌≡◌, take}
 use Rattle.mk_async.specs.inner.Related.{described}
 use Rattle.mk_async.proofs.related.describe.Given as goal

@@ -1,3 +1,4 @@
+-- The invariants and measures of the loops of `related::members_of_each`.
 use Rattle.std.proofs.Common.{◌≡◌, take}
 use Rattle.mk_async.specs.inner.Related.{each_read}
 use Rattle.mk_async.proofs.related.members_of_each.Given as goal

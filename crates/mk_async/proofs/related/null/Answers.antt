@@ -1,3 +1,4 @@
+-- Answers to the goals of `related::null` that the prover leaves.
 use Rattle.std.proofs.Common.{◌≡◌, ℕ, List, subst}
 use Rattle.std.specs.Prelude.{IfOk}
 use Rattle.mk_async.proofs.Relating.{null_value, text_null}

@@ -1,3 +1,4 @@
+-- Answers to the goals of `related::plain_content` that the prover leaves.
 use Rattle.std.proofs.Common.{option_map, ap, ◌∙◌, subst}
 use Rattle.std.specs.Prelude.{IsSome}
 use Rattle.mk_plan.specs.Asks.{content_text}

@@ -1,3 +1,4 @@
+-- Answers to the goals of `related::related` that the prover leaves.
 use Rattle.std.proofs.Common.{◌≡◌, ℕ, List, subst, ap, ◌∙◌}
 use Rattle.std.specs.Prelude.{IfOk}
 use Rattle.mk_base.specs.Texts.{text_of}

@@ -1,3 +1,4 @@
+-- Answers to the goals of `related::related_of_each` that the prover leaves.
 use Rattle.std.proofs.Common.{ap, ◌∙◌}
 use Rattle.mk_base.specs.declared.json.Json as tree
 use Rattle.mk_async.specs.Forms.{is_value}

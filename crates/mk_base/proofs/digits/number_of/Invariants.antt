@@ -1,3 +1,4 @@
+-- The invariants and measures of the loops of `digits::number_of`.
 use Rattle.std.proofs.Common.{◌≡◌, ◌+◌, ◌*◌, ◌^◌, ◌≤◌, take}
 use Rattle.mk_base.specs.Numbers as numbers
 use Rattle.mk_base.proofs.digits.number_of.Given as goal

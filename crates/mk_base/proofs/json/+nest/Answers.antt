@@ -1,3 +1,4 @@
+-- Answers to the goals of `json::+nest` that the prover leaves.
 use Rattle.std.proofs.Common.{◌≡◌, nat_le, nat_lt, false, sym, ap, ◌∙◌, arith}
 use Rattle.mk_base.specs.Trees.{nesting}
 use Rattle.mk_base.proofs.Levels.{zero_within, nesting_null, nesting_bool, nesting_number, nesting_odd, nesting_text, items_within, members_within, items_not_within, members_not_within}

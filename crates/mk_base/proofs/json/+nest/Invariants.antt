@@ -1,3 +1,4 @@
+-- The invariants and measures of the loops of `json::+nest`.
 use Rattle.std.proofs.Common.{◌≡◌, drop, nat_le}
 use Rattle.std.specs.List.{list_all}
 use Rattle.mk_base.specs.Trees.{nesting}

@@ -1,3 +1,4 @@
+-- Answers to the goals of `json::+whole` that the prover leaves.
 use Rattle.std.proofs.Common.{sym, ap, ◌∙◌}
 use Rattle.mk_base.specs.Trees.{is_whole}
 use Rattle.mk_base.proofs.Levels.{whole_null, whole_bool, whole_number, whole_odd, whole_text, whole_items, whole_members}

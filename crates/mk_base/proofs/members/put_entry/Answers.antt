@@ -1,3 +1,4 @@
+-- Answers to the goals of `members::put_entry` that the prover leaves.
 use Rattle.std.proofs.Common.{◌≡◌, ◌≤◌, ap, sym, ◌∙◌, subst, length}
 use Rattle.std.proofs.lemmas.Result.{on_ok_weaker}
 use Rattle.mk_base.specs.inner.Lists.{place_under, is_name_at}

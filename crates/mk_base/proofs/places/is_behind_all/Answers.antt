@@ -1,3 +1,4 @@
+-- Answers to the goals of `places::is_behind_all` that the prover leaves.
 use Rattle.std.proofs.Common.{sym, ◌∙◌}
 use Rattle.mk_base.proofs.Searching.{past_end}
 use Rattle.mk_base.proofs.places.is_behind_all.Goals as goal

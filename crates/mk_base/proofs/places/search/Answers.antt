@@ -1,3 +1,4 @@
+-- Answers to the goals of `places::search` that the prover leaves.
 use Rattle.std.proofs.Common.{◌∙◌}
 use Rattle.mk_base.proofs.Searching.{found_at}
 use Rattle.mk_base.proofs.places.search.Goals as goal

@@ -1,3 +1,4 @@
+-- Answers to the goals of `places::search_near` that the prover leaves.
 use Rattle.std.proofs.Common.{sym}
 use Rattle.mk_base.proofs.Guessing.{guessed}
 use Rattle.mk_base.proofs.places.search_near.Goals as goal

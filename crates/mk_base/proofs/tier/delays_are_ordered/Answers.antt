@@ -1,3 +1,4 @@
+-- Answers to the goals of `tier::delays_are_ordered` that the prover leaves.
 use Rattle.mk_base.proofs.TierOrder.{weak_later, weak_before_shifted, narrow_before_wide}
 use Rattle.mk_base.proofs.tier.delays_are_ordered.Goals as goal
 

@@ -1,3 +1,4 @@
+-- Answers to the goals of `tier::delays_keep_order` that the prover leaves.
 use Rattle.mk_base.proofs.TierOrder.{delayed_no_earlier, delayed_keeps, shifted_later}
 use Rattle.mk_base.proofs.tier.delays_keep_order.Goals as goal
 

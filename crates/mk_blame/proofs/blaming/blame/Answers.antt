@@ -1,3 +1,4 @@
+-- Answers to the goals of `blaming::blame` that the prover leaves.
 use Rattle.std.proofs.Common.{◌<◌, Bool, sym, subst, arith}
 use Rattle.mk_plan.specs.Plans.{sim_count}
 use Rattle.mk_blame.specs.inner.Parted.{BeginsWithStep, IsJudged}

@@ -1,3 +1,4 @@
+-- The invariants and measures of the loops of `blaming::blame`.
 use Rattle.std.proofs.Common.{map}
 use Rattle.mk_blame.specs.inner.Parted.{AreTalks, IsJudged}
 use Rattle.mk_blame.proofs.blaming.blame.Given as goal

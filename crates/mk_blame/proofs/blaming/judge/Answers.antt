@@ -1,3 +1,4 @@
+-- Answers to the goals of `blaming::judge` that the prover leaves.
 use Rattle.std.proofs.Common.{◌≡◌, ◌∙◌, ◌<◌, inl, inr, refl, ap, sym, subst}
 use Rattle.mk_plan.specs.declared.Item.{Item}
 use Rattle.mk_plan.specs.declared.Message.{Message}

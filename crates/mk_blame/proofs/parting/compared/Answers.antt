@@ -1,3 +1,4 @@
+-- Answers to the goals of `parting::compared` that the prover leaves.
 use Rattle.std.proofs.Common.{◌<◌, ◌≤◌, subst, sym, arith}
 use Rattle.mk_plan_same.proofs.Pairs.{next_same}
 use Rattle.mk_blame.specs.Talks.{said}

@@ -1,3 +1,4 @@
+-- The invariants and measures of the loops of `parting::compared`.
 use Rattle.std.proofs.Common.{◌≡◌, ◌≤◌, take, map, length}
 use Rattle.mk_blame.specs.Talks.{said, messages, last_step}
 use Rattle.mk_blame.proofs.parting.compared.Given as goal

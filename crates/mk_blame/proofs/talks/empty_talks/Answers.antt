@@ -1,3 +1,4 @@
+-- Answers to the goals of `talks::empty_talks` that the prover leaves.
 use Rattle.std.proofs.Common.{ap, map}
 use Rattle.mk_blame.proofs.Grouping.{none_yet, one_empty}
 use Rattle.mk_blame.proofs.talks.empty_talks.Goals as goal

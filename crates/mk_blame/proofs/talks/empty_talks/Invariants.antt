@@ -1,3 +1,4 @@
+-- The invariants and measures of the loops of `talks::empty_talks`.
 use Rattle.std.proofs.Common.{[], map}
 use Rattle.mk_blame.specs.inner.Parted.{AreTalks}
 use Rattle.mk_blame.proofs.talks.empty_talks.Given as goal

@@ -1,3 +1,4 @@
+-- Answers to the goals of `talks::note` that the prover leaves.
 use Rattle.std.proofs.Common.{◌∙◌, ap, subst, length, ◌<◌, ◌≤◌, map}
 use Rattle.mk_base.proofs.Lists.{map_append}
 use Rattle.mk_blame.proofs.Grouping.{noted, passed_by}

@@ -1,3 +1,4 @@
+-- The invariants and measures of the loops of `talks::talks_of`.
 use Rattle.std.proofs.Common.{take, map}
 use Rattle.mk_blame.specs.inner.Parted.{AreTalks}
 use Rattle.mk_blame.proofs.talks.talks_of.Given as goal

@@ -1,3 +1,4 @@
+-- The invariants and measures of the loops of `writing::write_verdict`.
 use Rattle.std.proofs.Common.{◌≡◌, true, take, flat_map}
 use Rattle.std.specs.List.{list_all}
 use Rattle.mk_blame.specs.Written.{lines_of, may_be_written}

@@ -1,3 +1,4 @@
+-- Answers to the goals of `inlets::inlets_of` that the prover leaves.
 use Rattle.std.proofs.Common.{sym, subst}
 use Rattle.mk_buffers.specs.inner.Listing.{AreTargets}
 use Rattle.mk_buffers.proofs.Putting.{if_ok}

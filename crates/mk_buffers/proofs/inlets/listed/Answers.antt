@@ -1,3 +1,4 @@
+-- Answers to the goals of `inlets::listed` that the prover leaves.
 use Rattle.mk_buffers.proofs.Listing.{comes_next, listed_more, listed_whole}
 use Rattle.mk_buffers.proofs.Vias.{target_width}
 use Rattle.mk_buffers.proofs.inlets.listed.Goals as goal

@@ -1,3 +1,4 @@
+-- The invariants and measures of the loops of `inlets::listed`.
 use Rattle.std.proofs.Common.{take, length}
 use Rattle.mk_buffers.specs.inner.Listing.{AreListed}
 use Rattle.mk_buffers.proofs.inlets.listed.Given as goal

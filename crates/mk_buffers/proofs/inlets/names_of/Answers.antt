@@ -1,3 +1,4 @@
+-- Answers to the goals of `inlets::names_of` that the prover leaves.
 use Rattle.mk_buffers.proofs.Founding.{names_more}
 use Rattle.mk_buffers.proofs.inlets.names_of.Goals as goal
 

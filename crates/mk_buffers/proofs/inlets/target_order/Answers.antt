@@ -1,3 +1,4 @@
+-- Answers to the goals of `inlets::target_order` that the prover leaves.
 use Rattle.std.specs.Ordering.{nat_cmp, ordering_then}
 use Rattle.mk_base.specs.Lists.{text_order}
 use Rattle.mk_buffers.proofs.Putting.{then_parts}

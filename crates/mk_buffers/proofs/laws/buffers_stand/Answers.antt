@@ -1,3 +1,4 @@
+-- Answers to the goals of `laws::buffers_stand` that the prover leaves.
 use Rattle.mk_buffers.proofs.Standing.{stands_new, stands_unchanged, outlet_key, least_low, least_held}
 use Rattle.mk_buffers.proofs.laws.buffers_stand.Goals as goal
 

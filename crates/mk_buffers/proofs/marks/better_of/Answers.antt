@@ -1,3 +1,4 @@
+-- Answers to the goals of `marks::better_of` that the prover leaves.
 use Rattle.std.proofs.Common.{arith, pos, sym, subst, ap, ◌∙◌, Option, Some, false, ℕ, get_or}
 use Rattle.mk_base.specs.declared.tier.Tier.{Tier}
 use Rattle.mk_buffers.specs.inner.Marking.{IsBest, IsLeastOf}

@@ -1,3 +1,4 @@
+-- Answers to the goals of `marks::raise_least` that the prover leaves.
 use Rattle.std.proofs.Common.{arith, pos, refl, sym, subst, ◌∙◌, get_or, length}
 use Rattle.mk_base.specs.declared.tier.Tier.{Tier}
 use Rattle.mk_buffers.specs.inner.Marking.{HoldsLeast, IsBest, IsLeastOf}

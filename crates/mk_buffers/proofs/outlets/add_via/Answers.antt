@@ -1,3 +1,4 @@
+-- Answers to the goals of `outlets::add_via` that the prover leaves.
 use Rattle.std.proofs.Common.{inl, inr, [], ◌∷◌, arith, refl, sym, subst, ap, length, length-append}
 use Rattle.mk_base.specs.Lists.{IsIn}
 use Rattle.mk_base.proofs.Lists.{in_front, in_back, in_either}

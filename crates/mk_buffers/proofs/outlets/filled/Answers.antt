@@ -1,3 +1,4 @@
+-- Answers to the goals of `outlets::filled` that the prover leaves.
 use Rattle.mk_buffers.proofs.Collecting.{next_of, outlets_more, outlets_whole}
 use Rattle.mk_buffers.proofs.Vias.{source_width}
 use Rattle.mk_buffers.proofs.outlets.filled.Goals as goal

@@ -1,3 +1,4 @@
+-- The invariants and measures of the loops of `outlets::filled`.
 use Rattle.std.proofs.Common.{take}
 use Rattle.mk_buffers.specs.inner.Building.{AreOutlets}
 use Rattle.mk_buffers.proofs.outlets.filled.Given as goal

@@ -1,3 +1,4 @@
+-- Answers to the goals of `outlets::has_via` that the prover leaves.
 use Rattle.std.proofs.Common.{sym, subst, ◌∙◌}
 use Rattle.mk_base.specs.Lists.{IsIn}
 use Rattle.mk_base.proofs.Lists.{at_in}

@@ -1,3 +1,4 @@
+-- Answers to the goals of `outlets::joined` that the prover leaves.
 use Rattle.std.proofs.Common.{sym, subst}
 use Rattle.mk_buffers.specs.inner.Building.{AreSources}
 use Rattle.mk_buffers.proofs.Putting.{if_ok}

@@ -1,3 +1,4 @@
+-- Answers to the goals of `outlets::no_outlets` that the prover leaves.
 use Rattle.std.proofs.Common.{arith, sym, ap, ◌∙◌, slice_get}
 use Rattle.mk_buffers.proofs.Collecting.{outlets_none, replicated}
 use Rattle.mk_buffers.proofs.outlets.no_outlets.Goals as goal

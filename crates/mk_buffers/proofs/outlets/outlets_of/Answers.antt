@@ -1,3 +1,4 @@
+-- Answers to the goals of `outlets::outlets_of` that the prover leaves.
 use Rattle.std.proofs.Common.{sym, subst, ap, length}
 use Rattle.std.specs.List.Sorted.{IsNonDecreasingBy}
 use Rattle.mk_buffers.specs.declared.outlets.Outlets.{Outlets}

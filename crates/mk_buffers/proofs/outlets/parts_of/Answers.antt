@@ -1,3 +1,4 @@
+-- Answers to the goals of `outlets::parts_of` that the prover leaves.
 use Rattle.std.proofs.Common.{◌≡◌, arith, subst}
 use Rattle.mk_buffers.specs.inner.Building.{AreParts}
 use Rattle.mk_buffers.proofs.Founding.{parts_more, parts_none}

@@ -1,3 +1,4 @@
+-- Answers to the goals of `outlets::reach` that the prover leaves.
 use Rattle.std.proofs.Common.{refl, sym, ap, ◌∙◌, arith, Some}
 use Rattle.mk_base.proofs.Lists.{some_same, set_here, set_else, length_set, get_is}
 use Rattle.mk_buffers.specs.declared.outlets.Part.{Part}

@@ -1,3 +1,4 @@
+-- Answers to the goals of `outlets::source_order` that the prover leaves.
 use Rattle.std.specs.Ordering.{nat_cmp}
 use Rattle.mk_base.specs.Lists.{text_order}
 use Rattle.mk_buffers.proofs.Putting.{then_parts}

@@ -1,3 +1,4 @@
+-- Answers to the goals of `sets::forget` that the prover leaves.
 use Rattle.std.proofs.Common.{sym, ◌∙◌, arith}
 use Rattle.mk_buffers.proofs.Lasts.{forget_first}
 use Rattle.mk_buffers.proofs.sets.forget.Goals as goal

@@ -1,3 +1,4 @@
+-- The invariants and measures of the loops of `sets::forget`.
 use Rattle.std.proofs.Common.{length}
 use Rattle.mk_buffers.specs.Slots.{SameLast}
 use Rattle.mk_buffers.proofs.sets.forget.Given as goal

@@ -1,3 +1,4 @@
+-- Answers to the goals of `sets::place_of` that the prover leaves.
 use Rattle.std.proofs.Common.{rules}
 use Rattle.std.proofs.lemmas.Fn.{always_returns_same}
 use Rattle.mk_buffers.specs.inner.Slots.{slot_order}

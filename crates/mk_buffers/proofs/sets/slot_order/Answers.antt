@@ -1,3 +1,4 @@
+-- Answers to the goals of `sets::slot_order` that the prover leaves.
 use Rattle.mk_base.specs.Lists.{text_order}
 use Rattle.mk_buffers.proofs.Putting.{then_parts}
 use Rattle.mk_buffers.proofs.sets.slot_order.Goals as goal

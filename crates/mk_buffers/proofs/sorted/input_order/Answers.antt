@@ -1,3 +1,4 @@
+-- Answers to the goals of `sorted::input_order` that the prover leaves.
 use Rattle.mk_base.specs.Lists.{text_order}
 use Rattle.mk_buffers.proofs.Putting.{then_parts}
 use Rattle.mk_buffers.proofs.sorted.input_order.Goals as goal

@@ -1,3 +1,4 @@
+-- Answers to the goals of `tables::asking` that the prover leaves.
 use Rattle.std.proofs.Common.{arith, subst, sym, refl, length, ◌<◌}
 use Rattle.mk_buffers.proofs.Asking.{asked_more, asking_all, paired_more, paired_none, target_there, second_there, at_place}
 use Rattle.mk_buffers.proofs.tables.asking.Goals as goal

@@ -1,3 +1,4 @@
+-- The invariants and measures of the loops of `tables::asking`.
 use Rattle.mk_buffers.proofs.Asking.{HaveAsked, HavePaired}
 use Rattle.mk_buffers.proofs.tables.asking.Given as goal
 

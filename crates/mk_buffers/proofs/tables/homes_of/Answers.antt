@@ -1,3 +1,4 @@
+-- Answers to the goals of `tables::homes_of` that the prover leaves.
 use Rattle.std.proofs.Common.{[], arith, sym, ap, ◌∙◌, Option, option_map, unwrap_or}
 use Rattle.mk_plan.specs.declared.PlanEntity.{PlanEntity}
 use Rattle.mk_buffers.proofs.Founding.{homes_more}

@@ -1,3 +1,4 @@
+-- The invariants and measures of the loops of `tables::homes_of`.
 use Rattle.std.proofs.Common.{◌≡◌, ℕ, length, Some, slice_get}
 use Rattle.mk_plan.specs.Plans.{owner, eid_of}
 use Rattle.mk_buffers.specs.declared.buffers.Home.{Home}

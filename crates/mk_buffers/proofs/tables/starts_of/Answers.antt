@@ -1,3 +1,4 @@
+-- Answers to the goals of `tables::starts_of` that the prover leaves.
 use Rattle.std.proofs.Common.{◌∙◌, sym, subst, arith}
 use Rattle.mk_buffers.specs.Marking.{AreAsking}
 use Rattle.mk_buffers.specs.inner.Standing.{AreUnset}

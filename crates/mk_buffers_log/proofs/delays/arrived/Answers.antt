@@ -1,3 +1,4 @@
+-- Answers to the goals of `delays::arrived` that the prover leaves.
 use Rattle.std.proofs.Common.{sym, ap, subst, ◌∙◌}
 use Rattle.mk_base.specs.declared.tier.Tier.{Tier}
 use Rattle.mk_base.specs.Tiers.{IsUpTo, delayed}

@@ -1,3 +1,4 @@
+-- The invariants and measures of the loops of `delays::arrived`.
 use Rattle.std.proofs.Common.{◌≡◌, true}
 use Rattle.mk_base.specs.declared.tier.Tier.{Tier}
 use Rattle.mk_base.specs.Tiers.{IsUpTo}

@@ -1,3 +1,4 @@
+-- Answers to the goals of `delays::has_come` that the prover leaves.
 use Rattle.mk_base.specs.Tiers.{delayed, up_to}
 use Rattle.mk_buffers_log.proofs.Walking.{all_more, all_not, all_end}
 use Rattle.mk_buffers_log.proofs.delays.has_come.Goals as goal

@@ -1,3 +1,4 @@
+-- The invariants and measures of the loops of `delays::has_come`.
 use Rattle.std.proofs.Common.{◌≡◌, true, take}
 use Rattle.std.specs.List.{list_all}
 use Rattle.mk_base.specs.Tiers.{delayed, up_to}

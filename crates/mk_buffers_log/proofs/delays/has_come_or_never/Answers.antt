@@ -1,3 +1,4 @@
+-- Answers to the goals of `delays::has_come_or_never` that the prover leaves.
 use Rattle.std.proofs.Common.{◌≡◌, ℤ, true, false, arith, subst, ◌||◌, int_le}
 use Rattle.std.proofs.lemmas.Int.{ints}
 use Rattle.std.specs.List.{list_all}

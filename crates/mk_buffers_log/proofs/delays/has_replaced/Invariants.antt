@@ -1,3 +1,4 @@
+-- The invariants and measures of the loops of `delays::has_replaced`.
 use Rattle.std.proofs.Common.{◌≡◌, true, ◌||◌, int_le, Some, take}
 use Rattle.std.specs.List.{list_all}
 use Rattle.mk_base.specs.Tiers.{delayed}

@@ -1,3 +1,4 @@
+-- Answers to the goals of `delays::is_all_in_time` that the prover leaves.
 use Rattle.std.proofs.Common.{◌≡◌, ℤ, true, false, arith, subst, int_lt}
 use Rattle.std.proofs.lemmas.Int.{ints}
 use Rattle.std.specs.List.{list_all}

@@ -1,3 +1,4 @@
+-- The invariants and measures of the loops of `delays::is_all_in_time`.
 use Rattle.std.proofs.Common.{◌≡◌, true, int_lt, take}
 use Rattle.std.specs.List.{list_all}
 use Rattle.mk_base.specs.Tiers.{delayed}

@@ -1,3 +1,4 @@
+-- Answers to the goals of `delays::is_held_up` that the prover leaves.
 use Rattle.std.proofs.Common.{◌≡◌, ℤ, true, false, arith, subst, ◌&&◌, not, int_lt}
 use Rattle.std.proofs.lemmas.Int.{ints}
 use Rattle.std.specs.List.{list_any}

@@ -1,3 +1,4 @@
+-- The invariants and measures of the loops of `delays::is_held_up`.
 use Rattle.std.proofs.Common.{◌≡◌, false, ◌&&◌, not, int_lt, take}
 use Rattle.std.specs.List.{list_any}
 use Rattle.mk_base.specs.Tiers.{delayed, up_to}

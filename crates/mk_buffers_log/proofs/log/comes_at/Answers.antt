@@ -1,3 +1,4 @@
+-- Answers to the goals of `log::comes_at` that the prover leaves.
 use Rattle.std.proofs.Common.{ap, ◌∙◌}
 use Rattle.mk_plan.specs.Deliveries.{Timed}
 use Rattle.mk_buffers_log.specs.inner.Logs.{does_come}

@@ -1,3 +1,4 @@
+-- The invariants and measures of the loops of `log::first_to_come`.
 use Rattle.std.proofs.Common.{◌≡◌, ◌<◌, ℕ, true, get_or}
 use Rattle.mk_plan.specs.Deliveries.{Timed}
 use Rattle.mk_buffers_log.specs.inner.Logs.{is_past}

@@ -1,3 +1,4 @@
+-- Answers to the goals of `log::forget_rising` that the prover leaves.
 use Rattle.std.proofs.Common.{arith, sym, subst, ◌∙◌, ◌+◌, List, get_or}
 use Rattle.mk_plan.specs.Deliveries.{Timed}
 use Rattle.mk_buffers_log.specs.Logs.{IsAmong}

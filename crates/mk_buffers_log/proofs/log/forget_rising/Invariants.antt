@@ -1,3 +1,4 @@
+-- The invariants and measures of the loops of `log::forget_rising`.
 use Rattle.std.proofs.Common.{◌≤◌, ◌-◌, deque_len}
 use Rattle.mk_buffers_log.specs.Logs.{IsAmong, AnswersFrom}
 use Rattle.mk_buffers_log.specs.inner.Logs.{IsAscending}

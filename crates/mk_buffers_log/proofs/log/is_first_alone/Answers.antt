@@ -1,3 +1,4 @@
+-- Answers to the goals of `log::is_first_alone` that the prover leaves.
 use Rattle.std.proofs.Common.{sym, ◌∙◌}
 use Rattle.mk_buffers_log.specs.inner.Logs.{does_come}
 use Rattle.mk_buffers_log.proofs.Ascending.{first_passes, comes_downward}

@@ -1,3 +1,4 @@
+-- Answers to the goals of `log::is_newest` that the prover leaves.
 use Rattle.std.proofs.Common.{◌≡◌, inl, inr, ℕ, false, get_or, sym, subst, ◌∙◌, arith}
 use Rattle.mk_buffers_log.specs.inner.Logs.{is_outdone}
 use Rattle.mk_buffers_log.proofs.Places.{below_or_same}

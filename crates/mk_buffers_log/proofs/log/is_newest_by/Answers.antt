@@ -1,3 +1,4 @@
+-- Answers to the goals of `log::is_newest_by` that the prover leaves.
 use Rattle.std.proofs.Common.{◌≡◌, ◌∙◌, inl, inr, ℕ, ℤ, Some, get_or, refl, sym, ap, subst, arith}
 use Rattle.std.proofs.lemmas.Int.{ints}
 use mir.Syntax.{w64}

@@ -1,3 +1,4 @@
+-- The invariants and measures of the loops of `log::is_newest_by`.
 use Rattle.std.proofs.Common.{◌<◌, ℕ, Some, get_or}
 use Rattle.mk_base.specs.declared.tier.Via.{Via}
 use Rattle.mk_buffers_log.specs.inner.Logs.{IsOutdoneAt}

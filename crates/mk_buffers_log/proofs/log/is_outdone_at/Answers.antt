@@ -1,3 +1,4 @@
+-- Answers to the goals of `log::is_outdone_at` that the prover leaves.
 use Rattle.std.proofs.Common.{◌≡◌, ap, ◌∙◌, get_or}
 use Rattle.mk_base.specs.declared.tier.Tier.{Tier}
 use Rattle.mk_plan.specs.Deliveries.{Timed}

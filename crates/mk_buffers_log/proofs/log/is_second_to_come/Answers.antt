@@ -1,3 +1,4 @@
+-- Answers to the goals of `log::is_second_to_come` that the prover leaves.
 use Rattle.std.proofs.Common.{sym, ◌∙◌}
 use Rattle.mk_buffers_log.proofs.Sparing.{not_true}
 use Rattle.mk_buffers_log.proofs.log.is_second_to_come.Goals as goal

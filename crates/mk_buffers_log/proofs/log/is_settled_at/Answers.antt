@@ -1,3 +1,4 @@
+-- Answers to the goals of `log::is_settled_at` that the prover leaves.
 use Rattle.std.proofs.Common.{◌≡◌, ap, ◌∙◌, arith, ℤ}
 use Rattle.std.proofs.lemmas.Int.{ints}
 use mir.Syntax.{w64}

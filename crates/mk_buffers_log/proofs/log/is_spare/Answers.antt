@@ -1,3 +1,4 @@
+-- Answers to the goals of `log::is_spare` that the prover leaves.
 use Rattle.std.proofs.Common.{None, sym, subst, ◌∙◌}
 use Rattle.mk_base.specs.declared.tier.Via.{Via}
 use Rattle.mk_buffers_log.specs.inner.Logs.{IsOutdoneAt}

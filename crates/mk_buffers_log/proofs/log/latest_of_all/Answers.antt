@@ -1,3 +1,4 @@
+-- Answers to the goals of `log::latest_of_all` that the prover leaves.
 use Rattle.std.proofs.Common.{arith, option_map}
 use Rattle.mk_buffers_log.specs.Logs.{arrival}
 use Rattle.mk_buffers_log.proofs.Ascending.{weighed_next, weighed_all}

@@ -1,3 +1,4 @@
+-- The invariants and measures of the loops of `log::latest_of_all`.
 use Rattle.std.proofs.Common.{◌≡◌, option_map, take}
 use Rattle.mk_plan.specs.Inputs.{latest}
 use Rattle.mk_buffers_log.specs.Logs.{arrival, arrivals, by}

@@ -1,3 +1,4 @@
+-- Answers to the goals of `log::latest_rising` that the prover leaves.
 use Rattle.std.proofs.Common.{arith}
 use Rattle.mk_buffers_log.proofs.Ascending.{found_none, found_last}
 use Rattle.mk_buffers_log.proofs.log.latest_rising.Goals as goal

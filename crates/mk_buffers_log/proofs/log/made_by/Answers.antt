@@ -1,3 +1,4 @@
+-- Answers to the goals of `log::made_by` that the prover leaves.
 use Rattle.std.proofs.Common.{rules, arith, sym, refl, deque_len}
 use Rattle.std.proofs.lemmas.Fn.{always_returns_same}
 use Rattle.mk_base.specs.Tiers.{up_to}

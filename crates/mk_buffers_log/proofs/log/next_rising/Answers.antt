@@ -1,3 +1,4 @@
+-- Answers to the goals of `log::next_rising` that the prover leaves.
 use Rattle.std.proofs.Common.{◌≡◌, ◌-◌, ℤ, true, arith, sym, subst, int_lt}
 use Rattle.std.proofs.lemmas.Int.{ints}
 use Rattle.std.specs.List.{list_all}

@@ -1,3 +1,4 @@
+-- Answers to the goals of `log::passing_from_end` that the prover leaves.
 use Rattle.std.proofs.Common.{rules, arith, sym, refl, deque_len}
 use Rattle.std.proofs.lemmas.Fn.{always_returns_same}
 use Rattle.mk_buffers_log.specs.inner.Logs.{does_come}

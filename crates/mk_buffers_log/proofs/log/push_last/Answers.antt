@@ -1,3 +1,4 @@
+-- Answers to the goals of `log::push_last` that the prover leaves.
 use Rattle.std.proofs.Common.{arith}
 use Rattle.mk_buffers_log.proofs.Ascending.{ascending_back}
 use Rattle.mk_buffers_log.proofs.log.push_last.Goals as goal

@@ -1,3 +1,4 @@
+-- Answers to the goals of `asyncs::asyncs_of` that the prover leaves.
 use Rattle.std.proofs.Common.{[], ap, sym, ◌∙◌}
 use Rattle.std.specs.Prelude.{fold}
 use Rattle.mk_connect.specs.Asyncs.{asyncs_in, pair_put}

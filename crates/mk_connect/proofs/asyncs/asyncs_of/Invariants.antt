@@ -1,3 +1,4 @@
+-- The invariants and measures of the loops of `asyncs::asyncs_of`.
 use Rattle.std.proofs.Common.{◌≡◌, [], take}
 use Rattle.std.specs.Prelude.{flat_map, fold}
 use Rattle.mk_connect.specs.Asyncs.{asyncs_in, pair_put}

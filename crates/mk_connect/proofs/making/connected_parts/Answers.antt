@@ -1,3 +1,4 @@
+-- Answers to the goals of `making::connected_parts` that the prover leaves.
 use Rattle.std.proofs.Common.{◌∙◌, ap, length}
 use Rattle.mk_connect_pairs.proofs.Usable.{usable}
 use Rattle.mk_connect.proofs.making.connected_parts.Goals as goal

@@ -1,3 +1,4 @@
+-- Answers to the goals of `making::plan` that the prover leaves.
 use Rattle.mk_connect.proofs.Valid.{valid_plan}
 use Rattle.mk_connect.proofs.Validity.{conns_facts}
 use Rattle.mk_connect.proofs.making.plan.Goals as goal

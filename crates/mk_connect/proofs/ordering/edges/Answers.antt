@@ -1,3 +1,4 @@
+-- Answers to the goals of `ordering::edges` that the prover leaves.
 use Rattle.std.proofs.Common.{◌≡◌, List, sym, subst, length, arith}
 use Rattle.std.proofs.lemmas.Grind.{common_steps}
 use Rattle.mk_cycles.specs.Edges.{EndsBelow}

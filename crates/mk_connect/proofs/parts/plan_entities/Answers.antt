@@ -1,3 +1,4 @@
+-- Answers to the goals of `parts::plan_entities` that the prover leaves.
 use Rattle.std.proofs.Common.{ap, sym, length, ◌∙◌, Some}
 use Rattle.std.specs.Prelude.{slice_get}
 use Rattle.std.proofs.lemmas.Option.{slice_get-get_or}

@@ -1,3 +1,4 @@
+-- The invariants and measures of the loops of `parts::plan_entities`.
 use Rattle.std.proofs.Common.{◌≡◌, take, length}
 use Rattle.mk_connect.specs.ByPlace.{by_place}
 use Rattle.mk_connect.specs.Made.{plan_entity}

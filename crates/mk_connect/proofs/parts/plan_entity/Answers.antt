@@ -1,3 +1,4 @@
+-- Answers to the goals of `parts::plan_entity` that the prover leaves.
 use Rattle.std.proofs.Common.{ap, arith, sym, ◌+◌, length, ◌∙◌, ◌≡◌, ◌<◌, ℕ, [], unwrap_or}
 use Rattle.std.specs.Prelude.{option_and_then, slice_get}
 use Rattle.mk_base.proofs.Lists.{get_is}

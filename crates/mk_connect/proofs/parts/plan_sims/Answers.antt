@@ -1,3 +1,4 @@
+-- Answers to the goals of `parts::plan_sims` that the prover leaves.
 use Rattle.mk_connect.specs.Made.{plan_sim}
 use Rattle.mk_connect.proofs.ByPlaces.{one_more}
 use Rattle.mk_connect.proofs.parts.plan_sims.Goals as goal

@@ -1,3 +1,4 @@
+-- The invariants and measures of the loops of `relations::join_blocks`.
 use Rattle.std.proofs.Common.{◌≡◌, take}
 use Rattle.std.specs.Prelude.{flat_map, fold}
 use Rattle.mk_connect_pairs.specs.Connections.{block_pairs}

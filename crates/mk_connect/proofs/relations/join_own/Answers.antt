@@ -1,3 +1,4 @@
+-- Answers to the goals of `relations::join_own` that the prover leaves.
 use Rattle.std.proofs.Common.{ap, sym, map, ◌∙◌}
 use Rattle.std.specs.Prelude.{fold}
 use Rattle.mk_connect.specs.inner.Joining.{joined}

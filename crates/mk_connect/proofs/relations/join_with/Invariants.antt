@@ -1,3 +1,4 @@
+-- The invariants and measures of the loops of `relations::join_with`.
 use Rattle.std.proofs.Common.{◌≡◌, map, take}
 use Rattle.std.specs.Prelude.{fold}
 use Rattle.mk_connect.specs.inner.Joining.{joined}

@@ -1,3 +1,4 @@
+-- Answers to the goals of `relations::no_lists` that the prover leaves.
 use Rattle.std.proofs.Common.{arith}
 use Rattle.mk_connect.proofs.Joins.{empty_more, none_yet}
 use Rattle.mk_connect.proofs.relations.no_lists.Goals as goal

@@ -1,3 +1,4 @@
+-- Answers to the goals of `relations::put` that the prover leaves.
 use Rattle.mk_connect.proofs.Joins.{set_put}
 use Rattle.mk_connect.proofs.relations.put.Goals as goal
 

@@ -1,3 +1,4 @@
+-- Answers to the goals of `relations::related_of` that the prover leaves.
 use Rattle.std.proofs.Common.{ap, [], length, map, ◌∙◌}
 use Rattle.std.specs.Prelude.{fold}
 use Rattle.std.specs.List.{range_with_len}

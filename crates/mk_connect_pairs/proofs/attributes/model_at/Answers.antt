@@ -1,3 +1,4 @@
+-- Answers to the goals of `attributes::model_at` that the prover leaves.
 use Rattle.std.proofs.Common.{ap, sym, ◌∙◌}
 use Rattle.std.specs.Prelude.{option_and_then, slice_get}
 use Rattle.mk_connect_pairs.proofs.Modelled.{number_there}

@@ -1,3 +1,4 @@
+-- Answers to the goals of `connections::block_made` that the prover leaves.
 use Rattle.std.proofs.Common.{◌≡◌, ◌∙◌, ap, sym, subst, List, Result, Ok, IfOk, IfErr}
 use Rattle.mk_plan.specs.declared.Conn.{Conn}
 use Rattle.mk_connect_pairs.specs.Connections.{block_pairs, pair_made}

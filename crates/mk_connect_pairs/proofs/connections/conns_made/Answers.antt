@@ -1,3 +1,4 @@
+-- Answers to the goals of `connections::conns_made` that the prover leaves.
 use Rattle.std.proofs.Common.{[]}
 use Rattle.mk_connect_pairs.specs.Connections.{block_made}
 use Rattle.mk_connect_pairs.proofs.Going.{through_more, through_refused}

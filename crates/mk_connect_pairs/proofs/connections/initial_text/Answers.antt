@@ -1,3 +1,4 @@
+-- Answers to the goals of `connections::initial_text` that the prover leaves.
 use Rattle.std.proofs.Common.{◌∙◌, ap, sym}
 use Rattle.mk_base.specs.Trees.{member}
 use Rattle.mk_connect_pairs.proofs.Initials.{initial_in_range, initial_is_datum}

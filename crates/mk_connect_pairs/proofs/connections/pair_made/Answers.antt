@@ -1,3 +1,4 @@
+-- Answers to the goals of `connections::pair_made` that the prover leaves.
 use Rattle.std.proofs.Common.{List, subst}
 use Rattle.mk_scenario.specs.declared.parts.AttrPair.{AttrPair}
 use Rattle.mk_connect_pairs.specs.Faults.{IsFaultOf, through}

@@ -1,3 +1,4 @@
+-- Answers to the goals of `connections::pairs_made` that the prover leaves.
 use Rattle.std.proofs.Common.{get_or}
 use Rattle.mk_connect_pairs.specs.Connections.{pair_made}
 use Rattle.mk_connect_pairs.proofs.Going.{default_is, through_more, through_refused}

@@ -1,3 +1,4 @@
+-- The invariants and measures of the loops of `connections::pairs_made`.
 use Rattle.std.proofs.Common.{◌≡◌, Ok, take}
 use Rattle.mk_connect_pairs.specs.Connections.{pair_made}
 use Rattle.mk_connect_pairs.specs.Faults.{through}

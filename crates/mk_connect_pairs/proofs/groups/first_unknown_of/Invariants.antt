@@ -1,3 +1,4 @@
+-- The invariants and measures of the loops of `groups::first_unknown_of`.
 use Rattle.std.proofs.Common.{◌≡◌, ℕ, List, drop, map, not}
 use Rattle.std.specs.List.{find}
 use Rattle.mk_base.specs.declared.json.Json.{Json}

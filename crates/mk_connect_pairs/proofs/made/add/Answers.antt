@@ -1,3 +1,4 @@
+-- Answers to the goals of `made::add` that the prover leaves.
 use Rattle.std.proofs.Common.{subst, sym}
 use Rattle.mk_connect_pairs.specs.inner.Lookups.{HasWays}
 use Rattle.mk_connect_pairs.proofs.made.add.Goals as goal

@@ -1,3 +1,4 @@
+-- Answers to the goals of `made::know` that the prover leaves.
 use Rattle.std.proofs.Common.{◌∙◌, ap}
 use Rattle.mk_connect_pairs.specs.inner.Lookups.{way_in, way_of}
 use Rattle.mk_connect_pairs.proofs.Ways.{is_same_way, key_eq, way_added, way_there}

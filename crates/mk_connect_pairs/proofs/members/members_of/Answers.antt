@@ -1,3 +1,4 @@
+-- Answers to the goals of `members::members_of` that the prover leaves.
 use Rattle.std.proofs.Common.{◌∙◌}
 use Rattle.mk_connect_pairs.proofs.Membership.{members_more}
 use Rattle.mk_connect_pairs.proofs.members.members_of.Goals as goal

@@ -1,3 +1,4 @@
+-- Answers to the goals of `members::no_members` that the prover leaves.
 use Rattle.std.proofs.Common.{ap, length, ◌≡◌, ◌∙◌, ◌+◌, length-append, ◌∷◌, []}
 use Rattle.mk_connect_pairs.proofs.Membership.{none_more}
 use Rattle.mk_connect_pairs.proofs.members.no_members.Goals as goal

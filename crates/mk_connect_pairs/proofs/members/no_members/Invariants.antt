@@ -1,3 +1,4 @@
+-- The invariants and measures of the loops of `members::no_members`.
 use Rattle.std.proofs.Common.{◌≡◌, [], length}
 use Rattle.mk_connect_pairs.specs.Lookups.{HasMembers}
 use Rattle.mk_connect_pairs.proofs.members.no_members.Given as goal

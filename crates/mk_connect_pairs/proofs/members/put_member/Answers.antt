@@ -1,3 +1,4 @@
+-- Answers to the goals of `members::put_member` that the prover leaves.
 use Rattle.std.proofs.Common.{arith, subst, sym, Some, List, ℕ, slice_set}
 use Rattle.mk_connect_pairs.specs.inner.Lookups.{HasMember}
 use Rattle.mk_connect_pairs.proofs.Membership.{member_kept, member_put}

@@ -1,3 +1,4 @@
+-- Answers to the goals of `numbers::add` that the prover leaves.
 use Rattle.std.proofs.Common.{subst, sym}
 use Rattle.mk_connect_pairs.specs.inner.Lookups.{HasNumbers}
 use Rattle.mk_connect_pairs.proofs.numbers.add.Goals as goal

@@ -1,3 +1,4 @@
+-- Answers to the goals of `numbers::models_of` that the prover leaves.
 use Rattle.std.proofs.Common.{sym, ap, ◌∙◌, ◌++◌, map}
 use Rattle.mk_connect_pairs.specs.Models.{sim_model}
 use Rattle.mk_connect_pairs.proofs.Modelled.{models_more}

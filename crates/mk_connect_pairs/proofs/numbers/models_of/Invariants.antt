@@ -1,3 +1,4 @@
+-- The invariants and measures of the loops of `numbers::models_of`.
 use Rattle.std.proofs.Common.{◌≡◌, take}
 use Rattle.mk_connect_pairs.specs.Models.{models_of}
 use Rattle.mk_connect_pairs.proofs.numbers.models_of.Given as goal

@@ -1,3 +1,4 @@
+-- The invariants and measures of the loops of `numbers::models_with`.
 use Rattle.std.proofs.Common.{◌≡◌, ◌++◌, map, take}
 use Rattle.mk_connect_pairs.specs.Models.{sim_model}
 use Rattle.mk_connect_pairs.proofs.numbers.models_with.Given as goal

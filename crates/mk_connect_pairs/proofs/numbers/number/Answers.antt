@@ -1,3 +1,4 @@
+-- Answers to the goals of `numbers::number` that the prover leaves.
 use Rattle.std.proofs.Common.{◌∙◌, refl, ap, arith, ◌≡◌, ◌++◌, ◌∷◌, []}
 use Rattle.std.specs.String.{string_bytes}
 use Rattle.mk_connect_pairs.specs.inner.Lookups.{is_key}

@@ -1,3 +1,4 @@
+-- Answers to the goals of `numbers::number_once` that the prover leaves.
 use Rattle.std.proofs.Common.{ap, sym}
 use Rattle.std.specs.Prelude.{is_some}
 use Rattle.mk_connect_pairs.proofs.Numbering.{numbers_again, numbers_new}

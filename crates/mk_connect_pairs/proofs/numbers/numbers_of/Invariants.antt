@@ -1,3 +1,4 @@
+-- The invariants and measures of the loops of `numbers::numbers_of`.
 use Rattle.std.proofs.Common.{◌≡◌, map, take}
 use Rattle.mk_connect_pairs.specs.Models.{model_number}
 use Rattle.mk_connect_pairs.proofs.numbers.numbers_of.Given as goal

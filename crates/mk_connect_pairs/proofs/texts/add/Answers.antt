@@ -1,3 +1,4 @@
+-- Answers to the goals of `texts::add` that the prover leaves.
 use Rattle.std.proofs.Common.{◌∙◌, ◌++◌, ◌∷◌, [], ap, subst, sym}
 use Rattle.mk_connect_pairs.specs.inner.TextSets.{HasTexts}
 use Rattle.mk_connect_pairs.proofs.Sets.{has_more}

@@ -1,3 +1,4 @@
+-- Answers to the goals of `texts::know` that the prover leaves.
 use Rattle.std.proofs.Common.{◌∙◌}
 use Rattle.mk_connect_pairs.proofs.Sets.{set_grown}
 use Rattle.mk_connect_pairs.proofs.texts.know.Goals as goal

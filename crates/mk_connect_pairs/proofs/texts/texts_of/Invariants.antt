@@ -1,3 +1,4 @@
+-- The invariants and measures of the loops of `texts::texts_of`.
 use Rattle.std.proofs.Common.{◌≡◌, take}
 use Rattle.mk_connect_pairs.proofs.texts.texts_of.Given as goal
 

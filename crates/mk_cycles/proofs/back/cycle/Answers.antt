@@ -1,3 +1,4 @@
+-- Answers to the goals of `back::cycle` that the prover leaves.
 use Rattle.std.proofs.Common.{◌≡◌, ◌-◌, Some, slice_get, length, take, drop, ℕ, List, ap, ◌∙◌, subst}
 use Rattle.std.proofs.lemmas.List.{take_rest}
 use Rattle.mk_cycles.specs.inner.Tables.{leads}

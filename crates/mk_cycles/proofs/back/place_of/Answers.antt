@@ -1,3 +1,4 @@
+-- Answers to the goals of `back::place_of` that the prover leaves.
 use Rattle.std.proofs.Common.{arith}
 use Rattle.std.proofs.lemmas.Option.{slice_get_within}
 use Rattle.mk_base.proofs.Lists.{in_at}

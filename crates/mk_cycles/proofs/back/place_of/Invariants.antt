@@ -1,3 +1,4 @@
+-- The invariants and measures of the loops of `back::place_of`.
 use Rattle.std.proofs.Common.{◌≡◌, ℕ, ◌<◌, slice_get, Some}
 use Rattle.mk_cycles.proofs.back.place_of.Given as goal
 

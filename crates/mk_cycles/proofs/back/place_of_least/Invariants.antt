@@ -1,3 +1,4 @@
+-- The invariants and measures of the loops of `back::place_of_least`.
 use Rattle.std.proofs.Common.{ℕ, ◌<◌, ◌≤◌, slice_index}
 use Rattle.mk_cycles.proofs.back.place_of_least.Given as goal
 

@@ -1,3 +1,4 @@
+-- Answers to the goals of `back::trail` that the prover leaves.
 use Rattle.std.proofs.Common.{ℕ, arith}
 use Rattle.mk_cycles.specs.Cycles.{IsBack, IsGoneBackTo, at_least, further}
 use Rattle.mk_cycles.specs.inner.Tables.{leads}

@@ -1,3 +1,4 @@
+-- The invariants and measures of the loops of `back::trail`.
 use Rattle.std.proofs.Common.{◌≡◌, ◌-◌, [], ◌∷◌, ◌++◌, length}
 use Rattle.mk_base.specs.Lists.{Each}
 use Rattle.mk_cycles.specs.Cycles.{IsBack, IsGoneBackTo}

@@ -1,3 +1,4 @@
+-- The invariants and measures of the loops of `places::may_follow`.
 use Rattle.std.proofs.Common.{◌≡◌, ℕ, ◌<◌, true}
 use Rattle.mk_base.specs.Lists.{IsIn}
 use Rattle.mk_cycles.specs.inner.Tables.{leads}

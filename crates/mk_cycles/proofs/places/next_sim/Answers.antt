@@ -1,3 +1,4 @@
+-- Answers to the goals of `places::next_sim` that the prover leaves.
 use Rattle.std.proofs.Common.{◌≡◌, ℕ, inl, inr, arith, sym, subst, ◌∙◌}
 use Rattle.std.proofs.lemmas.Bool.{cases_lt, false≢true}
 use Rattle.mk_cycles.specs.Orders.{MayFollow}

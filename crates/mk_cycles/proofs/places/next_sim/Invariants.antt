@@ -1,3 +1,4 @@
+-- The invariants and measures of the loops of `places::next_sim`.
 use Rattle.std.proofs.Common.{ℕ, ◌<◌}
 use Rattle.mk_cycles.specs.Orders.{MayFollow}
 use Rattle.mk_cycles.specs.inner.Tables.{leads}

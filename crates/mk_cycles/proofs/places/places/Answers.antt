@@ -1,3 +1,4 @@
+-- Answers to the goals of `places::places` that the prover leaves.
 use Rattle.mk_cycles.specs.inner.Tables.{leads}
 use Rattle.mk_cycles.proofs.Placing.{order_push}
 use Rattle.mk_cycles.proofs.places.places.Goals as goal

@@ -1,3 +1,4 @@
+-- The invariants and measures of the loops of `places::places`.
 use Rattle.std.proofs.Common.{◌≡◌, ◌-◌, length}
 use Rattle.mk_cycles.specs.Orders.{IsOrder}
 use Rattle.mk_cycles.specs.inner.Tables.{leads}

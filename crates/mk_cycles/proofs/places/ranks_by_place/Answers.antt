@@ -1,3 +1,4 @@
+-- Answers to the goals of `places::ranks_by_place` that the prover leaves.
 use Rattle.std.proofs.Common.{◌≡◌, ◌<◌, ℕ, Some, sym, ◌∙◌, slice_get, get_or, List, subst}
 use Rattle.std.proofs.lemmas.List.{length-set}
 use Rattle.mk_base.specs.Lists.{IsIn}

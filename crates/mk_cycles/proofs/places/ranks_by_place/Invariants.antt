@@ -1,3 +1,4 @@
+-- The invariants and measures of the loops of `places::ranks_by_place`.
 use Rattle.std.proofs.Common.{◌≡◌, ℕ, ◌<◌, length, slice_get, Some}
 use Rattle.mk_cycles.proofs.places.ranks_by_place.Given as goal
 

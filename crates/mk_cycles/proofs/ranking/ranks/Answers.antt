@@ -1,3 +1,4 @@
+-- Answers to the goals of `ranking::ranks` that the prover leaves.
 use Rattle.std.proofs.Common.{◌≡◌, ℕ, Bool, ◌∙◌, subst, arith}
 use Rattle.mk_cycles.specs.Cycles.{IsCycle, IsLoop}
 use Rattle.mk_cycles.specs.Edges.{has_edge}

@@ -1,3 +1,4 @@
+-- Answers to the goals of `described::+put_family` that the prover leaves.
 use Rattle.std.proofs.Common.{◌∙◌, ◌++◌, ◌∷◌, ap, sym, true, arith, flat_map}
 use Rattle.std.proofs.lemmas.List.{take_all}
 use Rattle.mk_entities.specs.Descriptions.{described, family}

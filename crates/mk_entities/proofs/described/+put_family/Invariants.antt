@@ -1,3 +1,4 @@
+-- The invariants and measures of the loops of `described::+put_family`.
 use Rattle.std.proofs.Common.{◌≡◌, ◌++◌, ◌∷◌, flat_map, take, true}
 use Rattle.mk_base.specs.Trees.{nesting}
 use Rattle.mk_entities.specs.Descriptions.{children_in, described, family}

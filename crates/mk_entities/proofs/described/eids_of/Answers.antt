@@ -1,3 +1,4 @@
+-- Answers to the goals of `described::eids_of` that the prover leaves.
 use Rattle.std.proofs.Common.{◌∙◌, ◌++◌, ap, sym, []}
 use Rattle.std.specs.List.{cons_option}
 use Rattle.mk_entities.specs.Descriptions.{eid_in}

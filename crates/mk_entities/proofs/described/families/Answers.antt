@@ -1,3 +1,4 @@
+-- Answers to the goals of `described::families` that the prover leaves.
 use Rattle.std.proofs.Common.{◌∙◌, ◌++◌, ap, sym, false}
 use Rattle.mk_entities.specs.Descriptions.{family}
 use Rattle.mk_entities.proofs.Families.{flat_more}

@@ -1,3 +1,4 @@
+-- The invariants and measures of the loops of `described::families`.
 use Rattle.std.proofs.Common.{◌≡◌, flat_map, take, false}
 use Rattle.mk_entities.specs.Descriptions.{family}
 use Rattle.mk_entities.proofs.described.families.Given as goal

@@ -1,3 +1,4 @@
+-- The invariants and measures of the loops of `making::first_rel_fault`.
 use Rattle.std.proofs.Common.{◌≡◌, drop, map}
 use Rattle.mk_entities.specs.Creation.{first_there, rel_fault}
 use Rattle.mk_entities.specs.inner.Making.{number_in}

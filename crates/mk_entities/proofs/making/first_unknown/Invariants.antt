@@ -1,3 +1,4 @@
+-- The invariants and measures of the loops of `making::first_unknown`.
 use Rattle.std.proofs.Common.{◌≡◌, drop, not, is_some}
 use Rattle.std.specs.List.{find}
 use Rattle.mk_entities.specs.inner.Making.{number_in}

@@ -1,3 +1,4 @@
+-- The invariants and measures of the loops of `making::listed`.
 use Rattle.std.proofs.Common.{◌≡◌, ◌++◌}
 use Rattle.mk_entities.proofs.making.listed.Given as goal
 

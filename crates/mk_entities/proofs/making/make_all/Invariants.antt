@@ -1,3 +1,4 @@
+-- The invariants and measures of the loops of `making::make_all`.
 use Rattle.std.proofs.Common.{◌≡◌, take, map}
 use Rattle.mk_entities.specs.inner.Making.{made_by, number_in}
 use Rattle.mk_entities.proofs.making.make_all.Given as goal

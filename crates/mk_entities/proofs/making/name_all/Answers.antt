@@ -1,3 +1,4 @@
+-- Answers to the goals of `making::name_all` that the prover leaves.
 use Rattle.std.proofs.Common.{◌≡◌, ◌∙◌, ap, sym, arith, length, Ok, None}
 use Rattle.mk_entities.specs.inner.Making.{fault_at}
 use Rattle.mk_entities.proofs.Faults.{below_next, fault_here, named_more, none_there, there_first}

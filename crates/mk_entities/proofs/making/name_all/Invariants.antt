@@ -1,3 +1,4 @@
+-- The invariants and measures of the loops of `making::name_all`.
 use Rattle.std.proofs.Common.{◌≡◌, ℕ, ◌+◌, ◌<◌, ◌≤◌, ◌++◌, take, None}
 use Rattle.mk_entities.specs.Creation.{most_entities}
 use Rattle.mk_entities.specs.inner.Making.{fault_at, named_from}

@@ -1,3 +1,4 @@
+-- Answers to the goals of `making::put_entities` that the prover leaves.
 use Rattle.std.proofs.Common.{◌≡◌, ◌∙◌, ap, sym, length, Ok, rules}
 use Rattle.mk_entities.specs.inner.Tied.{numbered}
 use Rattle.mk_entities.proofs.Adding.{accepted, entity_refused, rel_refused, still_tied}

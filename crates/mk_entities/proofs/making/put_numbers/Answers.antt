@@ -1,3 +1,4 @@
+-- Answers to the goals of `making::put_numbers` that the prover leaves.
 use Rattle.std.proofs.Common.{◌≡◌, ◌∙◌, ap, sym, [], filter_map, take, subst, ◌<◌, length, get_or}
 use Rattle.std.specs.List.{cons_option}
 use Rattle.mk_entities.specs.inner.Making.{number_in, with_numbers}

@@ -1,3 +1,4 @@
+-- The invariants and measures of the loops of `making::put_numbers`.
 use Rattle.std.proofs.Common.{◌≡◌, take, filter_map}
 use Rattle.mk_entities.specs.inner.Making.{number_in, with_numbers}
 use Rattle.mk_entities.proofs.making.put_numbers.Given as goal

@@ -1,3 +1,4 @@
+-- Answers to the goals of `making::related_of` that the prover leaves.
 use Rattle.std.proofs.Common.{◌≡◌, ◌∙◌, ap, sym, subst, [], IfOk, filter_map, unwrap_or}
 use Rattle.std.proofs.lemmas.List.Elements.{filter_map-append}
 use Rattle.mk_entities.specs.inner.Making.{number_in, related_by, with_numbers}

@@ -1,3 +1,4 @@
+-- The invariants and measures of the loops of `names::grow`.
 use Rattle.std.proofs.Common.{◌≡◌, ℕ, ◌+◌, ◌-◌, length}
 use Rattle.mk_entities.specs.inner.Tied.{names_at}
 use Rattle.mk_entities.proofs.names.grow.Given as goal

@@ -1,3 +1,4 @@
+-- The invariants and measures of the loops of `asking::copy_words`.
 use Rattle.std.proofs.Common.{◌≡◌, take}
 use Rattle.mk_fakes.proofs.asking.copy_words.Given as goal
 

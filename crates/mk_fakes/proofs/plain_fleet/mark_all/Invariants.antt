@@ -1,3 +1,4 @@
+-- The invariants and measures of the loops of `plain_fleet::mark_all`.
 use Rattle.std.proofs.Common.{◌≡◌, length, map, take, true}
 use Rattle.mk_fakes.proofs.plain_fleet.mark_all.Given as goal
 

@@ -1,3 +1,4 @@
+-- The invariants and measures of the loops of `wires::next_of`.
 use Rattle.std.proofs.Common.{◌≡◌, drop}
 use Rattle.mk_fakes.specs.Scripts.{chunks_of}
 use Rattle.mk_fakes.proofs.wires.next_of.Given as goal

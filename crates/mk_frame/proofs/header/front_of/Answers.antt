@@ -1,3 +1,4 @@
+-- Answers to the goals of `header::front_of` that the prover leaves.
 use Rattle.std.proofs.Common.{arith, ◌∙◌, sym, ap}
 use Rattle.byteorder.specs.Endian.{big_bytes}
 use Rattle.mk_frame.proofs.OnFrames.{header_read, unfinished}

@@ -1,3 +1,4 @@
+-- Answers to the goals of `laws::any_cutting` that the prover leaves.
 use Rattle.std.proofs.Common.{sym, ◌∙◌}
 use Rattle.mk_frame.proofs.OnFrames.{joined, allowed_lengths, same_given}
 use Rattle.mk_frame.proofs.laws.any_cutting.Goals as goal

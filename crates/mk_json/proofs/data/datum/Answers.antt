@@ -1,3 +1,4 @@
+-- Answers to the goals of `data::datum` that the prover leaves.
 use Rattle.std.proofs.Common.{◌≡◌, true, sym, ap, ◌∙◌, subst}
 use Rattle.mk_base.specs.Texts.{text_of}
 use Rattle.mk_base.specs.Trees.{is_in_range, is_datum}

@@ -1,3 +1,4 @@
+-- Answers to the goals of `data::whole_datum` that the prover leaves.
 use Rattle.std.proofs.Common.{◌≡◌, sym, refl, arith, rules}
 use Rattle.std.specs.Fmt.{signed_decimal}
 use Rattle.mk_base.specs.Data.{IsDatumText}

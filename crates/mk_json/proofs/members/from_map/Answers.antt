@@ -1,3 +1,4 @@
+-- Answers to the goals of `members::from_map` that the prover leaves.
 use Rattle.std.proofs.Common.{ℕ, List, [], ◌∷◌, ◌++◌, String, Global, sym, ap, ap₂, ◌∙◌, subst, append_assoc}
 use Rattle.mk_base.specs.declared.json.Json.{Json}
 use Rattle.mk_json.specs.inner.Gathered.{named}

@@ -1,3 +1,4 @@
+-- The invariants and measures of the loops of `members::from_map`.
 use Rattle.std.proofs.Common.{◌≡◌, List, ◌++◌, String, Global}
 use Rattle.mk_base.specs.declared.json.Json.{Json}
 use Rattle.mk_json.specs.inner.Gathered.{named}

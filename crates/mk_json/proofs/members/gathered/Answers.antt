@@ -1,3 +1,4 @@
+-- Answers to the goals of `members::gathered` that the prover leaves.
 use Rattle.std.proofs.Common.{refl, sym, ◌∙◌, subst}
 use Rattle.mk_json.proofs.Gathering.{Rises, in_order}
 use Rattle.mk_json.proofs.members.gathered.Goals as goal

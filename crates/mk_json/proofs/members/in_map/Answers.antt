@@ -1,3 +1,4 @@
+-- Answers to the goals of `members::in_map` that the prover leaves.
 use Rattle.std.proofs.Common.{◌≡◌, string_bytes, sym, ap, ap₂, ◌∙◌, rules}
 use Rattle.std.specs.Ordering.{nat_cmp}
 use Rattle.std.specs.Cmp.Lexicographic.{slice_cmp}

@@ -1,3 +1,4 @@
+-- The invariants and measures of the loops of `members::in_map`.
 use Rattle.std.proofs.Common.{◌≡◌, []}
 use Rattle.mk_json.specs.inner.Gathered.{put_all, named}
 use Rattle.mk_json.proofs.members.in_map.Given as goal

@@ -1,3 +1,4 @@
+-- Answers to the goals of `members::put_few` that the prover leaves.
 use Rattle.std.proofs.Common.{sym, ap, ap₂, ◌∙◌}
 use Rattle.mk_json.specs.inner.Gathered.{put_all}
 use Rattle.mk_json.proofs.Gathering.{none_left}

@@ -1,3 +1,4 @@
+-- The invariants and measures of the loops of `members::put_few`.
 use Rattle.std.proofs.Common.{◌≡◌, []}
 use Rattle.mk_json.specs.inner.Gathered.{put_all}
 use Rattle.mk_json.proofs.members.put_few.Given as goal

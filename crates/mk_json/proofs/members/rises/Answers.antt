@@ -1,3 +1,4 @@
+-- Answers to the goals of `members::rises` that the prover leaves.
 use Rattle.std.proofs.Common.{◌≡◌, ℕ, suc, ◌-◌, true, drop, get_or, sym, ◌∙◌, subst, arith}
 use Rattle.std.specs.Ordering.{nat_cmp, is_lt}
 use Rattle.std.specs.Cmp.Lexicographic.{slice_cmp}

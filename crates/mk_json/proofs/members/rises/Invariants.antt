@@ -1,3 +1,4 @@
+-- The invariants and measures of the loops of `members::rises`.
 use Rattle.std.proofs.Common.{◌-◌, ◌≤◌, drop, length}
 use Rattle.mk_json.proofs.Gathering.{Rises}
 use Rattle.mk_json.proofs.members.rises.Given as goal

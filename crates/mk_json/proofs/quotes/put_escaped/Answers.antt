@@ -1,3 +1,4 @@
+-- Answers to the goals of `quotes::put_escaped` that the prover leaves.
 use Rattle.std.proofs.Common.{◌≡◌, [], ◌∷◌, ◌++◌, ap, ◌∙◌}
 use Rattle.json.specs.Token.{Token}
 use Rattle.mk_base.specs.Texts.{quoted}

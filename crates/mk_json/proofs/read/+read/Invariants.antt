@@ -1,3 +1,4 @@
+-- The invariants and measures of the loops of `read::+read`.
 use Rattle.std.proofs.Common.{◌≡◌, ℕ, ◌+◌, ◌*◌, ◌≤◌, [], length}
 use Rattle.json.specs.Json.{items, members, value, parse_map}
 use Rattle.serde_json.specs.Data.{Items, Members, no_members}

@@ -1,3 +1,4 @@
+-- Answers to the goals of `read::read_text` that the prover leaves.
 use Rattle.std.proofs.Common.{◌≡◌, [], rules}
 use Rattle.json.specs.Lex.{tokens}
 use Rattle.json.specs.Json.{value}

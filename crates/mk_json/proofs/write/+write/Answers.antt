@@ -1,3 +1,4 @@
+-- Answers to the goals of `write::+write` that the prover leaves.
 use Rattle.std.proofs.Common.{rules, ◌≡◌, ℕ, true, ◌++◌, ◌∷◌, [], List, map, drop, ◌+◌, codes, refl, sym, ap, ◌∙◌, subst}
 use Rattle.std.specs.Fmt.{signed_decimal}
 use Rattle.std.proofs.lemmas.Str.{is_utf8-from_IsUtf8}

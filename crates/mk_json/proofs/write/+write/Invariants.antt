@@ -1,3 +1,4 @@
+-- The invariants and measures of the loops of `write::+write`.
 use Rattle.std.proofs.Common.{◌≡◌, ℕ, ◌++◌, true, List, map, drop}
 use Rattle.std.specs.List.{list_all}
 use Rattle.std.specs.Map.{keys_of}

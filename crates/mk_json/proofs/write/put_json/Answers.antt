@@ -1,3 +1,4 @@
+-- Answers to the goals of `write::put_json` that the prover leaves.
 use Rattle.std.proofs.Common.{ap, ◌∙◌, length}
 use Rattle.mk_json.proofs.Back.{parsed-text_of}
 use Rattle.mk_json.proofs.Compact.{appended, taken_back}

@@ -1,3 +1,4 @@
+-- Answers to the goals of `preparing::prepare` that the prover leaves.
 use Rattle.mk_launch.proofs.Faulty.{first_fault}
 use Rattle.mk_launch.proofs.preparing.prepare.Goals as goal
 

@@ -1,3 +1,4 @@
+-- The invariants and measures of the loops of `preparing::prepare`.
 use Rattle.std.proofs.Common.{take}
 use Rattle.mk_base.specs.Lists.{Each}
 use Rattle.mk_launch.specs.Ready.{CanBegin}

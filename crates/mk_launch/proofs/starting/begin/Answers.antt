@@ -1,3 +1,4 @@
+-- Answers to the goals of `starting::begin` that the prover leaves.
 use Rattle.std.proofs.Common.{sym, subst}
 use Rattle.mk_outside.specs.declared.fleet.Start.TheVariants as start
 use Rattle.mk_scenario.specs.declared.parts.Begin.{Begin}

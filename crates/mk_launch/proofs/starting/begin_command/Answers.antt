@@ -1,3 +1,4 @@
+-- Answers to the goals of `starting::begin_command` that the prover leaves.
 use Rattle.std.proofs.Common.{[], ◌∷◌, refl, inr}
 use Rattle.mk_outside.specs.Asked.{to_listen}
 use Rattle.mk_outside.proofs.OnAsked.{asks_more}

@@ -1,3 +1,4 @@
+-- Answers to the goals of `starting::start_all` that the prover leaves.
 use Rattle.std.proofs.Common.{◌≡◌, ◌<◌, [], ◌++◌, List, length, get_or, arith, sym, subst, inl}
 use Rattle.mk_scenario.specs.declared.parts.SimPart.{SimPart}
 use Rattle.mk_outside.proofs.OnLogs.{adds_more}

@@ -1,3 +1,4 @@
+-- The invariants and measures of the loops of `starting::start_all`.
 use Rattle.std.proofs.Common.{◌≤◌, List, [], take}
 use Rattle.mk_outside.specs.Logs.{Adds}
 use Rattle.mk_outside.specs.Asked.{Asked, Asks}

@@ -1,3 +1,4 @@
+-- Answers to the goals of `template::words` that the prover leaves.
 use Rattle.std.proofs.Common.{rules, ◌≡◌, ◌-◌, length, arith, ap, ◌∙◌}
 use Rattle.mk_launch.specs.Words.{address_at, words_of}
 use Rattle.mk_launch.specs.Marks.{marks}

@@ -1,3 +1,4 @@
+-- The invariants and measures of the loops of `template::words`.
 use Rattle.std.proofs.Common.{◌≡◌, ◌-◌, ◌≤◌, length}
 use denote.Text.{Utf8}
 use denote.Shadow.{shadow}

@@ -1,3 +1,4 @@
+-- The invariants and measures of the loops of `calls::new_entities`.
 use Rattle.std.proofs.Common.{◌≡◌, replicate}
 use Rattle.mk_local.specs.Calls.{new_entity}
 use Rattle.mk_local.proofs.calls.new_entities.Given as goal

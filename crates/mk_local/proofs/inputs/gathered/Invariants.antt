@@ -1,3 +1,4 @@
+-- The invariants and measures of the loops of `inputs::gathered`.
 use Rattle.std.proofs.Common.{◌≡◌, length, take}
 use Rattle.mk_local.specs.inner.Inputs.{AreTaken}
 use Rattle.mk_local.proofs.inputs.gathered.Given as goal

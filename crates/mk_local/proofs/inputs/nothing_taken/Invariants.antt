@@ -1,3 +1,4 @@
+-- The invariants and measures of the loops of `inputs::nothing_taken`.
 use Rattle.std.proofs.Common.{◌≡◌, false, pos, replicate}
 use Rattle.mk_local.proofs.inputs.nothing_taken.Given as goal
 

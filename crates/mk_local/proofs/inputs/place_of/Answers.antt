@@ -1,3 +1,4 @@
+-- Answers to the goals of `inputs::place_of` that the prover leaves.
 use Rattle.std.proofs.Common.{◌≡◌, true, ap, sym, ◌∙◌}
 use Rattle.mk_local.specs.Data.{place_named}
 use Rattle.mk_local.specs.Inputs.{takes}

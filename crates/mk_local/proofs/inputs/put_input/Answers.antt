@@ -1,3 +1,4 @@
+-- Answers to the goals of `inputs::put_input` that the prover leaves.
 use Rattle.std.proofs.Common.{◌<◌, ℕ, slice_set, ap, sym, ◌∙◌, subst}
 use Rattle.mk_local.specs.declared.inputs.Taken.{Taken}
 use Rattle.mk_local.proofs.Taking.{one_more}

@@ -1,3 +1,4 @@
+-- Answers to the goals of `laws::replies_are_right` that the prover leaves.
 use Rattle.mk_local.proofs.InOrder.{bare_same, right_in_order}
 use Rattle.mk_local.proofs.Replied.{data_replies, step_replies}
 use Rattle.mk_local.proofs.laws.replies_are_right.Goals as goal

@@ -1,3 +1,4 @@
+-- Answers to the goals of `metadata::put_metadata` that the prover leaves.
 use Rattle.std.proofs.Common.{List, ℕ, [], ◌∷◌, codes, ap, ◌∙◌}
 use Rattle.std.proofs.lemmas.Result.{on_ok_weaker}
 use Rattle.mk_base.specs.declared.json.Json as tree

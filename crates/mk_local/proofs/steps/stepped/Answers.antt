@@ -1,3 +1,4 @@
+-- Answers to the goals of `steps::stepped` that the prover leaves.
 use Rattle.std.proofs.Common.{ap, ◌∙◌}
 use Rattle.mk_local.specs.declared.turn.Turn.{Turn}
 use Rattle.mk_local.specs.Steps.{after_step}

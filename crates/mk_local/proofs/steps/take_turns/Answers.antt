@@ -1,3 +1,4 @@
+-- Answers to the goals of `steps::take_turns` that the prover leaves.
 use Rattle.std.proofs.Common.{arith, ◌≡◌, ◌<◌, ◌≤◌, ◌++◌, ◌∷◌, [], Some, length, ap, sym, ◌∙◌}
 use Rattle.mk_local.specs.declared.entity.Entity.{Entity}
 use Rattle.mk_local.specs.declared.inputs.Taken.{Taken}

@@ -1,3 +1,4 @@
+-- Answers to the goals of `trees::object` that the prover leaves.
 use Rattle.std.specs.List.Sorted.{IsStrictlySortedBy}
 use Rattle.mk_local.proofs.trees.object.Goals as goal
 

@@ -1,3 +1,4 @@
+-- The invariants and measures of the loops of `kinds::count_so`.
 use Rattle.mk_base.specs.Lists.{IsIn}
 use Rattle.mk_local.specs.Registries.{rows_in}
 use Rattle.mk_local_trials.proofs.kinds.count_so.Given as goal

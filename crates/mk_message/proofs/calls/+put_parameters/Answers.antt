@@ -1,3 +1,4 @@
+-- Answers to the goals of `calls::+put_parameters` that the prover leaves.
 use Rattle.std.proofs.Common.{◌≡◌, ℕ, List, ◌∷◌, ◌++◌, ◌-◌, length, take, drop, codes, arith, sym, ap, ◌∙◌, append_assoc}
 use Rattle.mk_base.specs.declared.json.Json.{Json}
 use Rattle.mk_base.specs.Texts.{text_of}

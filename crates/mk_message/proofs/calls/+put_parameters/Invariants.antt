@@ -1,3 +1,4 @@
+-- The invariants and measures of the loops of `calls::+put_parameters`.
 use Rattle.std.proofs.Common.{length}
 use Rattle.mk_message.proofs.calls.+put_parameters.Given as goal
 

@@ -1,3 +1,4 @@
+-- Answers to the goals of `calls::parameters` that the prover leaves.
 use Rattle.std.proofs.Common.{ℕ, List, sym, ap, ◌∙◌}
 use Rattle.std.specs.List.{list_all}
 use Rattle.mk_base.specs.declared.json.Json.{Json}

@@ -1,3 +1,4 @@
+-- The invariants and measures of the loops of `calls::put_following`.
 use Rattle.std.proofs.Common.{◌≡◌, ℕ, true, List, ◌++◌, drop, flat_map, codes}
 use Rattle.std.specs.List.{list_all}
 use Rattle.mk_base.specs.declared.json.Json.{Json}

@@ -1,3 +1,4 @@
+-- The invariants and measures of the loops of `groups::put_wanted`.
 use Rattle.std.proofs.Common.{◌≡◌, ◌++◌, drop}
 use Rattle.mk_message.specs.inner.Streams.{rest_of, wanted_by_entity}
 use Rattle.mk_message.proofs.groups.put_wanted.Given as goal

@@ -1,3 +1,4 @@
+-- Answers to the goals of `groups::wanted_bytes` that the prover leaves.
 use Rattle.std.proofs.Common.{◌≡◌, ◌∷◌, ◌++◌, ◌-◌, length, take, drop, arith, sym, ap, ◌∙◌}
 use Rattle.mk_message.specs.Written.{wanted_text}
 use Rattle.mk_message.specs.inner.Streams.{rest_of, wanted_by_entity}

@@ -1,3 +1,4 @@
+-- Answers to the goals of `reading::take_tree` that the prover leaves.
 use Rattle.mk_message.proofs.Ranges.{fits_taken}
 use Rattle.mk_message.proofs.reading.take_tree.Goals as goal
 

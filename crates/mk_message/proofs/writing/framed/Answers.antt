@@ -1,3 +1,4 @@
+-- Answers to the goals of `writing::framed` that the prover leaves.
 use Rattle.std.proofs.Common.{◌≡◌, pos, [], ◌∷◌, ap, arith, rules}
 use Rattle.mk_base.specs.declared.json.Json as tree
 use Rattle.mk_message.proofs.ReadBack.{range-framed}

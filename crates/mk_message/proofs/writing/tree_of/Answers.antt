@@ -1,3 +1,4 @@
+-- Answers to the goals of `writing::tree_of` that the prover leaves.
 use Rattle.std.proofs.Common.{sym, ap, ◌∙◌}
 use Rattle.std.proofs.lemmas.Result.{IfOk-weaker}
 use Rattle.mk_json.proofs.Layers.{folded-Text}

@@ -1,3 +1,4 @@
+-- Answers to the goals of `writing::write` that the prover leaves.
 use Rattle.mk_message.proofs.ReadBack.{message_of-written}
 use Rattle.mk_message.proofs.writing.write.Goals as goal
 

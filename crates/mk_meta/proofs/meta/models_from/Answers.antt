@@ -1,3 +1,4 @@
+-- Answers to the goals of `meta::models_from` that the prover leaves.
 use Rattle.std.proofs.Common.{arith, sym, ap, ◌∙◌, ◌≡◌, subst, map, take, IfOk}
 use Rattle.std.proofs.lemmas.List.{take_all}
 use Rattle.mk_base.specs.Verdicts.{all_well}

@@ -1,3 +1,4 @@
+-- The invariants and measures of the loops of `meta::models_from`.
 use Rattle.std.proofs.Common.{◌≡◌, Ok, map, take}
 use Rattle.mk_base.specs.Verdicts.{all_well}
 use Rattle.mk_meta.proofs.Names.{name_of, described_as}

@@ -1,3 +1,4 @@
+-- The invariants and measures of the loops of `model::first_unknown`.
 use Rattle.std.proofs.Common.{◌≡◌, drop}
 use Rattle.mk_meta.specs.Metadata.{first_unknown}
 use Rattle.mk_meta.proofs.model.first_unknown.Given as goal

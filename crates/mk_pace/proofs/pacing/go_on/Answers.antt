@@ -1,3 +1,4 @@
+-- Answers to the goals of `pacing::go_on` that the prover leaves.
 use Rattle.std.proofs.Common.{◌++◌, subst, sym}
 use Rattle.mk_run_links.specs.Places.{IsChannelLink}
 use Rattle.mk_run_links.proofs.OnEntries.{on_no_clock}

@@ -1,3 +1,4 @@
+-- Answers to the goals of `pacing::pace_from` that the prover leaves.
 use Rattle.std.proofs.Common.{List, subst}
 use Rattle.mk_local.specs.declared.turn.Turn.{Turn}
 use Rattle.mk_run_local.specs.Seen.{AreOf}

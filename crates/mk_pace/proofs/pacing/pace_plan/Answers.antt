@@ -1,3 +1,4 @@
+-- Answers to the goals of `pacing::pace_plan` that the prover leaves.
 use Rattle.std.proofs.Common.{[], ◌∷◌, arith, refl}
 use Rattle.mk_outside.specs.declared.fleet.LogEntry.TheVariants.{Told}
 use Rattle.mk_outside.specs.declared.paced.Now.TheVariants.{At, Failed}

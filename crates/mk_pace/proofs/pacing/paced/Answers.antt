@@ -1,3 +1,4 @@
+-- Answers to the goals of `pacing::paced` that the prover leaves.
 use Rattle.std.proofs.Common.{◌++◌, refl, ap, ◌∙◌, inl, inr}
 use Rattle.mk_outside.proofs.OnLogs.{adds_more}
 use Rattle.mk_local.specs.Registries.{rows_in}

@@ -1,3 +1,4 @@
+-- Answers to the goals of `pacing::answer` that the prover leaves.
 use Rattle.std.proofs.Common.{inl, refl, sym, ◌∙◌}
 use Rattle.mk_pace_loop.proofs.Answering.{none_held, sent_or_not, some_held}
 use Rattle.mk_pace_loop.proofs.pacing.answer.Goals as goal

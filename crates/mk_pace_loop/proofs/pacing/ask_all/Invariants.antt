@@ -1,3 +1,4 @@
+-- The invariants and measures of the loops of `pacing::ask_all`.
 use Rattle.std.proofs.Common.{◌≡◌, ◌-◌, None, List, length}
 use Rattle.mk_outside.specs.declared.fleet.LogEntry.{LogEntry}
 use Rattle.mk_run_crew.specs.Seen.{CrewSeen}

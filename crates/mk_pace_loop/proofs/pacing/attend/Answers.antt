@@ -1,3 +1,4 @@
+-- Answers to the goals of `pacing::attend` that the prover leaves.
 use Rattle.std.proofs.Common.{◌≡◌, ◌∷◌, sym, ap, subst, ◌++◌, List, Option, None, Ok, Err}
 use Rattle.std.specs.Prelude.{IfSome}
 use Rattle.mk_base.specs.declared.SimNo.{SimNo}

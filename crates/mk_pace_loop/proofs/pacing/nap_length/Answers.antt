@@ -1,3 +1,4 @@
+-- Answers to the goals of `pacing::nap_length` that the prover leaves.
 use Rattle.std.proofs.Common.{arith}
 use Rattle.mk_pace_loop.proofs.Sleeping.{first_early}
 use Rattle.mk_pace_loop.proofs.pacing.nap_length.Goals as goal

@@ -1,3 +1,4 @@
+-- Answers to the goals of `pacing::turn` that the prover leaves.
 use Rattle.std.proofs.Common.{[], ◌∷◌, ◌++◌, refl, sym, subst}
 use Rattle.mk_outside.specs.declared.fleet.LogEntry.TheVariants.{Told}
 use Rattle.mk_outside.proofs.OnLogs.{adds_more, adds_none}

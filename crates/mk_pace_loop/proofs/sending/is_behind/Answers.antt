@@ -1,3 +1,4 @@
+-- Answers to the goals of `sending::is_behind` that the prover leaves.
 use Rattle.mk_pace_loop.proofs.SendSteps.{behind_next, behind_none}
 use Rattle.mk_pace_loop.proofs.sending.is_behind.Goals as goal
 

@@ -1,3 +1,4 @@
+-- Answers to the goals of `sending::send_behind` that the prover leaves.
 use Rattle.std.proofs.Common.{refl}
 use Rattle.mk_pace_loop.proofs.SendSteps.{behind_done, behind_not}
 use Rattle.mk_pace_loop.proofs.sending.send_behind.Goals as goal

@@ -1,3 +1,4 @@
+-- The invariants and measures of the loops of `sending::send_behind`.
 use Rattle.std.proofs.Common.{◌≡◌, List}
 use Rattle.mk_outside.specs.declared.fleet.LogEntry.{LogEntry}
 use Rattle.mk_local.specs.Registries.{rows_in}

@@ -1,3 +1,4 @@
+-- Answers to the goals of `sending::send_due` that the prover leaves.
 use Rattle.mk_pace_loop.proofs.SendSteps.{due_late, due_not}
 use Rattle.mk_pace_loop.proofs.sending.send_due.Goals as goal
 

@@ -1,3 +1,4 @@
+-- The invariants and measures of the loops of `sending::send_due`.
 use Rattle.std.proofs.Common.{◌≡◌}
 use Rattle.mk_local.specs.Registries.{rows_in}
 use Rattle.mk_run_local.specs.Seen.{AreOf}

@@ -1,3 +1,4 @@
+-- Answers to the goals of `sending::send_first` that the prover leaves.
 use Rattle.mk_pace_loop.proofs.SendSteps.{first_so}
 use Rattle.mk_pace_loop.proofs.sending.send_first.Goals as goal
 

@@ -1,3 +1,4 @@
+-- Answers to the goals of `sending::send_next` that the prover leaves.
 use Rattle.mk_pace_loop.proofs.Fewer.{taken_fewer}
 use Rattle.mk_pace_loop.proofs.SendSteps.{next_late, next_so, next_taken}
 use Rattle.mk_pace_loop.proofs.sending.send_next.Goals as goal

@@ -1,3 +1,4 @@
+-- Answers to the goals of `sending::send_step` that the prover leaves.
 use Rattle.std.proofs.Common.{◌<◌, List, length, sym, subst}
 use Rattle.mk_pace_held.specs.declared.held.Held.{Held}
 use Rattle.mk_pace_loop.proofs.Fewer.{step_fewer}

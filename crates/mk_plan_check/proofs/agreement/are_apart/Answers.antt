@@ -1,3 +1,4 @@
+-- Answers to the goals of `agreement::are_apart` that the prover leaves.
 use Rattle.std.proofs.Common.{◌∙◌, ap}
 use Rattle.mk_plan_check.specs.inner.Marks.{differ_by, all_next}
 use Rattle.mk_plan_check.proofs.Neighbours.{scanned_differ}

@@ -1,3 +1,4 @@
+-- Answers to the goals of `agreement::next_differ` that the prover leaves.
 use Rattle.std.proofs.Common.{rules}
 use Rattle.std.proofs.lemmas.Fn.{always_returns_same}
 use Rattle.mk_plan_check.specs.inner.Marks.{differ_by}

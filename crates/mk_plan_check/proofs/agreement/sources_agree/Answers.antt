@@ -1,3 +1,4 @@
+-- Answers to the goals of `agreement::sources_agree` that the prover leaves.
 use Rattle.std.proofs.Common.{◌∙◌, ap}
 use Rattle.mk_plan_check.specs.Tests.{all_apart}
 use Rattle.mk_plan_check.specs.inner.Marks.{agree}

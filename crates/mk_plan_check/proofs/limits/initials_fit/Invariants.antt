@@ -1,3 +1,4 @@
+-- The invariants and measures of the loops of `limits::initials_fit`.
 use Rattle.std.proofs.Common.{◌≡◌, true, take, All, IfSome}
 use Rattle.std.specs.List.{list_all}
 use Rattle.mk_base.specs.Data.{IsDatumText}

@@ -1,3 +1,4 @@
+-- Answers to the goals of `marks::names` that the prover leaves.
 use Rattle.mk_plan_check.proofs.Neighbours.{marked_more}
 use Rattle.mk_plan_check.proofs.marks.names.Goals as goal
 

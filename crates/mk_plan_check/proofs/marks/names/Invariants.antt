@@ -1,3 +1,4 @@
+-- The invariants and measures of the loops of `marks::names`.
 use Rattle.std.proofs.Common.{◌≡◌, map}
 use Rattle.std.specs.List.{range_with_len}
 use Rattle.mk_plan_check.specs.inner.Marks.{label_of, name_label}

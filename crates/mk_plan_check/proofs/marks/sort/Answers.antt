@@ -1,3 +1,4 @@
+-- Answers to the goals of `marks::sort` that the prover leaves.
 use Rattle.std.proofs.Common.{rules}
 use Rattle.std.specs.Cmp.Lexicographic.{nat_list_cmp_total}
 use Rattle.std.proofs.lemmas.Fn.{always_returns_same}

@@ -1,3 +1,4 @@
+-- The invariants and measures of the loops of `marks::targets`.
 use Rattle.std.proofs.Common.{◌≡◌, map, take}
 use Rattle.mk_plan_check.specs.inner.Marks.{label_of, target_label}
 use Rattle.mk_plan_check.proofs.marks.targets.Given as goal

@@ -1,3 +1,4 @@
+-- The invariants and measures of the loops of `names::sims_apart`.
 use Rattle.std.proofs.Common.{◌≡◌, not, length}
 use Rattle.mk_base.specs.Lists.{same_text}
 use Rattle.mk_plan_check.specs.Tests.{all_apart}

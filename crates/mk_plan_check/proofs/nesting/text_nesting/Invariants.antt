@@ -1,3 +1,4 @@
+-- The invariants and measures of the loops of `nesting::text_nesting`.
 use Rattle.std.proofs.Common.{◌≡◌, ◌≤◌, take, fold}
 use Rattle.mk_plan_check.specs.declared.nesting.Place.TheVariants.{Outside}
 use Rattle.mk_plan_check.specs.Nesting.{scanned}

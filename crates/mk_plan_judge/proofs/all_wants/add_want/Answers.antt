@@ -1,3 +1,4 @@
+-- Answers to the goals of `all_wants::add_want` that the prover leaves.
 use Rattle.std.proofs.Common.{sym, subst, arith}
 use Rattle.mk_plan.specs.declared.Want.{Want}
 use Rattle.mk_plan_judge.specs.inner.Takings.{NoneIsBehind}

@@ -1,3 +1,4 @@
+-- Answers to the goals of `all_wants::empty_lists` that the prover leaves.
 use Rattle.std.proofs.Common.{ap, ◌∙◌, arith, length}
 use Rattle.std.proofs.lemmas.List.{length-append}
 use Rattle.mk_plan_judge.proofs.Takings.{empty_more, wants_none}

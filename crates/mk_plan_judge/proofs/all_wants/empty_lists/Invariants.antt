@@ -1,3 +1,4 @@
+-- The invariants and measures of the loops of `all_wants::empty_lists`.
 use Rattle.std.proofs.Common.{◌≡◌, List, [], length}
 use Rattle.mk_base.specs.Lists.{IsIn}
 use Rattle.mk_plan.specs.declared.Want.{Want}

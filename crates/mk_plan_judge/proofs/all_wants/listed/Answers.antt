@@ -1,3 +1,4 @@
+-- Answers to the goals of `all_wants::listed` that the prover leaves.
 use Rattle.mk_plan_judge.proofs.Takings.{next_fits, wants_next}
 use Rattle.mk_plan_judge.proofs.all_wants.listed.Goals as goal
 

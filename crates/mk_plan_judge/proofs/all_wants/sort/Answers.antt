@@ -1,3 +1,4 @@
+-- Answers to the goals of `all_wants::sort` that the prover leaves.
 use Rattle.std.proofs.Common.{rules}
 use Rattle.std.specs.Ordering.{is_lt}
 use Rattle.std.proofs.lemmas.Fn.{always_returns_same}

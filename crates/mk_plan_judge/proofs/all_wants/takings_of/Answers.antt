@@ -1,3 +1,4 @@
+-- Answers to the goals of `all_wants::takings_of` that the prover leaves.
 use Rattle.mk_plan_judge.proofs.Takings.{takings_all, takings_more, takings_sorted}
 use Rattle.mk_plan_judge.proofs.all_wants.takings_of.Goals as goal
 

@@ -1,3 +1,4 @@
+-- The invariants and measures of the loops of `all_wants::takings_of`.
 use Rattle.std.proofs.Common.{◌≡◌, take}
 use Rattle.mk_plan_judge.specs.inner.Takings.{AreTakings}
 use Rattle.mk_plan_judge.proofs.all_wants.takings_of.Given as goal

@@ -1,3 +1,4 @@
+-- Answers to the goals of `all_wants::wants_of_all` that the prover leaves.
 use Rattle.std.proofs.Common.{ap, ◌∙◌}
 use Rattle.std.proofs.lemmas.Result.{IfOk-weaker}
 use Rattle.mk_plan_judge.specs.inner.Takings.{wants_of}

@@ -1,3 +1,4 @@
+-- The invariants and measures of the loops of `data::some_bad_part`.
 use Rattle.std.proofs.Common.{◌≡◌, drop, not}
 use Rattle.std.specs.List.{list_any}
 use Rattle.mk_base.specs.Trees.{is_object}

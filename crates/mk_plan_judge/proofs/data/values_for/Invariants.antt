@@ -1,3 +1,4 @@
+-- The invariants and measures of the loops of `data::values_for`.
 use Rattle.std.proofs.Common.{◌≡◌, map, option_map, take}
 use Rattle.mk_plan.specs.Turns.{value_for}
 use Rattle.mk_plan_judge.specs.inner.Parts.{HasPart}

@@ -1,3 +1,4 @@
+-- Answers to the goals of `places::next_place` that the prover leaves.
 use Rattle.std.proofs.Common.{◌≡◌, ◌==◌, ◌+◌, Bool, true, false, not, cond, Option, Some, None, length, sym, ap, ◌∙◌, subst}
 use Rattle.mk_plan.specs.declared.Message.{Message}
 use Rattle.mk_plan.specs.declared.Place.{Place}

@@ -1,3 +1,4 @@
+-- Answers to the goals of `sorted::put` that the prover leaves.
 use Rattle.mk_plan.specs.Turns.{want_order}
 use Rattle.mk_plan_judge.proofs.Putting.{put_there, names_total, on_ok}
 use Rattle.mk_plan_judge.proofs.sorted.put.Goals as goal

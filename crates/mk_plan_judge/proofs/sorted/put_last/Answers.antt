@@ -1,3 +1,4 @@
+-- Answers to the goals of `sorted::put_last` that the prover leaves.
 use Rattle.std.proofs.Common.{sym, ◌∙◌}
 use Rattle.mk_plan.specs.Turns.{want_order}
 use Rattle.mk_plan_judge.proofs.Putting.{names_total}

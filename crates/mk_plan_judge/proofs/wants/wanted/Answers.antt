@@ -1,3 +1,4 @@
+-- Answers to the goals of `wants::wanted` that the prover leaves.
 use Rattle.std.specs.List.Sorted.{IsStrictlySortedBy}
 use Rattle.mk_plan_judge.proofs.wants.wanted.Goals as goal
 

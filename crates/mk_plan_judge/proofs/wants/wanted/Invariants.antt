@@ -1,3 +1,4 @@
+-- The invariants and measures of the loops of `wants::wanted`.
 use Rattle.std.proofs.Common.{◌≡◌, ◌==◌, [], take, filter, fold}
 use Rattle.std.specs.List.Sorted.{IsStrictlySortedBy}
 use Rattle.mk_base.specs.Lists.{put}

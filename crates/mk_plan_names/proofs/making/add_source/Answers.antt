@@ -1,3 +1,4 @@
+-- Answers to the goals of `making::add_source` that the prover leaves.
 use Rattle.std.proofs.Common.{◌∙◌, sym, ap}
 use Rattle.indexmap.specs.IndexSet.{contains_text}
 use Rattle.mk_plan_names.proofs.Sources.{source_added, set_grown, set_kept}

@@ -1,3 +1,4 @@
+-- The invariants and measures of the loops of `making::attrs_of`.
 use Rattle.std.proofs.Common.{◌≡◌, length, take}
 use Rattle.mk_plan_names.specs.inner.Making.{AreAttrsOf}
 use Rattle.mk_plan_names.proofs.making.attrs_of.Given as goal

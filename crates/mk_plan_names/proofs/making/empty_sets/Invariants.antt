@@ -1,3 +1,4 @@
+-- The invariants and measures of the loops of `making::empty_sets`.
 use Rattle.std.proofs.Common.{[], ◌≤◌, ◌-◌, length}
 use Rattle.mk_plan_names.specs.inner.Making.{AreAttrsOf}
 use Rattle.mk_plan_names.proofs.making.empty_sets.Given as goal

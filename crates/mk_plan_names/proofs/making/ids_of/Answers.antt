@@ -1,3 +1,4 @@
+-- Answers to the goals of `making::ids_of` that the prover leaves.
 use Rattle.std.proofs.Common.{arith}
 use Rattle.mk_plan_names.proofs.Indexing.{id_added}
 use Rattle.mk_plan_names.proofs.making.ids_of.Goals as goal

@@ -1,3 +1,4 @@
+-- The invariants and measures of the loops of `making::ids_of`.
 use Rattle.mk_plan_names.specs.inner.Making.{AreFirstIds}
 use Rattle.mk_plan_names.proofs.making.ids_of.Given as goal
 

@@ -1,3 +1,4 @@
+-- Answers to the goals of `making::pairs_of` that the prover leaves.
 use Rattle.std.proofs.Common.{refl, ap, arith, length}
 use Rattle.mk_plan_names.proofs.Sources.{pairs_more, same_item, same_pair}
 use Rattle.mk_plan_names.proofs.making.pairs_of.Goals as goal

@@ -1,3 +1,4 @@
+-- Answers to the goals of `same::same_all` that the prover leaves.
 use Rattle.std.proofs.Common.{◌+◌, length, slice_get, get_or, ap, sym, ◌∙◌, arith}
 use Rattle.mk_plan_same.proofs.Pairs.{next_same}
 use Rattle.mk_plan_same.proofs.same.same_all.Goals as goal

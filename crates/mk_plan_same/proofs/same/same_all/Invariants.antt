@@ -1,3 +1,4 @@
+-- The invariants and measures of the loops of `same::same_all`.
 use Rattle.std.proofs.Common.{◌≡◌, length, take}
 use Rattle.mk_plan_same.proofs.same.same_all.Given as goal
 

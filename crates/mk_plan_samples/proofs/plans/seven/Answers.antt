@@ -1,3 +1,4 @@
+-- Answers to the goals of `plans::seven` that the prover leaves.
 use Rattle.std.proofs.Common.{◌≡◌, ◌≤◌, pos, [], ◌∷◌, refl, sym, subst, arith}
 use Rattle.mk_base.specs.declared.json.Json as j
 use Rattle.mk_base.specs.declared.json.Json.{Json}

@@ -1,3 +1,4 @@
+-- Answers to the goals of `places::leave_last` that the prover leaves.
 use Rattle.std.proofs.Common.{rules, ◌≡◌, ◌≤◌, ◌++◌, [], ◌∷◌, ap, sym, subst, ◌∙◌, List}
 use Rattle.mk_base.specs.declared.LinkNo.{LinkNo}
 use Rattle.mk_base.specs.Links.{without}

@@ -1,3 +1,4 @@
+-- Answers to the goals of `fleet::leave` that the prover leaves.
 use Rattle.std.proofs.Common.{rules, ◌≡◌, not, refl}
 use Rattle.mk_base.specs.Links.{same_link}
 use Rattle.mk_base.proofs.Filtering.{filtered}

@@ -1,3 +1,4 @@
+-- Answers to the goals of `fleet::read_on` that the prover leaves.
 use Rattle.std.proofs.Common.{refl}
 use Rattle.mk_real.proofs.fleet.read_on.Goals as goal
 

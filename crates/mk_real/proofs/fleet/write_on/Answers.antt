@@ -1,3 +1,4 @@
+-- Answers to the goals of `fleet::write_on` that the prover leaves.
 use Rattle.mk_real.proofs.fleet.write_on.Goals as goal
 
 pub returns-in_default : goal.returns-in_default

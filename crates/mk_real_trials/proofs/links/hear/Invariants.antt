@@ -1,3 +1,4 @@
+-- The invariants and measures of the loops of `links::hear`.
 use Rattle.std.proofs.Common.{◌≡◌}
 use Rattle.mk_real_trials.proofs.links.hear.Given as goal
 

@@ -1,3 +1,4 @@
+-- Answers to the goals of `links::is_end_heard` that the prover leaves.
 use Rattle.mk_real_trials.proofs.Opened.{is_open}
 use Rattle.mk_real_trials.proofs.links.is_end_heard.Goals as goal
 

@@ -1,3 +1,4 @@
+-- Answers to the goals of `links::is_second_heard` that the prover leaves.
 use Rattle.std.proofs.Common.{sym, subst}
 use Rattle.mk_base.specs.Lists.{IsIn}
 use Rattle.mk_real_trials.proofs.Opened.{is_open, stays_open}

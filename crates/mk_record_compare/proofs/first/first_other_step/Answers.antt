@@ -1,3 +1,4 @@
+-- Answers to the goals of `first::first_other_step` that the prover leaves.
 use Rattle.std.proofs.Common.{◌∙◌}
 use Rattle.mk_record_compare.proofs.Named.{all_kept, begins_too, other_too}
 use Rattle.mk_record_compare.proofs.first.first_other_step.Goals as goal

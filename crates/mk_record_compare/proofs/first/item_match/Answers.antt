@@ -1,3 +1,4 @@
+-- Answers to the goals of `first::item_match` that the prover leaves.
 use Rattle.std.proofs.Common.{sym, subst}
 use Rattle.mk_plan.specs.declared.Item.{Item}
 use Rattle.mk_plan.specs.declared.Entry.TheVariants.{Sent}

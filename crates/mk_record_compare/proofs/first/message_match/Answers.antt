@@ -1,3 +1,4 @@
+-- Answers to the goals of `first::message_match` that the prover leaves.
 use Rattle.std.proofs.Common.{refl, arith}
 use Rattle.mk_record_compare.proofs.Matching.{message_for_step, message_behind, message_same, message_other}
 use Rattle.mk_record_compare.proofs.first.message_match.Goals as goal

@@ -1,3 +1,4 @@
+-- Answers to the goals of `first::next_step` that the prover leaves.
 use Rattle.std.proofs.Common.{arith}
 use Rattle.mk_record_compare.proofs.Left.{step_alone, message_next}
 use Rattle.mk_record_compare.proofs.first.next_step.Goals as goal

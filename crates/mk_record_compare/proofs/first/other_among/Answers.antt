@@ -1,3 +1,4 @@
+-- Answers to the goals of `first::other_among` that the prover leaves.
 use Rattle.std.proofs.Common.{◌+◌, ap, ◌∙◌, inl, inr, arith}
 use Rattle.std.specs.Prelude.{option_map}
 use Rattle.mk_record_compare.proofs.Named.{walked_neither, walked_step, walked_message, walked_another, walked_behind, walked_now, walked_all, walked_short}

@@ -1,3 +1,4 @@
+-- The invariants and measures of the loops of `first::other_among`.
 use Rattle.std.proofs.Common.{◌≤◌}
 use Rattle.std.specs.Prelude.{option_map}
 use Rattle.mk_record_compare.proofs.Named.{IsWalked}

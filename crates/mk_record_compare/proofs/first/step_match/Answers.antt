@@ -1,3 +1,4 @@
+-- Answers to the goals of `first::step_match` that the prover leaves.
 use Rattle.std.proofs.Common.{arith}
 use Rattle.mk_record_compare.proofs.Matching.{step_other, step_behind, step_for_message}
 use Rattle.mk_record_compare.proofs.first.step_match.Goals as goal

@@ -1,3 +1,4 @@
+-- The invariants and measures of the loops of `trees::+same`.
 use Rattle.std.proofs.Common.{◌≡◌, length, take}
 use Rattle.mk_record_compare.proofs.trees.+same.Given as goal
 

@@ -1,3 +1,4 @@
+-- Answers to the goals of `recordable::said_is_recordable` that the prover leaves.
 use Rattle.mk_record_laws.proofs.Recorded.{recordable}
 use Rattle.mk_record_laws.proofs.recordable.said_is_recordable.Goals as goal
 

@@ -1,3 +1,4 @@
+-- Answers to the goals of `written::written_is_read` that the prover leaves.
 use Rattle.mk_record_laws.proofs.Whole.{read_again}
 use Rattle.mk_record_laws.proofs.written.written_is_read.Goals as goal
 

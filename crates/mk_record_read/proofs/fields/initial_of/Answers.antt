@@ -1,3 +1,4 @@
+-- Answers to the goals of `fields::initial_of` that the prover leaves.
 use Rattle.mk_base.specs.Trees.{is_in_range}
 use Rattle.mk_record_read.proofs.Ranges.{all_at}
 use Rattle.mk_record_read.proofs.fields.initial_of.Goals as goal

@@ -1,3 +1,4 @@
+-- Answers to the goals of `fields::items_of` that the prover leaves.
 use Rattle.std.proofs.Common.{◌∙◌, sym, ap}
 use Rattle.std.specs.List.{list_all}
 use Rattle.mk_base.specs.Trees.{is_in_range}

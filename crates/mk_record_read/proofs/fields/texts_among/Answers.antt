@@ -1,3 +1,4 @@
+-- Answers to the goals of `fields::texts_among` that the prover leaves.
 use Rattle.std.proofs.Common.{arith}
 use Rattle.mk_base.specs.Trees.{text_in}
 use Rattle.mk_record_read.proofs.Gathering.{gathered-more, gathered-missed}

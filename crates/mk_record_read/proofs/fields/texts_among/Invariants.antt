@@ -1,3 +1,4 @@
+-- The invariants and measures of the loops of `fields::texts_among`.
 use Rattle.std.proofs.Common.{◌≡◌, Some, map, take}
 use Rattle.mk_base.specs.Lists.{all_there}
 use Rattle.mk_base.specs.Trees.{text_in}

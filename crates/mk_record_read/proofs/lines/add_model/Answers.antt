@@ -1,3 +1,4 @@
+-- Answers to the goals of `lines::add_model` that the prover leaves.
 use Rattle.std.proofs.Common.{◌≡◌, ◌<◌, ◌≤◌, ℕ, List, [], ◌∷◌, length, get_or, Option, Some, None, refl, ap, sym, ◌∙◌, arith, subst}
 use Rattle.std.specs.Prelude.{Result, Ok, Err, IfErr, IsErr, IsErrAnd}
 use Rattle.mk_base.specs.declared.json.Json.{Json}

@@ -1,3 +1,4 @@
+-- The invariants and measures of the loops of `lines::are_below`.
 use Rattle.std.proofs.Common.{◌≡◌, take, true}
 use Rattle.std.specs.List.{list_all}
 use Rattle.mk_record_read.specs.Fields.{is_below}

@@ -1,3 +1,4 @@
+-- Answers to the goals of `lines::arrival_of` that the prover leaves.
 use Rattle.std.proofs.Common.{sym, ap, ◌∙◌}
 use Rattle.mk_base.specs.Trees.{is_in_range}
 use Rattle.mk_json.proofs.LevelTests.{range-List}

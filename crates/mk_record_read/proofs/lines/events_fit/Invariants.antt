@@ -1,3 +1,4 @@
+-- The invariants and measures of the loops of `lines::events_fit`.
 use Rattle.std.proofs.Common.{◌≡◌, take, true}
 use Rattle.std.specs.List.{list_all}
 use Rattle.mk_record_read.specs.Lines.{event_fits}

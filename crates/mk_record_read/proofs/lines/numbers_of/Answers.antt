@@ -1,3 +1,4 @@
+-- Answers to the goals of `lines::numbers_of` that the prover leaves.
 use Rattle.std.proofs.Common.{pos}
 use Rattle.mk_record_read.specs.Fields.{is_below}
 use Rattle.mk_record_read.proofs.Ranges.{all_get}

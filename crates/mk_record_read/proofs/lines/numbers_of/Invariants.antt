@@ -1,3 +1,4 @@
+-- The invariants and measures of the loops of `lines::numbers_of`.
 use Rattle.std.proofs.Common.{◌≡◌, take, map}
 use Rattle.std.specs.Prelude.{nat_abs}
 use Rattle.mk_record_read.proofs.lines.numbers_of.Given as goal

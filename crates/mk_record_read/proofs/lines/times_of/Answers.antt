@@ -1,3 +1,4 @@
+-- Answers to the goals of `lines::times_of` that the prover leaves.
 use Rattle.std.proofs.Common.{pos}
 use Rattle.mk_record_read.specs.Lines.{event_fits}
 use Rattle.mk_record_read.proofs.Ranges.{all_get}

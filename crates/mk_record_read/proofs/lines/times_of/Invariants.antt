@@ -1,3 +1,4 @@
+-- The invariants and measures of the loops of `lines::times_of`.
 use Rattle.std.proofs.Common.{◌≡◌, take}
 use Rattle.mk_record_read.proofs.lines.times_of.Given as goal
 

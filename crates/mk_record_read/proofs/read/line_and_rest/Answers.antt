@@ -1,3 +1,4 @@
+-- Answers to the goals of `read::line_and_rest` that the prover leaves.
 use Rattle.std.proofs.Common.{◌∙◌, sym}
 use Rattle.mk_record_read.proofs.Splitting.{cut_at, cut_nowhere}
 use Rattle.mk_record_read.proofs.read.line_and_rest.Goals as goal

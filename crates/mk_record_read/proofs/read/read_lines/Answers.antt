@@ -1,3 +1,4 @@
+-- Answers to the goals of `read::read_lines` that the prover leaves.
 use Rattle.std.proofs.Common.{arith}
 use Rattle.mk_record_read.proofs.Sound.{reads-first, reads-next, reads-closed, reads-fault, reads-overlong, sound-closed}
 use Rattle.mk_record_read.proofs.read.read_lines.Goals as goal

@@ -1,3 +1,4 @@
+-- The invariants and measures of the loops of `read::read_lines`.
 use Rattle.std.proofs.Common.{length}
 use Rattle.mk_record_read.proofs.Sound.{Reads}
 use Rattle.mk_record_read.proofs.read.read_lines.Given as goal

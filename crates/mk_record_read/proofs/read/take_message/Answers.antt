@@ -1,3 +1,4 @@
+-- Answers to the goals of `read::take_message` that the prover leaves.
 use Rattle.std.proofs.lemmas.Grind.{common_steps}
 use Rattle.std.proofs.Common.{arith}
 use Rattle.mk_record_read.proofs.Sound.{arrived-sound}

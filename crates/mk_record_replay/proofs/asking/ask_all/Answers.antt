@@ -1,3 +1,4 @@
+-- Answers to the goals of `asking::ask_all` that the prover leaves.
 use Rattle.std.proofs.Common.{subst}
 use Rattle.mk_sched.specs.declared.faults.Next.{Next}
 use Rattle.mk_sched.specs.Answers.{NextOf, IsAsked}

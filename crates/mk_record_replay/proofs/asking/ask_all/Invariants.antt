@@ -1,3 +1,4 @@
+-- The invariants and measures of the loops of `asking::ask_all`.
 use Rattle.std.proofs.Common.{◌≡◌, None, ◌-◌, length}
 use Rattle.mk_record_replay.specs.inner.Loops.{GoesOn}
 use Rattle.mk_record_replay.proofs.asking.ask_all.Given as goal

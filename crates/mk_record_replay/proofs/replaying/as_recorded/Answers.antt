@@ -1,3 +1,4 @@
+-- Answers to the goals of `replaying::as_recorded` that the prover leaves.
 use Rattle.std.proofs.Common.{◌≡◌, ◌∙◌, List, All, map, sym, ap, subst}
 use Rattle.std.proofs.lemmas.List.{length-map}
 use Rattle.mk_base.specs.Lists.{BeginsWith}

@@ -1,3 +1,4 @@
+-- Answers to the goals of `replaying::finish` that the prover leaves.
 use Rattle.std.proofs.Common.{subst}
 use Rattle.mk_record_replay.specs.declared.asking.Standstill.{Standstill}
 use Rattle.mk_record_replay.specs.inner.Loops.{HasAskedAll}

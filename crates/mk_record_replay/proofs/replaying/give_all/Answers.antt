@@ -1,3 +1,4 @@
+-- Answers to the goals of `replaying::give_all` that the prover leaves.
 use Rattle.std.proofs.Common.{◌≡◌, ◌++◌, ◌∷◌, [], None, List, reverse, refl, sym, ap, subst, ◌∙◌}
 use Rattle.std.proofs.lemmas.List.{reverse-reverse}
 use Rattle.mk_plan.specs.declared.Entry.{Entry}

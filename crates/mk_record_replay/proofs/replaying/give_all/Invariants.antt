@@ -1,3 +1,4 @@
+-- The invariants and measures of the loops of `replaying::give_all`.
 use Rattle.std.proofs.Common.{◌≡◌, ◌++◌, None, List, map, length, reverse}
 use Rattle.mk_record_read.specs.declared.saved.Arrival.{Arrival}
 use Rattle.mk_record_read.specs.Seen.{came}

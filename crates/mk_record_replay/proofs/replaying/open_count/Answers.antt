@@ -1,3 +1,4 @@
+-- Answers to the goals of `replaying::open_count` that the prover leaves.
 use Rattle.std.proofs.Common.{◌≡◌, ◌≤◌, ◌+◌, arith, sym, ap, ◌∙◌, refl}
 use Rattle.mk_plan.specs.Plans.{sim_count}
 use Rattle.mk_plan.specs.declared.Plan.{Plan}

@@ -1,3 +1,4 @@
+-- Answers to the goals of `replaying::take` that the prover leaves.
 use Rattle.std.proofs.Common.{subst}
 use Rattle.mk_sched.specs.declared.faults.Taken.{Taken}
 use Rattle.mk_sched.specs.Answers.{ArriveOf}

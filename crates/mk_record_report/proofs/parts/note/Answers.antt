@@ -1,3 +1,4 @@
+-- Answers to the goals of `parts::note` that the prover leaves.
 use Rattle.std.proofs.Common.{◌∷◌, [], ◌++◌, ◌<◌, ◌≤◌, subst, sym, ap, length, slice_set}
 use Rattle.std.specs.Result.{OnOk}
 use Rattle.mk_plan.specs.declared.Entry.{Entry}

@@ -1,3 +1,4 @@
+-- Answers to the goals of `report::write_report` that the prover leaves.
 use Rattle.std.proofs.Common.{◌≡◌, ℕ, ◌<◌, ◌≤◌, List, get_or, ap, sym, ◌∙◌, subst, length, arith, rules}
 use Rattle.mk_plan.specs.declared.PlanSim.{PlanSim}
 use Rattle.mk_plan.specs.Journals.{sent}

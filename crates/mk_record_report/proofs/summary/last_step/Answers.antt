@@ -1,3 +1,4 @@
+-- Answers to the goals of `summary::last_step` that the prover leaves.
 use Rattle.std.proofs.Common.{◌∷◌, [], ◌++◌, List, sym, ap, ◌∙◌, take}
 use Rattle.std.proofs.lemmas.List.{take_more}
 use Rattle.mk_plan.specs.declared.Entry.{Entry}

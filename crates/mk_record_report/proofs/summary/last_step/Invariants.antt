@@ -1,3 +1,4 @@
+-- The invariants and measures of the loops of `summary::last_step`.
 use Rattle.std.proofs.Common.{◌≡◌, option_map, take}
 use Rattle.mk_plan.specs.Journals.{sent}
 use Rattle.mk_plan.specs.Report.{steps_in}

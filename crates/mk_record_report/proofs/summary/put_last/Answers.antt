@@ -1,3 +1,4 @@
+-- Answers to the goals of `summary::put_last` that the prover leaves.
 use Rattle.mk_record_report.proofs.Lasts.{no_last, a_last}
 use Rattle.mk_record_report.proofs.summary.put_last.Goals as goal
 

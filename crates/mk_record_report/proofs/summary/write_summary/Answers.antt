@@ -1,3 +1,4 @@
+-- Answers to the goals of `summary::write_summary` that the prover leaves.
 use Rattle.std.proofs.Common.{◌≡◌, ℕ, ◌<◌, ◌≤◌, ◌+◌, ◌++◌, List, get_or, take, ap, sym, ◌∙◌, subst, length, arith, rules}
 use Rattle.std.proofs.lemmas.List.Sums.{sum_by_more}
 use Rattle.mk_plan.specs.declared.PlanSim.{PlanSim}

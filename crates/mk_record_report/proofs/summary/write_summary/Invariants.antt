@@ -1,3 +1,4 @@
+-- The invariants and measures of the loops of `summary::write_summary`.
 use Rattle.std.proofs.Common.{◌≡◌, ◌<◌, ◌≤◌, ◌*◌, ◌-◌, ◌^◌, ◌++◌, [], take, flat_map, sum, map, length}
 use Rattle.std.specs.List.{enumerate_from}
 use Rattle.mk_plan.specs.Journals.{sent}

@@ -1,3 +1,4 @@
+-- Answers to the goals of `tallies::empty_tallies` that the prover leaves.
 use Rattle.mk_record_report.proofs.Tallying.{untold_more, no_values_more}
 use Rattle.mk_record_report.proofs.tallies.empty_tallies.Goals as goal
 

@@ -1,3 +1,4 @@
+-- Answers to the goals of `tallies::note` that the prover leaves.
 use Rattle.std.proofs.Common.{◌∷◌, [], ◌++◌, ◌<◌, ◌≤◌, subst, sym, ap, length, slice_set}
 use Rattle.mk_plan.specs.declared.Entry.{Entry}
 use Rattle.mk_record_report.specs.inner.Summary.{AreTallies}

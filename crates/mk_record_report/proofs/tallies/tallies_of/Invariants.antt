@@ -1,3 +1,4 @@
+-- The invariants and measures of the loops of `tallies::tallies_of`.
 use Rattle.std.proofs.Common.{take, ◌≤◌, ◌*◌, ◌-◌, ◌^◌}
 use Rattle.mk_record_report.specs.inner.Summary.{AreTallies, all_values}
 use Rattle.mk_record_report.proofs.tallies.tallies_of.Given as goal

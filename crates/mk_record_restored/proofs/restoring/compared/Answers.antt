@@ -1,3 +1,4 @@
+-- Answers to the goals of `restoring::compared` that the prover leaves.
 use Rattle.mk_record_restored.proofs.restoring.compared.Goals as goal
 
 pub returns : goal.returns

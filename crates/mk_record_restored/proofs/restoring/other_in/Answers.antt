@@ -1,3 +1,4 @@
+-- Answers to the goals of `restoring::other_in` that the prover leaves.
 use Rattle.std.proofs.Common.{refl}
 use Rattle.mk_record_restored.proofs.AfterRecord.{compared_with}
 use Rattle.mk_record_restored.proofs.restoring.other_in.Goals as goal

@@ -1,3 +1,4 @@
+-- Answers to the goals of `restoring::restore` that the prover leaves.
 use Rattle.std.proofs.Common.{◌≡◌, ◌∙◌, All, map, sym, ap, subst}
 use Rattle.std.proofs.lemmas.List.{length-map}
 use Rattle.mk_plan.specs.declared.Plan.{Plan}

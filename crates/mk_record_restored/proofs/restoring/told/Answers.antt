@@ -1,3 +1,4 @@
+-- Answers to the goals of `restoring::told` that the prover leaves.
 use Rattle.std.proofs.Common.{sym, subst}
 use Rattle.mk_record_compare.specs.Differences.{IsOther}
 use Rattle.mk_record_restored.specs.Restored.{RestoresAs}

@@ -1,3 +1,4 @@
+-- Answers to the goals of `accepting::take` that the prover leaves.
 use Rattle.mk_resume.proofs.accepting.take.Goals as goal
 
 pub returns-in-Ok : goal.returns-in-Ok

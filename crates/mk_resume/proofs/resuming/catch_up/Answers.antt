@@ -1,3 +1,4 @@
+-- Answers to the goals of `resuming::catch_up` that the prover leaves.
 use Rattle.std.proofs.Common.{[], List, sym, subst}
 use Rattle.mk_base.proofs.Lists.{append_nil}
 use Rattle.mk_outside.specs.Counts.{HasRisen}

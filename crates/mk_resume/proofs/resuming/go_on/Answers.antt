@@ -1,3 +1,4 @@
+-- Answers to the goals of `resuming::go_on` that the prover leaves.
 use Rattle.std.proofs.Common.{◌++◌, subst, sym}
 use Rattle.mk_outside.proofs.OnLogs.{adds_more}
 use Rattle.mk_run.specs.inner.Turns.{AreLinksOpen}

@@ -1,3 +1,4 @@
+-- Answers to the goals of `resuming::resume` that the prover leaves.
 use Rattle.std.proofs.Common.{[], sym, ◌∙◌}
 use Rattle.mk_outside.proofs.OnLogs.{adds_none}
 use Rattle.mk_run_crew.proofs.Started.{none_started}

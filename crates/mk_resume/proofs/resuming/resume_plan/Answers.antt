@@ -1,3 +1,4 @@
+-- Answers to the goals of `resuming::resume_plan` that the prover leaves.
 use Rattle.std.proofs.Common.{Bool, List, subst, sym}
 use Rattle.mk_local.specs.declared.turn.Turn.{Turn}
 use Rattle.mk_run_local.specs.Seen.{AreOf}

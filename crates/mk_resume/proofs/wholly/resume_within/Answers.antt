@@ -1,3 +1,4 @@
+-- Answers to the goals of `wholly::resume_within` that the prover leaves.
 use Rattle.mk_local.specs.Registries.{rows_in}
 use Rattle.mk_resume.proofs.Linkless.{over_any}
 use Rattle.mk_resume.proofs.wholly.resume_within.Goals as goal

@@ -1,3 +1,4 @@
+-- Answers to the goals of `catching::accept` that the prover leaves.
 use Rattle.std.proofs.Common.{ℕ, ◌<◌, Some, Option, sym, ap, ◌∙◌, subst}
 use Rattle.mk_resume_loop.specs.declared.behind.Standing.{Standing}
 use Rattle.mk_resume_loop.proofs.catching.accept.Goals as goal

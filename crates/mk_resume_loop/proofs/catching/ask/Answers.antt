@@ -1,3 +1,4 @@
+-- Answers to the goals of `catching::ask` that the prover leaves.
 use Rattle.std.proofs.Common.{Some, ap, ◌∙◌}
 use Rattle.mk_resume_loop.proofs.AskingAll.{asks_later, asks_now}
 use Rattle.mk_resume_loop.proofs.catching.ask.Goals as goal

@@ -1,3 +1,4 @@
+-- The invariants and measures of the loops of `catching::ask_all`.
 use Rattle.std.proofs.Common.{◌≡◌, ◌-◌, None, List, length}
 use Rattle.mk_plan.specs.declared.Entry.{Entry}
 use Rattle.mk_outside.specs.declared.fleet.LogEntry.{LogEntry}

@@ -1,3 +1,4 @@
+-- Answers to the goals of `catching::drive` that the prover leaves.
 use Rattle.std.proofs.Common.{◌∙◌, refl, sym, subst, arith, ◌++◌}
 use Rattle.mk_local.specs.Registries.{rows_in}
 use Rattle.mk_run.specs.inner.Turns.{AreLinksOpen}

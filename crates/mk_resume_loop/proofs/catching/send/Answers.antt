@@ -1,3 +1,4 @@
+-- Answers to the goals of `catching::send` that the prover leaves.
 use Rattle.std.proofs.Common.{refl}
 use Rattle.mk_resume_loop.proofs.catching.send.Goals as goal
 

@@ -1,3 +1,4 @@
+-- Answers to the goals of `catching::turn` that the prover leaves.
 use Rattle.std.proofs.Common.{[], sym, ap, ◌∙◌, subst, Result, Err}
 use Rattle.std.proofs.lemmas.Result.{err_from_is_err_and}
 use Rattle.mk_outside.specs.Counts.{HasRisen}

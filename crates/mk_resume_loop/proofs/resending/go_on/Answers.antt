@@ -1,3 +1,4 @@
+-- Answers to the goals of `resending::go_on` that the prover leaves.
 use Rattle.std.proofs.Common.{◌+◌, List, Some, Result, Err, slice_get, refl, sym, ap, ◌∙◌, subst, arith}
 use Rattle.std.proofs.lemmas.Result.{err_from_is_err_and}
 use Rattle.mk_plan.specs.declared.Entry.{Entry}

@@ -1,3 +1,4 @@
+-- Answers to the goals of `laws::free_items_alternate` that the prover leaves.
 use Rattle.mk_resume_walk.proofs.Fronts.{free_alternate}
 use Rattle.mk_resume_walk.proofs.laws.free_items_alternate.Goals as goal
 

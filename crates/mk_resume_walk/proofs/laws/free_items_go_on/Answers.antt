@@ -1,3 +1,4 @@
+-- Answers to the goals of `laws::free_items_go_on` that the prover leaves.
 use Rattle.mk_resume_walk.proofs.GoingOn.{free_go_on}
 use Rattle.mk_resume_walk.proofs.laws.free_items_go_on.Goals as goal
 

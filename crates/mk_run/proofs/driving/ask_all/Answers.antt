@@ -1,3 +1,4 @@
+-- Answers to the goals of `driving::ask_all` that the prover leaves.
 use Rattle.std.proofs.Common.{sym, ap, ◌∙◌, subst, Result, Err, IfErr}
 use Rattle.std.proofs.lemmas.Result.{err_from_is_err_and}
 use Rattle.mk_local.specs.Registries.{rows_in}

@@ -1,3 +1,4 @@
+-- The invariants and measures of the loops of `driving::ask_all`.
 use Rattle.std.proofs.Common.{◌≡◌, ◌-◌, None, List, length}
 use Rattle.mk_outside.specs.declared.fleet.LogEntry.{LogEntry}
 use Rattle.mk_local.specs.Registries.{rows_in}

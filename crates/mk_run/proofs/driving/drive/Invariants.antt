@@ -1,3 +1,4 @@
+-- The invariants and measures of the loops of `driving::drive`.
 use Rattle.std.proofs.Common.{◌≡◌, ◌≤◌, None}
 use Rattle.mk_local.specs.Registries.{rows_in}
 use Rattle.mk_run_local.specs.Seen.{AreOf}

@@ -1,3 +1,4 @@
+-- Answers to the goals of `driving::hear` that the prover leaves.
 use Rattle.std.proofs.Common.{sym, ap, subst, ◌++◌, Err}
 use Rattle.mk_outside.specs.Counts.{HasRisen}
 use Rattle.mk_run_crew.specs.Seen.{crew_of}

@@ -1,3 +1,4 @@
+-- Answers to the goals of `laws::kinds_fit` that the prover leaves.
 use Rattle.mk_run.proofs.Fitting.{fits}
 use Rattle.mk_run.proofs.laws.kinds_fit.Goals as goal
 

@@ -1,3 +1,4 @@
+-- Answers to the goals of `laws::within_runs_end` that the prover leaves.
 use Rattle.std.proofs.Common.{◌<◌, ℕ, inl, inr, sym, subst}
 use Rattle.mk_run_crew.proofs.Unlinked.{within_low}
 use Rattle.mk_run_laws.specs.Handshake.{is_within}

@@ -1,3 +1,4 @@
+-- Answers to the goals of `running::run` that the prover leaves.
 use Rattle.std.proofs.Common.{[], ◌++◌, refl, sym, ap, ◌∙◌, inl, inr}
 use Rattle.mk_outside.proofs.OnLogs.{adds_none}
 use Rattle.mk_local.specs.Registries.{rows_in}

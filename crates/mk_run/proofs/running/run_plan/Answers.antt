@@ -1,3 +1,4 @@
+-- Answers to the goals of `running::run_plan` that the prover leaves.
 use Rattle.std.proofs.Common.{sym, subst, ◌++◌}
 use Rattle.mk_outside.proofs.OnLogs.{adds_more}
 use Rattle.mk_sched.specs.Cores.{CoreState}

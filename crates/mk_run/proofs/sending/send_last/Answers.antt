@@ -1,3 +1,4 @@
+-- Answers to the goals of `sending::send_last` that the prover leaves.
 use Rattle.std.proofs.Common.{◌≡◌, ℕ, List, Some, length, sym, ap, ◌∙◌, arith}
 use Rattle.mk_plan.specs.declared.Entry.{Entry}
 use Rattle.mk_run.proofs.LastItem.{last_sent, last_taken, last_unsent, some_entry}

@@ -1,3 +1,4 @@
+-- Answers to the goals of `wholly::drive_within` that the prover leaves.
 use Rattle.std.proofs.Common.{[]}
 use Rattle.mk_local.specs.Registries.{rows_in}
 use Rattle.mk_run.proofs.Growing.{less_room}

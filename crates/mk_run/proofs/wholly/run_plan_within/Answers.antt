@@ -1,3 +1,4 @@
+-- Answers to the goals of `wholly::run_plan_within` that the prover leaves.
 use Rattle.std.proofs.Common.{[], ◌++◌, refl, sym, subst}
 use Rattle.mk_sched.specs.Cores.{CoreState}
 use Rattle.mk_run.specs.inner.Turns.{GoesOn}

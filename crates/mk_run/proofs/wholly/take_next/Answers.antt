@@ -1,3 +1,4 @@
+-- Answers to the goals of `wholly::take_next` that the prover leaves.
 use Rattle.std.proofs.Common.{[]}
 use Rattle.mk_run_crew.specs.Seen.{crew_of}
 use Rattle.mk_run.proofs.Hearing.{heard_low, heard_in_range}

@@ -1,3 +1,4 @@
+-- Answers to the goals of `beginning::new_crew` that the prover leaves.
 use Rattle.std.proofs.Common.{sym, subst, ap, ◌∙◌}
 use Rattle.mk_local.specs.Registries.{rows_in}
 use Rattle.mk_setup.specs.Seen.{SetupState}

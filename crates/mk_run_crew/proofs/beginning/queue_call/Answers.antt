@@ -1,3 +1,4 @@
+-- Answers to the goals of `beginning::queue_call` that the prover leaves.
 use Rattle.std.proofs.Common.{◌+◌, Err, ap, refl, subst, ◌∙◌}
 use Rattle.mk_run_laws.specs.Payloads.{IsFramed}
 use Rattle.mk_run_crew.proofs.Asked.{call_queued, call_unqueued}

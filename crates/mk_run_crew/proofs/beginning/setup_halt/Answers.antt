@@ -1,3 +1,4 @@
+-- Answers to the goals of `beginning::setup_halt` that the prover leaves.
 use Rattle.std.proofs.Common.{◌≡◌, refl}
 use Rattle.mk_setup.specs.declared.fault.SetupFault.{SetupFault}
 use Rattle.mk_setup.specs.declared.fault.SetupFault.TheVariants.{Meta, Create, Connect, Unasked, Failed, Mem}

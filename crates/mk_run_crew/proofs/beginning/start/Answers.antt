@@ -1,3 +1,4 @@
+-- Answers to the goals of `beginning::start` that the prover leaves.
 use Rattle.std.proofs.Common.{ℕ, ◌+◌, ◌≤◌, List, length, subst, sym, ap, ◌∙◌, inl, inr}
 use Rattle.mk_base.specs.declared.LinkNo.{LinkNo}
 use Rattle.mk_base.specs.Lists.{Each, IsIn}

@@ -1,3 +1,4 @@
+-- Answers to the goals of `laws::within_handshakes_are_faultless` that the prover leaves.
 use Rattle.mk_outside.specs.Counts.{HasRisen}
 use Rattle.mk_run_crew.proofs.Faultless.{faultless}
 use Rattle.mk_run_crew.proofs.laws.within_handshakes_are_faultless.Goals as goal

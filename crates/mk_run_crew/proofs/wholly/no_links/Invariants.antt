@@ -1,3 +1,4 @@
+-- The invariants and measures of the loops of `wholly::no_links`.
 use Rattle.std.proofs.Common.{◌≡◌, replicate, None}
 use Rattle.mk_run_crew.proofs.wholly.no_links.Given as goal
 

@@ -1,3 +1,4 @@
+-- Answers to the goals of `closing::close_all` that the prover leaves.
 use Rattle.std.proofs.Common.{None, [], get_or, refl, sym, ◌∙◌, arith}
 use Rattle.mk_outside.proofs.OnLogs.{adds_more, adds_none}
 use Rattle.mk_run_links.proofs.Beginning.{closed_more, place_open, there_is, without_none}

@@ -1,3 +1,4 @@
+-- The invariants and measures of the loops of `closing::close_all`.
 use Rattle.std.proofs.Common.{◌≡◌, ◌≤◌, [], take}
 use Rattle.mk_outside.specs.Logs.{Adds}
 use Rattle.mk_launch.specs.Starts.{links_in}

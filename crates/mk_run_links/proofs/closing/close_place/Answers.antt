@@ -1,3 +1,4 @@
+-- Answers to the goals of `closing::close_place` that the prover leaves.
 use Rattle.mk_run_links.proofs.Beginning.{closed_nothing, closed_place}
 use Rattle.mk_outside.proofs.OnLogs.{adds_none}
 use Rattle.mk_run_links.proofs.closing.close_place.Goals as goal

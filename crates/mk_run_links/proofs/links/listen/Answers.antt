@@ -1,3 +1,4 @@
+-- Answers to the goals of `links::listen` that the prover leaves.
 use Rattle.std.proofs.Common.{refl, ◌∙◌, arith, subst, sym, List}
 use Rattle.mk_base.specs.declared.LinkNo.{LinkNo}
 use Rattle.mk_outside.proofs.OnLogs.{adds_none}

@@ -1,3 +1,4 @@
+-- The invariants and measures of the loops of `links::listen`.
 use Rattle.std.proofs.Common.{◌≡◌, ◌≤◌, length}
 use Rattle.mk_run_links.specs.Places.{AreOpen}
 use Rattle.mk_run_links.specs.inner.Standing.{HaveTurns}

@@ -1,3 +1,4 @@
+-- Answers to the goals of `links::look` that the prover leaves.
 use Rattle.std.proofs.Common.{[], refl}
 use Rattle.mk_outside.proofs.OnLogs.{adds_none}
 use Rattle.mk_run_links.proofs.Standing.{heard_stands, one_fewer, parked_added, parked_stands, stray_stands}

@@ -1,3 +1,4 @@
+-- Answers to the goals of `stopping::stop_frame` that the prover leaves.
 use Rattle.std.proofs.Common.{◌∙◌, ◌++◌, ◌≤◌, ap, List, length, ℕ, subst, sym}
 use Rattle.mk_run_links.proofs.OnStops.{frame_is, framed_is}
 use Rattle.mk_run_links.proofs.stopping.stop_frame.Goals as goal

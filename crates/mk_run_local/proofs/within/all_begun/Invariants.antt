@@ -1,3 +1,4 @@
+-- The invariants and measures of the loops of `within::all_begun`.
 use Rattle.std.proofs.Common.{◌≡◌, take, map}
 use Rattle.mk_local.specs.Registries.{rows_in}
 use Rattle.mk_run_local.specs.Seen.{first_of}

@@ -1,3 +1,4 @@
+-- Answers to the goals of `within::begun_as` that the prover leaves.
 use Rattle.mk_local.specs.Registries.{rows_in}
 use Rattle.mk_run_local.proofs.Beginning.{kind_there}
 use Rattle.mk_run_local.proofs.within.begun_as.Goals as goal

@@ -1,3 +1,4 @@
+-- The invariants and measures of the loops of `blocks::blocks_among`.
 use Rattle.mk_scenario_keys.proofs.Gathering.{Gathers}
 use Rattle.mk_scenario.specs.Blocks.{block_in}
 use Rattle.mk_scenario.proofs.blocks.blocks_among.Given as goal

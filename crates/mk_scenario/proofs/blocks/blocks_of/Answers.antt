@@ -1,3 +1,4 @@
+-- Answers to the goals of `blocks::blocks_of` that the prover leaves.
 use Rattle.std.proofs.Common.{◌≡◌, ◌∙◌, ap, subst, ℕ, List, Result, Ok, IfOk, IfErr}
 use Rattle.mk_base.specs.declared.json.Json.{Json}
 use Rattle.mk_scenario_keys.specs.Tests.{IsFaultOf, each_at}

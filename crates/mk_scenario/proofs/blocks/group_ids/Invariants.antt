@@ -1,3 +1,4 @@
+-- The invariants and measures of the loops of `blocks::group_ids`.
 use Rattle.std.proofs.Common.{◌≡◌, take}
 use Rattle.mk_scenario.specs.References.{group_ids}
 use Rattle.mk_scenario.proofs.blocks.group_ids.Given as goal

@@ -1,3 +1,4 @@
+-- The invariants and measures of the loops of `blocks::is_source`.
 use Rattle.std.proofs.Common.{◌≡◌, drop}
 use Rattle.mk_scenario_keys.specs.Keys.{is_among}
 use Rattle.mk_scenario.specs.Blocks.{source_names}

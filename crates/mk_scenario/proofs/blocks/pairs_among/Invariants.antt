@@ -1,3 +1,4 @@
+-- The invariants and measures of the loops of `blocks::pairs_among`.
 use Rattle.mk_scenario_keys.specs.Tests.{found, item_in}
 use Rattle.mk_scenario_keys.specs.declared.fault.ScenarioFault.TheVariants as faults
 use Rattle.mk_scenario_keys.proofs.Gathering.{Gathers}

@@ -1,3 +1,4 @@
+-- Answers to the goals of `groups::groups_among` that the prover leaves.
 use Rattle.std.proofs.Common.{◌≡◌, ◌+◌, ◌<◌, ◌++◌, ◌∷◌, [], take, length, arith, codes, Ok, ap, ◌∙◌, sym, subst}
 use Rattle.mk_scenario_keys.proofs.Gathering.{Gathers, gathers_more}
 use Rattle.mk_scenario.proofs.Earlier.{group_named, ids_more}

@@ -1,3 +1,4 @@
+-- The invariants and measures of the loops of `groups::groups_among`.
 use Rattle.std.proofs.Common.{◌≡◌, take, codes}
 use Rattle.mk_scenario_keys.proofs.Gathering.{Gathers}
 use Rattle.mk_scenario.specs.Groups.{group_in}

@@ -1,3 +1,4 @@
+-- The invariants and measures of the loops of `groups::ids_of`.
 use Rattle.std.proofs.Common.{◌≡◌, take}
 use Rattle.mk_scenario.specs.Scenarios.{ids_of}
 use Rattle.mk_scenario.proofs.groups.ids_of.Given as goal

@@ -1,3 +1,4 @@
+-- Answers to the goals of `names::add` that the prover leaves.
 use Rattle.std.proofs.Common.{◌∙◌, ◌++◌, ◌∷◌, [], ap, subst, sym}
 use Rattle.mk_scenario.specs.inner.Places.{HasPlaces}
 use Rattle.mk_scenario.proofs.names.add.Goals as goal

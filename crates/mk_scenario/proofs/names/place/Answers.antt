@@ -1,3 +1,4 @@
+-- Answers to the goals of `names::place` that the prover leaves.
 use Rattle.std.proofs.Common.{ap, ◌∙◌, sym, Some}
 use Rattle.std.specs.HashMap.{get_by_text}
 use Rattle.std.specs.Map.{update}

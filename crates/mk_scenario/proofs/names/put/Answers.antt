@@ -1,3 +1,4 @@
+-- Answers to the goals of `names::put` that the prover leaves.
 use Rattle.std.proofs.Common.{ap, ◌∙◌, arith, Some}
 use Rattle.std.specs.String.{string_bytes}
 use Rattle.std.specs.HashMap.{get_by_text}

@@ -1,3 +1,4 @@
+-- Answers to the goals of `read::read_scenario` that the prover leaves.
 use Rattle.mk_scenario.proofs.Wellformedness.{wellformed_where_ok}
 use Rattle.mk_scenario.proofs.read.read_scenario.Goals as goal
 

@@ -1,3 +1,4 @@
+-- Answers to the goals of `references::in_group` that the prover leaves.
 use Rattle.std.proofs.Common.{◌≡◌, Ok, IfOk, IfErr, List, ℕ, true, false, ap, ◌∙◌, sym, subst}
 use Rattle.mk_scenario_keys.specs.Tests.{IsFaultOf}
 use Rattle.mk_scenario.specs.References.{but_last, entity_at, whole, has_byte, ends_with}

@@ -1,3 +1,4 @@
+-- Answers to the goals of `references::place_of` that the prover leaves.
 use Rattle.std.proofs.Common.{◌≡◌, Ok, IfOk, IfErr, List, ℕ, sym, subst}
 use Rattle.mk_scenario_keys.specs.Tests.{IsFaultOf}
 use Rattle.mk_scenario.specs.inner.References.{IsAround}

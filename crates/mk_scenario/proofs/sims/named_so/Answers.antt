@@ -1,3 +1,4 @@
+-- Answers to the goals of `sims::named_so` that the prover leaves.
 use Rattle.std.proofs.Common.{arith, codes}
 use Rattle.std.specs.Prelude.{option_and_then}
 use Rattle.mk_base.specs.Lists.{same_text}

@@ -1,3 +1,4 @@
+-- The invariants and measures of the loops of `sims::named_so`.
 use Rattle.std.proofs.Common.{◌≡◌, ◌≤◌, length, take, codes}
 use Rattle.std.specs.List.{filter}
 use Rattle.mk_base.specs.Lists.{same_text}

@@ -1,3 +1,4 @@
+-- Answers to the goals of `sims::sim_in` that the prover leaves.
 use Rattle.std.proofs.Common.{◌≡◌, subst, ℕ, List, Ok, IfOk, IfErr}
 use Rattle.mk_scenario_keys.specs.Tests.{IsFaultOf}
 use Rattle.mk_scenario.specs.Sims as sims

@@ -1,3 +1,4 @@
+-- Answers to the goals of `sims::sim_made` that the prover leaves.
 use Rattle.std.proofs.Common.{option_map}
 use Rattle.mk_scenario.specs.Sims as sims
 use Rattle.mk_scenario.proofs.Refusing.{refused_next, refused_second}

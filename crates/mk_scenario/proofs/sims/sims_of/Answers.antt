@@ -1,3 +1,4 @@
+-- Answers to the goals of `sims::sims_of` that the prover leaves.
 use Rattle.std.proofs.Common.{◌≡◌, ◌+◌, ◌<◌, length, arith, Ok, sym, subst}
 use Rattle.mk_scenario_keys.specs.Tests.{by_earlier}
 use Rattle.mk_scenario_keys.proofs.Gathering.{Gathers, gathers_more}

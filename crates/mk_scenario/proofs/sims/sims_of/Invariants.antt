@@ -1,3 +1,4 @@
+-- The invariants and measures of the loops of `sims::sims_of`.
 use Rattle.mk_scenario_keys.specs.Tests.{by_earlier}
 use Rattle.mk_scenario_keys.proofs.Gathering.{Gathers}
 use Rattle.mk_scenario.specs.Sims.{sim_in}

@@ -1,3 +1,4 @@
+-- Answers to the goals of `scenario::demo_scenario` that the prover leaves.
 use Rattle.mk_scenario_demo.proofs.Wellformed.{wellformed_where_made}
 use Rattle.mk_scenario_demo.proofs.scenario.demo_scenario.Goals as goal
 

@@ -1,3 +1,4 @@
+-- The invariants and measures of the loops of `known::is_among`.
 use Rattle.std.proofs.Common.{◌≡◌, drop, map}
 use Rattle.mk_scenario_keys.specs.Keys.{is_among}
 use Rattle.mk_scenario_keys.proofs.known.is_among.Given as goal

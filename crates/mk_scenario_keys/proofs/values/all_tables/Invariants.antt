@@ -1,3 +1,4 @@
+-- The invariants and measures of the loops of `values::all_tables`.
 use Rattle.std.proofs.Common.{take}
 use Rattle.mk_scenario_keys.proofs.Gathering.{Gathers}
 use Rattle.mk_scenario_keys.specs.Keys as keys

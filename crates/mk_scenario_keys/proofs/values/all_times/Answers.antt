@@ -1,3 +1,4 @@
+-- Answers to the goals of `values::all_times` that the prover leaves.
 use Rattle.std.proofs.Common.{◌≡◌, ◌∙◌, ℕ, ℤ, pos, ◌+◌, ◌<◌, ◌++◌, ◌∷◌, [], List, length, get_or, arith, Ok, ap, sym, subst}
 use Rattle.std.proofs.lemmas.Int.{ints}
 use Rattle.std.proofs.lemmas.List.{get_or_default}

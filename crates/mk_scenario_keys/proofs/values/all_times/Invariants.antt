@@ -1,3 +1,4 @@
+-- The invariants and measures of the loops of `values::all_times`.
 use Rattle.std.proofs.Common.{pos}
 use Rattle.mk_scenario_keys.proofs.Gathering.{Gathers}
 use Rattle.mk_scenario_keys.specs.Keys as keys

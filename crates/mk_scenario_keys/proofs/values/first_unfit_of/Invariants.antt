@@ -1,3 +1,4 @@
+-- The invariants and measures of the loops of `values::first_unfit_of`.
 use Rattle.std.proofs.Common.{◌≡◌, ℕ, List, drop, not}
 use Rattle.std.specs.List.{find}
 use Rattle.mk_base.specs.declared.json.Json.{Json}

@@ -1,3 +1,4 @@
+-- Answers to the goals of `values::tables_within` that the prover leaves.
 use Rattle.std.proofs.Common.{◌≡◌, ◌∙◌, ℕ, nat_le, ◌&&◌, List, length, Result, Ok, IfErr, inl, inr, sym, ap, subst}
 use Rattle.std.proofs.lemmas.Result.{err_from_is_err_and}
 use Rattle.std.specs.Fmt.{decimal}

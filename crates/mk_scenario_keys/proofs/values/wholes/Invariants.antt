@@ -1,3 +1,4 @@
+-- The invariants and measures of the loops of `values::wholes`.
 use Rattle.mk_scenario_keys.proofs.Gathering.{Gathers}
 use Rattle.mk_scenario_keys.specs.Keys as keys
 use Rattle.mk_scenario_keys.specs.Tests.{item_in}

@@ -1,3 +1,4 @@
+-- The invariants and measures of the loops of `read::+convert`.
 use Rattle.std.proofs.Common.{◌≡◌, true, List, ◌++◌, take, map, String, Global}
 use Rattle.std.specs.List.{list_all}
 use Rattle.toml.specs.View.{view}

@@ -1,3 +1,4 @@
+-- Answers to the goals of `read::read_toml` that the prover leaves.
 use Rattle.std.proofs.Common.{◌∙◌, Some, ap, sym, true≢false}
 use Rattle.mk_base.specs.declared.json.Json as tree
 use Rattle.toml.specs.View.{table_view}

@@ -1,3 +1,4 @@
+-- The invariants and measures of the loops of `cycles::edges_of`.
 use Rattle.mk_cycles.specs.Edges.{EndsBelow}
 use Rattle.mk_scenario_trials.proofs.cycles.edges_of.Given as goal
 

@@ -1,3 +1,4 @@
+-- Answers to the goals of `asking::advance` that the prover leaves.
 use Rattle.std.proofs.Common.{◌∙◌, ◌<◌, ℕ, Ok, ap, refl, subst, sym}
 use Rattle.std.proofs.lemmas.Bool.{eqb-true}
 use Rattle.mk_base.proofs.Lists.{none_some}

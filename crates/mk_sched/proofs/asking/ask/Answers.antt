@@ -1,3 +1,4 @@
+-- Answers to the goals of `asking::ask` that the prover leaves.
 use Rattle.std.proofs.Common.{◌≡◌, ℤ, [], ◌∷◌, ◌++◌, sym, ap, ◌∙◌, subst, arith, w64, to_z, of_z}
 use Rattle.std.proofs.lemmas.Int.{ints}
 use Rattle.mk_plan.specs.declared.Entry.TheVariants.{Sent}

@@ -1,3 +1,4 @@
+-- Answers to the goals of `derived::new_derived` that the prover leaves.
 use Rattle.std.proofs.Common.{sym, ◌∙◌, true≢false, arith}
 use Rattle.mk_sched.proofs.derived.new_derived.Goals as goal
 

@@ -1,3 +1,4 @@
+-- Answers to the goals of `ending::end_step` that the prover leaves.
 use Rattle.std.proofs.Common.{◌∙◌, ◌++◌, ◌∷◌, [], Option, Ok, refl, sym, ap, subst}
 use Rattle.mk_plan.specs.declared.Entry.TheVariants.{Got}
 use Rattle.mk_plan.specs.Journals.{view}

@@ -1,3 +1,4 @@
+-- Answers to the goals of `ending::end_turn` that the prover leaves.
 use Rattle.std.proofs.Common.{◌∙◌}
 use Rattle.mk_plan.specs.Journals.{view}
 use Rattle.mk_sched.proofs.Judged.{is_open, no_step_end, no_fetch_end}

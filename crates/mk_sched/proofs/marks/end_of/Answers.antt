@@ -1,3 +1,4 @@
+-- Answers to the goals of `marks::end_of` that the prover leaves.
 use Rattle.std.proofs.Common.{◌≡◌, ap, arith, of_z, to_z, w64}
 use Rattle.std.proofs.lemmas.Int.{ints}
 use Rattle.mk_base.specs.Tiers.{moment}

@@ -1,3 +1,4 @@
+-- Answers to the goals of `marks::forget_of` that the prover leaves.
 use Rattle.std.proofs.Common.{◌∙◌, ap, unwrap_or}
 use Rattle.mk_buffers.specs.Standing.{mark_of}
 use Rattle.mk_sched.proofs.GivingUp.{mark_of_earliest, told_here}

@@ -1,3 +1,4 @@
+-- Answers to the goals of `marks::give_up` that the prover leaves.
 use Rattle.std.proofs.Common.{◌∙◌, ap, refl, sym, is_some, true≢false}
 use Rattle.mk_plan.specs.Journals.{view}
 use Rattle.mk_sched.proofs.GivingUp.{all_given_up}

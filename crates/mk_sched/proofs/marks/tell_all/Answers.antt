@@ -1,3 +1,4 @@
+-- Answers to the goals of `marks::tell_all` that the prover leaves.
 use Rattle.std.proofs.Common.{arith, refl}
 use Rattle.mk_tiers.proofs.Counting.{taken_falls}
 use Rattle.mk_sched.proofs.GivingUp.{told_all, told_more}

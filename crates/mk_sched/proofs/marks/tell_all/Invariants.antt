@@ -1,3 +1,4 @@
+-- The invariants and measures of the loops of `marks::tell_all`.
 use Rattle.std.proofs.Common.{◌≡◌}
 use Rattle.mk_plan.specs.Journals.{View}
 use Rattle.mk_tiers.proofs.Counting.{count_below}

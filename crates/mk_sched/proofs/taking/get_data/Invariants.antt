@@ -1,3 +1,4 @@
+-- The invariants and measures of the loops of `taking::get_data`.
 use Rattle.std.proofs.Common.{◌≡◌, take}
 use Rattle.mk_sched.proofs.taking.get_data.Given as goal
 

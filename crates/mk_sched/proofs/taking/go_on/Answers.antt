@@ -1,3 +1,4 @@
+-- Answers to the goals of `taking::go_on` that the prover leaves.
 use Rattle.std.proofs.Common.{◌≡◌, ◌∙◌, ◌++◌, ◌∷◌, [], Ok, refl, sym, ap, subst}
 use Rattle.std.proofs.lemmas.Bool.{eqb-true}
 use Rattle.mk_base.specs.declared.json.Json.TheVariants as leaf

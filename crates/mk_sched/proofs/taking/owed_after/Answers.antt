@@ -1,3 +1,4 @@
+-- Answers to the goals of `taking::owed_after` that the prover leaves.
 use Rattle.std.proofs.Common.{ap, subst}
 use Rattle.mk_plan.specs.declared.Message.{Message}
 use Rattle.mk_plan.specs.declared.Entry.TheVariants.{Got}

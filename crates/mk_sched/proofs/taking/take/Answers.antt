@@ -1,3 +1,4 @@
+-- Answers to the goals of `taking::take` that the prover leaves.
 use Rattle.std.proofs.Common.{sym, ◌∙◌}
 use Rattle.mk_sched.proofs.Standing.{not_same_number}
 use Rattle.mk_sched.proofs.Arrived.{taken_pushed}

@@ -1,3 +1,4 @@
+-- Answers to the goals of `taking::weigh` that the prover leaves.
 use Rattle.std.proofs.Common.{◌∙◌, ◌++◌, ◌∷◌, [], Some, None, Ok, refl, sym, subst}
 use Rattle.mk_plan.specs.declared.Entry.TheVariants.{Got}
 use Rattle.mk_plan.specs.Journals.{view}

@@ -1,3 +1,4 @@
+-- Answers to the goals of `beginning::begin` that the prover leaves.
 use Rattle.std.proofs.Common.{subst, sym, ap, ◌∙◌}
 use Rattle.mk_nextstep.specs.Queues.{least}
 use Rattle.mk_tiers.specs.Standing.{IsOwn}

@@ -1,3 +1,4 @@
+-- Answers to the goals of `beginning::event_queue` that the prover leaves.
 use Rattle.std.proofs.Common.{◌≡◌, ◌<◌, ℤ, List, [], length, map, fold, get_or, slice_get, Some, pos, ap, sym, ◌∙◌, arith}
 use Rattle.mk_base.specs.Tiers.{moment}
 use Rattle.mk_nextstep.specs.declared.queue.Due.{Due}

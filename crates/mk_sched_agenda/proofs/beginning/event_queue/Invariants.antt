@@ -1,3 +1,4 @@
+-- The invariants and measures of the loops of `beginning::event_queue`.
 use Rattle.std.proofs.Common.{◌≡◌, [], map, fold, take}
 use Rattle.mk_base.specs.Tiers.{moment}
 use Rattle.mk_sched_agenda.specs.inner.Dues.{with_own}

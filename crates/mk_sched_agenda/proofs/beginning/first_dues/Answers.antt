@@ -1,3 +1,4 @@
+-- Answers to the goals of `beginning::first_dues` that the prover leaves.
 use Rattle.std.proofs.Common.{◌≡◌, ◌<◌, ℕ, List, ◌++◌, ◌∷◌, [], length, get_or, subst, ap, ◌∙◌, arith, false}
 use Rattle.mk_plan.specs.declared.PlanSim.{PlanSim}
 use Rattle.mk_nextstep.specs.Queues.{least}

@@ -1,3 +1,4 @@
+-- The invariants and measures of the loops of `beginning::first_dues`.
 use Rattle.std.proofs.Common.{◌≡◌}
 use Rattle.mk_sched_agenda.specs.inner.Begun.{AreBegun, AreNone}
 use Rattle.mk_sched_agenda.proofs.beginning.first_dues.Given as goal

@@ -1,3 +1,4 @@
+-- Answers to the goals of `outlets::add_conn` that the prover leaves.
 use Rattle.std.proofs.Common.{◌<◌, sym, subst, ℕ, refl, length}
 use Rattle.mk_base.proofs.Lists.{all_at}
 use Rattle.mk_plan.specs.declared.Conn.{Conn}

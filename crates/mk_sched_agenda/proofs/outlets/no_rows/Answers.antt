@@ -1,3 +1,4 @@
+-- Answers to the goals of `outlets::no_rows` that the prover leaves.
 use Rattle.std.proofs.Common.{List, [], ◌∷◌, ◌++◌, length, length-append, ap, ◌∙◌, arith}
 use Rattle.mk_sched_agenda.specs.declared.outlets.Outlet.{Outlet}
 use Rattle.mk_sched_agenda.specs.Outlets.{outlets_in}

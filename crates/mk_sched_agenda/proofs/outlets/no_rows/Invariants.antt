@@ -1,3 +1,4 @@
+-- The invariants and measures of the loops of `outlets::no_rows`.
 use Rattle.std.proofs.Common.{◌≡◌, ℕ, length, []}
 use Rattle.mk_sched_agenda.specs.Outlets.{outlets_in}
 use Rattle.mk_sched_agenda.proofs.outlets.no_rows.Given as goal

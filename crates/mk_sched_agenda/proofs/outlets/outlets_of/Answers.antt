@@ -1,3 +1,4 @@
+-- Answers to the goals of `outlets::outlets_of` that the prover leaves.
 use Rattle.std.proofs.Common.{◌≡◌, ℕ, length, subst, ap, arith}
 use Rattle.mk_sched_agenda.specs.inner.Outlets.{AreRowsOf}
 use Rattle.mk_sched_agenda.proofs.Rows.{rows_none}

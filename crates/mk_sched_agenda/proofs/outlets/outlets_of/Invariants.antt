@@ -1,3 +1,4 @@
+-- The invariants and measures of the loops of `outlets::outlets_of`.
 use Rattle.std.proofs.Common.{◌≡◌}
 use Rattle.mk_sched_agenda.specs.inner.Outlets.{AreRowsOf}
 use Rattle.mk_sched_agenda.proofs.outlets.outlets_of.Given as goal

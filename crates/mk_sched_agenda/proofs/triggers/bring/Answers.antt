@@ -1,3 +1,4 @@
+-- Answers to the goals of `triggers::bring` that the prover leaves.
 use Rattle.std.proofs.Common.{◌≡◌, true, false, ◌&&◌, sym, ap, ◌∙◌, subst}
 use Rattle.mk_base.specs.declared.tier.Tier.{Tier}
 use Rattle.mk_base.specs.Tiers.{delayed}

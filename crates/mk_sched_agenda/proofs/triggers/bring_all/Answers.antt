@@ -1,3 +1,4 @@
+-- Answers to the goals of `triggers::bring_all` that the prover leaves.
 use Rattle.std.proofs.Common.{false, take, ◌∙◌}
 use Rattle.mk_sched_agenda.specs.Outlets.{triggering_from}
 use Rattle.mk_tiers.proofs.Noting.{noted_both}

@@ -1,3 +1,4 @@
+-- The invariants and measures of the loops of `triggers::bring_all`.
 use Rattle.std.proofs.Common.{◌≡◌, ℕ, [], false, length, take}
 use Rattle.mk_plan.specs.declared.Plan.{Plan}
 use Rattle.mk_plan.specs.Acts.{Act}

@@ -1,3 +1,4 @@
+-- Answers to the goals of `triggers::first_beyond` that the prover leaves.
 use Rattle.std.proofs.Common.{sym, ◌∙◌}
 use Rattle.mk_sched_agenda.proofs.Ending.{first_none, first_some, first_over}
 use Rattle.mk_sched_agenda.proofs.triggers.first_beyond.Goals as goal

@@ -1,3 +1,4 @@
+-- The invariants and measures of the loops of `triggers::first_beyond`.
 use Rattle.std.proofs.Common.{◌≡◌, drop}
 use Rattle.mk_sched_agenda.specs.inner.Coming.{first_beyond}
 use Rattle.mk_sched_agenda.proofs.triggers.first_beyond.Given as goal

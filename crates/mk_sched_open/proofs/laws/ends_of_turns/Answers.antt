@@ -1,3 +1,4 @@
+-- Answers to the goals of `laws::ends_of_turns` that the prover leaves.
 use Rattle.mk_sched_open.specs.Sims.{free_id}
 use Rattle.mk_sched_open.proofs.OneSim.{fetched_outputs, stepped_contents}
 use Rattle.mk_sched_open.proofs.Every.{opened_turn}

@@ -1,3 +1,4 @@
+-- Answers to the goals of `feeds::add_conn` that the prover leaves.
 use Rattle.std.proofs.Common.{◌≡◌, ◌<◌, refl, sym, ap, ◌∙◌, subst, ℕ, length, List, slice_get, Some, arith}
 use Rattle.std.specs.List.Sorted.{IsStrictlySortedBy}
 use Rattle.mk_base.specs.Lists.{IsIn}

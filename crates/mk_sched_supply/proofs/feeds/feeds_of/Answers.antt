@@ -1,3 +1,4 @@
+-- Answers to the goals of `feeds::feeds_of` that the prover leaves.
 use Rattle.std.proofs.Common.{◌≡◌, ℕ, length, subst, ap, arith}
 use Rattle.mk_sched_supply.specs.inner.Making.{AreFeedsOf}
 use Rattle.mk_sched_supply.proofs.Feeding.{feeds_none}

@@ -1,3 +1,4 @@
+-- The invariants and measures of the loops of `feeds::feeds_of`.
 use Rattle.std.proofs.Common.{◌≡◌}
 use Rattle.mk_sched_supply.specs.inner.Making.{AreFeedsOf}
 use Rattle.mk_sched_supply.proofs.feeds.feeds_of.Given as goal

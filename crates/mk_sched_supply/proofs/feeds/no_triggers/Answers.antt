@@ -1,3 +1,4 @@
+-- Answers to the goals of `feeds::no_triggers` that the prover leaves.
 use Rattle.std.proofs.Common.{◌∙◌, map-id, refl, sym}
 use Rattle.std.proofs.lemmas.Iterator.Adapters.{YieldsList-from_vec}
 use Rattle.std.proofs.lemmas.Iterator.Consumers.{YieldsList-end}

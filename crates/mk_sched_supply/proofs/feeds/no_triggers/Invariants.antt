@@ -1,3 +1,4 @@
+-- The invariants and measures of the loops of `feeds::no_triggers`.
 use Rattle.std.proofs.Common.{◌≡◌, [], map}
 use Rattle.mk_base.specs.Lists.{IsIn}
 use Rattle.mk_sched_supply.specs.declared.feeds.Feed.{Feed}

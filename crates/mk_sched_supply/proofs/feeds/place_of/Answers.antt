@@ -1,3 +1,4 @@
+-- Answers to the goals of `feeds::place_of` that the prover leaves.
 use Rattle.mk_sched_supply.specs.inner.Making.{names_of}
 use Rattle.mk_sched_supply.proofs.Wanting.{found_at, not_missing}
 use Rattle.mk_sched_supply.proofs.feeds.place_of.Goals as goal

@@ -1,3 +1,4 @@
+-- Answers to the goals of `feeds::search` that the prover leaves.
 use Rattle.std.proofs.Common.{rules}
 use Rattle.std.proofs.lemmas.Fn.{always_returns_same}
 use Rattle.mk_plan.specs.Turns.{want_order}

@@ -1,3 +1,4 @@
+-- Answers to the goals of `laws::stock_stays` that the prover leaves.
 use Rattle.mk_sched_supply.proofs.Lasting.{stays_ended, stays_fetching, stays_step}
 use Rattle.mk_sched_supply.proofs.laws.stock_stays.Goals as goal
 

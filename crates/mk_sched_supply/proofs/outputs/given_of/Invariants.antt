@@ -1,3 +1,4 @@
+-- The invariants and measures of the loops of `outputs::given_of`.
 use Rattle.std.proofs.Common.{◌≡◌, map, option_map, take}
 use Rattle.mk_sched_supply.specs.inner.Making.{are_given}
 use Rattle.mk_sched_supply.proofs.outputs.given_of.Given as goal

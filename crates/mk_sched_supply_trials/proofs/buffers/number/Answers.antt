@@ -1,3 +1,4 @@
+-- Answers to the goals of `buffers::number` that the prover leaves.
 use Rattle.std.proofs.Common.{◌≡◌, ℕ, ◌<◌, pos, true, refl, arith, int_le}
 use Rattle.std.specs.Fmt.{decimal}
 use Rattle.std.proofs.lemmas.Int.{ints}

@@ -1,3 +1,4 @@
+-- The invariants and measures of the loops of `bounds::count_so`.
 use Rattle.std.proofs.Common.{◌≡◌, length}
 use Rattle.mk_sched_trials.proofs.bounds.count_so.Given as goal
 

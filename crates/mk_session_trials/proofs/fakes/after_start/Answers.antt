@@ -1,3 +1,4 @@
+-- Answers to the goals of `fakes::after_start` that the prover leaves.
 use Rattle.mk_session_trials.proofs.Opened.{is_open}
 use Rattle.mk_session_trials.proofs.fakes.after_start.Goals as goal
 

@@ -1,3 +1,4 @@
+-- Answers to the goals of `fakes::count_on_first` that the prover leaves.
 use Rattle.mk_session_trials.proofs.Opened.{is_open}
 use Rattle.mk_session_trials.proofs.fakes.count_on_first.Goals as goal
 

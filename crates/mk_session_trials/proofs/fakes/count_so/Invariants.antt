@@ -1,3 +1,4 @@
+-- The invariants and measures of the loops of `fakes::count_so`.
 use Rattle.mk_base.specs.Lists.{IsIn}
 use Rattle.mk_session_trials.proofs.fakes.count_so.Given as goal
 

@@ -1,3 +1,4 @@
+-- Answers to the goals of `sessions::word_on` that the prover leaves.
 use Rattle.mk_session_trials.proofs.Opened.{is_open}
 use Rattle.mk_session_trials.proofs.sessions.word_on.Goals as goal
 

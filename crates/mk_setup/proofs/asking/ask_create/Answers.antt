@@ -1,3 +1,4 @@
+-- Answers to the goals of `asking::ask_create` that the prover leaves.
 use Rattle.mk_setup.proofs.Asked.{create_request}
 use Rattle.mk_setup.proofs.Counting.{group_sim}
 use Rattle.mk_setup.proofs.asking.ask_create.Goals as goal

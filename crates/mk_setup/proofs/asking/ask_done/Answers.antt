@@ -1,3 +1,4 @@
+-- Answers to the goals of `asking::ask_done` that the prover leaves.
 use Rattle.std.proofs.Common.{◌≡◌, ◌∙◌, ◌<◌, None, Some, ap, sym, subst, refl, length}
 use Rattle.mk_plan.specs.declared.Call.TheVariants.{SetupDone}
 use Rattle.mk_setup.specs.Answers.{NextOf}

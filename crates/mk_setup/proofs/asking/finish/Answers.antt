@@ -1,3 +1,4 @@
+-- Answers to the goals of `asking::finish` that the prover leaves.
 use Rattle.std.proofs.Common.{None, refl}
 use Rattle.mk_setup.specs.Kept.{state_of}
 use Rattle.mk_setup.proofs.Asked.{hindered, last_test, plan_hinders, ready}

@@ -1,3 +1,4 @@
+-- The invariants and measures of the loops of `counts::equal_counts`.
 use Rattle.std.proofs.Common.{◌≡◌, replicate}
 use Rattle.mk_setup.proofs.counts.equal_counts.Given as goal
 

@@ -1,3 +1,4 @@
+-- Answers to the goals of `counts::first_ids` that the prover leaves.
 use Rattle.std.proofs.Common.{◌≡◌, ◌<◌, ◌∙◌, ℕ, ap, length, arith, get_or, List, take, replicate}
 use Rattle.mk_scenario.specs.declared.parts.Group.{Group}
 use Rattle.mk_setup.proofs.Counting.{after_length, group_sim, group_small, group_step, group_there, groups_counted, none_counted}

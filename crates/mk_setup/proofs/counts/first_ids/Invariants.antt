@@ -1,3 +1,4 @@
+-- The invariants and measures of the loops of `counts::first_ids`.
 use Rattle.std.proofs.Common.{◌≡◌, length, take}
 use Rattle.mk_setup.proofs.Counting.{counts_after}
 use Rattle.mk_setup.proofs.counts.first_ids.Given as goal

@@ -1,3 +1,4 @@
+-- Answers to the goals of `laws::replies_make` that the prover leaves.
 use Rattle.mk_setup.proofs.laws.replies_make.Goals as goal
 use Rattle.mk_setup.proofs.Making.{replies_make}
 

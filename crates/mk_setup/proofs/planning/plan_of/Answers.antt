@@ -1,3 +1,4 @@
+-- Answers to the goals of `planning::plan_of` that the prover leaves.
 use Rattle.std.proofs.Common.{◌∙◌, None}
 use Rattle.mk_setup.specs.Kept.{state_of}
 use Rattle.mk_setup.proofs.Completing.{plan_result}

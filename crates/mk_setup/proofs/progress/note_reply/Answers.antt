@@ -1,3 +1,4 @@
+-- Answers to the goals of `progress::note_reply` that the prover leaves.
 use Rattle.std.proofs.Common.{arith}
 use Rattle.mk_base.proofs.Lists.{below_get}
 use Rattle.mk_setup.proofs.Counting.{count_small, counted_length, counted_more, few_answered}

@@ -1,3 +1,4 @@
+-- Answers to the goals of `taking::is_awaited` that the prover leaves.
 use Rattle.std.proofs.Common.{◌∙◌, None, ap, sym}
 use Rattle.mk_setup.specs.Kept.{state_of}
 use Rattle.mk_base.specs.declared.SimNo.{SimNo}

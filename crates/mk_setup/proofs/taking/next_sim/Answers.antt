@@ -1,3 +1,4 @@
+-- Answers to the goals of `taking::next_sim` that the prover leaves.
 use Rattle.std.proofs.Common.{sym, refl}
 use Rattle.mk_setup.proofs.Heard.{none_after}
 use Rattle.mk_setup.proofs.Stepping.{to_create, to_done, to_init}

@@ -1,3 +1,4 @@
+-- Answers to the goals of `taking::take` that the prover leaves.
 use Rattle.std.proofs.Common.{◌∙◌, None, sym, refl}
 use Rattle.mk_setup.specs.Kept.{state_of}
 use Rattle.mk_setup.proofs.Heard.{heard, taken_ok, taken_untaken}

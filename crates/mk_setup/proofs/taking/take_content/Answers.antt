@@ -1,3 +1,4 @@
+-- Answers to the goals of `taking::take_content` that the prover leaves.
 use Rattle.std.proofs.Common.{◌≡◌, ◌+◌, ◌≤◌, None, length, option_map, sym, ap, ◌∙◌, arith}
 use Rattle.std.proofs.lemmas.Option.{slice_get_past}
 use Rattle.mk_base.proofs.Lists.{none_some}

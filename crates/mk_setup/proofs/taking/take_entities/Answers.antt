@@ -1,3 +1,4 @@
+-- Answers to the goals of `taking::take_entities` that the prover leaves.
 use Rattle.std.proofs.Common.{◌∙◌, None, ap, sym, subst}
 use Rattle.mk_setup.specs.declared.progress.Progress.{Progress}
 use Rattle.mk_setup.specs.Kept.{state_of}

@@ -1,3 +1,4 @@
+-- Answers to the goals of `handshake::ranks_of` that the prover leaves.
 use Rattle.std.proofs.Common.{◌≡◌, ℕ, List, ◌∙◌, subst}
 use Rattle.mk_cycles.specs.Edges.{has_edge}
 use Rattle.mk_cycles.specs.Orders.{IsRanking}

@@ -1,3 +1,4 @@
+-- Answers to the goals of `gathering::inputs_by` that the prover leaves.
 use Rattle.std.proofs.Common.{◌≡◌, ◌++◌, true, false, sym, ap, ◌∙◌, arith}
 use Rattle.mk_simapi.specs.inner.Inputs.{inputs_among}
 use Rattle.mk_simapi.proofs.Forming.{inputs_gathered, inputs_none, inputs_pass}

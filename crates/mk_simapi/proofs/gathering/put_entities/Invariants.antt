@@ -1,3 +1,4 @@
+-- The invariants and measures of the loops of `gathering::put_entities`.
 use Rattle.std.proofs.Common.{◌≡◌, ◌++◌, take}
 use Rattle.mk_simapi.specs.inner.Inputs.{inputs_among}
 use Rattle.mk_simapi.proofs.gathering.put_entities.Given as goal

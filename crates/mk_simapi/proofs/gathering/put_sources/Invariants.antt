@@ -1,3 +1,4 @@
+-- The invariants and measures of the loops of `gathering::put_sources`.
 use Rattle.std.proofs.Common.{◌≡◌, ◌++◌, take}
 use Rattle.mk_simapi.specs.inner.Inputs.{inputs_at}
 use Rattle.mk_simapi.proofs.gathering.put_sources.Given as goal

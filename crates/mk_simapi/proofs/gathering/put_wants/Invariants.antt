@@ -1,3 +1,4 @@
+-- The invariants and measures of the loops of `gathering::put_wants`.
 use Rattle.std.proofs.Common.{◌≡◌, ◌++◌, take}
 use Rattle.mk_simapi.specs.inner.Inputs.{wants_at}
 use Rattle.mk_simapi.proofs.gathering.put_wants.Given as goal

@@ -1,3 +1,4 @@
+-- Answers to the goals of `gathering::wants_by` that the prover leaves.
 use Rattle.std.proofs.Common.{◌≡◌, ◌++◌, true, false, sym, ap, ◌∙◌, arith}
 use Rattle.mk_simapi.specs.inner.Inputs.{wants_among}
 use Rattle.mk_simapi.proofs.Forming.{wants_gathered, wants_none}

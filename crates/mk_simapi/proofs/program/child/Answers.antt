@@ -1,3 +1,4 @@
+-- Answers to the goals of `program::child` that the prover leaves.
 use Rattle.std.proofs.Common.{inr, sym, ap, ◌∙◌, ℕ, List, option_map, map, string_bytes}
 use Rattle.mk_local.specs.Registries.{rows_in}
 use Rattle.mk_simapi.specs.Children.{asked}

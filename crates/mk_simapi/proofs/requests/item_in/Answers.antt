@@ -1,3 +1,4 @@
+-- Answers to the goals of `requests::item_in` that the prover leaves.
 use Rattle.std.proofs.Common.{codes, ◌∙◌}
 use Rattle.mk_simapi.proofs.Answering.{differs, neither}
 use Rattle.mk_simapi.proofs.requests.item_in.Goals as goal

@@ -1,3 +1,4 @@
+-- The invariants and measures of the loops of `serving::serve`.
 use Rattle.std.proofs.Common.{◌≡◌, ◌≤◌}
 use Rattle.mk_base.specs.Lists.{IsIn}
 use Rattle.mk_local.specs.Registries.{rows_in}

@@ -1,3 +1,4 @@
+-- Answers to the goals of `links::waiting_wires` that the prover leaves.
 use Rattle.mk_tiers.proofs.Wiring.{wires_more, wires_all, wires_whole}
 use Rattle.mk_tiers.proofs.links.waiting_wires.Goals as goal
 

@@ -1,3 +1,4 @@
+-- Answers to the goals of `outer::is_alone` that the prover leaves.
 use Rattle.std.proofs.Common.{◌≡◌, ℕ, slice_index, ap, ◌∙◌, arith, inl, inr}
 use Rattle.std.proofs.lemmas.Bool.{cases_lt}
 use Rattle.mk_tiers.proofs.outer.is_alone.Goals as goal

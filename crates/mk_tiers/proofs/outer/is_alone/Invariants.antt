@@ -1,3 +1,4 @@
+-- The invariants and measures of the loops of `outer::is_alone`.
 use Rattle.std.proofs.Common.{◌≡◌, ℕ, ◌<◌, slice_index}
 use Rattle.mk_tiers.specs.Times.{never}
 use Rattle.mk_tiers.proofs.outer.is_alone.Given as goal

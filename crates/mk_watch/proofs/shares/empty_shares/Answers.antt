@@ -1,3 +1,4 @@
+-- Answers to the goals of `shares::empty_shares` that the prover leaves.
 use Rattle.std.proofs.Common.{ap, map}
 use Rattle.mk_watch.proofs.Shared.{none_yet, one_empty}
 use Rattle.mk_watch.proofs.shares.empty_shares.Goals as goal

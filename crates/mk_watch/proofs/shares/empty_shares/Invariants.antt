@@ -1,3 +1,4 @@
+-- The invariants and measures of the loops of `shares::empty_shares`.
 use Rattle.std.proofs.Common.{[], map}
 use Rattle.mk_watch.specs.inner.Shares.{AreShares}
 use Rattle.mk_watch.proofs.shares.empty_shares.Given as goal

@@ -1,3 +1,4 @@
+-- Answers to the goals of `shares::note` that the prover leaves.
 use Rattle.std.proofs.Common.{◌++◌, ◌∷◌, [], map, subst, sym}
 use Rattle.mk_plan.specs.declared.Entry.{Entry}
 use Rattle.mk_watch.specs.inner.Shares.{AreShares}

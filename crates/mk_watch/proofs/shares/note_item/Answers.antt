@@ -1,3 +1,4 @@
+-- Answers to the goals of `shares::note_item` that the prover leaves.
 use Rattle.std.proofs.Common.{◌∙◌, ap, length, ◌<◌, ◌≤◌, map, arith}
 use Rattle.mk_base.proofs.Lists.{map_append}
 use Rattle.mk_watch.proofs.Shared.{noted, passed_by}

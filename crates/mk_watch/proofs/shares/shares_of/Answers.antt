@@ -1,3 +1,4 @@
+-- Answers to the goals of `shares::shares_of` that the prover leaves.
 use Rattle.std.proofs.Common.{◌∷◌, [], ◌++◌, List, subst, sym, ap, ◌∙◌, take, map}
 use Rattle.std.proofs.lemmas.List.{take_more}
 use Rattle.mk_plan.specs.declared.Entry.{Entry}

@@ -1,3 +1,4 @@
+-- The invariants and measures of the loops of `shares::shares_of`.
 use Rattle.std.proofs.Common.{take, map}
 use Rattle.mk_watch.specs.inner.Shares.{AreShares}
 use Rattle.mk_watch.proofs.shares.shares_of.Given as goal

@@ -1,3 +1,4 @@
+-- The invariants and measures of the loops of `tables::put_rows`.
 use Rattle.std.proofs.Common.{map}
 use Rattle.mk_watch.proofs.Gathering.{IsSoFar}
 use Rattle.mk_watch.proofs.tables.put_rows.Given as goal

@@ -1,3 +1,4 @@
+-- Answers to the goals of `tables::put_table` that the prover leaves.
 use Rattle.std.proofs.Common.{◌≡◌, ◌∙◌, ◌++◌, ◌<◌, List, ℕ, ap, arith, length, map}
 use Rattle.mk_plan.specs.Journals.{sent}
 use Rattle.mk_plan.specs.Plans.{sim_count, owner}

@@ -1,3 +1,4 @@
+-- Answers to the goals of `tables::put_watched` that the prover leaves.
 use Rattle.std.proofs.Common.{map}
 use Rattle.mk_watch.proofs.Written.{on_ok, table_is}
 use Rattle.mk_watch.proofs.tables.put_watched.Goals as goal

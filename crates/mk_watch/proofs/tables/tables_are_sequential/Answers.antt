@@ -1,3 +1,4 @@
+-- Answers to the goals of `tables::tables_are_sequential` that the prover leaves.
 use Rattle.mk_watch.proofs.Whole.{same_tables}
 use Rattle.mk_watch.proofs.tables.tables_are_sequential.Goals as goal
 

@@ -1,3 +1,4 @@
+-- Answers to the goals of `tables::write_tables` that the prover leaves.
 use Rattle.std.proofs.Common.{List, subst, length, ◌<◌, ◌∙◌, ap, get_or, map}
 use Rattle.mk_watch_read.specs.declared.watches.Watch.{Watch}
 use Rattle.mk_plan.specs.Journals.{sent}

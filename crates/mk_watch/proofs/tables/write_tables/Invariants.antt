@@ -1,3 +1,4 @@
+-- The invariants and measures of the loops of `tables::write_tables`.
 use Rattle.std.proofs.Common.{◌≡◌, take}
 use Rattle.mk_plan.specs.Journals.{sent}
 use Rattle.mk_watch_read.specs.Rules.{folds_in, names_in}

@@ -1,3 +1,4 @@
+-- Answers to the goals of `values::folded` that the prover leaves.
 use Rattle.std.proofs.Common.{◌≤◌, List, length, subst}
 use Rattle.mk_plan.specs.declared.Input.{Input}
 use Rattle.mk_watch.proofs.Gathering.{value_all}

@@ -1,3 +1,4 @@
+-- The invariants and measures of the loops of `values::folded`.
 use Rattle.std.proofs.Common.{◌≡◌, take}
 use Rattle.mk_watch.proofs.Gathering.{value_after}
 use Rattle.mk_watch.proofs.values.folded.Given as goal

@@ -1,3 +1,4 @@
+-- Answers to the goals of `watches::read_watches` that the prover leaves.
 use Rattle.std.proofs.Common.{◌≡◌, ℕ, ◌∙◌, ap, IfOk, Option, Some, Result, Ok, Err, length, List}
 use Rattle.mk_base.specs.declared.json.Json.{Json}
 use Rattle.mk_base.specs.Verdicts.{after_found}

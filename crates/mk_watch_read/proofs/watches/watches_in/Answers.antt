@@ -1,3 +1,4 @@
+-- Answers to the goals of `watches::watches_in` that the prover leaves.
 use Rattle.std.proofs.Common.{◌≡◌, ◌<◌, ◌≤◌, IfErr, Result, length, ◌+◌, List, arith, sym, subst}
 use Rattle.std.proofs.lemmas.Result.{err_from_is_err_and}
 use Rattle.mk_plan.specs.declared.Plan.{Plan}

@@ -1,3 +1,4 @@
+-- The invariants and measures of the loops of `watches::watches_in`.
 use Rattle.mk_plan.specs.declared.Plan.{Plan}
 use Rattle.mk_plan_names.specs.Names.{AreNamesOf}
 use Rattle.mk_watch_read.specs.Rules.{names_in}

@@ -1,3 +1,4 @@
+-- Answers to the goals of `blaming::blamed` that the prover leaves.
 use Rattle.std.proofs.Common.{map}
 use Rattle.mk_record.specs.Seen.{came}
 use Rattle.mosaikrun_blame.proofs.Comparing.{known_here, replays_here, valid_here, whole_here}

@@ -1,3 +1,4 @@
+-- Answers to the goals of `blaming::compared_with` that the prover leaves.
 use Rattle.std.proofs.Common.{map, Ok, Err, ap, ◌∙◌}
 use Rattle.std.proofs.lemmas.Result.{err_from_is_err_and, IfErr-weaker, IfOk-weaker}
 use Rattle.mk_record.specs.Seen.{came}

@@ -1,3 +1,4 @@
+-- Answers to the goals of `blaming::verdict_text` that the prover leaves.
 use Rattle.mosaikrun_blame.proofs.Limit.{whole_of_same}
 use Rattle.mosaikrun_blame.proofs.Writable.{writable}
 use Rattle.mosaikrun_blame.proofs.blaming.verdict_text.Goals as goal

@@ -1,3 +1,4 @@
+-- Answers to the goals of `checking::checked` that the prover leaves.
 use Rattle.std.proofs.Common.{◌∙◌, ap}
 use Rattle.mosaikrun_check.specs.CheckText.{check_text}
 use Rattle.mosaikrun_check.proofs.checking.checked.Goals as goal

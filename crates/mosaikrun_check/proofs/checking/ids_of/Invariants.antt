@@ -1,3 +1,4 @@
+-- The invariants and measures of the loops of `checking::ids_of`.
 use Rattle.std.proofs.Common.{◌≡◌, take, map}
 use Rattle.mk_base.specs.declared.SimNo.{SimNo}
 use Rattle.mosaikrun_check.specs.CheckText.{id_at}

@@ -1,3 +1,4 @@
+-- Answers to the goals of `checking::ranked` that the prover leaves.
 use Rattle.std.proofs.Common.{◌≡◌, ℕ, List, ◌∙◌, ap, inl, inr, refl, subst}
 use Rattle.mk_cycles.specs.Cycles.{IsCycle}
 use Rattle.mk_cycles.specs.Edges.{has_edge}

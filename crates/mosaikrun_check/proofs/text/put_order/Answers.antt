@@ -1,3 +1,4 @@
+-- Answers to the goals of `text::put_order` that the prover leaves.
 use Rattle.std.proofs.Common.{◌≡◌, ℕ, List, ◌∷◌, [], ◌++◌, ◌∙◌, ap, sym, append_assoc}
 use Rattle.mosaikrun_check.specs.CheckText.{id_at, ids_by_rank, sim_of_rank}
 use Rattle.mosaikrun_check.proofs.Ranges.{joined_one_more}

@@ -1,3 +1,4 @@
+-- The invariants and measures of the loops of `text::put_order`.
 use Rattle.std.proofs.Common.{◌≡◌, ◌++◌}
 use Rattle.mosaikrun_check.specs.CheckText.{ids_by_rank}
 use Rattle.mosaikrun_check.proofs.text.put_order.Given as goal

@@ -1,3 +1,4 @@
+-- Answers to the goals of `laws::no_link_is_named` that the prover leaves.
 use Rattle.mosaikrun_demo.proofs.NoLinks.{outcome_not}
 use Rattle.mosaikrun_demo.proofs.laws.no_link_is_named.Goals as goal
 

@@ -1,3 +1,4 @@
+-- Answers to the goals of `summing::summed` that the prover leaves.
 use Rattle.std.proofs.Common.{List, [], Ok, Err, refl, sym, ap, ◌∙◌, option_map, subst}
 use Rattle.std.specs.Prelude.{IfErr}
 use Rattle.std.proofs.lemmas.Result.{err_from_is_err_and}

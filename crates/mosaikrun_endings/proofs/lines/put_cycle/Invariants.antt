@@ -1,3 +1,4 @@
+-- The invariants and measures of the loops of `lines::put_cycle`.
 use Rattle.std.proofs.Common.{◌≡◌, ◌∷◌, ◌++◌, take}
 use Rattle.std.specs.Prelude.{codes, flat_map}
 use Rattle.mosaikrun_endings.proofs.lines.put_cycle.Given as goal

@@ -1,3 +1,4 @@
+-- Answers to the goals of `pacing::paced_ran` that the prover leaves.
 use Rattle.std.proofs.Common.{[], Ok, Err, refl, option_map}
 use Rattle.mk_local.specs.Registries.{rows_in}
 use Rattle.mk_outside.proofs.OnLogs.{adds_none}

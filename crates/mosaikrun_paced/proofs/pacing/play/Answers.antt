@@ -1,3 +1,4 @@
+-- Answers to the goals of `pacing::play` that the prover leaves.
 use Rattle.std.proofs.Common.{[], refl}
 use Rattle.mk_local.specs.Registries.{rows_in}
 use Rattle.mk_outside.proofs.OnLogs.{adds_none}

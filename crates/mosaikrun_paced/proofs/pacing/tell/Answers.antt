@@ -1,3 +1,4 @@
+-- Answers to the goals of `pacing::tell` that the prover leaves.
 use Rattle.mosaikrun_run.proofs.Telling.{said_ending, said_text}
 use Rattle.mosaikrun_paced.specs.Sayings.{pace_saying}
 use Rattle.mosaikrun_paced.proofs.pacing.tell.Goals as goal

@@ -1,3 +1,4 @@
+-- Answers to the goals of `commands::made` that the prover leaves.
 use Rattle.std.proofs.Common.{◌≡◌, inl, inr, sym, subst, Ok, Err}
 use Rattle.std.specs.Prelude.{IfOk, IfErr}
 use Rattle.mk_local.specs.Registries.{rows_in}

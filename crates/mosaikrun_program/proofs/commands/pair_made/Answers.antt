@@ -1,3 +1,4 @@
+-- Answers to the goals of `commands::pair_made` that the prover leaves.
 use Rattle.std.proofs.Common.{inl, inr, sym, subst, Ok, Err}
 use Rattle.mk_outside.specs.Counts.{HasRisen}
 use Rattle.mosaikrun_words.specs.declared.request.FileCommand.TheVariants.{Pair}

@@ -1,3 +1,4 @@
+-- Answers to the goals of `commands::watch_files` that the prover leaves.
 use Rattle.std.proofs.Common.{◌≡◌, ℕ, List, inl, inr, map, sym, ap, ◌∙◌, subst, Option, Ok, Err}
 use Rattle.std.proofs.lemmas.Result.{err_from_is_err_and}
 use Rattle.mk_outside.specs.Counts.{HasRisen}

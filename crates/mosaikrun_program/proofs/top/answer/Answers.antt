@@ -1,3 +1,4 @@
+-- Answers to the goals of `top::answer` that the prover leaves.
 use Rattle.std.proofs.Common.{◌≡◌, [], inl, inr, arith, refl, sym, ap, ◌∙◌, subst, map, Result, Err}
 use Rattle.std.specs.String.{string_bytes}
 use Rattle.std.proofs.lemmas.Result.{err_from_is_err_and}

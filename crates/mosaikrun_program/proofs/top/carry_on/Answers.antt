@@ -1,3 +1,4 @@
+-- Answers to the goals of `top::carry_on` that the prover leaves.
 use Rattle.std.proofs.Common.{◌≡◌, List, [], ℕ, inl, inr, refl, sym, ap, ◌∙◌, subst, map, Ok, Result, Err, option_map}
 use Rattle.std.proofs.lemmas.Result.{err_from_is_err_and}
 use Rattle.mk_outside.specs.declared.fleet.LogEntry.{LogEntry}

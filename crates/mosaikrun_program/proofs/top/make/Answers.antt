@@ -1,3 +1,4 @@
+-- Answers to the goals of `top::make` that the prover leaves.
 use Rattle.std.proofs.Common.{◌≡◌, List, ℕ, None, Option, Ok, refl, subst}
 use Rattle.mk_local.specs.Registries.{rows_in}
 use Rattle.mosaikrun_program.specs.Answers.{PrintAnswer, TextAnswer}

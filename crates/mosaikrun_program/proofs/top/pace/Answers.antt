@@ -1,3 +1,4 @@
+-- Answers to the goals of `top::pace` that the prover leaves.
 use Rattle.std.proofs.Common.{List, [], ℕ, inl, inr, refl, sym, ap, ◌∙◌, subst, Result, Err, option_map, Option, ◌≤◌}
 use Rattle.std.specs.Prelude.{IfSome}
 use Rattle.std.proofs.lemmas.Result.{err_from_is_err_and}

@@ -1,3 +1,4 @@
+-- Answers to the goals of `top::program` that the prover leaves.
 use Rattle.std.proofs.Common.{Ok, Err, arith, refl, sym, ◌∙◌, map, subst}
 use Rattle.std.specs.String.{string_bytes}
 use Rattle.mk_local.specs.Registries.{rows_in}

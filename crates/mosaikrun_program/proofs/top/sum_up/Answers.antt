@@ -1,3 +1,4 @@
+-- Answers to the goals of `top::sum_up` that the prover leaves.
 use Rattle.std.proofs.Common.{[], inl, refl, sym, ap, ◌∙◌, subst, None, Result, Ok, Err}
 use Rattle.std.proofs.lemmas.Result.{err_from_is_err_and}
 use Rattle.mk_local.specs.Registries.{rows_in}

@@ -1,3 +1,4 @@
+-- Answers to the goals of `top::tell` that the prover leaves.
 use Rattle.std.proofs.Common.{ℕ, List, ◌⊎◌, inl, inr, refl, subst, ◌∙◌}
 use Rattle.mk_outside.specs.Counts.{HasRisen}
 use Rattle.mosaikrun_endings.specs.declared.ending.Ending.TheVariants.{Mem}

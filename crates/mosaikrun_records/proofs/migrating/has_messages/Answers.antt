@@ -1,3 +1,4 @@
+-- Answers to the goals of `migrating::has_messages` that the prover leaves.
 use Rattle.std.proofs.Common.{List, ℕ, ◌==◌, length, ap, ◌∙◌}
 use Rattle.mk_plan.specs.declared.Entry.{Entry}
 use Rattle.mk_plan.specs.Journals.{arrivals}

@@ -1,3 +1,4 @@
+-- Answers to the goals of `migrating::message_count` that the prover leaves.
 use Rattle.std.proofs.Common.{List, length, ap, ◌∙◌, arith}
 use Rattle.std.proofs.lemmas.List.{take_all}
 use Rattle.mk_plan.specs.declared.Entry.{Entry}

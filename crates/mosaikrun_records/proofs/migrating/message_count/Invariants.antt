@@ -1,3 +1,4 @@
+-- The invariants and measures of the loops of `migrating::message_count`.
 use Rattle.std.proofs.Common.{◌≡◌, ◌≤◌, length, take}
 use Rattle.mk_plan.specs.Journals.{arrivals}
 use Rattle.mosaikrun_records.proofs.migrating.message_count.Given as goal

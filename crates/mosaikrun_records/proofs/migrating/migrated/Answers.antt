@@ -1,3 +1,4 @@
+-- Answers to the goals of `migrating::migrated` that the prover leaves.
 use Rattle.std.proofs.Common.{map, arith}
 use Rattle.mk_record.specs.Seen.{came}
 use Rattle.mosaikrun_records.proofs.Keeping.{all_came, all_writable, record_done, record_fault, record_short, some_missing, stopped_early, unread_unmigrated}

@@ -1,3 +1,4 @@
+-- Answers to the goals of `replaying::reported` that the prover leaves.
 use Rattle.std.proofs.Common.{map, arith}
 use Rattle.mk_record.specs.Seen.{came}
 use Rattle.mosaikrun_records.proofs.WholeRuns.{report_done, unfinished_unreported, unread_unreported}

@@ -1,3 +1,4 @@
+-- Answers to the goals of `saved::all_done` that the prover leaves.
 use Rattle.mosaikrun_records.proofs.WholeRuns.{said_other, said_short}
 use Rattle.mosaikrun_records.proofs.saved.all_done.Goals as goal
 

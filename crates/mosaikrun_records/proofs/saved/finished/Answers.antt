@@ -1,3 +1,4 @@
+-- Answers to the goals of `saved::finished` that the prover leaves.
 use Rattle.std.proofs.Common.{map, Err, ap, ◌∙◌}
 use Rattle.std.proofs.lemmas.Result.{err_from_is_err_and}
 use Rattle.mk_record.specs.Seen.{came}

@@ -1,3 +1,4 @@
+-- Answers to the goals of `resuming::tell_recorded` that the prover leaves.
 use Rattle.mosaikrun_run.proofs.Telling.{said_ending, said_text}
 use Rattle.mosaikrun_resume.specs.Sayings.{resume_saying}
 use Rattle.mosaikrun_resume.proofs.resuming.tell_recorded.Goals as goal

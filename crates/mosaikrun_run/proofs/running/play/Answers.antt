@@ -1,3 +1,4 @@
+-- Answers to the goals of `running::play` that the prover leaves.
 use Rattle.std.proofs.Common.{None, Ok, Err, refl}
 use Rattle.std.specs.Prelude.{option_map}
 use Rattle.mk_local.specs.Registries.{rows_in}

@@ -1,3 +1,4 @@
+-- Answers to the goals of `running::tell` that the prover leaves.
 use Rattle.mosaikrun_run.specs.Sayings.{saying_of}
 use Rattle.mosaikrun_run.proofs.Telling.{said_ending, said_text}
 use Rattle.mosaikrun_run.proofs.running.tell.Goals as goal

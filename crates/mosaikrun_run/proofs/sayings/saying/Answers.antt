@@ -1,3 +1,4 @@
+-- Answers to the goals of `sayings::saying` that the prover leaves.
 use Rattle.std.proofs.Common.{Err, sym, ap, ◌∙◌, inl}
 use Rattle.mosaikrun_run.specs.Sayings.{saying_of}
 use Rattle.mosaikrun_run.proofs.Halting.{halt_of_rest, said_of_halt}

@@ -1,3 +1,4 @@
+-- The invariants and measures of the loops of `sayings::ids_of`.
 use Rattle.std.proofs.Common.{◌≡◌, take, map}
 use Rattle.mk_scenario.specs.declared.parts.SimPart.{SimPart}
 use Rattle.mosaikrun_sayings.proofs.sayings.ids_of.Given as goal

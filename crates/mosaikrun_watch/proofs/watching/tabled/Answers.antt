@@ -1,3 +1,4 @@
+-- Answers to the goals of `watching::tabled` that the prover leaves.
 use Rattle.std.proofs.Common.{map}
 use Rattle.mk_record.specs.Seen.{came}
 use Rattle.mk_watch_read.specs.Rules.{folds_in, names_in}

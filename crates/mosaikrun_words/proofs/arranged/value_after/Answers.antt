@@ -1,3 +1,4 @@
+-- Answers to the goals of `arranged::value_after` that the prover leaves.
 use Rattle.mosaikrun_words.proofs.Spelled.{after_found}
 use Rattle.mosaikrun_words.proofs.arranged.value_after.Goals as goal
 

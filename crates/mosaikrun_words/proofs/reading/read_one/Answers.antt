@@ -1,3 +1,4 @@
+-- Answers to the goals of `reading::read_one` that the prover leaves.
 use Rattle.std.proofs.Common.{[], ◌∷◌, codes}
 use Rattle.clap.specs.Words.{app_of, first_value, found_of}
 use Rattle.mosaikrun_words.specs.inner.Apps.{one_app}

@@ -1,3 +1,4 @@
+-- Answers to the goals of `reading::read_two` that the prover leaves.
 use Rattle.std.proofs.Common.{◌≡◌, [], ◌∷◌, codes}
 use Rattle.clap.specs.Words.{app_of}
 use Rattle.mosaikrun_words.specs.inner.Apps.{two_app}

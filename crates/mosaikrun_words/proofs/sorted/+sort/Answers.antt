@@ -1,3 +1,4 @@
+-- Answers to the goals of `sorted::+sort` that the prover leaves.
 use Rattle.std.proofs.Common.{Global, map, ap, ◌∙◌, sym, take, drop, length, ◌-◌, option_map}
 use Rattle.std.specs.String.{string_bytes}
 use Rattle.mosaikrun_words.specs.inner.Sorted.{named, seen, single, sorted_of}

@@ -1,3 +1,4 @@
+-- The invariants and measures of the loops of `sorted::+sort`.
 use Rattle.std.proofs.Common.{length}
 use Rattle.mosaikrun_words.proofs.sorted.+sort.Given as goal
 

@@ -1,3 +1,4 @@
+-- Answers to the goals of `sorted::few_sorted` that the prover leaves.
 use Rattle.std.proofs.Common.{Global, map, length, ◌<◌, arith, sym, subst}
 use Rattle.std.specs.String.{string_bytes}
 use Rattle.std.proofs.lemmas.List.{length-map}

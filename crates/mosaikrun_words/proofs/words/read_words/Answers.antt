@@ -1,3 +1,4 @@
+-- Answers to the goals of `words::read_words` that the prover leaves.
 use Rattle.std.proofs.Common.{◌≡◌, ◌↔◌, Option, Some, map, sym, subst}
 use Rattle.std.proofs.lemmas.Result.{IfOk-weaker}
 use Rattle.std.specs.String.{string_bytes}

@@ -1,3 +1,4 @@
+-- The invariants and measures of the loops of `words::request_among`.
 use Rattle.std.proofs.Common.{◌≡◌, drop, map}
 use Rattle.std.specs.String.{string_bytes}
 use Rattle.mosaikrun_words.specs.inner.Asked.{request_among}

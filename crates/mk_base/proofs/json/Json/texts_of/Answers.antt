@@ -1,3 +1,4 @@
+-- Answers to the goals of `json::Json::texts_of` that the prover leaves.
 use Rattle.std.proofs.Common.{arith}
 use Rattle.mk_base.specs.Trees.{text_in}
 use Rattle.mk_base.proofs.Gathering.{is_missing, more_there}

@@ -1,3 +1,4 @@
+-- Answers to the goals of `members::Members::put` that the prover leaves.
 use Rattle.mk_base.proofs.Putting.{put_keeps}
 use Rattle.mk_base.proofs.members.Members.put.Goals as goal
 

@@ -1,3 +1,4 @@
+-- Answers to the goals of `buffers::Buffers::deliver` that the prover leaves.
 use Rattle.std.proofs.Common.{sym, ◌∙◌, true≢false}
 use Rattle.mk_buffers.proofs.buffers.Buffers.deliver.Goals as goal
 

@@ -1,3 +1,4 @@
+-- Answers to the goals of `buffers::Buffers::deliver_to` that the prover leaves.
 use Rattle.std.proofs.Common.{arith}
 use Rattle.mk_plan_judge.proofs.Putting.{on_ok}
 use Rattle.mk_buffers.proofs.Standing.{stands_delivered, key_below}

@@ -1,3 +1,4 @@
+-- Answers to the goals of `buffers::Buffers::first_outlet` that the prover leaves.
 use Rattle.std.proofs.Common.{sym, ap, ◌∙◌, slice_get}
 use Rattle.mk_buffers_log.proofs.Places.{get_some}
 use Rattle.mk_buffers.proofs.buffers.Buffers.first_outlet.Goals as goal

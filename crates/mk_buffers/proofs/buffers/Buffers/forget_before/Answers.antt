@@ -1,3 +1,4 @@
+-- Answers to the goals of `buffers::Buffers::forget_before` that the prover leaves.
 use Rattle.std.proofs.Common.{arith}
 use Rattle.mk_buffers.proofs.Standing.{has_raised}
 use Rattle.mk_buffers.proofs.buffers.Buffers.forget_before.Goals as goal

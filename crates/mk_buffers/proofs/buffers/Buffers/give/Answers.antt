@@ -1,3 +1,4 @@
+-- Answers to the goals of `buffers::Buffers::give` that the prover leaves.
 use Rattle.std.proofs.Common.{subst}
 use Rattle.mk_buffers.specs.inner.Standing.{TargetOf}
 use Rattle.mk_plan_judge.proofs.Putting.{on_ok}

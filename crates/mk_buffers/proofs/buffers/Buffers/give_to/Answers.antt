@@ -1,3 +1,4 @@
+-- Answers to the goals of `buffers::Buffers::give_to` that the prover leaves.
 use Rattle.std.proofs.Common.{[], pos, Option, refl, sym, ap, subst, unwrap_or}
 use Rattle.mk_base.specs.declared.tier.Tier.{Tier}
 use Rattle.mk_base.specs.Tiers.{moment}

@@ -1,3 +1,4 @@
+-- Answers to the goals of `buffers::Buffers::inputs_at` that the prover leaves.
 use Rattle.std.proofs.Common.{arith}
 use Rattle.mk_buffers_log.proofs.Places.{get_some}
 use Rattle.mk_buffers.proofs.Gathering.{from_mark, gathered_sorted, inputs_are}

@@ -1,3 +1,4 @@
+-- Answers to the goals of `buffers::Buffers::kept` that the prover leaves.
 use Rattle.std.proofs.Common.{arith}
 use Rattle.mk_buffers.proofs.Bounding.{held_most}
 use Rattle.mk_buffers.proofs.buffers.Buffers.kept.Goals as goal

@@ -1,3 +1,4 @@
+-- Answers to the goals of `buffers::Buffers::last_for` that the prover leaves.
 use Rattle.std.proofs.Common.{◌≡◌, Some, ℤ, arith, sym, ap, ◌∙◌, slice_get}
 use Rattle.std.proofs.lemmas.Int.{ints}
 use mir.Syntax.{w64}

@@ -1,3 +1,4 @@
+-- Answers to the goals of `buffers::Buffers::new` that the prover leaves.
 use Rattle.std.proofs.Common.{subst}
 use Rattle.mk_buffers.specs.inner.Listing.{AreTargets}
 use Rattle.mk_buffers.specs.inner.Standing.{AreHomes}

@@ -1,3 +1,4 @@
+-- Answers to the goals of `buffers::Buffers::note` that the prover leaves.
 use Rattle.std.proofs.Common.{sym, ap, subst, ◌∙◌, refl, Option}
 use Rattle.mk_base.specs.declared.tier.Tier.{Tier}
 use Rattle.mk_buffers_log.specs.Logs.{IsFew, StaysFew, is_due}

@@ -1,3 +1,4 @@
+-- Answers to the goals of `buffers::Buffers::of_tables` that the prover leaves.
 use Rattle.std.proofs.Common.{refl, arith}
 use Rattle.std.proofs.lemmas.Int.{ints}
 use Rattle.mk_buffers.proofs.Founding.{founded}

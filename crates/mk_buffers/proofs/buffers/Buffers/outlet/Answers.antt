@@ -1,3 +1,4 @@
+-- Answers to the goals of `buffers::Buffers::outlet` that the prover leaves.
 use Rattle.std.proofs.Common.{sym, ap, ◌∙◌, subst, slice_get}
 use Rattle.std.specs.Prelude.{IfSome}
 use Rattle.mk_buffers.specs.inner.Held.{IsKeyAt}

@@ -1,3 +1,4 @@
+-- Answers to the goals of `buffers::Buffers::raise` that the prover leaves.
 use Rattle.std.proofs.Common.{arith, ◌≡◌, ◌∙◌, refl, sym, ap, subst, length}
 use Rattle.mk_base.specs.Tiers.{IsUpTo}
 use Rattle.mk_buffers.specs.Marking.{Marked, IsLeastMark}

@@ -1,3 +1,4 @@
+-- The invariants and measures of the loops of `buffers::Buffers::raise`.
 use Rattle.mk_buffers.specs.Standing.{IsSwept}
 use Rattle.mk_buffers.specs.inner.Standing.{HasThinned}
 use Rattle.mk_buffers.proofs.buffers.Buffers.raise.Given as goal

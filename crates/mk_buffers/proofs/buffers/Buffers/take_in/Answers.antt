@@ -1,3 +1,4 @@
+-- Answers to the goals of `buffers::Buffers::take_in` that the prover leaves.
 use Rattle.std.proofs.Common.{subst}
 use Rattle.mk_base.specs.declared.tier.Tier.{Tier}
 use Rattle.mk_buffers.specs.inner.Held.{HasTaken}

@@ -1,3 +1,4 @@
+-- Answers to the goals of `buffers::Buffers::value_at` that the prover leaves.
 use Rattle.std.proofs.Common.{◌∙◌}
 use Rattle.mk_buffers.proofs.Standing.{value_found, value_texts}
 use Rattle.mk_buffers.proofs.buffers.Buffers.value_at.Goals as goal

@@ -1,3 +1,4 @@
+-- Answers to the goals of `marks::Marks::new` that the prover leaves.
 use Rattle.std.proofs.Common.{arith, refl, subst, length}
 use Rattle.mk_buffers.specs.inner.Marking.{IsBest}
 use Rattle.mk_buffers.proofs.Marking.{low_starts, holds_starts, exact_of}

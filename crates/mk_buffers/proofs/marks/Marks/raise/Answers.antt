@@ -1,3 +1,4 @@
+-- Answers to the goals of `marks::Marks::raise` that the prover leaves.
 use Rattle.std.proofs.Common.{◌∙◌, ◌<◌, arith, subst, sym, List, Bool, length, false, slice_set}
 use Rattle.mk_base.specs.declared.tier.Tier.{Tier}
 use Rattle.mk_buffers.specs.Marking.{Marked, IsLow}

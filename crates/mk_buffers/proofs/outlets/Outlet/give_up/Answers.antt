@@ -1,3 +1,4 @@
+-- Answers to the goals of `outlets::Outlet::give_up` that the prover leaves.
 use Rattle.std.proofs.Common.{refl, subst, List}
 use Rattle.mk_base.specs.declared.tier.Via.{Via}
 use Rattle.mk_buffers_log.specs.Logs.{AnswersFrom, IsFew}

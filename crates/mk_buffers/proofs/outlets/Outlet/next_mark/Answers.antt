@@ -1,3 +1,4 @@
+-- Answers to the goals of `outlets::Outlet::next_mark` that the prover leaves.
 use Rattle.std.proofs.Common.{subst, List}
 use Rattle.mk_base.specs.declared.tier.Via.{Via}
 use Rattle.mk_buffers_log.specs.Logs.{IsFew, StaysFew}

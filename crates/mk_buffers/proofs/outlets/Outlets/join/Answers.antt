@@ -1,3 +1,4 @@
+-- Answers to the goals of `outlets::Outlets::join` that the prover leaves.
 use Rattle.std.proofs.Common.{◌≡◌, refl, subst, ap, ◌∙◌, arith, ◌-◌, slice_set, slice_get}
 use Rattle.mk_buffers.specs.inner.Building.{HasVia}
 use Rattle.mk_buffers_log.proofs.Places.{get_any}

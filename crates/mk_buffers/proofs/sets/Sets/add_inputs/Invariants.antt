@@ -1,3 +1,4 @@
+-- The invariants and measures of the loops of `sets::Sets::add_inputs`.
 use Rattle.std.proofs.Common.{◌≡◌, take}
 use Rattle.std.specs.List.Sorted.{IsStrictlySortedBy}
 use Rattle.mk_plan.specs.Inputs.{input_order, put_all}

@@ -1,3 +1,4 @@
+-- Answers to the goals of `sets::Sets::new` that the prover leaves.
 use Rattle.mk_buffers.proofs.Slots.{none_sorted}
 use Rattle.mk_buffers.proofs.sets.Sets.new.Goals as goal
 

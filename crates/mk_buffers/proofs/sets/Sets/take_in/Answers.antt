@@ -1,3 +1,4 @@
+-- Answers to the goals of `sets::Sets::take_in` that the prover leaves.
 use Rattle.std.proofs.Common.{sym, subst}
 use Rattle.std.specs.List.Sorted.{IsStrictlySortedBy}
 use Rattle.mk_plan_judge.proofs.Putting.{on_ok}

@@ -1,3 +1,4 @@
+-- Answers to the goals of `sets::Settings::last_within` that the prover leaves.
 use Rattle.std.proofs.Common.{false, ◌+◌, ◌-◌, sym, ap, ◌∙◌, arith, filter, take, ◌≡◌}
 use Rattle.mk_buffers_log.specs.Logs.{within}
 use Rattle.mk_buffers.specs.Slots.{last_of, last_within}

@@ -1,3 +1,4 @@
+-- The invariants and measures of the loops of `sets::Settings::last_within`.
 use Rattle.std.proofs.Common.{◌≡◌, ◌≤◌, false, length, filter, take}
 use Rattle.mk_buffers_log.specs.Logs.{within}
 use Rattle.mk_buffers.specs.Slots.{last_of, last_within}

@@ -1,3 +1,4 @@
+-- Answers to the goals of `sets::Settings::take_in` that the prover leaves.
 use Rattle.std.proofs.Common.{ap, ◌∙◌, ◌++◌, ◌∷◌, [], List}
 use Rattle.mk_plan.specs.Deliveries.{Timed}
 use Rattle.mk_buffers.proofs.Lasts.{taken_in}

@@ -1,3 +1,4 @@
+-- Answers to the goals of `log::Log::latest_made` that the prover leaves.
 use Rattle.std.proofs.Common.{◌≡◌, ◌∙◌, ap, subst, List, None, option_map}
 use Rattle.mk_base.specs.declared.tier.Via.{Via}
 use Rattle.mk_plan.specs.Deliveries.{Timed}

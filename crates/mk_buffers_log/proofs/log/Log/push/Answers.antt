@@ -1,3 +1,4 @@
+-- Answers to the goals of `log::Log::push` that the prover leaves.
 use Rattle.std.proofs.Common.{subst, sym, List, [], ◌∷◌, ◌++◌}
 use Rattle.mk_plan_judge.proofs.Putting.{on_ok}
 use Rattle.mk_plan.specs.Deliveries.{Timed}

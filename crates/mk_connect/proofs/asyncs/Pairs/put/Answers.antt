@@ -1,3 +1,4 @@
+-- Answers to the goals of `asyncs::Pairs::put` that the prover leaves.
 use Rattle.std.proofs.Common.{ap, map, ◌∙◌}
 use Rattle.mk_connect.specs.Asyncs.{pair_put}
 use Rattle.mk_connect.specs.inner.Asyncs.{async_of}

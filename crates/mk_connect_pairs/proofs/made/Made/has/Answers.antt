@@ -1,3 +1,4 @@
+-- Answers to the goals of `made::Made::has` that the prover leaves.
 use Rattle.std.proofs.Common.{◌∙◌, ap}
 use Rattle.std.specs.List.{list_any}
 use Rattle.mk_connect_pairs.specs.Connections.{is_way}

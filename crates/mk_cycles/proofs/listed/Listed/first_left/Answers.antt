@@ -1,3 +1,4 @@
+-- Answers to the goals of `listed::Listed::first_left` that the prover leaves.
 use Rattle.std.proofs.Common.{inl, inr, arith}
 use Rattle.std.proofs.lemmas.Bool.{cases_lt}
 use Rattle.mk_cycles.proofs.Listings.{all_listed}

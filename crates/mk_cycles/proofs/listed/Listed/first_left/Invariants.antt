@@ -1,3 +1,4 @@
+-- The invariants and measures of the loops of `listed::Listed::first_left`.
 use Rattle.std.proofs.Common.{◌≡◌, ℕ, ◌<◌, true, false, slice_index_or}
 use Rattle.mk_cycles.proofs.listed.Listed.first_left.Given as goal
 

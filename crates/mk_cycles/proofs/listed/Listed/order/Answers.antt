@@ -1,3 +1,4 @@
+-- Answers to the goals of `listed::Listed::order` that the prover leaves.
 use Rattle.mk_cycles.proofs.Listings.{below}
 use Rattle.mk_cycles.proofs.listed.Listed.order.Goals as goal
 

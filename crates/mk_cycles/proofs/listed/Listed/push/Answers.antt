@@ -1,3 +1,4 @@
+-- Answers to the goals of `listed::Listed::push` that the prover leaves.
 use Rattle.std.proofs.Common.{◌<◌, List, ℕ, length, ap, subst, arith}
 use Rattle.mk_base.specs.Lists.{IsIn}
 use Rattle.mk_cycles.specs.inner.Listing.{Listing}

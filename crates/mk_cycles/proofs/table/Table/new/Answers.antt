@@ -1,3 +1,4 @@
+-- Answers to the goals of `table::Table::new` that the prover leaves.
 use Rattle.std.proofs.Common.{◌∙◌}
 use Rattle.std.proofs.lemmas.List.{length-set}
 use Rattle.mk_cycles.specs.Edges.{edge}

@@ -1,3 +1,4 @@
+-- The invariants and measures of the loops of `table::Table::new`.
 use Rattle.std.proofs.Common.{◌≡◌, ℕ, ◌+◌, ◌*◌, ◌<◌, false, length, take, slice_index_or}
 use Rattle.mk_cycles.specs.Edges.{has_edge}
 use Rattle.mk_cycles.proofs.table.Table.new.Given as goal

@@ -1,3 +1,4 @@
+-- Answers to the goals of `entities::Entities::add` that the prover leaves.
 use Rattle.std.proofs.Common.{◌∙◌, subst, sym}
 use Rattle.mk_base.specs.Lists.{Each}
 use Rattle.mk_entities.proofs.Sounding.{IsNamed, families_named}

@@ -1,3 +1,4 @@
+-- Answers to the goals of `entities::Entities::find` that the prover leaves.
 use Rattle.std.proofs.Common.{◌∙◌, ap, sym}
 use Rattle.mk_base.specs.Lists.{value_under}
 use Rattle.mk_entities.specs.Creation.{entity_number}

@@ -1,3 +1,4 @@
+-- Answers to the goals of `names::Names::get` that the prover leaves.
 use Rattle.std.proofs.Common.{◌∙◌, ap}
 use Rattle.mk_base.specs.Lists.{value_under}
 use Rattle.mk_entities.proofs.Lookups.{value_is}

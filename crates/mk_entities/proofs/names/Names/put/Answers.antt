@@ -1,3 +1,4 @@
+-- Answers to the goals of `names::Names::put` that the prover leaves.
 use Rattle.std.proofs.Common.{◌≡◌, ◌∙◌, ◌++◌, ◌∷◌, [], ap, ℕ, List}
 use Rattle.std.specs.String.{string_eq, string_bytes}
 use Rattle.mk_base.specs.Lists.{value_under}

@@ -1,3 +1,4 @@
+-- Answers to the goals of `names::Names::truncate` that the prover leaves.
 use Rattle.std.proofs.Common.{◌∙◌, ap, take}
 use Rattle.mk_entities.specs.inner.Names.{texts_of}
 use Rattle.mk_entities.proofs.Lookups.{texts_take}

@@ -1,3 +1,4 @@
+-- Answers to the goals of `asking::AskedFleetFleet::listen` that the prover leaves.
 use Rattle.mk_fakes.proofs.Noting.{port_noted}
 use Rattle.mk_fakes.proofs.asking.AskedFleetFleet.listen.Goals as goal
 

@@ -1,3 +1,4 @@
+-- Answers to the goals of `wires::Wires::coming` that the prover leaves.
 use Rattle.std.proofs.Common.{◌≡◌, ap, sym, ◌∙◌, option_map, subst, drop, List, [], ◌∷◌, ◌+◌, Some}
 use Rattle.std.specs.Option.{option_copied}
 use Rattle.mk_fakes.specs.declared.wires.Chunk.{Chunk}

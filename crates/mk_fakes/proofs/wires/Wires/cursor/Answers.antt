@@ -1,3 +1,4 @@
+-- Answers to the goals of `wires::Wires::cursor` that the prover leaves.
 use Rattle.std.proofs.Common.{arith}
 use Rattle.mk_fakes.proofs.Lines.{line_missing, line_there}
 use Rattle.mk_fakes.proofs.wires.Wires.cursor.Goals as goal

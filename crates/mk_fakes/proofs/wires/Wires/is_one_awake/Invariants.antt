@@ -1,3 +1,4 @@
+-- The invariants and measures of the loops of `wires::Wires::is_one_awake`.
 use Rattle.std.proofs.Common.{◌≡◌, drop}
 use Rattle.std.specs.List.{list_any}
 use Rattle.mk_fakes.specs.Scripts.{is_awake}

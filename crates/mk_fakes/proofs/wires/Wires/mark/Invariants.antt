@@ -1,3 +1,4 @@
+-- The invariants and measures of the loops of `wires::Wires::mark`.
 use Rattle.std.proofs.Common.{◌≡◌, length, map, take}
 use Rattle.mk_fakes.specs.Scripts.{is_awake}
 use Rattle.mk_fakes.proofs.wires.Wires.mark.Given as goal

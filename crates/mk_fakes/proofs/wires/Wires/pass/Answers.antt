@@ -1,3 +1,4 @@
+-- Answers to the goals of `wires::Wires::pass` that the prover leaves.
 use Rattle.std.proofs.Common.{◌≡◌, ap, sym, ◌∙◌, option_map, subst, List}
 use Rattle.mk_fakes.specs.declared.wires.Chunk.{Chunk}
 use Rattle.mk_fakes.specs.inner.Cursors.{line_of}

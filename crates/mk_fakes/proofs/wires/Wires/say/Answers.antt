@@ -1,3 +1,4 @@
+-- Answers to the goals of `wires::Wires::say` that the prover leaves.
 use Rattle.std.proofs.Common.{ap, sym, ◌∙◌, option_map}
 use Rattle.mk_fakes.specs.inner.Cursors.{line_of}
 use Rattle.mk_fakes.specs.Scripts.{said_more}

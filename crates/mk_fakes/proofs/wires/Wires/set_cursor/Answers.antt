@@ -1,3 +1,4 @@
+-- Answers to the goals of `wires::Wires::set_cursor` that the prover leaves.
 use Rattle.std.proofs.Common.{arith}
 use Rattle.mk_fakes.proofs.Lines.{line_missing, line_unchanged, set_shows}
 use Rattle.mk_fakes.proofs.wires.Wires.set_cursor.Goals as goal

@@ -1,3 +1,4 @@
+-- Answers to the goals of `wires::Wires::start` that the prover leaves.
 use Rattle.std.proofs.Common.{◌≡◌, ◌++◌, ◌∷◌, [], length, ap, not, arith, ◌∙◌}
 use Rattle.mk_fakes.proofs.Lines.{start_shows}
 use Rattle.mk_fakes.proofs.OnNotes.{appended}

@@ -1,3 +1,4 @@
+-- Answers to the goals of `feeder::Feeder::next` that the prover leaves.
 use Rattle.std.proofs.Common.{◌≡◌, ◌-◌, List, ℕ, length, take, drop, refl, ap, subst, ◌∙◌}
 use Rattle.std.proofs.lemmas.List.{take_rest}
 use Rattle.mk_frame.specs.Frames.{BeginsWithFrame, IsUnfinished}

@@ -1,3 +1,4 @@
+-- Answers to the goals of `holds::Holds::first` that the prover leaves.
 use Rattle.std.proofs.Common.{◌≡◌, ◌<◌, length, sym, List, Some, slice_get, subst, arith}
 use Rattle.mk_pace_held.specs.declared.held.Held.{Held}
 use Rattle.mk_pace_held.proofs.Choosing.{best_of_more, best_of_none, first_of_all, none_is_first, there_at}

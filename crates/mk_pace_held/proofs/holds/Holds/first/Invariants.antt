@@ -1,3 +1,4 @@
+-- The invariants and measures of the loops of `holds::Holds::first`.
 use Rattle.mk_pace_held.proofs.Choosing.{BestOf}
 use Rattle.mk_pace_held.proofs.holds.Holds.first.Given as goal
 

@@ -1,3 +1,4 @@
+-- Answers to the goals of `holds::Holds::new` that the prover leaves.
 use Rattle.std.proofs.Common.{[], arith, ap, length, ◌∙◌}
 use Rattle.std.proofs.lemmas.List.{length-replicate}
 use Rattle.mk_pace_held.proofs.holds.Holds.new.Goals as goal

@@ -1,3 +1,4 @@
+-- The invariants and measures of the loops of `holds::Holds::new`.
 use Rattle.std.proofs.Common.{◌≡◌, [], replicate}
 use Rattle.mk_pace_held.proofs.holds.Holds.new.Given as goal
 

@@ -1,3 +1,4 @@
+-- Answers to the goals of `holds::Holds::take` that the prover leaves.
 use Rattle.mk_pace_held.proofs.Changing.{taken}
 use Rattle.mk_pace_held.proofs.holds.Holds.take.Goals as goal
 

@@ -1,3 +1,4 @@
+-- Answers to the goals of `index::Names::find` that the prover leaves.
 use Rattle.std.proofs.Common.{◌∙◌, sym, ap, position}
 use Rattle.std.specs.Str.{bytes_eq}
 use Rattle.std.specs.String.{string_bytes}

@@ -1,3 +1,4 @@
+-- Answers to the goals of `index::Names::full_id` that the prover leaves.
 use Rattle.std.proofs.Common.{◌≡◌, ◌+◌, ◌∙◌, ap, get_or, length, [], arith}
 use Rattle.mk_plan.specs.Plans.{full_id}
 use Rattle.mk_plan_names.proofs.Indexing.{key_at}

@@ -1,3 +1,4 @@
+-- Answers to the goals of `turns::Turns::add` that the prover leaves.
 use Rattle.std.proofs.Common.{rules, ◌≡◌, sym, subst}
 use Rattle.mk_poll.specs.Turning.{Turning}
 use Rattle.mk_poll.specs.Links.{IsAdded}

@@ -1,3 +1,4 @@
+-- Answers to the goals of `turns::Turns::park` that the prover leaves.
 use Rattle.std.proofs.Common.{rules, ap, length, arith, subst, sym}
 use Rattle.mk_base.specs.Lists.{IsIn}
 use Rattle.mk_poll.specs.Turning.{Turning}

@@ -1,3 +1,4 @@
+-- Answers to the goals of `turns::Turns::take` that the prover leaves.
 use Rattle.std.proofs.Common.{rules, ◌≡◌}
 use Rattle.mk_poll.proofs.Apart.{apart_took, apart_is}
 use Rattle.mk_poll.proofs.turns.Turns.take.Goals as goal

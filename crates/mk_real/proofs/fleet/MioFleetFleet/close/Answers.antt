@@ -1,3 +1,4 @@
+-- Answers to the goals of `fleet::MioFleetFleet::close` that the prover leaves.
 use Rattle.std.proofs.Common.{arith, refl, ◌∙◌}
 use Rattle.mk_real.proofs.Keeping.{same_count}
 use Rattle.mk_real.proofs.fleet.MioFleetFleet.close.Goals as goal

@@ -1,3 +1,4 @@
+-- Answers to the goals of `fleet::MioFleetFleet::start` that the prover leaves.
 use Rattle.std.proofs.Common.{ℕ, length, refl, subst, ◌∙◌}
 use Rattle.mk_outside.specs.Fleets.{StartedAs}
 use Rattle.mk_real.proofs.Keeping.{same_count}

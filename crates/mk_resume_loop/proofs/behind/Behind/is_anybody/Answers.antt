@@ -1,3 +1,4 @@
+-- Answers to the goals of `behind::Behind::is_anybody` that the prover leaves.
 use Rattle.std.proofs.Common.{◌≡◌, ℕ, Bool, true, false, List, Some, None, Option, is_some, slice_get, sym, ap, ◌∙◌, refl}
 use Rattle.std.specs.List.{list_any}
 use Rattle.mk_base.proofs.Lists.{at_in, in_at, passes_some, some_passes}

@@ -1,3 +1,4 @@
+-- The invariants and measures of the loops of `behind::Behind::new`.
 use Rattle.std.proofs.Common.{◌-◌, ◌≤◌, length}
 use Rattle.mk_resume_loop.proofs.behind.Behind.new.Given as goal
 

@@ -1,3 +1,4 @@
+-- The invariants and measures of the loops of `index::Index::grow`.
 use Rattle.std.proofs.Common.{◌≡◌, ◌-◌, ◌≤◌, List, length, take}
 use Rattle.mk_base.specs.Lists.{BeginsWith}
 use Rattle.mk_plan.specs.declared.Entry.{Entry}

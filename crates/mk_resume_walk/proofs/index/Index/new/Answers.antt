@@ -1,3 +1,4 @@
+-- Answers to the goals of `index::Index::new` that the prover leaves.
 use Rattle.std.proofs.Common.{ap, ◌∙◌, length, arith}
 use Rattle.std.proofs.lemmas.List.{length-append}
 use Rattle.mk_resume_walk.proofs.Indexing.{empty_more}

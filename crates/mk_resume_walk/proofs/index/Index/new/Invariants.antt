@@ -1,3 +1,4 @@
+-- The invariants and measures of the loops of `index::Index::new`.
 use Rattle.std.proofs.Common.{◌≡◌, ℕ, ◌-◌, ◌≤◌, List, [], length, map, Some, slice_get}
 use Rattle.mk_resume_walk.proofs.index.Index.new.Given as goal
 

@@ -1,3 +1,4 @@
+-- Answers to the goals of `index::Index::next` that the prover leaves.
 use Rattle.std.proofs.Common.{◌∙◌, ap, subst, sym, length, slice_get, ◌<◌}
 use Rattle.mk_resume_walk.specs.Index.{IsIndexOf, Indexed}
 use Rattle.mk_resume_walk.specs.contracts.index.Index.{the_view}

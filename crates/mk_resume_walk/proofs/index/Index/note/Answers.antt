@@ -1,3 +1,4 @@
+-- Answers to the goals of `index::Index::note` that the prover leaves.
 use Rattle.std.proofs.Common.{◌+◌, ◌++◌, ◌∷◌, [], arith, sym, subst}
 use Rattle.mk_resume_walk.specs.Index.{IsIndexOf}
 use Rattle.mk_resume_walk.specs.declared.index.Index.TheInside.{Inside}

@@ -1,3 +1,4 @@
+-- Answers to the goals of `crew::Crew::ask` that the prover leaves.
 use Rattle.std.proofs.Common.{[], inl, refl, sym, subst, ◌∙◌}
 use Rattle.mk_outside.proofs.OnLogs.{adds_none}
 use Rattle.mk_run_links.specs.Places.{AreOpen}

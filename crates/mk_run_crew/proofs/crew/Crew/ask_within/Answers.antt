@@ -1,3 +1,4 @@
+-- Answers to the goals of `crew::Crew::ask_within` that the prover leaves.
 use Rattle.std.proofs.Common.{◌≡◌, inl, true, refl, sym, subst}
 use Rattle.mk_run_crew.specs.Seen.{CrewSeen, is_here}
 use Rattle.mk_run_crew.proofs.Asked.{asked_within}

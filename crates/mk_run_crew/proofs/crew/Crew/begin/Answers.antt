@@ -1,3 +1,4 @@
+-- Answers to the goals of `crew::Crew::begin` that the prover leaves.
 use Rattle.std.proofs.Common.{◌+◌, List, [], ◌++◌, length, Option, inl, refl, sym, subst, ap, ◌∙◌}
 use Rattle.mk_base.specs.declared.LinkNo.{LinkNo}
 use Rattle.mk_base.specs.Lists.{Each, IsIn}

@@ -1,3 +1,4 @@
+-- Answers to the goals of `crew::Crew::begin_within` that the prover leaves.
 use Rattle.std.proofs.Common.{[], inl, refl, sym, subst, ap, ◌∙◌}
 use Rattle.mk_launch.specs.Starts.{links_in}
 use Rattle.mk_run_crew.specs.Attempts.{attempt}

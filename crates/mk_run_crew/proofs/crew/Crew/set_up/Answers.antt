@@ -1,3 +1,4 @@
+-- Answers to the goals of `crew::Crew::set_up` that the prover leaves.
 use Rattle.std.proofs.Common.{Option, refl, subst, ◌∙◌, arith}
 use Rattle.mk_outside.specs.Counts.{HasRisen}
 use Rattle.mk_outside.proofs.OnLogs.{adds_none}

@@ -1,3 +1,4 @@
+-- The invariants and measures of the loops of `crew::Crew::set_up`.
 use Rattle.std.proofs.Common.{◌≡◌, ◌≤◌, ℕ}
 use Rattle.mk_run_links.specs.Places.{AreOpen}
 use Rattle.mk_local.specs.Registries.{rows_in}

@@ -1,3 +1,4 @@
+-- Answers to the goals of `crew::Crew::set_up_within` that the prover leaves.
 use Rattle.std.proofs.Common.{[], Option, refl, subst, ◌∙◌}
 use Rattle.mk_plan.specs.declared.Plan.{Plan}
 use Rattle.mk_local.specs.Registries.{rows_in}

@@ -1,3 +1,4 @@
+-- The invariants and measures of the loops of `crew::Crew::set_up_within`.
 use Rattle.std.proofs.Common.{◌≡◌, ◌-◌, length}
 use Rattle.mk_local.specs.Registries.{rows_in}
 use Rattle.mk_run_laws.specs.Handshake.{setup_requests}

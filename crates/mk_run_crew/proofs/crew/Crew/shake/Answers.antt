@@ -1,3 +1,4 @@
+-- Answers to the goals of `crew::Crew::shake` that the prover leaves.
 use Rattle.std.proofs.Common.{List, ◌++◌, ap, ◌∙◌, arith}
 use Rattle.mk_base.specs.declared.LinkNo.{LinkNo}
 use Rattle.mk_outside.specs.Counts.{HasRisen}

@@ -1,3 +1,4 @@
+-- Answers to the goals of `crew::Crew::shake_within` that the prover leaves.
 use Rattle.std.proofs.Common.{ap, ◌∙◌}
 use Rattle.mk_local.specs.Registries.{rows_in}
 use Rattle.mk_run_links.specs.Places.{Channels, at}

@@ -1,3 +1,4 @@
+-- Answers to the goals of `crew::Crew::step_within` that the prover leaves.
 use Rattle.std.proofs.Common.{inl, inr, refl, sym, subst, ◌∙◌, true≢false}
 use Rattle.mk_setup.specs.declared.answers.SetupNext.{SetupNext}
 use Rattle.mk_setup.specs.Answers.{IsWaiting, NextOf}

@@ -1,3 +1,4 @@
+-- Answers to the goals of `crew::Crew::stop` that the prover leaves.
 use Rattle.std.proofs.Common.{List, sym, subst}
 use Rattle.mk_base.specs.declared.LinkNo.{LinkNo}
 use Rattle.mk_base.specs.Lists.{Each, IsIn}

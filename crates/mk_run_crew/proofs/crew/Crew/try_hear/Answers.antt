@@ -1,3 +1,4 @@
+-- Answers to the goals of `crew::Crew::try_hear` that the prover leaves.
 use Rattle.std.proofs.Common.{Ok, Err, sym, subst, ap, ◌∙◌}
 use Rattle.mk_run_links.specs.Places.{AreOpen}
 use Rattle.mk_run_local.specs.Seen.{WithinState}

@@ -1,3 +1,4 @@
+-- Answers to the goals of `channel::CrewChannel::flush` that the prover leaves.
 use Rattle.mk_run_links.proofs.OnChannels.{channel_of, flushes_channel}
 use Rattle.mk_run_links.proofs.channel.CrewChannel.flush.Goals as goal
 

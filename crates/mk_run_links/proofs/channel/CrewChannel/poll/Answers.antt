@@ -1,3 +1,4 @@
+-- Answers to the goals of `channel::CrewChannel::poll` that the prover leaves.
 use Rattle.std.proofs.Common.{subst, sym, Bool}
 use Rattle.mk_run_links.specs.inner.OneChannel.{PollsChannel}
 use Rattle.mk_run_links.proofs.OnChannels.{channel_of, polls_channel}

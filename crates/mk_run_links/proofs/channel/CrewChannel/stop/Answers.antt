@@ -1,3 +1,4 @@
+-- Answers to the goals of `channel::CrewChannel::stop` that the prover leaves.
 use Rattle.std.proofs.Common.{ap, ◌∙◌, subst}
 use Rattle.mk_plan.specs.declared.Call.TheVariants.{Stop}
 use Rattle.mk_message.specs.Written.{call_text}

@@ -1,3 +1,4 @@
+-- Answers to the goals of `channels::CrewChannels::links` that the prover leaves.
 use Rattle.mk_run_links.proofs.Linking.{links_more}
 use Rattle.mk_run_links.proofs.channels.CrewChannels.links.Goals as goal
 

@@ -1,3 +1,4 @@
+-- The invariants and measures of the loops of `channels::CrewChannels::links`.
 use Rattle.std.proofs.Common.{◌≡◌, take, filter_map}
 use Rattle.mk_run_links.specs.inner.OneChannel.{link_of}
 use Rattle.mk_run_links.proofs.channels.CrewChannels.links.Given as goal

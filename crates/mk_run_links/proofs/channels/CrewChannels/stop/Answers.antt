@@ -1,3 +1,4 @@
+-- Answers to the goals of `channels::CrewChannels::stop` that the prover leaves.
 use Rattle.std.proofs.Common.{[], sym, subst, ◌<◌, length}
 use Rattle.mk_outside.proofs.OnLogs.{adds_none}
 use Rattle.mk_run_links.specs.Places.{Channels}

@@ -1,3 +1,4 @@
+-- Answers to the goals of `links::Links::hear_next` that the prover leaves.
 use Rattle.std.proofs.Common.{refl, ◌∙◌, arith}
 use Rattle.mk_outside.proofs.OnLogs.{adds_none}
 use Rattle.mk_run_links.proofs.Hearing.{no_sound, silence_goes_on, silence_halted, silence_heard, silence_unrested}

@@ -1,3 +1,4 @@
+-- The invariants and measures of the loops of `links::Links::hear_next`.
 use Rattle.std.proofs.Common.{◌≡◌, ◌≤◌}
 use Rattle.mk_run_links.proofs.Hearing.{Silence}
 use Rattle.mk_run_links.proofs.links.Links.hear_next.Given as goal

@@ -1,3 +1,4 @@
+-- Answers to the goals of `links::Links::listen` that the prover leaves.
 use Rattle.std.proofs.Common.{subst, sym}
 use Rattle.mk_run_links.specs.Places.{AreOpen}
 use Rattle.mk_run_links.specs.Seen.{Seen}

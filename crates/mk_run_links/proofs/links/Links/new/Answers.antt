@@ -1,3 +1,4 @@
+-- Answers to the goals of `links::Links::new` that the prover leaves.
 use Rattle.std.proofs.Common.{None, arith, get_or, ◌∙◌}
 use Rattle.mk_run_links.proofs.Beginning.{all_begun, few_channels, channels_grow, place_fresh, ready_grow, there_is}
 use Rattle.mk_run_links.proofs.links.Links.new.Goals as goal

@@ -1,3 +1,4 @@
+-- The invariants and measures of the loops of `links::Links::new`.
 use Rattle.std.proofs.Common.{◌≡◌, [], take}
 use Rattle.mk_launch.specs.Starts.{links_in}
 use Rattle.mk_run_links.specs.Places.{new_channels}

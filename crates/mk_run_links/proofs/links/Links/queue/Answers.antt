@@ -1,3 +1,4 @@
+-- Answers to the goals of `links::Links::queue` that the prover leaves.
 use Rattle.mk_run_links.proofs.Standing.{sent_stands}
 use Rattle.mk_run_links.proofs.links.Links.queue.Goals as goal
 

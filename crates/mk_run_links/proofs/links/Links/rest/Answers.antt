@@ -1,3 +1,4 @@
+-- Answers to the goals of `links::Links::rest` that the prover leaves.
 use Rattle.std.proofs.Common.{sym, subst, ℕ, ◌∙◌}
 use Rattle.mk_run_links.specs.Places.{AreOpen, IsLinked}
 use Rattle.mk_run_links.specs.Seen.{Seen}

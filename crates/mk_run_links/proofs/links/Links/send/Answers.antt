@@ -1,3 +1,4 @@
+-- Answers to the goals of `links::Links::send` that the prover leaves.
 use Rattle.std.proofs.Common.{refl, arith, ◌∙◌}
 use Rattle.mk_run_links.proofs.Sending.{length_of, sent_on_link}
 use Rattle.mk_run_links.proofs.links.Links.send.Goals as goal

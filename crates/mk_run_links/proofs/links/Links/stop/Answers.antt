@@ -1,3 +1,4 @@
+-- Answers to the goals of `links::Links::stop` that the prover leaves.
 use Rattle.std.proofs.Common.{refl, subst, ◌∙◌, ap, arith, length}
 use Rattle.mk_outside.specs.Counts.{HasRisen}
 use Rattle.mk_outside.proofs.OnLogs.{adds_none}

@@ -1,3 +1,4 @@
+-- The invariants and measures of the loops of `links::Links::stop`.
 use Rattle.std.proofs.Common.{◌≡◌, ◌≤◌}
 use Rattle.mk_outside.specs.Counts.{HasRisen}
 use Rattle.mk_run_links.proofs.OnStops.{Stopping}

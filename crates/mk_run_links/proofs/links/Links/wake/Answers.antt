@@ -1,3 +1,4 @@
+-- Answers to the goals of `links::Links::wake` that the prover leaves.
 use Rattle.mk_run_links.proofs.Standing.{woken_stands}
 use Rattle.mk_run_links.proofs.Looking.{left_alone, woken_moved}
 use Rattle.mk_run_links.specs.Places.{crew}

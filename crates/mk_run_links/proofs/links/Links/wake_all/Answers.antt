@@ -1,3 +1,4 @@
+-- Answers to the goals of `links::Links::wake_all` that the prover leaves.
 use Rattle.std.proofs.Common.{refl, ◌∙◌, arith, ap, length}
 use Rattle.mk_run_links.proofs.Looking.{all_are_woken, none_woken, one_more_woken}
 use Rattle.mk_run_links.specs.Seen.{Seen}

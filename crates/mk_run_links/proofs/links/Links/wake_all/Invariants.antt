@@ -1,3 +1,4 @@
+-- The invariants and measures of the loops of `links::Links::wake_all`.
 use Rattle.std.proofs.Common.{◌≡◌}
 use Rattle.mk_run_links.proofs.Looking.{Waking}
 use Rattle.mk_run_links.proofs.links.Links.wake_all.Given as goal

@@ -1,3 +1,4 @@
+-- Answers to the goals of `links::Links::wake_marked` that the prover leaves.
 use Rattle.std.proofs.Common.{refl}
 use Rattle.mk_run_links.proofs.Looking.{left_alone}
 use Rattle.mk_run_links.specs.Places.{crew}

@@ -1,3 +1,4 @@
+-- The invariants and measures of the loops of `links::Links::wake_marked`.
 use Rattle.std.proofs.Common.{◌≡◌, []}
 use Rattle.mk_run_laws.specs.Crews.{AreMoved}
 use Rattle.mk_run_links.specs.Places.{crew}

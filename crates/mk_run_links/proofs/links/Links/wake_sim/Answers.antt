@@ -1,3 +1,4 @@
+-- Answers to the goals of `links::Links::wake_sim` that the prover leaves.
 use Rattle.mk_run_links.proofs.Standing.{linked_at, woken_stands}
 use Rattle.mk_run_links.proofs.Looking.{none_linked, woken_none, woken_one}
 use Rattle.mk_run_links.proofs.links.Links.wake_sim.Goals as goal

@@ -1,3 +1,4 @@
+-- Answers to the goals of `within::Within::new` that the prover leaves.
 use Rattle.mk_local.specs.Registries.{rows_in}
 use Rattle.mk_run_local.proofs.Beginning.{begun_of, begun_stands}
 use Rattle.mk_run_local.proofs.within.Within.new.Goals as goal

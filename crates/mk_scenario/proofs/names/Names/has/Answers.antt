@@ -1,3 +1,4 @@
+-- Answers to the goals of `names::Names::has` that the prover leaves.
 use Rattle.std.proofs.Common.{ap, ◌∙◌}
 use Rattle.std.specs.Prelude.{is_some}
 use Rattle.mk_base.specs.Lists.{same_text}

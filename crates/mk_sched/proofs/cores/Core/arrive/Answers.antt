@@ -1,3 +1,4 @@
+-- Answers to the goals of `cores::Core::arrive` that the prover leaves.
 use Rattle.std.proofs.Common.{IfOk, ap, subst, ◌∙◌}
 use Rattle.mk_plan.specs.declared.Message.{Message}
 use Rattle.mk_sched.specs.Answers.{ArriveOf}

@@ -1,3 +1,4 @@
+-- Answers to the goals of `cores::Core::id_of` that the prover leaves.
 use Rattle.std.proofs.Common.{◌∙◌, ap}
 use Rattle.mk_sched.specs.Answers.{id_at}
 use Rattle.mk_sched.proofs.cores.Core.id_of.Goals as goal

@@ -1,3 +1,4 @@
+-- Answers to the goals of `cores::Core::into_parts` that the prover leaves.
 use Rattle.mk_sched.proofs.cores.Core.into_parts.Goals as goal
 use Rattle.mk_sched.proofs.Standing.{stands_of}
 

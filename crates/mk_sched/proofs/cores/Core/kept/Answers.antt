@@ -1,3 +1,4 @@
+-- Answers to the goals of `cores::Core::kept` that the prover leaves.
 use Rattle.mk_sched.proofs.cores.Core.kept.Goals as goal
 use Rattle.mk_sched.proofs.GivingUp.{few_kept, held_of}
 

@@ -1,3 +1,4 @@
+-- Answers to the goals of `cores::Core::new` that the prover leaves.
 use Rattle.std.proofs.Common.{refl}
 use Rattle.mk_sched.proofs.GivingUp.{whole_of}
 use Rattle.mk_sched.proofs.cores.Core.new.Goals as goal

@@ -1,3 +1,4 @@
+-- Answers to the goals of `cores::Core::next` that the prover leaves.
 use Rattle.std.proofs.Common.{Option, subst, sym}
 use Rattle.mk_sched.specs.declared.faults.Ended.{Ended}
 use Rattle.mk_sched.specs.inner.Holding.{HasGivenUp, HasToldRest}

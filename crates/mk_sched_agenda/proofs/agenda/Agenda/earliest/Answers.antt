@@ -1,3 +1,4 @@
+-- Answers to the goals of `agenda::Agenda::earliest` that the prover leaves.
 use Rattle.mk_sched_agenda.proofs.Mirroring.{earliest_is}
 use Rattle.mk_sched_agenda.proofs.agenda.Agenda.earliest.Goals as goal
 

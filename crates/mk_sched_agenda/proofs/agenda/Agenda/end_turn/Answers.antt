@@ -1,3 +1,4 @@
+-- Answers to the goals of `agenda::Agenda::end_turn` that the prover leaves.
 use Rattle.std.proofs.Common.{◌≡◌, ◌<◌, ◌∙◌, List, None, false, length, refl, sym, ap, subst, arith}
 use Rattle.mk_nextstep.specs.Queues.{least}
 use Rattle.mk_sched_agenda.specs.declared.outlets.Outlet.{Outlet}

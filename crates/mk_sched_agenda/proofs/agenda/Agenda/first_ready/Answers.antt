@@ -1,3 +1,4 @@
+-- Answers to the goals of `agenda::Agenda::first_ready` that the prover leaves.
 use Rattle.std.proofs.Common.{sym}
 use Rattle.mk_sched_agenda.proofs.Mirroring.{none_ready, first_never, first_ready_is}
 use Rattle.mk_sched_agenda.proofs.agenda.Agenda.first_ready.Goals as goal

@@ -1,3 +1,4 @@
+-- Answers to the goals of `agenda::Agenda::is_any_open` that the prover leaves.
 use Rattle.std.proofs.Common.{sym, ◌∙◌}
 use Rattle.mk_sched_agenda.proofs.Mirroring.{any_is_open, all_closed}
 use Rattle.mk_sched_agenda.proofs.agenda.Agenda.is_any_open.Goals as goal

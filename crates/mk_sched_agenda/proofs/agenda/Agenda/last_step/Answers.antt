@@ -1,3 +1,4 @@
+-- Answers to the goals of `agenda::Agenda::last_step` that the prover leaves.
 use Rattle.std.proofs.Common.{◌∙◌}
 use Rattle.mk_sched_agenda.proofs.agenda.Agenda.last_step.Goals as goal
 

@@ -1,3 +1,4 @@
+-- Answers to the goals of `agenda::Agenda::max_advance` that the prover leaves.
 use Rattle.std.proofs.Common.{◌≡◌, ◌<◌, Option, length, sym, ap, ◌∙◌, subst, arith, w64, to_z, of_z}
 use Rattle.std.proofs.lemmas.Int.{ints}
 use Rattle.mk_base.specs.declared.tier.Tier.{Tier}

@@ -1,3 +1,4 @@
+-- Answers to the goals of `agenda::Agenda::new` that the prover leaves.
 use Rattle.std.proofs.Common.{sym, ◌∙◌}
 use Rattle.mk_sched_agenda.proofs.Begins.{begun_is_tidy, begun_count}
 use Rattle.mk_sched_agenda.proofs.Mirroring.{new_sound, new_mirrors}

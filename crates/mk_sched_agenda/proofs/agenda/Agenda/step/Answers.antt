@@ -1,3 +1,4 @@
+-- Answers to the goals of `agenda::Agenda::step` that the prover leaves.
 use Rattle.std.proofs.Common.{◌≡◌, ◌<◌, length, sym, ap, ◌∙◌, arith}
 use Rattle.mk_base.proofs.Lists.{length_set}
 use Rattle.mk_nextstep.specs.Queues.{least, later}

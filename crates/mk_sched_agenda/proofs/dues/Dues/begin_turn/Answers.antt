@@ -1,3 +1,4 @@
+-- Answers to the goals of `dues::Dues::begin_turn` that the prover leaves.
 use Rattle.std.proofs.Common.{ap, sym, ◌∙◌, Bool, List, Option, slice_set, subst, true}
 use Rattle.mk_base.specs.declared.tier.Tier.{Tier}
 use Rattle.mk_nextstep.specs.declared.queue.Due.{Due}

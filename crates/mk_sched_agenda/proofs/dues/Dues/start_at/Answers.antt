@@ -1,3 +1,4 @@
+-- Answers to the goals of `dues::Dues::start_at` that the prover leaves.
 use Rattle.mk_tiers.proofs.Noting.{noted_none}
 use Rattle.mk_sched_agenda.proofs.dues.Dues.start_at.Goals as goal
 

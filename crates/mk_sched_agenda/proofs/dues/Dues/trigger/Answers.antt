@@ -1,3 +1,4 @@
+-- Answers to the goals of `dues::Dues::trigger` that the prover leaves.
 use Rattle.std.proofs.Common.{ap, sym, ◌∙◌, List, Bool, Some, slice_set, subst, true, false, not, ◌&&◌, if◌then◌else◌}
 use Rattle.mk_nextstep.specs.declared.queue.Due.{Due}
 use Rattle.mk_nextstep.specs.Queues.{added}

@@ -1,3 +1,4 @@
+-- Answers to the goals of `turns::OpenTurns::close` that the prover leaves.
 use Rattle.std.proofs.Common.{subst, sym, ◌<◌, List, Bool, length, arith}
 use Rattle.mk_sched_agenda.proofs.Counting.{one_fewer}
 use Rattle.mk_sched_agenda.proofs.turns.OpenTurns.close.Goals as goal

@@ -1,3 +1,4 @@
+-- Answers to the goals of `turns::OpenTurns::is_any_open` that the prover leaves.
 use Rattle.std.proofs.Common.{ap, ◌∙◌, nat_lt, Bool}
 use Rattle.std.specs.List.{list_any}
 use Rattle.mk_sched_agenda.proofs.Counting.{some_open}

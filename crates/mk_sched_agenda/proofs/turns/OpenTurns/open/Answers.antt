@@ -1,3 +1,4 @@
+-- Answers to the goals of `turns::OpenTurns::open` that the prover leaves.
 use Rattle.std.proofs.Common.{subst, sym, ◌≤◌, ◌<◌, List, Bool, length, arith}
 use Rattle.mk_sched_agenda.proofs.Counting.{few, one_more}
 use Rattle.mk_sched_agenda.proofs.turns.OpenTurns.open.Goals as goal

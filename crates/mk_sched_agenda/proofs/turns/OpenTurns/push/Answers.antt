@@ -1,3 +1,4 @@
+-- Answers to the goals of `turns::OpenTurns::push` that the prover leaves.
 use Rattle.std.proofs.Common.{ap, sym, ◌∙◌}
 use Rattle.mk_sched_agenda.specs.inner.Counts.{open_among}
 use Rattle.mk_sched_agenda.proofs.Counting.{none_more}

@@ -1,3 +1,4 @@
+-- Answers to the goals of `sims::Sims::begin` that the prover leaves.
 use Rattle.std.proofs.Common.{sym, ap, ◌∙◌, subst, slice_set}
 use Rattle.mk_plan.specs.declared.Item.TheVariants.{Step}
 use Rattle.mk_plan.specs.Journals.{note_sent}

@@ -1,3 +1,4 @@
+-- Answers to the goals of `sims::Sims::end` that the prover leaves.
 use Rattle.std.proofs.Common.{sym, ap, ◌∙◌, subst, slice_set}
 use Rattle.mk_sched_open.specs.Sims.{AreSimsOf}
 use Rattle.mk_sched_open.proofs.Every.{ended_sims, heard_low, ids_low}

@@ -1,3 +1,4 @@
+-- Answers to the goals of `sims::Sims::new` that the prover leaves.
 use Rattle.std.proofs.Common.{ap, ◌∙◌, sym, subst, length, map, arith}
 use Rattle.mk_plan.specs.Journals.{empty_view}
 use Rattle.mk_sched_open.specs.Sims.{AreSimsOf}

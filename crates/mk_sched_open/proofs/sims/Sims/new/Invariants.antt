@@ -1,3 +1,4 @@
+-- The invariants and measures of the loops of `sims::Sims::new`.
 use Rattle.std.proofs.Common.{◌≡◌, map, take}
 use Rattle.mk_sched_open.proofs.Every.{sim_of}
 use Rattle.mk_sched_open.proofs.sims.Sims.new.Given as goal

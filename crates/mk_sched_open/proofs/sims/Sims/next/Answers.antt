@@ -1,3 +1,4 @@
+-- Answers to the goals of `sims::Sims::next` that the prover leaves.
 use Rattle.std.proofs.Common.{subst}
 use Rattle.mk_sched_open.specs.Sims.{IsTurn, free_id}
 use Rattle.mk_sched_open.proofs.OneSim.{fetching_next}

@@ -1,3 +1,4 @@
+-- Answers to the goals of `stock::Stock::answer` that the prover leaves.
 use Rattle.mk_sched_supply.proofs.Lending.{reached}
 use Rattle.mk_sched_supply.proofs.Replying.{answered_item, stock_asked, stock_refused, with_both, with_ok}
 use Rattle.mk_plan.specs.Inputs.{value_at}

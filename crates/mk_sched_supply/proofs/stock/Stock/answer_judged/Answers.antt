@@ -1,3 +1,4 @@
+-- Answers to the goals of `stock::Stock::answer_judged` that the prover leaves.
 use Rattle.mk_sched_supply.proofs.stock.Stock.answer_judged.Goals as goal
 
 pub returns-clause-given : goal.returns-clause-given

@@ -1,3 +1,4 @@
+-- Answers to the goals of `stock::Stock::content_of` that the prover leaves.
 use Rattle.std.proofs.Common.{◌≡◌, ℕ, List, Some, subst}
 use Rattle.std.specs.Prelude.{IfSome, Option, option_map}
 use Rattle.mk_plan.specs.Asks.{content_text}

@@ -1,3 +1,4 @@
+-- The invariants and measures of the loops of `stock::Stock::give_all`.
 use Rattle.std.proofs.Common.{◌≡◌, ℕ, List, ◌++◌, All}
 use Rattle.mk_base.specs.Tiers.{delayed}
 use Rattle.mk_base.specs.declared.tier.Via.TheVariants.{Shift}

@@ -1,3 +1,4 @@
+-- Answers to the goals of `stock::Stock::inputs_at` that the prover leaves.
 use Rattle.std.proofs.Common.{◌∙◌}
 use Rattle.mk_order.proofs.LaterQuestions.{step_after}
 use Rattle.mk_buffers.specs.Standing.{mark_of}

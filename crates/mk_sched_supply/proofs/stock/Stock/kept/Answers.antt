@@ -1,3 +1,4 @@
+-- Answers to the goals of `stock::Stock::kept` that the prover leaves.
 use Rattle.std.proofs.Common.{◌∙◌, arith}
 use Rattle.mk_plan.specs.Deliveries.{supply}
 use Rattle.mk_buffers.specs.Standing.{least_mark}

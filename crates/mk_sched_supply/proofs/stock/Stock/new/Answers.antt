@@ -1,3 +1,4 @@
+-- Answers to the goals of `stock::Stock::new` that the prover leaves.
 use Rattle.mk_sched_supply.proofs.Beginning.{stock_begins}
 use Rattle.mk_sched_supply.proofs.stock.Stock.new.Goals as goal
 

@@ -1,3 +1,4 @@
+-- Answers to the goals of `stock::Stock::outputs` that the prover leaves.
 use Rattle.std.proofs.Common.{◌≡◌, List, Some, slice_get, subst}
 use Rattle.mk_sched_supply.specs.declared.feeds.Feed.{Feed}
 use Rattle.mk_plan_judge.proofs.AtPlaces.{get_some}

@@ -1,3 +1,4 @@
+-- Answers to the goals of `stock::Stock::take_output` that the prover leaves.
 use Rattle.std.proofs.Common.{◌≡◌, true, Option, option_map, sym, subst, Bor}
 use Rattle.std.specs.Prelude.{IfSome}
 use Rattle.mk_base.specs.Trees.{is_datum, is_in_range}

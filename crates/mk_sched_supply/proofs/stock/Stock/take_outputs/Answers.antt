@@ -1,3 +1,4 @@
+-- Answers to the goals of `stock::Stock::take_outputs` that the prover leaves.
 use Rattle.std.proofs.Common.{◌∙◌, arith}
 use Rattle.mk_plan.specs.Journals.{view}
 use Rattle.mk_plan_judge.proofs.AtPlaces.{get_some}

@@ -1,3 +1,4 @@
+-- The invariants and measures of the loops of `stock::Stock::take_outputs`.
 use Rattle.std.proofs.Common.{◌≡◌, ◌<◌, length, map}
 use Rattle.mk_base.specs.declared.json.Json.{Json}
 use Rattle.mk_plan.specs.declared.Plan.{Plan}

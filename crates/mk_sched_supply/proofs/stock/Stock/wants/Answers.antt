@@ -1,3 +1,4 @@
+-- Answers to the goals of `stock::Stock::wants` that the prover leaves.
 use Rattle.mk_plan_judge.proofs.AtPlaces.{get_some}
 use Rattle.mk_sched_supply.proofs.stock.Stock.wants.Goals as goal
 

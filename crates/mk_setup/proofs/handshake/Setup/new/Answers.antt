@@ -1,3 +1,4 @@
+-- Answers to the goals of `handshake::Setup::new` that the prover leaves.
 use Rattle.std.proofs.Common.{◌∙◌, ℕ, List, None, ap, sym, subst, replicate}
 use Rattle.mk_meta.specs.declared.meta.Meta.{Meta}
 use Rattle.mk_entities.specs.declared.entities.EntityInfo.{EntityInfo}

@@ -1,3 +1,4 @@
+-- Answers to the goals of `handshake::Setup::next` that the prover leaves.
 use Rattle.std.proofs.Common.{◌≡◌, ◌∙◌, None, ap, sym, subst, refl}
 use Rattle.mk_setup.specs.Answers.{GivesNoRequest}
 use Rattle.mk_setup.specs.Kept.{state_of}

@@ -1,3 +1,4 @@
+-- Answers to the goals of `servant::Servant::call` that the prover leaves.
 use Rattle.std.proofs.Common.{sym, subst}
 use Rattle.mk_run_local.specs.inner.Standing.{IsFit}
 use Rattle.mk_run_local.proofs.Numbers.{call_fit}

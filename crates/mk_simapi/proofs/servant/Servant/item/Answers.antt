@@ -1,3 +1,4 @@
+-- Answers to the goals of `servant::Servant::item` that the prover leaves.
 use Rattle.std.proofs.Common.{◌≡◌, true, sym, subst}
 use Rattle.mk_plan.specs.declared.Message.{Message}
 use Rattle.mk_message.specs.Written.{is_in_range}

@@ -1,3 +1,4 @@
+-- Answers to the goals of `serving::Service::react` that the prover leaves.
 use Rattle.std.proofs.Common.{◌∙◌}
 use Rattle.mk_simapi.proofs.Steps.{answered_memory, said_on_link}
 use Rattle.mk_simapi.proofs.serving.Service.react.Goals as goal

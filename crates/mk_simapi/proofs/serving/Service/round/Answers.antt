@@ -1,3 +1,4 @@
+-- Answers to the goals of `serving::Service::round` that the prover leaves.
 use Rattle.std.proofs.Common.{◌++◌, ap, subst}
 use Rattle.mk_outside.proofs.OnLogs.{adds_more}
 use Rattle.mk_session.specs.declared.answers.Heard.{Heard}

@@ -1,3 +1,4 @@
+-- Answers to the goals of `serving::Service::step` that the prover leaves.
 use Rattle.std.proofs.Common.{◌≡◌, Some, ap}
 use Rattle.mk_simapi.specs.declared.served.Served.TheVariants as served
 use Rattle.mk_simapi.proofs.serving.Service.step.Goals as goal

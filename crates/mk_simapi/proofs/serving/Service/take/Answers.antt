@@ -1,3 +1,4 @@
+-- Answers to the goals of `serving::Service::take` that the prover leaves.
 use Rattle.std.proofs.Common.{◌++◌, sym, subst}
 use Rattle.mk_base.specs.declared.LinkNo.{LinkNo}
 use Rattle.mk_session.specs.declared.answers.Heard.{Heard}

@@ -1,3 +1,4 @@
+-- Answers to the goals of `bits::Bits::below` that the prover leaves.
 use Rattle.std.proofs.Common.{◌≡◌, ℕ, Bool, true, ◌||◌, ap, sym, ◌∙◌, subst, arith, inl, inr}
 use Rattle.std.proofs.lemmas.Bool.{cases_eq, ne_eqb}
 use Rattle.mk_tiers.specs.Sets.{has}

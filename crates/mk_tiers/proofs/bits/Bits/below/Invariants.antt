@@ -1,3 +1,4 @@
+-- The invariants and measures of the loops of `bits::Bits::below`.
 use Rattle.mk_tiers.specs.Sets.{HasAllBelow}
 use Rattle.mk_tiers.proofs.bits.Bits.below.Given as goal
 

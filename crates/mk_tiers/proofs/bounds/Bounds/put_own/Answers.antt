@@ -1,3 +1,4 @@
+-- Answers to the goals of `bounds::Bounds::put_own` that the prover leaves.
 use Rattle.std.proofs.Common.{◌≡◌, ◌<◌, length, map, slice_set, slice_index, sym, subst, ap, ◌∙◌, arith}
 use Rattle.std.proofs.lemmas.List.{length-set}
 use Rattle.mk_tiers.specs.Seen.{Seen, AreOfPlan, IsEarliestIn}

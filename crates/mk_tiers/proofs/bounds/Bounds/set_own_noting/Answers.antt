@@ -1,3 +1,4 @@
+-- Answers to the goals of `bounds::Bounds::set_own_noting` that the prover leaves.
 use Rattle.std.proofs.Common.{length, ap, sym, ◌∙◌}
 use Rattle.std.proofs.lemmas.List.{length-set}
 use Rattle.mk_tiers.specs.Seen.{Seen}

@@ -1,3 +1,4 @@
+-- Answers to the goals of `state::State::set_own` that the prover leaves.
 use Rattle.std.proofs.Common.{◌≡◌, ℕ, ◌<◌, ◌≤◌, ◌++◌, List, Bool, length, take, drop, slice_set, slice_index, refl, sym, ap, ◌∙◌, subst, arith}
 use Rattle.std.proofs.lemmas.List.{length-set}
 use Rattle.mk_tiers.specs.inner.Arcs.{AreKept, HasReason, IsLow, IsWithin}

@@ -1,3 +1,4 @@
+-- The invariants and measures of the loops of `rules::Rules::find`.
 use Rattle.std.proofs.Common.{◌≡◌, drop, map}
 use Rattle.std.specs.List.{position_from}
 use Rattle.mk_base.specs.Lists.{same_text}

@@ -1,3 +1,4 @@
+-- The invariants and measures of the loops of `ending::Ending::line`.
 use Rattle.std.proofs.Common.{◌≡◌, ◌++◌, take, map}
 use Rattle.std.specs.Prelude.{codes}
 use Rattle.mosaikrun_endings.specs.Endings.{unbroken}
