@@ -1,10 +1,9 @@
 //! What the members of an entity's description are.
 ghost use Rattle.std.specs.Prelude.{◌≡◌, [], unwrap_or, IfOk, option_map};
 ghost use Rattle.mk_base.specs.Trees.{items_in};
-ghost use Rattle.mk_base.specs.Names.{is_eid};
 ghost use Rattle.mk_entities.specs.Descriptions.{children_in, eid_in, if_eid, list_in, list_under};
 
-use mk_base::{Json, Mem, Text};
+use mk_base::{Json, Mem, Text, is_eid};
 
 // The items of a list, none where the tree is no list.
 pub fn items_of(tree: &Json) -> &[Json]
@@ -51,20 +50,14 @@ pub fn children_of(tree: &Json) -> &[Json]
     }
 }
 
-fn is_eid(text: &Text) -> bool
-    ensures { result ≡ is_eid text.now }
-{
-    match text.bytes() {
-        [] => false,
-        b"time" => false,
-        _ => true,
-    }
-}
-
 fn if_eid(text: &Text) -> Option<&Text>
     ensures { option_map (λ t. t.now) result ≡ if_eid text.now }
 {
-    if is_eid(text) { Some(text) } else { None }
+    if is_eid(text.bytes()) {
+        Some(text)
+    } else {
+        None
+    }
 }
 
 // The eid of what the tree describes.

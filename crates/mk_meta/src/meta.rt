@@ -1,8 +1,7 @@
 //! The tests of a reply to `init`.
 ghost use Rattle.std.specs.Prelude.{◌≡◌, map, IfOk, IfErr, IfSome, ◌≤◌, length, Ok, Err, ◌⊎◌, option_map, option_and_then};
-ghost use Rattle.mk_base.specs.Lists.{Each, same_text};
+ghost use Rattle.mk_base.specs.Lists.{Each};
 ghost use Rattle.mk_base.specs.Trees.{members_in};
-ghost use Rattle.mk_base.specs.Names.{kind_named};
 ghost use Rattle.mk_base.specs.Verdicts.{all_well};
 ghost use Rattle.mk_meta.specs.Metadata.{HasKnownAttrs, IsListed, most_models, is_version_three, kind_in, few_enough, meta_in, model_in, models_in, type_text};
 ghost use Rattle.mk_meta.specs.declared.fault.MetaFault.TheVariants as fault;
@@ -85,31 +84,11 @@ fn kind_of(reply: &Json) -> Option<SimKind>
 {
     match reply.member("type") {
         Some(tree) => match tree.as_text() {
-            Some(word) => kind_named(word),
+            Some(word) => SimKind::named(word.bytes()),
             None => None,
         },
         None => Some(SimKind::TimeBased),
     }
-}
-
-fn kind_named(word: &Text) -> Option<SimKind>
-    ensures { result ≡ kind_named word.now }
-{
-    if is_word(word, b"time-based") {
-        Some(SimKind::TimeBased)
-    } else if is_word(word, b"event-based") {
-        Some(SimKind::EventBased)
-    } else if is_word(word, b"hybrid") {
-        Some(SimKind::Hybrid)
-    } else {
-        None
-    }
-}
-
-fn is_word(text: &Text, word: &[u8]) -> bool
-    ensures { result ≡ same_text text.now word.now }
-{
-    text.bytes() == word
 }
 
 fn type_text(alloc: Global, reply: &Json) -> Result<Text, Mem>

@@ -1,13 +1,12 @@
 //! The tests of a model's description.
 ghost use Rattle.std.specs.Prelude.{◌≡◌, None, IfOk, Ok, Err, option_map, if◌then◌else◌};
-ghost use Rattle.mk_base.specs.Lists.{is_among};
 ghost use Rattle.mk_meta.specs.Metadata.{first_unknown, model_in, with_known};
 ghost use Rattle.mk_meta.specs.declared.fault.MetaFault.TheVariants as fault;
 
 use crate::fault::MetaFault;
 use crate::meta::ModelMeta;
 use crate::trees::{bool_at, bool_or_false, hybrid_texts, texts_at};
-use mk_base::{Json, List, Mem, SimKind, Text};
+use mk_base::{Json, List, Mem, SimKind, Text, is_among};
 use std::alloc::Global;
 
 // The model of this name and description, or the first test that it fails.
@@ -94,15 +93,9 @@ fn first_unknown<'a>(attrs: &List<Text>, texts: &'a List<Text>) -> Option<&'a Te
     ensures { option_map (λ t. t.now) result ≡ first_unknown attrs.now texts.now }
 {
     for text in texts.as_slice() {
-        if !is_among(attrs, text) {
+        if !is_among(attrs.as_slice(), text.bytes()) {
             return Some(text);
         }
     }
     None
-}
-
-fn is_among(texts: &List<Text>, text: &Text) -> bool
-    ensures { result ≡ is_among texts.now text.now }
-{
-    texts.as_slice().iter().any(|t| t.bytes() == text.bytes())
 }

@@ -7,7 +7,7 @@ ghost use Rattle.mk_plan_check.specs.Tests.{has_no_dot, sims_apart, eids_apart, 
 
 use crate::agreement::are_apart;
 use crate::marks::names;
-use mk_base::Mem;
+use mk_base::{Mem, is_eid};
 use mk_plan::{Plan, PlanSim};
 use std::alloc::Global;
 
@@ -43,12 +43,6 @@ fn have_no_dots(plan: &Plan) -> bool
         .as_slice()
         .iter()
         .all(|sim| has_no_dot(sim.id.bytes()))
-}
-
-fn is_eid(eid: &[u8]) -> bool
-    ensures { result ≡ is_eid eid.now }
-{
-    eid != b"".as_slice() && eid != b"time".as_slice()
 }
 
 fn are_named(plan: &Plan) -> bool

@@ -177,17 +177,11 @@ fn first_unfit_of(members: &Members<Json>) -> Option<&Text>
         (find (λ (m : List ℕ × Json). not (is_datum m.1)) members.now) }
 {
     for (key, value) in members.entries() {
-        if !is_datum(value) {
+        if !value.is_datum() {
             return Some(key);
         }
     }
     None
-}
-
-fn is_datum(value: &Json) -> bool
-    ensures { result ≡ is_datum value.now }
-{
-    value.is_whole() && value.nests_within(100)
 }
 
 // The times in the list that the value is, each from 0 to the latest.
