@@ -1,13 +1,11 @@
 //! How an index of names is made.
 ghost use Rattle.std.specs.Prelude.{◌≡◌, ◌<◌, ◌^◌, [], length, IfOk, OnOk};
-ghost use Rattle.std.specs.String.{string_bytes};
-ghost use Rattle.mk_plan.specs.Plans.{HasDistinctNames, RefersInside, full_id};
+ghost use Rattle.mk_plan.specs.Plans.{HasDistinctNames, RefersInside};
 ghost use Rattle.mk_plan_names.specs.inner.Making.{AreAttrsOf, AreFirstIds, ArePairsOf, HasSource};
 
 use indexmap::IndexSet;
 use mk_base::{List, Mem};
-use mk_plan::{AsyncPair, Conn, Plan};
-use mk_plan_judge::owner;
+use mk_plan::{AsyncPair, Conn, Plan, full_id};
 use std::alloc::Global;
 
 // The full ids of a plan's entities, in order.
@@ -22,17 +20,6 @@ pub fn ids_of(alloc: Global, plan: &Plan) -> Result<IndexSet<String>, Mem>
         ids.insert(full_id(alloc, plan, place as u32)?)?;
     }
     Ok(ids)
-}
-
-// The full id of an entity.
-fn full_id(alloc: Global, plan: &Plan, entity: u32) -> Result<String, Mem>
-    requires references { RefersInside plan.now }
-    requires there { entity < length plan.now.entities }
-    ensures { IfOk result (λ id. string_bytes id ≡ full_id plan.now entity) }
-{
-    let sim = plan.sims.at(owner(plan, entity).0 as usize);
-    let eid = &plan.entities.at(entity as usize).eid;
-    Ok(format!(in alloc; "{}.{}", sim.id.as_str(), eid.as_str())?)
 }
 
 // The attributes that connections take, by their entities.
