@@ -3,20 +3,15 @@
 use Rattle.std.proofs.Common.{◌≡◌, ◌⊎◌, inl, inr, suc, ◌-◌, Bool, true, false, true≢false, not, List, [], ◌∷◌, ◌++◌, length, fold, Option, option_map, slice_get, refl, sym, ap, subst, ◌∙◌, arith}
 use Rattle.std.specs.Prelude.{unwrap_or}
 use Rattle.std.specs.Cmp.{IsTotalOrder}
-use Rattle.std.specs.List.{AllByRecursion}
 use Rattle.std.specs.List.Sorted.{IsStrictlySortedBy}
 use Rattle.std.specs.Ordering.{is_eq}
 use Rattle.std.specs.declared.cmp.Ordering.{Ordering}
 use Rattle.std.specs.declared.cmp.Ordering.TheVariants.{Less, Equal, Greater}
 use Rattle.mk_base.specs.Lists.{IsIn, put, placed, last_of}
-use Rattle.mk_plan_judge.proofs.Putting.{put_sorted, turned}
+use Rattle.mk_base.proofs.Ordered.{turned}
+pub use Rattle.mk_base.proofs.Ordered.{all_has, puts_sorted, same_sorted}
 
 module _ {X : Type 0} where
-  pub all_has : (P : X → Type 0) (xs : List X) (x : X) → AllByRecursion P xs → IsIn x xs → P x
-  all_has P [] x all m = absurd m
-  all_has P (y ∷ ys) x all (inl q) = subst P (sym q) all.0
-  all_has P (y ∷ ys) x all (inr m) = all_has P ys x all.1 m
-
   pub last_is : (xs : List X) → slice_get xs (length xs - 1) ≡ last_of xs
   last_is [] = refl
   last_is (x ∷ []) = refl
@@ -52,13 +47,6 @@ module _ {X : Type 0} (order : X → X → Ordering) where
     all_put_in f c (d ∷ cs) ys (inr (inr m)) = all_put_in f c cs (put order (f d) ys) (inr m)
 
 module _ {X : Type 0} (order : X → X → Ordering) (total : IsTotalOrder order) where
-  not_both : (x y : X) → order x y ≡ Less → order y x ≡ Less → ⊥
-  not_both x y h k = let e : Less ≡ Greater = sym h ∙ turned order total x y Less k in cc
-
-  pub puts_sorted : {C : Type 0} (f : C → X) (cs : List C) (xs : List X) → IsStrictlySortedBy order xs → IsStrictlySortedBy order (fold (λ ys c. put order (f c) ys) xs cs)
-  puts_sorted f [] xs sorted = sorted
-  puts_sorted f (c ∷ cs) xs sorted = puts_sorted f cs (put order (f c) xs) (put_sorted order total (f c) xs sorted)
-
   pub put_from : (x n : X) (ys : List X) → IsIn x (put order n ys) → (x ≡ n) ⊎ IsIn x ys
   put_from x n [] (inl q) = inl q
   put_from x n [] (inr m) = absurd m
@@ -75,22 +63,6 @@ module _ {X : Type 0} (order : X → X → Ordering) (total : IsTotalOrder order
   pub puts_from : {C : Type 0} (f : C → X) (x : X) (cs : List C) (xs : List X) → IsIn x (fold (λ ys c. put order (f c) ys) xs cs) → ((c : C) × IsIn c cs × (x ≡ f c)) ⊎ IsIn x xs
   puts_from f x [] xs m = inr m
   puts_from f x (c ∷ cs) xs m = elim (puts_from f x cs (put order (f c) xs) m) [ inl r ↦ inl (r.0, inr r.1, r.2) | inr r ↦ elim (put_from x (f c) xs r) [ inl q ↦ inl (c, inl refl, q) | inr t ↦ inr t ] ]
-
-  pub same_sorted : (xs ys : List X) → IsStrictlySortedBy order xs → IsStrictlySortedBy order ys → ((x : X) → IsIn x xs → IsIn x ys) → ((y : X) → IsIn y ys → IsIn y xs) → xs ≡ ys
-  unfolding IsStrictlySortedBy
-  same_sorted [] [] s t f g = refl
-  same_sorted [] (y ∷ ys) s t f g = absurd (g y (inl refl))
-  same_sorted (x ∷ xs) [] s t f g = absurd (f x (inl refl))
-  same_sorted (x ∷ xs) (y ∷ ys) s t f g =
-      let head : x ≡ y = heads (f x (inl refl)) (g y (inl refl)) in
-      ap (λ z. z ∷ xs) head ∙ ap (λ l. y ∷ l) (same_sorted xs ys s.1 t.1
-      (λ z m. elim (f z (inr m)) [ inl q ↦ absurd (let h : order x z ≡ Less = all_has (λ w. order x w ≡ Less) xs z s.0 m in let k : z ≡ x = q ∙ sym head in not_both x x (subst (λ (w : X). order x w ≡ Less) k h) (subst (λ (w : X). order x w ≡ Less) k h)) | inr n ↦ n ])
-      (λ z m. elim (g z (inr m)) [ inl q ↦ absurd (let h : order y z ≡ Less = all_has (λ w. order y w ≡ Less) ys z t.0 m in let k : z ≡ y = q ∙ head in not_both y y (subst (λ (w : X). order y w ≡ Less) k h) (subst (λ (w : X). order y w ≡ Less) k h)) | inr n ↦ n ]))
-    where
-      heads : IsIn x (y ∷ ys) → IsIn y (x ∷ xs) → x ≡ y
-      heads (inl q) n = q
-      heads (inr m) (inl q) = sym q
-      heads (inr m) (inr n) = absurd (not_both x y (all_has (λ w. order x w ≡ Less) xs y s.0 n) (all_has (λ w. order y w ≡ Less) ys x t.0 m))
 
   -- ---- an item that none of these comes behind
 
@@ -130,7 +102,7 @@ module _ {X : Type 0} (order : X → X → Ordering) (total : IsTotalOrder order
     -- the same items give the same list
     pub same_puts : {C D : Type 0} (f : C → X) (g : D → X) (cs : List C) (ds : List D) → ((c : C) → IsIn c cs → (d : D) × IsIn d ds × (f c ≡ g d)) → ((d : D) → IsIn d ds → (c : C) × IsIn c cs × (f c ≡ g d)) → fold (λ ys c. put order (f c) ys) [] cs ≡ fold (λ ys d. put order (g d) ys) [] ds
     unfolding IsStrictlySortedBy
-    same_puts f g cs ds there back = same_sorted (fold (λ ys c. put order (f c) ys) [] cs) (fold (λ ys d. put order (g d) ys) [] ds) (puts_sorted f cs [] tt) (puts_sorted g ds [] tt)
+    same_puts f g cs ds there back = same_sorted order total (fold (λ ys c. put order (f c) ys) [] cs) (fold (λ ys d. put order (g d) ys) [] ds) (puts_sorted order total f cs [] tt) (puts_sorted order total g ds [] tt)
         (λ x m. elim (puts_from f x cs [] m) [
           | inl r ↦ let d = there r.0 r.1 in subst (λ (y : X). IsIn y (fold (λ ys d. put order (g d) ys) [] ds)) (sym (r.2 ∙ d.2)) (all_put_in order exact g d.0 ds [] (inr d.1))
           | inr r ↦ absurd r

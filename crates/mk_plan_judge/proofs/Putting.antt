@@ -3,40 +3,26 @@ use Rattle.std.proofs.Common.{◌≡◌, ◌⊎◌, inl, inr, ℕ, zero, suc, �
 use Rattle.std.specs.Cmp.{IsTotalOrder}
 use Rattle.std.specs.declared.cmp.Ordering.{Ordering}
 use Rattle.std.specs.declared.cmp.Ordering.TheVariants.{Less, Equal, Greater}
-use Rattle.std.specs.Ordering.{ordering_reverse, ordering_index}
+use Rattle.std.specs.Ordering.{ordering_index}
 use Rattle.std.specs.List.{insert, AllByRecursion, HoldsAt}
 use Rattle.std.specs.List.Sorted.{IsStrictlySortedBy, IsNonDecreasingBy, IsPartitionPoint, IsBinarySearchResult, IsSearchInRange}
 use Rattle.std.specs.Cmp.Lexicographic.{on_texts}
 use Rattle.std.proofs.lemmas.Cmp.{then_total}
 use Rattle.mk_base.specs.Lists.{put, put_at, placed}
+pub use Rattle.mk_base.proofs.Ordered.{put_sorted, turned}
 use Rattle.mk_plan.specs.declared.Want.{Want}
 use Rattle.mk_plan.specs.Turns.{want_order}
 
 module _ {X : Type 0} where
-  all_on : (P Q : X → Type 0) → ((x : X) → P x → Q x) → (xs : List X) → AllByRecursion P xs → AllByRecursion Q xs
-  all_on P Q f [] all = tt
-  all_on P Q f (x ∷ xs) all = (f x all.0, all_on P Q f xs all.1)
-
   all_at : (P : X → Type 0) (xs : List X) (i : ℕ) (d : X) → i < length xs → AllByRecursion P xs → P (get_or xs i d)
   all_at P [] i d there all = absurd (omega arith)
   all_at P (x ∷ xs) zero d there all = all.0
   all_at P (x ∷ xs) (suc i) d there all = all_at P xs i d (omega arith) all.1
 
-  all_put : (order : X → X → Ordering) (P : X → Type 0) (x : X) (xs : List X) → P x → AllByRecursion P xs → AllByRecursion P (put order x xs)
-  all_put order P x [] here all = (here, tt)
-  all_put order P x (y ∷ ys) here all = elim (order x y) as (λ o. AllByRecursion P (placed o x y ys (put order x ys))) [
-    | Less ↦ (here, all)
-    | Equal ↦ (here, all.1)
-    | Greater ↦ (all.0, all_put order P x ys here all.1)
-  ]
-
 module _ {X : Type 0} (order : X → X → Ordering) (total : IsTotalOrder order) where
-  pub turned : (x y : X) (o : Ordering) → order y x ≡ o → order x y ≡ ordering_reverse o
-  turned x y o e = total.antisymm x y ∙ ap ordering_reverse e
-
   -- of two in order, the first is below each that equals the second
   below_equal : (y z x : X) → order y z ≡ Less → order z x ≡ Equal → order y x ≡ Less
-  below_equal y z x low same = turned y x Greater (sym (total.congr z x y same) ∙ turned z y Less low)
+  below_equal y z x low same = turned order total y x Greater (sym (total.congr z x y same) ∙ turned order total z y Less low)
 
   sorted_at : (xs : List X) (i j : ℕ) (d : X) → IsStrictlySortedBy order xs → i < j → j < length xs → order (get_or xs i d) (get_or xs j d) ≡ Less
   unfolding IsStrictlySortedBy
@@ -45,27 +31,18 @@ module _ {X : Type 0} (order : X → X → Ordering) (total : IsTotalOrder order
   sorted_at (x ∷ xs) zero (suc j) d sorted before there = all_at (λ y. order x y ≡ Less) xs j d (omega arith) sorted.0
   sorted_at (x ∷ xs) (suc i) (suc j) d sorted before there = sorted_at xs i j d sorted.1 (omega arith) (omega arith)
 
-  pub put_sorted : (x : X) (xs : List X) → IsStrictlySortedBy order xs → IsStrictlySortedBy order (put order x xs)
-  unfolding IsStrictlySortedBy
-  put_sorted x [] sorted = (tt, tt)
-  put_sorted x (y ∷ ys) sorted = elim (order x y) as (λ o. order x y ≡ o → IsStrictlySortedBy order (placed o x y ys (put order x ys))) [
-    | Less ↦ λ e. ((e, all_on (λ z. order y z ≡ Less) (λ z. order x z ≡ Less) (λ z h. total.trans x y z e h) ys sorted.0), sorted)
-    | Equal ↦ λ e. (all_on (λ z. order y z ≡ Less) (λ z. order x z ≡ Less) (λ z h. total.congr x y z e ∙ h) ys sorted.0, sorted.1)
-    | Greater ↦ λ e. (all_put order (λ z. order y z ≡ Less) x ys (turned y x Greater e) sorted.0, put_sorted x ys sorted.1)
-  ] refl
-
   put_equal : (x : X) (xs : List X) (i : ℕ) → IsStrictlySortedBy order xs → i < length xs → HoldsAt (λ y. order y x ≡ Equal) xs i → slice_set xs i x ≡ put order x xs
   unfolding IsStrictlySortedBy
   put_equal x [] i sorted there same = absurd (omega arith)
-  put_equal x (y ∷ ys) zero sorted there same = ap (λ o. placed o x y ys (put order x ys)) (sym (turned x y Equal (same y)))
+  put_equal x (y ∷ ys) zero sorted there same = ap (λ o. placed o x y ys (put order x ys)) (sym (turned order total x y Equal (same y)))
   put_equal x (y ∷ ys) (suc i) sorted there same = ap (λ l. y ∷ l) (put_equal x ys i sorted.1 (omega arith) same)
-      ∙ ap (λ o. placed o x y ys (put order x ys)) (sym (turned x y Less (below_equal y (get_or ys i y) x (all_at (λ z. order y z ≡ Less) ys i y (omega arith) sorted.0) (same y))))
+      ∙ ap (λ o. placed o x y ys (put order x ys)) (sym (turned order total x y Less (below_equal y (get_or ys i y) x (all_at (λ z. order y z ≡ Less) ys i y (omega arith) sorted.0) (same y))))
 
   put_between : (x : X) (xs : List X) (i : ℕ) → i ≤ length xs → IsPartitionPoint (λ y. order y x ≡ Less) (λ y. order y x ≡ Greater) xs i → insert xs i x ≡ put order x xs
   put_between x [] i there parts = elim i as (λ n. insert [] n x ≡ x ∷ []) [ zero ↦ refl | suc n ↦ refl ]
-  put_between x (y ∷ ys) zero there parts = ap (λ o. placed o x y ys (put order x ys)) (sym (turned x y Greater (parts.1 0 y (omega arith) (omega arith))))
+  put_between x (y ∷ ys) zero there parts = ap (λ o. placed o x y ys (put order x ys)) (sym (turned order total x y Greater (parts.1 0 y (omega arith) (omega arith))))
   put_between x (y ∷ ys) (suc i) there parts = ap (λ l. y ∷ l) (put_between x ys i (omega arith) ((λ k d low high. parts.0 (suc k) d (omega arith) (omega arith)), (λ k d low high. parts.1 (suc k) d (omega arith) (omega arith))))
-      ∙ ap (λ o. placed o x y ys (put order x ys)) (sym (turned x y Less (parts.0 0 y (omega arith) (omega arith))))
+      ∙ ap (λ o. placed o x y ys (put order x ys)) (sym (turned order total x y Less (parts.0 0 y (omega arith) (omega arith))))
 
   -- of two in order, the first compares no higher
   no_higher : (y z x : X) → order y z ≡ Less → ordering_index (order y x) ≤ ordering_index (order z x)
@@ -87,14 +64,14 @@ module _ {X : Type 0} (order : X → X → Ordering) (total : IsTotalOrder order
   -- the list after the search has found an equal item
   pub put_found : (x : X) (xs items new : List X) (i : ℕ) → IsStrictlySortedBy order xs → items ≡ xs → i < length items → HoldsAt (λ y. order y x ≡ Equal) items i → new ≡ slice_set xs i x → (new ≡ put order x xs) × IsStrictlySortedBy order new
   put_found x xs items new i sorted is there same set = let made : new ≡ put order x xs = set ∙ put_equal x xs i sorted (subst (λ (l : List X). i < length l) is there) (subst (λ (l : List X). HoldsAt (λ y. order y x ≡ Equal) l i) is same)
-      in (made, subst (IsStrictlySortedBy order) (sym made) (put_sorted x xs sorted))
+      in (made, subst (IsStrictlySortedBy order) (sym made) (put_sorted order total x xs sorted))
 
   -- the list after the search has found no equal item
   pub put_unfound : (x : X) (xs items new : List X) (i : ℕ) → IsStrictlySortedBy order xs → items ≡ xs → i ≤ length items
       → (IsNonDecreasingBy (λ y. ordering_index (order y x)) items → IsPartitionPoint (λ y. order y x ≡ Less) (λ y. order y x ≡ Greater) items i) → new ≡ insert xs i x → (new ≡ put order x xs) × IsStrictlySortedBy order new
   put_unfound x xs items new i sorted is there parts set = let made : new ≡ put order x xs = set ∙ put_between x xs i (subst (λ (l : List X). i ≤ length l) is there)
       (subst (λ (l : List X). IsNonDecreasingBy (λ y. ordering_index (order y x)) l → IsPartitionPoint (λ y. order y x ≡ Less) (λ y. order y x ≡ Greater) l i) is parts (rising x xs sorted))
-      in (made, subst (IsStrictlySortedBy order) (sym made) (put_sorted x xs sorted))
+      in (made, subst (IsStrictlySortedBy order) (sym made) (put_sorted order total x xs sorted))
 
   -- the list after an item was put where a search has found its place
   pub put_there : (x : X) (xs items new : List X) (place : Result ℕ ℕ) → IsStrictlySortedBy order xs → items ≡ xs → IsSearchInRange place (length items)
