@@ -1,5 +1,4 @@
 -- The lemmas of mk_buffers, by their files.
-pub mod FullIds
 pub mod Putting
 pub mod Marking
 pub mod Lasts
