@@ -8,12 +8,13 @@ use Rattle.std.proofs.lemmas.List.{take_all, take_more}
 use Rattle.std.proofs.lemmas.List.Sorted.{sorted_far, ranks_by, IsPermutation-sym}
 use Rattle.std.proofs.lemmas.List.Sums.{fold-append}
 use Rattle.mk_base.specs.Lists.{IsIn, put}
-use Rattle.mk_base.proofs.Lists.{some_same, in_front, in_back, in_either, in_filter, filter_in, filter_append, get_is, below_get, at_in, length_set, set_here, set_else}
+use Rattle.mk_base.proofs.Lists.{all_in, some_same, in_front, in_back, in_either, in_filter, filter_in, filter_append, get_is, below_get, at_in, length_set, set_here, set_else}
 use Rattle.mk_plan.specs.declared.Plan.{Plan}
 use Rattle.mk_plan.specs.declared.Conn.{Conn}
 use Rattle.mk_plan.specs.declared.Want.{Want}
-use Rattle.mk_plan.specs.Plans.{owner}
+use Rattle.mk_plan.specs.Plans.{owner, RefersInside}
 use Rattle.mk_plan.specs.Turns.{wanted, want_order}
+use Rattle.mk_plan.proofs.Owners.{owner_is_below}
 use Rattle.mk_plan_judge.specs.declared.all_wants.Taking.{Taking}
 use Rattle.mk_plan_judge.specs.inner.Takings.{AreTakings, AreWantsOf, IsTakenBy, NoneIsBehind, taking_order, want_of, wants_of, with_want}
 use Rattle.mk_plan_judge.proofs.AtPlaces.{get_any, permuted, take_in}
@@ -47,6 +48,12 @@ module _ (P : Plan) where
 
   pub takings_all : (cs : List Conn) (n : ℕ) (ts : List Taking) → cs ≡ P.conns → length cs ≤ n → AreTakings P (take n cs) ts → AreTakings P P.conns ts
   takings_all cs n ts same all are = subst (λ (ds : List Conn). AreTakings P ds ts) (take_all n cs all ∙ same) are
+
+  -- each is taken of one of the simulators
+  pub takings_inside : (ts : List Taking) → RefersInside P → AreTakings P P.conns ts → (t : Taking) → IsIn t ts → t.sim < length P.sims
+  takings_inside ts refers are t m = let c = are.each t m in
+      let ends : (c.0.from < length P.entities) × (c.0.to < length P.entities) = all_in (λ (d : Conn). (d.from < length P.entities) × (d.to < length P.entities)) P.conns c.0 refers.conns c.1 in
+      subst (λ (i : ℕ). i < length P.sims) (sym c.2.sim) (owner_is_below P refers c.0.from ends.0)
 
   want_is : (c : Conn) (t : Taking) → IsTakenBy P c t → want_of t ≡ taken P c
   want_is c t by = λ i. record { eid = by.eid i; attr = by.attr i }

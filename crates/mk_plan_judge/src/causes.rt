@@ -1,6 +1,5 @@
 //! What a message is wrong by.
 ghost use Rattle.std.specs.Prelude.{◌≡◌, ◌==◌, int_lt, nat_lt, if◌then◌else◌};
-ghost use Rattle.mk_plan.specs.Plans.{kind_of};
 ghost use Rattle.mk_plan.specs.Turns.{holds_of, is_number, most_asks, too_many_asks, unasked, time_in, wanted, wrong, wrong_data, wrong_next};
 
 use crate::data::{has_bad_time, some_bad_part, some_deep_value, some_odd_value};
@@ -58,7 +57,7 @@ pub fn wrong(
                 content,
             } => {
                 if answered == id {
-                    wrong_next(kind_of(plan, sim), at, content)
+                    wrong_next(plan.kind_of(sim), at, content)
                 } else {
                     Some(Cause::Wrong(UNASKED))
                 }
@@ -112,16 +111,6 @@ fn failure(answered: u64, awaited: u64) -> Option<Cause>
         Some(Cause::Failed)
     } else {
         Some(Cause::Wrong(UNASKED))
-    }
-}
-
-// The simulator's kind.
-fn kind_of(plan: &Plan, sim: SimNo) -> SimKind
-    ensures { result ≡ kind_of plan.now sim.0 }
-{
-    match plan.sims.get(sim.0 as usize) {
-        Some(sim) => sim.kind,
-        None => SimKind::TimeBased,
     }
 }
 

@@ -8,7 +8,6 @@ mod data;
 mod lookups;
 mod numbers;
 mod places;
-mod sorted;
 mod wants;
 
 pub use all_wants::wants_of_all;
@@ -16,4 +15,4 @@ pub use causes::wrong;
 pub use data::values_for;
 pub use numbers::{next_time, output_time};
 pub use places::next_place;
-pub use wants::{owner, wanted};
+pub use wants::owner;

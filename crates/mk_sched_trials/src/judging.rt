@@ -1,11 +1,13 @@
 //! A message judged, the place after it, and what the data give.
-ghost use Rattle.std.specs.Prelude.{◌≡◌};
+ghost use Rattle.std.specs.Prelude.{◌≡◌, List, Some, IfOk, slice_get};
+ghost use Rattle.mk_plan.specs.declared.Want.{Want};
 ghost use Rattle.mk_plan.specs.Turns.{wanted};
 
 use mk_base::{Json, List, Mem, SimKind, SimNo, Tier};
 use mk_json::{JsonFault, read_json};
 use mk_plan::{Cause, Message, Place, Plan, Want};
-use mk_plan_judge::{next_place, values_for, wanted, wrong};
+use mk_plan_check::{PlanFault, check_plan};
+use mk_plan_judge::{next_place, values_for, wants_of_all, wrong};
 use mk_plan_samples::{OUT_TO_IN, Tie, connections, plan_of, two_simulators};
 use std::alloc::Global;
 
@@ -93,9 +95,27 @@ fn are_right(alloc: Global, plan: &Plan, wants: &List<Want>) -> bool
         && is_given(alloc, wants)
 }
 
+fn are_first_right(alloc: Global, plan: &Plan, lists: &[List<Want>]) -> bool
+    requires { (wants : List Want) → slice_get lists.now 0 ≡ Some wants → wants ≡ wanted plan.now 0 }
+{
+    match lists.first() {
+        Some(wants) => are_right(alloc, plan, wants),
+        None => false,
+    }
+}
+
+// What is wanted of each simulator, if the plan is valid.
+fn lists_of(alloc: Global, plan: &Plan) -> Result<Vec<List<Want>>, PlanFault>
+    ensures { IfOk result (λ lists. (wants : List Want)
+        → slice_get lists.items 0 ≡ Some wants → wants ≡ wanted plan.now 0) }
+{
+    check_plan(alloc, plan)?;
+    Ok(wants_of_all(alloc, plan)?)
+}
+
 fn is_plan_right(alloc: Global, plan: &Plan) -> bool {
-    match wanted(alloc, plan, SimNo(0)) {
-        Ok(wants) => are_right(alloc, plan, &wants),
+    match lists_of(alloc, plan) {
+        Ok(lists) => are_first_right(alloc, plan, lists.as_slice()),
         Err(_) => false,
     }
 }

@@ -38,7 +38,7 @@ pub record AreWantsOf (n : ℕ) (ts : List Taking) (lists : List (List Want)) : 
   pub count : length lists ≡ n
   pub each : (s : ℕ) (ws : List Want) → slice_get lists s ≡ Some ws → ws ≡ wants_of s ts
 
--- the lists, with what is taken put into that of its simulator, if there is one
+-- the lists, with what is taken put into that of its simulator
 abbrev pub with_want : Taking → List (List Want) → List (List Want)
 with_want t lists = slice_set lists t.sim
     (put want_order (want_of t) (unwrap_or (slice_get lists t.sim) []))
