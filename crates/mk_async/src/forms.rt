@@ -11,9 +11,6 @@ ghost use Rattle.mk_async.specs.inner.Forms.{get_form, only, related_form, set_f
 use crate::request::Asked;
 use mk_base::{Json, List, Members, Text};
 
-// How deep a value may nest.
-const VALUE_DEPTH: u32 = 100;
-
 // Whether there is such a function.
 pub fn is_function(name: &Text) -> bool
     ensures { result ≡ is_function name.now }
@@ -243,12 +240,5 @@ fn is_values(tree: &Json) -> bool
 fn are_values(members: &Members<Json>) -> bool
     ensures { result ≡ each_passes is_datum members.now }
 {
-    members.entries().iter().all(|member| is_datum(&member.1))
-}
-
-// Whether it is a value that a simulator may give.
-fn is_datum(tree: &Json) -> bool
-    ensures { result ≡ is_datum tree.now }
-{
-    tree.is_whole() && tree.nests_within(VALUE_DEPTH)
+    members.entries().iter().all(|member| member.1.is_datum())
 }

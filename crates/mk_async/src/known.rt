@@ -12,7 +12,6 @@ ghost use Rattle.mk_base.specs.Trees.{items_in, members_in, text_in};
 use crate::request::Asked;
 use mk_base::{Json, List, Members, SimNo, Text};
 use mk_plan::{Plan, PlanModel};
-use mk_plan_judge::owner;
 use mk_plan_names::Names;
 
 // Whether each entity and attribute of what the simulator asks for is known.
@@ -146,7 +145,7 @@ fn is_own(plan: &Plan, names: &Names, sim: SimNo, id: &Text) -> bool
     ensures { result ≡ is_own plan.now sim.0 id.now }
 {
     match entity_of(plan, names, id) {
-        Some(entity) => owner(plan, entity).0 == sim.0,
+        Some(entity) => plan.owner(entity).0 == sim.0,
         None => false,
     }
 }

@@ -8,7 +8,6 @@ use crate::known::entity_of;
 use crate::request::Asked;
 use mk_base::{Json, Members, SimNo, Text};
 use mk_plan::Plan;
-use mk_plan_judge::owner;
 use mk_plan_names::Names;
 
 // Whether the asynchronous connections that what the simulator asks for needs are there.
@@ -67,7 +66,7 @@ fn lends(plan: &Plan, names: &Names, sim: SimNo, id: &Text) -> bool
     ensures { result ≡ lends plan.now sim.0 id.now }
 {
     match entity_of(plan, names, id) {
-        Some(entity) => names.has_pair(owner(plan, entity), sim),
+        Some(entity) => names.has_pair(plan.owner(entity), sim),
         None => false,
     }
 }

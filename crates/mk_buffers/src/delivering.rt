@@ -4,6 +4,7 @@ ghost use Rattle.mk_plan.specs.declared.Plan.{Plan};
 ghost use Rattle.mk_plan.specs.Asks.{gives_attr};
 ghost use Rattle.mk_plan.specs.Deliveries.{Supply};
 ghost use Rattle.mk_base.specs.Data.{IsValueText};
+ghost use Rattle.mk_base.specs.Tiers.{latest_time};
 ghost use Rattle.mk_buffers.specs.Held.{with_output};
 
 use crate::buffers::Buffers;
@@ -18,7 +19,7 @@ impl Buffers {
     /// of memory nothing changes.
     pub fn deliver(&mut self, entity: u32, attr: &Text, at: Tier, value: Datum) -> Result<(), Mem>
         requires early { pos 0 ≤ℤ at.time }
-        requires late { at.time ≤ℤ pos 1000000000000000000 }
+        requires late { at.time ≤ℤ latest_time }
         requires low { at.tier ≤ 1000000 }
         ensures ok { (P : Plan) (S : Supply) → StandFor P self.old S
             → gives_attr P entity attr.now ≡ true → IsValueText value
@@ -37,7 +38,7 @@ impl Buffers {
     /// nothing changes.
     pub fn deliver_to(&mut self, outlet: usize, at: Tier, value: Datum) -> Result<(), Mem>
         requires early { pos 0 ≤ℤ at.time }
-        requires late { at.time ≤ℤ pos 1000000000000000000 }
+        requires late { at.time ≤ℤ latest_time }
         requires low { at.tier ≤ 1000000 }
         ensures ok { (P : Plan) (S : Supply) (entity : ℕ) (attr : List ℕ) → StandFor P self.old S
             → HasKey self.old entity attr outlet → IsValueText value
@@ -57,7 +58,7 @@ impl Buffers {
     fn take_in(&mut self, outlet: usize, at: Tier, value: Datum) -> Result<(), Mem>
         requires there { outlet < length self.old.outlets.items }
         requires early { pos 0 ≤ℤ at.time }
-        requires late { at.time ≤ℤ pos 1000000000000000000 }
+        requires late { at.time ≤ℤ latest_time }
         requires low { at.tier ≤ 1000000 }
         ensures ok { OnOk result
             (Delivers self.old self.new outlet (record { at = at; value = value })) }

@@ -14,7 +14,6 @@ use crate::sorted::{input_named, or_texts};
 use mk_base::{Datum, Mem, Text};
 use mk_buffers_log::Delay;
 use mk_plan::{Conn, Input, Plan};
-use mk_plan_judge::owner;
 use std::alloc::Global;
 use std::cmp::Ordering;
 
@@ -149,7 +148,7 @@ fn target_of<'a>(plan: &'a Plan, conn: &'a Conn, names: &'a [Text], outlet: usiz
     ensures { IsTarget plan.now conn.now outlet result }
 {
     Target {
-        sim: owner(plan, conn.to).0,
+        sim: plan.owner(conn.to).0,
         eid: &plan.entities.at(conn.to as usize).eid,
         source: &names[conn.from as usize],
         conn,

@@ -2,7 +2,7 @@
 //! outputs.
 ghost use Rattle.std.specs.Bool.{OnTrue};
 ghost use Rattle.mk_base.specs.Lists.{IsIn};
-ghost use Rattle.mk_base.specs.Tiers.{HasWidth};
+ghost use Rattle.mk_base.specs.Tiers.{HasWidth, latest_time};
 ghost use Rattle.std.specs.Prelude.{All, ◌≡◌, ℕ, ◌+◌, ◌-◌, ◌<◌, ◌≤◌, pos, ◌≤ℤ◌, List, [], ◌∷◌, ◌++◌, OnOk, OnErr, IfOk, length, Some, slice_get};
 ghost use Rattle.std.specs.List.Sorted.{IsPermutation, IsNonDecreasingBy};
 ghost use Rattle.mk_plan.specs.declared.Plan.{Plan};
@@ -16,7 +16,6 @@ use crate::sorted::or_texts;
 use mk_base::{Datum, Mem, Text, Tier, Via};
 use mk_buffers_log::{Delay, Log, Made};
 use mk_plan::{Conn, Plan};
-use mk_plan_judge::owner;
 use std::alloc::Global;
 use std::cmp::Ordering;
 
@@ -37,7 +36,7 @@ impl Outlet {
     // Takes one more output, and gives up what no question at or after the mark can reach.
     pub fn take_in(&mut self, at: Tier, value: Datum, until: &i64, mark: Tier) -> Result<(), Mem>
         requires early { pos 0 ≤ℤ at.time }
-        requires late { at.time ≤ℤ pos 1000000000000000000 }
+        requires late { at.time ≤ℤ latest_time }
         requires low { at.tier ≤ 1000000 }
         ensures ok { OnOk result
             (HasTaken until.now mark (record { at = at; value = value }) self.old self.new) }
@@ -348,7 +347,7 @@ fn source_of<'a>(plan: &'a Plan, conn: &'a Conn, place: usize) -> Source<'a>
         × (result.place ≡ place) }
 {
     Source {
-        sim: owner(plan, conn.from).0,
+        sim: plan.owner(conn.from).0,
         eid: &plan.entities.at(conn.from as usize).eid,
         attr: &conn.from_attr,
         entity: conn.from,

@@ -11,7 +11,6 @@ use crate::outlets::Part;
 use crate::sets::Sets;
 use mk_base::{Mem, SimNo, Tier};
 use mk_plan::Plan;
-use mk_plan_judge::owner;
 use std::alloc::Global;
 
 // The entities of a plan.
@@ -24,7 +23,7 @@ pub fn homes_of(alloc: Global, plan: &Plan, outlets: &[Part]) -> Result<Vec<Home
     let mut homes = Vec::with_capacity(alloc, plan.entities.len())?;
     for place in 0..plan.entities.len() {
         homes.push(Home {
-            sim: owner(plan, place as u32).0 as usize,
+            sim: plan.owner(place as u32).0 as usize,
             eid: plan.entities.at(place).eid.copy()?,
             outlets: outlets[place],
         })?;
@@ -74,7 +73,7 @@ fn asking(alloc: Global, plan: &Plan) -> Result<Vec<bool>, Mem>
 {
     let mut asks = vec![in alloc; false; plan.sims.len()]?;
     for conn in plan.conns.as_slice() {
-        ask(&mut asks, owner(plan, conn.to));
+        ask(&mut asks, plan.owner(conn.to));
     }
     for place in 0..plan.asyncs.len() {
         ask(&mut asks, plan.asyncs.at(place).to);

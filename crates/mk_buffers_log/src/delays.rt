@@ -2,7 +2,7 @@
 ghost use Rattle.std.specs.Prelude.{◌≡◌, ◌≤◌, ◌&&◌, ◌||◌, not, true, pos, Some, int_le, int_lt, ◌≤ℤ◌};
 ghost use Rattle.std.specs.List.{list_all};
 ghost use Rattle.mk_base.specs.declared.tier.Tier.{Tier};
-ghost use Rattle.mk_base.specs.Tiers.{delayed, up_to, HasWidth, IsUpTo};
+ghost use Rattle.mk_base.specs.Tiers.{delayed, up_to, HasWidth, IsUpTo, latest_time};
 ghost use Rattle.mk_plan.specs.Inputs.{is_since};
 ghost use Rattle.mk_buffers_log.specs.Logs.{is_in_time, is_settled};
 ghost use Rattle.mk_buffers_log.specs.inner.Logs.{does_come, is_held_up, is_overtaken, is_past};
@@ -51,7 +51,7 @@ impl Delay {
 /// one.
 pub fn is_delivered(made: Tier, via: Delay, until: Option<i64>, at: Tier) -> bool
     requires early { pos 0 ≤ℤ made.time }
-    requires late { made.time ≤ℤ pos 1000000000000000000 }
+    requires late { made.time ≤ℤ latest_time }
     requires low { made.tier ≤ 1000000 }
     ensures { result ≡ does_come via until at made }
 {
@@ -82,7 +82,7 @@ pub fn is_since(previous: Option<Tier>, arrival: Tier) -> bool
 /// What is made at a time has come by the mark, on its own and by each of these delays.
 pub fn is_past(made: Tier, vias: &[Delay], mark: Tier) -> bool
     requires early { pos 0 ≤ℤ made.time }
-    requires late { made.time ≤ℤ pos 1000000000000000000 }
+    requires late { made.time ≤ℤ latest_time }
     requires low { made.tier ≤ 1000000 }
     ensures { result ≡ is_past vias.now mark made }
 {
@@ -96,7 +96,7 @@ pub fn is_past(made: Tier, vias: &[Delay], mark: Tier) -> bool
 // What is made at a time has come by the mark by each of these delays.
 fn has_come(made: Tier, vias: &[Delay], mark: Tier) -> bool
     requires early { pos 0 ≤ℤ made.time }
-    requires late { made.time ≤ℤ pos 1000000000000000000 }
+    requires late { made.time ≤ℤ latest_time }
     requires low { made.tier ≤ 1000000 }
     ensures { result ≡ list_all (λ v. up_to (delayed made v) mark) vias.now }
 {
@@ -111,7 +111,7 @@ fn has_come(made: Tier, vias: &[Delay], mark: Tier) -> bool
 // What is made at a time has come by the mark by this delay.
 fn comes_by(made: Tier, via: Delay, mark: Tier) -> bool
     requires early { pos 0 ≤ℤ made.time }
-    requires late { made.time ≤ℤ pos 1000000000000000000 }
+    requires late { made.time ≤ℤ latest_time }
     requires low { made.tier ≤ 1000000 }
     ensures { result ≡ up_to (delayed made via) mark }
 {
@@ -122,7 +122,7 @@ fn comes_by(made: Tier, via: Delay, mark: Tier) -> bool
 /// than the mark.
 pub fn is_settled(made: Tier, vias: &[Delay], until: i64, mark: Tier) -> bool
     requires early { pos 0 ≤ℤ made.time }
-    requires late { made.time ≤ℤ pos 1000000000000000000 }
+    requires late { made.time ≤ℤ latest_time }
     requires low { made.tier ≤ 1000000 }
     ensures { result ≡ is_settled vias.now until mark made }
 {
@@ -136,7 +136,7 @@ pub fn is_settled(made: Tier, vias: &[Delay], until: i64, mark: Tier) -> bool
 // What is made at a time has come by the mark by each of these delays that deliver it before the run's end.
 fn has_come_or_never(made: Tier, vias: &[Delay], until: i64, mark: Tier) -> bool
     requires early { pos 0 ≤ℤ made.time }
-    requires late { made.time ≤ℤ pos 1000000000000000000 }
+    requires late { made.time ≤ℤ latest_time }
     requires low { made.tier ≤ 1000000 }
     ensures { result ≡ list_all (λ v. up_to (delayed made v) mark
         || int_le until (delayed made v).time) vias.now }
@@ -152,7 +152,7 @@ fn has_come_or_never(made: Tier, vias: &[Delay], until: i64, mark: Tier) -> bool
 // What is made at a time has come by the mark by this delay, or never comes before the run's end.
 fn comes_by_or_never(made: Tier, via: Delay, until: i64, mark: Tier) -> bool
     requires early { pos 0 ≤ℤ made.time }
-    requires late { made.time ≤ℤ pos 1000000000000000000 }
+    requires late { made.time ≤ℤ latest_time }
     requires low { made.tier ≤ 1000000 }
     ensures { result ≡ (up_to (delayed made via) mark || int_le until (delayed made via).time) }
 {
@@ -164,10 +164,10 @@ fn comes_by_or_never(made: Tier, via: Delay, until: i64, mark: Tier) -> bool
 /// first never comes before that end.
 pub fn is_overtaken(first: Tier, second: Tier, vias: &[Delay], until: i64, mark: Tier) -> bool
     requires early { pos 0 ≤ℤ first.time }
-    requires late { first.time ≤ℤ pos 1000000000000000000 }
+    requires late { first.time ≤ℤ latest_time }
     requires low { first.tier ≤ 1000000 }
     requires second_early { pos 0 ≤ℤ second.time }
-    requires second_late { second.time ≤ℤ pos 1000000000000000000 }
+    requires second_late { second.time ≤ℤ latest_time }
     requires second_low { second.tier ≤ 1000000 }
     ensures { result ≡ is_overtaken vias.now until mark first second }
 {
@@ -181,10 +181,10 @@ pub fn is_overtaken(first: Tier, second: Tier, vias: &[Delay], until: i64, mark:
 // By each of these delays the second has come by the mark, or the first never comes before the run's end.
 fn has_replaced(first: Tier, second: Tier, vias: &[Delay], until: i64, mark: Tier) -> bool
     requires early { pos 0 ≤ℤ first.time }
-    requires late { first.time ≤ℤ pos 1000000000000000000 }
+    requires late { first.time ≤ℤ latest_time }
     requires low { first.tier ≤ 1000000 }
     requires second_early { pos 0 ≤ℤ second.time }
-    requires second_late { second.time ≤ℤ pos 1000000000000000000 }
+    requires second_late { second.time ≤ℤ latest_time }
     requires second_low { second.tier ≤ 1000000 }
     ensures { result ≡ list_all (λ v. does_come v (Some until) mark second
         || int_le until (delayed first v).time) vias.now }
@@ -200,10 +200,10 @@ fn has_replaced(first: Tier, second: Tier, vias: &[Delay], until: i64, mark: Tie
 // By this delay the second has come by the mark, or the first never comes before the run's end.
 fn replaces_by(first: Tier, second: Tier, via: Delay, until: i64, mark: Tier) -> bool
     requires early { pos 0 ≤ℤ first.time }
-    requires late { first.time ≤ℤ pos 1000000000000000000 }
+    requires late { first.time ≤ℤ latest_time }
     requires low { first.tier ≤ 1000000 }
     requires second_early { pos 0 ≤ℤ second.time }
-    requires second_late { second.time ≤ℤ pos 1000000000000000000 }
+    requires second_late { second.time ≤ℤ latest_time }
     requires second_low { second.tier ≤ 1000000 }
     ensures { result ≡ (does_come via (Some until) mark second
         || int_le until (delayed first via).time) }
@@ -215,10 +215,10 @@ fn replaces_by(first: Tier, second: Tier, via: Delay, until: i64, mark: Tier) ->
 /// end.
 pub fn is_held_up(first: Tier, last: Tier, vias: &[Delay], until: i64, mark: Tier) -> bool
     requires early { pos 0 ≤ℤ first.time }
-    requires late { first.time ≤ℤ pos 1000000000000000000 }
+    requires late { first.time ≤ℤ latest_time }
     requires low { first.tier ≤ 1000000 }
     requires last_early { pos 0 ≤ℤ last.time }
-    requires last_late { last.time ≤ℤ pos 1000000000000000000 }
+    requires last_late { last.time ≤ℤ latest_time }
     requires last_low { last.tier ≤ 1000000 }
     ensures { result ≡ is_held_up vias.now until mark first last }
 {
@@ -233,10 +233,10 @@ pub fn is_held_up(first: Tier, last: Tier, vias: &[Delay], until: i64, mark: Tie
 // By this delay what is made first comes after the mark, while what is made last still comes before the run's end.
 fn is_held_up_by(first: Tier, last: Tier, via: Delay, until: i64, mark: Tier) -> bool
     requires early { pos 0 ≤ℤ first.time }
-    requires late { first.time ≤ℤ pos 1000000000000000000 }
+    requires late { first.time ≤ℤ latest_time }
     requires low { first.tier ≤ 1000000 }
     requires last_early { pos 0 ≤ℤ last.time }
-    requires last_late { last.time ≤ℤ pos 1000000000000000000 }
+    requires last_late { last.time ≤ℤ latest_time }
     requires last_low { last.tier ≤ 1000000 }
     ensures { result ≡ (not (up_to (delayed first via) mark)
         && int_lt (delayed last via).time until) }
@@ -247,7 +247,7 @@ fn is_held_up_by(first: Tier, last: Tier, via: Delay, until: i64, mark: Tier) ->
 /// By each of these delays what is made at a time comes before the run's end.
 pub fn is_all_in_time(made: Tier, vias: &[Delay], until: i64) -> bool
     requires early { pos 0 ≤ℤ made.time }
-    requires late { made.time ≤ℤ pos 1000000000000000000 }
+    requires late { made.time ≤ℤ latest_time }
     requires low { made.tier ≤ 1000000 }
     ensures { result ≡ list_all (λ v. int_lt (delayed made v).time until) vias.now }
 {
@@ -262,7 +262,7 @@ pub fn is_all_in_time(made: Tier, vias: &[Delay], until: i64) -> bool
 // By this delay what is made at a time comes before the run's end.
 fn comes_in_time(made: Tier, via: Delay, until: i64) -> bool
     requires early { pos 0 ≤ℤ made.time }
-    requires late { made.time ≤ℤ pos 1000000000000000000 }
+    requires late { made.time ≤ℤ latest_time }
     requires low { made.tier ≤ 1000000 }
     ensures { result ≡ int_lt (delayed made via).time until }
 {
@@ -273,7 +273,7 @@ fn comes_in_time(made: Tier, via: Delay, until: i64) -> bool
 /// delays.
 pub fn arrived(made: Tier, vias: &[Delay]) -> Tier
     requires early { pos 0 ≤ℤ made.time }
-    requires late { made.time ≤ℤ pos 1000000000000000000 }
+    requires late { made.time ≤ℤ latest_time }
     requires low { made.tier ≤ 1000000 }
     ensures { (m : Tier) → is_past vias.now m made ≡ true → IsUpTo result m }
 {

@@ -4,7 +4,7 @@ ghost use Rattle.std.specs.Prelude.{◌≡◌, ◌+◌, ◌<◌, ◌≤◌, true
 ghost use Rattle.std.specs.List.{insert, remove};
 ghost use Rattle.std.specs.List.Sorted.{IsPartitionPoint};
 ghost use Rattle.mk_base.specs.Lists.{IsIn};
-ghost use Rattle.mk_base.specs.Tiers.{up_to};
+ghost use Rattle.mk_base.specs.Tiers.{up_to, latest_time};
 ghost use Rattle.mk_base.specs.declared.tier.Via.{Via};
 ghost use Rattle.mk_plan.specs.Deliveries.{Timed};
 ghost use Rattle.mk_plan.specs.Inputs.{later, latest};
@@ -550,10 +550,10 @@ fn is_outdone(
     mark: Tier,
 ) -> bool
     requires early { pos 0 ≤ℤ own.time }
-    requires late { own.time ≤ℤ pos 1000000000000000000 }
+    requires late { own.time ≤ℤ latest_time }
     requires low { own.tier ≤ 1000000 }
     requires other_early { pos 0 ≤ℤ other.time }
-    requires other_late { other.time ≤ℤ pos 1000000000000000000 }
+    requires other_late { other.time ≤ℤ latest_time }
     requires other_low { other.tier ≤ 1000000 }
     ensures { result ≡ is_outdone via until mark own other place other_place }
 {

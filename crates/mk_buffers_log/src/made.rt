@@ -1,5 +1,6 @@
 //! An output with the time of its making.
 ghost use Rattle.std.specs.Prelude.{◌≡◌, pos, ◌≤ℤ◌, ◌≤◌};
+ghost use Rattle.mk_base.specs.Tiers.{latest_time};
 
 use mk_base::{Datum, Tier};
 use std::marker::Model;
@@ -13,13 +14,14 @@ pub struct Made {
 
 impl Model for Made {
     ghost use Rattle.std.specs.Prelude.{pos, ◌≤ℤ◌, ◌≤◌};
+    ghost use Rattle.mk_base.specs.Tiers.{latest_time};
     ghost use Rattle.mk_plan.specs.Deliveries.{Timed};
 
     ghost Value = { Timed };
 
     ghost view = { λ m. record { at = m.at; value = m.value } };
 
-    ghost invariant = { λ m. (pos 0 ≤ℤ m.at.time) × (m.at.time ≤ℤ pos 1000000000000000000)
+    ghost invariant = { λ m. (pos 0 ≤ℤ m.at.time) × (m.at.time ≤ℤ latest_time)
         × (m.at.tier ≤ 1000000) };
 }
 
@@ -27,7 +29,7 @@ impl Made {
     /// An output that was made at this time, which is from 0 to 10^18, with a tier of at most 1,000,000.
     pub fn new(at: Tier, value: Datum) -> Made
         requires early { pos 0 ≤ℤ at.time }
-        requires late { at.time ≤ℤ pos 1000000000000000000 }
+        requires late { at.time ≤ℤ latest_time }
         requires low { at.tier ≤ 1000000 }
         ensures { result ≡ record { at = at; value = value } }
     {
@@ -38,7 +40,7 @@ impl Made {
     pub fn at(&self) -> Tier
         ensures same { result ≡ self.now.at }
         ensures early { pos 0 ≤ℤ result.time }
-        ensures late { result.time ≤ℤ pos 1000000000000000000 }
+        ensures late { result.time ≤ℤ latest_time }
         ensures low { result.tier ≤ 1000000 }
     {
         self.at

@@ -8,7 +8,7 @@ ghost use Rattle.mk_launch.specs.declared.faults.LaunchFault.TheVariants as faul
 
 use crate::faults::{LaunchFault, Unready};
 use crate::template::words;
-use mk_base::{List, SimNo, Text};
+use mk_base::{List, SimNo, Text, is_among};
 use mk_scenario::{Begin, Scenario};
 use std::alloc::Global;
 
@@ -62,16 +62,9 @@ fn test_kind(kind: &Text, kinds: &List<Text>) -> Result<(), LaunchFault>
     ensures err { IfErr result (λ fault. (fault ≡ faults.NoKind)
         × (is_among kinds.now kind.now ≡ false)) }
 {
-    if is_among(kinds.as_slice(), kind.as_str()) {
+    if is_among(kinds.as_slice(), kind.bytes()) {
         Ok(())
     } else {
         Err(LaunchFault::NoKind)
     }
-}
-
-// Whether a kind has this name.
-fn is_among(kinds: &[Text], kind: &str) -> bool
-    ensures { result ≡ is_among kinds.now kind.now }
-{
-    kinds.iter().any(|known| known.as_str() == kind)
 }

@@ -1,4 +1,5 @@
-//! What a plan says of an entity and of a simulator.
+//! What a plan says of an entity and of a simulator. Of one that it doesn't have each call tells what the definition
+//! does: the tests are of any plan, and that each reference is in range is one of them.
 ghost use Rattle.std.specs.Prelude.{◌≡◌};
 ghost use Rattle.mk_plan.specs.Plans.{owner, eid_of, kind_of, rank_of};
 

@@ -1,5 +1,5 @@
 -- What stands of right messages.
-use Rattle.std.proofs.Common.{◌≡◌, ℕ, ℤ, pos, Bool, true, false, cond, not, ◌||◌, ◌&&◌, nat_le, ◌==◌, int_le, int_lt, List, [], ◌∷◌, Option, Some, None, option_map, option_and_then, unwrap_or, refl, sym, ap, ◌∙◌, ◌⊎◌, inl, inr, arith, true≢false, eqb-true, FitsSigned}
+use Rattle.std.proofs.Common.{◌≡◌, ℕ, ℤ, Bool, true, false, cond, not, ◌||◌, ◌&&◌, nat_le, ◌==◌, int_le, int_lt, List, [], ◌∷◌, Option, Some, None, option_map, option_and_then, unwrap_or, refl, sym, ap, ◌∙◌, ◌⊎◌, inl, inr, arith, true≢false, eqb-true, FitsSigned}
 use Rattle.std.proofs.lemmas.Int.{ints}
 use Rattle.std.specs.Int.{w64}
 use Rattle.std.specs.Option.{ForSome}
@@ -8,6 +8,7 @@ use Rattle.mk_base.specs.declared.SimKind.{SimKind}
 use Rattle.mk_base.specs.declared.tier.Tier.{Tier}
 use Rattle.mk_base.specs.declared.json.Json.{Json}
 use Rattle.mk_base.specs.Lists.{IsIn}
+use Rattle.mk_base.specs.Tiers.{latest_time}
 use Rattle.mk_base.specs.Trees.{is_null, whole_in, is_object, is_whole, is_datum, nesting, value_depth}
 use Rattle.mk_base.proofs.Lists.{passes_some, none_some}
 use Rattle.mk_plan.specs.declared.Plan.{Plan}
@@ -16,8 +17,7 @@ use Rattle.mk_plan.specs.declared.Cause.TheVariants.{Wrong}
 use Rattle.mk_plan.specs.declared.Message.TheVariants.{Success}
 use Rattle.mk_plan.specs.declared.Place.TheVariants.{Stepping, Fetching}
 use Rattle.mk_plan.specs.Plans.{kind_of, is_time_based}
-use Rattle.mk_plan.specs.Turns.{first_cause, wrong, wrong_next, wrong_data, wanted, is_number, holds_of, time_in, part_for, value_for}
-use Rattle.mk_plan_judge.specs.inner.Numbers.{is_moment}
+use Rattle.mk_plan.specs.Turns.{first_cause, wrong, wrong_next, wrong_data, wanted, is_number, is_output_time, holds_of, time_in, part_for, value_for}
 
 -- where there is no cause, each test fails
 three_fail : (a b c : Bool) (k l m : ℕ) → first_cause ((a, k) ∷ (b, l) ∷ (c, m) ∷ []) ≡ None → (a ≡ false) × (b ≡ false) × (c ≡ false)
@@ -50,10 +50,10 @@ whole_not_null : (t : Json) (n : ℤ) → whole_in t ≡ Some n → is_null t �
 whole_not_null t n e = grind arith
 
 -- a number in range
-number_fits : (n low : ℤ) → FitsSigned w64 low → int_le n low ≡ false → int_le n (pos 1000000000000000000) ≡ true → FitsSigned w64 n
+number_fits : (n low : ℤ) → FitsSigned w64 low → int_le n low ≡ false → int_le n latest_time ≡ true → FitsSigned w64 n
 number_fits n low fits above below = grind (arith, ints)
 
-moment_fits : (n : ℤ) → is_moment n ≡ true → FitsSigned w64 n
+moment_fits : (n : ℤ) → is_output_time n ≡ true → FitsSigned w64 n
 moment_fits n e = grind (arith, ints)
 
 abbrev is_up_to : ℤ → Json → Bool
@@ -66,13 +66,13 @@ number_is test t n e = ap (λ (o : Option ℤ). unwrap_or (option_map test o) fa
 pub right_next_fits : (kind : SimKind) (x : Tier) (content : Json) → FitsSigned w64 x.time → wrong_next kind x content ≡ None → ForSome (whole_in content) (λ n. FitsSigned w64 n)
 right_next_fits kind x content fits right n is = number_fits n x.time fits later latest
   where
-    failed : (not (is_null content || is_up_to (pos 1000000000000000000) content) ≡ false) × ((is_null content && is_time_based kind) ≡ false) × (is_up_to x.time content ≡ false)
-    failed = three_fail (not (is_null content || is_up_to (pos 1000000000000000000) content)) (is_null content && is_time_based kind) (is_up_to x.time content) 2 4 3 right
+    failed : (not (is_null content || is_up_to latest_time content) ≡ false) × ((is_null content && is_time_based kind) ≡ false) × (is_up_to x.time content ≡ false)
+    failed = three_fail (not (is_null content || is_up_to latest_time content)) (is_null content && is_time_based kind) (is_up_to x.time content) 2 4 3 right
 
-    latest : int_le n (pos 1000000000000000000) ≡ true
-    latest = elim (either_true (is_null content) (is_up_to (pos 1000000000000000000) content) (not_false _ failed.0)) [
+    latest : int_le n latest_time ≡ true
+    latest = elim (either_true (is_null content) (is_up_to latest_time content) (not_false _ failed.0)) [
       | inl null ↦ absurd (true≢false (sym null ∙ whole_not_null content n is))
-      | inr number ↦ sym (number_is (λ m. int_le m (pos 1000000000000000000)) content n is) ∙ number
+      | inr number ↦ sym (number_is (λ m. int_le m latest_time) content n is) ∙ number
     ]
 
     later : int_le n x.time ≡ false
@@ -83,17 +83,17 @@ some_such test wants found = list_any (λ w. holds_of (λ t. not (test t)) (foun
 
 -- the tests of data that fail where it is right
 data_tests : (wants : List Want) (x : Tier) (content : Json) → wrong_data wants x content ≡ None
-    → ((not (is_object content) || holds_of (λ t. not (is_number is_moment t)) (time_in content)) ≡ false) × (some_such is_whole wants (value_for content) ≡ false) × (some_such (λ t. nat_le (nesting t) value_depth) wants (value_for content) ≡ false)
-data_tests wants x content right = five_fail (not (is_object content) || holds_of (λ t. not (is_number is_moment t)) (time_in content)) (holds_of (is_number (λ n. int_lt n x.time)) (time_in content))
+    → ((not (is_object content) || holds_of (λ t. not (is_number is_output_time t)) (time_in content)) ≡ false) × (some_such is_whole wants (value_for content) ≡ false) × (some_such (λ t. nat_le (nesting t) value_depth) wants (value_for content) ≡ false)
+data_tests wants x content right = five_fail (not (is_object content) || holds_of (λ t. not (is_number is_output_time t)) (time_in content)) (holds_of (is_number (λ n. int_lt n x.time)) (time_in content))
     (some_such is_object wants (part_for content)) (some_such is_whole wants (value_for content)) (some_such (λ t. nat_le (nesting t) value_depth) wants (value_for content)) 5 6 5 7 5 right
 
 -- where the reply to a GetData is right, it gives no output time or one that fits in 64 bits
 pub right_output_time_fits : (wants : List Want) (x : Tier) (content : Json) → wrong_data wants x content ≡ None → ForSome (option_and_then whole_in (time_in content)) (λ n. FitsSigned w64 n)
-right_output_time_fits wants x content right n is = by_time (time_in content) (neither (not (is_object content)) (holds_of (λ t. not (is_number is_moment t)) (time_in content)) (data_tests wants x content right).0).1 is
+right_output_time_fits wants x content right n is = by_time (time_in content) (neither (not (is_object content)) (holds_of (λ t. not (is_number is_output_time t)) (time_in content)) (data_tests wants x content right).0).1 is
   where
-    by_time : (t : Option Json) → holds_of (λ t. not (is_number is_moment t)) t ≡ false → option_and_then whole_in t ≡ Some n → FitsSigned w64 n
+    by_time : (t : Option Json) → holds_of (λ t. not (is_number is_output_time t)) t ≡ false → option_and_then whole_in t ≡ Some n → FitsSigned w64 n
     by_time None h e = absurd (none_some e)
-    by_time (Some t) h e = moment_fits n (sym (number_is is_moment t n e) ∙ not_false _ h)
+    by_time (Some t) h e = moment_fits n (sym (number_is is_output_time t n e) ∙ not_false _ h)
 
 -- where the reply to a GetData is right, each value that it gives for what is asked is one that a
 -- simulator may give

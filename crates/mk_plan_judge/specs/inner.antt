@@ -1,4 +1,3 @@
 -- What proofs alone need.
-pub mod Numbers
 pub mod Parts
 pub mod Takings

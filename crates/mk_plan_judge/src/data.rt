@@ -2,8 +2,7 @@
 ghost use Rattle.std.specs.Prelude.{◌≡◌, not, nat_le, map, option_map, IfOk};
 ghost use Rattle.std.specs.List.{list_any};
 ghost use Rattle.mk_base.specs.Trees.{is_object, is_whole, nesting, value_depth};
-ghost use Rattle.mk_plan.specs.Turns.{holds_of, is_number, part_for, time_in, value_for};
-ghost use Rattle.mk_plan_judge.specs.inner.Numbers.{is_moment};
+ghost use Rattle.mk_plan.specs.Turns.{holds_of, is_number, is_output_time, part_for, time_in, value_for};
 
 use crate::lookups::Lookups;
 use crate::numbers::is_output_time;
@@ -108,7 +107,7 @@ fn is_deep(value: Option<&Json>) -> bool
 
 // Whether the data gives an output time that is none.
 pub fn has_bad_time(content: &Json) -> bool
-    ensures { result ≡ holds_of (λ t. not (is_number is_moment t)) (time_in content.now) }
+    ensures { result ≡ holds_of (λ t. not (is_number is_output_time t)) (time_in content.now) }
 {
     match content.member("time") {
         Some(time) => !is_output_time(time),

@@ -3,8 +3,7 @@ ghost use Rattle.std.specs.Prelude.{◌≡◌, int_le, int_lt, FitsSigned, optio
 ghost use Rattle.std.specs.Int.{w64};
 ghost use Rattle.std.specs.Option.{ForSome};
 ghost use Rattle.mk_base.specs.Trees.{whole_in};
-ghost use Rattle.mk_plan.specs.Turns.{is_number, time_in};
-ghost use Rattle.mk_plan_judge.specs.inner.Numbers.{is_moment};
+ghost use Rattle.mk_plan.specs.Turns.{is_number, is_output_time, time_in};
 
 use mk_base::Json;
 
@@ -55,7 +54,7 @@ pub fn is_below(tree: &Json, bound: i128) -> bool
 
 // Whether the tree is a whole number that may be an output time.
 pub fn is_output_time(tree: &Json) -> bool
-    ensures { result ≡ is_number is_moment tree.now }
+    ensures { result ≡ is_number is_output_time tree.now }
 {
     match tree.as_whole() {
         Some(number) => EARLIEST_TIME <= number && number <= LATEST_TIME,

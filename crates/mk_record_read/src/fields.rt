@@ -118,17 +118,10 @@ pub fn kind_of(name: &Text) -> Result<SimKind, LineFault>
     ensures ok { IfOk result (λ k. kind_named name.now ≡ Some k) }
     ensures err { IfErr result (IsUnknown (kind_named name.now)) }
 {
-    let name = name.bytes();
-    if is_word(name, b"time-based") {
-        return Ok(SimKind::TimeBased);
+    match SimKind::named(name.bytes()) {
+        Some(kind) => Ok(kind),
+        None => Err(LineFault::Bad(OUT_OF_LIMITS)),
     }
-    if is_word(name, b"event-based") {
-        return Ok(SimKind::EventBased);
-    }
-    if is_word(name, b"hybrid") {
-        return Ok(SimKind::Hybrid);
-    }
-    Err(LineFault::Bad(OUT_OF_LIMITS))
 }
 
 // How a connection delays, as it stands in a line of version 2 or of version 1: a name, and the number beside it.

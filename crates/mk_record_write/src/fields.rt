@@ -27,11 +27,9 @@ pub fn put_bool(out: &mut Vec<u8>, b: bool) -> Result<(), Mem>
 pub fn put_kind(out: &mut Vec<u8>, kind: SimKind) -> Result<(), Mem>
     ensures { OnOk result (out.new.items ≡ out.old.items ++ quoted (kind_name kind)) }
 {
-    match kind {
-        SimKind::TimeBased => put(out, "\"time-based\""),
-        SimKind::EventBased => put(out, "\"event-based\""),
-        SimKind::Hybrid => put(out, "\"hybrid\""),
-    }
+    put(out, "\"")?;
+    put(out, kind.name())?;
+    put(out, "\"")
 }
 
 // How a connection delays.

@@ -2,6 +2,7 @@
 use Rattle.std.specs.Prelude.{◌≡◌, ℕ, ◌≤◌, ℤ, pos, ◌≤ℤ◌, Bool, List, map, Option, Some, None, is_some}
 use Rattle.mk_base.specs.declared.SimNo.{SimNo}
 use Rattle.mk_base.specs.declared.tier.Tier.{Tier}
+use Rattle.mk_base.specs.Tiers.{latest_time}
 use Rattle.mk_plan.specs.declared.Plan.{Plan}
 use Rattle.mk_plan.specs.declared.Message.{Message}
 use Rattle.mk_plan.specs.declared.Entry.{Entry}
@@ -39,7 +40,7 @@ pub record IsLast (P : Plan) (J : List Entry) (s : SimNo) (T : OpenTurn) (m : Me
 -- an output may be made at this time: from 0 to 10^18, with a tier of at most 1,000,000
 pub record CanBeMade (x : Tier) : Type 0 where
   pub early : pos 0 ≤ℤ x.time
-  pub late : x.time ≤ℤ pos 1000000000000000000
+  pub late : x.time ≤ℤ latest_time
   pub low : x.tier ≤ 1000000
 
 -- the fault of a trigger beyond the loop limit

@@ -6,7 +6,6 @@ ghost use Rattle.mk_sched_agenda.specs.inner.Outlets.{AreRowsOf};
 
 use mk_base::{List, Mem, SimNo, Via};
 use mk_plan::{Conn, Plan};
-use mk_plan_judge::owner;
 use std::alloc::Global;
 
 /// A triggering connection of a simulator: its place in the plan, the simulator that it triggers, and how it delays.
@@ -60,10 +59,10 @@ fn add_conn(plan: &Plan, rows: &mut Vec<List<Outlet>>, place: usize, conn: &Conn
     if conn.triggering {
         let outlet = Outlet {
             conn: place as u32,
-            to: owner(plan, conn.to),
+            to: plan.owner(conn.to),
             via: conn.via,
         };
-        rows[owner(plan, conn.from).0 as usize].push(outlet)?;
+        rows[plan.owner(conn.from).0 as usize].push(outlet)?;
     }
     Ok(())
 }

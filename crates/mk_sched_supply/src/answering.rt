@@ -1,7 +1,7 @@
 //! What a request in a step is answered.
 ghost use Rattle.std.specs.Prelude.{◌≡◌, ℕ, ◌≤ℤ◌, ◌≤◌, pos, true, All, IfOk, IsSome, OnOk, Some, List, option_map};
 ghost use Rattle.std.specs.List.{list_all};
-ghost use Rattle.mk_base.specs.Tiers.{IsUpTo};
+ghost use Rattle.mk_base.specs.Tiers.{IsUpTo, latest_time};
 ghost use Rattle.mk_base.specs.Trees.{is_in_range};
 ghost use Rattle.mk_plan.specs.declared.Plan.{Plan};
 ghost use Rattle.mk_plan.specs.declared.Entry.{Entry};
@@ -46,7 +46,7 @@ impl Stock {
         requires valid { IsValidPlan plan.now }
         requires asked { IsStepOpen plan.now sim.0 at self.old }
         requires early { pos 0 ≤ℤ at.time }
-        requires late { at.time ≤ℤ pos 1000000000000000000 }
+        requires late { at.time ≤ℤ latest_time }
         requires low { at.tier ≤ 1000000 }
         requires range { list_all is_in_range args.now ≡ true }
         ensures marks { HasSameMarks self.old.buffers self.new.buffers }
@@ -81,7 +81,7 @@ impl Stock {
         requires stands { (S : Supply) × StandFor plan.now self.old.buffers S }
         requires reached { wants_data asked.now ≡ true → IsUpTo (least_mark self.old.buffers) at }
         requires early { pos 0 ≤ℤ at.time }
-        requires late { at.time ≤ℤ pos 1000000000000000000 }
+        requires late { at.time ≤ℤ latest_time }
         requires low { at.tier ≤ 1000000 }
         ensures item { (S : Supply) → StandFor plan.now self.old.buffers S
             → IfOk result (λ item. IsAnswerBy plan.now (value_at S at) asked.now id item) }
@@ -122,7 +122,7 @@ impl Stock {
     // Gives the values that a step at `at` sets: each is delivered at the next time.
     fn give_all(&mut self, at: Tier, sets: List<SetValue>) -> Result<(), Mem>
         requires early { pos 0 ≤ℤ at.time }
-        requires late { at.time ≤ℤ pos 1000000000000000000 }
+        requires late { at.time ≤ℤ latest_time }
         requires low { at.tier ≤ 1000000 }
         ensures given { (P : Plan) (s : ℕ) (S : Supply) → StandFor P self.old.buffers S
             → All (IsGivenBy P s) sets

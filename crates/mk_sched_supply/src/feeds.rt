@@ -9,7 +9,7 @@ ghost use Rattle.mk_sched_supply.specs.inner.Making.{AreFeedsOf, HasNoTriggers, 
 
 use mk_base::{List, Mem, Text};
 use mk_plan::{Conn, Plan, Want};
-use mk_plan_judge::{owner, wants_of_all};
+use mk_plan_judge::wants_of_all;
 use std::alloc::Global;
 use std::cmp::Ordering;
 
@@ -57,7 +57,7 @@ fn add_conn(plan: &Plan, feeds: &mut Vec<Feed>, place: usize, conn: &Conn) -> Re
 {
     if conn.triggering {
         let eid = &plan.entities.at(conn.from as usize).eid;
-        let feed = &mut feeds[owner(plan, conn.from).0 as usize];
+        let feed = &mut feeds[plan.owner(conn.from).0 as usize];
         let trigger = place_of(feed.wants.as_slice(), eid, &conn.from_attr);
         feed.triggers.push(trigger)?;
     }

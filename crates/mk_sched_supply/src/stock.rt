@@ -2,6 +2,7 @@
 ghost use Rattle.std.specs.Prelude.{◌≡◌, ◌<◌, ◌≤◌, ◌≤ℤ◌, pos, min, true, None, Some, length, List, IfOk, IfSome, OnOk, option_map, slice_get};
 ghost use Rattle.mk_base.specs.Trees.{is_datum, is_in_range};
 ghost use Rattle.mk_base.specs.declared.json.Json.{Json};
+ghost use Rattle.mk_base.specs.Tiers.{latest_time};
 ghost use Rattle.mk_plan.specs.declared.Plan.{Plan};
 ghost use Rattle.mk_plan.specs.declared.Entry.{Entry};
 ghost use Rattle.mk_plan.specs.declared.Entry.TheVariants.{Got};
@@ -110,7 +111,7 @@ impl Stock {
     /// nothing any more.
     pub fn take_outputs(&mut self, sim: SimNo, made: Tier, outputs: &Outputs) -> Result<(), Mem>
         requires early { pos 0 ≤ℤ made.time }
-        requires late { made.time ≤ℤ pos 1000000000000000000 }
+        requires late { made.time ≤ℤ latest_time }
         requires low { made.tier ≤ 1000000 }
         requires data { AreData (found_values outputs.now) }
         ensures marks { HasSameMarks self.old.buffers self.new.buffers }
@@ -136,7 +137,7 @@ impl Stock {
         value: Option<&Json>,
     ) -> Result<(), Mem>
         requires early { pos 0 ≤ℤ made.time }
-        requires late { made.time ≤ℤ pos 1000000000000000000 }
+        requires late { made.time ≤ℤ latest_time }
         requires low { made.tier ≤ 1000000 }
         requires data { IfSome value (λ v. (is_datum v.now ≡ true) × (is_in_range v.now ≡ true)) }
         ensures given { (P : Plan) (S : Supply) (w : Want) → StandFor P self.old.buffers S

@@ -1,6 +1,7 @@
 //! What several tests have in common: two simulators A and B, plans of them, times and trees.
 ghost use Rattle.std.specs.Prelude.{◌≡◌, ◌≤◌, pos, ◌≤ℤ◌, true, IfOk};
 ghost use Rattle.mk_base.specs.Trees.{is_in_range};
+ghost use Rattle.mk_base.specs.Tiers.{latest_time};
 ghost use Rattle.mk_plan.specs.Plans.{IsValidPlan};
 
 use mk_base::{Json, List, Mem, SimKind, SimNo, Text, Tier};
@@ -97,7 +98,7 @@ pub fn checked(alloc: Global, plan: Plan) -> Result<Plan, PlanFault>
 /// The time of an ordinary step.
 pub fn at(time: u8) -> Tier
     ensures early { pos 0 ≤ℤ result.time }
-    ensures late { result.time ≤ℤ pos 1000000000000000000 }
+    ensures late { result.time ≤ℤ latest_time }
     ensures low { result.tier ≤ 1000000 }
 {
     Tier {

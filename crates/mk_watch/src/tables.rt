@@ -19,7 +19,6 @@ use crate::shares::shares_of;
 use crate::values::with_number;
 use mk_base::{List, Mem, SimNo, Text};
 use mk_plan::{Item, Journal, Plan};
-use mk_plan_judge::owner;
 use mk_watch_read::{Rule, Rules, Watch};
 use std::alloc::Global;
 
@@ -67,7 +66,7 @@ fn put_table(
         (folds_in rules.now) (sent J) watch.now) }
 {
     let rule = rules.at(watch.rule);
-    let sim = owner(plan, watch.entity);
+    let sim = plan.owner(watch.entity);
     put_watched(
         out,
         plan,

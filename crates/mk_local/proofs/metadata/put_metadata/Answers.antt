@@ -1,4 +1,4 @@
--- Answers to the goals of `metadata::put_metadata` that the prover leaves.
+-- The members that are put are those of the description.
 use Rattle.std.proofs.Common.{List, ℕ, [], ◌∷◌, codes, ap, ◌∙◌}
 use Rattle.std.proofs.lemmas.Result.{on_ok_weaker}
 use Rattle.mk_base.specs.declared.json.Json as tree
@@ -13,4 +13,4 @@ returns c = on_ok_weaker c.put_text-2.result (λ last. ap (λ (ms : Members). tr
     (told (tree.Text (codes "3.0")) (tree.Object ((model_of c.args.turn, tree.Object (description (type_of c.args.turn) c.args.turn)) ∷ [])) (tree.Text (kind_name (type_of c.args.turn))) c.args.members.now
     c.put_text.new.members c.put_models.new.members c.put_text-2.new.members
     c.requires c.in_ok-put_text.ensures c.in_ok-put_models.ensures
-    (last ∙ ap (λ (n : List ℕ). with c.put_models.new.members (codes "type") (tree.Text n)) (c.kind_name.ensures ∙ ap kind_name c.type_of.ensures)))) c.put_text-2.ensures
+    (last ∙ ap (λ (n : List ℕ). with c.put_models.new.members (codes "type") (tree.Text n)) (c.name.ensures ∙ ap kind_name c.type_of.ensures)))) c.put_text-2.ensures
