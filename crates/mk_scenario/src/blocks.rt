@@ -436,10 +436,10 @@ fn initial_fits(alloc: Global, path: &Text, said: &BlockSaid) -> Result<(), Scen
     ensures refused { IfErr result (λ e. IsFaultOf (initial_fits path.now said.now) e) }
 {
     let path = key_in(alloc, path, "initial_data")?;
-    if !(is_delayed(said.manner) || is_empty(&said.initial)) {
+    if !(is_delayed(said.manner) || members_of(&said.initial).is_empty()) {
         return Err(ScenarioFault::UnknownKey(path));
     }
-    match first_unfed(said.attrs.as_slice(), &said.initial) {
+    match first_unfed(alloc, said.attrs.as_slice(), &said.initial)? {
         Some(name) => Err(ScenarioFault::UnknownKey(key_in(alloc, &path, name.as_str())?)),
         None => Ok(()),
     }
@@ -451,46 +451,56 @@ fn is_delayed(manner: Manner) -> bool
     manner.width.is_some() || manner.weak
 }
 
-fn is_empty(table: &Json) -> bool
-    ensures { result ≡ (length (keys.members_of table.now) == 0) }
+// The table's members, in byte order of their names.
+fn members_of(table: &Json) -> &[(Text, Json)]
+    ensures { result.now ≡ keys.members_of table.now }
 {
     match table.as_object() {
-        Some(members) => members.is_empty(),
-        None => true,
+        Some(members) => members.entries(),
+        None => &[],
     }
 }
 
 // The first name, in byte order, that no pair has as its source.
-fn first_unfed<'a>(attrs: &[AttrPair], initial: &'a Json) -> Option<&'a Text>
-    ensures { option_map (λ t. t.now) result ≡ blocks.first_unfed attrs.now initial.now }
+fn first_unfed<'a>(
+    alloc: Global,
+    attrs: &[AttrPair],
+    initial: &'a Json,
+) -> Result<Option<&'a Text>, Mem>
+    ensures { IfOk result (λ name. option_map (λ t. t.now) name
+        ≡ blocks.first_unfed attrs.now initial.now) }
 {
-    match initial.as_object() {
-        Some(members) => first_unfed_of(attrs, members),
-        None => None,
+    let members = members_of(initial);
+    if members.is_empty() {
+        return Ok(None);
     }
+    let sources = source_names(alloc, attrs)?;
+    let name = first_other(&sources, members);
+    drop(sources);
+    Ok(name)
 }
 
-fn first_unfed_of<'a>(attrs: &[AttrPair], members: &'a Members<Json>) -> Option<&'a Text>
+// The source names of the pairs.
+fn source_names(alloc: Global, attrs: &[AttrPair]) -> Result<Names, Mem>
+    ensures { IfOk result (λ names. names ≡ source_names attrs.now) }
+{
+    let mut names = Names::new(alloc);
+    for pair in attrs {
+        names = names.with(alloc, &pair.from)?;
+    }
+    Ok(names)
+}
+
+// The first member, in byte order, whose name is none of these.
+fn first_other<'a>(names: &Names, members: &'a [(Text, Json)]) -> Option<&'a Text>
     ensures { option_map (λ t. t.now) result
-        ≡ find (λ key. not (keys.is_among (source_names attrs.now) key))
+        ≡ find (λ key. not (keys.is_among names.now key))
         (map (λ (m : List ℕ × Json). m.0) members.now) }
 {
-    for (name, _) in members.entries() {
-        if !is_source(attrs, name) {
+    for (name, _) in members {
+        if !names.has(name.as_str()) {
             return Some(name);
         }
     }
     None
-}
-
-// Whether a pair has this name as its source.
-fn is_source(attrs: &[AttrPair], name: &Text) -> bool
-    ensures { result ≡ keys.is_among (source_names attrs.now) name.now }
-{
-    for pair in attrs {
-        if name.bytes() == pair.from.bytes() {
-            return true;
-        }
-    }
-    false
 }
