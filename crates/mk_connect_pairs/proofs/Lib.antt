@@ -4,7 +4,6 @@ pub mod Initials
 pub mod Membership
 pub mod Modelled
 pub mod Numbering
-pub mod Sets
 pub mod Testing
 pub mod Usable
 pub mod Ways

@@ -9,11 +9,10 @@ use Rattle.std.proofs.lemmas.Bool.{and_parts}
 use Rattle.std.proofs.lemmas.Slice.Eq.{bytes_eq-Decides}
 use Rattle.indexmap.specs.IndexMap.{insert_entry}
 use Rattle.mk_base.specs.Lists.{same_text}
-use Rattle.mk_entities.proofs.Lookups.{place_first, place_later}
+use Rattle.mk_entities.proofs.Lookups.{nat_eq_sym, place_first, place_later, same_sym}
 use Rattle.mk_connect_pairs.specs.inner.Lookups.{HasNumbers, IsKeyOf, is_key}
 use Rattle.mk_connect_pairs.specs.Models.{is_model}
 use Rattle.mk_connect_pairs.specs.declared.models.SimModel.{SimModel}
-use Rattle.mk_connect_pairs.proofs.Sets.{nat_eq_sym, same_sym}
 
 abbrev pub or_else : {X : Type 0} → Option X → Option X → Option X
 or_else (Some x) other = Some x

@@ -7,9 +7,9 @@ use Rattle.indexmap.specs.IndexSet.{insert_key}
 use Rattle.mk_base.specs.Lists.{same_text}
 use Rattle.mk_base.proofs.Lists.{map_append}
 use Rattle.mk_plan.specs.declared.Conn.{Conn}
+use Rattle.mk_entities.proofs.Lookups.{nat_eq_sym, same_sym}
 use Rattle.mk_connect_pairs.specs.Connections.{is_way}
 use Rattle.mk_connect_pairs.specs.inner.Lookups.{Way, way_in, way_of}
-use Rattle.mk_connect_pairs.proofs.Sets.{nat_eq_sym, same_sym}
 
 -- the way is of these
 abbrev pub is_same_way : Way → Way → Bool
@@ -22,7 +22,7 @@ pub any_map : {X Y : Type 0} (p : Y → Bool) (f : X → Y) (xs : List X) → li
 any_map p f [] = refl
 any_map p f (x ∷ xs) = ap (λ b. p (f x) || b) (any_map p f xs)
 
-any_same : {X : Type 0} (p q : X → Bool) → ((x : X) → p x ≡ q x) → (xs : List X) → list_any p xs ≡ list_any q xs
+pub any_same : {X : Type 0} (p q : X → Bool) → ((x : X) → p x ≡ q x) → (xs : List X) → list_any p xs ≡ list_any q xs
 any_same p q same [] = refl
 any_same p q same (x ∷ xs) = λ i. same x i || any_same p q same xs i
 

@@ -4,11 +4,10 @@ use Rattle.std.specs.Prelude.{ℕ, suc, Bool, true, false, not, ◌&&◌, ◌||�
 use Rattle.mk_base.specs.declared.SimNo.{SimNo}
 use Rattle.mk_base.specs.declared.SimKind.{SimKind}
 use Rattle.mk_base.specs.declared.SimKind.TheVariants.{TimeBased, EventBased, Hybrid}
-use Rattle.mk_base.specs.Lists.{same_text}
+use Rattle.mk_base.specs.Lists.{is_among, same_text}
 use Rattle.mk_plan.specs.declared.PlanModel.{PlanModel}
 use Rattle.mk_meta.specs.declared.meta.ModelMeta.{ModelMeta}
 use Rattle.mk_meta.specs.declared.meta.Meta.{Meta}
-use Rattle.mk_scenario_keys.specs.Keys.{is_among}
 use Rattle.mk_entities.specs.declared.entities.EntityInfo.{EntityInfo}
 use Rattle.mk_connect_pairs.specs.declared.models.SimModel.{SimModel}
 

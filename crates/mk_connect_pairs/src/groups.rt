@@ -3,13 +3,12 @@ ghost use Rattle.std.specs.Prelude.{◌≡◌, ℕ, List, map, ◌⊎◌, ◌<�
 ghost use Rattle.std.specs.List.{find};
 ghost use Rattle.mk_scenario.specs.Wellformed.{IsWellformed};
 ghost use Rattle.mk_base.specs.declared.json.Json.{Json};
-ghost use Rattle.mk_scenario_keys.specs.Keys.{first_unknown, is_among};
+ghost use Rattle.mk_scenario_keys.specs.Keys.{first_unknown, is_among, members_of};
 ghost use Rattle.mk_connect_pairs.specs.Groups.{fault_of_group, group_fault, id_of_sim, model_named, param_fault};
 
 use crate::fault::ConnectFault;
-use crate::texts::{Texts, texts_of};
 use mk_base::{Json, List, Mem, Text};
-use mk_meta::{Meta, ModelMeta};
+use mk_meta::{Meta, ModelMeta, Texts, texts_of};
 use mk_scenario::{Group, Scenario, SimPart};
 use std::alloc::Global;
 
@@ -75,8 +74,7 @@ pub fn id_of_sim(alloc: Global, sims: &[SimPart], sim: u32) -> Result<Text, Mem>
 fn param_fault(alloc: Global, model: &ModelMeta, group: &Group) -> Result<Option<ConnectFault>, Mem>
     ensures { IfOk result (λ fault. fault ≡ param_fault model.now group.now) }
 {
-    let params = texts_of(alloc, &model.params)?;
-    match first_unknown(&params, &group.params) {
+    match first_unknown(alloc, &model.params, &group.params)? {
         Some(name) => {
             let model = group.model.copy()?;
             let name = name.copy()?;
@@ -87,24 +85,49 @@ fn param_fault(alloc: Global, model: &ModelMeta, group: &Group) -> Result<Option
 }
 
 // The first member, in byte order, whose name is none of these.
-fn first_unknown<'a>(known: &Texts, params: &'a Json) -> Option<&'a Text>
-    ensures { option_map (λ t. t.now) result ≡ first_unknown known.now params.now }
+fn first_unknown<'a>(
+    alloc: Global,
+    known: &List<Text>,
+    params: &'a Json,
+) -> Result<Option<&'a Text>, Mem>
+    ensures { IfOk result (λ unknown. option_map (λ t. t.now) unknown
+        ≡ first_unknown known.now params.now) }
+{
+    let members = members_of(params);
+    if members.is_empty() {
+        return Ok(None);
+    }
+    let known = texts_of(alloc, known)?;
+    let unknown = first_other(&known, members);
+    drop(known);
+    Ok(unknown)
+}
+
+// The members, in byte order of their names.
+fn members_of(params: &Json) -> &[(Text, Json)]
+    ensures { result.now ≡ members_of params.now }
 {
     match params.as_object() {
-        Some(members) => first_unknown_of(known, members.entries()),
-        None => None,
+        Some(members) => members.entries(),
+        None => &[],
     }
 }
 
-fn first_unknown_of<'a>(known: &Texts, members: &'a [(Text, Json)]) -> Option<&'a Text>
+fn first_other<'a>(known: &Texts, members: &'a [(Text, Json)]) -> Option<&'a Text>
     ensures { option_map (λ t. t.now) result
         ≡ find (λ key. not (is_among known.now key))
         (map (λ (m : List ℕ × Json). m.0) members.now) }
 {
     for (name, _) in members {
-        if !known.has(name) {
+        if !is_among(known, name) {
             return Some(name);
         }
     }
     None
+}
+
+fn is_among(known: &Texts, name: &Text) -> bool
+    ensures { result ≡ is_among known.now name.now }
+{
+    known.has(name)
 }

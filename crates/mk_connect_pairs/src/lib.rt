@@ -1,5 +1,5 @@
-//! The tests of a scenario's groups and connections, and the connections that pass them: models, entities and texts by
-//! their numbers, and what a block pairs.
+//! The tests of a scenario's groups and connections, and the connections that pass them: models and entities by their
+//! numbers, and what a block pairs.
 #![tactic(auto)]
 
 mod attributes;
@@ -12,7 +12,6 @@ mod members;
 mod models;
 mod numbers;
 mod study;
-mod texts;
 
 pub use connections::{block_pairs, conns_made};
 pub use fault::ConnectFault;
@@ -22,4 +21,3 @@ pub use members::members_of;
 pub use models::SimModel;
 pub use numbers::{Models, models_of, numbers_of};
 pub use study::{Study, number_at};
-pub use texts::Texts;

@@ -1,7 +1,7 @@
 //! A model of a simulator.
 
-use crate::texts::Texts;
 use mk_base::{SimKind, SimNo, Text};
+use mk_meta::Texts;
 
 /// A model of a simulator of this type: whether it takes any input, its attributes, those that trigger and those that
 /// are events, each looked up by its name.

@@ -6,11 +6,10 @@ ghost use Rattle.mk_connect_pairs.specs.inner.Lookups.{HasNumbers, IsKeyOf, is_k
 ghost use Rattle.mk_connect_pairs.specs.Models.{is_model, models_of, model_number, sim_model};
 
 use crate::models::SimModel;
-use crate::texts::{Texts, texts_of};
 use indexmap::IndexMap;
 use mk_base::{List, Mem, SimKind, SimNo, Text};
 use mk_entities::EntityInfo;
-use mk_meta::{Meta, ModelMeta};
+use mk_meta::{Meta, ModelMeta, Texts, texts_of};
 use std::alloc::Global;
 use std::marker::Model;
 

@@ -16,7 +16,7 @@ use Rattle.mk_entities.specs.inner.Tied.{names_at, numbered}
 
 -- ---- texts and keys
 
-nat_eq_sym : (x y : ℕ) → nat_eq x y ≡ nat_eq y x
+pub nat_eq_sym : (x y : ℕ) → nat_eq x y ≡ nat_eq y x
 nat_eq_sym x y = grind arith
 
 pub same_sym : (a b : List ℕ) → same_text a b ≡ same_text b a

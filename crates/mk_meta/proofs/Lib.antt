@@ -2,3 +2,4 @@
 pub mod Gathering
 pub mod Known
 pub mod Names
+pub mod Sets

@@ -1,2 +1,3 @@
 -- The definitions of mk_meta, by their files.
 pub mod Metadata
+pub mod inner

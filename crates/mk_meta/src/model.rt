@@ -5,8 +5,9 @@ ghost use Rattle.mk_meta.specs.declared.fault.MetaFault.TheVariants as fault;
 
 use crate::fault::MetaFault;
 use crate::meta::ModelMeta;
+use crate::texts::{Texts, texts_of};
 use crate::trees::{bool_at, bool_or_false, hybrid_texts, texts_at};
-use mk_base::{Json, List, Mem, SimKind, Text, is_among};
+use mk_base::{Json, List, Mem, SimKind, Text};
 use std::alloc::Global;
 
 // The model of this name and description, or the first test that it fails.
@@ -41,7 +42,7 @@ pub fn model_of(
         return misdescribed(alloc, name, "non-persistent");
     };
     let name = name.copy()?;
-    with_known(ModelMeta {
+    let model = ModelMeta {
         name,
         public,
         params,
@@ -49,7 +50,8 @@ pub fn model_of(
         any_inputs,
         trigger,
         events,
-    })
+    };
+    with_known(alloc, model)
 }
 
 // A model's member isn't what it must be.
@@ -64,36 +66,53 @@ fn misdescribed(
 }
 
 // The model, unless it names an attribute that it doesn't have.
-fn with_known(model: ModelMeta) -> Result<Result<ModelMeta, MetaFault>, Mem>
+fn with_known(alloc: Global, model: ModelMeta) -> Result<Result<ModelMeta, MetaFault>, Mem>
     ensures told { IfOk result (λ known. known ≡ with_known model) }
     ensures same { IfOk result (λ found. IfOk found (λ known. known ≡ model)) }
 {
-    if let Some(text) = unknown_trigger(&model) {
+    if let Some(text) = unknown_trigger(alloc, &model)? {
         return Ok(Err(MetaFault::TriggerUnknown(model.name.copy()?, text.copy()?)));
     }
-    if let Some(text) = first_unknown(&model.attrs, &model.events) {
+    if let Some(text) = first_unknown(alloc, &model.attrs, &model.events)? {
         return Ok(Err(MetaFault::TriggerUnknown(model.name.copy()?, text.copy()?)));
     }
     Ok(Ok(model))
 }
 
-fn unknown_trigger(model: &ModelMeta) -> Option<&Text>
-    ensures { option_map (λ t. t.now) result
-        ≡ (if model.now.any_inputs then None else first_unknown model.now.attrs model.now.trigger) }
+fn unknown_trigger(alloc: Global, model: &ModelMeta) -> Result<Option<&Text>, Mem>
+    ensures { IfOk result (λ unknown. option_map (λ t. t.now) unknown
+        ≡ (if model.now.any_inputs then None else first_unknown model.now.attrs model.now.trigger)) }
 {
     if model.any_inputs {
-        None
+        Ok(None)
     } else {
-        first_unknown(&model.attrs, &model.trigger)
+        first_unknown(alloc, &model.attrs, &model.trigger)
     }
 }
 
 // The first of the texts that isn't an attribute.
-fn first_unknown<'a>(attrs: &List<Text>, texts: &'a List<Text>) -> Option<&'a Text>
+fn first_unknown<'a>(
+    alloc: Global,
+    attrs: &List<Text>,
+    texts: &'a List<Text>,
+) -> Result<Option<&'a Text>, Mem>
+    ensures { IfOk result (λ unknown. option_map (λ t. t.now) unknown
+        ≡ first_unknown attrs.now texts.now) }
+{
+    if texts.is_empty() {
+        return Ok(None);
+    }
+    let attrs = texts_of(alloc, attrs)?;
+    let unknown = first_other(&attrs, texts.as_slice());
+    drop(attrs);
+    Ok(unknown)
+}
+
+fn first_other<'a>(attrs: &Texts, texts: &'a [Text]) -> Option<&'a Text>
     ensures { option_map (λ t. t.now) result ≡ first_unknown attrs.now texts.now }
 {
-    for text in texts.as_slice() {
-        if !is_among(attrs.as_slice(), text.bytes()) {
+    for text in texts {
+        if !attrs.has(text) {
             return Some(text);
         }
     }

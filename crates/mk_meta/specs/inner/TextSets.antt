@@ -2,8 +2,7 @@
 use Rattle.std.specs.Prelude.{◌≡◌, ℕ, ◌||◌, List}
 use Rattle.std.specs.HashSet.{HashSet, contains_text}
 use Rattle.std.specs.declared.string.String.{String}
-use Rattle.mk_base.specs.Lists.{same_text}
-use Rattle.mk_scenario_keys.specs.Keys.{is_among}
+use Rattle.mk_base.specs.Lists.{is_among, same_text}
 
 -- the set has the texts
 abbrev pub HasTexts : {S Y : Type 0} → HashSet (String Y) S → List (List ℕ) → Type 0

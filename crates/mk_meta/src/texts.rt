@@ -1,7 +1,7 @@
 //! Texts in order, among which a text is looked up without going through them.
 ghost use Rattle.std.specs.Prelude.{◌≡◌, ◌++◌, ◌∷◌, [], OnOk, IfOk};
-ghost use Rattle.mk_scenario_keys.specs.Keys.{is_among};
-ghost use Rattle.mk_connect_pairs.specs.inner.TextSets.{HasMore, HasTexts};
+ghost use Rattle.mk_base.specs.Lists.{is_among};
+ghost use Rattle.mk_meta.specs.inner.TextSets.{HasMore, HasTexts};
 
 use indexmap::IndexSet;
 use mk_base::{List, Mem, Text};
@@ -18,7 +18,7 @@ pub struct Texts {
 impl Model for Texts {
     ghost use Rattle.std.specs.Prelude.{List, ℕ};
     ghost use Rattle.std.specs.Coded.{coded_list, coded_ℕ};
-    ghost use Rattle.mk_connect_pairs.specs.inner.TextSets.{HasTexts};
+    ghost use Rattle.mk_meta.specs.inner.TextSets.{HasTexts};
 
     ghost Value = { List (List ℕ) };
 
@@ -90,7 +90,7 @@ fn know(alloc: Global, known: &mut IndexSet<String>, text: &Text) -> Result<(), 
     Ok(())
 }
 
-// The texts of this list.
+/// The texts of this list.
 pub fn texts_of(alloc: Global, texts: &List<Text>) -> Result<Texts, Mem>
     ensures { IfOk result (λ made. made ≡ texts.now) }
 {

@@ -1,4 +1,4 @@
--- The invariants and measures of the loops of `ordering::edges`.
+-- The invariants and measures of the loops of `ordering::edges_among`.
 use Rattle.std.proofs.Common.{◌≡◌, take}
 use Rattle.std.specs.Prelude.{flat_map}
 use Rattle.mk_connect.specs.Edges.{edges_in}
