@@ -32,8 +32,8 @@ IsOfGroup groups e = IfSome e.group (λ g. option_map (λ (h : Group). h.sim) (s
     ≡ Some e.sim)
 
 -- the ranks are those of the scenario's edges; each simulator has said what it is, its models in
--- byte order and few enough; none
--- got too many requests; and entities are of models and groups of their simulators
+-- byte order and few enough; none got too many requests, of one whose first id isn't told this is
+-- sure; and entities are of models and groups of their simulators
 pub record IsComplete (S : Scenario) (ranks : List ℕ) (metas : List Meta)
     (entities : List EntityInfo) (first_ids : List ℕ) : Type 0 where
   pub ranking : IsRanking (has_edge (edges_of S)) (length S.sims) ranks

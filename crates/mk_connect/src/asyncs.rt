@@ -1,5 +1,7 @@
 //! The asynchronous pairs of simulators, each once, at the first block that asks for it.
-ghost use Rattle.std.specs.Prelude.{◌≡◌, [], fold, map, IfOk, OnOk};
+ghost use Rattle.std.specs.Prelude.{◌≡◌, [], fold, length, map, IfOk, OnOk};
+ghost use Rattle.mk_base.specs.Lists.{Each};
+ghost use Rattle.mk_connect_pairs.specs.Usable.{IsUsable};
 ghost use Rattle.mk_connect.specs.Asyncs.{asyncs_in, asyncs_of, pair_put};
 
 use crate::ordering::sim_at;
@@ -57,8 +59,13 @@ impl Pairs {
     }
 }
 
-// The pairs of all blocks.
-pub fn asyncs_of(alloc: Global, groups: &[Group], blocks: &[Block]) -> Result<List<AsyncPair>, Mem>
+// The pairs of all blocks, which stand between places of these groups.
+pub fn asyncs_of(
+    alloc: Global,
+    groups: &List<Group>,
+    blocks: &[Block],
+) -> Result<List<AsyncPair>, Mem>
+    requires { Each (IsUsable (length groups.now)) blocks.now }
     ensures { IfOk result (λ pairs. pairs ≡ asyncs_of groups.now blocks.now) }
 {
     let mut pairs = Pairs::new(alloc);
@@ -70,7 +77,8 @@ pub fn asyncs_of(alloc: Global, groups: &[Group], blocks: &[Block]) -> Result<Li
 }
 
 // Puts the pair of the block, if it is asynchronous.
-fn put_async(pairs: &mut Pairs, groups: &[Group], block: &Block) -> Result<(), Mem>
+fn put_async(pairs: &mut Pairs, groups: &List<Group>, block: &Block) -> Result<(), Mem>
+    requires { IsUsable (length groups.now) block.now }
     ensures { OnOk result (pairs.new ≡ fold pair_put pairs.old (asyncs_in groups.now block.now)) }
 {
     if block.async_requests {

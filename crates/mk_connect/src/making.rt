@@ -144,17 +144,14 @@ fn plan_with(
     models: Models,
     parts: Parts,
 ) -> Result<Plan, Mem>
+    requires { IsWellformed scenario.now }
     ensures { IfOk result (λ P. P
         ≡ plan_of scenario.now ranks.now metas.now first_ids.now models parts.entities
         parts.conns) }
 {
     let sims = plan_sims(alloc, &scenario.sims, metas, ranks, first_ids)?;
     let models = plan_models(alloc, models)?;
-    let asyncs = asyncs_of(
-        alloc,
-        scenario.groups.as_slice(),
-        scenario.blocks.as_slice(),
-    )?;
+    let asyncs = asyncs_of(alloc, &scenario.groups, scenario.blocks.as_slice())?;
     Ok(Plan {
         until: scenario.until,
         loops: scenario.loops,

@@ -1,8 +1,10 @@
 //! Which simulators a scenario's connections put before which: what ranks rise along.
-ghost use Rattle.std.specs.Prelude.{◌≡◌, ◌++◌, ◌||◌, ◌&&◌, length, IfOk, OnOk};
+ghost use Rattle.std.specs.Prelude.{◌≡◌, ◌++◌, ◌||◌, ◌&&◌, ◌<◌, flat_map, length, IfOk, OnOk};
+ghost use Rattle.mk_base.specs.Lists.{Each};
 ghost use Rattle.mk_base.specs.Tiers.{is_plain};
 ghost use Rattle.mk_cycles.specs.Edges.{EndsBelow};
 ghost use Rattle.mk_scenario.specs.Wellformed.{IsWellformed};
+ghost use Rattle.mk_connect_pairs.specs.Usable.{HasGroup, IsUsable};
 ghost use Rattle.mk_connect.specs.Edges.{edges_in, edges_of, is_ordering, sim_at, sim_of_group};
 
 use mk_base::{List, Mem, SimNo, Via};
@@ -18,15 +20,25 @@ pub fn edges(alloc: Global, scenario: &Scenario) -> Result<List<Edge>, Mem>
     ensures edges { IfOk result (λ edges. edges ≡ edges_of scenario.now) }
     ensures below { IfOk result (λ edges. EndsBelow (length scenario.now.sims) edges) }
 {
+    let edges = edges_among(alloc, &scenario.groups, scenario.blocks.as_slice())?;
+    Ok(edges)
+}
+
+// The edges of blocks between places of these groups.
+fn edges_among(alloc: Global, groups: &List<Group>, blocks: &[Block]) -> Result<List<Edge>, Mem>
+    requires { Each (IsUsable (length groups.now)) blocks.now }
+    ensures { IfOk result (λ edges. edges ≡ flat_map (edges_in groups.now) blocks.now) }
+{
     let mut edges = List::new(alloc);
-    for block in scenario.blocks.as_slice() {
-        put_edge(&mut edges, scenario.groups.as_slice(), block)?;
+    for block in blocks {
+        put_edge(&mut edges, groups, block)?;
     }
     Ok(edges)
 }
 
 // Puts the edge of the block, if it orders its simulators.
-fn put_edge(edges: &mut List<Edge>, groups: &[Group], block: &Block) -> Result<(), Mem>
+fn put_edge(edges: &mut List<Edge>, groups: &List<Group>, block: &Block) -> Result<(), Mem>
+    requires { IsUsable (length groups.now) block.now }
     ensures { OnOk result (edges.new ≡ edges.old ++ edges_in groups.now block.now) }
 {
     if is_ordering(block) {
@@ -55,7 +67,8 @@ fn is_plain(via: Via) -> bool
 }
 
 // The simulator whose entities stand at this place.
-pub fn sim_at(groups: &[Group], place: &Place) -> SimNo
+pub fn sim_at(groups: &List<Group>, place: &Place) -> SimNo
+    requires { HasGroup (length groups.now) place.now }
     ensures { result.0 ≡ sim_at groups.now place.now }
 {
     match place {
@@ -65,13 +78,10 @@ pub fn sim_at(groups: &[Group], place: &Place) -> SimNo
     }
 }
 
-// The simulator of a group. A scenario's places name groups that are there; else simulator 0, which
-// the definition says too.
-fn sim_of_group(groups: &[Group], group: u32) -> SimNo
+// The simulator of a group.
+fn sim_of_group(groups: &List<Group>, group: u32) -> SimNo
+    requires { group < length groups.now }
     ensures { result.0 ≡ sim_of_group groups.now group }
 {
-    match groups.get(group as usize) {
-        Some(found) => found.sim,
-        None => SimNo(0),
-    }
+    groups.at(group as usize).sim
 }

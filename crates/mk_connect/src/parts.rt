@@ -1,5 +1,5 @@
 //! The parts of a plan beside its connections.
-ghost use Rattle.std.specs.Prelude.{◌≡◌, [], length, map, option_and_then, slice_get, unwrap_or, IfOk};
+ghost use Rattle.std.specs.Prelude.{◌≡◌, ◌<◌, [], Some, length, map, option_and_then, slice_get, unwrap_or, IfOk};
 ghost use Rattle.std.specs.List.{range_with_len};
 ghost use Rattle.mk_connect.specs.ByPlace.{by_place};
 ghost use Rattle.mk_connect.specs.Made.{kind_at, number_at, plan_entity, plan_sim};
@@ -60,7 +60,7 @@ fn copied(alloc: Global, times: &List<i64>) -> Result<List<i64>, Mem>
     Ok(List::from_vec(times.as_slice().iter().copied().collect(alloc)?))
 }
 
-// The type of a simulator, time-based where its metadata isn't there.
+// The type of a simulator, time-based where its metadata isn't there: a plan is made of whatever was said.
 fn kind_at(metas: &List<Meta>, s: usize) -> SimKind
     ensures { result ≡ kind_at metas.now s }
 {
@@ -70,7 +70,7 @@ fn kind_at(metas: &List<Meta>, s: usize) -> SimKind
     }
 }
 
-// The first id of a simulator, 0 where none is told.
+// The first id of a simulator, 0 where none is told: a plan is made of whatever ids there are.
 fn first_id_at(first_ids: &[u64], s: usize) -> u64
     ensures { result ≡ number_at first_ids.now s }
 {
@@ -80,7 +80,7 @@ fn first_id_at(first_ids: &[u64], s: usize) -> u64
     }
 }
 
-// The rank of a simulator, 0 where none is told.
+// The rank of a simulator, 0 where none is told: a plan is made of whatever ranks there are.
 fn rank_at(ranks: &List<u32>, s: usize) -> u32
     ensures { result ≡ number_at ranks.now s }
 {
@@ -163,10 +163,11 @@ fn model_at(numbers: &List<Option<u32>>, i: usize) -> u32
 }
 
 fn related_at(alloc: Global, relations: &[Numbers], i: usize) -> Result<List<u32>, Mem>
+    requires { i < length relations.now }
     ensures { IfOk result (λ list. list ≡ unwrap_or (slice_get relations.now i) []) }
 {
     match relations.get(i) {
         Some(numbers) => numbers.listed(alloc),
-        None => Ok(List::new(alloc)),
+        None => unreachable!(),
     }
 }
