@@ -24,7 +24,7 @@ begun S ranks = record {
   fault = None;
 }
 
--- the simulator that the next request goes to, or 0 where there is no next request
+-- the simulator that the next request goes to; 0 where there is none, and any message is a fault
 abbrev pub next_sim : SetupState → ℕ
 next_sim U = unwrap_or (option_map (λ (r : Request). r.sim) (request_of U)) 0
 

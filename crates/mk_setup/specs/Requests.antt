@@ -24,7 +24,7 @@ request_of U = slice_get (setup_requests U.scenario) U.answered
 abbrev pub group_of : SetupState → ℕ
 group_of U = U.answered - length U.scenario.sims
 
--- the metadata that a simulator's reply to `init` has; before it, those of a time-based simulator
--- without models
+-- the metadata that a simulator's reply to `init` has; before it, when no group's turn has come,
+-- those of a time-based simulator without models
 abbrev pub meta_of : SetupState → ℕ → Meta
 meta_of U sim = unwrap_or (slice_get U.metas sim) (record { kind = TimeBased; models = [] })

@@ -35,7 +35,8 @@ rows_text f rows = flat_map row_text rows
 abbrev pub table_text : List ℕ → List ℕ → List ℕ → Fold → List Row → List ℕ
 table_text id attr rule f rows = head_text id attr rule ++ rows_text f rows
 
--- the name and the fold of the rule at a place, from 0; where there is none, no name and the sum
+-- the name and the fold of the rule at a place, from 0; where there is none, no name and the sum,
+-- so that any watch has a table: the rule of one that was read is there
 abbrev pub name_at : List (List ℕ) → ℕ → List ℕ
 name_at names i = unwrap_or (slice_get names i) []
 

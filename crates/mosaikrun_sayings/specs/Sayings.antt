@@ -13,7 +13,8 @@ use Rattle.mosaikrun_endings.specs.declared.ending.Ending.TheVariants as ends
 abbrev pub ids_of : Scenario → List (List ℕ)
 ids_of S = map (λ (part : SimPart). part.id) S.sims
 
--- the id of a simulator, by its number; the empty text where there is none of this number
+-- the id of a simulator, by its number; the empty text where there is none of this number, so that
+-- any fault is said by any ids
 abbrev pub id_in : List (List ℕ) → SimNo → List ℕ
 id_in ids sim = unwrap_or (slice_get ids sim.0) []
 

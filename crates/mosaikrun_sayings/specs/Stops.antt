@@ -17,7 +17,8 @@ failure_in (entries.Got s (messages.Ask id name args named)) = []
 failure_in (entries.Got s (messages.Success id content)) = []
 failure_in (entries.Sent s item) = []
 
--- the text of the failure reply that a journal ends with, and the empty text where it ends otherwise
+-- the text of the failure reply that a journal ends with, and the empty text where it ends
+-- otherwise, so that any fault is said of any journal
 abbrev pub last_failure : List Entry → List ℕ
 last_failure J = unwrap_or (option_map failure_in (slice_get J (length J - 1))) []
 

@@ -63,6 +63,8 @@ fn failure_in(alloc: Global, entry: &Entry) -> Result<Text, Mem>
 {
     match entry {
         Entry::Got(_, Message::Failure { id: _, text }) => text.copy(),
-        _ => Text::of(alloc, ""),
+        Entry::Got(_, Message::Ask { .. }) => Text::of(alloc, ""),
+        Entry::Got(_, Message::Success { .. }) => Text::of(alloc, ""),
+        Entry::Sent(_, _) => Text::of(alloc, ""),
     }
 }
