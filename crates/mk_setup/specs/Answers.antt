@@ -31,7 +31,7 @@ pub record IsRequested (U : SetupState) (sim : SimNo) (call : Call) (id : ℕ)
   pub asked : V ≡ record U { asked = true }
 
 -- a request is outstanding, and nothing has changed
-pub record IsWaiting (U V : SetupState) : Type 0 where
+pub record IsAwaitingReply (U V : SetupState) : Type 0 where
   pub going : U.fault ≡ None
   pub asked : U.asked ≡ true
   pub same : V ≡ U
@@ -51,7 +51,7 @@ pub record IsReady (U : SetupState) (P : Plan) (V : SetupState) : Type 0 where
 -- what an answer to `next` means
 abbrev pub NextOf : SetupState → SetupNext → SetupState → Type 0
 NextOf U (Request sim call id) V = IsRequested U sim call id V
-NextOf U Wait V = IsWaiting U V
+NextOf U Wait V = IsAwaitingReply U V
 NextOf U (Ready P) V = IsReady U P V
 
 -- want of memory, after which nothing has changed

@@ -3,7 +3,7 @@ use Rattle.std.proofs.Common.{[], inl, inr, refl, sym, subst, ◌∙◌, true≢
 use Rattle.mk_outside.proofs.OnLogs.{adds_none}
 use Rattle.mk_setup.specs.declared.answers.SetupNext.{SetupNext}
 use Rattle.mk_setup.specs.declared.answers.SetupNext.TheVariants.{Request}
-use Rattle.mk_setup.specs.Answers.{IsWaiting, NextOf}
+use Rattle.mk_setup.specs.Answers.{IsAwaitingReply, NextOf}
 use Rattle.mk_run_crew.proofs.crew.Crew.step.Goals as goal
 
 pub make_request-requires-clause-linked : goal.make_request-requires-clause-linked
@@ -49,7 +49,7 @@ returns-in-Ok-Request-clause-err g c =
 
 pub unreachable-requires : goal.unreachable-requires
 unreachable-requires g c =
-    let w : IsWaiting c.args.setup.now c.next.new.self = subst (λ (n : SetupNext). NextOf c.args.setup.now n c.next.new.self) c.in-Ok-Wait.field-0-is c.in-Ok-Wait.ensures.ok in
+    let w : IsAwaitingReply c.args.setup.now c.next.new.self = subst (λ (n : SetupNext). NextOf c.args.setup.now n c.next.new.self) c.in-Ok-Wait.field-0-is c.in-Ok-Wait.ensures.ok in
     true≢false (sym w.asked ∙ c.requires.resting)
 
 pub returns-in-Ok-Ready-clause-ok : goal.returns-in-Ok-Ready-clause-ok
