@@ -95,6 +95,7 @@ fn describe(
     names: &Names,
     entities: &List<u32>,
 ) -> Result<Members<Json>, Mem>
+    requires references { RefersInside plan.now }
     requires names { AreNamesOf plan.now names.now }
     requires inside { All (λ (e : ℕ). e < length plan.now.entities) entities.now }
     ensures { IfOk result (λ members. members ≡ described plan.now entities.now) }
@@ -114,6 +115,7 @@ fn put_entity(
     members: &mut Members<Json>,
     entity: u32,
 ) -> Result<(), Mem>
+    requires references { RefersInside plan.now }
     requires names { AreNamesOf plan.now names.now }
     requires inside { entity < length plan.now.entities }
     ensures { OnOk result (members.new
@@ -136,6 +138,8 @@ fn full_id<'a>(plan: &Plan, names: &'a Names, entity: u32) -> &'a str
 
 // An entity's description: its model.
 fn type_tree(alloc: Global, plan: &Plan, entity: u32) -> Result<Json, Mem>
+    requires references { RefersInside plan.now }
+    requires inside { entity < length plan.now.entities }
     ensures { IfOk result (λ tree. tree ≡ type_tree plan.now entity) }
 {
     let mut members = Members::new(alloc);
@@ -144,25 +148,24 @@ fn type_tree(alloc: Global, plan: &Plan, entity: u32) -> Result<Json, Mem>
 }
 
 fn put_type(alloc: Global, plan: &Plan, members: &mut Members<Json>, entity: u32) -> Result<(), Mem>
-    requires { members.old ≡ [] }
+    requires references { RefersInside plan.now }
+    requires inside { entity < length plan.now.entities }
+    requires empty { members.old ≡ [] }
     ensures { OnOk result (tree.Object members.new ≡ type_tree plan.now entity) }
 {
     let name = Text::of(alloc, "type")?;
-    let model = model_name(alloc, plan, entity)?;
+    let model = model_name(plan, entity)?;
     members.put(name, Json::Text(model))
 }
 
-// The name of the model of an entity; nothing where it has none.
-fn model_name(alloc: Global, plan: &Plan, entity: u32) -> Result<Text, Mem>
+// The name of the model of an entity.
+fn model_name(plan: &Plan, entity: u32) -> Result<Text, Mem>
+    requires references { RefersInside plan.now }
+    requires inside { entity < length plan.now.entities }
     ensures { IfOk result (λ name. name ≡ model_name plan.now entity) }
 {
-    match plan.entities.get(entity as usize) {
-        Some(named) => match plan.models.get(named.model as usize) {
-            Some(model) => model.name.copy(),
-            None => Text::of(alloc, ""),
-        },
-        None => Text::of(alloc, ""),
-    }
+    let model = plan.entities.at(entity as usize).model;
+    plan.models.at(model as usize).name.copy()
 }
 
 // For each of these full ids the entities that are related to its entity.
