@@ -11,6 +11,7 @@ pub mod Naming
 pub mod Swapping
 pub mod Listing
 pub mod Tight
+pub mod Lesser
 pub mod Standing
 pub mod Sweeping
 pub mod Bounding

@@ -1,6 +1,6 @@
 -- When delays are the same.
 use Rattle.std.proofs.Common.{◌≡◌, ℕ, ◌<◌, true, refl, ap, sym, subst, List, length, get_or, All}
-use Rattle.std.proofs.lemmas.Bool.{eqb-true}
+use Rattle.std.proofs.lemmas.Bool.{eqb-true, eq-eqb}
 use Rattle.mk_base.specs.declared.tier.Via.{Via}
 use Rattle.mk_base.specs.declared.tier.Via.TheVariants.{Plain, Shift, Weak}
 use Rattle.mk_base.specs.Tiers.{HasWidth}
@@ -24,6 +24,14 @@ same_via (Shift d) Weak h = cc
 same_via Weak Plain h = cc
 same_via Weak (Shift e) h = cc
 same_via Weak Weak h = refl
+
+pub via_itself : (v w : Via) → v ≡ w → same.TheImpl.ghosts.eq v w ≡ true
+via_itself v w e = subst (λ (u : Via). same.TheImpl.ghosts.eq v u ≡ true) e (itself v)
+  where
+    itself : (v : Via) → same.TheImpl.ghosts.eq v v ≡ true
+    itself Plain = refl
+    itself (Shift d) = eq-eqb d d refl
+    itself Weak = refl
 
 -- the delay of each of the plan's sources is within the limits
 pub source_width : (P : Plan) (xs : List Source) (n : ℕ) (s : Source) → All (λ (c : Conn). HasWidth c.via) P.conns → AreSources P xs → n < length xs → s ≡ get_or xs n s → HasWidth s.via

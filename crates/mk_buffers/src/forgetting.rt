@@ -1,6 +1,7 @@
 //! Giving up: what no question can reach any more is given up, and when outlets are looked at again.
-ghost use Rattle.std.specs.Prelude.{◌≡◌, ◌+◌, ◌<◌, length, false};
+ghost use Rattle.std.specs.Prelude.{◌≡◌, ◌+◌, ◌<◌, ◌||◌, length};
 ghost use Rattle.mk_base.specs.declared.tier.Tier.{Tier};
+ghost use Rattle.mk_base.specs.Tiers.{up_to};
 ghost use Rattle.mk_plan.specs.declared.Plan.{Plan};
 ghost use Rattle.mk_plan.specs.Deliveries.{Supply};
 ghost use Rattle.mk_buffers_log.specs.Logs.{is_due};
@@ -110,18 +111,18 @@ fn is_due(next: Option<Tier>, mark: Tier) -> bool
 
 // The lesser of two times, of which both may be missing.
 pub fn least_of(first: Option<Tier>, second: Option<Tier>) -> Option<Tier>
-    ensures first { (m : Tier) → is_due result m ≡ false → is_due first m ≡ false }
-    ensures second { (m : Tier) → is_due result m ≡ false → is_due second m ≡ false }
+    ensures { (m : Tier) → is_due result m ≡ is_due first m || is_due second m }
 {
     match (first, second) {
-        (Some(one), Some(other)) => {
-            if one.is_up_to(other) {
-                Some(one)
-            } else {
-                Some(other)
-            }
-        }
+        (Some(one), Some(other)) => Some(lesser_of(one, other)),
         (Some(one), None) => Some(one),
         (None, other) => other,
     }
+}
+
+// The lesser of two times.
+fn lesser_of(one: Tier, other: Tier) -> Tier
+    ensures { (m : Tier) → up_to result m ≡ up_to one m || up_to other m }
+{
+    if one.is_up_to(other) { one } else { other }
 }

@@ -1,9 +1,8 @@
 //! Outlets: the attributes that connections take, by simulator, entity and attribute, each with its delays and its
 //! outputs.
-ghost use Rattle.std.specs.Bool.{OnTrue};
 ghost use Rattle.mk_base.specs.Lists.{IsIn};
 ghost use Rattle.mk_base.specs.Tiers.{HasWidth, latest_time};
-ghost use Rattle.std.specs.Prelude.{All, ◌≡◌, ℕ, ◌+◌, ◌-◌, ◌<◌, ◌≤◌, pos, ◌≤ℤ◌, List, [], ◌∷◌, ◌++◌, OnOk, OnErr, IfOk, length, Some, slice_get};
+ghost use Rattle.std.specs.Prelude.{All, ◌≡◌, true, false, ℕ, ◌+◌, ◌-◌, ◌<◌, ◌≤◌, pos, ◌≤ℤ◌, List, [], ◌∷◌, ◌++◌, OnOk, OnErr, IfOk, length, Some, slice_get};
 ghost use Rattle.std.specs.List.Sorted.{IsPermutation, IsNonDecreasingBy};
 ghost use Rattle.mk_plan.specs.declared.Plan.{Plan};
 ghost use Rattle.mk_plan.specs.Plans.{RefersInside, HasDistinctNames};
@@ -289,7 +288,8 @@ fn add_via(outlet: &mut Outlet, via: Delay) -> Result<(), Mem>
 
 // Whether the delay is among these.
 fn has_via(vias: &[Delay], via: Delay) -> bool
-    ensures { OnTrue result (IsIn via vias.now) }
+    ensures there { result ≡ true → IsIn via vias.now }
+    ensures none { result ≡ false → IsIn via vias.now → ⊥ }
 {
     for old in vias {
         if old.via() == via.via() {
