@@ -64,6 +64,11 @@ failed : (b : Bool) → (if b then Some Failed else Some (Wrong unasked)) ≡ No
 failed true e = none_some (sym e)
 failed false e = none_some (sym e)
 
+pub never_failed : (P : Plan) (i : ℕ) (p : Place) (n : ℕ) (text : List ℕ) → wrong P i p (Failure n text) ≡ None → ⊥
+never_failed P i Idle n text e = none_some (sym e)
+never_failed P i (Stepping at id asks) n text e = failed (n == id) e
+never_failed P i (Fetching at id) n text e = failed (n == id) e
+
 -- a right message that ends a turn is a success reply; where it is the reply to the Step, no
 -- connection leaves the simulator
 pub record IsEnd (P : Plan) (i : ℕ) (m : Message) : Type 0 where

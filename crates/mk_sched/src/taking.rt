@@ -1,5 +1,5 @@
 //! How a message is taken: what it is judged to be, and what follows.
-ghost use Rattle.std.specs.Prelude.{◌≡◌, ◌<◌, true, IfOk, Some, None, FitsSigned};
+ghost use Rattle.std.specs.Prelude.{◌≡◌, ◌<◌, true, IfOk, Option, Some, None, FitsSigned};
 ghost use Rattle.std.specs.Option.{ForSome};
 ghost use Rattle.std.specs.Int.{w64};
 ghost use Rattle.mk_base.specs.declared.tier.Tier.{Tier};
@@ -10,7 +10,7 @@ ghost use Rattle.mk_plan.specs.declared.Place.{Place};
 ghost use Rattle.mk_plan.specs.Plans.{IsValidPlan, sim_count};
 ghost use Rattle.mk_plan.specs.Deliveries.{supply};
 ghost use Rattle.mk_plan.specs.Sequential.{response};
-ghost use Rattle.mk_plan.specs.Journals.{OpenTurn, view, note_right, note_sent};
+ghost use Rattle.mk_plan.specs.Journals.{OpenTurn, View, view, note_right, note_sent};
 ghost use Rattle.mk_buffers.specs.Standing.{HasSameMarks};
 ghost use Rattle.mk_sched_open.specs.Turns.{IsInRun, IsRight, next_in};
 ghost use Rattle.mk_sched_supply.specs.Stock.{IsStockOf, MayComeNext};
@@ -148,7 +148,7 @@ fn time_at(place: &Place) -> Tier
     }
 }
 
-// What is sent after a right message of a step at `at`; the values that it sets are given.
+// What is sent after a right message of a step at `at`, with which the turn goes on; the values that it sets are given.
 fn owed_after(
     alloc: Global,
     plan: &Plan,
@@ -161,6 +161,8 @@ fn owed_after(
     requires there { sim.0 < sim_count plan.now }
     requires asked { IsStepOpen plan.now sim.0 at stock.old }
     requires run { IsInRun at }
+    requires right { (V : View) × (T : OpenTurn) × (q : Option Place)
+        × IsRight plan.now V sim.0 message.now T q }
     requires form { is_message_in_range message.now ≡ true }
     ensures marks { HasSameMarks stock.old.buffers stock.new.buffers }
     ensures owed { (J : List Entry) → (T : OpenTurn) → (q : Place)
@@ -182,7 +184,7 @@ fn owed_after(
             named,
         } => stock.answer(plan, sim, at, *id, name, args, named),
         Message::Success { id: _, content: _ } => get_data(alloc, stock.wants(sim)),
-        Message::Failure { id: _, text: _ } => get_data(alloc, stock.wants(sim)),
+        Message::Failure { id: _, text: _ } => unreachable!(),
     }
 }
 

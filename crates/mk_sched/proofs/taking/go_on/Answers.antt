@@ -51,6 +51,9 @@ owed_after-requires-clause-asked c =
     let at : T.at ≡ c.time_at-at.result = law.1 ∙ sym (c.time_at-at.ensures on.at ∙ ap (λ (p : Place). time_at p on.at) (sym judged.same ∙ on.place)) in
     record { view = view P J; turn = T; opened = right.opened; at = at; stock = now.stock }
 
+pub owed_after-requires-clause-right : goal.owed_after-requires-clause-right
+owed_after-requires-clause-right c = let judged = c.requires.judged in (view c.args.plan.now c.args.journal.now.entries, judged.turn, Some c.args.next, judged.right)
+
 pub owed_after-requires-clause-run : goal.owed_after-requires-clause-run
 owed_after-requires-clause-run c =
     let P = c.args.plan.now in

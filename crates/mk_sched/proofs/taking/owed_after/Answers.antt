@@ -1,5 +1,5 @@
--- Answers to the goals of `taking::owed_after` that the prover leaves.
-use Rattle.std.proofs.Common.{ap, subst}
+-- What is owed after a right message: an answer, or a request for data.
+use Rattle.std.proofs.Common.{ap, sym, subst, ◌∙◌}
 use Rattle.mk_plan.specs.declared.Message.{Message}
 use Rattle.mk_plan.specs.declared.Entry.TheVariants.{Got}
 use Rattle.mk_plan.specs.Acts.{is_ask}
@@ -7,6 +7,8 @@ use Rattle.mk_plan.specs.Journals.{view}
 use Rattle.std.proofs.Common.{Some}
 use Rattle.mk_sched_open.specs.Turns.{IsRight}
 use Rattle.mk_sched_supply.specs.Stock.{MayComeNext}
+use Rattle.mk_plan.specs.Turns.{wrong}
+use Rattle.mk_sched.proofs.Judged.{never_failed}
 use Rattle.mk_sched.proofs.Arrived.{owed_asked, owed_fetched}
 use Rattle.mk_sched.proofs.taking.owed_after.Goals as goal
 
@@ -29,11 +31,5 @@ returns-in-Success-clause-owed c = λ J T q may right at stock.
     owed_fetched P (view P J) s.0 T q c.args.stock.now m reply c.wants.result.now (c.wants.ensures P stock.plan) c.get_data.result c.get_data.ensures
     (λ item late is. c.stock_stays.ensures.fetching P J c.args.stock.now s m T q item may right reply late is stock)
 
-pub returns-in-Failure-clause-owed : goal.returns-in-Failure-clause-owed
-returns-in-Failure-clause-owed c = λ J T q may right at stock.
-    let P = c.args.plan.now in
-    let s = c.args.sim in
-    let m = c.args.message.now in
-    let reply = ap is_ask c.in-Failure.is in
-    owed_fetched P (view P J) s.0 T q c.args.stock.now m reply c.wants-in-Failure.result.now (c.wants-in-Failure.ensures P stock.plan) c.get_data-in-Failure.result c.get_data-in-Failure.ensures
-    (λ item late is. c.stock_stays.ensures.fetching P J c.args.stock.now s m T q item may right reply late is stock)
+pub unreachable-requires : goal.unreachable-requires
+unreachable-requires c = let r = c.requires.right in never_failed c.args.plan.now c.args.sim.0 r.1.place _ _ (ap (wrong c.args.plan.now c.args.sim.0 r.1.place) (sym c.in-Failure.is) ∙ r.3.right)
