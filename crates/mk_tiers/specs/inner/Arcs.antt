@@ -1,5 +1,5 @@
 -- For proofs alone. Beside `Arcs`, which has what a reader needs.
-use Rattle.std.specs.Prelude.{◌≡◌, ℕ, ◌<◌, ◌≤◌, true, false, List, length, ◌⊎◌, slice_index}
+use Rattle.std.specs.Prelude.{◌≡◌, ℕ, ◌<◌, ◌≤◌, true, false, List, Some, length, ◌⊎◌, slice_get, slice_index}
 use Rattle.mk_base.specs.Lists.{IsIn}
 use Rattle.mk_tiers.specs.declared.arcs.Arc.{Arc}
 use Rattle.mk_tiers.specs.declared.bits.Bits.{Bits}
@@ -19,6 +19,10 @@ IsBelow n arcs = (a : Arc) → IsIn a arcs → a.sim < n
 -- something comes at the mark or before it: a start, or over an arc
 abbrev pub IsHeld : ℕ → List Arc → List ℕ → ℕ → Type 0
 IsHeld own arcs labels mark = (own ≤ mark) ⊎ ((a : Arc) × IsIn a arcs × (end labels a ≤ mark))
+
+-- something comes at the mark or before it over the arc at the place
+abbrev pub IsHeldAt : List Arc → List ℕ → ℕ → ℕ → Type 0
+IsHeldAt arcs labels mark k = (a : Arc) × (slice_get arcs k ≡ Some a) × (end labels a ≤ mark)
 
 -- all that comes, comes after the mark
 abbrev pub IsFree : List Arc → List ℕ → ℕ → Type 0

@@ -1,9 +1,15 @@
 -- For proofs alone. Levels that no arc lowers, and simulators to which nothing of theirs comes
 -- back.
-use Rattle.std.specs.Prelude.{◌≡◌, ℕ, ◌<◌, ◌≤◌, List, slice_index}
+use Rattle.std.specs.Prelude.{◌≡◌, ℕ, ◌<◌, ◌≤◌, ◌&&◌, ◌||◌, List, slice_index}
 use Rattle.mk_base.specs.Lists.{IsIn}
 use Rattle.mk_tiers.specs.declared.arcs.Arc.{Arc}
+use Rattle.mk_tiers.specs.declared.bits.Bits.{Bits}
+use Rattle.mk_tiers.specs.Sets.{has}
 use Rattle.mk_tiers.specs.Arcs.{row}
+
+-- what was in the one set is in it now, and what was in the other, if the one had m
+abbrev pub IsJoined : ℕ → Bits → Bits → Bits → Type 0
+IsJoined m one other now = (i : ℕ) → i < 256 → has now i ≡ has one i || (has one m && has other i)
 
 -- no arc leads down
 abbrev pub Rise : List (List Arc) → List ℕ → Type 0
