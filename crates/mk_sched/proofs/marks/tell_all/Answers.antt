@@ -8,7 +8,7 @@ pub telling-init : goal.telling-init
 telling-init c = record { plan = refl; agenda = refl; stock = λ V mirrors stock. stock; told = λ V mirrors stock told. told }
 
 pub telling-smaller : goal.telling-smaller
-telling-smaller c = taken_falls c.telling.untold c.in-Some.number c.take_from.new.self 256 (omega arith) c.in-Some.ensures.below c.in-Some.ensures
+telling-smaller c = taken_falls c.telling.untold c.in-Some.number c.take_from.new.self 256 (omega arith) c.in-Some.ensures.taken.below c.in-Some.ensures.taken
 
 pub telling-preserved : goal.telling-preserved
 telling-preserved c =
@@ -18,7 +18,7 @@ telling-preserved c =
       plan = I.plan;
       agenda = I.agenda;
       stock = λ V mirrors stock. c.tell.ensures.stock V mirrors (I.stock V mirrors stock);
-      told = λ V mirrors stock told. told_more P c.args.agenda.now.bounds c.telling.stock c.tell.new.stock c.telling.untold c.take_from.new.self c.in-Some.number c.in-Some.ensures
+      told = λ V mirrors stock told. told_more P c.args.agenda.now.bounds c.telling.stock c.tell.new.stock c.telling.untold c.take_from.new.self c.in-Some.number c.in-Some.ensures.taken
           (c.tell.ensures.told V mirrors (I.stock V mirrors stock)) (c.tell.ensures.others V mirrors (I.stock V mirrors stock)) (I.told V mirrors stock told);
     }
 
@@ -26,4 +26,4 @@ pub returns-clause-stock : goal.returns-clause-stock
 returns-clause-stock c = c.telling.invariant.stock
 
 pub returns-clause-told : goal.returns-clause-told
-returns-clause-told c = λ V mirrors stock told. told_all c.args.plan.now c.args.agenda.now.bounds c.telling.stock c.telling.untold c.in_default.ensures (c.telling.invariant.told V mirrors stock told)
+returns-clause-told c = λ V mirrors stock told. told_all c.args.plan.now c.args.agenda.now.bounds c.telling.stock c.telling.untold c.in_default.ensures.taken (c.telling.invariant.told V mirrors stock told)

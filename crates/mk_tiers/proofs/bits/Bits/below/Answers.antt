@@ -1,16 +1,20 @@
 -- Answers to the goals of `bits::Bits::below` that the prover leaves.
-use Rattle.std.proofs.Common.{◌≡◌, ℕ, Bool, true, ◌||◌, ap, sym, ◌∙◌, subst, arith, inl, inr}
-use Rattle.std.proofs.lemmas.Bool.{cases_eq, ne_eqb}
+use Rattle.std.proofs.Common.{◌≡◌, ℕ, ◌<◌, ◌+◌, Bool, true, false, ◌||◌, nat_lt, sym, ap, ◌∙◌, arith, inl, inr}
+use Rattle.std.proofs.lemmas.Bool.{cases_eq, cases_lt, eq-eqb, ne_eqb, lt-ltb, le-ltb}
 use Rattle.mk_tiers.specs.Sets.{has}
-use Rattle.mk_tiers.proofs.Counting.{with_here}
 use Rattle.mk_tiers.proofs.bits.Bits.below.Goals as goal
+
+pub loop-number-init : goal.loop-number-init
+loop-number-init c i h = c.new-all.ensures i h ∙ sym (le-ltb i 0 (omega arith))
 
 pub loop-number-preserved : goal.loop-number-preserved
 loop-number-preserved c = λ i h.
     let old = c.loop-number.all in
-    let new = c.insert.new.self in
     let n = c.loop-number.number in
     elim (cases_eq i n) [
-      | inl e ↦ subst (λ (j : ℕ). has new j ≡ true) (sym e) (with_here old n new c.insert.ensures (omega arith))
-      | inr d ↦ c.insert.ensures i (omega arith) ∙ ap (λ (b : Bool). b || has old i) (ne_eqb i n d) ∙ c.loop-number.invariant i (omega arith)
+      | inl e ↦ c.insert.ensures i h ∙ ap (λ (b : Bool). b || has old i) (eq-eqb i n e) ∙ sym (lt-ltb i (n + 1) (omega arith))
+      | inr d ↦ c.insert.ensures i h ∙ ap (λ (b : Bool). b || has old i) (ne_eqb i n d) ∙ c.loop-number.invariant i h ∙ elim (cases_lt i n) [
+        | inl l ↦ lt-ltb i n l ∙ sym (lt-ltb i (n + 1) (omega arith))
+        | inr m ↦ le-ltb i n m ∙ sym (le-ltb i (n + 1) (omega arith))
+      ]
     ]
