@@ -35,7 +35,8 @@ use Rattle.mk_order.proofs.Past.{nothing_missed, view_right}
 use Rattle.mk_order.proofs.Pushing.{view_push, orderly_push}
 use Rattle.mk_order.proofs.Entries.{Brings, IsNew, by_itself, by_output, grown_new, ended_last}
 use Rattle.mk_order.proofs.Queues.{is_before, before_then_up_to}
-use Rattle.mk_order.proofs.Pends.{IsPendingAt, IsTriggeredAt, Pends, PendsWith, pends_ended}
+use Rattle.mk_order.proofs.Pends.{PendsWith, pends_ended}
+use Rattle.mk_order.specs.Pending.{IsPendingAt, IsTriggeredAt, Pends}
 
 -- ---- what a connection brings
 

@@ -24,15 +24,11 @@ use Rattle.mk_plan.specs.Inputs.{latest, is_since, initial_of, pick, assemble, i
 use Rattle.mk_plan.specs.Journals.{OpenTurn, View, open_after, begun, told_more, note_sent, ended_turn, note_right}
 use Rattle.mk_plan.specs.Ready.{IsReady}
 use Rattle.mk_plan.specs.Report.{is_step}
-use Rattle.mk_order.proofs.LateActs.{followed}
+use Rattle.mk_order.specs.Supplies.{followed, cut_turn, cut_turns, opened}
 use Rattle.mk_order.proofs.Seen.{open_after_is}
-use Rattle.mk_order.proofs.Opened.{cut_turn, cut_turns, opened, inputs_opened, outputs_opened}
+use Rattle.mk_order.proofs.Opened.{inputs_opened, outputs_opened}
 use Rattle.mk_order.proofs.Entries.{opened_case, grown_case}
 use Rattle.mk_order.proofs.GivenValues.{text_is, AreGiven, IsUnder, message_under, filter_map_gifts, is_for, assemble_given}
-
--- what acts and open turns have given
-abbrev pub given_so_far : Plan → View → Supply
-given_so_far P V = supply P (followed V.acts (opened V))
 
 module _ (P : Plan) where
   abbrev gift_at : Tier → SetValue → Gift

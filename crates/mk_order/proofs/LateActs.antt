@@ -27,16 +27,13 @@ use Rattle.mk_plan.specs.Deliveries.{Timed, Gift, supply, outputs_of, gifts_of, 
 use Rattle.mk_plan.specs.Inputs.{latest, is_since, initial_of, pick, gifts_to, connections_to, connection_input, gift_input, put_all, inputs, value_at}
 use Rattle.mk_plan.specs.Sequential.{response, next_step, last_time}
 use Rattle.mk_base.proofs.Lists.{in_map, map_in, in_filter, in_flat_map, flat_map_in, in_filter_map, in_front, in_back, filter_append, filter_none, append_nil, map_append, filter_map_append, flat_map_append, map_same, flat_map_same, filter_map_same, some_passes, in_each}
+use Rattle.mk_order.specs.Supplies.{followed}
 use Rattle.mk_order.proofs.Reasons.{and_both}
 use Rattle.mk_order.proofs.RightActs.{made_no_earlier}
 
 -- what i makes at y comes to s after x, over every link
 abbrev pub IsLate : Plan → ℕ → Tier → ℕ → Tier → Type 0
 IsLate P s x i y = (v : Via) → IsLink P i v s → up_to (delayed y v) x ≡ false
-
--- the acts of A, followed by those of U
-abbrev pub followed : Family → Family → Family
-followed A U i = A i ++ U i
 
 abbrev pub AllLate : Plan → ℕ → Tier → Family → Type 0
 AllLate P s x U = (i : ℕ) → Each (λ (u : Act). IsLate P s x i u.at) (U i)

@@ -12,13 +12,10 @@ use Rattle.mk_plan.specs.Journals.{OpenTurn, View, empty_view, note, view}
 use Rattle.mk_plan.specs.Ready.{pending, start, step_at, IsReady}
 use Rattle.mk_plan.specs.Walks.{Reach, nobody, from_start, IsEarliest}
 use Rattle.mk_plan.specs.Orderly.{IsOrderlyFrom, IsOrderlySoFar}
+use Rattle.mk_order.specs.Pending.{IsMarkOf}
 use Rattle.mk_order.proofs.Seen.{IsSound, follows, reached_sound}
 use Rattle.mk_order.proofs.Going.{bounds_rise}
 use Rattle.mk_order.proofs.Pushing.{orderly_front}
-
--- a time that no end of a walk to s comes before
-pub record IsMarkOf (P : Plan) (V : View) (s : ℕ) (m : Tier) : Type 0 where
-  pub low : (y : Tier) → Reach P (start P V) nobody s y → IsUpTo m y
 
 module _ (Ready : Plan → View → ℕ → Tier → Type 0) (Advance : Plan → View → ℕ → Tier → ℤ → Type 0) (P : Plan) (truly : (V : View) (s : ℕ) (x : Tier) → Ready P V s x → IsReady P V s x) (valid : IsValidPlan P) where
   -- over many entries each end of a walk has one before them that isn't after it

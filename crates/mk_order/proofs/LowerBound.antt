@@ -28,7 +28,8 @@ use Rattle.mk_plan.specs.Agreement.{Continues}
 use Rattle.mk_order.specs.LowerBound.{IsUnknown, IsBounded, HasAll}
 use Rattle.mk_order.proofs.Reasons.{in_triggers, triggers_in, triggers_early, edge_of}
 use Rattle.mk_order.proofs.RightActs.{made_no_earlier}
-use Rattle.mk_order.proofs.LateActs.{followed, AllLate, step_same, response_same}
+use Rattle.mk_order.proofs.LateActs.{AllLate, step_same, response_same}
+use Rattle.mk_order.specs.Supplies.{followed}
 use Rattle.mk_order.proofs.Theory.{parts, laws, edge_link, seq_is}
 use Rattle.mk_order.proofs.Seen.{seen, reach_seen, ready_seen, reached}
 use Rattle.mk_order.proofs.Told.{heard_seen, got_is}

@@ -12,19 +12,8 @@ use Rattle.mk_plan.specs.Inputs.{inputs}
 use Rattle.mk_plan.specs.Journals.{OpenTurn, View}
 use Rattle.mk_plan.specs.Ready.{pending, step_at, IsReady}
 use Rattle.mk_base.proofs.Lists.{append_nil, filter_map_append}
-use Rattle.mk_order.proofs.LateActs.{IsLate, AllLate, followed, same_inputs}
-
--- an open turn as one that was cut
-abbrev pub cut_turn : OpenTurn → Act
-cut_turn T = record { at = T.at; messages = T.messages; ended = false; talk = T.talk }
-
-abbrev pub cut_turns : Option OpenTurn → List Act
-cut_turns None = []
-cut_turns (Some T) = cut_turn T ∷ []
-
--- the open turns of a view
-abbrev pub opened : View → Family
-opened V i = cut_turns (V.open_at i)
+use Rattle.mk_order.proofs.LateActs.{IsLate, AllLate, same_inputs}
+use Rattle.mk_order.specs.Supplies.{followed, cut_turn, cut_turns, opened}
 
 module _ (P : Plan) (V : View) where
   opened_late : (s : ℕ) (x : Tier) → IsReady P V s x → AllLate P s x (opened V)

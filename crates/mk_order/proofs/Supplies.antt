@@ -17,12 +17,9 @@ use Rattle.mk_plan.specs.Deliveries.{Timed, Gift, Supply, deliveries, triggers, 
 use Rattle.mk_plan.specs.Inputs.{latest, pick, gifts_to, connections_to, connection_input, gift_input, put_all, inputs, value_at, is_since, initial_of}
 use Rattle.mk_plan.specs.Sequential.{response}
 use Rattle.mk_base.proofs.Lists.{in_filter, in_range, passes_some, flat_map_same}
+use Rattle.mk_order.specs.Supplies.{SameSupply}
 use Rattle.mk_order.proofs.Reasons.{both_and}
 use Rattle.mk_order.proofs.LateActs.{same_answer}
-
-pub record SameSupply (P : Plan) (S T : Supply) : Type 0 where
-  pub outputs : (e : ℕ) (attr : List ℕ) → gives_attr P e attr ≡ true → S.outputs e attr ≡ T.outputs e attr
-  pub gifts : (e : ℕ) → e < length P.entities → S.gifts e ≡ T.gifts e
 
 text_itself : (s : List ℕ) → same_text s s ≡ true
 text_itself [] = refl

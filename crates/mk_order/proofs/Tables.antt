@@ -32,13 +32,9 @@ use Rattle.mk_order.proofs.Theory.{parts, laws}
 use Rattle.mk_order.proofs.Seen.{seen, turn_of, reached, open_after_is}
 use Rattle.mk_order.proofs.Entries.{opened_case, step_start, told_start, went_start, ended_start_open}
 use Rattle.mk_order.proofs.Queues.{is_before, before_is, IsLeastFlagged, no_flag, has_flag}
-use Rattle.mk_order.proofs.Pends.{IsPendingAt, IsTriggeredAt, Pends, since_past, closed_last}
+use Rattle.mk_order.proofs.Pends.{since_past, closed_last}
+use Rattle.mk_order.specs.Pending.{IsPendingAt, IsTriggeredAt, Pends, StartsOf}
 use Rattle.mk_order.proofs.EndedTurns.{triggered_pends}
-
--- the tables say from when on each simulator may step, and which ones have an open turn
-pub record StartsOf (P : Plan) (V : View) (starts : ℕ → Option Tier) (busy : ℕ → Bool) : Type 0 where
-  pub at : (i : ℕ) → starts i ≡ start P V i
-  pub opened : (i : ℕ) → busy i ≡ is_some (V.open_at i)
 
 -- no simulator beyond the count has a start
 pub start_beyond : (P : Plan) → IsValidPlan P → (J : List Entry) → IsOrderlySoFar IsReady IsAdvance P J → (i : ℕ) → sim_count P ≤ i → (start P (view P J) i ≡ None) × ((view P J).open_at i ≡ None)

@@ -13,7 +13,8 @@ use Rattle.mk_plan.specs.Deliveries.{supply}
 use Rattle.mk_plan.specs.Journals.{View, view}
 use Rattle.mk_plan.specs.Ready.{start}
 use Rattle.mk_plan.specs.Walks.{Reach, nobody, IsEarliest}
-use Rattle.mk_order.proofs.LaterQuestions.{IsMarkOf, earliest_is_mark, unreached_is_mark}
+use Rattle.mk_order.proofs.LaterQuestions.{earliest_is_mark, unreached_is_mark}
+use Rattle.mk_order.specs.Pending.{IsMarkOf}
 use Rattle.mk_order.proofs.Opened.{outputs_opened}
 use Rattle.mk_tiers.specs.declared.bits.Bits.{Bits}
 use Rattle.mk_tiers.specs.Seen.{Seen, AreOfPlan, IsEarliestIn}

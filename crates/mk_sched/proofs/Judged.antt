@@ -25,7 +25,7 @@ use Rattle.mk_plan.specs.Turns.{unasked, first_cause, is_number, time_in, holds_
 use Rattle.mk_plan.specs.Journals.{View, OpenTurn, place_at, note, note_got, note_right, fault_of}
 use Rattle.mk_plan_judge.specs.Places.{open_id}
 use Rattle.mk_plan_judge.proofs.Right.{right_data_reply, right_step_reply, right_next_fits, right_output_time_fits}
-use Rattle.mk_sched_agenda.specs.Outlets.{triggering_from}
+use Rattle.mk_plan.specs.Deliveries.{triggering_from}
 use Rattle.mk_sched_agenda.specs.Endings.{CanBeMade}
 use Rattle.mk_sched_open.specs.Turns.{IsRight, IsInRun, IsPlaceInRun, next_in}
 use Rattle.mk_sched.specs.Cores.{is_message_in_range}

@@ -27,7 +27,8 @@ use Rattle.mk_order.proofs.RightActs as acts
 use Rattle.mk_order.proofs.Seen.{same_self}
 use Rattle.mk_sched_agenda.specs.declared.outlets.Outlet.{Outlet}
 use Rattle.mk_sched_agenda.specs.declared.outlets.Beyond.{Beyond}
-use Rattle.mk_sched_agenda.specs.Outlets.{AreOutletsOf, triggering_from, outlets_in}
+use Rattle.mk_sched_agenda.specs.Outlets.{AreOutletsOf, outlets_in}
+use Rattle.mk_plan.specs.Deliveries.{triggering_from}
 use Rattle.mk_sched_agenda.specs.Mirrors.{Mirrors}
 use Rattle.mk_sched_agenda.specs.Endings.{IsLast, given_by, fault_of}
 use Rattle.mk_sched_open.specs.Sims.{AreSimsOf}

@@ -20,8 +20,8 @@ use Rattle.mk_nextstep.specs.Queues.{time_of, added, least}
 use Rattle.mk_nextstep.specs.inner.Queues.{IsRising}
 use Rattle.mk_tiers.specs.Seen.{Seen, AreOfPlan, start_in, is_busy_in}
 use Rattle.mk_order.proofs.Reasons.{pending_below}
-use Rattle.mk_order.proofs.Pends.{Pends, PendsFirst, first_none, first_added, first_skipped, pends_first, start_is}
-use Rattle.mk_order.proofs.Tables.{StartsOf}
+use Rattle.mk_order.proofs.Pends.{PendsFirst, first_none, first_added, first_skipped, pends_first, start_is}
+use Rattle.mk_order.specs.Pending.{Pends, StartsOf}
 use Rattle.mk_sched_agenda.specs.declared.limits.Limits.{Limits}
 use Rattle.mk_sched_agenda.specs.Dues.{queue_in, last_in, limits_of}
 use Rattle.mk_sched_agenda.specs.inner.Dues.{IsTidy, is_open, with_own, first_queue, with_start}

@@ -21,12 +21,14 @@ use Rattle.mk_nextstep.specs.Queues.{time_of, added, least}
 use Rattle.mk_tiers.specs.Seen.{Seen, AreOfPlan, start_in, is_busy_in}
 use Rattle.mk_order.proofs.Reasons.{both_and, IsNextOf, pending_below}
 use Rattle.mk_order.proofs.Entries.{Brings, ended_last}
-use Rattle.mk_order.proofs.Pends.{Pends, PendsWith, IsTriggeredAt, IsPendingAt, with_none, with_next, with_no_next, pending_is}
+use Rattle.mk_order.proofs.Pends.{PendsWith, with_none, with_next, with_no_next, pending_is}
+use Rattle.mk_order.specs.Pending.{Pends, IsTriggeredAt, IsPendingAt, StartsOf}
 use Rattle.mk_order.proofs.EndedTurns.{brings_out, next_by, not_next, not_within, right_is, queue_after, ended_in_limit, next_was_pending}
-use Rattle.mk_order.proofs.Tables.{StartsOf, busy_ended, starts_ended}
+use Rattle.mk_order.proofs.Tables.{busy_ended, starts_ended}
 use Rattle.mk_sched_agenda.specs.declared.limits.Limits.{Limits}
 use Rattle.mk_sched_agenda.specs.declared.outlets.Beyond.{Beyond}
-use Rattle.mk_sched_agenda.specs.Outlets.{outlets_in, triggering_from}
+use Rattle.mk_sched_agenda.specs.Outlets.{outlets_in}
+use Rattle.mk_plan.specs.Deliveries.{triggering_from}
 use Rattle.mk_sched_agenda.specs.Dues.{queue_in, last_in, limits_of}
 use Rattle.mk_sched_agenda.specs.inner.Dues.{IsTidy, is_inside, with_next as next_queue, with_start}
 use Rattle.mk_sched_agenda.specs.Mirrors.{AgendaState, flag_of, Mirrors}

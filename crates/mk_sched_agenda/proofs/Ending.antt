@@ -24,7 +24,8 @@ use Rattle.mk_order.proofs.EndedTurns.{brings_by, not_to}
 use Rattle.mk_sched_agenda.specs.declared.limits.Limits.{Limits}
 use Rattle.mk_sched_agenda.specs.declared.outlets.Outlet.{Outlet}
 use Rattle.mk_sched_agenda.specs.declared.outlets.Beyond.{Beyond}
-use Rattle.mk_sched_agenda.specs.Outlets.{IsOutletOf, AreOutletsOf, triggering_from}
+use Rattle.mk_sched_agenda.specs.Outlets.{IsOutletOf, AreOutletsOf}
+use Rattle.mk_plan.specs.Deliveries.{triggering_from}
 use Rattle.mk_sched_agenda.specs.Dues.{queue_in, limits_of}
 use Rattle.mk_sched_agenda.specs.inner.Dues.{IsTidy, is_open, is_inside, is_first, with_start, with_trigger}
 use Rattle.mk_sched_agenda.specs.Mirrors.{flag_of}

@@ -28,11 +28,13 @@ use Rattle.mk_nextstep.specs.declared.queue.Due.{Due}
 use Rattle.mk_nextstep.specs.Queues.{time_of, least, later, least_trigger_after}
 use Rattle.mk_tiers.specs.Seen.{Seen, AreOfPlan, start_in, is_busy_in, IsEarliestIn, IsFirstReadyIn, IsOuterIn}
 use Rattle.mk_order.proofs.EntityNames.{owner_is_below}
-use Rattle.mk_order.proofs.Pends.{Pends, start_is, closed_start, pends_step, pends_step_apart, pends_told, pends_went}
-use Rattle.mk_order.proofs.Tables.{StartsOf, starts_stepped, starts_told, starts_went, earliest_by, unreached_by, sooner, advance_by, advance_by_queue}
+use Rattle.mk_order.proofs.Pends.{start_is, closed_start, pends_step, pends_step_apart, pends_told, pends_went}
+use Rattle.mk_order.specs.Pending.{Pends, StartsOf}
+use Rattle.mk_order.proofs.Tables.{starts_stepped, starts_told, starts_went, earliest_by, unreached_by, sooner, advance_by, advance_by_queue}
 use Rattle.mk_sched_agenda.specs.declared.limits.Limits.{Limits}
 use Rattle.mk_sched_agenda.specs.declared.outlets.Outlet.{Outlet}
-use Rattle.mk_sched_agenda.specs.Outlets.{IsOutletOf, AreOutletsOf, outlets_in, triggering_from, triggering_in}
+use Rattle.mk_sched_agenda.specs.Outlets.{IsOutletOf, AreOutletsOf, outlets_in}
+use Rattle.mk_plan.specs.Deliveries.{triggering_from, triggering_in}
 use Rattle.mk_sched_agenda.specs.inner.Outlets.{AreRowsOf}
 use Rattle.mk_sched_agenda.specs.Dues.{queue_in, last_in, limits_of}
 use Rattle.mk_sched_agenda.specs.inner.Dues.{IsSound, IsTidy, is_open, with_start}

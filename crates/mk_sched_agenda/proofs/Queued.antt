@@ -10,7 +10,8 @@ use Rattle.mk_nextstep.specs.Queues.{time_of, trigger_times, added, least, later
 use Rattle.mk_nextstep.specs.inner.Queues.{AllAfter, IsRising, itself}
 use Rattle.mk_nextstep.proofs.Queues.{triggers_rise}
 use Rattle.mk_sched_agenda.specs.Mirrors.{flag_of}
-use Rattle.mk_order.proofs.Queues.{before_is, is_before, HasFlagged, IsAdded, IsAfter, IsLeast, IsLeastFlagged, no_flag, has_flag, first_is_least, empty_has_none, rest_is_after}
+use Rattle.mk_order.proofs.Queues.{before_is, is_before, IsAdded, IsAfter, IsLeast, IsLeastFlagged, no_flag, has_flag, first_is_least, empty_has_none, rest_is_after}
+use Rattle.mk_order.specs.Pending.{HasFlagged}
 
 or_true : (b c : Bool) → (b || c) ≡ true → (c ≡ true) ⊎ (b ≡ true)
 or_true true c h = inr refl

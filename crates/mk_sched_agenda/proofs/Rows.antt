@@ -6,7 +6,8 @@ use Rattle.mk_plan.specs.declared.Plan.{Plan}
 use Rattle.mk_plan.specs.declared.Conn.{Conn}
 use Rattle.mk_plan.specs.Plans.{owner, sim_count}
 use Rattle.mk_sched_agenda.specs.declared.outlets.Outlet.{Outlet}
-use Rattle.mk_sched_agenda.specs.Outlets.{triggering_in, IsOutletOf, AreOutletsOf, outlets_in}
+use Rattle.mk_sched_agenda.specs.Outlets.{IsOutletOf, AreOutletsOf, outlets_in}
+use Rattle.mk_plan.specs.Deliveries.{triggering_in}
 use Rattle.mk_sched_agenda.specs.inner.Outlets.{AreRowsOf}
 use Rattle.mk_sched_agenda.proofs.Tidying.{same_or}
 

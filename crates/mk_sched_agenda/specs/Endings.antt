@@ -15,7 +15,7 @@ use Rattle.mk_plan.specs.Ready.{IsReady}
 use Rattle.mk_plan.specs.Advance.{IsAdvance}
 use Rattle.mk_plan.specs.Orderly.{IsAllowed, IsOrderlySoFar}
 use Rattle.mk_sched_agenda.specs.declared.outlets.Beyond.{Beyond}
-use Rattle.mk_sched_agenda.specs.Outlets.{triggering_from}
+use Rattle.mk_plan.specs.Deliveries.{triggering_from}
 use Rattle.mk_sched_agenda.specs.Mirrors.{AgendaState, Mirrors}
 
 -- of each of the act's triggering connections, whether the act gives it an output

@@ -8,11 +8,11 @@ use Rattle.mk_plan.specs.Ready.{last_step}
 use Rattle.mk_nextstep.specs.declared.queue.Due.{Due}
 use Rattle.mk_nextstep.specs.Queues.{time_of}
 use Rattle.mk_tiers.specs.Seen.{Seen, AreOfPlan, start_in, is_busy_in}
-use Rattle.mk_order.proofs.Pends.{Pends}
-use Rattle.mk_order.proofs.Tables.{StartsOf}
+use Rattle.mk_order.specs.Pending.{Pends, StartsOf}
 use Rattle.mk_sched_agenda.specs.declared.limits.Limits.{Limits}
 use Rattle.mk_sched_agenda.specs.declared.outlets.Outlet.{Outlet}
-use Rattle.mk_sched_agenda.specs.Outlets.{AreOutletsOf, triggering_from, outlets_in}
+use Rattle.mk_sched_agenda.specs.Outlets.{AreOutletsOf, outlets_in}
+use Rattle.mk_plan.specs.Deliveries.{triggering_from}
 use Rattle.mk_sched_agenda.specs.Dues.{limits_of, queue_in, last_in}
 
 -- an agenda: the limits of the run, each simulator's triggering connections, the steps to come of

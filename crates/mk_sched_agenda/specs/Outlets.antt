@@ -1,17 +1,9 @@
 -- Each simulator's triggering connections, with whom they trigger.
-use Rattle.std.specs.Prelude.{◌≡◌, ℕ, ◌&&◌, List, [], ◌∷◌, filter, Some, unwrap_or, slice_get, ◌==◌, ⊤}
+use Rattle.std.specs.Prelude.{◌≡◌, ℕ, List, [], ◌∷◌, Some, unwrap_or, slice_get, ⊤}
 use Rattle.mk_plan.specs.declared.Plan.{Plan}
 use Rattle.mk_plan.specs.declared.Conn.{Conn}
 use Rattle.mk_plan.specs.Plans.{owner}
 use Rattle.mk_sched_agenda.specs.declared.outlets.Outlet.{Outlet}
-
--- those of these connections that lead from i and trigger
-abbrev pub triggering_in : Plan → ℕ → List Conn → List Conn
-triggering_in P i cs = filter (λ c. c.triggering && (owner P c.from == i)) cs
-
--- the triggering connections from i, in plan order
-abbrev pub triggering_from : Plan → ℕ → List Conn
-triggering_from P i = triggering_in P i P.conns
 
 -- the outlet is that of the connection
 pub record IsOutletOf (P : Plan) (c : Conn) (o : Outlet) : Type 0 where

@@ -4,8 +4,8 @@ use Rattle.mk_plan.specs.declared.Plan.{Plan}
 use Rattle.mk_plan.specs.Plans.{IsValidPlan}
 use Rattle.mk_plan.specs.Deliveries.{Supply}
 use Rattle.mk_plan.specs.Journals.{empty_view}
-use Rattle.mk_order.proofs.GivenEntries.{given_so_far}
-use Rattle.mk_order.proofs.LaterQuestions.{IsMarkOf}
+use Rattle.mk_order.specs.Supplies.{given_so_far}
+use Rattle.mk_order.specs.Pending.{IsMarkOf}
 use Rattle.mk_plan_names.specs.Names.{AreNamesOf}
 use Rattle.mk_buffers.specs.Standing.{IsNew, StandFor}
 use Rattle.mk_sched_supply.specs.declared.stock.Stock.{Stock}

@@ -13,7 +13,8 @@ use Rattle.mk_plan.specs.Turns.{wanted}
 use Rattle.mk_plan_judge.proofs.Taken.{taken_is_wanted}
 use Rattle.mk_sched_supply.specs.declared.feeds.Feed.{Feed}
 use Rattle.mk_sched_supply.specs.Stock.{ArePlaces, IsFeedOf, taken}
-use Rattle.mk_sched_supply.specs.inner.Making.{AreFeedsOf, HasNoTriggers, IsFeedSoFar, names_of, triggering_in}
+use Rattle.mk_sched_supply.specs.inner.Making.{AreFeedsOf, HasNoTriggers, IsFeedSoFar, names_of}
+use Rattle.mk_plan.specs.Deliveries.{triggering_in}
 use Rattle.mk_sched_supply.proofs.Bringing.{take_all, take_get}
 
 get_map : {X Y : Type 0} (f : X → Y) (xs : List X) (i : ℕ) (x : X) → slice_get xs i ≡ Some x → slice_get (map f xs) i ≡ Some (f x)

@@ -16,7 +16,8 @@ use Rattle.mk_plan.specs.Acts.{Act, output, outputs_in}
 use Rattle.mk_plan_judge.proofs.Right.{right_value_is_datum}
 use Rattle.mk_sched_supply.specs.declared.feeds.Feed.{Feed}
 use Rattle.mk_sched_supply.specs.declared.outputs.Outputs.{Outputs}
-use Rattle.mk_sched_supply.specs.Outputs.{AreData, AreOutputsIn, triggering_from, found_values}
+use Rattle.mk_sched_supply.specs.Outputs.{AreData, AreOutputsIn, found_values}
+use Rattle.mk_plan.specs.Deliveries.{triggering_from}
 use Rattle.mk_sched_supply.specs.Stock.{IsFeedOf, taken}
 use Rattle.mk_sched_supply.specs.inner.Making.{are_given, is_given}
 use Rattle.mk_sched_supply.proofs.Ranging.{value_in_range}

@@ -19,7 +19,8 @@ use Rattle.mk_plan.specs.Ready.{IsReady, start}
 use Rattle.mk_plan.specs.Advance.{IsAdvance}
 use Rattle.mk_plan.specs.Orderly.{IsAllowed, IsOrderlySoFar}
 use Rattle.mk_plan.specs.Walks.{Reach, nobody, from_start, along, link}
-use Rattle.mk_order.proofs.LaterQuestions.{IsMarkOf, mark_stays_from}
+use Rattle.mk_order.proofs.LaterQuestions.{mark_stays_from}
+use Rattle.mk_order.specs.Pending.{IsMarkOf}
 use Rattle.mk_order.proofs.Reasons.{pending_below, pending_due}
 use Rattle.mk_order.proofs.RightActs.{due_not_negative}
 use Rattle.mk_order.proofs.Seen.{reached_sound}

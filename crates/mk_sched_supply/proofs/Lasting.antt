@@ -29,11 +29,11 @@ use Rattle.mk_plan.specs.Advance.{IsAdvance}
 use Rattle.mk_plan.specs.Orderly.{IsNext}
 use Rattle.mk_plan.specs.Report.{is_step}
 use Rattle.mk_order.proofs.Entries.{outputs_after, outputs_apart, output_missing}
-use Rattle.mk_order.proofs.GivenEntries.{given_so_far}
-use Rattle.mk_order.proofs.LaterQuestions.{IsMarkOf}
+use Rattle.mk_order.specs.Supplies.{given_so_far, SameSupply}
+use Rattle.mk_order.specs.Pending.{IsMarkOf}
 use Rattle.mk_order.proofs.Opened.{inputs_opened, outputs_opened}
 use Rattle.mk_order.proofs.Seen.{IsSound, reached_sound}
-use Rattle.mk_order.proofs.Supplies.{SameSupply, inputs_by}
+use Rattle.mk_order.proofs.Supplies.{inputs_by}
 use Rattle.mk_sched_open.specs.Turns.{IsRight}
 use Rattle.mk_buffers.specs.Standing.{mark_of}
 use Rattle.mk_sched_supply.specs.declared.stock.Stock.{Stock}

@@ -25,11 +25,12 @@ use Rattle.mk_plan.specs.Journals.{OpenTurn, View, note_right, note_sent, view}
 use Rattle.mk_plan.specs.Report.{is_step}
 use Rattle.mk_plan.specs.Sequential.{response}
 use Rattle.mk_order.proofs.EntityNames.{same_owner}
-use Rattle.mk_order.proofs.GivenEntries.{given_so_far, given_went, gifts_by}
+use Rattle.mk_order.proofs.GivenEntries.{given_went, gifts_by}
+use Rattle.mk_order.specs.Supplies.{given_so_far, SameSupply}
 use Rattle.mk_order.proofs.GivenValues.{AreGiven, is_text, text_is}
-use Rattle.mk_order.proofs.LaterQuestions.{IsMarkOf}
+use Rattle.mk_order.specs.Pending.{IsMarkOf}
 use Rattle.mk_order.proofs.Opened.{outputs_opened}
-use Rattle.mk_order.proofs.Supplies.{SameSupply, response_by}
+use Rattle.mk_order.proofs.Supplies.{response_by}
 use Rattle.mk_plan_names.specs.Names.{AreNamesOf}
 use Rattle.mk_async.specs.Asked.{IsGivenBy, asked_in, refusal_in}
 use Rattle.mk_async.specs.declared.request.Asked.{Asked}

@@ -19,11 +19,10 @@ use Rattle.mk_plan.specs.Deliveries.{Supply, supply, gifts_of}
 use Rattle.mk_plan.specs.Sequential.{grown}
 use Rattle.mk_plan.specs.Journals.{OpenTurn, View, open_after, begun, told_more, note_sent, ended_turn, note_right}
 use Rattle.mk_plan.specs.Report.{is_step}
-use Rattle.mk_order.proofs.Supplies.{SameSupply}
+use Rattle.mk_order.specs.Supplies.{SameSupply, cut_turn, cut_turns, given_so_far}
 use Rattle.mk_order.proofs.Seen.{open_after_is}
-use Rattle.mk_order.proofs.Opened.{cut_turn, cut_turns, outputs_opened}
+use Rattle.mk_order.proofs.Opened.{outputs_opened}
 use Rattle.mk_order.proofs.Entries.{opened_case, grown_case}
-use Rattle.mk_order.proofs.GivenEntries.{given_so_far}
 
 module _ (P : Plan) where
   pub supply_through : (S T U : Supply) → SameSupply P S T → SameSupply P T U → SameSupply P S U

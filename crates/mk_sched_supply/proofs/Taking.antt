@@ -24,7 +24,7 @@ use Rattle.mk_plan.specs.Journals.{OpenTurn, Owed, View, view, ended_turn, note_
 use Rattle.mk_plan.specs.Ready.{IsReady}
 use Rattle.mk_plan.specs.Advance.{IsAdvance}
 use Rattle.mk_plan.specs.Orderly.{IsNext}
-use Rattle.mk_order.proofs.LaterQuestions.{IsMarkOf}
+use Rattle.mk_order.specs.Pending.{IsMarkOf}
 use Rattle.mk_order.proofs.Opened.{outputs_opened}
 use Rattle.mk_order.proofs.Reasons.{and_both}
 use Rattle.mk_plan_names.specs.Names.{AreNamesOf}

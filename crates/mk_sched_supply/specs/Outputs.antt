@@ -1,18 +1,13 @@
 -- What the data of a reply give.
-use Rattle.std.specs.Prelude.{◌≡◌, ℕ, ◌&&◌, true, List, map, filter, Option, Some, is_some, option_map, ◌==◌}
+use Rattle.std.specs.Prelude.{◌≡◌, ℕ, true, List, map, Option, Some, is_some, option_map}
 use Rattle.mk_base.specs.declared.json.Json.{Json}
 use Rattle.mk_base.specs.Lists.{IsIn}
 use Rattle.mk_base.specs.Trees.{is_datum, is_in_range}
 use Rattle.mk_plan.specs.declared.Plan.{Plan}
-use Rattle.mk_plan.specs.declared.Conn.{Conn}
-use Rattle.mk_plan.specs.Plans.{owner}
 use Rattle.mk_plan.specs.Turns.{wanted, value_for}
 use Rattle.mk_plan.specs.Acts.{Act, outputs_in, output}
+use Rattle.mk_plan.specs.Deliveries.{triggering_from}
 use Rattle.mk_sched_supply.specs.declared.outputs.Outputs.{Outputs}
-
--- the connections that lead from s and trigger, in plan order
-abbrev pub triggering_from : Plan → ℕ → List Conn
-triggering_from P s = filter (λ c. c.triggering && (owner P c.from == s)) P.conns
 
 -- what was found for each want
 abbrev pub found_values : Outputs → List (Option Json)

@@ -6,19 +6,17 @@ use Rattle.mk_plan.specs.declared.Want.{Want}
 use Rattle.mk_plan.specs.declared.Entry.{Entry}
 use Rattle.mk_plan.specs.Plans.{IsValidPlan, sim_count, eid_of}
 use Rattle.mk_plan.specs.Turns.{wanted}
-use Rattle.mk_plan.specs.Deliveries.{Supply}
+use Rattle.mk_plan.specs.Deliveries.{Supply, triggering_from}
 use Rattle.mk_plan.specs.Journals.{View, view}
 use Rattle.mk_plan.specs.Ready.{IsReady}
 use Rattle.mk_plan.specs.Advance.{IsAdvance}
 use Rattle.mk_plan.specs.Orderly.{IsAllowed, IsOrderlySoFar}
-use Rattle.mk_order.proofs.Supplies.{SameSupply}
-use Rattle.mk_order.proofs.GivenEntries.{given_so_far}
-use Rattle.mk_order.proofs.LaterQuestions.{IsMarkOf}
+use Rattle.mk_order.specs.Supplies.{SameSupply, given_so_far}
+use Rattle.mk_order.specs.Pending.{IsMarkOf}
 use Rattle.mk_plan_names.specs.Names.{AreNamesOf}
 use Rattle.mk_buffers.specs.Standing.{StandFor, mark_of}
 use Rattle.mk_sched_supply.specs.declared.feeds.Feed.{Feed}
 use Rattle.mk_sched_supply.specs.declared.stock.Stock.{Stock}
-use Rattle.mk_sched_supply.specs.Outputs.{triggering_from}
 
 -- what a connection takes from its source
 abbrev pub taken : Plan → Conn → Want

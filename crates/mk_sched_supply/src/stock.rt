@@ -17,7 +17,7 @@ ghost use Rattle.mk_plan.specs.Inputs.{inputs};
 ghost use Rattle.mk_plan.specs.Sequential.{last_time};
 ghost use Rattle.mk_plan.specs.Journals.{OpenTurn, View, empty_view, view, ended_turn, note_right};
 ghost use Rattle.mk_plan.specs.Ready.{IsReady};
-ghost use Rattle.mk_order.proofs.LaterQuestions.{IsMarkOf};
+ghost use Rattle.mk_order.specs.Pending.{IsMarkOf};
 ghost use Rattle.mk_sched_open.specs.Turns.{IsRight};
 ghost use Rattle.mk_buffers.specs.Bounds.{most_kept};
 ghost use Rattle.mk_buffers.specs.Standing.{HasRaised, HasSameMarks, StandFor, least_mark, outputs_held};

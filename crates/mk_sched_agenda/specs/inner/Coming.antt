@@ -17,7 +17,8 @@ use Rattle.mk_order.proofs.Pends.{PendsWith}
 use Rattle.mk_sched_agenda.specs.declared.limits.Limits.{Limits}
 use Rattle.mk_sched_agenda.specs.declared.outlets.Outlet.{Outlet}
 use Rattle.mk_sched_agenda.specs.declared.outlets.Beyond.{Beyond}
-use Rattle.mk_sched_agenda.specs.Outlets.{AreOutletsOf, triggering_from}
+use Rattle.mk_sched_agenda.specs.Outlets.{AreOutletsOf}
+use Rattle.mk_plan.specs.Deliveries.{triggering_from}
 use Rattle.mk_sched_agenda.specs.Dues.{limits_of, queue_in}
 use Rattle.mk_sched_agenda.specs.Mirrors.{flag_of}
 use Rattle.mk_sched_agenda.specs.Endings.{given_by}

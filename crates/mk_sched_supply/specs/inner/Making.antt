@@ -8,7 +8,7 @@ use Rattle.mk_plan.specs.declared.Conn.{Conn}
 use Rattle.mk_plan.specs.declared.Want.{Want}
 use Rattle.mk_plan.specs.Plans.{owner, sim_count, eid_of}
 use Rattle.mk_plan.specs.Turns.{wanted}
-use Rattle.mk_plan.specs.Deliveries.{Supply}
+use Rattle.mk_plan.specs.Deliveries.{Supply, triggering_in}
 use Rattle.mk_buffers.specs.declared.buffers.Buffers.{Buffers}
 use Rattle.mk_buffers.specs.Held.{with_output}
 use Rattle.mk_buffers.specs.Standing.{StandFor}
@@ -27,10 +27,6 @@ is_given values p = unwrap_or (option_map is_some (slice_get values p)) false
 -- the same for each of these places
 abbrev pub are_given : List (Option Json) → List ℕ → List Bool
 are_given values places = map (is_given values) places
-
--- the connections of s among these that trigger
-abbrev pub triggering_in : Plan → ℕ → List Conn → List Conn
-triggering_in P s cs = filter (λ c. c.triggering && (owner P c.from == s)) cs
 
 -- the feed of s, as far as the first k connections
 pub record IsFeedSoFar (P : Plan) (k s : ℕ) (f : Feed) : Type 0 where

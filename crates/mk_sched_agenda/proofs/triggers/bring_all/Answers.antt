@@ -1,6 +1,6 @@
 -- Answers to the goals of `triggers::bring_all` that the prover leaves.
 use Rattle.std.proofs.Common.{false, take, ◌∙◌}
-use Rattle.mk_sched_agenda.specs.Outlets.{triggering_from}
+use Rattle.mk_plan.specs.Deliveries.{triggering_from}
 use Rattle.mk_tiers.proofs.Noting.{noted_both}
 use Rattle.mk_sched_agenda.proofs.Ending.{come_next, come_all}
 use Rattle.mk_sched_agenda.proofs.triggers.bring_all.Goals as goal

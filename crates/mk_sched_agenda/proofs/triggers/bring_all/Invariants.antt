@@ -4,7 +4,7 @@ use Rattle.mk_plan.specs.declared.Plan.{Plan}
 use Rattle.mk_plan.specs.Acts.{Act}
 use Rattle.mk_plan.specs.Journals.{View}
 use Rattle.mk_tiers.specs.Noted.{HasNoted}
-use Rattle.mk_sched_agenda.specs.Outlets.{triggering_from}
+use Rattle.mk_plan.specs.Deliveries.{triggering_from}
 use Rattle.mk_sched_agenda.specs.inner.Dues.{IsTidy}
 use Rattle.mk_sched_agenda.specs.inner.Coming.{HasCome, IsEnding}
 use Rattle.mk_sched_agenda.proofs.triggers.bring_all.Given as goal

@@ -4,7 +4,8 @@ use Rattle.mk_nextstep.specs.Queues.{least}
 use Rattle.mk_sched_agenda.specs.declared.outlets.Outlet.{Outlet}
 use Rattle.mk_sched_agenda.specs.Mirrors.{AgendaState}
 use Rattle.mk_sched_agenda.specs.Dues.{queue_in}
-use Rattle.mk_sched_agenda.specs.Outlets.{outlets_in, triggering_from}
+use Rattle.mk_sched_agenda.specs.Outlets.{outlets_in}
+use Rattle.mk_plan.specs.Deliveries.{triggering_from}
 use Rattle.mk_plan.specs.Journals.{view, ended_turn}
 use Rattle.mk_sched_agenda.specs.inner.Coming.{IsEnding, HasCome, first_beyond}
 use Rattle.mk_sched_agenda.proofs.Rows.{outlets_at}

@@ -5,7 +5,7 @@ use Rattle.mk_base.specs.Tiers.{up_to}
 use Rattle.mk_plan.specs.declared.Plan.{Plan}
 use Rattle.mk_plan.specs.Plans.{sim_count}
 use Rattle.mk_plan.specs.Journals.{View}
-use Rattle.mk_order.proofs.LaterQuestions.{IsMarkOf}
+use Rattle.mk_order.specs.Pending.{IsMarkOf}
 use Rattle.mk_buffers.specs.declared.buffers.Buffers.{Buffers}
 use Rattle.mk_buffers.specs.Marking.{greater}
 use Rattle.mk_buffers.specs.Standing.{HasRaised, mark_of}
