@@ -26,7 +26,7 @@ use Rattle.mk_sched.specs.declared.faults.CoreFault.TheVariants.{TooLong}
 use Rattle.mk_sched.specs.declared.faults.Next.TheVariants as next
 use Rattle.mk_sched.specs.declared.faults.Taken.TheVariants as taken
 use Rattle.mk_sched.specs.Cores.{CoreState, Stands}
-use Rattle.mk_sched.specs.Answers.{NextOf, ArriveOf, IsAsked, IsWaiting, IsOver, IsQuiet, IsAnswered, IsLastFaulty, WasFaulty, SomeReady, SomeOpen, with_message}
+use Rattle.mk_sched.specs.Answers.{NextOf, ArriveOf, IsAsked, AwaitsMessage, IsOver, IsQuiet, IsAnswered, IsLastFaulty, WasFaulty, SomeReady, SomeOpen, with_message}
 use Rattle.mk_record_replay.specs.declared.asking.Standstill.TheVariants as standstills
 use Rattle.mk_record_replay.specs.declared.replaying.ReplayEnd.{ReplayEnd}
 use Rattle.mk_record_replay.specs.declared.replaying.ReplayEnd.TheVariants.{Done, Core, Short}
@@ -63,7 +63,7 @@ asked_fills old new s a stands = let longer : length new.entries ≡ length old.
 goes_on_same : (first old new : CoreState) → GoesOn first old → new ≡ old → GoesOn first new
 goes_on_same first old new g same = subst (λ (c : CoreState). GoesOn first c) (sym same) g
 
-pub asked_waiting : (first old new : CoreState) → GoesOn first old → IsWaiting old new → Stands new.plan new.entries → HasAskedAll first standstills.Waiting new
+pub asked_waiting : (first old new : CoreState) → GoesOn first old → AwaitsMessage old new → Stands new.plan new.entries → HasAskedAll first standstills.Waiting new
 asked_waiting first old new g w stands = record {
   goes = goes_on_same first old new g w.same;
   stands = stands;

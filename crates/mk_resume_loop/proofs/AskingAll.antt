@@ -13,7 +13,7 @@ use Rattle.mk_plan.specs.Ready.{IsDone}
 use Rattle.mk_order.proofs.SameEnd.{done_is_quiet}
 use Rattle.mk_outside.specs.declared.fleet.LogEntry.{LogEntry}
 use Rattle.mk_sched.specs.Cores.{CoreState, Stands}
-use Rattle.mk_sched.specs.Answers.{SomeOpen, SomeReady, IsAsked, IsOver, IsWaiting}
+use Rattle.mk_sched.specs.Answers.{SomeOpen, SomeReady, IsAsked, IsOver, AwaitsMessage}
 use Rattle.mk_run_laws.proofs.Stepping.{same_or_not}
 use Rattle.mk_run_local.specs.Laws.{RepliesAreKinds}
 use Rattle.mk_run_crew.specs.declared.halt.Halt.{Halt}
@@ -129,7 +129,7 @@ module _ (core : CoreState) (s : SimNo) (C : CrewSeen) (B : BehindSeen) where
 
 -- ---- nobody is ready
 
-pub waits_so : (old new : CoreState) → IsWaiting old new → (SomeReady new.plan new.entries → ⊥) × SomeOpen new.plan new.entries
+pub waits_so : (old new : CoreState) → AwaitsMessage old new → (SomeReady new.plan new.entries → ⊥) × SomeOpen new.plan new.entries
 waits_so old new w = subst (λ (c : CoreState). (SomeReady c.plan c.entries → ⊥) × SomeOpen c.plan c.entries) (sym w.same) (w.nobody, w.waiting)
 
 pub over_so : (old new : CoreState) → IsOver old new → (SomeReady new.plan new.entries → ⊥) × IsDone new.plan (view new.plan new.entries)

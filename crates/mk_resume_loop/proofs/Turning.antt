@@ -12,7 +12,7 @@ use Rattle.mk_plan.specs.Journals.{Arrival, got, sent}
 use Rattle.mk_plan.specs.Sequential.{id_after}
 use Rattle.mk_outside.specs.declared.fleet.LogEntry.{LogEntry}
 use Rattle.mk_sched.specs.Cores.{CoreState, Stands}
-use Rattle.mk_sched.specs.Answers.{SomeReady, IsAsked, IsAnswered, IsQuiet, IsWaiting, IsOver}
+use Rattle.mk_sched.specs.Answers.{SomeReady, IsAsked, IsAnswered, IsQuiet, AwaitsMessage, IsOver}
 use Rattle.mk_run_laws.specs.Crews.{IsHeard}
 use Rattle.mk_run_local.specs.Calls.{IsFitSuccess}
 use Rattle.mk_run_local.specs.Laws.{RepliesAreKinds}
@@ -88,7 +88,7 @@ module _ (T : Setting) (old new : CoreState) (first : List Entry) (heard : Count
 
 -- ---- nobody is ready
 
-pub waiting_on : (T : Setting) (old new : CoreState) (first : List Entry) (heard : Counts) (log : List LogEntry) (C : CrewSeen) (B : BehindSeen) → IsWaiting old new → GoesOn T first heard old log C B → GoesOn T first heard new log C B
+pub waiting_on : (T : Setting) (old new : CoreState) (first : List Entry) (heard : Counts) (log : List LogEntry) (C : CrewSeen) (B : BehindSeen) → AwaitsMessage old new → GoesOn T first heard old log C B → GoesOn T first heard new log C B
 waiting_on T old new first heard log C B w u = subst (λ (c : CoreState). GoesOn T first heard c log C B) (sym w.same) u
 
 pub over_on : (T : Setting) (old new : CoreState) (first : List Entry) (heard : Counts) (log : List LogEntry) (C : CrewSeen) (B : BehindSeen) → IsOver old new → GoesOn T first heard old log C B → GoesOn T first heard new log C B

@@ -17,7 +17,7 @@ use Rattle.mk_outside.specs.declared.fleet.LogEntry.{LogEntry}
 use Rattle.mk_outside.specs.Logs.{Adds}
 use Rattle.mk_outside.proofs.OnLogs.{adds_none, adds_more}
 use Rattle.mk_sched.specs.Cores.{CoreState, Stands}
-use Rattle.mk_sched.specs.Answers.{SomeOpen, IsAsked, IsWaiting, IsAnswered}
+use Rattle.mk_sched.specs.Answers.{SomeOpen, IsAsked, AwaitsMessage, IsAnswered}
 use Rattle.mk_run_laws.specs.Channels.{Channel}
 use Rattle.mk_run_laws.specs.Crews.{IsHeard}
 use Rattle.mk_run_links.specs.Entries.{AreOn}
@@ -79,10 +79,10 @@ module _ (T : Setting) (old new : CoreState) (log : List LogEntry) (C : CrewSeen
 
 -- ---- a message is waited for
 
-pub waiting_on : (T : Setting) (old new : CoreState) (log : List LogEntry) (C : CrewSeen) → IsWaiting old new → GoesOn T old log C → GoesOn T new log C
+pub waiting_on : (T : Setting) (old new : CoreState) (log : List LogEntry) (C : CrewSeen) → AwaitsMessage old new → GoesOn T old log C → GoesOn T new log C
 waiting_on T old new log C w u = subst (λ (c : CoreState). GoesOn T c log C) (sym w.same) u
 
-pub waits_so : (old new : CoreState) → IsWaiting old new → Waits new
+pub waits_so : (old new : CoreState) → AwaitsMessage old new → Waits new
 waits_so old new w = subst Waits (sym w.same) (w.nobody, w.waiting)
 
 -- ---- links are open, and something can be heard

@@ -76,7 +76,7 @@ pub record IsAsked (old : CoreState) (sim : SimNo) (new : CoreState) : Type 0 wh
   pub moved : new ≡ moved old (old.entries ++ Sent sim (Step at inputs advance) ∷ []) None
 
 -- nobody is ready, and some request is open
-pub record IsWaiting (old new : CoreState) : Type 0 where
+pub record AwaitsMessage (old new : CoreState) : Type 0 where
   pub going : IsGoing old
   pub nobody : SomeReady old.plan old.entries → ⊥
   pub waiting : SomeOpen old.plan old.entries
@@ -100,7 +100,7 @@ pub record IsFull (old : CoreState) (fault : CoreFault) (new : CoreState) : Type
 -- what an answer to `next` means
 abbrev pub NextOf : CoreState → Next → CoreState → Type 0
 NextOf old (Ask sim) new = IsAsked old sim new
-NextOf old Wait new = IsWaiting old new
+NextOf old Wait new = AwaitsMessage old new
 NextOf old Done new = IsOver old new
 NextOf old (Fault fault) new = WasFaulty old fault new ⊎ IsFull old fault new
 

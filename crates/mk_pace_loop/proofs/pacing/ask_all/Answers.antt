@@ -7,7 +7,7 @@ use Rattle.mk_plan.specs.Plans.{first_id}
 use Rattle.mk_plan.specs.Sequential.{id_after}
 use Rattle.mk_sched.specs.declared.faults.Next.{Next}
 use Rattle.mk_sched.specs.Cores.{CoreState}
-use Rattle.mk_sched.specs.Answers.{NextOf, IsAsked, IsWaiting, IsOver}
+use Rattle.mk_sched.specs.Answers.{NextOf, IsAsked, AwaitsMessage, IsOver}
 use Rattle.mk_run.specs.declared.outcome.Outcome.{Outcome}
 use Rattle.mk_run.proofs.Turning.{waits_so}
 use Rattle.mk_pace_loop.specs.inner.Turns.{AsksAs, GoesOn, IsStopping}
@@ -76,7 +76,7 @@ returns-in_err-hold_last-in-Ask-clause-asked c =
 
 pub returns-in-Wait-clause-asked : goal.returns-in-Wait-clause-asked
 returns-in-Wait-clause-asked c =
-    let w : IsWaiting c.asking.core c.next.new.self = subst (λ (n : Next). NextOf c.asking.core n c.next.new.self) c.in-Wait.is c.in_ok-sim.ensures.ok in (
+    let w : AwaitsMessage c.asking.core c.next.new.self = subst (λ (n : Next). NextOf c.asking.core n c.next.new.self) c.in-Wait.is c.in_ok-sim.ensures.ok in (
       ap (λ (k : CoreState). k.ended) w.same ∙ c.asking.invariant.going,
       waits_so c.asking.core c.next.new.self w,
       (λ S log C u. subst (λ (k : CoreState). GoesOn S k log C c.asking.waiting) (sym w.same) (c.asking.invariant.goes S log C u)),

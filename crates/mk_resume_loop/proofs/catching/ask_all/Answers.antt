@@ -5,7 +5,7 @@ use Rattle.mk_local.specs.Registries.{rows_in}
 use Rattle.mk_plan.specs.Plans.{sim_count}
 use Rattle.mk_sched.specs.declared.faults.Next.{Next}
 use Rattle.mk_sched.specs.Cores.{CoreState}
-use Rattle.mk_sched.specs.Answers.{NextOf, IsAsked, IsWaiting, IsOver}
+use Rattle.mk_sched.specs.Answers.{NextOf, IsAsked, AwaitsMessage, IsOver}
 use Rattle.mk_resume_loop.specs.declared.ending.Pause.{Pause}
 use Rattle.mk_resume_loop.specs.declared.ending.ResumeEnd.{ResumeEnd}
 use Rattle.mk_resume_loop.specs.inner.Turns.{AsksAllAs}
@@ -61,7 +61,7 @@ returns-in_err-ask-in-Ask-clause-asked_all g c =
 
 pub returns-in-Wait-clause-asked_all : goal.returns-in-Wait-clause-asked_all
 returns-in-Wait-clause-asked_all g c =
-    let w : IsWaiting c.asking.core c.next.new.self = subst (λ (n : Next). NextOf c.asking.core n c.next.new.self) c.in-Wait.is c.in_ok-sim.ensures.ok in
+    let w : AwaitsMessage c.asking.core c.next.new.self = subst (λ (n : Next). NextOf c.asking.core n c.next.new.self) c.in-Wait.is c.in_ok-sim.ensures.ok in
     let so = waits_so c.asking.core c.next.new.self w in (
       ap (λ (k : CoreState). k.ended) w.same ∙ c.asking.invariant.going,
       so.0,

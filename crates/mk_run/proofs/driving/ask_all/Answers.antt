@@ -4,7 +4,7 @@ use Rattle.std.proofs.lemmas.Result.{err_from_is_err_and}
 use Rattle.mk_local.specs.Registries.{rows_in}
 use Rattle.mk_sched.specs.declared.faults.Next.{Next}
 use Rattle.mk_sched.specs.Cores.{CoreState}
-use Rattle.mk_sched.specs.Answers.{NextOf, IsAsked, IsWaiting, IsOver}
+use Rattle.mk_sched.specs.Answers.{NextOf, IsAsked, AwaitsMessage, IsOver}
 use Rattle.mk_run_crew.specs.Seen.{CrewSeen}
 use Rattle.mk_run.specs.declared.outcome.Outcome.{Outcome}
 use Rattle.mk_run.specs.inner.Turns.{IsLinkedIfLong, IsStopping, AsksAllAs}
@@ -56,7 +56,7 @@ returns-in_err-send_last-in-Ask-clause-asked_all g c =
 
 pub returns-in-Wait-clause-asked_all : goal.returns-in-Wait-clause-asked_all
 returns-in-Wait-clause-asked_all g c =
-    let w : IsWaiting c.asking.core c.next.new.self = subst (λ (n : Next). NextOf c.asking.core n c.next.new.self) c.in-Wait.is c.in_ok-sim.ensures.ok in (
+    let w : AwaitsMessage c.asking.core c.next.new.self = subst (λ (n : Next). NextOf c.asking.core n c.next.new.self) c.in-Wait.is c.in_ok-sim.ensures.ok in (
       ap (λ (k : CoreState). k.ended) w.same ∙ c.asking.invariant.going,
       waits_so c.asking.core c.next.new.self w,
       (λ T log u. waiting_on T c.asking.core c.next.new.self log c.asking.crew w (c.asking.invariant.goes T log u)),
