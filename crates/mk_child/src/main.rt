@@ -7,7 +7,8 @@ use mk_local::{
     EntityStep, Kind, Registry, Turn, battery_turn, constant_turn, controller_turn, counter_turn,
     relay_turn, sum_turn,
 };
-use mk_real::{MioFleet, words};
+use mk_real::MioFleet;
+use mk_real_files::words;
 use mk_simapi::child;
 use std::alloc::Global;
 use std::process::ExitCode;

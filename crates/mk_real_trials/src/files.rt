@@ -1,6 +1,6 @@
 //! Files of the system, and a standard stream.
 use mk_outside::{FileRead, FileSave, Folder, Sink, Wrote};
-use mk_real::{RealFolder, RealSink};
+use mk_real_files::{RealFolder, RealSink};
 use std::alloc::{AllocGlobal, Global};
 use std::fs::{self, Files};
 use std::io;

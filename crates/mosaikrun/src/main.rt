@@ -9,7 +9,8 @@ use mk_local::{
     EntityStep, Kind, Registry, Turn, battery_turn, constant_turn, controller_turn, counter_turn,
     relay_turn, sum_turn,
 };
-use mk_real::{MioFleet, RealFolder, RealSink, words};
+use mk_real::MioFleet;
+use mk_real_files::{RealFolder, RealSink, words};
 use mk_watch_read::{Fold, Rule, Rules, greatest, last, least, sum};
 use mosaikrun_program::program;
 use std::alloc::Global;

@@ -1,19 +1,15 @@
 //! The words of the call.
-use crate::errors::is_want_of_memory;
 use mk_base::Mem;
-use std::{env, io};
+use std::env;
+use std::io::{self, ErrorKind};
 
 /// The program's words, without its own name. There are none where one of them is no text in UTF-8, or the system
 /// doesn't tell them; `Mem` means want of memory.
 pub fn words(rt: &HostRuntime) -> Result<Vec<String>, Mem> {
     match told(rt) {
         Ok(words) => Ok(words),
-        Err(e) => {
-            if is_want_of_memory(e) {
-                return Err(Mem);
-            }
-            Ok(Vec::new(rt.alloc()))
-        }
+        Err(e) if e.kind() == ErrorKind::OutOfMemory => Err(Mem),
+        Err(_) => Ok(Vec::new(rt.alloc())),
     }
 }
 
