@@ -7,6 +7,7 @@ pub mod Lists
 pub mod Named
 pub mod Numbers
 pub mod Places
+pub mod Registered
 pub mod Replied
 pub mod Rows
 pub mod StepRight

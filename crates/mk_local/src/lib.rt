@@ -24,6 +24,6 @@ pub use params::whole_from_to;
 pub use registry::Registry;
 pub use sim::LocalSim;
 pub use turn::{
-    EntityStep, EntityTurn, Turn, battery_turn, constant_turn, controller_turn, counter_turn,
-    relay_turn, sum_turn,
+    EntityStep, EntityTurn, TURNS, Turn, battery_turn, constant_turn, controller_turn,
+    counter_turn, relay_turn, sum_turn, turn_of,
 };

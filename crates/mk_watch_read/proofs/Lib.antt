@@ -1,3 +1,4 @@
 -- The lemmas of mk_watch_read, by their files.
 mod Gathered
 mod Inside
+pub mod Named

@@ -2,3 +2,4 @@
 pub mod Folds
 pub mod Rules
 pub mod Watches
+pub mod inner

@@ -10,7 +10,7 @@ mod rules;
 mod watches;
 
 pub use fault::WatchFault;
-pub use folds::{greatest, last, least, sum};
+pub use folds::{FOLDS, greatest, last, least, name_of, sum, value_of};
 pub use rule::{Fold, Rule};
 pub use rules::Rules;
 pub use watches::{Watch, read_watches};

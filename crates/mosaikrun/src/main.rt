@@ -4,21 +4,23 @@
 //! in another record.
 #![tactic(auto)]
 
+ghost use Rattle.std.specs.Prelude.{◌≡◌, ◌<◌, ◌-◌, ◌^◌, [], true, length, map};
+ghost use Rattle.mk_local.specs.inner.Registries as kinds;
+ghost use Rattle.mk_watch_read.specs.Folds.{name_of};
+ghost use Rattle.mk_watch_read.specs.inner.Rules as rules;
+
 use mk_base::{Mem, Text};
-use mk_local::{
-    EntityStep, Kind, Registry, Turn, battery_turn, constant_turn, controller_turn, counter_turn,
-    relay_turn, sum_turn,
-};
+use mk_local::{EntityStep, Kind, Registry, TURNS, Turn, turn_of};
 use mk_real::MioFleet;
 use mk_real_files::{RealFolder, RealSink, words};
-use mk_watch_read::{Fold, Rule, Rules, greatest, last, least, sum};
+use mk_watch_read::{FOLDS, Fold, Rule, Rules, name_of, value_of};
 use mosaikrun_program::program;
 use std::alloc::Global;
 use std::process::ExitCode;
 use std::sync::Wait;
 
 fn main(rt: HostRuntime) -> ExitCode {
-    match run(&rt, &rt, rt.alloc()) {
+    match run(&rt, &rt, rt.alloc(), &TURNS) {
         Ok(status) => ExitCode::from(status),
         Err(_) => {
             let _ = rt.eprintln("mosaikrun: out of memory");
@@ -27,58 +29,38 @@ fn main(rt: HostRuntime) -> ExitCode {
     }
 }
 
-// Makes the kinds of simulators within the program, and goes on with them. Answers the program's status.
-fn run<W: Wait>(rt: &HostRuntime, waits: &W, alloc: Global) -> Result<u8, Mem> {
+// Makes the kinds of simulators within the program, one of each row, and goes on with them. Answers the program's
+// status.
+fn run<W: Wait>(rt: &HostRuntime, waits: &W, alloc: Global, turns: &[Turn]) -> Result<u8, Mem>
+    requires { kinds.are_new [] turns.now ≡ true }
+{
     let mut kinds = Registry::new(alloc);
-    kinds.add(Kind::new(
-        Turn::Constant,
-        Box::new(alloc, |s: EntityStep| constant_turn(s))?,
-    ))?;
-    kinds.add(Kind::new(
-        Turn::Counter,
-        Box::new(alloc, |s: EntityStep| counter_turn(s))?,
-    ))?;
-    kinds.add(Kind::new(Turn::Sum, Box::new(alloc, |s: EntityStep| sum_turn(s))?))?;
-    kinds.add(Kind::new(Turn::Relay, Box::new(alloc, |s: EntityStep| relay_turn(s))?))?;
-    kinds.add(Kind::new(
-        Turn::Battery,
-        Box::new(alloc, |s: EntityStep| battery_turn(s))?,
-    ))?;
-    kinds.add(Kind::new(
-        Turn::Controller,
-        Box::new(alloc, |s: EntityStep| controller_turn(s))?,
-    ))?;
-    run_with(rt, waits, alloc, &kinds)
+    for turn in turns {
+        let turn = *turn;
+        let body = Box::new(alloc, move |s: EntityStep| turn_of(turn, s))?;
+        kinds.add(Kind::new(turn, body))?;
+    }
+    run_with(rt, waits, alloc, &kinds, &FOLDS)
 }
 
-// Makes the rules of tables within the program, and goes on with them.
+// Makes the rules of tables within the program, one of each fold, and goes on with them.
 fn run_with<W: Wait>(
     rt: &HostRuntime,
     waits: &W,
     alloc: Global,
     kinds: &Registry,
-) -> Result<u8, Mem> {
+    folds: &[Fold],
+) -> Result<u8, Mem>
+    requires names { rules.are_new [] (map name_of folds.now) ≡ true }
+    requires few { length folds.now < 2 ^ 32 - 1 }
+{
     let mut rules = Rules::new(alloc);
-    rules.add(Rule::new(
-        Text::of(alloc, "sum")?,
-        Fold::Sum,
-        Box::new(alloc, |a: i64, b: i64| sum(a, b))?,
-    ))?;
-    rules.add(Rule::new(
-        Text::of(alloc, "least")?,
-        Fold::Least,
-        Box::new(alloc, |a: i64, b: i64| least(a, b))?,
-    ))?;
-    rules.add(Rule::new(
-        Text::of(alloc, "greatest")?,
-        Fold::Greatest,
-        Box::new(alloc, |a: i64, b: i64| greatest(a, b))?,
-    ))?;
-    rules.add(Rule::new(
-        Text::of(alloc, "last")?,
-        Fold::Last,
-        Box::new(alloc, |a: i64, b: i64| last(a, b))?,
-    ))?;
+    for fold in folds {
+        let fold = *fold;
+        let name = Text::of(alloc, name_of(fold))?;
+        let body = Box::new(alloc, move |a: i64, b: i64| value_of(fold, a, b))?;
+        rules.add(Rule::new(name, fold, body))?;
+    }
     call(rt, waits, alloc, kinds, &rules)
 }
 

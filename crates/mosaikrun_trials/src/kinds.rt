@@ -1,4 +1,5 @@
-//! What is tried with kinds of simulators within the program, which are made as a program's `main` makes them.
+//! What is tried with kinds of simulators within the program, whose boxes are made here, as a program's `main` makes
+//! its own.
 
 use crate::chain::is_long_chain_run;
 use crate::orders::is_study_one;
