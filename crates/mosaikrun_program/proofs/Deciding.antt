@@ -12,6 +12,7 @@ use Rattle.mosaikrun_words.specs.declared.request.Request.TheVariants.{Files as 
 use Rattle.mosaikrun_endings.specs.declared.ending.Ending.{Ending}
 use Rattle.mosaikrun_endings.specs.declared.ending.Ending.TheVariants.{Mem}
 use Rattle.mosaikrun_endings.specs.Endings.{outcome_status, status_of}
+use Rattle.mosaikrun_records.specs.Saved.{IsUnread}
 use Rattle.mosaikrun_program.specs.Commands.{AreHeld, IsAccepted, IsAsked, ComesOfFiles, IsNext, IsNoFile, IsOutcomeOf, IsReadOn, IsStuckBy, IsUnreadable, files_of, read_by, target_of}
 use Rattle.mosaikrun_program.specs.Answers.{TextAnswer}
 use Rattle.mosaikrun_program.specs.Around.{Around}
@@ -20,6 +21,11 @@ use Rattle.mosaikrun_program.specs.Running.{HasRunAs, IsDoneOver}
 use Rattle.mosaikrun_program.specs.Program.{EndedAs, HasPerformed, IsStatusOr, status}
 use Rattle.mosaikrun_program.proofs.Answering.{cut_status, is_memory, memory, one_command, one_request, unasked_not}
 use Rattle.mosaikrun_program.proofs.Rows.{IsThere, row_of, row_over, there_not}
+
+-- bytes that are refused as a record have the status 3
+pub unread_status : (bytes : List ℕ) (e : Ending) → IsUnread bytes e → (e ≡ Mem) ⊎ (status_of e ≡ 3)
+unread_status bytes e (inl mem) = inl mem
+unread_status bytes e (inr fault) = inr (ap status_of fault.2)
 
 -- a file that is there, and short enough, is read, but for a folder that failed and want of memory
 pub readable_status : (held : Files) (files : Option Files) (name : List ℕ) (risen : Type 0) (e : Ending) (wanted : ℕ) → files ≡ Some held → IsThere held name → IsUnreadable files name risen e → IsStatusOr wanted (status_of e)

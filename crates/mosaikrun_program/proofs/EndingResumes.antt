@@ -47,7 +47,7 @@ use Rattle.mosaikrun_program.specs.Complete.{IsFaultlessResume, IsRightRecord}
 use Rattle.mosaikrun_program.specs.Program.{EndedAs, HasPerformed, IsStatusOr, status}
 use Rattle.mosaikrun_program.specs.Running.{IsDoneOver, RunAnswer}
 use Rattle.mosaikrun_program.proofs.Answering.{one_request, unasked_not}
-use Rattle.mosaikrun_program.proofs.Deciding.{readable_status}
+use Rattle.mosaikrun_program.proofs.Deciding.{readable_status, unread_status}
 use Rattle.mosaikrun_program.proofs.EndingRuns.{runnable_not, status_of_none, status_of_text}
 use Rattle.mosaikrun_program.proofs.Resuming.{no_record, refused_not}
 use Rattle.mosaikrun_program.proofs.Rows.{IsThere}
@@ -85,11 +85,6 @@ one_saved bytes a b one other =
     ap (λ (P : Plan). record { plan = P; arrivals = a.arrivals; asks = a.asks }) plans
     ∙ ap (λ (A : List Arrival). record { plan = b.plan; arrivals = A; asks = a.asks }) arrivals
     ∙ ap (λ (o : Option (List Asked)). record { plan = b.plan; arrivals = b.arrivals; asks = o }) asks
-
--- bytes that are refused as a record have the status 3
-unread_status : (bytes : List ℕ) (e : Ending) → IsUnread bytes e → (e ≡ Mem) ⊎ (status_of e ≡ 3)
-unread_status bytes e (inl mem) = inl mem
-unread_status bytes e (inr fault) = inr (ap status_of fault.2)
 
 -- what a record says isn't refused
 read_not : (bytes : List ℕ) (old : Saved) → reading bytes ≡ Said old.plan (map came old.arrivals) old.asks → (e : Ending) → IsUnread bytes e → e ≡ Mem

@@ -9,7 +9,7 @@ use Rattle.mk_plan.specs.declared.Entry.{Entry}
 use Rattle.mk_plan.specs.declared.Message.{Message}
 use Rattle.mk_plan.specs.Journals.{bare, got, sent}
 use Rattle.mk_plan.specs.Sequential.{Messages, run_items}
-use Rattle.mk_outside.specs.Folders.{with_file}
+use Rattle.mk_outside.specs.Folders.{Files, with_file}
 use Rattle.mk_outside.specs.Sinks.{appended}
 use Rattle.mk_scenario.specs.declared.parts.Scenario.{Scenario}
 use Rattle.mk_scenario_demo.specs.Demo.{demo_scenario}
@@ -33,8 +33,9 @@ use Rattle.mosaikrun_sayings.specs.Sayings.{ids_of}
 use Rattle.mosaikrun_run.specs.declared.sayings.Form.{Form}
 use Rattle.mosaikrun_run.specs.declared.sayings.Form.TheVariants.{Report, Summary}
 use Rattle.mk_setup.specs.Ranked.{AreRanksOf}
-use Rattle.mosaikrun_check.specs.Runnable.{IsRunnable}
-use Rattle.mosaikrun_run.specs.Outcomes.{IsPlayed, IsSaid, IsScenarioOutcome, IsUnrun, exchange_in}
+use Rattle.mosaikrun_check.specs.Runnable.{IsRunnable, IsUnrunnable}
+use Rattle.mosaikrun_check.proofs.OneRanking.{fault_status}
+use Rattle.mosaikrun_run.specs.Outcomes.{IsIdle, IsNoScenario, IsPlayed, IsSaid, IsScenarioOutcome, IsUnrun, IsUnrunnableScenario, exchange_in}
 use Rattle.mosaikrun_run.specs.Sayings.{halt_ending, record_of, text_of}
 use Rattle.mosaikrun_run.proofs.Reporting.{said_is_done, texts_sequential}
 use Rattle.mk_local.specs.Kinds.{name_of}
@@ -44,19 +45,20 @@ use Rattle.mk_resume_loop.specs.declared.ending.ResumeEnd.TheVariants as resume_
 use Rattle.mk_resume.specs.Resumed.{HasFaultySaved, IsRefusedBy}
 use Rattle.mosaikrun_sayings.specs.Stops.{stop_of}
 use Rattle.mosaikrun_run.specs.Sayings.{saying_of}
-use Rattle.mosaikrun_resume.specs.Outcomes.{HasGoneOn, IsNotTaken, IsResumeOutcome, IsSavedOutcome, IsStudy}
+use Rattle.mosaikrun_resume.specs.Outcomes.{HasGoneOn, IsNoStudy, IsNotTaken, IsResumeOutcome, IsSavedOutcome, IsStudy}
 use Rattle.mosaikrun_resume.specs.Sayings.{resume_saying}
 use Rattle.mosaikrun_resume.proofs.Reporting as resuming
 use Rattle.mosaikrun_program.specs.Commands.{AreHeld, HasBytes, OfTwoBy}
 use Rattle.mosaikrun_program.specs.Resuming.{IsNotOnward, IsRightOnward, IsRightResume}
-use Rattle.mosaikrun_program.specs.Around.{Around, IsUntouched}
-use Rattle.mosaikrun_program.specs.Commands.{IsAsked, IsOutcomeOf, target_of}
-use Rattle.mosaikrun_program.specs.Running.{IsDoneOver, IsFolderAfter, RunAnswer}
+use Rattle.mosaikrun_program.specs.Around.{Around, FolderSeen}
+use Rattle.mosaikrun_program.specs.Commands.{IsAsked, IsOutcomeOf, IsUnreadable, target_of}
+use Rattle.mosaikrun_program.specs.Running.{IsDoneOver, IsFolderAfter, IsSaved, IsUnsaved, RunAnswer}
 use Rattle.mosaikrun_program.specs.Answers.{TextAnswer}
 use Rattle.mosaikrun_program.specs.Making.{HasMade}
-use Rattle.mosaikrun_program.specs.Program.{EndedAs, HasPerformed, status}
+use Rattle.mosaikrun_program.specs.Program.{EndedAs, HasPerformed, IsMisused, status}
 use Rattle.mosaikrun_program.specs.Headline.{IsPut, IsRightCall, IsRightFor, IsRightRun, IsRightStudy, NothingWasRun, MayCome}
 use Rattle.mosaikrun_program.proofs.Answering.{one_request}
+use Rattle.mosaikrun_program.proofs.Deciding.{unread_status}
 use Rattle.mosaikrun_program.specs.Pacing.{IsRightPaced, IsRightPacedRun}
 use Rattle.mk_plan.specs.Report.{report}
 use Rattle.mk_scenario.specs.Scenarios.{scenario_of}
@@ -122,6 +124,39 @@ own_ranks kinds S ranks runnable = record { ranking = runnable.ranked; each_once
 -- at status 0 the record of this plan and journal was saved under the name that was given for it
 abbrev Filed : Around → Option (List ℕ) → ℕ → Plan → List Entry → Type 0
 Filed C saved n P J = n ≡ 0 → (name : List ℕ) → saved ≡ Some name → C.folder.files_after ≡ option_map (with_file name (record_text P J)) C.folder.files
+
+-- no file was saved where there is no record
+unsaved : (folder : FolderSeen) (name : Option (List ℕ)) (e : Ending) → IsSaved folder name None ⊎ IsUnsaved folder name e → folder.files_after ≡ folder.files
+unsaved folder None e (inl same) = same
+unsaved folder (Some name) e (inl same) = same
+unsaved folder name e (inr un) = un.0
+
+-- a scenario that can't be run has the status 3
+unrunnable_status : (kinds : List (List ℕ)) (S : Scenario) (e : Ending) → IsUnrunnable kinds S e → (e ≡ Mem) ⊎ (status_of e ≡ 3)
+unrunnable_status kinds S e (inl mem) = inl mem
+unrunnable_status kinds S e (inr (inl circle)) = inr (ap status_of circle.is)
+unrunnable_status kinds S e (inr (inr unprepared)) = inr (ap status_of unprepared.unbegun.is)
+
+-- where nothing was done, nothing was run: the ending is of want of memory, or has the status 3
+nothing_run : (C : Around) (name : Option (List ℕ)) (text : Result (List ℕ) Ending) (kept : Option (List ℕ)) (r : Result (Unit {0}) Ending) → RunAnswer C.folder C.output name text kept r
+    → (e : Ending) → text ≡ Err e → IsIdle C.outside kept → (e ≡ Mem) ⊎ (status_of e ≡ 3) → NothingWasRun C (status r)
+nothing_run C name (Ok t) kept r said e is idle why = cc
+nothing_run C name (Err f) kept (Ok done) said e is idle why = absurd said
+nothing_run C name (Err f) kept (Err g) said e is idle why = record {
+  untouched = record {
+    unput = said.0;
+    unsaved = unsaved C.folder name g (subst (λ (k : Option (List ℕ)). IsSaved C.folder name k ⊎ IsUnsaved C.folder name g) idle.unrecorded said.2);
+    log = idle.quiet;
+    faults = idle.same_faults;
+  };
+  status = elim said.1 [
+    | inl same ↦ elim why [
+      | inl mem ↦ (let all : g ≡ Mem = cc in inr (inr (ap status_of all)))
+      | inr three ↦ (let all : g ≡ e = cc in inl (ap status_of all ∙ three))
+    ]
+    | inr mem ↦ inr (inr (ap status_of mem))
+  ];
+}
 
 module _ (C : Around) (form : Form) (wanted : Bool) (S : Scenario) (saved : Option (List ℕ)) (n : ℕ) where
   -- a run with its plan
@@ -211,15 +246,13 @@ module _ (C : Around) (form : Form) (wanted : Bool) (S : Scenario) (saved : Opti
   unsaid : (text : Result (List ℕ) Ending) (kept : Option (List ℕ)) → IsUnrun C.outside S text kept → Shown C text n → n ≡ 0 → ⊥
   unsaid text kept u shown = elim u.said [ inl same ↦ (shown.unput _ same).1 | inr is ↦ (shown.unput Mem is).1 ]
 
-  unbegun : (text : Result (List ℕ) Ending) (e : Ending) → text ≡ Err e → C.outside.log ≡ [] → Shown C text n → NothingWasRun C n
-  unbegun text e is silent shown = record { silent = silent; unput = (shown.unput e is).0; status = (shown.unput e is).1 }
-
   -- what came of a scenario
   studied : (text : Result (List ℕ) Ending) (kept : Option (List ℕ)) → IsScenarioOutcome C.outside form wanted S text kept → Shown C text n
+      → (IsUnrunnableScenario C.outside S text kept → NothingWasRun C n)
       → ((P : Plan) (J : List Entry) → kept ≡ record_of wanted P J → Filed C saved n P J) → NothingWasRun C n ⊎ IsRightStudy C form S saved n
-  studied text kept (inl unready) shown filed = inl (unbegun text unready.ending unready.is unready.idle.quiet shown)
-  studied text kept (inr (inl unrun)) shown filed = inr (halted text kept unrun (unsaid text kept unrun shown) shown.wanting)
-  studied text kept (inr (inr p)) shown filed = inr (played_as text kept p shown (filed p.plan p.journal))
+  studied text kept (inl unready) shown nothing filed = inl (nothing unready)
+  studied text kept (inr (inl unrun)) shown nothing filed = inr (halted text kept unrun (unsaid text kept unrun shown) shown.wanting)
+  studied text kept (inr (inr p)) shown nothing filed = inr (played_as text kept p shown (filed p.plan p.journal))
 
 -- what the answer of what was done over a fleet shows
 shown_by_run : (C : Around) (name : Option (List ℕ)) (text : Result (List ℕ) Ending) (kept : Option (List ℕ)) (r : Result (Unit {0}) Ending) → RunAnswer C.folder C.output name text kept r → Shown C text (status r)
@@ -243,13 +276,21 @@ filed_by C (Some given) (Ok t) kept (Ok done) said P J is zero target named =
     subst (λ (x : List ℕ). C.folder.files_after ≡ option_map (with_file x (record_text P J)) C.folder.files) same
     (subst (λ (k : Option (List ℕ)). IsFolderAfter (Some given) k C.folder.files C.folder.files_after) is said.1)
 
+-- so it is where the bytes are no scenario, or it can't be run
+module _ (C : Around) (name : Option (List ℕ)) (text : Result (List ℕ) Ending) (kept : Option (List ℕ)) (r : Result (Unit {0}) Ending) (said : RunAnswer C.folder C.output name text kept r) where
+  no_scenario : (bytes : List ℕ) → IsNoScenario C.outside bytes text kept → NothingWasRun C (status r)
+  no_scenario bytes none = nothing_run C name text kept r said none.ending none.is none.idle (fault_status (map name_of C.outside.kinds) bytes none.ending (inl none.cause))
+
+  unrunnable : (S : Scenario) → IsUnrunnableScenario C.outside S text kept → NothingWasRun C (status r)
+  unrunnable S unready = nothing_run C name text kept r said unready.ending unready.is unready.idle (unrunnable_status (map name_of C.outside.kinds) S unready.ending unready.cause)
+
 -- a run
 run_right : (C : Around) (r : Result (Unit {0}) Ending) (scenario : List ℕ) (name : Option (List ℕ)) → WasRun C scenario name r → NothingWasRun C (status r) ⊎ IsRightRun C scenario name (status r)
 run_right C r scenario name ran =
     let shown = shown_by_run C name ran.text ran.kept r ran.ended in
     elim ran.outcome [
-      | inl none ↦ inl (record { silent = none.idle.quiet; unput = (shown.unput none.ending none.is).0; status = (shown.unput none.ending none.is).1 })
-      | inr has ↦ elim (studied C Report (is_some name) has.scenario name (status r) ran.text ran.kept has.outcome shown (filed_by C name ran.text ran.kept r ran.ended)) [
+      | inl none ↦ inl (no_scenario C name ran.text ran.kept r ran.ended ran.bytes none)
+      | inr has ↦ elim (studied C Report (is_some name) has.scenario name (status r) ran.text ran.kept has.outcome shown (unrunnable C name ran.text ran.kept r ran.ended has.scenario) (filed_by C name ran.text ran.kept r ran.ended)) [
         | inl not ↦ inl not
         | inr study ↦ inr (record { bytes = ran.bytes; held = ran.held; scenario = has.scenario; read = has.read; study = study })
       ]
@@ -266,8 +307,8 @@ module _ (C : Around) (name : Option (List ℕ)) (text : Result (List ℕ) Endin
   ending_seen e (inr mem) = seen.unput Mem mem
 
   -- nothing was done
-  quiet : (e : Ending) → text ≡ Err e → C.outside.log ≡ [] → NothingWasRun C (status r)
-  quiet e is silent = record { silent = silent; unput = (seen.unput e is).0; status = (seen.unput e is).1 }
+  quiet : (e : Ending) → text ≡ Err e → IsIdle C.outside kept → (e ≡ Mem) ⊎ (status_of e ≡ 3) → NothingWasRun C (status r)
+  quiet = nothing_run C name text kept r said
 
   refused_ending : (ids : List (List ℕ)) (P : Plan) (J : List Entry) (old : Saved) (end : ResumeEnd) → IsRefusedBy P old end ⊎ HasFaultySaved P old J end → (e : Ending) × (resume_saying ids P J end ≡ Err e)
   refused_ending ids P J old (resume_end.Outcome o) (inl h) = (Mem, ap (saying_of Report ids P J) h.1)
@@ -322,10 +363,13 @@ resume_right C r scenario recorded name d = by d.read d.held d.outcome
     wanted : Bool
     wanted = is_some name
 
+    no_study : (bytes : List ℕ) → IsNoStudy C.outside bytes d.text d.kept → NothingWasRun C (status r)
+    no_study bytes none = quiet C name d.text d.kept r d.ended none.ending none.is none.idle (fault_status (map name_of C.outside.kinds) bytes none.ending none.cause)
+
     both : (bytes old : List ℕ) → HasBytes C.folder.files scenario bytes → HasBytes C.folder.files recorded old → IsResumeOutcome C.outside wanted bytes old d.text d.kept → NothingWasRun C (status r) ⊎ IsRightResume C scenario recorded name (status r)
-    both bytes old h k (inl none) = inl (quiet C name d.text d.kept r d.ended none.ending none.is none.idle.quiet)
+    both bytes old h k (inl none) = inl (no_study bytes none)
     both bytes old h k (inr has) = elim has.outcome [
-      | inl none ↦ inl (quiet C name d.text d.kept r d.ended none.ending none.is none.idle.quiet)
+      | inl none ↦ inl (quiet C name d.text d.kept r d.ended none.ending none.is none.idle (unread_status old none.ending none.cause))
       | inr rec ↦ inr (record {
         bytes = bytes;
         held = h;
@@ -346,7 +390,7 @@ resume_right C r scenario recorded name d = by d.read d.held d.outcome
     by : (read : List (List ℕ)) → AreHeld C.folder.files (scenario ∷ recorded ∷ []) read → OfTwoBy (IsStudy (map name_of C.outside.kinds)) (λ bytes old outcome. IsResumeOutcome C.outside wanted bytes old outcome d.kept) read d.text
         → NothingWasRun C (status r) ⊎ IsRightResume C scenario recorded name (status r)
     by [] h outcome = absurd outcome
-    by (bytes ∷ []) h outcome = elim (outcome.1 []) [ inl none ↦ inl (quiet C name d.text d.kept r d.ended none.ending none.is none.idle.quiet) | inr has ↦ absurd (outcome.0 has.study) ]
+    by (bytes ∷ []) h outcome = elim (outcome.1 []) [ inl none ↦ inl (no_study bytes none) | inr has ↦ absurd (outcome.0 has.study) ]
     by (bytes ∷ old ∷ []) h outcome = both bytes old h.0 h.1.0 outcome
     by (bytes ∷ old ∷ other ∷ more) h outcome = absurd outcome
 
@@ -399,14 +443,14 @@ pace_right : (C : Around) (r : Result (Unit {0}) Ending) (scenario : List ℕ) (
 pace_right C r scenario factor strict name ran = by ran.outcome
   where
     went : (S : Scenario) → scenario_of ran.bytes ≡ Ok S → IsPacedScenario C.outside factor strict (is_some name) S ran.text ran.kept → NothingWasRun C (status r) ⊎ IsRightPaced C scenario factor strict name (status r)
-    went S read (inl unready) = inl (quiet C name ran.text ran.kept r ran.ended unready.ending unready.is unready.idle.quiet)
+    went S read (inl unready) = inl (unrunnable C name ran.text ran.kept r ran.ended S unready)
     went S read (inr (inl unpaced)) =
         let t = ending_seen C name ran.text ran.kept r ran.ended (halt_ending (ids_of S) unpaced.unrun.halt) unpaced.unrun.said in
         inr (record { bytes = ran.bytes; held = ran.held; scenario = S; read = read; went = inl (record { unpaced = (ran.text, ran.kept, unpaced); wanting = (shown_by_run C name ran.text ran.kept r ran.ended).wanting; unput = t.0; status = t.1 }) })
     went S read (inr (inr p)) = inr (record { bytes = ran.bytes; held = ran.held; scenario = S; read = read; went = inr (paced_as C factor strict S name ran.text ran.kept r ran.ended p) })
 
     by : IsPacedOutcome C.outside factor strict (is_some name) ran.bytes ran.text ran.kept → NothingWasRun C (status r) ⊎ IsRightPaced C scenario factor strict name (status r)
-    by (inl none) = inl (quiet C name ran.text ran.kept r ran.ended none.ending none.is none.idle.quiet)
+    by (inl none) = inl (no_scenario C name ran.text ran.kept r ran.ended ran.bytes none)
     by (inr has) = went has.scenario has.read has.outcome
 
 -- what was done over a fleet
@@ -414,7 +458,8 @@ done_right : (C : Around) (r : Result (Unit {0}) Ending) (R : Request) → IsDon
 done_right C r (Run scenario name) d = run_right C r scenario name (was_run C scenario name r d)
 done_right C r (Resume scenario recorded name) d = resume_right C r scenario recorded name d
 done_right C r (Paced scenario factor strict name) d = pace_right C r scenario factor strict name (was_paced C scenario factor strict name r d)
-done_right C r (Demo size) d = studied C Summary false (demo_scenario size) None (status r) d.text None d.outcome.0 (shown_by_run C None d.text d.kept r d.ended) (λ P J is zero name named. cc)
+done_right C r (Demo size) d = studied C Summary false (demo_scenario size) None (status r) d.text None d.outcome.0 (shown_by_run C None d.text d.kept r d.ended)
+    (λ unready. unrunnable C None d.text None r (subst (λ (k : Option (List ℕ)). RunAnswer C.folder C.output None d.text k r) d.outcome.1 d.ended) (demo_scenario size) unready) (λ P J is zero name named. cc)
 done_right C r (Reads command) d = absurd d.outcome
 
 -- the text of a command on files, at status 0
@@ -436,13 +481,25 @@ made_right C r has = λ zero.
       put = put.2;
     }
 
--- where nothing was done and put out, at a status other than 0
-untouched_right : (C : Around) (n : ℕ) → (n ≡ 0 → ⊥) → IsUntouched C → (Q : Request) → IsRightFor C n Q
-untouched_right C n not untouched (Run name saved) = inl (record { silent = untouched.log; unput = untouched.unput; status = not })
-untouched_right C n not untouched (Resume name recorded saved) = inl (record { silent = untouched.log; unput = untouched.unput; status = not })
-untouched_right C n not untouched (Paced name factor strict saved) = inl (record { silent = untouched.log; unput = untouched.unput; status = not })
-untouched_right C n not untouched (Demo size) = inl (record { silent = untouched.log; unput = untouched.unput; status = not })
-untouched_right C n not untouched (Reads command) = λ zero. absurd (not zero)
+-- where a file isn't read, or memory was wanting to read the words, nothing was run
+unread_right : (C : Around) (n : ℕ) → NothingWasRun C n → (n ≡ 0 → ⊥) → (Q : Request) → IsRightFor C n Q
+unread_right C n nothing not (Run name saved) = inl nothing
+unread_right C n nothing not (Resume name recorded saved) = inl nothing
+unread_right C n nothing not (Paced name factor strict saved) = inl nothing
+unread_right C n nothing not (Demo size) = inl nothing
+unread_right C n nothing not (Reads command) = λ zero. absurd (not zero)
+
+stuck_status : (files : Option Files) (name : List ℕ) (risen : Type 0) (e : Ending) → IsUnreadable files name risen e → (status_of e ≡ 3) ⊎ (((status_of e ≡ 6) × risen) ⊎ (status_of e ≡ 8))
+stuck_status files name risen e (inl mem) = inr (inr (ap status_of mem))
+stuck_status files name risen e (inr (inl failed)) = inr (inl (ap status_of failed.0, failed.1))
+stuck_status files name risen e (inr (inr (inl missing))) = inl (ap status_of missing.0)
+stuck_status files name risen e (inr (inr (inr long))) = inl (ap status_of long.1)
+
+misused_right : (C : Around) (e : Ending) (R : Request) → IsMisused C e → IsAsked C.words R → NothingWasRun C (status_of e)
+misused_right C e R misused asked = record {
+  untouched = misused.untouched;
+  status = elim misused.cause [ inl mem ↦ inr (inr (ap status_of mem)) | inr none ↦ absurd (none.1 R asked) ];
+}
 
 performed_right : (C : Around) (r : Result (Unit {0}) Ending) → HasPerformed C r → (R : Request) → IsAsked C.words R → IsRightFor C (status r) R
 performed_right C r (inl made) R asked = subst (IsRightFor C (status r)) (one_request C.words (Reads made.command) R made.asked asked) (made_right C r made)
@@ -450,8 +507,9 @@ performed_right C r (inr ran) R asked = subst (IsRightFor C (status r)) (one_req
 
 right_for : (C : Around) (r : Result (Unit {0}) Ending) → EndedAs C r → (R : Request) → IsAsked C.words R → IsRightFor C (status r) R
 right_for C (Ok done) performed R asked = performed_right C (Ok done) performed R asked
-right_for C (Err e) (inl misused) R asked = untouched_right C (status_of e) (not_zero e) misused.untouched R
-right_for C (Err e) (inr (inl unread)) R asked = untouched_right C (status_of e) (not_zero e) unread.untouched R
+right_for C (Err e) (inl misused) R asked = unread_right C (status_of e) (misused_right C e R misused asked) (not_zero e) R
+right_for C (Err e) (inr (inl unread)) R asked =
+    unread_right C (status_of e) (record { untouched = unread.untouched; status = stuck_status C.folder.files unread.stuck.name _ e unread.stuck.cause }) (not_zero e) R
 right_for C (Err e) (inr (inr performed)) R asked = performed_right C (Err e) performed R asked
 
 pub right_call : (C : Around) (r : Result (Unit {0}) Ending) (n : ℕ) → n ≡ status r → EndedAs C r → IsRightCall C n

@@ -42,7 +42,7 @@ use Rattle.mosaikrun_run.specs.declared.sayings.Form.{Form}
 use Rattle.mosaikrun_run.specs.declared.sayings.Form.TheVariants.{Report, Summary}
 use Rattle.mosaikrun_run.specs.Outcomes.{Outside, attempt_in, exchange_in}
 use Rattle.mosaikrun_run.specs.Sayings.{text_of}
-use Rattle.mosaikrun_program.specs.Around.{Around}
+use Rattle.mosaikrun_program.specs.Around.{Around, IsUntouched}
 use Rattle.mosaikrun_program.specs.Commands.{AreHeld, IsAsked, HasBytes, IsOutcomeOf, read_by, target_of}
 use Rattle.mosaikrun_program.specs.Resuming.{IsRightResume}
 use Rattle.mosaikrun_program.specs.Pacing.{IsRightPaced}
@@ -131,12 +131,13 @@ pub record IsRightStudy (C : Around) (form : Form) (S : Scenario) (saved : Optio
   pub on_links : AreOnOrOfClock (IsRunLink C.outside.started S) C.outside.log
   pub run : IfSome plan (IsRightRunBy C form S saved n)
 
--- nothing was run: nothing was said or heard on any link, nothing was put out, and the status isn't
--- 0
+-- nothing was run: nothing was said or heard on any link, the fleet's count of faults didn't rise,
+-- nothing was put out, and no file was saved. The status is 3, where a file isn't there, is too long
+-- or is refused; 6, where the folder failed; or 8, where memory was wanting
 pub record NothingWasRun (C : Around) (n : ℕ) : Type 0 where
-  pub silent : C.outside.log ≡ []
-  pub unput : C.output.after ≡ C.output.before
-  pub status : n ≡ 0 → ⊥
+  pub untouched : IsUntouched C
+  pub status : (n ≡ 3)
+      ⊎ (((n ≡ 6) × HasRisen C.folder.faults C.folder.new_faults) ⊎ (n ≡ 8))
 
 -- the file of this name, where the folder tells, has bytes that are a scenario, which was run
 pub record IsRightRun (C : Around) (name : List ℕ) (saved : Option (List ℕ)) (n : ℕ) : Type 0 where
