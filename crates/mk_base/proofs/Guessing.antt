@@ -1,7 +1,7 @@
 -- Where names rise, an entry that has a name is the one that has it.
-use Rattle.std.proofs.Common.{◌≡◌, ℕ, zero, suc, Bool, true, false, List, [], ◌∷◌, nat_eq, true≢false, ◌&&◌, Option, Some, None, option_map, slice_get, refl, sym, ap, ◌∙◌, subst, if◌then◌else◌}
+use Rattle.std.proofs.Common.{◌≡◌, ℕ, zero, suc, Bool, true, false, List, [], ◌∷◌, nat_eq, true≢false, ◌&&◌, Some, None, slice_get, refl, sym, ap, ◌∙◌, subst, if◌then◌else◌}
 use Rattle.std.specs.Cmp.Lexicographic.{slice_cmp}
-use Rattle.std.specs.List.{AllByRecursion, find}
+use Rattle.std.specs.List.{AllByRecursion}
 use Rattle.std.specs.List.Sorted.{IsStrictlySortedBy}
 use Rattle.std.specs.Map.{keys_of}
 use Rattle.std.specs.Ordering.{nat_cmp, is_eq}
@@ -11,6 +11,7 @@ use Rattle.std.proofs.lemmas.Map.Text.{is_eq-slice_cmp}
 use Rattle.mk_base.specs.Lists.{same_text, value_under}
 use Rattle.mk_base.specs.inner.Lists.{value_if_named}
 use Rattle.mk_base.proofs.Lists.{none_some, some_same}
+use Rattle.mk_base.proofs.Searching.{value_by}
 
 both_true : (a b : Bool) → (a && b) ≡ true → (a ≡ true) × (b ≡ true)
 both_true true b h = (refl, h)
@@ -43,16 +44,12 @@ module _ {V : Type 0} (k : List ℕ) (v : V) where
   holds_of_name Q (e ∷ es) zero all is = subst Q (sym (has_name e is).0) all.0
   holds_of_name Q (e ∷ es) (suc i) all is = holds_of_name Q es i all.1 is
 
-  -- the value under the name, by the test of the first entry
-  abbrev value_by : Bool → List ℕ × V → List (List ℕ × V) → Option V
-  value_by b e es = option_map (λ (e : List ℕ × V). e.1) (if b then Some e else find (λ (e : List ℕ × V). same_text e.0 k) es)
-
   pub guessed : (es : List (List ℕ × V)) (i : ℕ) → IsStrictlySortedBy (slice_cmp nat_cmp) (keys_of es) → value_if_named k (slice_get es i) ≡ Some v → Some v ≡ value_under k es
   unfolding IsStrictlySortedBy
   guessed [] i sorted is = absurd (none_some is)
   guessed (e ∷ es) zero sorted is =
       let t = has_name e is in
-      ap Some (sym t.1) ∙ sym (ap (λ b. value_by b e es) (ap (λ n. same_text n k) (sym t.0) ∙ is_text k))
+      ap Some (sym t.1) ∙ sym (ap (λ b. value_by k b e es) (ap (λ n. same_text n k) (sym t.0) ∙ is_text k))
   guessed (e ∷ es) (suc i) sorted is =
       guessed es i sorted.1 is
-      ∙ sym (ap (λ b. value_by b e es) (sym (is_eq-slice_cmp e.0 k) ∙ ap is_eq (holds_of_name (λ x. slice_cmp nat_cmp e.0 x ≡ Less) es i sorted.0 is)))
+      ∙ sym (ap (λ b. value_by k b e es) (sym (is_eq-slice_cmp e.0 k) ∙ ap is_eq (holds_of_name (λ x. slice_cmp nat_cmp e.0 x ≡ Less) es i sorted.0 is)))

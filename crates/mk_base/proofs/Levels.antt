@@ -11,10 +11,10 @@ use Rattle.mk_base.specs.Folds.{folded}
 use Rattle.mk_base.proofs.FoldsAgree.{folded_out}
 use Rattle.mk_base.proofs.OnTrees.{trees_compute}
 
-level_list : {A : Type 0} (step : Json-F A → A) (ts : List Json) → folded A step (tree.List ts) ≡ step (Json-F.List (map (folded A step) ts))
+pub level_list : {A : Type 0} (step : Json-F A → A) (ts : List Json) → folded A step (tree.List ts) ≡ step (Json-F.List (map (folded A step) ts))
 level_list {A} step ts = folded_out A step (tree.List ts) ∙ ap step (search (rules, the_lemmas))
 
-level_object : {A : Type 0} (step : Json-F A → A) (ms : List (List ℕ × Json)) → folded A step (tree.Object ms) ≡ step (Json-F.Object (map (λ (m : List ℕ × Json). let q : List ℕ × A = (m.0, folded A step m.1) in q) ms))
+pub level_object : {A : Type 0} (step : Json-F A → A) (ms : List (List ℕ × Json)) → folded A step (tree.Object ms) ≡ step (Json-F.Object (map (λ (m : List ℕ × Json). let q : List ℕ × A = (m.0, folded A step m.1) in q) ms))
 level_object {A} step ms = folded_out A step (tree.Object ms) ∙ ap step (search (rules, the_lemmas))
 
 pub whole_items : (ts : List Json) → is_whole (tree.List ts) ≡ list_all (λ t. is_whole t) ts

@@ -68,7 +68,7 @@ module _ {V : Type 0} (k : List ℕ) where
   )
 
   -- the value under the name, by the test of the first entry
-  abbrev value_by : Bool → List ℕ × V → List (List ℕ × V) → Option V
+  abbrev pub value_by : Bool → List ℕ × V → List (List ℕ × V) → Option V
   value_by b e es = option_map (λ (e : List ℕ × V). e.1) (if b then Some e else find (λ (e : List ℕ × V). same_text e.0 k) es)
 
   none_after : (x : List ℕ) (es : List (List ℕ × V)) → slice_cmp nat_cmp k x ≡ Less → AllByRecursion (λ y. slice_cmp nat_cmp x y ≡ Less) (keys_of es) → value_under k es ≡ None
