@@ -26,7 +26,7 @@ use Rattle.mk_buffers_log.proofs.Fitting.{AreApart, fitting, sum_ones}
 use Rattle.mk_buffers_log.proofs.Keeping.{implied}
 use Rattle.mk_buffers.proofs.Standing.{eq_from, same_from, both_from}
 
-sum_le : {X : Type 0} (f g : X → ℕ) (xs : List X) → ((x : X) → IsIn x xs → f x ≤ g x) → sum_by f xs ≤ sum_by g xs
+pub sum_le : {X : Type 0} (f g : X → ℕ) (xs : List X) → ((x : X) → IsIn x xs → f x ≤ g x) → sum_by f xs ≤ sum_by g xs
 sum_le f g [] h = omega arith
 sum_le f g (x ∷ xs) h = omega (arith, sum_by-cons f x xs, sum_by-cons g x xs, h x (inl refl), sum_le f g xs (λ y m. h y (inr m)))
 

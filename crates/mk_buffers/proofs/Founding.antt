@@ -37,10 +37,10 @@ use Rattle.mk_buffers.specs.Standing.{HasHome, mark_of, IsInlet, AreInlets, IsFo
 use Rattle.mk_buffers.specs.inner.Standing.{AreHomes, AreUnset}
 use Rattle.std.specs.List.{sum_by}
 use Rattle.mk_plan.specs.Deliveries.{Timed}
+use Rattle.mk_plan.proofs.FullIds.{owner_there, order_of}
 use Rattle.mk_buffers.specs.declared.outlets.Part.{Part}
 use Rattle.mk_buffers.specs.Bounds.{HasShape}
 use Rattle.mk_buffers_log.specs.Logs.{IsFew}
-use Rattle.mk_buffers.proofs.Naming.{owner_there}
 use Rattle.mk_buffers.proofs.Collecting.{outlets_total, key_of}
 use Rattle.mk_buffers.proofs.Aligning.{aligned}
 use Rattle.mk_plan_judge.proofs.Puts.{all_has}
@@ -53,12 +53,6 @@ sorted_at order [] i j x y s l at to = cc
 sorted_at order (z ∷ zs) i zero x y s l at to = absurd (omega (arith, l))
 sorted_at order (z ∷ zs) zero (suc j) x y s l at to = subst (λ w. order w y ≡ Less) (some_same at) (all_has (λ w. order z w ≡ Less) zs y s.0 (at_in y zs j to))
 sorted_at order (z ∷ zs) (suc i) (suc j) x y s l at to = sorted_at order zs i j x y s.1 (omega (arith, l)) at to
-
-order_cases : (d e : ℕ) → (d ≡ e) ⊎ ((d < e) ⊎ (e < d))
-order_cases zero zero = inl refl
-order_cases zero (suc e) = inr (inl (omega arith))
-order_cases (suc d) zero = inr (inr (omega arith))
-order_cases (suc d) (suc e) = elim (order_cases d e) [ inl q ↦ inl (ap suc q) | inr r ↦ elim r [ inl l ↦ inr (inl (omega (arith, l))) | inr l ↦ inr (inr (omega (arith, l))) ] ]
 
 eq_to : (m n : ℕ) → (m == n) ≡ true → m ≡ n
 eq_to m n h = grind (arith, nat_tests)
@@ -122,7 +116,7 @@ module _ (P : Plan) (names : HasDistinctNames P) (done : List Source) (sources :
   sim_is o r = let t = are.each o r in let s = sources.each t.0 t.1 in t.2.sim ∙ s.sim ∙ sym (ap (owner P) (t.2.entity ∙ s.entity))
 
   one_key : (i j : ℕ) (o q : Outlet) → slice_get m.all.items i ≡ Some o → slice_get m.all.items j ≡ Some q → is_key o.entity o.attr q ≡ true → i ≡ j
-  one_key i j o q at to key = elim (order_cases i j) [
+  one_key i j o q at to key = elim (order_of i j) [
     | inl e ↦ e
     | inr r ↦ elim r [
       | inl l ↦ absurd (not_less (outlet_order P) (outlets_total P) o (sym (turned o q same.0 same.1 sims o) ∙ sorted_at (outlet_order P) m.all.items i j o q are.sorted l at to))

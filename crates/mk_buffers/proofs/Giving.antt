@@ -14,6 +14,7 @@ use Rattle.mk_base.specs.Tiers.{moment}
 use Rattle.mk_base.specs.Data.{IsValueText}
 use Rattle.mk_plan.specs.declared.PlanEntity.{PlanEntity}
 use Rattle.mk_plan.specs.Plans.{full_id, IsValidPlan}
+use Rattle.mk_plan.proofs.FullIds.{same_full}
 use Rattle.mk_buffers.specs.declared.sets.Slot.{Slot}
 use Rattle.mk_buffers.specs.Slots.{AnswerGifts}
 use Rattle.mk_buffers.specs.Held.{has_key, with_gift}
@@ -24,7 +25,6 @@ use Rattle.mk_buffers_log.proofs.Places.{apart_or_same}
 use Rattle.mk_base.proofs.Lists.{get_is}
 use Rattle.mk_buffers.specs.declared.gifts.Target.{Target}
 use Rattle.mk_buffers.proofs.Slots.{answer_apart, answer_taken}
-use Rattle.mk_buffers.proofs.Naming.{same_full}
 use Rattle.mk_buffers.specs.Bounds.{HasShape}
 use Rattle.mk_buffers.proofs.Standing.{of_same, eq_from, same_from, apart_from, low_or_past, same_tight}
 

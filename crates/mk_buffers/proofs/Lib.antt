@@ -7,7 +7,6 @@ pub mod Asking
 pub mod Vias
 pub mod Rising
 pub mod Collecting
-pub mod Naming
 pub mod Swapping
 pub mod Listing
 pub mod Tight

@@ -92,7 +92,7 @@ module _ (P : Plan) where
         (λ is. flat_map_append _ (V.acts (owner P e)) (cut_turn (begun P V s x (Step x ins advance)) ∷ []) ∙ sym (flat_map_append _ (V.acts (owner P e)) []) ∙ ap (λ (o : Option OpenTurn). gifts_of P e (V.acts (owner P e) ++ cut_turns o)) (sym (ap V.open_at is ∙ shut)))
         (λ n. refl)) given
 
-    told_gifts : (e : ℕ) (item : Item) (acts : List Act) (o : Option OpenTurn) → gifts_of P e (acts ++ cut_turns (option_map (told_more item) o)) ≡ gifts_of P e (acts ++ cut_turns o)
+    pub told_gifts : (e : ℕ) (item : Item) (acts : List Act) (o : Option OpenTurn) → gifts_of P e (acts ++ cut_turns (option_map (told_more item) o)) ≡ gifts_of P e (acts ++ cut_turns o)
     told_gifts e item acts None = refl
     told_gifts e item acts (Some T) = flat_map_append _ acts (cut_turn (told_more item T) ∷ []) ∙ sym (flat_map_append _ acts (cut_turn T ∷ []))
 

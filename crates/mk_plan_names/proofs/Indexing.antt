@@ -1,6 +1,6 @@
 -- The places of full ids among all, and the entities that have them.
-use Rattle.std.proofs.Common.{◌≡◌, ℕ, zero, suc, ◌+◌, ◌<◌, ◌≤◌, nat_lt, nat_eq, ◌&&◌, get_or, Bool, true, false, List, [], ◌∷◌, ◌++◌, map, length, Option, Some, None, option_map, position, refl, sym, ap, ◌∙◌, arith, true≢false, if◌then◌else◌}
-use Rattle.std.specs.List.{find, list_any, position_or_len, range_with_len}
+use Rattle.std.proofs.Common.{◌≡◌, ℕ, zero, suc, ◌+◌, ◌<◌, ◌≤◌, get_or, Bool, true, false, List, [], ◌∷◌, ◌++◌, map, length, Option, Some, None, option_map, position, refl, sym, ap, ◌∙◌, arith, true≢false, if◌then◌else◌}
+use Rattle.std.specs.List.{find, list_any, range_with_len}
 use Rattle.std.specs.Str.{bytes_eq}
 use Rattle.std.specs.String.{string_bytes, string_eq}
 use Rattle.std.specs.declared.string.String.{String}
@@ -8,39 +8,10 @@ use Rattle.std.proofs.lemmas.Slice.Eq.{bytes_eq-Decides}
 use Rattle.indexmap.specs.IndexSet.{insert_key}
 use Rattle.mk_base.specs.Lists.{same_text}
 use Rattle.mk_base.proofs.Lists.{map_append}
+use Rattle.mk_base.proofs.AtPlaces.{place_first, place_later, same_sym}
 use Rattle.mk_plan.specs.declared.Plan.{Plan}
 use Rattle.mk_plan.specs.Plans.{full_id, RefersInside, HasDistinctNames}
-use Rattle.mk_plan_names.proofs.FullIds.{same_full}
-
-pub nat_eq_sym : (x y : ℕ) → nat_eq x y ≡ nat_eq y x
-nat_eq_sym x y = grind arith
-
-pub same_sym : (a b : List ℕ) → same_text a b ≡ same_text b a
-same_sym [] [] = refl
-same_sym [] (y ∷ b) = refl
-same_sym (x ∷ a) [] = refl
-same_sym (x ∷ a) (y ∷ b) = λ i. nat_eq_sym x y i && same_sym a b i
-
--- ---- the first place
-
-module _ {X : Type 0} (p : X → Bool) where
-  shifted : (k n : ℕ) → (if nat_lt (suc k) (suc n) then Some (suc k) else None) ≡ option_map suc (if nat_lt k n then Some k else None)
-  shifted k n = at (nat_lt k n) (nat_lt (suc k) (suc n)) (grind arith)
-    where
-      at : (b c : Bool) → c ≡ b → (if c then Some (suc k) else None) ≡ option_map suc (if b then Some k else None)
-      at true true e = refl
-      at false false e = refl
-      at true false e = absurd (true≢false (sym e))
-      at false true e = absurd (true≢false e)
-
-  one_plus : (k : ℕ) → 1 + k ≡ suc k
-  one_plus k = omega arith
-
-  place_first : (x : X) (xs : List X) → p x ≡ true → position p (x ∷ xs) ≡ Some 0
-  place_first x xs here = let within : nat_lt 0 (suc (length xs)) ≡ true = grind arith in rw here (ap (λ b. if b then Some 0 else None) within)
-
-  place_later : (x : X) (xs : List X) → p x ≡ false → position p (x ∷ xs) ≡ option_map suc (position p xs)
-  place_later x xs here = rw here (ap (λ m. if nat_lt m (suc (length xs)) then Some m else None) (one_plus (position_or_len p xs)) ∙ shifted (position_or_len p xs) (length xs))
+use Rattle.mk_plan.proofs.FullIds.{same_full}
 
 -- ---- ids of entities in order
 

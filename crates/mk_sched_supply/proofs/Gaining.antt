@@ -14,12 +14,12 @@ use Rattle.mk_plan.specs.Plans.{RefersInside, owner, eid_of, sim_count}
 use Rattle.mk_plan.specs.Turns.{wanted, value_for}
 use Rattle.mk_plan.specs.Asks.{gives_attr}
 use Rattle.mk_plan.specs.Deliveries.{Timed, Supply}
+use Rattle.mk_plan.proofs.FullIds.{same_entity}
 use Rattle.mk_order.proofs.Reasons.{and_both, both_and}
 use Rattle.mk_order.proofs.GivenValues.{text_is}
 use Rattle.mk_buffers.specs.declared.buffers.Buffers.{Buffers}
 use Rattle.mk_buffers.specs.Held.{with_output}
 use Rattle.mk_buffers.specs.Standing.{StandFor}
-use Rattle.mk_buffers.proofs.Collecting.{same_entity}
 use Rattle.mk_sched_supply.specs.inner.Making.{HasGiven}
 use Rattle.mk_sched_supply.proofs.Bringing.{brought, brought_more, made_of}
 use Rattle.mk_sched_supply.proofs.Wanting.{is_want, text_itself}

@@ -23,16 +23,13 @@ use Rattle.mk_buffers.specs.Standing.{StandFor, least_mark, mark_of}
 use Rattle.mk_buffers_log.proofs.Ascending.{and_both, and_is}
 use Rattle.mk_buffers_log.proofs.Keeping.{implied}
 use Rattle.mk_buffers.proofs.Standing.{same_from}
+use Rattle.mk_buffers.proofs.Bounding.{sum_le}
 use Rattle.mk_sched_supply.specs.declared.stock.Stock.{Stock}
 use Rattle.mk_sched_supply.specs.Stock.{IsStockOf}
 
 sum_same : {X : Type 0} (f g : X → ℕ) (xs : List X) → ((x : X) → IsIn x xs → f x ≡ g x) → sum_by f xs ≡ sum_by g xs
 sum_same f g [] h = refl
 sum_same f g (x ∷ xs) h = omega (arith, sum_by-cons f x xs, sum_by-cons g x xs, h x (inl refl), sum_same f g xs (λ y m. h y (inr m)))
-
-sum_falls : {X : Type 0} (f g : X → ℕ) (xs : List X) → ((x : X) → IsIn x xs → f x ≤ g x) → sum_by f xs ≤ sum_by g xs
-sum_falls f g [] h = omega arith
-sum_falls f g (x ∷ xs) h = omega (arith, sum_by-cons f x xs, sum_by-cons g x xs, h x (inl refl), sum_falls f g xs (λ y m. h y (inr m)))
 
 source_was : (cs : List Conn) (c : Conn) → IsIn c (sources cs) → IsIn c cs
 source_was [] c m = absurd m
@@ -93,7 +90,7 @@ module _ (P : Plan) (low high : Tier) (less : IsUpTo low high) where
 -- where no connection leads anywhere, nothing is late
 pub most_falls : (P : Plan) (S : Supply) (low high : Tier) → ((c : Conn) → IsIn c P.conns → IsUpTo low high) → most_kept P S high ≤ most_kept P S low
 most_falls P S low high less =
-    let falls = sum_falls (late_of P S high) (late_of P S low) (sources P.conns) (λ c m. late_falls P low high (less c (source_was P.conns c m)) S c) in
+    let falls = sum_le (late_of P S high) (late_of P S low) (sources P.conns) (λ c m. late_falls P low high (less c (source_was P.conns c m)) S c) in
     omega (arith, falls)
 
 -- ---- the least mark of those that ask

@@ -24,6 +24,7 @@ use Rattle.mk_plan.specs.Inputs.{latest, value_at}
 use Rattle.mk_plan.specs.Journals.{OpenTurn, View, note_right, note_sent, view}
 use Rattle.mk_plan.specs.Report.{is_step}
 use Rattle.mk_plan.specs.Sequential.{response}
+use Rattle.mk_plan.proofs.FullIds.{same_full}
 use Rattle.mk_order.proofs.EntityNames.{same_owner}
 use Rattle.mk_order.proofs.GivenEntries.{given_went, gifts_by}
 use Rattle.mk_order.specs.Supplies.{given_so_far, SameSupply}
@@ -37,7 +38,6 @@ use Rattle.mk_async.specs.declared.request.Asked.{Asked}
 use Rattle.mk_buffers.specs.declared.buffers.Buffers.{Buffers}
 use Rattle.mk_buffers.specs.Held.{with_gift}
 use Rattle.mk_buffers.specs.Standing.{IsSourced, StandFor, mark_of}
-use Rattle.mk_buffers.proofs.Naming.{same_full}
 use Rattle.mk_buffers.proofs.Standing.{eq_from, same_from}
 use Rattle.mk_sched_open.specs.Turns.{IsRight}
 use Rattle.mk_sched_supply.specs.declared.stock.Stock.{Stock}

@@ -23,6 +23,7 @@ use Rattle.mk_order.specs.Supplies.{SameSupply, cut_turn, cut_turns, given_so_fa
 use Rattle.mk_order.proofs.Seen.{open_after_is}
 use Rattle.mk_order.proofs.Opened.{outputs_opened}
 use Rattle.mk_order.proofs.Entries.{opened_case, grown_case}
+use Rattle.mk_order.proofs.GivenEntries.{told_gifts}
 
 module _ (P : Plan) where
   pub supply_through : (S T U : Supply) → SameSupply P S T → SameSupply P T U → SameSupply P S U
@@ -48,15 +49,11 @@ module _ (P : Plan) where
           (λ n. refl));
     }
 
-    told_gifts : (e : ℕ) (item : Item) (acts : List Act) (o : Option OpenTurn) → gifts_of P e (acts ++ cut_turns (option_map (told_more item) o)) ≡ gifts_of P e (acts ++ cut_turns o)
-    told_gifts e item acts None = refl
-    told_gifts e item acts (Some T) = flat_map_append _ acts (cut_turn (told_more item T) ∷ []) ∙ sym (flat_map_append _ acts (cut_turn T ∷ []))
-
     pub told_supplies : (s : ℕ) (item : Item) → is_step item ≡ false → SameSupply P (given_so_far P V) (given_so_far P (note_sent P V s item))
     told_supplies s item late = record {
       outputs = λ e attr given. same_outputs (note_sent P V s item) (λ e attr. refl) e attr;
       gifts = λ e low. sym (opened_case (λ o. gifts_of P e (V.acts (owner P e) ++ cut_turns o) ≡ gifts_of P e (V.acts (owner P e) ++ cut_turns (V.open_at (owner P e)))) V s (open_after P V s item) (owner P e)
-          (λ is. ap (λ (o : Option OpenTurn). gifts_of P e (V.acts (owner P e) ++ cut_turns o)) (open_after_is P V s item late ∙ ap (λ (i : ℕ). option_map (told_more item) (V.open_at i)) (sym is)) ∙ told_gifts e item (V.acts (owner P e)) (V.open_at (owner P e)))
+          (λ is. ap (λ (o : Option OpenTurn). gifts_of P e (V.acts (owner P e) ++ cut_turns o)) (open_after_is P V s item late ∙ ap (λ (i : ℕ). option_map (told_more item) (V.open_at i)) (sym is)) ∙ told_gifts P V e item (V.acts (owner P e)) (V.open_at (owner P e)))
           (λ n. refl));
     }
 

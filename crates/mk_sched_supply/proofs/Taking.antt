@@ -9,6 +9,7 @@ use Rattle.mk_base.specs.Texts.{text_of}
 use Rattle.mk_base.specs.Tiers.{moment}
 use Rattle.mk_base.specs.Trees.{is_datum, is_in_range, is_whole, nesting, value_depth}
 use Rattle.mk_base.proofs.Lists.{at_in, get_is, map_in, some_same}
+use Rattle.mk_base.proofs.AtPlaces.{map_at}
 use Rattle.mk_plan.specs.declared.Plan.{Plan}
 use Rattle.mk_plan.specs.declared.Entry.{Entry}
 use Rattle.mk_plan.specs.declared.Entry.TheVariants.{Sent, Got}
@@ -75,11 +76,6 @@ taken_some P b n S s x w first place o v text for is same proper law delivered =
     )
 
 -- ---- value by value
-
-map_at : {X Y : Type 0} (f : X → Y) (xs : List X) (i : ℕ) (y : Y) → slice_get (map f xs) i ≡ Some y → (x : X) × (slice_get xs i ≡ Some x) × (y ≡ f x)
-map_at f [] i y at = cc
-map_at f (x ∷ xs) zero y at = (x, refl, sym (some_same at))
-map_at f (x ∷ xs) (suc i) y at = map_at f xs i y at
 
 map_get : {X Y : Type 0} (f : X → Y) (xs : List X) (i : ℕ) (x : X) → slice_get xs i ≡ Some x → slice_get (map f xs) i ≡ Some (f x)
 map_get f [] i x at = cc
