@@ -1,7 +1,8 @@
 -- The entries of each simulator, one entry more at a time.
-use Rattle.std.proofs.Common.{◌≡◌, ℕ, zero, suc, ◌+◌, ◌<◌, ◌≤◌, ◌==◌, Bool, true, false, cond, List, [], ◌∷◌, ◌++◌, length, map, filter, Some, slice_get, slice_set, get_or, ◌⊎◌, length-append, refl, sym, ap, ◌∙◌, subst, inl, inr, arith}
+use Rattle.std.proofs.Common.{◌≡◌, ℕ, suc, ◌+◌, ◌<◌, ◌≤◌, ◌==◌, Bool, true, false, cond, List, [], ◌∷◌, ◌++◌, length, map, filter, Some, slice_get, slice_set, get_or, length-append, refl, sym, ap, ◌∙◌, subst, inl, inr, arith}
 use Rattle.std.proofs.lemmas.Bool.{cases_eq, eqb-true, eq-eqb}
 use Rattle.mk_base.proofs.Lists.{some_same, none_some, get_is, append_nil, map_append, filter_append, length_set, set_here, set_else}
+use Rattle.mk_base.proofs.AtPlaces.{last_or_before, map_set, map_get}
 use Rattle.mk_plan.specs.declared.Entry.{Entry}
 use Rattle.mk_plan.specs.declared.Entry.TheVariants.{Sent, Got}
 use Rattle.mk_blame.specs.Talks.{is_with, said, talk}
@@ -24,12 +25,6 @@ no_talks = record { all = refl; each = λ i t at. absurd (none_some at) }
 
 length_push : {X : Type 0} (xs : List X) (x : X) → length (xs ++ x ∷ []) ≡ length xs + 1
 length_push xs x = length-append xs (x ∷ [])
-
-last_or_before : {X : Type 0} (xs : List X) (x : X) (i : ℕ) (y : X) → slice_get (xs ++ x ∷ []) i ≡ Some y → (y ≡ x) ⊎ (slice_get xs i ≡ Some y)
-last_or_before [] x zero y at = inl (sym (some_same at))
-last_or_before [] x (suc i) y at = absurd (none_some at)
-last_or_before (z ∷ xs) x zero y at = inr at
-last_or_before (z ∷ xs) x (suc i) y at = last_or_before xs x i y at
 
 -- one simulator more, without entries
 pub one_more : (n : ℕ) (talks : List (List Entry)) → AreTalks n [] talks → AreTalks (n + 1) [] (talks ++ [] ∷ [])
@@ -58,16 +53,6 @@ put_in count J e talks t u there grown are = record {
         ∙ sym (filter_append (is_with i) J (e ∷ []) ∙ ap (λ l. filter (is_with i) J ++ l) (none_with i e apart) ∙ append_nil (filter (is_with i) J))
   ];
 }
-
-pub map_set : {X Y : Type 0} (f : X → Y) (xs : List X) (i : ℕ) (x : X) → map f (slice_set xs i x) ≡ slice_set (map f xs) i (f x)
-map_set f [] i x = refl
-map_set f (y ∷ xs) zero x = refl
-map_set f (y ∷ xs) (suc i) x = ap (λ l. f y ∷ l) (map_set f xs i x)
-
-pub map_get : {X Y : Type 0} (f : X → Y) (xs : List X) (i : ℕ) (x : X) → i < length xs → x ≡ get_or xs i x → slice_get (map f xs) i ≡ Some (f x)
-map_get f [] i x low is = absurd (omega (arith, low))
-map_get f (y ∷ xs) zero x low is = ap (λ z. Some (f z)) (sym is)
-map_get f (y ∷ xs) (suc i) x low is = map_get f xs i x (omega (arith, low)) is
 
 pub length_map : {X Y : Type 0} (f : X → Y) (xs : List X) → length (map f xs) ≡ length xs
 length_map f [] = refl

@@ -159,11 +159,6 @@ all_the_same xs ys k end long same = sym (take_all k xs end) ∙ same ∙ take_a
 
 -- ---- one entry more
 
-pub map_item : {X Y : Type 0} (f : X → Y) (xs : List X) (k : ℕ) (x : X) → k < length xs → x ≡ get_or xs k x → f x ≡ get_or (map f xs) k (f x)
-map_item f [] k x low is = absurd (omega (arith, low))
-map_item f (y ∷ xs) zero x low is = ap f is
-map_item f (y ∷ xs) (suc k) x low is = map_item f xs k x (omega (arith, low)) is
-
 pub length_map : {X Y : Type 0} (f : X → Y) (xs : List X) → length (map f xs) ≡ length xs
 length_map f [] = refl
 length_map f (x ∷ xs) = ap suc (length_map f xs)

@@ -6,6 +6,7 @@ use Rattle.std.proofs.lemmas.Bool.{and_parts}
 use Rattle.mk_base.specs.declared.SimKind.TheVariants.{TimeBased}
 use Rattle.mk_base.specs.Lists.{Each, IsIn, same_text}
 use Rattle.mk_base.proofs.Lists.{at_in, below_get, get_is, in_each, in_either, in_back, in_front, in_map, map_in, none_some, some_passes, some_same}
+use Rattle.mk_base.proofs.AtPlaces.{place_first, place_later}
 use Rattle.mk_plan.specs.declared.Conn.{Conn}
 use Rattle.mk_plan.specs.declared.Plan.{Plan}
 use Rattle.mk_plan.specs.declared.PlanEntity.{PlanEntity}
@@ -16,7 +17,6 @@ use Rattle.mk_meta.specs.declared.meta.ModelMeta.{ModelMeta}
 use Rattle.mk_meta.specs.declared.meta.Meta.{Meta}
 use Rattle.mk_entities.specs.declared.entities.EntityInfo.{EntityInfo}
 use Rattle.mk_entities.specs.Creation.{is_named, entity_number}
-use Rattle.mk_entities.proofs.Lookups.{place_first, place_later}
 use Rattle.mk_scenario.specs.declared.parts.Group.{Group}
 use Rattle.mk_scenario.specs.declared.parts.Place.{Place}
 use Rattle.mk_scenario.specs.declared.parts.Place.TheVariants.{Whole, One, Full}

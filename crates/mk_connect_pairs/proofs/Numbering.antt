@@ -9,7 +9,7 @@ use Rattle.std.proofs.lemmas.Bool.{and_parts}
 use Rattle.std.proofs.lemmas.Slice.Eq.{bytes_eq-Decides}
 use Rattle.indexmap.specs.IndexMap.{insert_entry}
 use Rattle.mk_base.specs.Lists.{same_text}
-use Rattle.mk_entities.proofs.Lookups.{nat_eq_sym, place_first, place_later, same_sym}
+use Rattle.mk_base.proofs.AtPlaces.{place_first, place_later, nat_eq_sym, same_sym}
 use Rattle.mk_connect_pairs.specs.inner.Lookups.{HasNumbers, IsKeyOf, is_key}
 use Rattle.mk_connect_pairs.specs.Models.{is_model}
 use Rattle.mk_connect_pairs.specs.declared.models.SimModel.{SimModel}

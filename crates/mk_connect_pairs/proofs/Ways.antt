@@ -6,8 +6,8 @@ use Rattle.std.specs.declared.string.String.{String}
 use Rattle.indexmap.specs.IndexSet.{insert_key}
 use Rattle.mk_base.specs.Lists.{same_text}
 use Rattle.mk_base.proofs.Lists.{map_append}
+use Rattle.mk_base.proofs.AtPlaces.{nat_eq_sym, same_sym}
 use Rattle.mk_plan.specs.declared.Conn.{Conn}
-use Rattle.mk_entities.proofs.Lookups.{nat_eq_sym, same_sym}
 use Rattle.mk_connect_pairs.specs.Connections.{is_way}
 use Rattle.mk_connect_pairs.specs.inner.Lookups.{Way, way_in, way_of}
 

@@ -6,6 +6,7 @@ use Rattle.std.proofs.lemmas.List.{length-map, take-map}
 use Rattle.std.proofs.Math.Seq.{take-append-add}
 use Rattle.mk_base.specs.declared.SimNo.{SimNo}
 use Rattle.mk_base.proofs.Lists.{map_same}
+use Rattle.mk_base.proofs.AtPlaces.{place_below}
 use Rattle.mk_base.specs.Verdicts.{unless}
 use Rattle.mk_meta.specs.declared.meta.Meta.{Meta}
 use Rattle.mk_entities.specs.declared.described.Described.{Described}
@@ -14,7 +15,7 @@ use Rattle.mk_entities.specs.declared.fault.CreateFault.{CreateFault}
 use Rattle.mk_entities.specs.Creation.{added, draft, drafts, entity_fault, first_entity_fault, first_there, is_named, entity_number, rel_fault, with_entities}
 use Rattle.mk_entities.specs.inner.Making.{fault_at, first_fault, made_by, named_from, number_in}
 use Rattle.mk_entities.specs.inner.Tied.{numbered}
-use Rattle.mk_entities.proofs.Lookups.{number_is, place_below}
+use Rattle.mk_entities.proofs.Lookups.{number_is}
 use Rattle.mk_entities.proofs.Numbers.{put_is_filter}
 
 -- ---- numbered entities

@@ -6,6 +6,7 @@ use Rattle.std.proofs.lemmas.List.{length-map, map-append}
 use Rattle.mk_base.specs.declared.SimNo.{SimNo}
 use Rattle.mk_base.specs.Lists.{same_text}
 use Rattle.mk_base.proofs.Lists.{none_some, some_same}
+use Rattle.mk_base.proofs.AtPlaces.{place_first, place_later}
 use Rattle.mk_base.specs.Verdicts.{fault_unless}
 use Rattle.mk_meta.specs.declared.meta.Meta.{Meta}
 use Rattle.mk_entities.specs.declared.described.Described.{Described}
@@ -17,7 +18,7 @@ use Rattle.mk_entities.specs.inner.Making.{fault_at, first_fault, named_from, nu
 use Rattle.mk_entities.specs.Tied.{AreFirst}
 use Rattle.mk_entities.specs.inner.Tied.{numbered}
 use Rattle.mk_entities.proofs.Adding.{numbered_append, numbered_own, own}
-use Rattle.mk_entities.proofs.Lookups.{number_is, place_first, place_later}
+use Rattle.mk_entities.proofs.Lookups.{number_is}
 
 -- ---- where no test fails
 

@@ -1,13 +1,14 @@
 -- The names of a simulator, and the numbers that they give.
-use Rattle.std.proofs.Common.{◌≡◌, ℕ, zero, suc, ◌+◌, ◌<◌, ◌==◌, nat_lt, nat_eq, Bool, true, false, ◌&&◌, List, [], ◌∷◌, ◌++◌, length, Option, Some, None, refl, sym, ap, ◌∙◌, arith, if◌then◌else◌, position, take, true≢false, get_or, ◌≤◌}
+use Rattle.std.proofs.Common.{◌≡◌, ℕ, zero, suc, ◌+◌, ◌<◌, ◌==◌, Bool, true, false, List, [], ◌∷◌, ◌++◌, length, Option, Some, None, refl, sym, ap, ◌∙◌, arith, if◌then◌else◌, take, true≢false, get_or, ◌≤◌}
 use Rattle.std.specs.Prelude.{option_map}
-use Rattle.std.specs.List.{find, position_or_len}
+use Rattle.std.specs.List.{find}
 use Rattle.std.specs.Map.{lookup}
 use Rattle.std.specs.Str.{bytes_eq}
 use Rattle.std.specs.declared.string.String.{String}
 use Rattle.std.specs.String.{string_bytes}
 use Rattle.mk_base.specs.declared.SimNo.{SimNo}
 use Rattle.mk_base.specs.Lists.{same_text, value_under}
+use Rattle.mk_base.proofs.AtPlaces.{place_first, place_later, same_sym}
 use Rattle.mk_entities.specs.declared.entities.EntityInfo.{EntityInfo}
 use Rattle.mk_entities.specs.Creation.{is_named, entity_number}
 use Rattle.mk_entities.specs.inner.Making.{number_in}
@@ -15,15 +16,6 @@ use Rattle.mk_entities.specs.inner.Names.{texts_of}
 use Rattle.mk_entities.specs.inner.Tied.{names_at, numbered}
 
 -- ---- texts and keys
-
-pub nat_eq_sym : (x y : ℕ) → nat_eq x y ≡ nat_eq y x
-nat_eq_sym x y = grind arith
-
-pub same_sym : (a b : List ℕ) → same_text a b ≡ same_text b a
-same_sym [] [] = refl
-same_sym [] (y ∷ b) = refl
-same_sym (x ∷ a) [] = refl
-same_sym (x ∷ a) (y ∷ b) = λ i. nat_eq_sym x y i && same_sym a b i
 
 module _ {Y : Type 0} where
   -- the value at a key is the value under its text
@@ -46,34 +38,6 @@ module _ {Y : Type 0} where
   texts_take zero es = refl
   texts_take (suc n) [] = refl
   texts_take (suc n) (e ∷ es) = ap (λ l. (string_bytes e.0, e.1) ∷ l) (texts_take n es)
-
--- ---- the first place
-
-module _ {X : Type 0} (p : X → Bool) where
-  shifted : (k n : ℕ) → (if nat_lt (suc k) (suc n) then Some (suc k) else None) ≡ option_map suc (if nat_lt k n then Some k else None)
-  shifted k n = at (nat_lt k n) (nat_lt (suc k) (suc n)) (grind arith)
-    where
-      at : (b c : Bool) → c ≡ b → (if c then Some (suc k) else None) ≡ option_map suc (if b then Some k else None)
-      at true true e = refl
-      at false false e = refl
-      at true false e = absurd (true≢false (sym e))
-      at false true e = absurd (true≢false e)
-
-  one_plus : (k : ℕ) → 1 + k ≡ suc k
-  one_plus k = omega arith
-
-  pub place_first : (x : X) (xs : List X) → p x ≡ true → position p (x ∷ xs) ≡ Some 0
-  place_first x xs here = let within : nat_lt 0 (suc (length xs)) ≡ true = grind arith in rw here (ap (λ b. if b then Some 0 else None) within)
-
-  pub place_later : (x : X) (xs : List X) → p x ≡ false → position p (x ∷ xs) ≡ option_map suc (position p xs)
-  place_later x xs here = rw here (ap (λ m. if nat_lt m (suc (length xs)) then Some m else None) (one_plus (position_or_len p xs)) ∙ shifted (position_or_len p xs) (length xs))
-
-  pub place_below : (xs : List X) (i : ℕ) → position p xs ≡ Some i → i < length xs
-  place_below xs i is = at (nat_lt (position_or_len p xs) (length xs)) refl is
-    where
-      at : (b : Bool) → nat_lt (position_or_len p xs) (length xs) ≡ b → (if b then Some (position_or_len p xs) else None) ≡ Some i → i < length xs
-      at true e is = let same : position_or_len p xs ≡ i = cc in grind arith
-      at false e is = cc
 
 -- ---- numbered entities
 

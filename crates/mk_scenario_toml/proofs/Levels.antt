@@ -1,14 +1,13 @@
 -- The range of a tree's whole numbers, one level at a time.
-use Rattle.std.proofs.Common.{◌≡◌, ℕ, ℤ, Bool, true, List, map, refl, ap, rules, ◌∙◌}
+use Rattle.std.proofs.Common.{◌≡◌, ℕ, ℤ, Bool, true, List, refl, ◌∙◌}
 use Rattle.std.specs.List.{list_all}
 use Rattle.std.proofs.lemmas.List.Folds.{list_all-map}
-use Rattle.mk_base.specs.declared.json.Json.{Json, Json-F, the_lemmas}
+use Rattle.mk_base.specs.declared.json.Json.{Json}
 use Rattle.mk_base.specs.declared.json.Json.TheViews as tree
 use Rattle.mk_base.specs.declared.json.Json.TheVariants as leaf
-use Rattle.mk_base.specs.Folds.{folded}
 use Rattle.mk_base.specs.Trees.{in_range, is_in_range, range_step, is_object}
-use Rattle.mk_base.proofs.FoldsAgree.{folded_out}
 use Rattle.mk_base.proofs.OnTrees.{trees_compute}
+use Rattle.mk_base.proofs.Levels.{level_list, level_object}
 
 pub range_bool : (b : Bool) → is_in_range (leaf.Bool b) ≡ true
 unfolding trees_compute
@@ -25,12 +24,6 @@ range_odd = refl
 pub range_text : (s : List ℕ) → is_in_range (leaf.Text s) ≡ true
 unfolding trees_compute
 range_text s = refl
-
-level_list : {A : Type 0} (step : Json-F A → A) (ts : List Json) → folded A step (tree.List ts) ≡ step (Json-F.List (map (folded A step) ts))
-level_list {A} step ts = folded_out A step (tree.List ts) ∙ ap step (search (rules, the_lemmas))
-
-level_object : {A : Type 0} (step : Json-F A → A) (ms : List (List ℕ × Json)) → folded A step (tree.Object ms) ≡ step (Json-F.Object (map (λ (m : List ℕ × Json). let q : List ℕ × A = (m.0, folded A step m.1) in q) ms))
-level_object {A} step ms = folded_out A step (tree.Object ms) ∙ ap step (search (rules, the_lemmas))
 
 pub range_items : (ts : List Json) → is_in_range (tree.List ts) ≡ list_all is_in_range ts
 range_items ts = level_list range_step ts ∙ list_all-map (λ b. b) is_in_range ts

@@ -1,5 +1,5 @@
 -- The values of inputs and the rows of items, one more at a time.
-use Rattle.std.proofs.Common.{◌≡◌, ℕ, zero, suc, ℤ, ◌+◌, ◌<◌, ◌≤◌, List, [], ◌∷◌, ◌++◌, length, map, flat_map, fold, take, get_or, Option, Some, None, refl, sym, ap, ◌∙◌, arith, length-append, append_assoc}
+use Rattle.std.proofs.Common.{◌≡◌, ℕ, ℤ, ◌+◌, ◌<◌, ◌≤◌, List, [], ◌∷◌, ◌++◌, length, map, flat_map, fold, take, get_or, Option, Some, None, refl, sym, ap, ◌∙◌, arith, length-append, append_assoc}
 use Rattle.std.specs.List.{cons_option}
 use Rattle.std.proofs.lemmas.List.{take_more, take_all}
 use Rattle.mk_base.proofs.Lists.{append_nil, filter_map_append, flat_map_append, map_append}
@@ -41,11 +41,6 @@ module _ (f : Fold) (eid attr : List ℕ) where
   value_all inputs k value end is = is ∙ ap value_after (take_all k inputs end) ∙ value_is inputs None
 
 -- ---- items that are seen through references
-
-pub mapped : {X Y : Type 0} (f : X → Y) (xs : List X) (k : ℕ) (x : X) → k < length xs → x ≡ get_or xs k x → f x ≡ get_or (map f xs) k (f x)
-mapped f [] k x low is = absurd (omega (arith, low))
-mapped f (y ∷ xs) zero x low is = ap f is
-mapped f (y ∷ xs) (suc k) x low is = mapped f xs k x (omega (arith, low)) is
 
 -- ---- rows
 

@@ -1,9 +1,10 @@
 -- What each simulator was sent, one entry more at a time.
-use Rattle.std.proofs.Common.{◌≡◌, ℕ, zero, suc, ◌+◌, ◌<◌, ◌≤◌, ◌==◌, Bool, true, false, List, [], ◌∷◌, ◌++◌, length, map, filter_map, Option, Some, None, slice_get, slice_set, get_or, if◌then◌else◌, ◌⊎◌, length-append, refl, sym, ap, ◌∙◌, subst, inl, inr, arith}
+use Rattle.std.proofs.Common.{◌≡◌, ℕ, ◌+◌, ◌<◌, ◌≤◌, ◌==◌, Bool, true, false, List, [], ◌∷◌, ◌++◌, length, map, filter_map, Option, Some, None, slice_get, slice_set, get_or, if◌then◌else◌, length-append, refl, sym, ap, ◌∙◌, subst, inl, inr, arith}
 use Rattle.std.proofs.lemmas.Bool.{cases_eq, eqb-true, eq-eqb}
 use Rattle.std.proofs.lemmas.List.{length-map}
 use Rattle.mk_base.specs.declared.SimNo.{SimNo}
 use Rattle.mk_base.proofs.Lists.{some_same, none_some, get_is, append_nil, map_append, filter_map_append, length_set, set_here, set_else}
+use Rattle.mk_base.proofs.AtPlaces.{last_or_before, map_set, map_get}
 use Rattle.mk_plan.specs.declared.Item.{Item}
 use Rattle.mk_plan.specs.declared.Message.{Message}
 use Rattle.mk_plan.specs.declared.Entry.{Entry}
@@ -20,12 +21,6 @@ none_sent i s item apart =
 
 no_shares : AreShares 0 [] []
 no_shares = record { all = refl; each = λ i s at. absurd (none_some at) }
-
-last_or_before : {X : Type 0} (xs : List X) (x : X) (i : ℕ) (y : X) → slice_get (xs ++ x ∷ []) i ≡ Some y → (y ≡ x) ⊎ (slice_get xs i ≡ Some y)
-last_or_before [] x zero y at = inl (sym (some_same at))
-last_or_before [] x (suc i) y at = absurd (none_some at)
-last_or_before (z ∷ xs) x zero y at = inr at
-last_or_before (z ∷ xs) x (suc i) y at = last_or_before xs x i y at
 
 -- one simulator more, without items
 one_more : (n : ℕ) (shares : List (List Item)) → AreShares n [] shares → AreShares (n + 1) [] (shares ++ [] ∷ [])
@@ -61,16 +56,6 @@ put_in count J s item shares t u there grown are = record {
         ∙ sym (filter_map_append (sent_to i) J (Sent s item ∷ []) ∙ ap (λ l. sent J i ++ l) (none_sent i s item apart) ∙ append_nil (sent J i))
   ];
 }
-
-map_set : {X Y : Type 0} (f : X → Y) (xs : List X) (i : ℕ) (x : X) → map f (slice_set xs i x) ≡ slice_set (map f xs) i (f x)
-map_set f [] i x = refl
-map_set f (y ∷ xs) zero x = refl
-map_set f (y ∷ xs) (suc i) x = ap (λ l. f y ∷ l) (map_set f xs i x)
-
-map_get : {X Y : Type 0} (f : X → Y) (xs : List X) (i : ℕ) (x : X) → i < length xs → x ≡ get_or xs i x → slice_get (map f xs) i ≡ Some (f x)
-map_get f [] i x low is = absurd (omega (arith, low))
-map_get f (y ∷ xs) zero x low is = ap (λ z. Some (f z)) (sym is)
-map_get f (y ∷ xs) (suc i) x low is = map_get f xs i x (omega (arith, low)) is
 
 -- ---- lists of anything that is seen as items
 

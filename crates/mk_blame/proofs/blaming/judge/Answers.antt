@@ -1,10 +1,11 @@
--- Answers to the goals of `blaming::judge` that the prover leaves.
+-- The answers of `judge`.
 use Rattle.std.proofs.Common.{◌≡◌, ◌∙◌, ◌<◌, inl, inr, refl, ap, sym, subst}
 use Rattle.mk_plan.specs.declared.Item.{Item}
 use Rattle.mk_plan.specs.declared.Message.{Message}
 use Rattle.mk_plan.specs.Acts.{Told, Heard}
+use Rattle.mk_base.proofs.AtPlaces.{map_item}
 use Rattle.mk_blame.specs.Talks.{said}
-use Rattle.mk_blame.proofs.Parts.{blamed_there, length_map, map_item, never_first, one_ends_alike, one_ends_differ, one_is, other_is, part_alike, part_differ, part_low, part_under}
+use Rattle.mk_blame.proofs.Parts.{blamed_there, length_map, never_first, one_ends_alike, one_ends_differ, one_is, other_is, part_alike, part_differ, part_low, part_under}
 use Rattle.mk_blame.proofs.blaming.judge.Goals as goal
 
 told_heard : (item : Item) (m : Message) → Told item ≡ Heard m → ⊥

@@ -1,9 +1,9 @@
--- Answers to the goals of `parting::compared` that the prover leaves.
+-- The answers of `compared`.
 use Rattle.std.proofs.Common.{◌<◌, ◌≤◌, subst, sym, arith}
 use Rattle.mk_plan_same.proofs.Pairs.{next_same}
+use Rattle.mk_base.proofs.AtPlaces.{map_get, map_item}
 use Rattle.mk_blame.specs.Talks.{said}
-use Rattle.mk_blame.proofs.Grouping.{map_get}
-use Rattle.mk_blame.proofs.Parts.{all_the_same, counted, ends_at, goes_on_at, length_map, map_item, one_at_most, parts_at, stepped}
+use Rattle.mk_blame.proofs.Parts.{all_the_same, counted, ends_at, goes_on_at, length_map, one_at_most, parts_at, stepped}
 use Rattle.mk_blame.proofs.parting.compared.Goals as goal
 
 pub returns-then-number-other : goal.returns-then-number-other

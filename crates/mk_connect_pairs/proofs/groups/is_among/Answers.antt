@@ -1,7 +1,7 @@
 -- A name is looked for as an attribute is, whichever of two texts is named first.
 use Rattle.std.proofs.Common.{◌∙◌}
 use Rattle.mk_base.specs.Lists.{same_text}
-use Rattle.mk_entities.proofs.Lookups.{same_sym}
+use Rattle.mk_base.proofs.AtPlaces.{same_sym}
 use Rattle.mk_connect_pairs.proofs.Ways.{any_same}
 use Rattle.mk_connect_pairs.proofs.groups.is_among.Goals as goal
 

@@ -1,10 +1,11 @@
--- Answers to the goals of `tables::put_rows` that the prover leaves.
+-- The answers of `put_rows`.
 use Rattle.std.proofs.Common.{◌≡◌, ◌∙◌, ◌+◌, ◌<◌, ap, sym, arith, length, map, List, w64, to_z, of_z}
 use Rattle.std.proofs.lemmas.Int.{ints}
 use Rattle.std.proofs.lemmas.List.{length-map}
 use Rattle.mk_plan.specs.declared.Item.{Item}
+use Rattle.mk_base.proofs.AtPlaces.{map_item}
 use Rattle.mk_watch.specs.Values.{with_number}
-use Rattle.mk_watch.proofs.Gathering.{mapped, rows_more, rows_named, rows_same}
+use Rattle.mk_watch.proofs.Gathering.{rows_more, rows_named, rows_same}
 use Rattle.mk_watch.proofs.tables.put_rows.Goals as goal
 use Rattle.mk_watch.proofs.tables.put_rows.Goals.{in-Some+in_ok-put_row, in_default}
 
@@ -21,7 +22,7 @@ loop-item-preserved g c =
     let total = c.loop-item.total in
     let x = c.item-item.result.now in
     let low : k < length xs = let len = length-map c.args.items.now (λ x. x.now) in let here = c.loop-item-test.true in omega (arith, len, here) in
-    let is = mapped (λ x. x.now) c.args.items.now k c.item-item.result c.loop-item-test.true c.item-item.is in
+    let is = map_item (λ x. x.now) c.args.items.now k c.item-item.result c.loop-item-test.true c.item-item.is in
     elim c.match-row_of.branch [
       | in-Some+in_ok-put_row w ↦
           let v = w.in-Some.row.value in
