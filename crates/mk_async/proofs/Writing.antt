@@ -1,18 +1,17 @@
 -- What is written for a request for data is the content of its answer, and the text of a tree.
-use Rattle.std.proofs.Common.{◌≡◌, ℕ, ◌+◌, ◌<◌, ◌-◌, length, get_or, take, drop, length-drop, arith, IsSome, List, [], ◌∷◌, ◌++◌, map, flat_map, filter_map, fold, Option, Some, None, option_map, option_and_then, codes, refl, sym, ap, ◌∙◌, subst, append_assoc, append-nil, true≢false}
+use Rattle.std.proofs.Common.{◌≡◌, ℕ, ◌+◌, ◌<◌, length, get_or, take, IsSome, List, [], ◌∷◌, ◌++◌, map, flat_map, filter_map, fold, Option, Some, None, option_map, option_and_then, codes, refl, sym, ap, ◌∙◌, subst, append_assoc, append-nil, true≢false}
 use Rattle.std.specs.BTreeMap.{insert_entry}
 use Rattle.std.specs.List.{cons_option, join_with_byte}
 use Rattle.std.specs.Ordering.{match_ordering}
 use Rattle.std.specs.declared.cmp.Ordering.{Ordering}
 use Rattle.std.specs.declared.cmp.Ordering.TheVariants.{Less, Equal, Greater}
-use Rattle.std.proofs.lemmas.List.{take_all, take_more}
+use Rattle.std.proofs.lemmas.List.{take_more}
 use Rattle.std.proofs.lemmas.Map.Lookups.{exact_bytes}
 use Rattle.mk_base.specs.declared.json.Json as tree
 use Rattle.mk_base.specs.Lists.{Each, all_there, placed, text_order}
 use Rattle.mk_base.specs.Texts.{object_text}
 use Rattle.mk_base.specs.Trees.{text_in, items_in, texts_in}
 use Rattle.mk_base.proofs.Lists.{flat_map_append, none_some, some_same}
-use Rattle.mk_json.proofs.OfOutlines.{left_is}
 use Rattle.mk_plan.specs.declared.Plan.{Plan}
 use Rattle.mk_plan.specs.Asks.{Lookup, Named, Get, content_text, entity_of, ordered}
 use Rattle.mk_plan.specs.Asks as asks
@@ -43,11 +42,6 @@ object_begun m ms out = regroup out (codes "{") (shown m) (flat_map (λ (m : Lis
 pub object_written : (ms more : Texts) (m : List ℕ × List ℕ) (out a b c d : List ℕ) → ms ≡ m ∷ more → a ≡ out ++ codes "{" → b ≡ a ++ shown m → c ≡ b ++ flat_map (λ (m : List ℕ × List ℕ). codes "," ++ shown m) more → d ≡ c ++ codes "}" → d ≡ out ++ object_text ms
 object_written ms more m out a b c d whole ea eb ec ed = ed ∙ ap (λ l. l ++ codes "}") (ec ∙ ap (λ l. l ++ flat_map (λ (m : List ℕ × List ℕ). codes "," ++ shown m) more) (eb ∙ ap (λ l. l ++ shown m) ea))
     ∙ object_begun m more out ∙ ap (λ (l : Texts). out ++ object_text l) (sym whole)
-
-pub split_first : {X : Type 0} (xs : List X) (x : X) → 0 < length xs → x ≡ get_or xs 0 x → xs ≡ x ∷ take (length xs - 1) (drop 1 xs)
-split_first xs x h e =
-    let all : take (length xs - 1) (drop 1 xs) ≡ drop 1 xs = take_all (length xs - 1) (drop 1 xs) (omega (arith, length-drop 1 xs)) in
-    left_is xs 0 x h e ∙ ap (λ l. x ∷ l) (sym all)
 
 each_push : {X : Type 0} (Q : X → Type 0) (xs : List X) (x : X) → Each Q xs → Q x → Each Q (xs ++ x ∷ [])
 each_push Q [] x all h = (h, tt)

@@ -1,7 +1,7 @@
 -- What is written of each kind of tree, and what each loop over a list or an object keeps.
-use Rattle.std.proofs.Common.{◌≡◌, ℕ, suc, ◌+◌, ◌<◌, ◌≤◌, ℤ, Bool, true, ◌&&◌, List, [], ◌∷◌, ◌++◌, map, drop, length, get_or, codes, refl, sym, ap, ◌∙◌, subst, append_assoc, add-one, drop-cons, Result, Ok, Err, OnOk}
+use Rattle.std.proofs.Common.{◌≡◌, ℕ, suc, ◌+◌, ◌<◌, ◌≤◌, ℤ, Bool, true, ◌&&◌, List, [], ◌∷◌, ◌++◌, map, drop, length, get_or, codes, refl, sym, ap, ◌∙◌, subst, append_assoc, add-one, drop-cons, Result, Ok, Err, OnOk, take, ◌-◌, length-drop, arith}
 use Rattle.std.proofs.lemmas.Bool.{and_parts, and_from}
-use Rattle.std.proofs.lemmas.List.{drop_all}
+use Rattle.std.proofs.lemmas.List.{drop_all, take_all}
 use Rattle.std.specs.List.{list_all, AllByRecursion}
 use Rattle.std.specs.List.Sorted.{IsStrictlySortedBy}
 use Rattle.std.specs.Str.{is_utf8}
@@ -97,6 +97,12 @@ on_ok_more r new old opened token ts t is begun h =
 -- the members that are left, where the next is known
 pub left_is : {X : Type 0} (xs : List X) (i : ℕ) (x : X) → i < length xs → x ≡ get_or xs i x → drop i xs ≡ x ∷ drop (i + 1) xs
 left_is xs i x h e = rw add-one (drop-cons xs i x h ∙ ap (λ z. z ∷ drop (suc i) xs) (sym e))
+
+-- a list with a first item
+pub split_first : {X : Type 0} (xs : List X) (x : X) → 0 < length xs → x ≡ get_or xs 0 x → xs ≡ x ∷ take (length xs - 1) (drop 1 xs)
+split_first xs x h e =
+    let all : take (length xs - 1) (drop 1 xs) ≡ drop 1 xs = take_all (length xs - 1) (drop 1 xs) (omega (arith, length-drop 1 xs)) in
+    left_is xs 0 x h e ∙ ap (λ l. x ∷ l) (sym all)
 
 pub none_left : {X : Type 0} (f : List X → Bool) (xs : List X) (i : ℕ) → length xs ≤ i → f [] ≡ true → f (drop i xs) ≡ true
 none_left f xs i h e = ap f (drop_all i xs h) ∙ e

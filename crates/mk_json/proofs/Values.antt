@@ -18,6 +18,7 @@ use Rattle.serde_json.proofs.Nesting.{depth-read}
 use Rattle.serde_json.specs.Read.{is_integer, float_of, number_from, number_of, of_json, of_items, of_members, read, max_depth}
 use Rattle.mk_base.specs.declared.json.Json as tree
 use Rattle.mk_base.specs.Trees.{in_range, is_in_range, nesting}
+use Rattle.mk_base.proofs.Lists.{some_same}
 use Rattle.mk_json.specs.Parsed as made
 use Rattle.mk_json.specs.Parsed.{tree_of, parsed}
 use Rattle.mk_json.proofs.LevelTests.{range-List, range-Object}
@@ -151,6 +152,17 @@ read-in_range bytes d e =
     subst (Fits tree_fits) e (Fits-then anything tree_fits of_json (λ j _. of_json_fits j) o (any_fits o))
 
 -- ---- what is parsed
+
+pub parsed-in_range : (bytes : List ℕ) (t : tree.Json) → parsed bytes ≡ Some t → is_in_range t ≡ true
+parsed-in_range bytes t e = of_text (is_utf8 bytes) e
+  where
+    of_read : (o : Option Data) → read bytes ≡ o → option_map tree_of o ≡ Some t → is_in_range t ≡ true
+    of_read None is e = cc
+    of_read (Some d) is e = subst (λ (u : tree.Json). is_in_range u ≡ true) (some_same e) (read-in_range bytes d is)
+
+    of_text : (b : Bool) → (if b then option_map tree_of (read bytes) else None) ≡ Some t → is_in_range t ≡ true
+    of_text true e = of_read (read bytes) refl e
+    of_text false e = cc
 
 pub parsed_is : (bytes : List ℕ) (d : Data) → IsUtf8 bytes → read bytes ≡ Some d → parsed bytes ≡ Some (tree_of d)
 parsed_is bytes d text e = rw (is_utf8-from_IsUtf8 bytes text) (ap (option_map tree_of) e)

@@ -1,11 +1,9 @@
 -- What is gathered by a key, as it is written item by item.
-use Rattle.std.proofs.Common.{◌≡◌, ℕ, ◌<◌, ◌-◌, length, get_or, take, drop, length-drop, arith, Bool, true, false, List, [], ◌∷◌, ◌++◌, map, flat_map, codes, refl, sym, ap, ap₂, ◌∙◌, append_assoc, append-nil, nat_eq, true≢false, if◌then◌else◌}
+use Rattle.std.proofs.Common.{◌≡◌, ℕ, Bool, true, false, List, [], ◌∷◌, ◌++◌, map, flat_map, codes, refl, sym, ap, ap₂, ◌∙◌, append_assoc, append-nil, nat_eq, true≢false, if◌then◌else◌}
 use Rattle.std.proofs.lemmas.Bool.{and_parts, eqb-true}
-use Rattle.std.proofs.lemmas.List.{take_all}
 use Rattle.std.specs.List.{join_with_byte}
 use Rattle.mk_base.specs.Lists.{same_text}
 use Rattle.mk_base.specs.Texts.{quoted, object_text}
-use Rattle.mk_json.proofs.OfOutlines.{left_is}
 use Rattle.mk_plan.specs.Report.{inputs_text}
 use Rattle.mk_plan.specs.declared.Input.{Input}
 use Rattle.mk_message.specs.inner.Streams.{Stream, rest_of, keyed, source_member, by_source, by_attribute, by_entity, attributes, wanted_by_entity}
@@ -116,10 +114,3 @@ inputs_text-streamed = writes_keyed (λ n. n.eid) _ by_attribute (writes_keyed (
 
 pub wanted_text-streamed : Writes wanted_text wanted_by_entity
 wanted_text-streamed = writes_keyed (λ w. w.eid) _ attributes (writes_plain (λ w. quoted w.attr) (codes "[") (codes "]"))
-
--- ---- a list with a first item
-
-pub split_first : {X : Type 0} (xs : List X) (x : X) → 0 < length xs → x ≡ get_or xs 0 x → xs ≡ x ∷ take (length xs - 1) (drop 1 xs)
-split_first xs x h e =
-    let all : take (length xs - 1) (drop 1 xs) ≡ drop 1 xs = take_all (length xs - 1) (drop 1 xs) (omega (arith, length-drop 1 xs)) in
-    left_is xs 0 x h e ∙ ap (λ l. x ∷ l) (sym all)

@@ -11,12 +11,14 @@ use Rattle.mk_base.specs.Trees.{text_in, items_in, is_object}
 use Rattle.mk_base.proofs.Lists.{some_same, none_some}
 use Rattle.mk_plan.specs.declared.Message.{Message}
 use Rattle.mk_plan.specs.declared.Message.TheVariants.{Ask, Failure}
+use Rattle.mk_json.specs.Parsed.{parsed}
 use Rattle.mk_json.proofs.LevelTests.{range-List}
 use Rattle.mk_json.proofs.Layers as layers
 use Rattle.mk_json.proofs.Layers.{Held, Steps, by_layers}
+use Rattle.mk_json.proofs.Values.{parsed-in_range}
 use Rattle.mk_message.specs.declared.reading.Kind.{Kind}
 use Rattle.mk_message.specs.declared.reading.Kind.TheVariants as kind
-use Rattle.mk_message.specs.Messages.{three_of, three_in, kind_in, id_in, content_in, tested, message_in}
+use Rattle.mk_message.specs.Messages.{three_of, three_in, kind_in, id_in, content_in, tested, message_in, message_of}
 use Rattle.mk_message.specs.Written.{is_in_range}
 use Rattle.mk_message.proofs.ReadBack.{items_in-List}
 
@@ -111,3 +113,11 @@ fits_in t m e r =
 pub fits_taken : (t : Json) (r : Result Message ℕ) → r ≡ message_in t → IfOk r (λ m. trees.is_in_range t ≡ true → is_in_range m ≡ true)
 fits_taken t (Ok m) e = fits_in t m (sym e)
 fits_taken t (Err n) e = tt
+
+message_fits : (payload : List ℕ) (o : Option Json) (m : Message) → parsed payload ≡ o → tested 1 o message_in ≡ Ok m → is_in_range m ≡ true
+message_fits payload None m is e = cc
+message_fits payload (Some t) m is e = fits_in t m e (parsed-in_range payload t is)
+
+-- and so is what was read of bytes
+pub read_in_range : (payload : List ℕ) (m : Message) → message_of payload ≡ Ok m → is_in_range m ≡ true
+read_in_range payload m e = message_fits payload (parsed payload) m refl e

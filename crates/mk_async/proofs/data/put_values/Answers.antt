@@ -1,7 +1,8 @@
--- Answers to the goals of `data::put_values` that the prover leaves.
+-- The answers of `put_values`.
 use Rattle.std.proofs.Common.{ℕ, List, ◌-◌, length, take, drop, arith, subst, sym}
+use Rattle.mk_json.proofs.OfOutlines.{split_first}
 use Rattle.mk_async.specs.inner.Content.{AreNamed, Texts}
-use Rattle.mk_async.proofs.Writing.{object_written, split_first}
+use Rattle.mk_async.proofs.Writing.{object_written}
 use Rattle.mk_async.proofs.data.put_values.Goals as goal
 
 pub returns-in_ok-put-in-len1-up-2-clause-written : goal.returns-in_ok-put-in-len1-up-2-clause-written

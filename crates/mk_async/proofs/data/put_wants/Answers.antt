@@ -1,11 +1,12 @@
--- Answers to the goals of `data::put_wants` that the prover leaves.
+-- The answers of `put_wants`.
 use Rattle.std.proofs.Common.{ℕ, List, ◌-◌, length, take, drop, arith, subst, sym, ap, ◌∙◌}
 use Rattle.mk_base.specs.declared.json.Json.{Json}
 use Rattle.mk_plan.specs.Inputs.{value_at}
+use Rattle.mk_json.proofs.OfOutlines.{split_first}
 use Rattle.mk_async.specs.inner.Content.{AreContents}
 use Rattle.mk_async.specs.inner.Known.{Members, knows_want, knows_wants}
 use Rattle.mk_async.proofs.Giving.{first_of, rest_of}
-use Rattle.mk_async.proofs.Writing.{split_first, wants_written}
+use Rattle.mk_async.proofs.Writing.{wants_written}
 use Rattle.mk_async.proofs.data.put_wants.Goals as goal
 
 pub put_want-requires-clause-known : goal.put_want-requires-clause-known

@@ -1,10 +1,10 @@
--- Answers to the goals of `calls::+put_parameters` that the prover leaves.
+-- The answers of the cycle `put_parameters`.
 use Rattle.std.proofs.Common.{◌≡◌, ℕ, List, ◌∷◌, ◌++◌, ◌-◌, length, take, drop, codes, arith, sym, ap, ◌∙◌, append_assoc}
 use Rattle.mk_base.specs.declared.json.Json.{Json}
 use Rattle.mk_base.specs.Texts.{text_of}
+use Rattle.mk_json.proofs.OfOutlines.{split_first}
 use Rattle.mk_message.specs.Written.{time_resolution}
 use Rattle.mk_message.specs.inner.Written.{member_text}
-use Rattle.mk_message.proofs.Gathering.{split_first}
 use Rattle.mk_message.proofs.Parameters.{parameters_text, following, before_first, in_place, behind_first, on_ok_appended}
 use Rattle.mk_message.proofs.calls.+put_parameters.Goals as goal
 

@@ -1,8 +1,9 @@
--- Answers to the goals of `groups::inputs_bytes` that the prover leaves.
+-- The answers of `inputs_bytes`.
 use Rattle.std.proofs.Common.{◌≡◌, ◌∷◌, ◌++◌, ◌-◌, length, take, drop, arith, sym, ap, ◌∙◌}
 use Rattle.mk_plan.specs.Report.{inputs_text}
+use Rattle.mk_json.proofs.OfOutlines.{split_first}
 use Rattle.mk_message.specs.inner.Streams.{rest_of, by_entity}
-use Rattle.mk_message.proofs.Gathering.{split_first, inputs_text-streamed}
+use Rattle.mk_message.proofs.Gathering.{inputs_text-streamed}
 use Rattle.mk_message.proofs.groups.inputs_bytes.Goals as goal
 
 pub returns-in_ok-put_inputs-in-len1-up : goal.returns-in_ok-put_inputs-in-len1-up

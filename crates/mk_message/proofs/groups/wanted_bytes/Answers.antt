@@ -1,8 +1,9 @@
--- Answers to the goals of `groups::wanted_bytes` that the prover leaves.
+-- The answers of `wanted_bytes`.
 use Rattle.std.proofs.Common.{◌≡◌, ◌∷◌, ◌++◌, ◌-◌, length, take, drop, arith, sym, ap, ◌∙◌}
+use Rattle.mk_json.proofs.OfOutlines.{split_first}
 use Rattle.mk_message.specs.Written.{wanted_text}
 use Rattle.mk_message.specs.inner.Streams.{rest_of, wanted_by_entity}
-use Rattle.mk_message.proofs.Gathering.{split_first, wanted_text-streamed}
+use Rattle.mk_message.proofs.Gathering.{wanted_text-streamed}
 use Rattle.mk_message.proofs.groups.wanted_bytes.Goals as goal
 
 pub returns-in_ok-put_wanted-in-len1-up : goal.returns-in_ok-put_wanted-in-len1-up
