@@ -21,15 +21,14 @@ use Rattle.mk_sched.specs.Answers.{IsAsked}
 use Rattle.mk_run_laws.specs.Crews.{CrewState, kept_of}
 use Rattle.mk_run_laws.specs.Handshake.{is_within}
 use Rattle.mk_run_laws.specs.inner.Running.{HasChannel}
-use Rattle.mk_run_laws.proofs.Stepping.{same_or_not}
+use Rattle.mk_run_laws.proofs.Stepping.{same_or_not, open_sent, sent_away, sent_here, got_sent}
 use Rattle.mk_run_crew.specs.Seen.{CrewSeen, crew_of}
 use Rattle.mk_run.specs.inner.Sendings.{EndsWithItem}
 use Rattle.mk_run.specs.inner.Underway.{Setting, reply_in}
-use Rattle.mk_run.proofs.Linked.{sent_away, sent_here}
 use Rattle.mk_run.proofs.LastItem.{get_last}
 use Rattle.mk_run.proofs.LoopSteps.{asked_opens, asked_ready}
 use Rattle.mk_sched.proofs.Pushed.{fault_after_sent, patient_sent}
-use Rattle.mk_run.proofs.Pushed.{got_sent, kinds_sent, range_sent, sent_front}
+use Rattle.mk_run.proofs.Pushed.{kinds_sent, range_sent, sent_front}
 use Rattle.mk_run.proofs.Times.{ready_time}
 use Rattle.mk_pace_held.specs.declared.held.Held.{Held}
 use Rattle.mk_pace_held.specs.Firsts.{IsChanged}
@@ -38,7 +37,7 @@ use Rattle.mk_pace_laws.specs.Moments.{Tempo, moment_at}
 use Rattle.mk_pace_loop.specs.inner.Pacing.{AreHeldItems, BeginsWithStep, IsHolding, IsOneAtMost, IsPacing, held_at, replies_kept}
 use Rattle.mk_pace_loop.specs.inner.Turns.{GoesOn}
 use Rattle.mk_pace_loop.specs.inner.Waiting.{DueAs, HasTime, IsHeldLast, WaitingSeen, waiting_seen}
-use Rattle.mk_pace_loop.proofs.Grown.{begins_push, changed_set, held_longer, held_push, kept_sent, moments_longer, naps_longer, none_pushed, none_shut, one_moved, open_sent, step_opens}
+use Rattle.mk_pace_loop.proofs.Grown.{begins_push, changed_set, held_longer, held_push, kept_sent, moments_longer, naps_longer, none_pushed, none_shut, one_moved, step_opens}
 
 module _ (S : Setting) (T : Tempo) (strict : Option ℕ) (P : Plan) (J : List Entry) (log : List LogEntry) (C : CrewState) (sims : List (Option Simulator)) (holds after : List (List Held)) (moments : List Moment) (p : IsPacing S P J log C sims (waiting_seen T strict holds moments))
     (s : SimNo) (x : Tier) (inputs : List Input) (advance : ℤ) (ready : IsReady P (view P J) s.0 x) (stands : Stands P (J ++ Sent s (Step x inputs advance) ∷ []))

@@ -1,30 +1,25 @@
 -- What one more entry of the journal changes of what waits, of what is awaited, and of naps.
-use Rattle.std.proofs.Common.{◌≡◌, ◌⊎◌, inl, inr, ℕ, zero, suc, ◌+◌, ℤ, Bool, true, false, ◌&&◌, List, [], ◌∷◌, ◌++◌, map, filter_map, Option, Some, None, is_some, slice_get, slice_set, refl, sym, ap, ◌∙◌, subst, append_assoc, if◌then◌else◌}
+use Rattle.std.proofs.Common.{◌≡◌, ◌⊎◌, inl, inr, ℕ, zero, suc, ◌+◌, ℤ, Bool, true, false, ◌&&◌, List, [], ◌∷◌, ◌++◌, map, filter_map, Option, Some, is_some, slice_get, slice_set, refl, sym, ap, ◌∙◌, subst, append_assoc, if◌then◌else◌}
 use Rattle.mk_base.specs.declared.SimNo.{SimNo}
 use Rattle.mk_base.specs.declared.tier.Tier.{Tier}
 use Rattle.mk_base.specs.Lists.{BeginsWith}
 use Rattle.mk_base.proofs.Lists.{append_nil, filter_map_append, length_set, set_else, set_here}
-use Rattle.mk_plan.specs.declared.Cause.{Cause}
 use Rattle.mk_plan.specs.declared.Entry.{Entry}
 use Rattle.mk_plan.specs.declared.Input.{Input}
 use Rattle.mk_plan.specs.declared.Entry.TheVariants.{Sent, Got}
 use Rattle.mk_plan.specs.declared.Item.{Item}
 use Rattle.mk_plan.specs.declared.Item.TheVariants.{Step}
 use Rattle.mk_plan.specs.declared.Message.{Message}
-use Rattle.mk_plan.specs.declared.Place.{Place}
 use Rattle.mk_plan.specs.declared.Plan.{Plan}
-use Rattle.mk_plan.specs.Journals.{OpenTurn, View, bare, note_got, note_right, open_after, place_at, sent, view, with_open}
+use Rattle.mk_plan.specs.Journals.{OpenTurn, View, bare, open_after, sent, view, with_open}
 use Rattle.mk_plan.specs.Ready.{IsReady}
-use Rattle.mk_plan.specs.Turns.{next_place, wrong}
 use Rattle.mk_order.proofs.Pushing.{view_push}
 use Rattle.mk_outside.specs.declared.fleet.LogEntry.{LogEntry}
 use Rattle.mk_scenario.specs.declared.parts.Scenario.{Scenario}
 use Rattle.mk_run_laws.specs.Handshake.{is_within}
 use Rattle.mk_run_laws.specs.Running.{BeginsOnLink, SetupReplies}
-use Rattle.mk_run_laws.proofs.Stepping.{apart_is, same_is}
+use Rattle.mk_run_laws.proofs.Stepping.{apart_is, same_is, open_got, open_sent, sent_away, sent_got}
 use Rattle.mk_run.specs.inner.Underway.{Setting, reply_in}
-use Rattle.mk_run.proofs.Linked.{sent_away}
-use Rattle.mk_run.proofs.Pushed.{sent_got}
 use Rattle.mk_pace_held.specs.declared.held.Due.{Due}
 use Rattle.mk_pace_held.specs.declared.held.Held.{Held}
 use Rattle.mk_pace_held.specs.Firsts.{IsChanged}
@@ -114,21 +109,6 @@ module _ (T : Tempo) (strict : Option ℕ) (J K : List Entry) (log : List LogEnt
 
 open_away : (P : Plan) (V : View) (s : ℕ) (o : Option OpenTurn) (i : ℕ) → (i ≡ s → ⊥) → with_open V s o i ≡ V.open_at i
 open_away P V s o i n = ap (λ (b : Bool). if b then o else V.open_at i) (apart_is i s n)
-
-pub open_sent : (P : Plan) (J : List Entry) (s : SimNo) (item : Item) (i : ℕ) → (i ≡ s.0 → ⊥) → (view P (J ++ Sent s item ∷ [])).open_at i ≡ (view P J).open_at i
-open_sent P J s item i n = ap (λ (V : View). V.open_at i) (view_push P J (Sent s item)) ∙ open_away P (view P J) s.0 (open_after P (view P J) s.0 item) i n
-
-pub open_got : (P : Plan) (J : List Entry) (s : SimNo) (m : Message) (i : ℕ) → (i ≡ s.0 → ⊥) → (view P (J ++ Got s m ∷ [])).open_at i ≡ (view P J).open_at i
-open_got P J s m i n = ap (λ (V : View). V.open_at i) (view_push P J (Got s m)) ∙ by_open ((view P J).open_at s.0) (wrong P s.0 (place_at ((view P J).open_at s.0)) m)
-  where
-    by_place : (T : OpenTurn) (q : Option Place) → (note_right P (view P J) s.0 m T q).open_at i ≡ (view P J).open_at i
-    by_place T None = open_away P (view P J) s.0 None i n
-    by_place T (Some q) = open_away P (view P J) s.0 _ i n
-
-    by_open : (o : Option OpenTurn) (c : Option Cause) → (note_got P (view P J) s.0 m o c).open_at i ≡ (view P J).open_at i
-    by_open o (Some c) = refl
-    by_open None None = refl
-    by_open (Some T) None = by_place T (next_place P s.0 T.place m)
 
 pub step_opens : (P : Plan) (J : List Entry) (s : SimNo) (x : Tier) (ins : List Input) (advance : ℤ) → is_some ((view P (J ++ Sent s (Step x ins advance) ∷ [])).open_at s.0) ≡ true
 step_opens P J s x ins advance = ap (λ (V : View). is_some (V.open_at s.0)) (view_push P J (Sent s (Step x ins advance))) ∙ ap (λ (b : Bool). is_some (if b then open_after P (view P J) s.0 (Step x ins advance) else (view P J).open_at s.0)) (same_is s.0)

@@ -24,7 +24,8 @@ use Rattle.mk_run_laws.specs.Channels.{Channel}
 use Rattle.mk_run_laws.specs.Crews.{CrewState, IsHeard, IsMovedAt, given_by, kept_of, channel_at}
 use Rattle.mk_run_laws.specs.Running.{BeginsOnLink}
 use Rattle.mk_run_laws.specs.inner.Running.{HasChannel}
-use Rattle.mk_run_laws.proofs.Stepping.{apart_is, same_is, same_or_not}
+use Rattle.mk_run_laws.proofs.Stepping.{apart_is, same_is, same_or_not, sent_got}
+use Rattle.mk_run_laws.proofs.Moving.{moved_none}
 use Rattle.mk_run_links.specs.Entries.{AreOfLinks, IsRunLink}
 use Rattle.mk_run_links.proofs.OnEntries.{no_clock}
 use Rattle.mk_run_local.specs.Calls.{IsFitSuccess}
@@ -32,7 +33,6 @@ use Rattle.mk_run.specs.inner.Underway.{HasNoOther, Setting, reply_in}
 use Rattle.mk_run.proofs.InRange.{same_test, success_in_range}
 use Rattle.mk_run.proofs.Linked.{linked_outside, no_other_heard, within_below}
 use Rattle.mk_sched.proofs.Pushed.{heads, last_or_before}
-use Rattle.mk_run.proofs.Pushed.{sent_got}
 use Rattle.mk_run.proofs.Hearing.{taken_read}
 use Rattle.mk_pace_held.specs.declared.held.Held.{Held}
 use Rattle.mk_pace_laws.specs.declared.end.Moment.{Moment}
@@ -42,7 +42,7 @@ use Rattle.mk_pace_laws.proofs.Timely.{timely_more, told_later}
 use Rattle.mk_pace_loop.specs.inner.Pacing.{IsPacing, held_at, replies_kept}
 use Rattle.mk_pace_loop.specs.inner.Waiting.{waiting_seen}
 use Rattle.mk_pace_loop.proofs.Grown.{moments_longer, naps_longer}
-use Rattle.mk_pace_loop.proofs.Passing.{looks_later, moments_later, naps_later, no_naps, still_none}
+use Rattle.mk_pace_loop.proofs.Passing.{looks_later, moments_later, naps_later, no_naps}
 use Rattle.mk_pace_loop.proofs.Queueing.{has_channel_moved}
 
 -- what a journal has got with one message more
@@ -164,7 +164,7 @@ module _ (S : Setting) (T : Tempo) (strict : Option ℕ) (P : Plan) (J : List En
     where
       go : IsHeard entries s.0 m C D → channel_at D i ≡ None
       go (IsHeard.kept is channels none) = same_channels i C D channels ∙ p.no_channel i inside
-      go (IsHeard.on_link none after w there moved parked) = still_none entries (given_by s.0 m i) (channel_at C i) (channel_at D i) (p.no_channel i inside) (moved i)
+      go (IsHeard.on_link none after w there moved parked) = moved_none entries (given_by s.0 m i) (channel_at C i) (channel_at D i) (p.no_channel i inside) (moved i)
 
   pub met_no_other : HasNoOther S D
   met_no_other = no_other_heard S entries s.0 m C D heard p.no_other

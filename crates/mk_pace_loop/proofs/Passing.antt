@@ -24,6 +24,7 @@ use Rattle.mk_run_laws.specs.Rests.{AllSetUp, IsWellInSetup}
 use Rattle.mk_run_laws.specs.Running.{SetupReplies}
 use Rattle.mk_run_laws.specs.inner.Running.{HasChannel}
 use Rattle.mk_run_laws.proofs.Stepping.{first_or_second, not_empty}
+use Rattle.mk_run_laws.proofs.Moving.{moved_none}
 use Rattle.mk_run_links.specs.Entries.{AreOfLinks, AreOnOrOfClock, IsClockless, IsNotOfClock, IsRunLink}
 use Rattle.mk_run_links.specs.Places.{IsChannelLink}
 use Rattle.mk_run_links.proofs.OnEntries.{no_clock, no_rests, of_run, on_or_clock, on_these, or_clock_more}
@@ -101,11 +102,6 @@ looks_later started S log entries awake looks before after is = elim (first_or_s
 
 -- ---- channels
 
-pub still_none : (entries : List LogEntry) (given : List Message) (o p : Option Channel) → o ≡ None → IsMovedAt entries given o p → p ≡ None
-still_none entries given None None e moved = refl
-still_none entries given None (Some v) e moved = absurd moved
-still_none entries given (Some u) p e moved = absurd (none_some (sym e))
-
 pub was_there : (entries : List LogEntry) (given : List Message) (o p : Option Channel) (v : Channel) → p ≡ Some v → IsMovedAt entries given o p → (w : Channel) × (o ≡ Some w)
 was_there entries given o None v e moved = absurd (none_some e)
 was_there entries given None (Some u) v e moved = absurd moved
@@ -136,7 +132,7 @@ module _ (S : Setting) (T : Tempo) (strict : Option ℕ) (P : Plan) (J : List En
     fit = p.fit;
     channels = λ i l linked. subst (λ (ms : List Message). HasChannel S.scenario S.replies (log ++ entries) i l ms (p.queued i) D) (append_nil (got J i))
         (has_channel_moved S.scenario S.replies log entries i l (got J i) [] (p.queued i) C D (p.channels i l linked) (moved i));
-    no_channel = λ i within. still_none entries [] (channel_at C i) (channel_at D i) (p.no_channel i within) (moved i);
+    no_channel = λ i within. moved_none entries [] (channel_at C i) (channel_at D i) (p.no_channel i within) (moved i);
     no_other = λ i w there. let o = was_there entries [] (channel_at C i) (channel_at D i) w there (moved i) in p.no_other i o.0 o.1;
     kept = λ s. ap (kept_of s) kept ∙ p.kept s;
     kinds = p.kinds;

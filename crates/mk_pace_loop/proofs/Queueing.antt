@@ -1,10 +1,9 @@
 -- The channels of a paced run: while a clock is read, messages are heard, and items are queued that the
 -- journal has had for longer.
-use Rattle.std.proofs.Common.{◌≡◌, ℕ, ◌+◌, true, cond, false, List, [], ◌∷◌, ◌++◌, length, filter, length-append, Option, Some, None, refl, sym, ap, ◌∙◌, subst, append_assoc, arith}
+use Rattle.std.proofs.Common.{◌≡◌, ℕ, true, List, [], ◌∷◌, ◌++◌, Option, Some, None, refl, sym, ap, ◌∙◌, subst, append_assoc}
 use Rattle.mk_base.specs.declared.LinkNo.{LinkNo}
-use Rattle.mk_base.proofs.Lists.{filter_append, none_some, some_same}
+use Rattle.mk_base.proofs.Lists.{some_same}
 use Rattle.mk_plan.specs.declared.Item.{Item}
-use Rattle.mk_plan.specs.declared.Item.TheVariants.{Step, GetData, Answer, Refuse}
 use Rattle.mk_plan.specs.declared.Message.{Message}
 use Rattle.mk_plan.specs.Sequential.{takes_id, id_after}
 use Rattle.mk_message.specs.Written.{item_text}
@@ -13,12 +12,13 @@ use Rattle.mk_outside.specs.declared.fleet.LogEntry.{LogEntry}
 use Rattle.mk_outside.specs.declared.fleet.LogEntry.TheVariants.{Told, Nap}
 use Rattle.mk_run_laws.specs.Crews.{CrewState, AreMoved, IsMovedAt, IsSentOnLink, channel_at}
 use Rattle.mk_run_laws.specs.Handshake.{setup_count, setup_payloads}
-use Rattle.mk_run_laws.specs.Channels.{IsChannelAt, IsMoved, Channel, queued}
+use Rattle.mk_run_laws.specs.Channels.{IsChannelAt, Channel, queued}
 use Rattle.mk_run_laws.specs.Payloads.{item_payloads}
 use Rattle.mk_run_laws.specs.Running.{SetupReplies}
 use Rattle.mk_run_laws.specs.inner.Running.{HasChannel}
-use Rattle.mk_run_laws.proofs.Moving.{channel_moved, channel_queued}
+use Rattle.mk_run_laws.proofs.Moving.{channel_moved, channel_queued, moved_there}
 use Rattle.mk_run_laws.proofs.Polling.{IsForeign, channel_left}
+use Rattle.mk_run_laws.proofs.Stepping.{items_push, ids_push, text_same}
 
 -- ---- entries of the clock are of no channel
 
@@ -42,16 +42,11 @@ nap_moved C i = left_at (Nap ∷ []) foreign_nap (channel_at C i)
 
 -- ---- a channel that has moved
 
-moved_to : (entries : List LogEntry) (given : List Message) (o p : Option Channel) (w : Channel) → o ≡ Some w → IsMovedAt entries given o p → (v : Channel) × (p ≡ Some v) × IsMoved entries given w v
-moved_to entries given None p w e moved = absurd (none_some e)
-moved_to entries given (Some u) None w e moved = absurd moved
-moved_to entries given (Some u) (Some v) w e moved = (v, refl, subst (λ (x : Channel). IsMoved entries given x v) (some_same e) moved)
-
 -- whatever items were queued on it
 pub has_channel_moved : (S : Scenario) (replies : SetupReplies) (log entries : List LogEntry) (i : ℕ) (l : LinkNo) (ms given : List Message) (items : List Item) (C D : CrewState) → HasChannel S replies log i l ms items C → IsMovedAt entries given (channel_at C i) (channel_at D i)
     → HasChannel S replies (log ++ entries) i l (ms ++ given) items D
 has_channel_moved S replies log entries i l ms given items C D h moved =
-    let m = moved_to entries given (channel_at C i) (channel_at D i) h.channel h.there moved in
+    let m = moved_there entries given (channel_at C i) (channel_at D i) h.channel h.there moved in
     let payloads : List (List ℕ) = setup_payloads S i ++ item_payloads (setup_count S i) items in
     let next : ℕ = id_after (setup_count S i) items in
     record {
@@ -62,30 +57,6 @@ has_channel_moved S replies log entries i l ms given items C D h moved =
     }
 
 -- ---- an item that is queued
-
-items_push : (id : ℕ) (items : List Item) (item : Item) → item_payloads id (items ++ item ∷ []) ≡ item_payloads id items ++ item_text (id_after id items) item ∷ []
-items_push id [] item = ap (λ (n : ℕ). item_text n item ∷ []) (let e : id ≡ id + 0 = omega arith in e)
-items_push id (i ∷ items) item =
-    ap (λ (l : List (List ℕ)). item_text id i ∷ l)
-    (items_push (id_after id (i ∷ [])) items item ∙ ap (λ (n : ℕ). item_payloads (id_after id (i ∷ [])) items ++ item_text n item ∷ []) (ids_join id i items))
-  where
-    ids_join : (id : ℕ) (i : Item) (items : List Item) → id_after (id_after id (i ∷ [])) items ≡ id_after id (i ∷ items)
-    ids_join id i items = elim (takes_id i) as (λ b. (id + length (cond b (i ∷ []) [])) + length (filter takes_id items) ≡ id + length (cond b (i ∷ filter takes_id items) (filter takes_id items))) [
-      | true ↦ omega arith
-      | false ↦ omega arith
-    ]
-
-ids_push : (id : ℕ) (items : List Item) (item : Item) → id_after (id_after id items) (item ∷ []) ≡ id_after id (items ++ item ∷ [])
-ids_push id items item =
-    let e : length (filter takes_id (items ++ item ∷ [])) ≡ length (filter takes_id items) + length (filter takes_id (item ∷ [])) = ap length (filter_append takes_id items (item ∷ [])) ∙ length-append (filter takes_id items) (filter takes_id (item ∷ [])) in
-    omega (arith, e)
-
--- an item that takes no id has one text
-text_same : (item : Item) (id other : ℕ) → (takes_id item ≡ true → id ≡ other) → item_text id item ≡ item_text other item
-text_same (Step x inputs advance) id other h = ap (λ (n : ℕ). item_text n (Step x inputs advance)) (h refl)
-text_same (GetData wanted) id other h = ap (λ (n : ℕ). item_text n (GetData wanted)) (h refl)
-text_same (Answer asked content) id other h = refl
-text_same (Refuse asked reason) id other h = refl
 
 -- the channel is in step with any messages and items, and then with one item more
 pub channel_sent : (S : Scenario) (replies : SetupReplies) (log : List LogEntry) (C D : CrewState) (s : ℕ) (l : LinkNo) (messages : List Message) (items : List Item) (item : Item) (id : ℕ) → HasChannel S replies log s l messages items C → IsSentOnLink s item id C D

@@ -18,16 +18,15 @@ use Rattle.mk_sched.specs.Answers.{SomeReady}
 use Rattle.mk_run_laws.specs.Handshake.{is_within}
 use Rattle.mk_run_laws.specs.Crews.{CrewState, IsHeard, kept_of}
 use Rattle.mk_run_laws.specs.inner.Running.{HasChannel}
-use Rattle.mk_run_laws.proofs.Stepping.{after_message, item_leaves_open, same_or_not}
+use Rattle.mk_run_laws.proofs.Stepping.{after_message, item_leaves_open, same_or_not, open_got, open_sent, sent_away, sent_here, got_sent, sent_got}
 use Rattle.mk_run_links.specs.Entries.{AreOfLinks, IsRunLink}
 use Rattle.mk_run_links.proofs.OnEntries.{no_rests}
 use Rattle.mk_run_local.specs.Calls.{IsFitSuccess}
 use Rattle.mk_run.specs.inner.Underway.{Setting, reply_in}
-use Rattle.mk_run.proofs.Linked.{sent_away, sent_here}
 use Rattle.mk_run.proofs.LastItem.{get_last}
 use Rattle.mk_run.proofs.LoopSteps.{owed_after}
 use Rattle.mk_sched.proofs.Pushed.{fault_after_sent, patient_got, patient_sent}
-use Rattle.mk_run.proofs.Pushed.{got_sent, kinds_sent, range_got, range_sent, sent_front, sent_got}
+use Rattle.mk_run.proofs.Pushed.{kinds_sent, range_got, range_sent, sent_front}
 use Rattle.mk_pace_held.specs.declared.held.Held.{Held}
 use Rattle.mk_pace_held.specs.Firsts.{IsChanged}
 use Rattle.mk_pace_laws.specs.declared.end.Moment.{Moment}
@@ -35,7 +34,7 @@ use Rattle.mk_pace_laws.specs.Moments.{Tempo}
 use Rattle.mk_pace_laws.specs.Naps.{AreNaps}
 use Rattle.mk_pace_loop.specs.inner.Pacing.{AreHeldItems, BeginsWithStep, IsHolding, IsOneAtMost, IsPacing, IsPacingFor, held_at, replies_kept}
 use Rattle.mk_pace_loop.specs.inner.Waiting.{DueAs, waiting_seen}
-use Rattle.mk_pace_loop.proofs.Grown.{begins_push, held_longer, held_push, kept_got, kept_sent, moments_longer, none_pushed, none_shut, none_waits, one_moved, open_got, open_sent}
+use Rattle.mk_pace_loop.proofs.Grown.{begins_push, held_longer, held_push, kept_got, kept_sent, moments_longer, none_pushed, none_shut, none_waits, one_moved}
 use Rattle.mk_pace_loop.proofs.Meeting.{met_fits, met_kept_away, met_kept_here, met_kinds, met_channels, met_looks, met_moments, met_naps, met_no_channel, met_no_other, met_replied, met_timely, met_told, met_within}
 use Rattle.mk_pace_loop.proofs.Passing.{on_later, origin_later, setup_later}
 

@@ -20,6 +20,7 @@ use Rattle.mk_run_laws.specs.Crews.{IsHeard}
 use Rattle.mk_run_laws.specs.Handshake.{is_within, sim_link}
 use Rattle.mk_run_laws.specs.Kinds.{KeepsToKinds}
 use Rattle.mk_run_laws.specs.inner.Running.{HasChannel}
+use Rattle.mk_run_laws.proofs.Stepping.{sent_got}
 use Rattle.mk_run_links.specs.Entries.{IsRunLink}
 use Rattle.mk_run_links.proofs.OnEntries.{no_rests}
 use Rattle.mk_run_crew.specs.Seen.{CrewSeen, crew_of}
@@ -29,7 +30,7 @@ use Rattle.mk_run.specs.Ends.{AreInRange, IsAwaiting, IsBrokenOff, IsOpenWithin,
 use Rattle.mk_sched.specs.inner.Patient.{IsPatient}
 use Rattle.mk_run.specs.inner.Underway.{Setting, reply_in}
 use Rattle.mk_sched.proofs.Pushed.{patient_got}
-use Rattle.mk_run.proofs.Pushed.{got_front, range_got, sent_got}
+use Rattle.mk_run.proofs.Pushed.{got_front, range_got}
 use Rattle.mk_pace_laws.specs.declared.end.PaceEnd.TheVariants as pace
 use Rattle.mk_pace_laws.specs.Ends.{QueuedOut}
 use Rattle.mk_pace_laws.specs.Moments.{AreMoments, before_step, moments_of, sent_out}

@@ -20,14 +20,14 @@ use Rattle.mk_run_laws.specs.Channels.{Channel}
 use Rattle.mk_run_laws.specs.Kinds.{Replies}
 use Rattle.mk_run_laws.specs.Crews.{CrewState, channel_at, kept_of, given_by, AreMoved, AreParkedAtRests, IsSentOnLink, IsSentWithin, IsUnheard}
 use Rattle.mk_run_laws.specs.Running.{SetupReplies, IsBegun}
-use Rattle.mk_run_laws.proofs.Stepping.{apart_is, same_is, same_or_not}
+use Rattle.mk_run_laws.proofs.Stepping.{apart_is, same_is, same_or_not, got_here, got_away, linked_out}
 use Rattle.mk_resume_walk.specs.Talks.{free_items}
 use Rattle.mk_resume_links.specs.Rests.{Counts, repeated}
 use Rattle.mk_resume_links.specs.inner.Catching.{IsCatching, IsCatchingWith, WasAwaited, awaited}
 use Rattle.mk_resume_links.specs.inner.Touching.{IsInTouch, IsResting, RepeatsByKind, RestsOver, RestsSoFar}
-use Rattle.mk_resume_links.proofs.Growing.{count_sent, free_before, given_away, given_here, got_away, got_here, last_there, repeated_away, repeated_got_away, repeated_got_here, repeated_here, repeated_sent}
+use Rattle.mk_resume_links.proofs.Growing.{count_sent, free_before, given_away, given_here, last_there, repeated_away, repeated_got_away, repeated_got_here, repeated_here, repeated_sent}
 use Rattle.mk_resume_links.proofs.Repeating.{kinds_longer, kinds_more, kinds_none}
-use Rattle.mk_resume_links.proofs.Touching.{begun, kept_within, linked_out, queued_on_link, seen_as, taken_kept, taken_off}
+use Rattle.mk_resume_links.proofs.Touching.{begun, kept_within, queued_on_link, seen_as, taken_kept, taken_off}
 use Rattle.mk_resume_links.proofs.Waiting.{kept_over, link_over, none_yet, over_longer, over_so_far, ready_over, rests_waited}
 use Rattle.mk_run_laws.specs.Exchanges.{exchange}
 
@@ -152,7 +152,7 @@ module _ (saved : Counts) (started : ℕ) (S : Scenario) (replies : SetupReplies
     counts = counts_again J heard s m c.counts is;
     touch = seen_as started S replies (λ i. repeated J i (heard i) ++ given_by s m i) (λ i. repeated J i (one_more heard s i)) (λ i. free_items J i (heard i)) (λ i. free_items J i (heard i)) A A (log ++ entries) D
         (taken_off started S replies (λ i. repeated J i (heard i)) (λ i. free_items J i (heard i)) A log entries C D (given_by s m) c.touch moved (none_after ∙ sym none)) (λ i l linked. messages_again J heard s m is i) (λ i l linked. refl) (λ i. refl);
-    kinds = kinds_more reply (is_within S) J heard (one_more heard s) s c.kinds (more_here heard s) (more_away heard s) (λ n inside there. absurd (true≢false (sym inside ∙ linked_out started S replies s l linked)));
+    kinds = kinds_more reply (is_within S) J heard (one_more heard s) s c.kinds (more_here heard s) (more_away heard s) (λ n inside there. absurd (true≢false (sym inside ∙ linked_out started S s l linked)));
     rests = rests_waited saved started S replies P J heard A log entries C c.touch (λ i k link. c.counts i) resting parked none D.kept none_after c.rests;
   }
 
@@ -167,7 +167,7 @@ module _ (saved : Counts) (started : ℕ) (S : Scenario) (replies : SetupReplies
           counts = counts_new J heard s m c.counts caught;
           touch = seen_as started S replies (λ i. repeated J i (heard i) ++ given_by s.0 m i) (λ i. repeated (J ++ Got s m ∷ []) i (one_more heard s.0 i)) (λ i. free_items J i (heard i)) (λ i. free_items J i (heard i)) A A (log ++ entries) D
               (taken_off started S replies (λ i. repeated J i (heard i)) (λ i. free_items J i (heard i)) A log entries C D (given_by s.0 m) c.touch moved (none_after ∙ sym none)) (λ i l linked. messages_new J heard s m caught i) (λ i l linked. refl) (λ i. refl);
-          kinds = kinds_new s m (λ n inside there. absurd (true≢false (sym inside ∙ linked_out started S replies s.0 l linked)));
+          kinds = kinds_new s m (λ n inside there. absurd (true≢false (sym inside ∙ linked_out started S s.0 l linked)));
           rests = over_so_far saved started S replies P (J ++ Got s m ∷ []) (log ++ entries) D.kept over;
         },
         over,
@@ -239,7 +239,7 @@ module _ (saved : Counts) (started : ℕ) (S : Scenario) (replies : SetupReplies
         record {
           counts = counts_again J heard s m c.counts there;
           touch = seen_as started S replies (λ i. repeated J i (heard i)) (λ i. repeated J i (one_more heard s i)) (λ i. free_items J i (heard i)) (λ i. free_items J i (heard i)) (λ i. kept_of i D.kept) (λ i. kept_of i D.kept) (log ++ entries) D t.0
-              (λ i l linked. ap (repeated J i) (sym (more_away heard s i (λ q. true≢false (sym was.inside ∙ ap (is_within S) (sym q) ∙ linked_out started S replies i l linked))))) (λ i l linked. refl) (λ i. refl);
+              (λ i l linked. ap (repeated J i) (sym (more_away heard s i (λ q. true≢false (sym was.inside ∙ ap (is_within S) (sym q) ∙ linked_out started S i l linked))))) (λ i l linked. refl) (λ i. refl);
           kinds = kinds_more reply (is_within S) J heard (one_more heard s) s c.kinds (more_here heard s) (more_away heard s) (λ n inside got_it. (some_same (sym got_it ∙ there) ∙ was.is, was.more));
           rests = over_so_far saved started S replies P J (log ++ entries) D.kept over;
         },
@@ -258,7 +258,7 @@ module _ (saved : Counts) (started : ℕ) (S : Scenario) (replies : SetupReplies
         record {
           counts = counts_new J heard s m c.counts caught;
           touch = seen_as started S replies (λ i. repeated J i (heard i)) (λ i. repeated (J ++ Got s m ∷ []) i (one_more heard s.0 i)) (λ i. free_items J i (heard i)) (λ i. free_items J i (heard i)) (λ i. kept_of i D.kept) (λ i. kept_of i D.kept) (log ++ entries) D t.0
-              (λ i l linked. let apart : i ≡ s.0 → ⊥ = (λ q. true≢false (sym was.inside ∙ ap (is_within S) (sym q) ∙ linked_out started S replies i l linked)) in
+              (λ i l linked. let apart : i ≡ s.0 → ⊥ = (λ q. true≢false (sym was.inside ∙ ap (is_within S) (sym q) ∙ linked_out started S i l linked)) in
               repeated_away J s.0 m i (heard i) apart ∙ messages_new J heard s m caught i) (λ i l linked. refl) (λ i. refl);
           kinds = kinds_more reply (is_within S) (J ++ Got s m ∷ []) heard (one_more heard s.0) s.0 (kinds_longer reply (is_within S) J heard (Got s m ∷ []) (few J heard c.counts) c.kinds) (more_here heard s.0) (more_away heard s.0)
               (λ n inside got_it. own n got_it was.is was.more);

@@ -20,14 +20,14 @@ use Rattle.mk_run_laws.specs.Channels.{Channel}
 use Rattle.mk_run_laws.specs.Kinds.{Replies}
 use Rattle.mk_run_laws.specs.Crews.{CrewState, channel_at, kept_of, given_by, IsSentOnLink, IsSentWithin}
 use Rattle.mk_run_laws.specs.Running.{SetupReplies}
-use Rattle.mk_run_laws.proofs.Stepping.{same_or_not}
+use Rattle.mk_run_laws.proofs.Stepping.{same_or_not, got_here, linked_out}
 use Rattle.mk_resume_walk.specs.Talks.{free_items}
 use Rattle.mk_resume_links.specs.Rests.{Counts, repeated}
 use Rattle.mk_resume_links.specs.inner.Catching.{IsCatching, IsCatchingWith, WasAwaited, awaited}
 use Rattle.mk_resume_links.specs.inner.Touching.{RestsOver}
 use Rattle.mk_resume_links.proofs.Catching.{catching_kept, catching_queued, catching_ready, catching_sent, more_away, more_here, one_more}
-use Rattle.mk_resume_links.proofs.Growing.{free_got_away, free_got_here, free_sent_away, free_sent_behind, free_sent_here, given_away, given_here, got_here}
-use Rattle.mk_resume_links.proofs.Touching.{linked_out, seen_as}
+use Rattle.mk_resume_links.proofs.Growing.{free_got_away, free_got_here, free_sent_away, free_sent_behind, free_sent_here, given_away, given_here}
+use Rattle.mk_resume_links.proofs.Touching.{seen_as}
 use Rattle.mk_run_laws.specs.Exchanges.{exchange}
 
 -- ---- tests of numbers
@@ -66,7 +66,7 @@ module _ (saved : Counts) (started : ℕ) (S : Scenario) (replies : SetupReplies
   awaits_of i n items = if is_within S i && nat_lt n (length items) then reply i (map bare items) ∷ [] else []
 
   awaited_linked : (J : List Entry) (heard : Counts) (i : ℕ) (l : LinkNo) → sim_link started S i ≡ Some l → awaited S reply J heard i ≡ []
-  awaited_linked J heard i l linked = ap (λ (b : Bool). if b && nat_lt (heard i) (length (free_items J i (heard i))) then reply i (map bare (free_items J i (heard i))) ∷ [] else []) (linked_out started S replies i l linked)
+  awaited_linked J heard i l linked = ap (λ (b : Bool). if b && nat_lt (heard i) (length (free_items J i (heard i))) then reply i (map bare (free_items J i (heard i))) ∷ [] else []) (linked_out started S i l linked)
 
   awaited_same : (J K : List Entry) (heard next : Counts) (i : ℕ) → heard i ≡ next i → free_items J i (heard i) ≡ free_items K i (next i) → awaited S reply J heard i ≡ awaited S reply K next i
   awaited_same J K heard next i count free = ap (λ (n : ℕ). awaits_of i n (free_items J i (heard i))) count ∙ ap (awaits_of i (next i)) free
@@ -135,7 +135,7 @@ module _ (saved : Counts) (started : ℕ) (S : Scenario) (replies : SetupReplies
       let free_here : free_items K s.0 (heard s.0) ≡ free_items J s.0 (heard s.0) ++ item ∷ [] = free_sent_here J s item (heard s.0) caught in
       let long : heard s.0 < length (free_items K s.0 (heard s.0)) = subst (λ (l : List Item). heard s.0 < length l) (sym free_here) (long_push (free_items J s.0 (heard s.0)) item (heard s.0) answered) in
       catching_kept saved started S replies reply P (λ i. free_items J i (heard i)) (λ i. free_items K i (heard i)) (awaited S reply J heard) (awaited S reply K heard) K heard log C D s.0 m longer.0 longer.1 sent_so
-      (λ i l linked. sym (free_sent_away J s item i (heard i) (λ q. true≢false (sym inside ∙ ap (is_within S) (sym q) ∙ linked_out started S replies i l linked))))
+      (λ i l linked. sym (free_sent_away J s item i (heard i) (λ q. true≢false (sym inside ∙ ap (is_within S) (sym q) ∙ linked_out started S i l linked))))
       (each (λ i. awaited S reply K heard i ≡ awaited S reply J heard i ++ given_by s.0 m i) s.0
       (awaited_one K heard s.0 inside long ∙ sym (ap (λ (l : List Message). l ++ given_by s.0 m s.0) (awaited_none J heard s.0 (no_more (length (free_items J s.0 (heard s.0))) (heard s.0) answered)) ∙ given_here s.0 m))
       (λ i apart. awaited_same K J heard heard i refl (free_sent_away J s item i (heard i) apart) ∙ sym (ap (λ (l : List Message). awaited S reply J heard i ++ l) (given_away s.0 m i apart) ∙ append_nil (awaited S reply J heard i))))
@@ -211,7 +211,7 @@ module _ (saved : Counts) (started : ℕ) (S : Scenario) (replies : SetupReplies
       let away : (i : ℕ) → (i ≡ s → ⊥) → free_items J i (heard i) ≡ free_items K i (next i) = (λ i apart. others i apart ∙ ap (free_items K i) (sym (more_away heard s i apart))) in
       let long : next s < length (free_items K s (next s)) = subst (λ (k : ℕ). k < length (free_items K s k)) (sym (more_here heard s)) (subst (λ (l : List Item). heard s + 1 < length l) (sym here) (long_push (free_items J s (heard s)) item (heard s + 1) answered)) in
       catching_kept saved started S replies reply P (λ i. free_items J i (heard i)) (λ i. free_items K i (next i)) (λ i. kept_of i C.kept) (awaited S reply K next) K next log C D s n c over sent_so
-      (λ i l linked. away i (λ q. true≢false (sym was.inside ∙ ap (is_within S) (sym q) ∙ linked_out started S replies i l linked)))
+      (λ i l linked. away i (λ q. true≢false (sym was.inside ∙ ap (is_within S) (sym q) ∙ linked_out started S i l linked)))
       (each (λ i. awaited S reply K next i ≡ kept_of i C.kept ++ given_by s n i) s
       (awaited_one K next s was.inside long ∙ ap (λ (k : ℕ). reply s (map bare (free_items K s k)) ∷ []) (more_here heard s) ∙ sym (ap (λ (l : List Message). l ++ given_by s n s) was.none ∙ given_here s n))
       (λ i apart. sym (ap (λ (l : List Message). kept_of i C.kept ++ l) (given_away s n i apart) ∙ append_nil (kept_of i C.kept) ∙ was.others i apart ∙ awaited_same J K heard next i (sym (more_away heard s i apart)) (away i apart))))

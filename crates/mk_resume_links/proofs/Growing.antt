@@ -1,6 +1,5 @@
 -- What a resumed run's journal has of each simulator once it has got an entry more.
-use Rattle.std.proofs.Common.{◌≡◌, ◌⊎◌, inl, inr, ℕ, zero, suc, ◌+◌, ◌<◌, ◌≤◌, ◌==◌, Bool, true, false, List, [], ◌∷◌, ◌++◌, length, take, slice_get, Some, None, if◌then◌else◌, refl, sym, ap, ◌∙◌, subst, arith, length-append}
-use Rattle.std.specs.List.{cons_option}
+use Rattle.std.proofs.Common.{◌≡◌, ◌⊎◌, inl, inr, ℕ, zero, suc, ◌+◌, ◌<◌, ◌≤◌, Bool, true, List, [], ◌∷◌, ◌++◌, length, take, slice_get, Some, if◌then◌else◌, refl, sym, ap, ◌∙◌, subst, arith, length-append}
 use Rattle.std.proofs.lemmas.List.{take_all}
 use Rattle.mk_base.specs.declared.SimNo.{SimNo}
 use Rattle.mk_base.proofs.Lists.{append_nil, none_some, some_same, filter_map_append}
@@ -8,9 +7,9 @@ use Rattle.mk_plan.specs.declared.Item.{Item}
 use Rattle.mk_plan.specs.declared.Message.{Message}
 use Rattle.mk_plan.specs.declared.Entry.{Entry}
 use Rattle.mk_plan.specs.declared.Entry.TheVariants.{Sent, Got}
-use Rattle.mk_plan.specs.Journals.{sent, got, sent_to, got_from}
+use Rattle.mk_plan.specs.Journals.{sent, got, got_from}
 use Rattle.mk_run_laws.specs.Crews.{given_by}
-use Rattle.mk_run_laws.proofs.Stepping.{apart_is, same_is}
+use Rattle.mk_run_laws.proofs.Stepping.{apart_is, same_is, sent_here, sent_away, got_here, got_away, sent_got, got_given}
 use Rattle.mk_resume_walk.specs.Talks.{free_items}
 use Rattle.mk_resume_walk.proofs.UpTo.{free_all, free_front, up_to_behind, up_to_head}
 use Rattle.mk_resume_links.specs.Rests.{repeated}
@@ -41,12 +40,6 @@ repeated_sent J s item i n = ap (take n) (got_sent J s item i)
 pub count_sent : (J : List Entry) (s : SimNo) (item : Item) (i : ℕ) → length (got (J ++ Sent s item ∷ []) i) ≡ length (got J i)
 count_sent J s item i = ap length (got_sent J s item i)
 
-sent_here : (J : List Entry) (s : SimNo) (item : Item) → sent (J ++ Sent s item ∷ []) s.0 ≡ sent J s.0 ++ item ∷ []
-sent_here J s item = filter_map_append (sent_to s.0) J (Sent s item ∷ []) ∙ ap (λ (b : Bool). sent J s.0 ++ cons_option (if b then Some item else None) []) (same_is s.0)
-
-sent_away : (J : List Entry) (s : SimNo) (item : Item) (i : ℕ) → (i ≡ s.0 → ⊥) → sent (J ++ Sent s item ∷ []) i ≡ sent J i
-sent_away J s item i n = filter_map_append (sent_to i) J (Sent s item ∷ []) ∙ ap (λ (b : Bool). sent J i ++ cons_option (if b then Some item else None) []) (apart_is s.0 i (λ e. n (sym e))) ∙ append_nil (sent J i)
-
 -- it is free, where its simulator has caught up; where it hasn't, nothing more is
 pub free_sent_here : (J : List Entry) (s : SimNo) (item : Item) (n : ℕ) → length (got J s.0) ≤ n → free_items (J ++ Sent s item ∷ []) s.0 n ≡ free_items J s.0 n ++ item ∷ []
 free_sent_here J s item n few =
@@ -63,23 +56,11 @@ free_sent_away J s item i n apart = elim (few_or_more n (length (got J i))) [
 
 -- ---- a message more
 
-got_given : (J : List Entry) (s : SimNo) (m : Message) (i : ℕ) → got (J ++ Got s m ∷ []) i ≡ got J i ++ given_by s.0 m i
-got_given J s m i = filter_map_append (got_from i) J (Got s m ∷ []) ∙ elim (s.0 == i) as (λ b. got J i ++ cons_option (if b then Some m else None) [] ≡ got J i ++ (if b then m ∷ [] else [])) [ true ↦ refl | false ↦ refl ]
-
 pub given_here : (s : ℕ) (m : Message) → given_by s m s ≡ m ∷ []
 given_here s m = ap (λ (b : Bool). if b then m ∷ [] else []) (same_is s)
 
 pub given_away : (s : ℕ) (m : Message) (i : ℕ) → (i ≡ s → ⊥) → given_by s m i ≡ []
 given_away s m i n = ap (λ (b : Bool). if b then m ∷ [] else []) (apart_is s i (λ e. n (sym e)))
-
-pub got_here : (J : List Entry) (s : SimNo) (m : Message) → got (J ++ Got s m ∷ []) s.0 ≡ got J s.0 ++ m ∷ []
-got_here J s m = got_given J s m s.0 ∙ ap (λ (l : List Message). got J s.0 ++ l) (given_here s.0 m)
-
-pub got_away : (J : List Entry) (s : SimNo) (m : Message) (i : ℕ) → (i ≡ s.0 → ⊥) → got (J ++ Got s m ∷ []) i ≡ got J i
-got_away J s m i n = got_given J s m i ∙ ap (λ (l : List Message). got J i ++ l) (given_away s.0 m i n) ∙ append_nil (got J i)
-
-sent_got : (J : List Entry) (s : SimNo) (m : Message) (i : ℕ) → sent (J ++ Got s m ∷ []) i ≡ sent J i
-sent_got J s m i = filter_map_append (sent_to i) J (Got s m ∷ []) ∙ append_nil (sent J i)
 
 -- nothing more is free to the others, nor to its simulator, which had caught up
 pub free_got_away : (J : List Entry) (s : SimNo) (m : Message) (i n : ℕ) → (i ≡ s.0 → ⊥) → free_items (J ++ Got s m ∷ []) i n ≡ free_items J i n

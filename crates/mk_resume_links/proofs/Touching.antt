@@ -1,64 +1,29 @@
 -- Channels and kept replies as a resumed run goes on: an item is queued, a reply is kept, a message
 -- is taken.
-use Rattle.std.proofs.Common.{◌≡◌, ℕ, ◌+◌, ◌==◌, Bool, true, false, not, List, [], ◌∷◌, ◌++◌, length, take, filter, Option, Some, None, option_map, option_and_then, unwrap_or, slice_get, refl, sym, ap, ◌∙◌, subst, inl, inr, arith, append_assoc, length-append, true≢false, if◌then◌else◌, cond}
+use Rattle.std.proofs.Common.{◌≡◌, ℕ, ◌+◌, ◌==◌, true, false, List, [], ◌∷◌, ◌++◌, Option, Some, None, option_and_then, slice_get, refl, sym, ap, ◌∙◌, subst, inl, inr, arith, append_assoc, true≢false, if◌then◌else◌}
 use Rattle.std.specs.List.{cons_option}
 use Rattle.mk_base.specs.declared.LinkNo.{LinkNo}
-use Rattle.mk_base.proofs.Lists.{append_nil, none_some, some_same, filter_append, filter_map_append}
+use Rattle.mk_base.proofs.Lists.{append_nil, some_same, filter_map_append}
 use Rattle.mk_plan.specs.declared.Item.{Item}
-use Rattle.mk_plan.specs.declared.Item.TheVariants.{Step, GetData, Answer, Refuse}
 use Rattle.mk_plan.specs.declared.Message.{Message}
 use Rattle.mk_plan.specs.Journals.{Arrival}
 use Rattle.mk_plan.specs.Sequential.{takes_id, id_after}
 use Rattle.mk_message.specs.Written.{item_text}
-use Rattle.mk_scenario.specs.declared.parts.SimPart.{SimPart}
 use Rattle.mk_scenario.specs.declared.parts.Scenario.{Scenario}
 use Rattle.mk_outside.specs.declared.fleet.LogEntry.{LogEntry}
-use Rattle.mk_run_laws.specs.Handshake.{is_local, has_link, is_within, sim_link, setup_count, setup_payloads}
+use Rattle.mk_run_laws.specs.Handshake.{is_within, sim_link, setup_count, setup_payloads}
 use Rattle.mk_run_laws.specs.Payloads.{item_payloads}
-use Rattle.mk_run_laws.specs.Channels.{Channel, IsChannelAt, IsMoved, queued}
-use Rattle.mk_run_laws.specs.Crews.{CrewState, channel_at, kept_from, kept_of, IsMovedAt, given_by, AreMoved, IsSentOnLink, IsSentWithin}
+use Rattle.mk_run_laws.specs.Channels.{Channel, IsChannelAt, queued}
+use Rattle.mk_run_laws.specs.Crews.{CrewState, channel_at, kept_from, kept_of, given_by, AreMoved, IsSentOnLink, IsSentWithin}
 use Rattle.mk_run_laws.specs.Running.{SetupReplies, IsInStep, IsBegun}
 use Rattle.mk_run_laws.specs.inner.Running.{HasChannel}
-use Rattle.mk_run_laws.proofs.Moving.{channel_moved, channel_queued}
-use Rattle.mk_run_laws.proofs.Stepping.{same_or_not}
+use Rattle.mk_run_laws.proofs.Moving.{channel_moved, channel_queued, moved_there, moved_none}
+use Rattle.mk_run_laws.proofs.Stepping.{same_or_not, items_push, ids_push, text_same, linked_out}
 use Rattle.mk_resume_links.specs.inner.Touching.{IsInTouch}
 
 -- ---- ids
 
--- items one after another
-items_push : (id : ℕ) (items : List Item) (item : Item) → item_payloads id (items ++ item ∷ []) ≡ item_payloads id items ++ item_text (id_after id items) item ∷ []
-items_push id [] item = ap (λ (n : ℕ). item_text n item ∷ []) (let e : id ≡ id + 0 = omega arith in e)
-items_push id (i ∷ items) item = ap (λ (l : List (List ℕ)). item_text id i ∷ l) (items_push (id_after id (i ∷ [])) items item
-    ∙ ap (λ (n : ℕ). item_payloads (id_after id (i ∷ [])) items ++ item_text n item ∷ []) (ids_join id i items))
-  where
-    ids_join : (id : ℕ) (i : Item) (items : List Item) → id_after (id_after id (i ∷ [])) items ≡ id_after id (i ∷ items)
-    ids_join id i items = elim (takes_id i) as (λ b. (id + length (cond b (i ∷ []) [])) + length (filter takes_id items) ≡ id + length (cond b (i ∷ filter takes_id items) (filter takes_id items))) [
-      | true ↦ omega arith
-      | false ↦ omega arith
-    ]
-
-ids_push : (id : ℕ) (items : List Item) (item : Item) → id_after (id_after id items) (item ∷ []) ≡ id_after id (items ++ item ∷ [])
-ids_push id items item = let e : length (filter takes_id (items ++ item ∷ [])) ≡ length (filter takes_id items) + length (filter takes_id (item ∷ [])) =
-    ap length (filter_append takes_id items (item ∷ [])) ∙ length-append (filter takes_id items) (filter takes_id (item ∷ [])) in omega (arith, e)
-
--- an item that takes no id has one text
-text_same : (item : Item) (id other : ℕ) → (takes_id item ≡ true → id ≡ other) → item_text id item ≡ item_text other item
-text_same (Step x ins advance) id other h = ap (λ (n : ℕ). item_text n (Step x ins advance)) (h refl)
-text_same (GetData wants) id other h = ap (λ (n : ℕ). item_text n (GetData wants)) (h refl)
-text_same (Answer asked content) id other h = refl
-text_same (Refuse asked reason) id other h = refl
-
 -- ---- channels that a call moved
-
-moved_there : (entries : List LogEntry) (given : List Message) (o p : Option Channel) (w : Channel) → o ≡ Some w → IsMovedAt entries given o p → (v : Channel) × (p ≡ Some v) × IsMoved entries given w v
-moved_there entries given None p w e moved = absurd (none_some e)
-moved_there entries given (Some u) None w e moved = absurd moved
-moved_there entries given (Some u) (Some v) w e moved = (v, refl, subst (λ (x : Channel). IsMoved entries given x v) (some_same e) moved)
-
-moved_none : (entries : List LogEntry) (given : List Message) (o p : Option Channel) → o ≡ None → IsMovedAt entries given o p → p ≡ None
-moved_none entries given None None e moved = refl
-moved_none entries given None (Some v) e moved = absurd moved
-moved_none entries given (Some u) p e moved = absurd (none_some (sym e))
 
 -- the first reply that is kept, and those behind it
 kept_head : (i s : ℕ) (m : Message) (kept : List Arrival) → kept_of i (record { sim = s; message = m } ∷ kept) ≡ given_by s m i ++ kept_of i kept
@@ -74,19 +39,6 @@ same_channel : (C D : CrewState) (i : ℕ) → D.channels ≡ C.channels → cha
 same_channel C D i e = ap (λ (l : List (Option Channel)). option_and_then (λ (o : Option Channel). o) (slice_get l i)) e
 
 module _ (started : ℕ) (S : Scenario) (replies : SetupReplies) where
-  -- a simulator with a link isn't within the program
-  pub linked_out : (i : ℕ) (l : LinkNo) → sim_link started S i ≡ Some l → is_within S i ≡ false
-  linked_out i l e = go (slice_get S.sims i) e
-    where
-      by_kind : (s : SimPart) (k : LinkNo) (b : Bool) → (if not b then Some k else None) ≡ Some l → b ≡ false
-      by_kind s k true e = absurd (none_some e)
-      by_kind s k false e = refl
-
-      go : (o : Option SimPart) → option_and_then (λ (s : SimPart). if has_link s then Some (record { 0 = started + length (filter has_link (take i S.sims)) }) else None) o ≡ Some l
-          → unwrap_or (option_map (λ (s : SimPart). is_local s.begin) o) false ≡ false
-      go None e = refl
-      go (Some s) e = by_kind s (record { 0 = started + length (filter has_link (take i S.sims)) }) (is_local s.begin) e
-
   -- one channel, by other names of its messages and items
   channel_as : (log : List LogEntry) (i : ℕ) (l : LinkNo) (ms ns : List Message) (xs ys : List Item) (C D : CrewState) → ms ≡ ns → xs ≡ ys → channel_at D i ≡ channel_at C i → HasChannel S replies log i l ms xs C → HasChannel S replies log i l ns ys D
   channel_as log i l ms ns xs ys C D m x same h = record {
@@ -114,7 +66,7 @@ module _ (started : ℕ) (S : Scenario) (replies : SetupReplies) where
       | inl q ↦ subst (λ (j : ℕ). (k : LinkNo) → sim_link started S j ≡ Some k → HasChannel S replies log j k (M j) (Y j) D) (sym q) here k e
       | inr apart ↦ channel_as log i k (M i) (M i) (X i) (Y i) C D refl (sym (others i apart)) (sent_so.others i apart) (touch.channels i k e)
     ];
-    no_channel = λ i h. sent_so.others i (λ q. true≢false (sym h ∙ ap (is_within S) q ∙ linked_out s l linked)) ∙ touch.no_channel i h;
+    no_channel = λ i h. sent_so.others i (λ q. true≢false (sym h ∙ ap (is_within S) q ∙ linked_out started S s l linked)) ∙ touch.no_channel i h;
     kept = λ i. ap (kept_of i) sent_so.kept ∙ touch.kept i;
   }
     where

@@ -20,7 +20,7 @@ use Rattle.mk_run_laws.specs.Channels.{IsChannelAt}
 use Rattle.mk_run_laws.specs.Crews.{CrewState, AreParkedAtRests, IsRestless}
 use Rattle.mk_run_laws.specs.Running.{SetupReplies, BeginsOnLink, IsBegun}
 use Rattle.mk_run_laws.proofs.Moving.{channel_moved}
-use Rattle.mk_run_laws.proofs.Stepping.{first_or_second}
+use Rattle.mk_run_laws.proofs.Stepping.{first_or_second, begins_longer}
 use Rattle.mk_resume_walk.specs.Talks.{free_items}
 use Rattle.mk_resume_links.specs.Rests.{Counts, repeated}
 use Rattle.mk_resume_links.specs.Running.{IsRestOf, RestsEnd}
@@ -41,11 +41,8 @@ module _ (saved : Counts) (started : ℕ) (S : Scenario) (replies : SetupReplies
     channel = r.channel;
   }
 
-  begins_longer : (more : List Entry) (e : Entry) → BeginsOnLink started S more → BeginsOnLink started S (more ++ e ∷ [])
-  begins_longer more e (s, m, later, l, is, linked) = (s, m, later ++ e ∷ [], l, ap (λ (k : List Entry). k ++ e ∷ []) is, linked)
-
   pub over_longer : (J : List Entry) (e : Entry) (log : List LogEntry) → RestsOver saved started S replies P J log → RestsOver saved started S replies P (J ++ e ∷ []) log
-  over_longer J e log rests before after is up = let t = rests before after is up in (rest_longer J e before t.0, begins_longer t.0.more e t.1)
+  over_longer J e log rests before after is up = let t = rests before after is up in (rest_longer J e before t.0, begins_longer started S t.0.more e t.1)
 
   pub over_so_far : (J : List Entry) (log : List LogEntry) (kept : List Arrival) → RestsOver saved started S replies P J log → RestsSoFar saved started S replies P J log kept
   over_so_far J log kept rests before after is up = let t = rests before after is up in (t.0, inr t.1)
@@ -70,7 +67,7 @@ module _ (saved : Counts) (started : ℕ) (S : Scenario) (replies : SetupReplies
     rest_longer J (Got s m) before t.0,
     elim t.1 [
       | inl none ↦ (s, m, [], l, ap (λ (k : List Entry). k ++ Got s m ∷ []) none.0, linked)
-      | inr on_link ↦ begins_longer t.0.more (Got s m) on_link
+      | inr on_link ↦ begins_longer started S t.0.more (Got s m) on_link
     ],
   )
 

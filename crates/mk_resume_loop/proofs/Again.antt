@@ -10,6 +10,7 @@ use Rattle.mk_outside.specs.declared.fleet.LogEntry.{LogEntry}
 use Rattle.mk_local.specs.Simulators.{Simulator}
 use Rattle.mk_run_laws.specs.Handshake.{is_within}
 use Rattle.mk_run_laws.specs.Crews.{CrewState, kept_of, IsHeard}
+use Rattle.mk_run_laws.proofs.Stepping.{linked_out}
 use Rattle.mk_run.specs.inner.Underway.{Setting, reply_in, exchange_at}
 use Rattle.mk_resume_walk.specs.Talks.{free_items}
 use Rattle.mk_resume_links.specs.Rests.{Counts}
@@ -17,7 +18,6 @@ use Rattle.mk_resume_links.specs.inner.Catching.{IsCatchingWith, awaited}
 use Rattle.mk_resume_links.specs.inner.Touching.{RestsOver}
 use Rattle.mk_resume_links.proofs.Catching.{again_on_link, again_within, one_more}
 use Rattle.mk_resume_links.proofs.Closing.{seen}
-use Rattle.mk_resume_links.proofs.Touching.{linked_out}
 use Rattle.mk_resume_loop.specs.inner.Underway.{IsMet, IsResuming, IsResumingWith, course_of, saved_of}
 use Rattle.mk_resume_loop.proofs.Resting.{resting}
 use Rattle.mk_resume_loop.proofs.Hearing.{met_back, met_no_other, met_log_right}
@@ -72,5 +72,5 @@ module _ (T : Setting) (P : Plan) (first J : List Entry) (heard : Counts) (log :
                 (λ i l linked. refl) (λ i. sym (c.touch.kept i))));
             none = ap (kept_of s.0) after;
             others = λ i apart. c.touch.kept i;
-            over = λ inside. absurd (true≢false (sym inside ∙ linked_out T.started T.scenario T.replies s.0 k.0 k.1));
+            over = λ inside. absurd (true≢false (sym inside ∙ linked_out T.started T.scenario s.0 k.0 k.1));
           }

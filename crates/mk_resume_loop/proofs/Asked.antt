@@ -22,13 +22,12 @@ use Rattle.mk_run_laws.specs.Handshake.{setup_count, sim_link}
 use Rattle.mk_run_laws.specs.Channels.{Channel}
 use Rattle.mk_run_laws.specs.Crews.{channel_at}
 use Rattle.mk_run_laws.proofs.Saying.{link_there}
-use Rattle.mk_run_laws.proofs.Stepping.{same_or_not}
+use Rattle.mk_run_laws.proofs.Stepping.{same_or_not, sent_here}
 use Rattle.mk_run_local.specs.Laws.{RepliesAreKinds}
 use Rattle.mk_run_crew.specs.Seen.{CrewSeen, crew_of, is_here}
 use Rattle.mk_run_crew.specs.Calls.{HasNext, SendsAs}
 use Rattle.mk_run.specs.inner.Underway.{Setting, reply_in, exchange_at}
 use Rattle.mk_run.proofs.Going.{bool_or_not}
-use Rattle.mk_run.proofs.Linked.{sent_here}
 use Rattle.mk_run.proofs.LoopSteps.{asked_opens, asked_id, asked_ready}
 use Rattle.mk_sched.proofs.Pushed.{fault_after_sent, patient_sent}
 use Rattle.mk_run.proofs.Pushed.{range_sent}

@@ -26,6 +26,7 @@ use Rattle.mk_run_laws.specs.Channels.{Channel}
 use Rattle.mk_run_laws.specs.Crews.{CrewState, channel_at, kept_of, given_by, IsHeard, IsUnheard}
 use Rattle.mk_run_laws.specs.inner.Running.{HasChannel}
 use Rattle.mk_run_laws.proofs.Taking.{unfinished_none, long_none, none_first, garbled_none}
+use Rattle.mk_run_laws.proofs.Stepping.{linked_out}
 use Rattle.mk_run_links.specs.declared.answers.LinkHalt.{LinkHalt}
 use Rattle.mk_run_links.specs.declared.answers.LinkHalt.TheVariants as link_halt
 use Rattle.mk_run_links.specs.Entries.{AreOn}
@@ -49,7 +50,7 @@ use Rattle.mk_resume_links.specs.inner.Catching.{IsCatching, IsCatchingWith, awa
 use Rattle.mk_resume_links.specs.inner.Touching.{IsInTouch}
 use Rattle.mk_resume_links.proofs.Catching.{apart_on_link, apart_within, catching_unheard, one_more}
 use Rattle.mk_resume_links.proofs.Growing.{given_here, repeated_away}
-use Rattle.mk_resume_links.proofs.Touching.{linked_out, seen_as}
+use Rattle.mk_resume_links.proofs.Touching.{seen_as}
 use Rattle.mk_resume_links.proofs.Waiting.{over_so_far, so_far_end}
 use Rattle.mk_resume_loop.specs.declared.ending.ResumeEnd.{ResumeEnd}
 use Rattle.mk_resume_loop.specs.declared.ending.ResumeEnd.TheVariants as ends
@@ -139,7 +140,7 @@ module _ (T : Setting) (first : List Entry) where
             let t = apart_within (saved_of first) T.started T.scenario T.replies (reply_in T) P J heard h.before h.entries h.crew D s.0 m u.catching is channels none in record {
               touch = subst (λ (k : List LogEntry). IsInTouch (λ i. repeated J i (heard i) ++ given_by s.0 m i) (λ i. free_items J i (heard i)) (λ i. kept_of i D.kept) T.started T.scenario T.replies k D) (sym h.parts)
                   (seen_as T.started T.scenario T.replies (λ i. repeated J i (heard i)) (λ i. repeated J i (heard i) ++ given_by s.0 m i) (λ i. free_items J i (heard i)) (λ i. free_items J i (heard i)) (λ i. kept_of i D.kept) (λ i. kept_of i D.kept) (h.before ++ h.entries) D t.0
-                  (λ i l linked. repeated_away J s.0 m i (heard i) (λ q. true≢false (sym t.2.inside ∙ ap (is_within T.scenario) (sym q) ∙ linked_out T.started T.scenario T.replies i l linked))) (λ i l linked. refl) (λ i. refl));
+                  (λ i l linked. repeated_away J s.0 m i (heard i) (λ q. true≢false (sym t.2.inside ∙ ap (is_within T.scenario) (sym q) ∙ linked_out T.started T.scenario i l linked))) (λ i l linked. refl) (λ i. refl));
               rests = subst (RestsEnd (saved_of first) T.started T.scenario T.replies P J) (sym h.parts)
                   (so_far_end (saved_of first) T.started T.scenario T.replies P J (h.before ++ h.entries) D.kept (over_so_far (saved_of first) T.started T.scenario T.replies P J (h.before ++ h.entries) D.kept t.1));
               came = inr (t.2.inside, t.2.is, t.2.more);

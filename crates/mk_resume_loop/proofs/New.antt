@@ -26,7 +26,7 @@ use Rattle.mk_run_laws.specs.Handshake.{is_within, setup_count, sim_link}
 use Rattle.mk_run_laws.specs.Channels.{Channel}
 use Rattle.mk_run_laws.specs.Crews.{CrewState, IsHeard, IsSentWithin, kept_of, channel_at}
 use Rattle.mk_run_laws.proofs.Saying.{link_there}
-use Rattle.mk_run_laws.proofs.Stepping.{same_or_not}
+use Rattle.mk_run_laws.proofs.Stepping.{same_or_not, sent_got, got_here, linked_out}
 use Rattle.mk_run_local.specs.Laws.{RepliesAreKinds}
 use Rattle.mk_run_crew.specs.Seen.{CrewSeen, crew_of, is_here}
 use Rattle.mk_run_crew.specs.Calls.{HasNext, SendsAs}
@@ -34,7 +34,7 @@ use Rattle.mk_run.specs.inner.Underway.{HaveComeBy, Setting, reply_in, exchange_
 use Rattle.mk_run.proofs.Going.{bool_or_not, here_is_within}
 use Rattle.mk_run.proofs.LoopSteps.{answered_id, answered_opens, none_owed, owed_after}
 use Rattle.mk_sched.proofs.Pushed.{fault_after_sent, patient_got, patient_sent}
-use Rattle.mk_run.proofs.Pushed.{range_got, range_sent, sent_got}
+use Rattle.mk_run.proofs.Pushed.{range_got, range_sent}
 use Rattle.mk_resume_walk.specs.Talks.{free_items}
 use Rattle.mk_resume_walk.proofs.Fronts.{free_alternate}
 use Rattle.mk_resume_walk.proofs.UpTo.{free_all}
@@ -42,8 +42,7 @@ use Rattle.mk_resume_links.specs.Rests.{Counts}
 use Rattle.mk_resume_links.specs.inner.Catching.{IsCatching, WasAwaited, awaited}
 use Rattle.mk_resume_links.proofs.Catching.{catching_sent, more_away, more_here, new_on_link, new_within, one_more}
 use Rattle.mk_resume_links.proofs.Closing.{kept_answered, kept_quiet, new_answered, new_quiet}
-use Rattle.mk_resume_links.proofs.Growing.{free_got_away, free_got_here, free_sent_away, free_sent_here, got_here}
-use Rattle.mk_resume_links.proofs.Touching.{linked_out}
+use Rattle.mk_resume_links.proofs.Growing.{free_got_away, free_got_here, free_sent_away, free_sent_here}
 use Rattle.mk_resume_loop.specs.inner.Underway.{IsMet, IsResuming, saved_of}
 use Rattle.mk_resume_loop.proofs.Asked.{longer_begins, paid_by_sent}
 use Rattle.mk_resume_loop.proofs.Resting.{resting}
@@ -184,7 +183,7 @@ module _ (T : Setting) (core new : CoreState) (first : List Entry) (heard : Coun
       go : IsHeard h.entries s.0 m h.crew (crew_of C) → (w : Channel) × (channel_at (crew_of C) s.0 ≡ Some w) × (w.next ≡ id_after (setup_count T.scenario s.0) (free s.0))
       go (IsHeard.kept at channels none) =
           let t = new_within (saved_of first) T.started T.scenario T.replies (reply_in T) core.plan core.entries heard h.before h.entries h.crew (crew_of C) s m v.catching at channels none caught in
-          absurd (true≢false (sym t.2.inside ∙ linked_out T.started T.scenario T.replies s.0 l linked))
+          absurd (true≢false (sym t.2.inside ∙ linked_out T.started T.scenario s.0 l linked))
       go (IsHeard.on_link none late w there moved parked) =
           let t = new_on_link (saved_of first) T.started T.scenario T.replies (reply_in T) core.plan (awaited T.scenario (reply_in T) core.entries heard) core.entries heard h.before h.entries h.crew (crew_of C) s m l v.catching (resting T core.plan first core.entries heard h.before h.crew C.sims v h.nobody none) linked none late moved parked caught in
           let g = t.0.touch.channels s.0 l linked in
@@ -240,7 +239,7 @@ module _ (T : Setting) (core new : CoreState) (first : List Entry) (heard : Coun
           where
             outside : (l : LinkNo) → sim_link T.started T.scenario s.0 ≡ Some l → is_here C s.0 ≡ false
             outside l linked = elim (bool_or_not (is_here C s.0)) [
-              | inl here ↦ absurd (true≢false (sym (here_is_within T C.sims s.0 v.only_within here) ∙ linked_out T.started T.scenario T.replies s.0 l linked))
+              | inl here ↦ absurd (true≢false (sym (here_is_within T C.sims s.0 v.only_within here) ∙ linked_out T.started T.scenario s.0 l linked))
               | inr away ↦ away
             ]
 

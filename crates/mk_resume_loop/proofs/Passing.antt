@@ -18,7 +18,7 @@ use Rattle.mk_run_laws.specs.Channels.{Channel}
 use Rattle.mk_run_laws.specs.Kinds.{Replies}
 use Rattle.mk_run_laws.specs.Crews.{CrewState, channel_at, given_by}
 use Rattle.mk_run_laws.proofs.Saying.{link_there}
-use Rattle.mk_run_laws.proofs.Stepping.{same_or_not}
+use Rattle.mk_run_laws.proofs.Stepping.{same_or_not, linked_out}
 use Rattle.mk_run_local.specs.Laws.{HasCome, RepliesAreKinds}
 use Rattle.mk_run_crew.specs.Seen.{CrewSeen, crew_of, is_here}
 use Rattle.mk_run_crew.specs.Calls.{HasNext, SendsAs}
@@ -31,7 +31,6 @@ use Rattle.mk_resume_links.specs.inner.Catching.{IsCatchingWith, awaited}
 use Rattle.mk_resume_links.proofs.Catching.{catching_kept, catching_queued}
 use Rattle.mk_resume_links.proofs.Closing.{seen}
 use Rattle.mk_resume_links.proofs.Growing.{given_away, given_here}
-use Rattle.mk_resume_links.proofs.Touching.{linked_out}
 use Rattle.mk_run.proofs.ItemSent.{come_sent, kept_so, no_other_after, not_here_is_outside, only_sent}
 use Rattle.mk_run.proofs.Putting.{put_away, put_here, put_same}
 use Rattle.mk_run.proofs.SmallIds.{few_sent, small_next}
@@ -142,7 +141,7 @@ module _ (T : Setting) (P : Plan) (first J : List Entry) (heard : Counts) (X : �
             let t = kept_so T law X Y s item id C D more stay u.come u.only_within numbered so here in
             let m : Message = reply_in T s (map bare (Y s)) in
             catching_kept (saved_of first) T.started T.scenario T.replies (reply_in T) P X Y A B J heard log (crew_of C) (crew_of D) s m u.catching (p.over t.0) t.1
-            (λ i l linked. sym (stay i (λ q. true≢false (sym t.0 ∙ ap (is_within T.scenario) (sym q) ∙ linked_out T.started T.scenario T.replies i l linked))))
+            (λ i l linked. sym (stay i (λ q. true≢false (sym t.0 ∙ ap (is_within T.scenario) (sym q) ∙ linked_out T.started T.scenario i l linked))))
             (λ i. elim (same_or_not i s) [
               | inl q ↦ subst (λ (j : ℕ). B j ≡ A j ++ given_by s m j) (sym q)
                   (put_here A s awaits ∙ awaited_one T.scenario (reply_in T) J heard s t.0 long ∙ ap (λ (items : List Item). reply_in T s (map bare items) ∷ []) (sym (put_here X s free))
@@ -157,7 +156,7 @@ module _ (T : Setting) (P : Plan) (first J : List Entry) (heard : Counts) (X : �
             seen (saved_of first) T.started T.scenario T.replies (reply_in T) P Y Y A B J heard log (crew_of D)
             (catching_queued (saved_of first) T.started T.scenario T.replies (reply_in T) P X Y A J heard log (crew_of C) (crew_of D) s item id t.0 u.catching t.1 q.0 (λ w there takes_one. next w there takes_one t.0 t.1) more stay)
             (λ i l linked. refl)
-            (put_same A s awaits (p.none ∙ sym (awaited_outside T.scenario (reply_in T) J heard s (linked_out T.started T.scenario T.replies s t.0 t.1))))
+            (put_same A s awaits (p.none ∙ sym (awaited_outside T.scenario (reply_in T) J heard s (linked_out T.started T.scenario s t.0 t.1))))
           where
             next : (w : Channel) → channel_at (crew_of C) s ≡ Some w → takes_id item ≡ true → (l : LinkNo) → sim_link T.started T.scenario s ≡ Some l → id ≡ w.next
             next w there takes_one l linked =

@@ -19,13 +19,13 @@ use Rattle.mk_plan.specs.Orderly.{IsAllowed, IsNext, IsOrderlyFrom, IsOrderlySoF
 use Rattle.mk_plan.specs.Journals.{OpenTurn, Owed, View, got, note_got, note_right, place_at, view}
 use Rattle.mk_order.proofs.Pushing.{orderly_front, view_push}
 use Rattle.mk_local.specs.Replies.{IsItemReplied}
+use Rattle.mk_run_laws.proofs.Stepping.{got_here}
 use Rattle.mk_run_local.specs.Calls.{IsFitSuccess}
 use Rattle.mk_run.proofs.LoopSteps.{owed_after}
 use Rattle.mk_run.proofs.Pushed.{same_last}
 use Rattle.mk_run.proofs.Times.{ready_time}
 use Rattle.mk_resume_walk.specs.Walks.{has_none}
 use Rattle.mk_resume_walk.proofs.Passing.{none_got}
-use Rattle.mk_resume_links.proofs.Growing.{got_here}
 
 -- a list's last entry
 last_of : (H : List Entry) → (H ≡ []) ⊎ ((K : List Entry) × (e : Entry) × (H ≡ K ++ e ∷ []))

@@ -15,7 +15,7 @@ use Rattle.mk_plan.specs.Orderly.{IsOrderlyFrom, IsOrderlySoFar}
 use Rattle.mk_plan.specs.Journals.{View, empty_view, got, note, sent, view}
 use Rattle.mk_plan.specs.Sequential.{id_after}
 use Rattle.mk_order.proofs.Pushing.{orderly_front}
-use Rattle.mk_run_laws.proofs.Stepping.{same_or_not}
+use Rattle.mk_run_laws.proofs.Stepping.{same_or_not, got_here, got_away}
 use Rattle.mk_resume_walk.specs.Talks.{free_items, up_to}
 use Rattle.mk_resume_walk.specs.Walks.{IsFirstOwn, IsGoneTo, IsNextAt, is_of}
 use Rattle.mk_resume_walk.specs.Index.{own_count}
@@ -24,7 +24,7 @@ use Rattle.mk_resume_walk.proofs.Passing.{walk_ends, walk_sends, walk_waits}
 use Rattle.mk_resume_walk.proofs.UpTo.{free_front, up_to_all, up_to_front}
 use Rattle.mk_resume_links.specs.Rests.{Counts}
 use Rattle.mk_resume_links.proofs.Catching.{more_away, more_here, one_more}
-use Rattle.mk_resume_links.proofs.Growing.{count_sent, got_away, got_here}
+use Rattle.mk_resume_links.proofs.Growing.{count_sent}
 use Rattle.mk_resume_loop.specs.declared.behind.Standing.{Standing}
 use Rattle.mk_resume_loop.specs.inner.Underway.{StandsAt}
 

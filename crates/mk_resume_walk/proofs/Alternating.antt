@@ -1,6 +1,6 @@
 -- In an orderly journal without a fault the items and the messages of a simulator alternate, and
 -- the first is an item.
-use Rattle.std.proofs.Common.{◌≡◌, ◌⊎◌, inl, inr, ℕ, ◌+◌, ◌==◌, Bool, true, false, not, ◌&&◌, List, [], ◌∷◌, ◌++◌, length, fold, Option, Some, None, is_some, option_map, if◌then◌else◌, refl, sym, ap, ◌∙◌, subst, arith, true≢false, length-append}
+use Rattle.std.proofs.Common.{◌≡◌, ◌⊎◌, inl, inr, ℕ, ◌+◌, ◌==◌, Bool, true, false, not, ◌&&◌, List, [], ◌∷◌, ◌++◌, length, fold, Option, Some, None, is_some, if◌then◌else◌, refl, sym, ap, ◌∙◌, subst, arith, true≢false, length-append}
 use Rattle.std.specs.List.{cons_option}
 use Rattle.std.proofs.lemmas.Bool.{eqb-true, eq-eqb}
 use Rattle.mk_base.specs.declared.SimNo.{SimNo}
@@ -15,10 +15,11 @@ use Rattle.mk_plan.specs.declared.Place.{Place}
 use Rattle.mk_plan.specs.declared.Cause.{Cause}
 use Rattle.mk_plan.specs.Acts.{Heard}
 use Rattle.mk_plan.specs.Turns.{wrong, next_place}
-use Rattle.mk_plan.specs.Journals.{View, OpenTurn, Owed, view, empty_view, sent, got, sent_to, got_from, open_after, told_more, place_at, note, note_sent, note_got, note_right}
+use Rattle.mk_plan.specs.Journals.{View, OpenTurn, Owed, view, empty_view, sent, got, sent_to, got_from, open_after, place_at, note, note_sent, note_got, note_right}
 use Rattle.mk_plan.specs.Ready.{IsReady}
 use Rattle.mk_plan.specs.Advance.{IsAdvance}
 use Rattle.mk_plan.specs.Orderly.{IsNext, IsAllowed, IsOrderlyFrom, IsOrderlySoFar}
+use Rattle.mk_plan.proofs.OpenTurns.{stays_open}
 use Rattle.mk_resume_walk.specs.Laws.{TurnsAlternate}
 
 -- an item is owed to simulator i
@@ -51,16 +52,6 @@ apart_is a b n = elim (a == b) as (λ c. (a == b) ≡ c → c ≡ false) [ true 
 pub record KeepsBalance (V W : View) (e : Entry) : Type 0 where
   pub owes : OwesOpen W
   pub balance : (i : ℕ) → length (sent (e ∷ []) i) + unanswered V i ≡ length (got (e ∷ []) i) + unanswered W i
-
-mapped_some : (f : OpenTurn → OpenTurn) (o : Option OpenTurn) → is_some o ≡ true → is_some (option_map f o) ≡ true
-mapped_some f None h = h
-mapped_some f (Some T) h = refl
-
-stays_open : (P : Plan) (V : View) (s : ℕ) (item : Item) → is_some (V.open_at s) ≡ true → is_some (open_after P V s item) ≡ true
-stays_open P V s (Step x ins advance) h = refl
-stays_open P V s (GetData wants) h = mapped_some (told_more (GetData wants)) (V.open_at s) h
-stays_open P V s (Answer id content) h = mapped_some (told_more (Answer id content)) (V.open_at s) h
-stays_open P V s (Refuse id reason) h = mapped_some (told_more (Refuse id reason)) (V.open_at s) h
 
 sent_sim : (s t : SimNo) (item other : Item) → Sent s item ≡ Sent t other → s ≡ t
 sent_sim s t item other e = cc

@@ -22,8 +22,8 @@ use Rattle.mk_run_laws.specs.Rests.{run_messages}
 use Rattle.mk_run_laws.specs.Running.{SetupReplies}
 use Rattle.mk_run_laws.specs.inner.Running.{HasChannel}
 use Rattle.mk_run_laws.proofs.Ending.{link_ended, all_given, rest_held}
+use Rattle.mk_run_laws.proofs.Stepping.{got_here, sent_got}
 use Rattle.mk_run.specs.Ends.{IsFull, IsMessageLeft, IsOpenWithin, IsUngot, NeedsMore}
-use Rattle.mk_run.proofs.Pushed.{got_last, sent_got}
 
 pub begins_itself : {X : Type 0} (xs : List X) → BeginsWith xs xs
 begins_itself xs = ([], sym (append_nil xs))
@@ -71,7 +71,7 @@ module _ (started : ℕ) (S : Scenario) (replies : SetupReplies) (counts : (i : 
   -- a message that a channel gave behind those of a journal was heard behind them, where the items
   -- queued are the first of the journal's
   pub heard_behind : (J : List Entry) (s : SimNo) (m : Message) (l : LinkNo) → sim_link started S s.0 ≡ Some l → (items : List Item) → HasChannel S replies log s.0 l (got J s.0 ++ m ∷ []) items C → BeginsWith (sent J s.0) items → BeginsWith (run_messages S (log ++ entries) s.0 l) (got J s.0 ++ m ∷ [])
-  heard_behind J s m l linked items channel queued = subst (BeginsWith (run_messages S (log ++ entries) s.0 l)) (got_last J s m)
+  heard_behind J s m l linked items channel queued = subst (BeginsWith (run_messages S (log ++ entries) s.0 l)) (got_here J s m)
       (link_ended started S replies counts (J ++ Got s m ∷ []) log entries risen C stopped s.0 l linked (got J s.0 ++ m ∷ []) items channel
-      (subst (BeginsWith (got J s.0 ++ m ∷ [])) (sym (got_last J s m)) (begins_itself (got J s.0 ++ m ∷ [])))
+      (subst (BeginsWith (got J s.0 ++ m ∷ [])) (sym (got_here J s m)) (begins_itself (got J s.0 ++ m ∷ [])))
       (subst (λ (all : List Item). BeginsWith all items) (sym (sent_got J s m s.0)) queued)).got

@@ -6,13 +6,12 @@ use Rattle.mk_base.specs.Lists.{IsIn}
 use Rattle.mk_base.proofs.Lists.{some_same, none_some, append_nil, in_back}
 use Rattle.mk_plan.specs.declared.Plan.{Plan}
 use Rattle.mk_plan.specs.declared.Item.{Item}
-use Rattle.mk_plan.specs.declared.Item.TheVariants.{Step, GetData, Answer, Refuse}
 use Rattle.mk_plan.specs.declared.Message.{Message}
 use Rattle.mk_plan.specs.declared.Entry.{Entry}
 use Rattle.mk_plan.specs.declared.Entry.TheVariants.{Sent, Got}
 use Rattle.mk_plan.specs.Plans.{sim_count, first_id}
 use Rattle.mk_plan.specs.Journals.{sent, got, view}
-use Rattle.mk_plan.specs.Sequential.{takes_id, id_after}
+use Rattle.mk_plan.specs.Sequential.{id_after}
 use Rattle.mk_message.specs.Written.{item_text}
 use Rattle.mk_frame.specs.Frames.{IsTooLong, limit}
 use Rattle.mk_outside.specs.declared.fleet.LogEntry.{LogEntry}
@@ -32,7 +31,7 @@ use Rattle.mk_run_laws.specs.Crews.{CrewState, channel_at, IsMovedAt, IsHeard, I
 use Rattle.mk_run_laws.specs.Running.{RestsEnd}
 use Rattle.mk_run_laws.specs.inner.Running.{HasChannel, IsRunningWith}
 use Rattle.mk_run_laws.proofs.Moving.{channel_moved}
-use Rattle.mk_run_laws.proofs.Stepping.{over_ends, rests_at_end}
+use Rattle.mk_run_laws.proofs.Stepping.{over_ends, rests_at_end, got_sent, sent_got}
 use Rattle.mk_run_laws.proofs.Taking.{unfinished_none, long_none, none_first, garbled_none}
 use Rattle.mk_run_links.specs.declared.answers.LinkHalt.{LinkHalt}
 use Rattle.mk_run_links.specs.declared.answers.LinkHalt.TheVariants as link_halt
@@ -56,7 +55,7 @@ use Rattle.mk_run.proofs.Going.{log_right_on}
 use Rattle.mk_run.proofs.Hearing.{heard_fits, heard_left, heard_running, heard_no_other, heard_log_right}
 use Rattle.mk_run.proofs.Linked.{no_other_moved}
 use Rattle.mk_sched.proofs.Pushed.{fault_after_sent, patient_sent, patient_got}
-use Rattle.mk_run.proofs.Pushed.{kinds_sent, range_sent, range_got, sent_front, got_front, got_sent, sent_got, rests_longer}
+use Rattle.mk_run.proofs.Pushed.{kinds_sent, range_sent, range_got, sent_front, got_front, rests_longer}
 use Rattle.mk_run.proofs.ChannelsStopped.{begins_itself}
 
 pub queued_itself : (end : Outcome) (items : List Item) → QueuedAll end items items
@@ -140,12 +139,6 @@ module _ (T : Setting) where
   mem_ends risen old new log C sims u o = subst (λ (c : CoreState). HasEnded risen T c.plan c.entries log C outcome.Mem) (sym o.ended) (ends_here risen old.plan old.entries log C sims outcome.Mem u refl (λ broken. absurd broken) tt)
 
   -- ---- an item wasn't sent
-
-  text_same : (item : Item) (id other : ℕ) → (takes_id item ≡ true → id ≡ other) → item_text id item ≡ item_text other item
-  text_same (Step x ins advance) id other h = ap (λ (n : ℕ). item_text n (Step x ins advance)) (h refl)
-  text_same (GetData wants) id other h = ap (λ (n : ℕ). item_text n (GetData wants)) (h refl)
-  text_same (Answer asked content) id other h = refl
-  text_same (Refuse asked reason) id other h = refl
 
   module _ (risen : Type 0) (awaits : ℕ → List Message) (P : Plan) (K : List Entry) (log : List LogEntry) (C : CrewSeen) (s : SimNo) (item : Item) (suits : Suits T P) (low : s.0 < sim_count P) (stands : Stands P (K ++ Sent s item ∷ [])) (patient : IsPatient P K) (fits : AreInRange K) (fine : (view P K).fault ≡ None)
       (run : IsRunningWith awaits T.started T.scenario T.replies (reply_in T) P K log (crew_of C)) (no_other : HasNoOther T (crew_of C)) (right : IsLogRight T log) where

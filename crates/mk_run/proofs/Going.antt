@@ -25,7 +25,7 @@ use Rattle.mk_run_laws.specs.Rests.{AllSetUp}
 use Rattle.mk_run_laws.specs.inner.Running.{IsRunning}
 use Rattle.mk_run_laws.proofs.Moving.{heard_more}
 use Rattle.mk_run_laws.proofs.Saying.{link_there}
-use Rattle.mk_run_laws.proofs.Stepping.{first_or_second}
+use Rattle.mk_run_laws.proofs.Stepping.{first_or_second, sent_away, sent_here}
 use Rattle.mk_run_laws.proofs.Taking.{takes_on, taken_heard}
 use Rattle.mk_run_links.specs.Entries.{AreOn, IsRunLink}
 use Rattle.mk_run_links.proofs.OnEntries.{on_more}
@@ -36,7 +36,6 @@ use Rattle.mk_run.specs.Ends.{AreInRange, SetupRestsWell}
 use Rattle.mk_sched.specs.inner.Patient.{IsPatient}
 use Rattle.mk_run.specs.inner.Underway.{Setting, reply_in, Suits, HasNoOther, HaveCome, IsLogRight, IsUnderway, local_at}
 use Rattle.mk_run.proofs.LoopSteps.{asked_link, asked_inside, asked_opens, asked_id, asked_ready}
-use Rattle.mk_run.proofs.Linked.{sent_here, sent_away}
 use Rattle.mk_sched.proofs.Pushed.{fault_after_sent, patient_sent}
 use Rattle.mk_run.proofs.Pushed.{range_sent}
 use Rattle.mk_run.proofs.Times.{ready_time}

@@ -21,6 +21,7 @@ use Rattle.mk_plan.specs.Sequential.{takes_id, id_after}
 use Rattle.mk_scenario.specs.declared.parts.Scenario.{Scenario}
 use Rattle.mk_outside.specs.declared.fleet.LogEntry.{LogEntry}
 use Rattle.mk_message.specs.Written.{is_in_range}
+use Rattle.mk_message.proofs.Ranges.{read_in_range}
 use Rattle.mk_sched.specs.Cores.{CoreState, Stands, is_message_in_range}
 use Rattle.mk_sched.specs.Answers.{IsQuiet, IsAnswered, open_id, with_message}
 use Rattle.mk_local.specs.Replies.{IsItemReplied}
@@ -32,7 +33,7 @@ use Rattle.mk_run_laws.specs.Kinds.{Replies}
 use Rattle.mk_run_laws.specs.Crews.{CrewState, channel_at, kept_of, given_by, IsMovedAt, IsHeard, IsSentWithin}
 use Rattle.mk_run_laws.specs.inner.Running.{awaited, IsRunning, IsRunningWith}
 use Rattle.mk_run_laws.proofs.Saying.{link_there}
-use Rattle.mk_run_laws.proofs.Stepping.{same_is, but, heard}
+use Rattle.mk_run_laws.proofs.Stepping.{same_is, but, heard, sent_got}
 use Rattle.mk_run_local.specs.Calls.{IsFitSuccess}
 use Rattle.mk_run_local.specs.Laws.{HasCome, RepliesAreKinds}
 use Rattle.mk_run_crew.specs.Seen.{CrewSeen, crew_of, is_here}
@@ -42,10 +43,10 @@ use Rattle.mk_sched.specs.inner.Patient.{IsPatient}
 use Rattle.mk_run.specs.inner.Underway.{Setting, reply_in, Suits, HasNoOther, HaveCome, IsLogRight, IsUnderway, HasHeard, IsAhead}
 use Rattle.mk_run.proofs.LoopSteps.{none_owed, owed_after, answered_opens, answered_id, taken_quietly, taken_on_link, taken_inside}
 use Rattle.mk_run.proofs.Going.{bool_or_not, here_is_within, not_here_is_outside, kept_so, come_sent, only_sent, log_right_on, no_other_after}
-use Rattle.mk_run.proofs.InRange.{same_test, read_in_range, success_in_range}
+use Rattle.mk_run.proofs.InRange.{same_test, success_in_range}
 use Rattle.mk_run.proofs.Linked.{linked_outside, within_below, no_other_heard}
 use Rattle.mk_sched.proofs.Pushed.{patient_sent, patient_got, fault_after_sent}
-use Rattle.mk_run.proofs.Pushed.{sent_got, range_sent, range_got}
+use Rattle.mk_run.proofs.Pushed.{range_sent, range_got}
 use Rattle.mk_run.proofs.SmallIds.{few_behind, small_next}
 
 -- a reply that is kept is awaited of a simulator within the program, at which a request is open

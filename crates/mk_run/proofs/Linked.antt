@@ -1,16 +1,10 @@
 -- Which simulators have a channel, and which are within the program.
-use Rattle.std.proofs.Common.{◌≡◌, ℕ, ◌+◌, ◌<◌, Bool, true, false, not, List, [], ◌∷◌, ◌++◌, length, take, filter, Option, Some, None, option_map, option_and_then, unwrap_or, slice_get, slice_set, refl, sym, ap, ◌∙◌, subst, inl, inr, true≢false, if◌then◌else◌}
-use Rattle.std.specs.List.{cons_option}
+use Rattle.std.proofs.Common.{◌≡◌, ℕ, ◌+◌, ◌<◌, Bool, true, false, not, List, [], length, take, filter, Option, Some, None, option_map, option_and_then, unwrap_or, slice_get, slice_set, refl, sym, ap, ◌∙◌, subst, inl, inr, true≢false, if◌then◌else◌}
 use Rattle.std.proofs.lemmas.Option.{slice_get_within}
 use Rattle.mk_base.specs.declared.LinkNo.{LinkNo}
-use Rattle.mk_base.specs.declared.SimNo.{SimNo}
-use Rattle.mk_base.proofs.Lists.{none_some, append_nil, set_here, set_else}
+use Rattle.mk_base.proofs.Lists.{none_some, set_here, set_else}
 use Rattle.mk_plan.specs.declared.Item.{Item}
 use Rattle.mk_plan.specs.declared.Message.{Message}
-use Rattle.mk_plan.specs.declared.Entry.{Entry}
-use Rattle.mk_plan.specs.declared.Entry.TheVariants.{Sent}
-use Rattle.mk_plan.specs.Journals.{sent}
-use Rattle.mk_order.proofs.Pushing.{sent_push}
 use Rattle.mk_scenario.specs.declared.parts.SimPart.{SimPart}
 use Rattle.mk_scenario.specs.declared.parts.Scenario.{Scenario}
 use Rattle.mk_outside.specs.declared.fleet.LogEntry.{LogEntry}
@@ -18,7 +12,7 @@ use Rattle.mk_local.specs.Simulators.{Simulator}
 use Rattle.mk_run_laws.specs.Handshake.{is_local, has_link, is_within, sim_link}
 use Rattle.mk_run_laws.specs.Channels.{Channel}
 use Rattle.mk_run_laws.specs.Crews.{CrewState, channel_at, IsMovedAt, AreMoved, IsHeard, IsSentOnLink}
-use Rattle.mk_run_laws.proofs.Stepping.{same_or_not, apart_is, same_is}
+use Rattle.mk_run_laws.proofs.Stepping.{same_or_not}
 use Rattle.mk_run.specs.inner.Underway.{Setting, HasNoOther, local_at}
 
 -- a simulator with a link is one of the scenario, and isn't within the program
@@ -39,13 +33,6 @@ within_below S i e = go (slice_get S.sims i) refl
     go : (o : Option SimPart) → slice_get S.sims i ≡ o → i < length S.sims
     go None is = absurd (true≢false (sym e ∙ ap (λ (o : Option SimPart). unwrap_or (option_map (λ (s : SimPart). is_local s.begin) o) false) is))
     go (Some s) is = slice_get_within S.sims i s is
-
--- what was sent to others stays
-pub sent_away : (J : List Entry) (s : SimNo) (item : Item) (i : ℕ) → (i ≡ s.0 → ⊥) → sent (J ++ Sent s item ∷ []) i ≡ sent J i
-sent_away J s item i n = sent_push J (Sent s item) i ∙ ap (λ (b : Bool). sent J i ++ cons_option (if b then Some item else None) []) (apart_is s.0 i (λ e. n (sym e))) ∙ append_nil (sent J i)
-
-pub sent_here : (J : List Entry) (s : SimNo) (item : Item) → sent (J ++ Sent s item ∷ []) s.0 ≡ sent J s.0 ++ item ∷ []
-sent_here J s item = sent_push J (Sent s item) s.0 ∙ ap (λ (b : Bool). sent J s.0 ++ cons_option (if b then Some item else None) []) (same_is s.0)
 
 -- ---- channels stay those of simulators with a link
 

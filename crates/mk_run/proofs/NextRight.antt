@@ -1,6 +1,6 @@
 -- In an orderly journal the next message of a simulator is right, where sequential execution over a
 -- family that goes on with it cuts no turn of that simulator.
-use Rattle.std.proofs.Common.{◌≡◌, inl, ℕ, ◌<◌, Bool, true, false, cond, List, [], ◌∷◌, ◌++◌, Option, Some, None, option_map, refl, ap, sym, ◌∙◌, subst, append_assoc}
+use Rattle.std.proofs.Common.{◌≡◌, ℕ, ◌<◌, Bool, true, false, cond, List, [], ◌∷◌, ◌++◌, Option, Some, None, option_map, refl, ap, sym, ◌∙◌, append_assoc}
 use Rattle.mk_base.specs.declared.SimNo.{SimNo}
 use Rattle.mk_plan.specs.declared.Plan.{Plan}
 use Rattle.mk_plan.specs.declared.Message as message
@@ -17,19 +17,16 @@ use Rattle.mk_plan.specs.Orderly.{IsOrderlySoFar}
 use Rattle.mk_plan.specs.Agreement.{Continues}
 use Rattle.mk_plan.specs.Turns.{is_wrong}
 use Rattle.mk_order_any.specs.Parts as theory
-use Rattle.mk_order_any.specs.Parts.{Parts, In, Every, Prefix, act, seq, View, Turn, case_of, Reached, heard_in, heard_of, rest, used, whole, talk_of}
+use Rattle.mk_order_any.specs.Parts.{Parts, Every, Prefix, seq, View, Turn, case_of, Reached, heard_of, whole}
 use Rattle.mk_order_any.specs.Laws.{Laws}
-use Rattle.mk_order_any.proofs.Lists.{true_false, found, in_right}
-use Rattle.mk_order_any.proofs.Reading.{whole_on}
-use Rattle.mk_order_any.proofs.ActLists.{rest_whole, each_ended}
-use Rattle.mk_order_any.proofs.Folding.{made_by}
-use Rattle.mk_order_any.proofs.Invariant.{Opened, Agreeing, Invariant, invariant_holds, heard_open}
-use Rattle.mk_order_any.proofs.Talks.{everywhere}
+use Rattle.mk_order_any.proofs.Lists.{true_false}
+use Rattle.mk_order_any.proofs.ActLists.{each_ended}
 use Rattle.mk_order.proofs.Theory.{parts, laws, seq_is}
 use Rattle.mk_order.proofs.Seen.{seen, turn_of, reached, same_self}
 use Rattle.mk_order.proofs.Told.{heard_seen, got_is}
 use Rattle.mk_order.proofs.Agreeing.{goes_on}
 use Rattle.mk_order.proofs.Pushing.{got_push}
+use Rattle.mk_run_laws.proofs.NextHeard.{every, whole_left}
 
 -- what is behind the same beginning is the same
 same_behind : {X : Type 0} (xs ys zs : List X) → xs ++ ys ≡ xs ++ zs → ys ≡ zs
@@ -37,48 +34,16 @@ same_behind [] ys zs e = e
 same_behind (x ∷ xs) ys zs e = same_behind xs ys zs (let t : xs ++ ys ≡ xs ++ zs = cc in t)
 
 module _ (P : Parts) (L : Laws P) where
-  open P use {Tier, Message, Place, Act, ended, wrong, on, begin, step, told}
+  open P use {Message, ended, wrong, on}
 
   module _ (R : ℕ → List Message) (V : View P) (reached : Reached P V) (cont : (i : ℕ) → i < P.count → Prefix (heard_of P V i) (R i)) (i : ℕ) (T : Turn P) (is : V.open_at i ≡ Some T)
       (all : Every (λ a. ended a ≡ true) (seq P R i)) where
-    every : (j : ℕ) → Prefix (heard_of P V j) (R j)
-    every = everywhere P L V reached R cont
-
-    inv : Invariant P L V
-    inv = invariant_holds P L V reached
-
-    a : Agreeing P L (seq P R) V.acts V.open_at
-    a = inv.agreeing R every
-
-    o : Opened P L (seq P R) (V.acts i) i T
-    o = a.opened i T is
-
-    b : Place
-    b = begin i T.when (V.acts i)
-
-    r : List Message
-    r = rest P (V.acts i) (R i)
-
-    r_is : r ≡ T.messages ++ (every i).0
-    unfolding r
-    r_is = ap (λ l. rest P (V.acts i) l) ((every i).1 ∙ ap (λ l. l ++ (every i).0) (heard_open P L V i T is) ∙ append_assoc (heard_in P (V.acts i)) T.messages (every i).0)
-        ∙ rest_whole P (V.acts i) (T.messages ++ (every i).0) (inv.shape.whole_acts i)
-
-    made : o.first ≡ act P (seq P R) i T.when (V.acts i) (R i)
-    made = (made_by P L R i (V.acts i) o.first o.back o.parts).1 ∙ ap (λ (x : Tier). act P (seq P R) i x (V.acts i) (R i)) o.begun
-
-    whole_first : whole P i b r ≡ true
-    unfolding b r
-    whole_first = sym (ap ended made ∙ L.ended_mk T.when (used P i b r) (whole P i b r) (told (step (seq P R) i T.when (V.acts i)) ∷ talk_of P (seq P R) i T.when b (used P i b r)))
-        ∙ found (λ u. ended u ≡ true) o.first (seq P R i) all (subst (λ (l : List Act). In o.first l) (sym o.parts) (in_right o.first (V.acts i) (o.first ∷ o.back) (inl refl)))
-
-    whole_left : whole P i T.place (every i).0 ≡ true
-    unfolding b
-    whole_left = sym (whole_on P i b T.place T.messages (every i).0 (inv.shape.reads i T is)) ∙ sym (ap (λ l. whole P i b l) r_is) ∙ whole_first
-
     -- the next message is right
     pub next_right : (m : Message) (later : List Message) → R i ≡ heard_of P V i ++ m ∷ later → wrong i T.place m ≡ false
-    next_right m later e = go (wrong i T.place m) refl (ap (λ l. whole P i T.place l) (same_behind (heard_of P V i) (m ∷ later) (every i).0 (sym e ∙ (every i).1)) ∙ whole_left)
+    next_right m later e =
+        let t = every P L R V reached cont i T is all i in
+        go (wrong i T.place m) refl
+            (ap (λ l. whole P i T.place l) (same_behind (heard_of P V i) (m ∷ later) t.0 (sym e ∙ t.1)) ∙ whole_left P L R V reached cont i T is all)
       where
         go : (c : Bool) → wrong i T.place m ≡ c → cond c false (case_of (on i T.place m) true (λ p. whole P i p later)) ≡ true → c ≡ false
         go true q w = absurd (true_false (sym w))

@@ -1,23 +1,20 @@
 -- What one more entry of the journal keeps.
-use Rattle.std.proofs.Common.{◌≡◌, ℕ, Bool, true, List, [], ◌∷◌, ◌++◌, Some, None, if◌then◌else◌, refl, sym, ap, ◌∙◌, subst, inl, inr, append_assoc}
-use Rattle.std.specs.List.{cons_option}
+use Rattle.std.proofs.Common.{◌≡◌, ℕ, true, List, [], ◌∷◌, ◌++◌, refl, sym, ap, ◌∙◌, subst, inl, inr, append_assoc}
 use Rattle.mk_base.specs.declared.SimNo.{SimNo}
 use Rattle.mk_base.specs.Lists.{BeginsWith}
-use Rattle.mk_base.proofs.Lists.{append_nil, filter_map_append}
+use Rattle.mk_base.proofs.Lists.{filter_map_append}
 use Rattle.mk_plan.specs.declared.Plan.{Plan}
 use Rattle.mk_plan.specs.declared.Item.{Item}
 use Rattle.mk_plan.specs.declared.Message.{Message}
 use Rattle.mk_plan.specs.declared.Entry.{Entry}
 use Rattle.mk_plan.specs.declared.Entry.TheVariants.{Sent, Got}
 use Rattle.mk_plan.specs.Journals.{sent, got, sent_to, got_from}
-use Rattle.mk_order.proofs.Pushing.{sent_push, got_push}
 use Rattle.mk_scenario.specs.declared.parts.Scenario.{Scenario}
 use Rattle.mk_outside.specs.declared.fleet.LogEntry.{LogEntry}
 use Rattle.mk_sched.proofs.Pushed.{heads, last_or_before, not_empty, sent_not_got}
 use Rattle.mk_run_laws.specs.Kinds.{Replies, KeepsToKinds}
 use Rattle.mk_run_laws.specs.Running.{SetupReplies, RestsEnd}
 use Rattle.mk_run_laws.specs.inner.Running.{RestsOver}
-use Rattle.mk_run_laws.proofs.Stepping.{same_is}
 use Rattle.mk_message.specs.Written.{is_in_range}
 use Rattle.mk_run.specs.Ends.{AreInRange}
 
@@ -55,17 +52,6 @@ sent_front J e i = (sent (e ∷ []) i, filter_map_append (sent_to i) J (e ∷ []
 
 pub got_front : (J : List Entry) (e : Entry) (i : ℕ) → BeginsWith (got (J ++ e ∷ []) i) (got J i)
 got_front J e i = (got (e ∷ []) i, filter_map_append (got_from i) J (e ∷ []))
-
--- a message is the last that was got of its simulator
-pub got_last : (J : List Entry) (s : SimNo) (m : Message) → got (J ++ Got s m ∷ []) s.0 ≡ got J s.0 ++ m ∷ []
-got_last J s m = got_push J (Got s m) s.0 ∙ ap (λ (b : Bool). got J s.0 ++ cons_option (if b then Some m else None) []) (same_is s.0)
-
--- an item is no message, and a message no item
-pub got_sent : (J : List Entry) (s : SimNo) (item : Item) (i : ℕ) → got (J ++ Sent s item ∷ []) i ≡ got J i
-got_sent J s item i = got_push J (Sent s item) i ∙ append_nil (got J i)
-
-pub sent_got : (J : List Entry) (s : SimNo) (m : Message) (i : ℕ) → sent (J ++ Got s m ∷ []) i ≡ sent J i
-sent_got J s m i = sent_push J (Got s m) i ∙ append_nil (sent J i)
 
 -- the rests so far are rests of the longer journal too
 pub rests_longer : (started : ℕ) (S : Scenario) (replies : SetupReplies) (P : Plan) (J : List Entry) (e : Entry) (log : List LogEntry) → RestsOver started S replies P J log → RestsEnd started S replies P (J ++ e ∷ []) log

@@ -25,7 +25,7 @@ use Rattle.mk_run_links.specs.Places.{IsChannelLink}
 use Rattle.mk_run_links.proofs.OnEntries.{on_more, on_run}
 use Rattle.mk_run_laws.specs.Runs.{IsLinkOfRun}
 use Rattle.mk_run_laws.specs.inner.Running.{HasChannel}
-use Rattle.mk_run_laws.proofs.Stepping.{first_or_second}
+use Rattle.mk_run_laws.proofs.Stepping.{first_or_second, got_here, sent_got}
 use Rattle.mk_run_laws.proofs.Ending.{link_ended, rests_stopped}
 use Rattle.mk_run_laws.proofs.Resting.{rests_well}
 use Rattle.mk_run.specs.declared.outcome.Outcome.{Outcome}
@@ -33,7 +33,6 @@ use Rattle.mk_run.specs.declared.outcome.Outcome.TheVariants as outcome
 use Rattle.mk_run.specs.Ends.{ShownBy, SetupRestsWell, IsRun, IsUngot}
 use Rattle.mk_run.specs.inner.Underway.{Setting, EndsBy, HasGiven, HasEnded, IsAhead, IsLastChannel, exchange_at}
 use Rattle.mk_run.proofs.ChannelsStopped.{all_heard, begins_itself, behind_ungot, full_still, heard_behind, held_heard, stopped_by}
-use Rattle.mk_run.proofs.Pushed.{got_last, sent_got}
 
 -- at the rests of the handshake, a stop adds none
 pub setup_rests_more : (started : ℕ) (S : Scenario) (log entries : List LogEntry) → ((before after : List LogEntry) → entries ≡ before ++ Rest ∷ after → ⊥) → SetupRestsWell started S log → SetupRestsWell started S (log ++ entries)
@@ -61,7 +60,7 @@ module _ (T : Setting) (P : Plan) (J : List Entry) (log entries : List LogEntry)
   ungot : IsAhead T J log C → IsUngot T.started T.scenario J (log ++ entries)
   ungot a = behind_ungot T.started T.scenario J (log ++ entries) a.sim a.message a.link a.linked
       (heard_behind T.started T.scenario T.replies ended.suits.counts log entries (HasRisen faults new_faults) C stopped J a.sim a.message a.link a.linked (sent (J ++ Got a.sim a.message ∷ []) a.sim.0)
-      (subst (λ (ms : List Message). HasChannel T.scenario T.replies log a.sim.0 a.link ms (sent (J ++ Got a.sim a.message ∷ []) a.sim.0) C) (got_last J a.sim a.message) a.channel)
+      (subst (λ (ms : List Message). HasChannel T.scenario T.replies log a.sim.0 a.link ms (sent (J ++ Got a.sim a.message ∷ []) a.sim.0) C) (got_here J a.sim a.message) a.channel)
       (subst (BeginsWith (sent J a.sim.0)) (sym (sent_got J a.sim a.message a.sim.0)) (begins_itself (sent J a.sim.0))))
 
   shown : (e : Outcome) → EndsBy by_run T P J log C e → ShownBy (exchange_at T (log ++ entries)) P J faults new_faults e

@@ -17,16 +17,18 @@ use Rattle.mk_run_laws.specs.Running.{SetupReplies}
 use Rattle.mk_run_laws.specs.inner.Running.{IsBetween, IsSettingUp}
 use Rattle.mk_run_laws.proofs.Greeting.{fresh, requested, requested_within, replied}
 use Rattle.mk_run_laws.proofs.Stepping.{same_or_not, apart_is}
+use Rattle.mk_run_laws.proofs.Moving.{moved_back}
 use Rattle.mk_setup.specs.Requests.{id_before}
 use Rattle.mk_run_links.specs.Entries.{AreOn, IsRunLink}
 use Rattle.mk_run_links.proofs.OnEntries.{on_more, on_run}
+use Rattle.mk_run_links.proofs.Beginning.{channel_was}
 use Rattle.mk_run_links.specs.Places.{IsChannelLink, Channels, IsSet, at, crew}
 use Rattle.mk_run_local.specs.Made.{first_at}
 use Rattle.mk_run_local.specs.Seen.{WithinState, AreOf, first_of, new_within, sim_at}
 use Rattle.mk_run_crew.specs.Answers.{answers_to, sim_after}
 use Rattle.mk_run_crew.specs.inner.Asking.{AsksWithin, AsksOnLink, IsAnswered, IsNewCrew}
 use Rattle.mk_run_crew.specs.Seen.{CrewSeen, within_of}
-use Rattle.mk_run_crew.proofs.Placing.{moved_back, new_at, new_was, set_back, set_there}
+use Rattle.mk_run_crew.proofs.Placing.{new_at, set_back, set_there}
 use Rattle.mk_run_crew.proofs.Requests.{answers_none, answers_pushed, after_one_more, after_other, count_pushed, cut_at, kinds_pushed, still_none}
 use Rattle.mk_run_crew.proofs.Simulators.{link_placed, linked_away, placed_link, within_away}
 
@@ -53,7 +55,7 @@ module _ (started : ℕ) (S : Scenario) (rows : List Turn) where
     kinds = λ k r m asked got within. absurd (none_some got);
     sims = λ i. ap (λ (W : WithinState). sim_at W i) n.within ∙ first_in rows S i ∙ nothing_called (first_at rows S i);
     known = n.known;
-    back = λ i w e. (w.link, placed_link started S i w.link (ap (λ (ps : List (Option LinkNo)). slice_get ps i) (sym n.places) ∙ new_was C.places i w (ap (λ (L : Channels). at L i) (sym n.channels) ∙ e)));
+    back = λ i w e. (w.link, placed_link started S i w.link (ap (λ (ps : List (Option LinkNo)). slice_get ps i) (sym n.places) ∙ channel_was C.places i w (ap (λ (L : Channels). at L i) (sym n.channels) ∙ e)));
     kept = ap (λ (W : WithinState). W.kept) n.within;
     halt = n.halt;
     places = n.places;

@@ -21,7 +21,7 @@ use Rattle.mk_run_laws.specs.Hearing.{messages_heard, rest_heard, first_message}
 use Rattle.mk_run_laws.specs.Rests.{AllSetUp, IsWellInSetup}
 use Rattle.mk_run_laws.specs.Running.{SetupReplies}
 use Rattle.mk_run_laws.specs.inner.Running.{IsBetween, IsSettingUp}
-use Rattle.mk_run_laws.proofs.Moving.{channel_moved}
+use Rattle.mk_run_laws.proofs.Moving.{channel_moved, moved_there, moved_back}
 use Rattle.mk_run_laws.proofs.SettingUp.{well_in_setup, not_set_up}
 use Rattle.mk_run_laws.proofs.Stepping.{first_or_second}
 use Rattle.mk_run_laws.proofs.Taking.{taken_heard, taken_rest, none_heard, garbled_none, long_none, none_first}
@@ -41,7 +41,7 @@ use Rattle.mk_run_crew.specs.Calls.{halt_of}
 use Rattle.mk_run_crew.specs.Halted.{IsAskedUpTo, IsSetupFault, ShowsCause, count_to}
 use Rattle.mk_run_crew.specs.Seen.{CrewSeen, is_here}
 use Rattle.mk_run_crew.proofs.Going.{asked_on, heard_moved, heard_there, set_up_so, within_more, within_so}
-use Rattle.mk_run_crew.proofs.Placing.{moved_there, moved_back, set_back}
+use Rattle.mk_run_crew.proofs.Placing.{set_back}
 use Rattle.mk_run_crew.proofs.Requests.{answers_pushed, count_pushed, cut_at, kinds_pushed}
 use Rattle.mk_run_crew.proofs.Simulators.{linked_away}
 

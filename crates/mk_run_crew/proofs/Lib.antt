@@ -9,7 +9,7 @@ mod Halting
 mod Looping
 mod Placing
 mod Requests
-mod Simulators
+pub mod Simulators
 pub mod Started
 mod Starting
 pub mod Stopped

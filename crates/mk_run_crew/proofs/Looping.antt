@@ -27,6 +27,7 @@ use Rattle.mk_setup.specs.Replies.{arrival}
 use Rattle.mk_setup.specs.Requests.{id_before, request_of}
 use Rattle.mk_setup.specs.Seen.{SetupState}
 use Rattle.mk_run_links.specs.Places.{AreOpen, Channels, at}
+use Rattle.mk_run_links.proofs.Beginning.{channel_was}
 use Rattle.mk_run_local.specs.Made.{first_at}
 use Rattle.mk_run_crew.specs.declared.halt.Halt.{Halt}
 use Rattle.mk_run_crew.specs.inner.Asking.{Answers, AnswersNot, CanAsk, GoesSoFar, IsHalting, IsNewCrew, IsStepped, StepsNot, StepsTo, setup_halt}
@@ -35,14 +36,14 @@ use Rattle.mk_run_crew.specs.Seen.{CrewSeen, is_here}
 use Rattle.mk_run_crew.proofs.Ending.{begun_now}
 use Rattle.mk_run_crew.proofs.Going.{none_answered, on_link_more, within_more}
 use Rattle.mk_run_crew.proofs.Halting.{next_halts, refused_on_link, refused_within, unasked_halts, unheard_halts}
-use Rattle.mk_run_crew.proofs.Placing.{adds_no_more, new_was}
+use Rattle.mk_run_crew.proofs.Placing.{adds_no_more}
 use Rattle.mk_run_crew.proofs.Requests.{are_replied}
 use Rattle.mk_run_crew.proofs.Simulators.{else_linked, placed_link}
 
 -- the channels of a new crew are of open links
 pub new_open : (started : ℕ) (rows : List Turn) (S : Scenario) (open_links : List LinkNo) (C : CrewSeen) → IsNewCrew started rows S open_links C → AreOpen C.channels open_links
 new_open started rows S open_links C n i w e =
-    let put = ap (λ (ps : List (Option LinkNo)). slice_get ps i) (sym n.places) ∙ new_was C.places i w (ap (λ (L : Channels). at L i) (sym n.channels) ∙ e) in
+    let put = ap (λ (ps : List (Option LinkNo)). slice_get ps i) (sym n.places) ∙ channel_was C.places i w (ap (λ (L : Channels). at L i) (sym n.channels) ∙ e) in
     n.are_open i w.link (placed_link started S i w.link put)
 
 module _ (started : ℕ) (S : Scenario) (ranks : List ℕ) (rows : List Turn) (laws : RepliesMake) where

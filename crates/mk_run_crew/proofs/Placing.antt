@@ -3,30 +3,21 @@ use Rattle.std.proofs.Common.{◌≡◌, ℕ, ◌≤◌, List, [], ◌∷◌, ma
 use Rattle.std.specs.Prelude.{option_to_list}
 use Rattle.mk_base.specs.declared.LinkNo.{LinkNo}
 use Rattle.mk_base.specs.Lists.{IsIn, Each}
-use Rattle.mk_base.proofs.Lists.{none_some, some_same, in_flat_map, in_at, each_in, append_nil}
+use Rattle.mk_base.proofs.Lists.{some_same, in_flat_map, in_at, each_in, append_nil}
 use Rattle.mk_outside.specs.declared.fleet.LogEntry.{LogEntry}
 use Rattle.mk_outside.specs.Counts.{HasRisen}
 use Rattle.mk_outside.specs.Logs.{Adds}
 use Rattle.mk_outside.proofs.OnLogs.{adds_more}
 use Rattle.mk_plan.specs.declared.Message.{Message}
 use Rattle.mk_launch.specs.Starts.{links_in}
-use Rattle.mk_run_laws.specs.Channels.{Channel, IsMoved}
-use Rattle.mk_run_laws.specs.Crews.{CrewState, IsMovedAt, AreMoved, AreStopped}
+use Rattle.mk_run_laws.specs.Channels.{Channel}
+use Rattle.mk_run_laws.specs.Crews.{CrewState, AreMoved, AreStopped}
 use Rattle.mk_run_laws.proofs.Stepping.{same_or_not}
+use Rattle.mk_run_laws.proofs.Moving.{moved_there, moved_back}
 use Rattle.mk_run_links.specs.Places.{AreDistinct, AreOpen, IsSet, Channels, at, crew, new_channel, new_channels}
 use Rattle.mk_run_crew.specs.inner.Placed.{IsPlaced}
 
 -- ---- channels that move
-
-pub moved_there : (entries : List LogEntry) (given : List Message) (o p : Option Channel) (w : Channel) → o ≡ Some w → IsMovedAt entries given o p → (v : Channel) × (p ≡ Some v) × IsMoved entries given w v
-moved_there entries given None p w e moved = absurd (none_some e)
-moved_there entries given (Some u) None w e moved = absurd moved
-moved_there entries given (Some u) (Some v) w e moved = (v, refl, subst (λ (x : Channel). IsMoved entries given x v) (some_same e) moved)
-
-pub moved_back : (entries : List LogEntry) (given : List Message) (o p : Option Channel) (v : Channel) → p ≡ Some v → IsMovedAt entries given o p → (w : Channel) × (o ≡ Some w) × (v.link ≡ w.link)
-moved_back entries given o None v e moved = absurd (none_some e)
-moved_back entries given None (Some u) v e moved = absurd moved
-moved_back entries given (Some w) (Some u) v e moved = (w, refl, ap (λ (x : Channel). x.link) (sym (some_same e)) ∙ moved.link)
 
 -- a channel that was set has the link of before
 pub set_there : (s : ℕ) (w v : Channel) (L M : Channels) → IsSet s w v L M → v.link ≡ w.link → (i : ℕ) (u : Channel) → at L i ≡ Some u → (x : Channel) × (at M i ≡ Some x) × (x.link ≡ u.link)
@@ -86,12 +77,6 @@ get_map f (x ∷ xs) (suc i) = get_map f xs i
 
 pub new_at : (links : List (Option LinkNo)) (i : ℕ) (l : LinkNo) → slice_get links i ≡ Some (Some l) → at (new_channels links) i ≡ Some (new_channel l)
 new_at links i l e = ap (option_and_then (λ (o : Option Channel). o)) (get_map (option_map new_channel) links i ∙ ap (option_map (option_map new_channel)) e)
-
-pub new_was : (links : List (Option LinkNo)) (i : ℕ) (v : Channel) → at (new_channels links) i ≡ Some v → slice_get links i ≡ Some (Some v.link)
-new_was [] i v e = absurd (none_some e)
-new_was (None ∷ links) zero v e = absurd (none_some e)
-new_was (Some l ∷ links) zero v e = ap (λ (o : Option Channel). Some (option_map (λ (w : Channel). w.link) o)) e
-new_was (p ∷ links) (suc i) v e = new_was links i v e
 
 pub new_placed : (links : List (Option LinkNo)) → AreDistinct links → IsPlaced links (new_channels links)
 new_placed links distinct = record { distinct = distinct; channel = λ i l e. (new_channel l, new_at links i l e, refl) }

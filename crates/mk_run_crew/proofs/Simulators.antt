@@ -54,7 +54,7 @@ there_by rows n (Local k) none fine =
     let t = named_there k rows (kind_there (is_among (map name_of rows) k) fine) in
     absurd (none_some (sym none ∙ ap (option_map new_simulator) t.1))
 
-local_by : (rows : List Turn) (b : Begin) → is_local b ≡ true → begin_fault (map name_of rows) b ≡ None → (L : Simulator) × (begun_as rows b ≡ Some L)
+pub local_by : (rows : List Turn) (b : Begin) → is_local b ≡ true → begin_fault (map name_of rows) b ≡ None → (L : Simulator) × (begun_as rows b ≡ Some L)
 local_by rows (Command t) e fine = cc
 local_by rows (Connect p) e fine = cc
 local_by rows (Local k) e fine = let t = named_there k rows (kind_there (is_among (map name_of rows) k) fine) in (new_simulator t.0, ap (option_map new_simulator) t.1)

@@ -8,23 +8,17 @@ use Rattle.mk_base.proofs.Lists.{each_in, in_back, in_each, in_at, in_flat_map, 
 use Rattle.mk_base.specs.Links.{same_link, without}
 use Rattle.mk_outside.proofs.OnLogs.{each-append}
 use Rattle.mk_scenario.specs.declared.parts.SimPart.{SimPart}
-use Rattle.mk_scenario.specs.declared.parts.Begin.{Begin}
-use Rattle.mk_scenario.specs.declared.parts.Begin.TheVariants.{Command, Connect, Local}
 use Rattle.mk_launch.specs.declared.faults.StartFault.{StartFault}
 use Rattle.mk_launch.specs.declared.faults.StartFault.TheVariants.{Failed, Mem}
 use Rattle.mk_launch.specs.Starts.{AllStarted, AreNumbered, Links, link_count, link_of, links_in, place_of, places}
 use Rattle.mk_launch.proofs.Placing.{higher, numbered, without_lower}
 use Rattle.mk_run_laws.proofs.Stepping.{same_or_not, same_is, apart_is}
 use Rattle.mk_run_links.specs.Places.{without_all}
+use Rattle.mk_run_links.proofs.Beginning.{next_place}
 use Rattle.mk_run_crew.specs.declared.halt.Halt.TheVariants as halt
 use Rattle.mk_run_crew.specs.inner.Calls.{start_halt}
 
 -- ---- numbers of links
-
-next_place : (n : ℕ) (b : Begin) (l : LinkNo) → place_of n b ≡ Some l → (l.0 ≡ n) × (link_count (place_of n b) ≡ 1)
-next_place n (Command t) l e = (ap (λ (k : LinkNo). k.0) (sym (some_same e)), refl)
-next_place n (Connect port) l e = (ap (λ (k : LinkNo). k.0) (sym (some_same e)), refl)
-next_place n (Local kind) l e = absurd (none_some e)
 
 -- the links that have a place are numbered from n
 low : (n : ℕ) (sims : List SimPart) (l : LinkNo) (i : ℕ) → slice_get (places n sims) i ≡ Some (Some l) → l.0 < n → ⊥

@@ -82,7 +82,7 @@ module _ (P : Plan) (valid : IsValidPlan P) where
 
         go : (o : Option OpenTurn) → V.open_at i ≡ o → BeginsWith (R i) (got H i ++ m ∷ [])
         go None shut = absurd (keeps.open_there shut)
-        go (Some T) is = from T (next_heard (parts P) (laws P valid) R (seen P V) (reached IsReady IsAdvance P its H orderly) (goes_on IsReady IsAdvance P its valid H orderly R cont) i (turn_of P V.owed i T) low
+        go (Some T) is = from T (next_heard (parts P) (laws P valid) R (seen P V) (reached IsReady IsAdvance P its H orderly) (goes_on IsReady IsAdvance P its valid H orderly R cont) i (turn_of P V.owed i T)
             (ap (λ (o : Option OpenTurn). option_map (turn_of P V.owed i) o) is) all)
 
     begins_less : {X : Type 0} (l a b : List X) → BeginsWith l (a ++ b) → BeginsWith l a

@@ -2,7 +2,7 @@
 use Rattle.std.proofs.Common.{◌≡◌, ℕ, ◌+◌, ◌==◌, Bool, true, false, List, [], ◌∷◌, ◌++◌, length, filter_map, Option, Some, None, slice_get, slice_set, option_and_then, refl, sym, ap, ◌∙◌, subst, inl, inr, arith, append_assoc, length-append, true≢false, if◌then◌else◌}
 use Rattle.std.specs.List.{cons_option}
 use Rattle.mk_base.specs.declared.LinkNo.{LinkNo}
-use Rattle.mk_base.proofs.Lists.{append_nil, none_some, some_same, filter_map_append, set_here, set_else}
+use Rattle.mk_base.proofs.Lists.{append_nil, none_some, filter_map_append, set_here, set_else}
 use Rattle.mk_plan.specs.declared.Call.{Call}
 use Rattle.mk_plan.specs.declared.Message.{Message}
 use Rattle.mk_message.specs.Written.{call_text}
@@ -18,7 +18,7 @@ use Rattle.mk_run_laws.specs.Rests.{AllSetUp, IsWellInSetup}
 use Rattle.mk_run_laws.specs.Crews.{CrewState, channel_at, IsMovedAt, given_by, AreMoved, AreParkedAtRests}
 use Rattle.mk_run_laws.specs.Running.{SetupReplies, IsBegun}
 use Rattle.mk_run_laws.specs.inner.Running.{IsSettingUp, IsBetween}
-use Rattle.mk_run_laws.proofs.Moving.{channel_moved, channel_queued}
+use Rattle.mk_run_laws.proofs.Moving.{channel_moved, channel_queued, moved_there}
 use Rattle.mk_run_laws.proofs.Polling.{IsForeign, channel_left}
 use Rattle.mk_run_laws.proofs.Stepping.{same_or_not, same_is, apart_is, first_or_second, not_empty}
 use Rattle.mk_run_laws.proofs.SettingUp.{well_in_setup, not_set_up}
@@ -116,11 +116,6 @@ module _ (started : ℕ) (S : Scenario) where
     where
       same : (i : ℕ) (l : LinkNo) → sim_link started S i ≡ Some l → filter_map (call_to i) (done ++ now ∷ []) ≡ filter_map (call_to i) done
       same i l e = calls_push i done now ∙ ap (λ (cs : List Call). filter_map (call_to i) done ++ cs) (one_away now i (λ q. none_some (sym none ∙ ap (sim_link started S) (sym q) ∙ e))) ∙ append_nil (filter_map (call_to i) done)
-
-  moved_there : (entries : List LogEntry) (given : List Message) (o p : Option Channel) (w : Channel) → o ≡ Some w → IsMovedAt entries given o p → (v : Channel) × (p ≡ Some v) × IsMoved entries given w v
-  moved_there entries given None p w e moved = absurd (none_some e)
-  moved_there entries given (Some u) None w e moved = absurd moved
-  moved_there entries given (Some u) (Some v) w e moved = (v, refl, subst (λ (x : Channel). IsMoved entries given x v) (some_same e) moved)
 
   -- its reply was heard
   pub replied : (replies : SetupReplies) (log entries : List LogEntry) (C D : CrewState) (done : List Request) (now : Request) (later : List Request) (m : Message) → IsSettingUp started S replies log C done now later

@@ -2,7 +2,7 @@
 use Rattle.std.proofs.Common.{◌≡◌, ℕ, Bool, List, [], ◌∷◌, ◌++◌, Option, Some, None, refl, sym, ap, ◌∙◌, subst, ◌⊎◌, inl, inr, append_assoc, true≢false, if◌then◌else◌}
 use Rattle.mk_base.specs.declared.LinkNo.{LinkNo}
 use Rattle.mk_base.specs.Lists.{BeginsWith}
-use Rattle.mk_base.proofs.Lists.{append_nil, flat_map_append}
+use Rattle.mk_base.proofs.Lists.{append_nil, flat_map_append, none_some, some_same}
 use Rattle.mk_plan.specs.declared.Call.TheVariants.{Stop}
 use Rattle.mk_plan.specs.declared.Message.{Message}
 use Rattle.mk_message.specs.Written.{call_text}
@@ -14,6 +14,7 @@ use Rattle.mk_run_laws.specs.Hearing.{Takes}
 use Rattle.mk_run_laws.specs.Payloads.{AreFramed, IsFramed}
 use Rattle.mk_run_laws.specs.Channels.{Channel, IsParkedIn, StaysParked, IsMoved, IsChannelAt, queued, IsStopped}
 use Rattle.mk_run_laws.proofs.Taking.{takes_more}
+use Rattle.mk_run_laws.specs.Crews.{IsMovedAt}
 
 -- ---- logs
 
@@ -155,3 +156,20 @@ framed_at_stop log entries ms payloads next risen w at stopped = framed_push pay
 -- nothing is heard while a channel is stopped
 pub heard_at_stop : (log entries : List LogEntry) (risen : Type 0) (w : Channel) → IsStopped entries risen w → heard_on w.link (log ++ entries) ≡ heard_on w.link log
 heard_at_stop log entries risen w stopped = heard_more w.link log entries ∙ ap (λ (b : List ℕ). heard_on w.link log ++ b) stopped.unheard ∙ append_nil (heard_on w.link log)
+
+-- ---- a channel at a place, where one may be
+
+pub moved_there : (entries : List LogEntry) (given : List Message) (o p : Option Channel) (w : Channel) → o ≡ Some w → IsMovedAt entries given o p → (v : Channel) × (p ≡ Some v) × IsMoved entries given w v
+moved_there entries given None p w e moved = absurd (none_some e)
+moved_there entries given (Some u) None w e moved = absurd moved
+moved_there entries given (Some u) (Some v) w e moved = (v, refl, subst (λ (x : Channel). IsMoved entries given x v) (some_same e) moved)
+
+pub moved_back : (entries : List LogEntry) (given : List Message) (o p : Option Channel) (v : Channel) → p ≡ Some v → IsMovedAt entries given o p → (w : Channel) × (o ≡ Some w) × (v.link ≡ w.link)
+moved_back entries given o None v e moved = absurd (none_some e)
+moved_back entries given None (Some u) v e moved = absurd moved
+moved_back entries given (Some w) (Some u) v e moved = (w, refl, ap (λ (x : Channel). x.link) (sym (some_same e)) ∙ moved.link)
+
+pub moved_none : (entries : List LogEntry) (given : List Message) (o p : Option Channel) → o ≡ None → IsMovedAt entries given o p → p ≡ None
+moved_none entries given None None e moved = refl
+moved_none entries given None (Some v) e moved = absurd moved
+moved_none entries given (Some u) p e moved = absurd (none_some (sym e))

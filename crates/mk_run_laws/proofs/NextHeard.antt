@@ -22,9 +22,9 @@ module _ (P : Parts) (L : Laws P) where
     pub more : List Said
     pub said : talk_in P (seq P R i) ≡ (said_of P V i ++ T.owed) ++ heard m ∷ more
 
-  module _ (R : ℕ → List Message) (V : View P) (reached : Reached P V) (cont : (i : ℕ) → i < P.count → Prefix (heard_of P V i) (R i)) (i : ℕ) (T : Turn P) (low : i < P.count) (is : V.open_at i ≡ Some T)
+  module _ (R : ℕ → List Message) (V : View P) (reached : Reached P V) (cont : (i : ℕ) → i < P.count → Prefix (heard_of P V i) (R i)) (i : ℕ) (T : Turn P) (is : V.open_at i ≡ Some T)
       (all : Every (λ a. ended a ≡ true) (seq P R i)) where
-    every : (j : ℕ) → Prefix (heard_of P V j) (R j)
+    pub every : (j : ℕ) → Prefix (heard_of P V j) (R j)
     every = everywhere P L V reached R cont
 
     inv : Invariant P L V
@@ -55,7 +55,8 @@ module _ (P : Parts) (L : Laws P) where
     whole_first = sym (ap ended made ∙ L.ended_mk T.when (used P i b r) (whole P i b r) (told (step (seq P R) i T.when (V.acts i)) ∷ talk_of P (seq P R) i T.when b (used P i b r)))
         ∙ found (λ u. ended u ≡ true) o.first (seq P R i) all (subst (λ (l : List Act). In o.first l) (sym o.parts) (in_right o.first (V.acts i) (o.first ∷ o.back) (inl refl)))
 
-    whole_left : whole P i T.place (every i).0 ≡ true
+    -- the messages that follow end the open turn
+    pub whole_left : whole P i T.place (every i).0 ≡ true
     unfolding b
     whole_left = sym (whole_on P i b T.place T.messages (every i).0 (inv.shape.reads i T is)) ∙ sym (ap (λ l. whole P i b l) r_is) ∙ whole_first
 

@@ -16,8 +16,9 @@ use Rattle.mk_plan.specs.declared.Entry.TheVariants.{Sent, Got}
 use Rattle.mk_plan.specs.declared.Place.{Place}
 use Rattle.mk_plan.specs.declared.Cause.{Cause}
 use Rattle.mk_plan.specs.Turns.{wrong, next_place}
-use Rattle.mk_plan.specs.Journals.{View, OpenTurn, Owed, Arrival, view, sent, got, bare, with_open, place_at, note_got, note_right, open_after, told_more}
+use Rattle.mk_plan.specs.Journals.{View, OpenTurn, Owed, Arrival, view, sent, got, bare, with_open, place_at, note_got, note_right, open_after}
 use Rattle.mk_plan.specs.Sequential.{takes_id, id_after}
+use Rattle.mk_plan.proofs.OpenTurns.{stays_open}
 use Rattle.mk_message.specs.Written.{item_text}
 use Rattle.mk_scenario.specs.declared.parts.SimPart.{SimPart}
 use Rattle.mk_scenario.specs.declared.parts.Scenario.{Scenario}
@@ -26,12 +27,12 @@ use Rattle.mk_outside.specs.declared.fleet.LogEntry.TheVariants.{Rest}
 use Rattle.mk_order.proofs.Pushing.{view_push, sent_push, got_push}
 use Rattle.mk_run_laws.specs.Handshake.{is_local, has_link, is_within, sim_link, setup_count, setup_payloads}
 use Rattle.mk_run_laws.specs.Payloads.{item_payloads}
-use Rattle.mk_run_laws.specs.Channels.{Channel, IsChannelAt, IsMoved, queued}
+use Rattle.mk_run_laws.specs.Channels.{Channel, IsChannelAt, queued}
 use Rattle.mk_run_laws.specs.Kinds.{Replies, IsKindReply, KeepsToKinds}
-use Rattle.mk_run_laws.specs.Crews.{CrewState, channel_at, kept_from, kept_of, IsMovedAt, given_by, AreMoved, AreParkedAtRests, IsHeard, IsSentOnLink, IsSentWithin}
+use Rattle.mk_run_laws.specs.Crews.{CrewState, channel_at, kept_from, kept_of, given_by, AreMoved, AreParkedAtRests, IsHeard, IsSentOnLink, IsSentWithin}
 use Rattle.mk_run_laws.specs.Running.{SetupReplies, IsInStep, IsRestOf, BeginsOnLink, RestsEnd, IsBegun}
 use Rattle.mk_run_laws.specs.inner.Running.{HasChannel, awaited, RestsOver, IsRunningWith, IsRunning, IsUnready}
-use Rattle.mk_run_laws.proofs.Moving.{channel_moved, channel_queued}
+use Rattle.mk_run_laws.proofs.Moving.{channel_moved, channel_queued, moved_there, moved_none}
 
 -- ---- numbers that are equal or not
 
@@ -46,25 +47,25 @@ apart_is a b n = elim (a == b) as (λ c. (a == b) ≡ c → c ≡ false) [ true 
 
 -- ---- entries that are pushed
 
-got_sent : (J : List Entry) (s : SimNo) (item : Item) (i : ℕ) → got (J ++ Sent s item ∷ []) i ≡ got J i
+pub got_sent : (J : List Entry) (s : SimNo) (item : Item) (i : ℕ) → got (J ++ Sent s item ∷ []) i ≡ got J i
 got_sent J s item i = got_push J (Sent s item) i ∙ append_nil (got J i)
 
-got_here : (J : List Entry) (s : SimNo) (m : Message) → got (J ++ Got s m ∷ []) s.0 ≡ got J s.0 ++ m ∷ []
+pub got_here : (J : List Entry) (s : SimNo) (m : Message) → got (J ++ Got s m ∷ []) s.0 ≡ got J s.0 ++ m ∷ []
 got_here J s m = got_push J (Got s m) s.0 ∙ ap (λ (b : Bool). got J s.0 ++ cons_option (if b then Some m else None) []) (same_is s.0)
 
-got_away : (J : List Entry) (s : SimNo) (m : Message) (i : ℕ) → (i ≡ s.0 → ⊥) → got (J ++ Got s m ∷ []) i ≡ got J i
+pub got_away : (J : List Entry) (s : SimNo) (m : Message) (i : ℕ) → (i ≡ s.0 → ⊥) → got (J ++ Got s m ∷ []) i ≡ got J i
 got_away J s m i n = got_push J (Got s m) i ∙ ap (λ (b : Bool). got J i ++ cons_option (if b then Some m else None) []) (apart_is s.0 i (λ e. n (sym e))) ∙ append_nil (got J i)
 
-got_given : (J : List Entry) (s : SimNo) (m : Message) (i : ℕ) → got (J ++ Got s m ∷ []) i ≡ got J i ++ given_by s.0 m i
+pub got_given : (J : List Entry) (s : SimNo) (m : Message) (i : ℕ) → got (J ++ Got s m ∷ []) i ≡ got J i ++ given_by s.0 m i
 got_given J s m i = got_push J (Got s m) i ∙ elim (s.0 == i) as (λ b. got J i ++ cons_option (if b then Some m else None) [] ≡ got J i ++ (if b then m ∷ [] else [])) [ true ↦ refl | false ↦ refl ]
 
-sent_got : (J : List Entry) (s : SimNo) (m : Message) (i : ℕ) → sent (J ++ Got s m ∷ []) i ≡ sent J i
+pub sent_got : (J : List Entry) (s : SimNo) (m : Message) (i : ℕ) → sent (J ++ Got s m ∷ []) i ≡ sent J i
 sent_got J s m i = sent_push J (Got s m) i ∙ append_nil (sent J i)
 
-sent_here : (J : List Entry) (s : SimNo) (item : Item) → sent (J ++ Sent s item ∷ []) s.0 ≡ sent J s.0 ++ item ∷ []
+pub sent_here : (J : List Entry) (s : SimNo) (item : Item) → sent (J ++ Sent s item ∷ []) s.0 ≡ sent J s.0 ++ item ∷ []
 sent_here J s item = sent_push J (Sent s item) s.0 ∙ ap (λ (b : Bool). sent J s.0 ++ cons_option (if b then Some item else None) []) (same_is s.0)
 
-sent_away : (J : List Entry) (s : SimNo) (item : Item) (i : ℕ) → (i ≡ s.0 → ⊥) → sent (J ++ Sent s item ∷ []) i ≡ sent J i
+pub sent_away : (J : List Entry) (s : SimNo) (item : Item) (i : ℕ) → (i ≡ s.0 → ⊥) → sent (J ++ Sent s item ∷ []) i ≡ sent J i
 sent_away J s item i n = sent_push J (Sent s item) i ∙ ap (λ (b : Bool). sent J i ++ cons_option (if b then Some item else None) []) (apart_is s.0 i (λ e. n (sym e))) ∙ append_nil (sent J i)
 
 -- what is open at the others stays
@@ -74,10 +75,10 @@ open_away P V s o i n = ap (λ (b : Bool). if b then o else V.open_at i) (apart_
 open_here : (P : Plan) (V : View) (s : ℕ) (o : Option OpenTurn) → with_open V s o s ≡ o
 open_here P V s o = ap (λ (b : Bool). if b then o else V.open_at s) (same_is s)
 
-open_sent : (P : Plan) (J : List Entry) (s : SimNo) (item : Item) (i : ℕ) → (i ≡ s.0 → ⊥) → (view P (J ++ Sent s item ∷ [])).open_at i ≡ (view P J).open_at i
+pub open_sent : (P : Plan) (J : List Entry) (s : SimNo) (item : Item) (i : ℕ) → (i ≡ s.0 → ⊥) → (view P (J ++ Sent s item ∷ [])).open_at i ≡ (view P J).open_at i
 open_sent P J s item i n = ap (λ (V : View). V.open_at i) (view_push P J (Sent s item)) ∙ open_away P (view P J) s.0 (open_after P (view P J) s.0 item) i n
 
-open_got : (P : Plan) (J : List Entry) (s : SimNo) (m : Message) (i : ℕ) → (i ≡ s.0 → ⊥) → (view P (J ++ Got s m ∷ [])).open_at i ≡ (view P J).open_at i
+pub open_got : (P : Plan) (J : List Entry) (s : SimNo) (m : Message) (i : ℕ) → (i ≡ s.0 → ⊥) → (view P (J ++ Got s m ∷ [])).open_at i ≡ (view P J).open_at i
 open_got P J s m i n = ap (λ (V : View). V.open_at i) (view_push P J (Got s m)) ∙ by_open ((view P J).open_at s.0) (wrong P s.0 (place_at ((view P J).open_at s.0)) m)
   where
     by_place : (T : OpenTurn) (q : Option Place) → (note_right P (view P J) s.0 m T q).open_at i ≡ (view P J).open_at i
@@ -92,16 +93,6 @@ open_got P J s m i n = ap (λ (V : View). V.open_at i) (view_push P J (Got s m))
 -- a Step opens a turn, and an item leaves it open
 pub step_opens : (P : Plan) (J : List Entry) (s : SimNo) (x : Tier) (ins : List Input) (advance : ℤ) → is_some ((view P (J ++ Sent s (Step x ins advance) ∷ [])).open_at s.0) ≡ true
 step_opens P J s x ins advance = ap (λ (V : View). is_some (V.open_at s.0)) (view_push P J (Sent s (Step x ins advance))) ∙ ap (λ (o : Option OpenTurn). is_some o) (open_here P (view P J) s.0 (open_after P (view P J) s.0 (Step x ins advance)))
-
-mapped_some : (f : OpenTurn → OpenTurn) (o : Option OpenTurn) → is_some o ≡ true → is_some (option_map f o) ≡ true
-mapped_some f None h = h
-mapped_some f (Some T) h = refl
-
-stays_open : (P : Plan) (V : View) (s : ℕ) (item : Item) → is_some (V.open_at s) ≡ true → is_some (open_after P V s item) ≡ true
-stays_open P V s (Step x ins advance) h = refl
-stays_open P V s (GetData wants) h = mapped_some (told_more (GetData wants)) (V.open_at s) h
-stays_open P V s (Answer id content) h = mapped_some (told_more (Answer id content)) (V.open_at s) h
-stays_open P V s (Refuse id reason) h = mapped_some (told_more (Refuse id reason)) (V.open_at s) h
 
 pub item_leaves_open : (P : Plan) (J : List Entry) (s : SimNo) (item : Item) → is_some ((view P J).open_at s.0) ≡ true → is_some ((view P (J ++ Sent s item ∷ [])).open_at s.0) ≡ true
 item_leaves_open P J s item h = ap (λ (V : View). is_some (V.open_at s.0)) (view_push P J (Sent s item)) ∙ ap (λ (o : Option OpenTurn). is_some o) (open_here P (view P J) s.0 (open_after P (view P J) s.0 item))
@@ -131,7 +122,7 @@ after_message P J s m owes fine = let e = view_push P J (Got s m) in
 -- ---- ids
 
 -- items one after another
-items_push : (id : ℕ) (items : List Item) (item : Item) → item_payloads id (items ++ item ∷ []) ≡ item_payloads id items ++ item_text (id_after id items) item ∷ []
+pub items_push : (id : ℕ) (items : List Item) (item : Item) → item_payloads id (items ++ item ∷ []) ≡ item_payloads id items ++ item_text (id_after id items) item ∷ []
 items_push id [] item = ap (λ (n : ℕ). item_text n item ∷ []) (let e : id ≡ id + 0 = omega arith in e)
 items_push id (i ∷ items) item = ap (λ (l : List (List ℕ)). item_text id i ∷ l) (items_push (id_after id (i ∷ [])) items item
     ∙ ap (λ (n : ℕ). item_payloads (id_after id (i ∷ [])) items ++ item_text n item ∷ []) (ids_join id i items))
@@ -142,12 +133,12 @@ items_push id (i ∷ items) item = ap (λ (l : List (List ℕ)). item_text id i 
       | false ↦ omega arith
     ]
 
-ids_push : (id : ℕ) (items : List Item) (item : Item) → id_after (id_after id items) (item ∷ []) ≡ id_after id (items ++ item ∷ [])
+pub ids_push : (id : ℕ) (items : List Item) (item : Item) → id_after (id_after id items) (item ∷ []) ≡ id_after id (items ++ item ∷ [])
 ids_push id items item = let e : length (filter takes_id (items ++ item ∷ [])) ≡ length (filter takes_id items) + length (filter takes_id (item ∷ [])) =
     ap length (filter_append takes_id items (item ∷ [])) ∙ length-append (filter takes_id items) (filter takes_id (item ∷ [])) in omega (arith, e)
 
 -- an item that takes no id has one text
-text_same : (item : Item) (id other : ℕ) → (takes_id item ≡ true → id ≡ other) → item_text id item ≡ item_text other item
+pub text_same : (item : Item) (id other : ℕ) → (takes_id item ≡ true → id ≡ other) → item_text id item ≡ item_text other item
 text_same (Step x ins advance) id other h = ap (λ (n : ℕ). item_text n (Step x ins advance)) (h refl)
 text_same (GetData wants) id other h = ap (λ (n : ℕ). item_text n (GetData wants)) (h refl)
 text_same (Answer asked content) id other h = refl
@@ -181,9 +172,9 @@ first_or_second (x ∷ a) b (y ∷ before) after r q = elim (first_or_second a b
   | inr t ↦ inr (t.0, (let e : y ≡ x = sym (heads q).0 in λ i. e i ∷ t.1 i), t.2)
 ]
 
-module _ (started : ℕ) (S : Scenario) (replies : SetupReplies) (reply : Replies) (P : Plan) where
+module _ (started : ℕ) (S : Scenario) where
   -- a simulator with a link isn't within the program
-  linked_out : (i : ℕ) (l : LinkNo) → sim_link started S i ≡ Some l → is_within S i ≡ false
+  pub linked_out : (i : ℕ) (l : LinkNo) → sim_link started S i ≡ Some l → is_within S i ≡ false
   linked_out i l e = go (slice_get S.sims i) e
     where
       by_kind : (s : SimPart) (k : LinkNo) (b : Bool) → (if not b then Some k else None) ≡ Some l → b ≡ false
@@ -195,16 +186,18 @@ module _ (started : ℕ) (S : Scenario) (replies : SetupReplies) (reply : Replie
       go None e = refl
       go (Some s) e = by_kind s (record { 0 = started + length (filter has_link (take i S.sims)) }) (is_local s.begin) e
 
+  -- what begins with a link's message does so with one entry more
+  pub begins_longer : (more : List Entry) (e : Entry) → BeginsOnLink started S more → BeginsOnLink started S (more ++ e ∷ [])
+  begins_longer more e (s, m, later, l, is, linked) = (s, m, later ++ e ∷ [], l, ap (λ (k : List Entry). k ++ e ∷ []) is, linked)
+
+module _ (started : ℕ) (S : Scenario) (replies : SetupReplies) (reply : Replies) (P : Plan) where
   -- ---- the parts
 
   abbrev rest_longer : (J : List Entry) (e : Entry) (before : List LogEntry) (r : IsRestOf started S replies P J before) → IsRestOf started S replies P (J ++ e ∷ []) before
   rest_longer J e before r = record { at = r.at; more = r.more ++ e ∷ []; parts = ap (λ (l : List Entry). l ++ e ∷ []) r.parts ∙ append_assoc r.at r.more (e ∷ []); nobody = r.nobody; replied = r.replied; channel = r.channel }
 
-  begins_longer : (more : List Entry) (e : Entry) → BeginsOnLink started S more → BeginsOnLink started S (more ++ e ∷ [])
-  begins_longer more e (s, m, later, l, is, linked) = (s, m, later ++ e ∷ [], l, ap (λ (k : List Entry). k ++ e ∷ []) is, linked)
-
   rests_longer : (J : List Entry) (e : Entry) (log : List LogEntry) → RestsOver started S replies P J log → RestsOver started S replies P (J ++ e ∷ []) log
-  rests_longer J e log rests before after is up = let t = rests before after is up in (rest_longer J e before t.0, begins_longer t.0.more e t.1)
+  rests_longer J e log rests before after is up = let t = rests before after is up in (rest_longer J e before t.0, begins_longer started S t.0.more e t.1)
 
   kinds_sent : (J : List Entry) (s : SimNo) (item : Item) → KeepsToKinds reply (is_within S) P J → KeepsToKinds reply (is_within S) P (J ++ Sent s item ∷ [])
   kinds_sent J s item kinds H t m more is here = elim (last_or_before J (Sent s item) H (Got t m) more is) [
@@ -241,7 +234,7 @@ module _ (started : ℕ) (S : Scenario) (replies : SetupReplies) (reply : Replie
             (subst (λ (l : List Item). IsInStep S replies log i (got J i) l h.channel) (sym (sent_away J s item i apart)) h.in_step);
       }
     ];
-    no_channel = λ i h. sent_so.others i (λ q. true≢false (sym h ∙ ap (is_within S) q ∙ linked_out s.0 l linked)) ∙ run.no_channel i h;
+    no_channel = λ i h. sent_so.others i (λ q. true≢false (sym h ∙ ap (is_within S) q ∙ linked_out started S s.0 l linked)) ∙ run.no_channel i h;
     kept = λ i. ap (kept_of i) sent_so.kept ∙ run.kept i;
     kinds = kinds_sent J s item run.kinds;
     rests = rests_longer J (Sent s item) log run.rests;
@@ -281,7 +274,7 @@ module _ (started : ℕ) (S : Scenario) (replies : SetupReplies) (reply : Replie
       → is_within S s.0 ≡ true → IsSentWithin s.0 (reply s.0 (map bare (sent (J ++ Sent s item ∷ []) s.0))) C D → awaits s.0 ≡ [] → ((i : ℕ) → (i ≡ s.0 → ⊥) → awaits i ≡ awaited S reply P J i)
       → is_some ((view P (J ++ Sent s item ∷ [])).open_at s.0) ≡ true → IsRunning started S replies reply P (J ++ Sent s item ∷ []) log D
   sent_within awaits J log C D s item run inside sent_so none others opened = record {
-    channels = λ i k e. let h = run.channels i k e in let apart : i ≡ s.0 → ⊥ = (λ q. true≢false (sym inside ∙ ap (is_within S) (sym q) ∙ linked_out i k e)) in record {
+    channels = λ i k e. let h = run.channels i k e in let apart : i ≡ s.0 → ⊥ = (λ q. true≢false (sym inside ∙ ap (is_within S) (sym q) ∙ linked_out started S i k e)) in record {
       channel = h.channel;
       there = ap (λ (l : List (Option Channel)). channel_in l i) sent_so.channels ∙ h.there;
       link = h.link;
@@ -313,7 +306,7 @@ module _ (started : ℕ) (S : Scenario) (replies : SetupReplies) (reply : Replie
   -- a link's item changes nothing of what is awaited
   pub awaited_on_link : (J : List Entry) (s : SimNo) (item : Item) (l : LinkNo) → sim_link started S s.0 ≡ Some l → (i : ℕ) → awaited S reply P (J ++ Sent s item ∷ []) i ≡ awaited S reply P J i
   awaited_on_link J s item l linked i = elim (same_or_not i s.0) [
-    | inl q ↦ let out : is_within S i ≡ false = ap (is_within S) q ∙ linked_out s.0 l linked in
+    | inl q ↦ let out : is_within S i ≡ false = ap (is_within S) q ∙ linked_out started S s.0 l linked in
         ap (λ (b : Bool). if b && is_some ((view P (J ++ Sent s item ∷ [])).open_at i) then reply i (map bare (sent (J ++ Sent s item ∷ []) i)) ∷ [] else []) out
         ∙ sym (ap (λ (b : Bool). if b && is_some ((view P J).open_at i) then reply i (map bare (sent J i)) ∷ [] else []) out)
     | inr apart ↦ ap (λ (o : Option OpenTurn). if is_within S i && is_some o then reply i (map bare (sent (J ++ Sent s item ∷ []) i)) ∷ [] else []) (open_sent P J s item i apart)
@@ -370,16 +363,6 @@ module _ (started : ℕ) (S : Scenario) (replies : SetupReplies) (reply : Replie
     | inl t ↦ over_ends J log run.rests before t.0 t.1 up
     | inr t ↦ subst (λ (b : List LogEntry). (r : IsRestOf started S replies P J b) × ((r.more ≡ []) ⊎ BeginsOnLink started S r.more)) (sym t.1) (parked_rest J log entries C run nobody none parked t.0 after t.2, inl refl)
   ]
-
-  moved_there : (entries : List LogEntry) (given : List Message) (o p : Option Channel) (w : Channel) → o ≡ Some w → IsMovedAt entries given o p → (v : Channel) × (p ≡ Some v) × IsMoved entries given w v
-  moved_there entries given None p w e moved = absurd (none_some e)
-  moved_there entries given (Some u) None w e moved = absurd moved
-  moved_there entries given (Some u) (Some v) w e moved = (v, refl, subst (λ (x : Channel). IsMoved entries given x v) (some_same e) moved)
-
-  moved_none : (entries : List LogEntry) (given : List Message) (o p : Option Channel) → o ≡ None → IsMovedAt entries given o p → p ≡ None
-  moved_none entries given None None e moved = refl
-  moved_none entries given None (Some v) e moved = absurd moved
-  moved_none entries given (Some u) p e moved = absurd (none_some (sym e))
 
   -- channels that were moved are in step
   channels_moved : (J : List Entry) (log entries : List LogEntry) (C D : CrewState) (given : ℕ → List Message) → ((i : ℕ) (l : LinkNo) → sim_link started S i ≡ Some l → HasChannel S replies log i l (got J i) (sent J i) C)
@@ -443,7 +426,7 @@ module _ (started : ℕ) (S : Scenario) (replies : SetupReplies) (reply : Replie
       → ((w : Channel) → channel_at C s.0 ≡ Some w → (l : LinkNo) × (sim_link started S s.0 ≡ Some l))
       → IsRunningWith (but s.0 (awaited S reply P J)) started S replies reply P (J ++ Got s m ∷ []) (log ++ entries) D
   heard J log entries C D s m run nobody (IsHeard.kept is channels none) back = record {
-    channels = λ i k e. let h = run.channels i k e in let apart : i ≡ s.0 → ⊥ = (λ q. true≢false (sym t.0 ∙ ap (is_within S) (sym q) ∙ linked_out i k e)) in record {
+    channels = λ i k e. let h = run.channels i k e in let apart : i ≡ s.0 → ⊥ = (λ q. true≢false (sym t.0 ∙ ap (is_within S) (sym q) ∙ linked_out started S i k e)) in record {
       channel = h.channel;
       there = same_channels i C D channels ∙ h.there;
       link = h.link;
@@ -472,10 +455,10 @@ module _ (started : ℕ) (S : Scenario) (replies : SetupReplies) (reply : Replie
     };
     no_channel = λ i h. moved_none entries (given_by s.0 m i) (channel_at C i) (channel_at D i) (run.no_channel i h) (moved i);
     kept = λ i. ap (kept_of i) (none_after ∙ sym none) ∙ run.kept i ∙ elim (same_or_not i s.0) [
-      | inl q ↦ subst (λ (j : ℕ). awaited S reply P J j ≡ but s.0 (awaited S reply P J) j) (sym q) (ap (λ (b : Bool). if b && is_some ((view P J).open_at s.0) then reply s.0 (map bare (sent J s.0)) ∷ [] else []) (linked_out s.0 l.0 l.1) ∙ sym (but_here s.0 (awaited S reply P J)))
+      | inl q ↦ subst (λ (j : ℕ). awaited S reply P J j ≡ but s.0 (awaited S reply P J) j) (sym q) (ap (λ (b : Bool). if b && is_some ((view P J).open_at s.0) then reply s.0 (map bare (sent J s.0)) ∷ [] else []) (linked_out started S s.0 l.0 l.1) ∙ sym (but_here s.0 (awaited S reply P J)))
       | inr apart ↦ sym (but_away s.0 (awaited S reply P J) i apart)
     ];
-    kinds = kinds_got J s m (λ h. absurd (true≢false (sym h ∙ linked_out s.0 l.0 l.1))) run.kinds;
+    kinds = kinds_got J s m (λ h. absurd (true≢false (sym h ∙ linked_out started S s.0 l.0 l.1))) run.kinds;
     rests = rests_heard J log entries C s m l.0 run nobody none parked l.1;
   }
     where
@@ -565,7 +548,7 @@ module _ (started : ℕ) (S : Scenario) (replies : SetupReplies) (reply : Replie
       same : (i : ℕ) → but s.0 (awaited S reply P J) i ≡ awaited S reply P (J ++ Got s m ∷ []) i
       same i = elim (same_or_not i s.0) [
         | inl q ↦ subst (λ (j : ℕ). but s.0 (awaited S reply P J) j ≡ awaited S reply P (J ++ Got s m ∷ []) j) (sym q) (but_here s.0 (awaited S reply P J)
-            ∙ sym (ap (λ (b : Bool). if b && is_some ((view P (J ++ Got s m ∷ [])).open_at s.0) then reply s.0 (map bare (sent (J ++ Got s m ∷ []) s.0)) ∷ [] else []) (linked_out s.0 l linked)))
+            ∙ sym (ap (λ (b : Bool). if b && is_some ((view P (J ++ Got s m ∷ [])).open_at s.0) then reply s.0 (map bare (sent (J ++ Got s m ∷ []) s.0)) ∷ [] else []) (linked_out started S s.0 l linked)))
         | inr apart ↦ but_away s.0 (awaited S reply P J) i apart ∙ sym (awaited_got J s m i apart)
       ]
 

@@ -1,12 +1,12 @@
 -- While a crew waits for a message: polls that are pending, and rests, one after another.
 use Rattle.std.proofs.Common.{◌≡◌, ℕ, true, List, [], ◌∷◌, ◌++◌, Option, Some, None, refl, sym, ap, ◌∙◌, subst, inl, inr}
-use Rattle.mk_base.proofs.Lists.{append_nil, none_some, some_same}
+use Rattle.mk_base.proofs.Lists.{append_nil}
 use Rattle.mk_plan.specs.declared.Message.{Message}
 use Rattle.mk_outside.specs.declared.fleet.LogEntry.{LogEntry}
 use Rattle.mk_outside.specs.declared.fleet.LogEntry.TheVariants.{Rest}
 use Rattle.mk_run_laws.specs.Channels.{Channel, IsMoved}
 use Rattle.mk_run_laws.specs.Crews.{CrewState, channel_at, IsMovedAt, AreMoved, AreParkedAtRests, IsRestless}
-use Rattle.mk_run_laws.proofs.Moving.{moved_twice}
+use Rattle.mk_run_laws.proofs.Moving.{moved_twice, moved_there}
 use Rattle.mk_run_laws.proofs.Stepping.{first_or_second, not_empty}
 
 moved_at_twice : (a b : List LogEntry) (g h : List Message) (o p q : Option Channel) → IsMovedAt a g o p → IsMovedAt b h p q → IsMovedAt (a ++ b) (g ++ h) o q
@@ -20,11 +20,6 @@ moved_at_twice a b g h (Some u) (Some v) (Some w) one two = moved_twice a b g h 
 -- what was moved by some entries and then by others was moved by all
 pub moved_on : (a b : List LogEntry) (g h : ℕ → List Message) (C D E : CrewState) → AreMoved a g C D → AreMoved b h D E → AreMoved (a ++ b) (λ i. g i ++ h i) C E
 moved_on a b g h C D E one two i = moved_at_twice a b (g i) (h i) (channel_at C i) (channel_at D i) (channel_at E i) (one i) (two i)
-
-moved_there : (entries : List LogEntry) (given : List Message) (o p : Option Channel) (w : Channel) → o ≡ Some w → IsMovedAt entries given o p → (v : Channel) × (p ≡ Some v) × IsMoved entries given w v
-moved_there entries given None p w e moved = absurd (none_some e)
-moved_there entries given (Some u) None w e moved = absurd moved
-moved_there entries given (Some u) (Some v) w e moved = (v, refl, subst (λ (x : Channel). IsMoved entries given x v) (some_same e) moved)
 
 -- a poll adds no rest
 pub parked_polled : (entries more : List LogEntry) (C : CrewState) → AreParkedAtRests entries C → IsRestless more → AreParkedAtRests (entries ++ more) C

@@ -57,7 +57,7 @@ here_is : (links : List (Option LinkNo)) (k : ℕ) (p : Option LinkNo) (l : Link
 here_is links k p l less is some = slice_get_read links (length links) k p refl less is ∙ ap Some some
 
 -- the places that a start of all simulators leaves
-next_place : (n : ℕ) (b : Begin) (l : LinkNo) → place_of n b ≡ Some l → (l.0 ≡ n) × (link_count (place_of n b) ≡ 1)
+pub next_place : (n : ℕ) (b : Begin) (l : LinkNo) → place_of n b ≡ Some l → (l.0 ≡ n) × (link_count (place_of n b) ≡ 1)
 next_place n (Command t) l e = (ap (λ (k : LinkNo). k.0) (sym (some_same e)), refl)
 next_place n (Connect port) l e = (ap (λ (k : LinkNo). k.0) (sym (some_same e)), refl)
 next_place n (Local kind) l e = absurd (none_some e)
@@ -117,7 +117,7 @@ place_fresh links k p t distinct less is ready taken parked = go p refl
     go None e = tt
     go (Some l) e = not_added links k p l t distinct less is e ready taken parked
 
-channel_was : (links : List (Option LinkNo)) (i : ℕ) (v : Channel) → at (new_channels links) i ≡ Some v → slice_get links i ≡ Some (Some v.link)
+pub channel_was : (links : List (Option LinkNo)) (i : ℕ) (v : Channel) → at (new_channels links) i ≡ Some v → slice_get links i ≡ Some (Some v.link)
 channel_was [] i v e = absurd (none_some e)
 channel_was (None ∷ links) zero v e = absurd (none_some e)
 channel_was (Some l ∷ links) zero v e = ap (λ (o : Option Channel). Some (option_map (λ (w : Channel). w.link) o)) e

@@ -13,7 +13,7 @@ use Rattle.mk_session.specs.declared.answers.Heard.{Heard}
 use Rattle.mk_session.specs.declared.answers.Heard.TheVariants as heard
 use Rattle.mk_run_laws.specs.Channels.{Channel, IsMoved}
 use Rattle.mk_run_laws.specs.Crews.{CrewState, channel_at, IsMovedAt, AreMoved, AreParkedAtRests, IsRestless, IsHeard, on_link, IsUnheard, given_by}
-use Rattle.mk_run_laws.proofs.Moving.{moved_twice, last_later}
+use Rattle.mk_run_laws.proofs.Moving.{moved_twice, last_later, moved_there, moved_back}
 use Rattle.mk_run_laws.proofs.Stepping.{first_or_second, not_empty}
 use Rattle.mk_run_laws.proofs.Waiting.{moved_on, parked_rested}
 use Rattle.mk_run_links.specs.declared.answers.LinkHalt.{LinkHalt}
@@ -41,16 +41,6 @@ unheard_is : (entries : List LogEntry) (L M : Channels) → AreMoved entries (λ
 unheard_is entries L M moved parked = record { kept = refl; none_kept = refl; moved = moved; parked = parked }
 
 -- ---- calls after each other
-
-pub moved_there : (entries : List LogEntry) (given : List Message) (o p : Option Channel) (w : Channel) → o ≡ Some w → IsMovedAt entries given o p → (v : Channel) × (p ≡ Some v) × IsMoved entries given w v
-moved_there entries given None p w e moved = absurd (none_some e)
-moved_there entries given (Some u) None w e moved = absurd moved
-moved_there entries given (Some u) (Some v) w e moved = (v, refl, subst (λ (x : Channel). IsMoved entries given x v) (some_same e) moved)
-
-pub moved_back : (entries : List LogEntry) (given : List Message) (o p : Option Channel) (v : Channel) → p ≡ Some v → IsMovedAt entries given o p → (w : Channel) × (o ≡ Some w) × (v.link ≡ w.link)
-moved_back entries given o None v e moved = absurd (none_some e)
-moved_back entries given None (Some u) v e moved = absurd moved
-moved_back entries given (Some w) (Some u) v e moved = (w, refl, ap (λ (x : Channel). x.link) (sym (some_same e)) ∙ moved.link)
 
 -- the links of moved channels are those of before
 pub open_still : (entries : List LogEntry) (L M : Channels) (open_links : List LinkNo) → IsUnheard entries (crew L) (crew M) → AreOpen L open_links → AreOpen M open_links

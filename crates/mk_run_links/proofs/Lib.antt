@@ -1,5 +1,5 @@
 -- The lemmas of mk_run_links, by their files.
-mod Beginning
+pub mod Beginning
 mod Hearing
 mod Linking
 mod Looking
