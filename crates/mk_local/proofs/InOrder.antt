@@ -21,7 +21,7 @@ abbrev next_id : Simulator → ℕ → Item → ℕ
 next_id L id item = cond (is_some (item_reply L id item)) (id + 1) id
 
 -- an item takes an id where it gets a reply
-one_id : (L : Simulator) (id : ℕ) (item : Item) (items : List Item) → id_after (next_id L id item) items ≡ id_after id (item ∷ items)
+pub one_id : (L : Simulator) (id : ℕ) (item : Item) (items : List Item) → id_after (next_id L id item) items ≡ id_after id (item ∷ items)
 one_id L id (Step at inputs advance) items = omega arith
 one_id L id (GetData wanted) items = omega arith
 one_id L id (Answer asked content) items = refl

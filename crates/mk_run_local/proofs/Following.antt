@@ -31,7 +31,7 @@ use Rattle.mk_local.specs.Replies.{after_item, after_items, item_reply, replies}
 use Rattle.mk_local.specs.Right.{EndsRight, Fits}
 use Rattle.mk_local.specs.Rows.{IsStepTime}
 use Rattle.mk_local.specs.Simulators.{Simulator, new_simulator}
-use Rattle.mk_local.proofs.InOrder.{right_in_order}
+use Rattle.mk_local.proofs.InOrder.{right_in_order, one_id}
 use Rattle.mk_run_local.specs.Seen.{begun_as, first_of}
 use Rattle.mk_run_local.specs.Made.{first_at, made, kind_reply_of, no_reply}
 use Rattle.mk_run_local.specs.Laws.{FitsKinds, HasCome, KindsAreRight, RepliesAreKinds}
@@ -72,12 +72,6 @@ after_bare L (Refuse asked reason) = refl
 
 abbrev next_id : Simulator → ℕ → Item → ℕ
 next_id L id item = cond (is_some (item_reply L id item)) (id + 1) id
-
-one_id : (L : Simulator) (id : ℕ) (item : Item) (items : List Item) → id_after (next_id L id item) items ≡ id_after id (item ∷ items)
-one_id L id (Step at inputs advance) items = omega arith
-one_id L id (GetData wanted) items = omega arith
-one_id L id (Answer asked content) items = refl
-one_id L id (Refuse asked reason) items = refl
 
 last_behind : (ms : List Message) (m : Message) → last_of (ms ++ m ∷ []) ≡ Some m
 last_behind [] m = refl

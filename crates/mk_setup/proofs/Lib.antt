@@ -4,7 +4,7 @@ mod Replied
 mod Reaching
 mod Planned
 mod Making
-mod Counting
+pub mod Counting
 mod Creating
 mod Stepping
 mod Completing

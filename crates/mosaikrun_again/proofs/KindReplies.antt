@@ -1,22 +1,19 @@
 -- What a simulator within the program replies is what `read` gives of its text.
-use Rattle.std.proofs.Common.{◌≡◌, ℕ, zero, suc, ◌+◌, ◌^◌, ◌<◌, ◌≤◌, ◌/◌, ◌%◌, ◌==◌, ℤ, pos, Bool, true, false, cond, List, [], ◌∷◌, ◌++◌, length, map, fold, is_some, slice_get, Option, Some, None, unwrap_or, option_map, option_and_then, refl, sym, ◌∙◌, subst, arith, codes, nat_lt, if◌then◌else◌}
+use Rattle.std.proofs.Common.{◌≡◌, ℕ, ◌+◌, ◌^◌, ◌<◌, ◌≤◌, ℤ, pos, Bool, true, false, List, [], ◌∷◌, ◌++◌, length, map, fold, is_some, slice_get, Option, Some, None, unwrap_or, option_map, option_and_then, refl, sym, ◌∙◌, subst, arith, codes, if◌then◌else◌}
 use Rattle.std.specs.Prelude.{option_to_list}
 use Rattle.std.proofs.lemmas.Bool.{and_from, lt-ltb}
-use Rattle.std.proofs.lemmas.Bool.Decides.{nat_tests}
 use Rattle.std.proofs.lemmas.Fmt.{IsAscii-from_digits}
 use Rattle.std.proofs.lemmas.Slice.Eq.{bytes_eq-Decides}
-use Rattle.std.proofs.lemmas.Str.{IsUtf8-from_ascii, digit_value_digit, is_utf8-from_IsUtf8}
+use Rattle.std.proofs.lemmas.Str.{IsUtf8-from_ascii, is_utf8-from_IsUtf8}
 use Rattle.std.specs.BTreeMap.{insert_entry}
-use Rattle.std.specs.Char.{digit_value}
 use Rattle.std.specs.Cmp.Lexicographic.{slice_cmp}
 use Rattle.std.specs.declared.cmp.Ordering.TheVariants.{Less, Equal, Greater}
-use Rattle.std.specs.Fmt.{decimal, digits, digits_onto, digit_glyph}
+use Rattle.std.specs.Fmt.{decimal, digits}
 use Rattle.std.specs.List.{find, list_all, range_with_len}
 use Rattle.std.specs.List.Sorted.{IsStrictlySortedBy}
 use Rattle.std.specs.Map.{keys_of}
 use Rattle.std.specs.Ordering.{match_ordering, nat_cmp}
 use Rattle.std.specs.Str.{chars, is_utf8}
-use Rattle.std.specs.Str.Parse.{AllDigits}
 use Rattle.mk_base.specs.declared.json.Json as tree
 use Rattle.mk_base.specs.Lists.{Each, same_text, text_order, last_of}
 use Rattle.mk_base.specs.Proper.{is_proper}
@@ -46,23 +43,11 @@ use Rattle.mk_local.specs.Kinds.{output_of}
 use Rattle.mk_local.specs.Replies.{after_item, item_reply, replies}
 use Rattle.mk_local.specs.Simulators.{Simulator}
 use Rattle.mk_local.specs.Steps.{next_of, number_or_null, step_content}
+use Rattle.mk_local.proofs.DataRight.{more_digits}
 use Rattle.mk_run_local.specs.Made.{kind_reply_of, made, no_reply}
 use Rattle.mk_record_laws.specs.Readable.{IsHeard}
 
 -- ---- texts
-
-digit_of : (n : ℕ) → digit_value (cond (nat_lt (n % 10) 10) (48 + n % 10) (87 + n % 10)) < 10
-digit_of n =
-    let low : n % 10 < 10 = omega arith in
-    let yes : nat_lt (n % 10) 10 ≡ true = grind (arith, nat_tests) in
-    rw yes (omega (arith, digit_value_digit (48 + n % 10) (omega arith, omega arith)))
-
-more_digits : (k n : ℕ) (acc : List ℕ) → AllDigits 10 acc → AllDigits 10 (digits_onto k 10 false n acc)
-more_digits zero n acc d = d
-more_digits (suc k) n acc d = elim (n / 10 == 0) as (λ b. AllDigits 10 (cond b (digit_glyph false (n % 10) ∷ acc) (digits_onto k 10 false (n / 10) (digit_glyph false (n % 10) ∷ acc)))) [
-  | true ↦ (digit_of n, d)
-  | false ↦ more_digits k (n / 10) (digit_glyph false (n % 10) ∷ acc) (digit_of n, d)
-]
 
 decimal_utf8 : (n : ℕ) → is_utf8 (decimal n) ≡ true
 unfolding digits

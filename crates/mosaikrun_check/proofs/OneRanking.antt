@@ -26,7 +26,7 @@ module _ (before : ℕ → ℕ → Bool) (n : ℕ) where
   one_next placed s t a b = let low = a.1 t b.0 in let high = b.1 s a.0 in omega (arith, low, high)
 
   -- two orders are the same as far as both go
-  same_order : (o p : List ℕ) → IsOrder before n o → IsOrder before n p → (r : ℕ) → r ≤ length o → r ≤ length p → take r o ≡ take r p
+  pub same_order : (o p : List ℕ) → IsOrder before n o → IsOrder before n p → (r : ℕ) → r ≤ length o → r ≤ length p → take r o ≡ take r p
   same_order o p io ip zero h k = refl
   same_order o p io ip (suc r) h k =
       let s = below_get o r (omega (arith, h)) in

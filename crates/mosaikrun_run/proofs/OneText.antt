@@ -1,14 +1,13 @@
 -- Two runs of a scenario whose simulators are all within the program say the same, and so do two
 -- whose simulators answer alike.
-use Rattle.std.proofs.Common.{◌≡◌, inl, inr, ℕ, zero, suc, ◌+◌, ◌<◌, ◌≤◌, Bool, true, false, List, [], ◌∷◌, ◌++◌, length, take, map, slice_get, Option, Some, Result, Ok, refl, sym, ap, ◌∙◌, subst, arith}
+use Rattle.std.proofs.Common.{◌≡◌, inl, inr, ℕ, zero, suc, ◌+◌, ◌<◌, ◌≤◌, Bool, true, false, List, [], ◌∷◌, ◌++◌, length, map, slice_get, Option, Some, Result, Ok, refl, sym, ap, ◌∙◌, subst, arith}
 use Rattle.std.proofs.Math.Path.{fun_ext}
 use Rattle.std.proofs.lemmas.List.{take_all}
 use Rattle.std.specs.List.{enumerate_from}
 use Rattle.mk_base.specs.Lists.{Each}
 use Rattle.mk_base.proofs.Lists.{append_nil, below_get, none_some, some_same}
 use Rattle.mk_cycles.specs.Edges.{has_edge}
-use Rattle.mk_cycles.specs.Orders.{IsNext, IsOrder, IsRanking}
-use Rattle.mk_cycles.proofs.Chains.{split_at}
+use Rattle.mk_cycles.specs.Orders.{IsRanking}
 use Rattle.mk_plan.specs.declared.Call.TheVariants.{Create, Init, SetupDone}
 use Rattle.mk_plan.specs.declared.Message.{Message}
 use Rattle.mk_plan.specs.declared.Plan.{Plan}
@@ -26,12 +25,14 @@ use Rattle.mk_connect.specs.Edges.{edges_of}
 use Rattle.mk_local.specs.declared.turn.Turn.{Turn}
 use Rattle.mk_local.specs.Calls.{call_reply}
 use Rattle.mk_local.specs.Simulators.{Simulator}
+use Rattle.mosaikrun_check.proofs.OneRanking.{same_order}
 use Rattle.mk_run_laws.specs.Handshake.{Request, is_within, setup_requests}
 use Rattle.mk_run_laws.specs.Kinds.{AnswersByKind}
 use Rattle.mk_run_laws.proofs.Existing.{there_are}
 use Rattle.mk_setup.specs.Asking.{plan_of}
 use Rattle.mk_setup.specs.Handshakes.{IsMade, reached}
 use Rattle.mk_setup.specs.Requests.{id_before}
+use Rattle.mk_setup.proofs.Counting.{same_lists}
 use Rattle.mk_run_local.specs.Made.{kind_reply_of}
 use Rattle.mk_run_crew.specs.Answers.{AreKindAnswers, IsKindAnswer}
 use Rattle.mk_run_crew.specs.Wholly.{is_wholly_within}
@@ -46,32 +47,12 @@ use Rattle.mosaikrun_run.specs.Outcomes.{IsPlayed, IsRunOutcome, IsScenarioOutco
 use Rattle.mosaikrun_run.specs.Sayings.{text_of}
 use Rattle.mosaikrun_run.proofs.Reporting.{said_is_done, texts_sequential}
 
--- two lists are equal where they are at each place
-same_lists : {X : Type 0} → (xs ys : List X) → length xs ≡ length ys → ((i : ℕ) → i < length xs → slice_get xs i ≡ slice_get ys i) → xs ≡ ys
-same_lists [] [] long each = refl
-same_lists [] (y ∷ ys) long each = absurd (omega arith)
-same_lists (x ∷ xs) [] long each = absurd (omega arith)
-same_lists (x ∷ xs) (y ∷ ys) long each = (λ k. some_same (each 0 (omega arith)) k ∷ same_lists xs ys (omega arith) (λ i below. each (suc i) (omega arith)) k)
-
 -- ---- one ranking
 
 module _ (before : ℕ → ℕ → Bool) (n : ℕ) where
-  one_next : (placed : List ℕ) (s t : ℕ) → IsNext before n placed s → IsNext before n placed t → s ≡ t
-  one_next placed s t a b = let low = a.1 t b.0 in let high = b.1 s a.0 in omega (arith, low, high)
-
-  same_order : (o p : List ℕ) → IsOrder before n o → IsOrder before n p → (r : ℕ) → r ≤ length o → r ≤ length p → take r o ≡ take r p
-  same_order o p io ip zero h k = refl
-  same_order o p io ip (suc r) h k =
-      let s = below_get o r (omega (arith, h)) in
-      let t = below_get p r (omega (arith, k)) in
-      let same = same_order o p io ip r (omega (arith, h)) (omega (arith, k)) in
-      let other : IsNext before n (take r o) t.0 = subst (λ (l : List ℕ). IsNext before n l t.0) (sym same) (ip r t.0 t.1) in
-      let next = one_next (take r o) s.0 t.0 (io r s.0 s.1) other in
-      (split_at r s.0 o s.1).0 ∙ ap (λ (x : ℕ). take r o ++ x ∷ []) next ∙ ap (λ (l : List ℕ). l ++ t.0 ∷ []) same ∙ sym (split_at r t.0 p t.1).0
-
   one_ranking : (ranks also : List ℕ) → IsRanking before n ranks → IsRanking before n also → ranks ≡ also
   one_ranking ranks also a b =
-      let same : a.0 ≡ b.0 = sym (take_all n a.0 (omega (arith, a.2))) ∙ same_order a.0 b.0 a.1 b.1 n (omega (arith, a.2)) (omega (arith, b.2)) ∙ take_all n b.0 (omega (arith, b.2)) in
+      let same : a.0 ≡ b.0 = sym (take_all n a.0 (omega (arith, a.2))) ∙ same_order before n a.0 b.0 a.1 b.1 n (omega (arith, a.2)) (omega (arith, b.2)) ∙ take_all n b.0 (omega (arith, b.2)) in
       same_lists ranks also (a.3 ∙ sym b.3)
       (λ s low.
       let r = below_get ranks s low in
