@@ -1,9 +1,6 @@
--- The whole numbers of what is heard and of each reply are in the range of trees.
-use Rattle.std.proofs.Common.{◌≡◌, ℕ, zero, suc, ◌+◌, Bool, true, false, List, map, Option, Some, None, Ok, Err, option_map, codes, if◌then◌else◌, refl, sym, ◌∙◌, subst}
+-- The whole numbers of each reply are in the range of trees.
+use Rattle.std.proofs.Common.{◌≡◌, ℕ, zero, suc, ◌+◌, true, false, List, map, Option, Some, None, Err, codes, if◌then◌else◌, refl, sym, ◌∙◌, subst}
 use Rattle.std.specs.List.{list_all, range_with_len}
-use Rattle.std.specs.Str.{is_utf8}
-use Rattle.serde_json.specs.Data.{Data}
-use Rattle.serde_json.specs.Read.{read}
 use Rattle.mk_base.specs.declared.json.Json as tree
 use Rattle.mk_base.specs.declared.json.Json.{Json}
 use Rattle.mk_base.specs.Lists.{same_text}
@@ -14,12 +11,8 @@ use Rattle.mk_plan.specs.declared.Call.{Call}
 use Rattle.mk_plan.specs.declared.Call.TheVariants.{Init, Create, SetupDone, Stop}
 use Rattle.mk_plan.specs.declared.Item.{Item}
 use Rattle.mk_plan.specs.declared.Message.{Message}
-use Rattle.mk_json.specs.Parsed.{tree_of, parsed}
 use Rattle.mk_json.proofs.LevelTests.{range-List}
-use Rattle.mk_json.proofs.Values.{read-in_range}
-use Rattle.mk_message.specs.Messages.{tested, message_in, message_of}
 use Rattle.mk_message.specs.Written.{is_in_range}
-use Rattle.mk_message.proofs.Ranges.{fits_in}
 use Rattle.mk_local.specs.declared.turn.Turn.{Turn}
 use Rattle.mk_local.specs.declared.turn.Turn.TheVariants.{Constant, Counter, Sum, Relay, Battery, Controller}
 use Rattle.mk_local.specs.Kinds.{model_of}
@@ -31,25 +24,6 @@ use Rattle.mk_run_local.specs.Calls.{IsFitSuccess}
 use Rattle.mk_run_local.specs.inner.Standing.{IsFit}
 use Rattle.mk_run_local.proofs.Replying.{reply_fit}
 use Rattle.mk_simapi.specs.Replies.{unknown}
-
--- ---- what is heard
-
-tree_fits : (bytes : List ℕ) (o : Option Data) (t : Json) → read bytes ≡ o → option_map tree_of o ≡ Some t → trees.is_in_range t ≡ true
-tree_fits bytes None t is e = absurd (none_some e)
-tree_fits bytes (Some d) t is e = subst (λ (u : Json). trees.is_in_range u ≡ true) (some_same e) (read-in_range bytes d is)
-
-parsed_fits : (bytes : List ℕ) (b : Bool) (t : Json) → (if b then option_map tree_of (read bytes) else None) ≡ Some t → trees.is_in_range t ≡ true
-parsed_fits bytes true t e = tree_fits bytes (read bytes) t refl e
-parsed_fits bytes false t e = absurd (none_some e)
-
-message_fits : (payload : List ℕ) (o : Option Json) (m : Message) → parsed payload ≡ o → tested 1 o message_in ≡ Ok m → is_in_range m ≡ true
-message_fits payload None m is e = cc
-message_fits payload (Some t) m is e = fits_in t m e (parsed_fits payload (is_utf8 payload) t is)
-
-pub read_in_range : (payload : List ℕ) (m : Message) → message_of payload ≡ Ok m → is_in_range m ≡ true
-read_in_range payload m e = message_fits payload (parsed payload) m refl e
-
--- ---- replies
 
 metadata_fits : (T : Turn) → trees.is_in_range (metadata T) ≡ true
 unfolding trees_compute

@@ -1,10 +1,10 @@
--- Answers to the goals of `serving::Service::round` that the prover leaves.
+-- The answers of `round`.
 use Rattle.std.proofs.Common.{◌++◌, ap, subst}
 use Rattle.mk_outside.proofs.OnLogs.{adds_more}
+use Rattle.mk_message.proofs.Ranges.{read_in_range}
 use Rattle.mk_session.specs.declared.answers.Heard.{Heard}
 use Rattle.mk_session.specs.declared.answers.Polled.TheVariants as polled
 use Rattle.mk_session.specs.Answers.{Polls}
-use Rattle.mk_simapi.proofs.Ranges.{read_in_range}
 use Rattle.mk_simapi.proofs.Steps.{pending_rest}
 use Rattle.mk_simapi.proofs.serving.Service.round.Goals as goal
 
