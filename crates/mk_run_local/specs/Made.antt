@@ -21,7 +21,8 @@ first_at rows S i = option_and_then (first_of rows) (slice_get S.sims i)
 abbrev pub made : List Turn → Scenario → ℕ → Option Simulator
 made rows S i = option_map (λ L. fold after_call L (calls_to S i)) (first_at rows S i)
 
--- what stands for the reply where there is none
+-- what stands for the reply of a simulator that has a link, or was sent nothing: no claim speaks of
+-- a reply there
 abbrev pub no_reply : Message
 no_reply = Success 0 tree.Null
 
