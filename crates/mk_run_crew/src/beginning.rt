@@ -213,7 +213,7 @@ impl Crew {
         if let Err(halt) = queue_call(self.alloc, &mut self.links, sim, call, id) {
             return Err(halt);
         }
-        match self.links.hear(rt, self.alloc, fleet) {
+        match self.links.hear(rt, fleet) {
             Ok(heard) => Ok(heard),
             Err(why) => Err(Halt::from(why)),
         }

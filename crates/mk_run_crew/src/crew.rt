@@ -143,7 +143,7 @@ impl Crew {
         if let Some(heard) = self.within.take() {
             return Ok(heard);
         }
-        match self.links.hear(rt, self.alloc, fleet) {
+        match self.links.hear(rt, fleet) {
             Ok(heard) => Ok(heard),
             Err(why) => Err(Halt::from(why)),
         }

@@ -28,7 +28,7 @@ get_take (suc k) i x [] e = cc
 get_take (suc k) zero x (y ∷ xs) e = (omega arith, e)
 get_take (suc k) (suc i) x (y ∷ xs) e = let t = get_take k i x xs e in (omega (arith, t.0), t.1)
 
-only : (l : LinkNo) (o : Option LinkNo) → IsIn l (option_to_list o) → o ≡ Some l
+pub only : (l : LinkNo) (o : Option LinkNo) → IsIn l (option_to_list o) → o ≡ Some l
 only l None h = absurd h
 only l (Some m) (inl e) = ap Some (sym e)
 only l (Some m) (inr h) = absurd h

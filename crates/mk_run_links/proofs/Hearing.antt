@@ -1,5 +1,5 @@
 -- Looks and rests one after another, until something is heard.
-use Rattle.std.proofs.Common.{◌≡◌, ℕ, Bool, true, false, List, [], ◌∷◌, ◌++◌, Option, Some, None, Ok, Err, refl, sym, ap, ◌∙◌, subst, inl, inr, option_map, true≢false}
+use Rattle.std.proofs.Common.{◌≡◌, ℕ, false, List, [], ◌∷◌, ◌++◌, Option, Some, None, Ok, Err, refl, sym, ap, ◌∙◌, subst, inl, inr, option_map, true≢false}
 use Rattle.mk_base.specs.declared.LinkNo.{LinkNo}
 use Rattle.mk_base.specs.declared.SimNo.{SimNo}
 use Rattle.mk_base.specs.Lists.{IsIn}
@@ -26,7 +26,8 @@ use Rattle.mk_run_links.specs.inner.OneChannel.{unparked}
 use Rattle.mk_run_links.specs.Entries.{AreOfLinks, AreOn}
 use Rattle.mk_run_links.specs.Places.{Channels, IsChannelLink, IsLinked, AreOpen, AreParked, at, crew}
 use Rattle.mk_run_links.specs.inner.Looks.{AreWoken, LooksAs, ListensAs, RestsAs, listened_of}
-use Rattle.mk_run_links.proofs.Looking.{all_woken, left_alone, nothing_by}
+use Rattle.mk_run_links.proofs.Looking.{all_woken, left_alone, nothing_by, rested_moved}
+use Rattle.mk_run_links.proofs.Marking.{marked_moved}
 use Rattle.mk_run_links.proofs.OnEntries.{no_rests, of_links_on, of_others, on_more, on_these}
 
 -- ---- one look
@@ -177,7 +178,7 @@ pub silence_goes_on : (L M N O : Channels) (old mid late new : Option (List LogE
 silence_goes_on L M N O old mid late new a b s adds l more r = record {
   entries = s.entries ++ (a ++ b);
   adds = adds_more s.entries (a ++ b) old mid new s.adds (adds_more a b mid late new adds more);
-  unheard = unheard_on s.entries (a ++ b) L M O s.unheard (subst (λ (x : List LogEntry). IsUnheard (a ++ x) (crew M) (crew O)) (sym r.0) (rested M N O a l r.1));
+  unheard = unheard_on s.entries (a ++ b) L M O s.unheard (subst (λ (x : List LogEntry). IsUnheard (a ++ x) (crew M) (crew O)) (sym r.0) (rested M N O a l (rested_moved N O (marked_moved r.1.0 N O r.1.3))));
   on_links = on_more (IsChannelLink L) s.entries (a ++ b) s.on_links (on_more (IsChannelLink L) a b (on_back s.entries a L M s.unheard.moved l.1) (subst (AreOn (IsChannelLink L)) (sym r.0) (tt, tt)));
 }
 

@@ -3,6 +3,7 @@ pub mod Beginning
 mod Hearing
 mod Linking
 mod Looking
+mod Marking
 pub mod OnEntries
 mod OnChannels
 pub mod OnStops

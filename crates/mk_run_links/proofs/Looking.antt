@@ -1,8 +1,7 @@
 -- What a poll of one channel comes to for a whole crew.
-use Rattle.std.proofs.Common.{◌≡◌, ◌⊎◌, ℕ, zero, suc, ◌+◌, ◌<◌, ◌≤◌, ◌==◌, true, false, List, [], ◌∷◌, ◌++◌, Option, Some, None, refl, sym, ap, ◌∙◌, subst, inl, inr, arith, length, slice_get, option_map, option_and_then, if◌then◌else◌}
+use Rattle.std.proofs.Common.{◌≡◌, ◌⊎◌, ℕ, zero, suc, ◌+◌, ◌<◌, ◌≤◌, ◌==◌, true, false, List, [], ◌∷◌, Option, Some, None, refl, sym, ap, ◌∙◌, subst, inl, inr, arith, length, option_map, if◌then◌else◌}
 use Rattle.mk_base.specs.declared.LinkNo.{LinkNo}
 use Rattle.mk_base.specs.declared.SimNo.{SimNo}
-use Rattle.mk_base.proofs.Lists.{none_some}
 use Rattle.mk_outside.specs.declared.fleet.LogEntry.{LogEntry}
 use Rattle.mk_session.specs.declared.answers.Heard.{Heard}
 use Rattle.mk_session.specs.declared.answers.Polled.{Polled}
@@ -12,10 +11,10 @@ use Rattle.mk_run_laws.specs.Channels.{Channel}
 use Rattle.mk_run_laws.specs.Crews.{CrewState, channel_at, IsMovedAt, AreMoved}
 use Rattle.mk_run_laws.proofs.Polling.{IsForeign, foreign, foreign_rest, channel_left, channel_unparked}
 use Rattle.mk_run_laws.proofs.Waiting.{moved_on}
-use Rattle.mk_run_laws.proofs.Stepping.{not_empty, same_or_not}
+use Rattle.mk_run_laws.proofs.Stepping.{same_or_not}
 use Rattle.mk_outside.specs.declared.fleet.LogEntry.TheVariants.{Rest}
 use Rattle.mk_run_laws.proofs.Greeting.{moved_one}
-use Rattle.mk_run_links.specs.inner.OneChannel.{given_in, link_of, PollsAt, unparked}
+use Rattle.mk_run_links.specs.inner.OneChannel.{given_in, PollsAt, unparked}
 use Rattle.mk_run_links.specs.Entries.{AreOfLinks}
 use Rattle.mk_run_links.specs.Places.{IsChannelLink, Channels, IsSet, at, crew}
 use Rattle.mk_run_links.specs.inner.Looks.{AreWoken, IsWokenAt, only_by, LooksAs}
@@ -52,13 +51,8 @@ looked_parked s L M entries apart p = let m = polled_moved polled.Pending s L M 
 pub looked_alone : (L : Channels) → LooksAs looked.Parked [] L L
 looked_alone L = left_alone (crew L)
 
-nobody : (k : LinkNo) → IsForeign k []
+pub nobody : (k : LinkNo) → IsForeign k []
 nobody k = record { unheard = refl; unsaid = refl; unread = refl; unwritten = refl }
-
--- a channel that is no longer parked
-pub woken_moved : (s : ℕ) (L M : Channels) → ((w : Channel) × IsSet s w (unparked w) L M) → AreMoved [] (λ i. []) (crew L) (crew M)
-woken_moved s L M set = nothing_by [] s (crew L) (crew M)
-    (moved_one [] [] (crew L) (crew M) s set.0 (unparked set.0) set.1.there set.1.here set.1.others (channel_unparked [] set.0 (nobody (set.0).link)) (λ i u away e. nobody u.link))
 
 woken_at : (o : Option Channel) → IsMovedAt [] [] o (option_map unparked o)
 woken_at None = tt
@@ -107,13 +101,6 @@ all_are_woken k n L M w count all i = elim (less_or_not i k) [
 -- what one waking does, where the simulator has a channel and where it has none
 pub woken_one : (s : ℕ) (L M : Channels) → ((w : Channel) × IsSet s w (unparked w) L M) → IsWokenAt s L M
 woken_one s L M set = record { here = set.1.here ∙ sym (ap (option_map unparked) set.1.there); others = set.1.others }
-
-pub none_linked : (o : Option Channel) → None ≡ link_of o → o ≡ None
-none_linked None e = refl
-none_linked (Some w) e = absurd (none_some e)
-
-pub woken_none : (s : ℕ) (L : Channels) → at L s ≡ None → IsWokenAt s L L
-woken_none s L none = record { here = none ∙ sym (ap (option_map unparked) none); others = λ i apart. refl }
 
 rested_at : (o : Option Channel) → IsMovedAt (Rest ∷ []) [] o o
 rested_at None = tt

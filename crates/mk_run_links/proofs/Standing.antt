@@ -1,9 +1,9 @@
 -- The turns of a crew's links, while one channel is set.
-use Rattle.std.proofs.Common.{◌≡◌, ◌<◌, ℕ, arith, length, inl, inr, Bool, true, false, not, cond, List, [], ◌∷◌, ◌++◌, Option, None, Some, refl, sym, ap, ◌∙◌, subst, true≢false, if◌then◌else◌}
+use Rattle.std.proofs.Common.{◌≡◌, ◌<◌, ℕ, arith, length, inl, inr, Bool, true, false, not, cond, List, [], ◌∷◌, ◌++◌, Some, refl, sym, ap, ◌∙◌, subst, true≢false, if◌then◌else◌}
 use Rattle.std.specs.List.{list_any}
 use Rattle.mk_base.specs.declared.LinkNo.{LinkNo}
 use Rattle.mk_base.specs.Lists.{IsIn}
-use Rattle.mk_base.proofs.Lists.{none_some, some_same, in_front, in_back, filter_in, some_passes}
+use Rattle.mk_base.proofs.Lists.{some_same, in_front, in_back, filter_in, some_passes}
 use Rattle.mk_base.specs.Links.{same_link, without}
 use Rattle.mk_poll.specs.Turning.{Turning}
 use Rattle.mk_poll.specs.Links.{made_parked, made_ready, IsAdded, TakeOf}
@@ -13,7 +13,7 @@ use Rattle.mk_session.specs.declared.answers.Polled.{Polled}
 use Rattle.mk_session.specs.declared.answers.Polled.TheVariants as polled
 use Rattle.mk_run_laws.specs.Channels.{Channel, queued}
 use Rattle.mk_run_laws.proofs.Stepping.{same_or_not, same_is, apart_is}
-use Rattle.mk_run_links.specs.inner.OneChannel.{PollsAt, link_of, unparked}
+use Rattle.mk_run_links.specs.inner.OneChannel.{PollsAt, unparked}
 use Rattle.mk_run_links.specs.Places.{Channels, IsSet, at}
 use Rattle.mk_run_links.specs.inner.Standing.{HasTurn, AreApart, StandsBut, HaveTurns}
 
@@ -125,13 +125,6 @@ ready_stand s v M t l but here on = elim (list_any (λ (other : LinkNo). same_li
 -- simulator s has a channel on this link
 abbrev IsAt : ℕ → Channels → LinkNo → Type 0
 IsAt s L l = (w : Channel) × (at L s ≡ Some w) × (w.link ≡ l)
-
-pub linked_at : (s : ℕ) (L : Channels) (l : LinkNo) → Some l ≡ link_of (at L s) → IsAt s L l
-linked_at s L l is = go (at L s) refl is
-  where
-    go : (o : Option Channel) → at L s ≡ o → Some l ≡ link_of o → IsAt s L l
-    go None e q = absurd (none_some (sym q))
-    go (Some w) e q = (w, e, some_same (sym q))
 
 pub sent_stands : (s : ℕ) (L M : Channels) (t u : Turning) (l : LinkNo) (payload : List ℕ) (next : ℕ) → HaveTurns L t → IsAt s L l → ((w : Channel) × IsSet s w (queued payload next w) L M) → u ≡ made_ready l t → HaveTurns M u
 sent_stands s L M t u l payload next st on set is =

@@ -1,4 +1,5 @@
 -- What proofs alone need.
 pub mod OneChannel
+pub mod Index
 pub mod Looks
 pub mod Standing

@@ -1,11 +1,12 @@
 //! The channels of a crew, each at the place of its simulator.
-ghost use Rattle.std.specs.Prelude.{◌≡◌, ℕ, ◌+◌, ◌≤◌, ◌<◌, ◌^◌, List, [], ◌∷◌, ◌++◌, length, filter_map, None, Some, Err, IfOk, IfSome, OnOk, OnErr};
+ghost use Rattle.std.specs.Prelude.{◌≡◌, ℕ, ◌+◌, ◌≤◌, ◌<◌, ◌^◌, List, [], ◌∷◌, ◌++◌, length, map, slice_get, true, false, None, Some, Err, IfOk, IfSome, OnOk, OnErr};
 ghost use Rattle.mk_frame.specs.Frames.{limit};
+ghost use Rattle.mk_launch.specs.Starts.{links_in};
 ghost use Rattle.mk_outside.specs.declared.fleet.LogEntry.{LogEntry};
 ghost use Rattle.mk_outside.specs.Counts.{HasRisen};
 ghost use Rattle.mk_outside.specs.Logs.{Adds};
 ghost use Rattle.mk_run_laws.specs.Channels.{Channel, queued};
-ghost use Rattle.mk_run_links.specs.inner.OneChannel.{PollsAt, StopsAt, is_on, link_of, unparked};
+ghost use Rattle.mk_run_links.specs.inner.OneChannel.{PollsAt, StopsAt, link_of, unparked};
 ghost use Rattle.mk_run_links.specs.Places.{IsLinked, IsOpenAt, IsSet, at};
 
 use crate::channel::CrewChannel;
@@ -19,37 +20,47 @@ use std::marker::Model;
 #[derive(Drop)]
 pub struct CrewChannels {
     channels: Vec<Option<CrewChannel>>,
+    // The links of the channels, and the simulators on these, in their order.
+    links: Vec<LinkNo>,
+    sims: Vec<SimNo>,
 }
 
 impl Model for CrewChannels {
-    ghost use Rattle.std.specs.Prelude.{List, Option, length, ◌<◌, ◌^◌};
+    ghost use Rattle.std.specs.Prelude.{List, Option, length, map, ◌<◌, ◌^◌};
     ghost use Rattle.mk_run_laws.specs.Channels.{Channel};
+    ghost use Rattle.mk_run_links.specs.inner.Index.{AreListed};
+    ghost use Rattle.mk_run_links.specs.inner.OneChannel.{link_of};
 
     ghost Value = { List (Option Channel) };
 
     ghost view = { λ a. a.channels.items };
 
-    ghost invariant = { λ a. length a.channels.items < 2 ^ 32 };
+    ghost invariant = { λ a. (length a.channels.items < 2 ^ 32)
+        × AreListed (map link_of a.channels.items) a.links.items a.sims.items };
 }
 
-fn is_on(channel: &Option<CrewChannel>, link: LinkNo) -> bool
-    ensures { result ≡ is_on link channel.now }
+// The link of a channel, if there is one.
+fn link_of(channel: &Option<CrewChannel>) -> Option<LinkNo>
+    ensures { result ≡ link_of channel.now }
 {
     match channel {
-        Some(channel) => channel.link().0 == link.0,
-        None => false,
+        Some(channel) => Some(channel.link()),
+        None => None,
     }
 }
 
-// Adds the link of a channel, if there is one.
-fn add_link(links: &mut Vec<LinkNo>, channel: &Option<CrewChannel>) -> Result<(), Mem>
-    ensures { OnOk result (links.new.items ≡ links.old.items
-        ++ filter_map link_of (channel.now ∷ [])) }
+// The place of a link among others. Where these are numbered one after another, as those of a run are, no other place
+// is looked at.
+fn place_of(links: &[LinkNo], link: LinkNo) -> Option<usize>
+    ensures some { IfSome result (λ k. slice_get links.now k ≡ Some link) }
+    ensures none { result ≡ None → (k : ℕ) → slice_get links.now k ≡ Some link → ⊥ }
 {
-    if let Some(channel) = channel {
-        links.push(channel.link())?;
+    let first = links.first()?;
+    let likely = link.0.wrapping_sub(first.0) as usize;
+    match links.get(likely) {
+        Some(there) if there.0 == link.0 => Some(likely),
+        Some(_) | None => links.iter().position(|other| other.0 == link.0),
     }
-    Ok(())
 }
 
 impl CrewChannels {
@@ -58,6 +69,8 @@ impl CrewChannels {
     {
         CrewChannels {
             channels: Vec::new(alloc),
+            links: Vec::new(alloc),
+            sims: Vec::new(alloc),
         }
     }
 
@@ -67,7 +80,15 @@ impl CrewChannels {
         ensures ok { OnOk result (self.new ≡ self.old ++ channel ∷ []) }
         ensures err { OnErr result (self.new ≡ self.old) }
     {
+        let sim = SimNo(self.channels.len() as u32);
+        let link = link_of(&channel);
+        self.links.reserve(1)?;
+        self.sims.reserve(1)?;
         self.channels.push(channel)?;
+        if let Some(link) = link {
+            self.links.push_reserved(link);
+            self.sims.push_reserved(sim);
+        }
         Ok(())
     }
 
@@ -90,13 +111,14 @@ impl CrewChannels {
         }
     }
 
-    // The link of a simulator's channel, if it has one.
-    pub fn link_at(&self, sim: SimNo) -> Option<LinkNo>
-        ensures { result ≡ link_of (at self.now sim.0) }
+    // Whether a simulator has a channel.
+    pub fn has(&self, sim: SimNo) -> bool
+        ensures some { result ≡ true → IsLinked sim.0 self.now }
+        ensures none { result ≡ false → at self.now sim.0 ≡ None }
     {
         match self.channels.get(sim.0 as usize) {
-            Some(Some(channel)) => Some(channel.link()),
-            Some(None) | None => None,
+            Some(Some(_)) => true,
+            Some(None) | None => false,
         }
     }
 
@@ -119,28 +141,31 @@ impl CrewChannels {
             → w.link ≡ link
             → ⊥ }
     {
-        let i = self
-            .channels
-            .iter()
-            .position(|channel| is_on(channel, link))?;
-        Some(SimNo(i as u32))
+        let k = place_of(&self.links, link)?;
+        Some(self.sims[k])
     }
 
     // The links of all channels, in the order of the simulators.
-    pub fn links(&self, alloc: Global) -> Result<Vec<LinkNo>, Mem>
-        ensures { IfOk result (λ links. links.items ≡ filter_map link_of self.now) }
+    pub fn links(&self) -> &[LinkNo]
+        ensures { result.now ≡ links_in (map link_of self.now) }
     {
-        let mut links = Vec::new(alloc);
-        for channel in &self.channels {
-            add_link(&mut links, channel)?;
-        }
-        Ok(links)
+        self.links.as_slice()
+    }
+
+    // The simulator on the link at this place of `links`.
+    pub fn sim_at(&self, k: usize) -> SimNo
+        requires { k < length (links_in (map link_of self.now)) }
+        ensures { (w : Channel) × (at self.now result.0 ≡ Some w)
+            × (slice_get (links_in (map link_of self.now)) k ≡ Some w.link) }
+    {
+        self.sims[k]
     }
 
     // The channel of a simulator is no longer parked.
     pub fn wake(&mut self, sim: SimNo)
         requires { IsLinked sim.0 self.old }
-        ensures { (w : Channel) × IsSet sim.0 w (unparked w) self.old self.new }
+        ensures woken { (w : Channel) × IsSet sim.0 w (unparked w) self.old self.new }
+        ensures same_links { map link_of self.new ≡ map link_of self.old }
     {
         match &mut self.channels[sim.0 as usize] {
             Some(channel) => channel.wake(),

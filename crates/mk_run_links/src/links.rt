@@ -1,5 +1,5 @@
 //! The links of a run: what is queued, heard and said on them.
-ghost use Rattle.std.specs.Prelude.{◌≡◌, ℕ, ◌+◌, ◌≤◌, ◌<◌, ◌^◌, List, [], ◌∷◌, ◌++◌, length, None, Some, Err, IfOk, IfSome, OnOk, OnErr, option_map, option_to_list};
+ghost use Rattle.std.specs.Prelude.{◌≡◌, ℕ, ◌+◌, ◌≤◌, ◌<◌, ◌^◌, List, [], ◌∷◌, ◌++◌, length, map, None, Some, Err, IfOk, IfSome, OnOk, OnErr, option_map, option_to_list};
 ghost use Rattle.mk_frame.specs.Frames.{limit};
 ghost use Rattle.mk_base.specs.declared.SimNo.{SimNo};
 ghost use Rattle.mk_outside.specs.declared.fleet.LogEntry.{LogEntry};
@@ -8,12 +8,14 @@ ghost use Rattle.mk_outside.specs.Logs.{Adds};
 ghost use Rattle.mk_run_laws.specs.Channels.{Channel, queued};
 ghost use Rattle.mk_poll.specs.Links.{IsAdded};
 ghost use Rattle.mk_run_laws.specs.Crews.{AreMoved, IsSentOnLink};
+ghost use Rattle.mk_launch.specs.Starts.{links_in};
 ghost use Rattle.mk_plan.specs.Sequential.{id_after};
 ghost use Rattle.mk_run_links.specs.Crews.{HearsAs, IsLengthOf, StopsAll, TriesAs};
 ghost use Rattle.mk_run_links.specs.Halts.{lasting, lasting_halt};
 ghost use Rattle.mk_run_links.specs.Entries.{AreOn};
 ghost use Rattle.mk_run_links.specs.Places.{AreDistinct, AreOpen, HasSmallNext, IsChannelLink, IsLinked, IsSet, at, crew, new_channel, new_channels};
-ghost use Rattle.mk_run_links.specs.inner.Looks.{AreWoken, IsWokenAt, ListensAs, LooksAs, RestsAs, listened_of};
+ghost use Rattle.mk_run_links.specs.inner.Looks.{AreWoken, AreWokenBy, IsWokenAt, ListensAs, LooksAs, RestsAs, listened_of};
+ghost use Rattle.mk_run_links.specs.inner.OneChannel.{link_of};
 ghost use Rattle.mk_run_links.specs.inner.Standing.{HaveTurns};
 
 use crate::answers::{LinkHalt, Listened, Looked};
@@ -34,6 +36,8 @@ use std::sync::Wait;
 pub struct Links {
     channels: CrewChannels,
     turns: Turns,
+    // The marks of the last rest, whose room the next one takes.
+    marks: Vec<bool>,
     halt: Option<LinkHalt>,
 }
 
@@ -83,13 +87,12 @@ pub fn id_behind(item: &Item, id: u64) -> u64
     }
 }
 
-// So many marks, none of them set.
-fn unmarked(alloc: Global, n: usize) -> Result<Vec<bool>, Mem>
-    ensures { IfOk result (λ marks. length marks.items ≡ n) }
+// Makes as many marks as there are links.
+fn count_marks(marks: &mut Vec<bool>, links: &[LinkNo]) -> Result<(), Mem>
+    ensures { OnOk result (length marks.new.items ≡ length links.now) }
 {
-    let mut marks = Vec::new(alloc);
-    marks.resize(n, false)?;
-    Ok(marks)
+    marks.resize(links.len(), false)?;
+    Ok(())
 }
 
 // The halt that is answered again after this one.
@@ -173,6 +176,34 @@ fn listen<F: Fleet>(channels: &mut CrewChannels, turns: &mut Turns, fleet: &mut 
     }
 }
 
+// The channel of a simulator is no longer parked, and its link is ready.
+fn wake(channels: &mut CrewChannels, turns: &mut Turns, sim: SimNo)
+    requires stands { HaveTurns channels.old turns.old }
+    requires linked { IsLinked sim.0 channels.old }
+    ensures stands { HaveTurns channels.new turns.new }
+    ensures woken { IsWokenAt sim.0 channels.old channels.new }
+    ensures same_links { map link_of channels.new ≡ map link_of channels.old }
+{
+    let link = channels.link(sim);
+    channels.wake(sim);
+    turns.ready(link);
+}
+
+// The channels of the links whose places are marked are no longer parked, and these links are ready.
+fn wake_marked(channels: &mut CrewChannels, turns: &mut Turns, marks: &[bool])
+    requires stands { HaveTurns channels.old turns.old }
+    requires places { length marks.now ≡ length (links_in (map link_of channels.old)) }
+    ensures stands { HaveTurns channels.new turns.new }
+    ensures woken { AreWokenBy marks.now channels.old channels.new }
+{
+    for k in 0..marks.len() {
+        if marks[k] {
+            let sim = channels.sim_at(k);
+            wake(channels, turns, sim);
+        }
+    }
+}
+
 impl Links {
     /// The links at these places, one place for each simulator: nothing was heard on them, nothing is to be said, and
     /// the next id of each is 0.
@@ -190,6 +221,7 @@ impl Links {
         Ok(Links {
             channels,
             turns,
+            marks: Vec::new(alloc),
             halt: None,
         })
     }
@@ -267,32 +299,8 @@ impl Links {
         listen(&mut self.channels, &mut self.turns, fleet)
     }
 
-    // The link is no longer parked.
-    fn wake(&mut self, link: LinkNo)
-        ensures same_halt { self.new.halt ≡ self.old.halt }
-        ensures stands { AreMoved [] (λ i. []) (crew self.old.channels) (crew self.new.channels) }
-    {
-        if let Some(sim) = self.channels.sim_on(link) {
-            self.channels.wake(sim);
-            self.turns.ready(link);
-        }
-    }
-
-    // The links whose places are marked are no longer parked.
-    fn wake_marked(&mut self, links: &[LinkNo], marks: &[bool])
-        requires { length marks.now ≡ length links.now }
-        ensures same_halt { self.new.halt ≡ self.old.halt }
-        ensures stands { AreMoved [] (λ i. []) (crew self.old.channels) (crew self.new.channels) }
-    {
-        for k in 0..links.len() {
-            if marks[k] {
-                self.wake(links[k]);
-            }
-        }
-    }
-
     // Waits on all links. Those that may be read or written again are no longer parked.
-    fn rest<F: Fleet>(&mut self, alloc: Global, fleet: &mut F) -> Result<(), LinkHalt>
+    fn rest<F: Fleet>(&mut self, fleet: &mut F) -> Result<(), LinkHalt>
         requires open { AreOpen self.old.channels (F.open_links fleet.old) }
         requires some { (i : ℕ) × IsLinked i self.old.channels }
         ensures count { F.faults fleet.old ≤ F.faults fleet.new }
@@ -305,11 +313,11 @@ impl Links {
             × Adds entries (F.log fleet.old) (F.log fleet.new)
             × RestsAs result entries self.old.channels self.new.channels }
     {
-        let links = self.channels.links(alloc)?;
-        let mut marks = unmarked(alloc, links.len())?;
-        match fleet.wait(&links, &mut marks) {
+        let links = self.channels.links();
+        count_marks(&mut self.marks, links)?;
+        match fleet.wait(links, &mut self.marks) {
             Waited::Marked => {
-                self.wake_marked(&links, &marks);
+                wake_marked(&mut self.channels, &mut self.turns, &self.marks);
                 Ok(())
             }
             Waited::Failed => Err(LinkHalt::Fleet),
@@ -322,9 +330,8 @@ impl Links {
         ensures same_halt { self.new.halt ≡ self.old.halt }
         ensures woken { IsWokenAt sim.0 self.old.channels self.new.channels }
     {
-        if let Some(link) = self.channels.link_at(sim) {
-            self.channels.wake(sim);
-            self.turns.ready(link);
+        if self.channels.has(sim) {
+            wake(&mut self.channels, &mut self.turns, sim);
         }
     }
 
@@ -342,7 +349,6 @@ impl Links {
     fn hear_next<F: Fleet, R: Wait>(
         &mut self,
         rt: &R,
-        alloc: Global,
         fleet: &mut F,
     ) -> Result<(SimNo, Message), LinkHalt>
         requires open { AreOpen self.old.channels (F.open_links fleet.old) }
@@ -361,7 +367,7 @@ impl Links {
             match self.listen(fleet) {
                 Listened::Message(sim, message) => return Ok((sim, message)),
                 Listened::Halted(halt) => return Err(halt),
-                Listened::Quiet => match self.rest(alloc, fleet) {
+                Listened::Quiet => match self.rest(fleet) {
                     Ok(()) => {}
                     Err(halt) => return Err(halt),
                 },
@@ -396,7 +402,6 @@ impl Links {
     pub fn hear<F: Fleet, R: Wait>(
         &mut self,
         rt: &R,
-        alloc: Global,
         fleet: &mut F,
     ) -> Result<(SimNo, Message), LinkHalt>
         requires open { AreOpen self.old.channels (F.open_links fleet.old) }
@@ -417,7 +422,7 @@ impl Links {
         if let Some(halt) = self.halt {
             return Err(halt);
         }
-        match self.hear_next(rt, alloc, fleet) {
+        match self.hear_next(rt, fleet) {
             Ok(heard) => Ok(heard),
             Err(halt) => {
                 self.halt = lasting_halt(halt);

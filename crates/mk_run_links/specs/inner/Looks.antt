@@ -1,11 +1,16 @@
 -- For proofs alone. What came of one look at a link, of looks at all of them, and of one rest.
-use Rattle.std.specs.Prelude.{◌≡◌, ℕ, ◌==◌, List, [], ◌∷◌, Result, Ok, Err, option_map, if◌then◌else◌}
+use Rattle.std.specs.Prelude.{◌≡◌, ℕ, ◌==◌, Bool, true, false, ◌&&◌, ◌||◌, List, [], ◌∷◌, length, map, Result, Ok, Err, option_map, if◌then◌else◌}
+use Rattle.mk_base.specs.declared.LinkNo.{LinkNo}
 use Rattle.mk_base.specs.declared.SimNo.{SimNo}
+use Rattle.mk_base.specs.Links.{same_link}
+use Rattle.mk_base.specs.Lists.{IsIn}
+use Rattle.mk_launch.specs.Starts.{links_in}
 use Rattle.mk_outside.specs.declared.fleet.LogEntry.{LogEntry}
 use Rattle.mk_outside.specs.declared.fleet.LogEntry.TheVariants.{Rest}
 use Rattle.mk_plan.specs.declared.Message.{Message}
 use Rattle.mk_session.specs.declared.answers.Heard.{Heard}
 use Rattle.mk_session.specs.declared.answers.Heard.TheVariants as heard
+use Rattle.mk_run_laws.specs.Channels.{Channel}
 use Rattle.mk_run_laws.specs.Crews.{AreMoved, IsHeard, IsUnheard}
 use Rattle.mk_run_links.specs.declared.answers.LinkHalt.{LinkHalt}
 use Rattle.mk_run_links.specs.declared.answers.LinkHalt.TheVariants as halt
@@ -14,7 +19,7 @@ use Rattle.mk_run_links.specs.declared.answers.Listened.TheVariants as listened
 use Rattle.mk_run_links.specs.declared.answers.Looked.{Looked}
 use Rattle.mk_run_links.specs.declared.answers.Looked.TheVariants as looked
 use Rattle.mk_run_links.specs.Halts.{HeardOf, ShowsHalt}
-use Rattle.mk_run_links.specs.inner.OneChannel.{message_in, unparked}
+use Rattle.mk_run_links.specs.inner.OneChannel.{link_of, message_in, unparked}
 use Rattle.mk_run_links.specs.Entries.{AreOfLinks}
 use Rattle.mk_run_links.specs.Places.{AreParked, IsChannelLink, Channels, IsLinked, at, crew}
 
@@ -49,12 +54,6 @@ ListensAs (listened.Halted h) entries old new = IsUnheard entries (crew old) (cr
 ListensAs listened.Quiet entries old new = IsUnheard entries (crew old) (crew new)
     × AreOfLinks (IsChannelLink old) entries × AreParked new
 
--- the fleet rested and all channels stand, but that some are no longer parked; or nothing was done
-abbrev pub RestsAs : Result (Unit {0}) LinkHalt → List LogEntry → Channels → Channels → Type 0
-RestsAs (Ok done) entries old new = (entries ≡ Rest ∷ [])
-    × AreMoved (Rest ∷ []) (λ i. []) (crew old) (crew new)
-RestsAs (Err h) entries old new = (entries ≡ []) × (new ≡ old) × ShowsHalt h [] new
-
 -- the channel of simulator s, if it has one, is no longer parked, and all others stand
 pub record IsWokenAt (s : ℕ) (old new : Channels) : Type 0 where
   pub here : at new s ≡ option_map unparked (at old s)
@@ -63,3 +62,27 @@ pub record IsWokenAt (s : ℕ) (old new : Channels) : Type 0 where
 -- no channel is parked any more
 abbrev pub AreWoken : Channels → Channels → Type 0
 AreWoken old new = (i : ℕ) → at new i ≡ option_map unparked (at old i)
+
+-- the link's place among others is marked
+abbrev pub is_marked : List Bool → List LinkNo → LinkNo → Bool
+is_marked [] links link = false
+is_marked (mark ∷ marks) [] link = false
+is_marked (mark ∷ marks) (other ∷ links) link = (mark && same_link other link)
+    || is_marked marks links link
+
+-- the channel is no longer parked if its link's place is marked
+abbrev pub woken_by : List Bool → List LinkNo → Channel → Channel
+woken_by marks links w = if is_marked marks links w.link then unparked w else w
+
+-- the channels of the links whose places are marked are no longer parked, and all others stand
+abbrev pub AreWokenBy : List Bool → Channels → Channels → Type 0
+AreWokenBy marks old new = (i : ℕ) → at new i
+    ≡ option_map (woken_by marks (links_in (map link_of old))) (at old i)
+
+-- the fleet rested and marked some links, and their channels alone are no longer parked; or nothing
+-- was done
+abbrev pub RestsAs : Result (Unit {0}) LinkHalt → List LogEntry → Channels → Channels → Type 0
+RestsAs (Ok done) entries old new = (entries ≡ Rest ∷ [])
+    × ((marks : List Bool) × (length marks ≡ length (links_in (map link_of old)))
+    × IsIn true marks × AreWokenBy marks old new)
+RestsAs (Err h) entries old new = (entries ≡ []) × (new ≡ old) × ShowsHalt h [] new

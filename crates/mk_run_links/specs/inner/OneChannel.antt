@@ -2,7 +2,6 @@
 use Rattle.std.specs.Prelude.{◌≡◌, ℕ, ◌⊎◌, Bool, true, false, List, [], ◌∷◌, ◌++◌, Some, Option, None, option_map, ⊤}
 use Rattle.mk_base.specs.declared.LinkNo.{LinkNo}
 use Rattle.mk_base.specs.Lists.{Each, BeginsWith}
-use Rattle.mk_base.specs.Links.{same_link}
 use Rattle.mk_plan.specs.declared.Message.{Message}
 use Rattle.mk_outside.specs.declared.fleet.LogEntry.{LogEntry}
 use Rattle.mk_outside.specs.declared.fleet.LogEntry.TheVariants.{NotSaid}
@@ -61,11 +60,6 @@ pub record FlushesChannel (w : Channel) (last : List ℕ) (risen : Type 0)
 pub record StopsChannel (w : Channel) (risen : Type 0) (entries : List LogEntry) : Type 0 where
   pub on_link : Each (IsOnLink w.link) entries
   pub stopped : IsStopped entries risen w
-
--- the channel is on this link
-abbrev pub is_on : LinkNo → Option Channel → Bool
-is_on link None = false
-is_on link (Some w) = same_link w.link link
 
 -- the link of a channel, if there is one
 abbrev pub link_of : Option Channel → Option LinkNo

@@ -1,6 +1,4 @@
--- Answers to the goals of `links::Links::try_next` that the prover leaves.
-use Rattle.std.proofs.Common.{List}
-use Rattle.mk_outside.proofs.OnLogs.{adds_none}
+-- What looks at all links come to.
 use Rattle.mk_run_links.proofs.Hearing.{open_woken, tried_halted, tried_heard, tried_none}
 use Rattle.mk_run_links.proofs.links.Links.try_next.Goals as goal
 
