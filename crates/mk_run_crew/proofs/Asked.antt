@@ -1,9 +1,12 @@
 -- One request: what its calls add up to.
-use Rattle.std.proofs.Common.{◌≡◌, ℕ, ◌+◌, ◌<◌, true, false, List, [], length, None, refl, ap, ◌∙◌, subst, inl, inr}
+use Rattle.std.proofs.Common.{◌≡◌, ℕ, ◌+◌, ◌<◌, true, false, List, [], length, Option, None, Result, Ok, Err, refl, ap, ◌∙◌, subst, inl, inr}
+use Rattle.std.specs.Prelude.{IfOk, IfErr}
 use Rattle.mk_base.specs.declared.SimNo.{SimNo}
 use Rattle.mk_frame.specs.Frames.{limit}
 use Rattle.mk_message.specs.Written.{call_text}
 use Rattle.mk_outside.specs.declared.fleet.LogEntry.{LogEntry}
+use Rattle.mk_outside.specs.Logs.{Adds}
+use Rattle.mk_outside.proofs.OnLogs.{adds_none}
 use Rattle.mk_plan.specs.declared.Call.{Call}
 use Rattle.mk_plan.specs.declared.Message.{Message}
 use Rattle.mk_session.specs.declared.answers.QueueFault.{QueueFault}
@@ -17,7 +20,8 @@ use Rattle.mk_local.specs.declared.turn.Turn.{Turn}
 use Rattle.mk_run_local.specs.Calls.{IsCalled}
 use Rattle.mk_run_local.specs.Seen.{AreOf}
 use Rattle.mk_run_crew.specs.declared.halt.Halt.{Halt}
-use Rattle.mk_run_crew.specs.inner.Asking.{AsksFail, AsksOnLink, AsksWithin, IsUnqueued}
+use Rattle.mk_run_crew.specs.declared.halt.Halt.TheVariants as halts
+use Rattle.mk_run_crew.specs.inner.Asking.{Asks, AsksFail, AsksOnLink, AsksWithin, IsUnqueued}
 use Rattle.mk_run_crew.specs.inner.Calls.{unsent}
 use Rattle.mk_run_crew.specs.Seen.{CrewSeen, is_here, within_of}
 
@@ -60,3 +64,17 @@ pub asked_within : (i : ℕ) (call : Call) (id : ℕ) (m : Message) (V C D : Cre
     → D.channels ≡ V.channels → D.halt ≡ V.halt → AsksWithin i call id i m [] C D
 asked_within i call id m V C D same here called known channels halt =
     subst (λ (X : CrewSeen). AsksWithin i call id i m [] X D) same (record { here = here; same_sim = refl; quiet = refl; called = called; known = known; channels = channels; halt = halt })
+
+-- ---- an answer at once, before which and after which the log is the same
+
+pub answered_at_once : (r : Result (SimNo × Message) Halt) (i : ℕ) (call : Call) (id : ℕ) (C D : CrewSeen) (log : Option (List LogEntry)) → IfOk r (λ p. Asks i call id p.0.0 p.1 [] C D) → IfOk r (λ p. (entries : List LogEntry) × Adds entries log log × Asks i call id p.0.0 p.1 entries C D)
+answered_at_once (Ok p) i call id C D log asked = ([], adds_none log, asked)
+answered_at_once (Err h) i call id C D log asked = tt
+
+pub failed_at_once : (r : Result (SimNo × Message) Halt) (i : ℕ) (call : Call) (id : ℕ) (C D : CrewSeen) (log : Option (List LogEntry)) → IfErr r (λ h. (h ≡ halts.Mem) × AsksFail h i call id [] C D) → IfErr r (λ h. (entries : List LogEntry) × Adds entries log log × AsksFail h i call id entries C D)
+failed_at_once (Ok p) i call id C D log failed = tt
+failed_at_once (Err h) i call id C D log failed = ([], adds_none log, failed.1)
+
+pub not_by_fleet : (r : Result (SimNo × Message) Halt) (i : ℕ) (call : Call) (id : ℕ) (C D : CrewSeen) → IfErr r (λ h. (h ≡ halts.Mem) × AsksFail h i call id [] C D) → r ≡ Err halts.Fleet → ⊥
+not_by_fleet (Ok p) i call id C D failed is = cc
+not_by_fleet (Err h) i call id C D failed is = let mem = failed.0 in cc

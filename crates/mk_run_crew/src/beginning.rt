@@ -251,8 +251,7 @@ impl Crew {
             × AsksFail h sim.0 call.now id entries self.old self.new) }
     {
         if self.within.has(sim) {
-            let message = self.within.answer_call(kinds, sim, call, id)?;
-            return Ok((sim, message));
+            return self.ask_within(kinds, sim, call, id);
         }
         self.ask_link(rt, fleet, sim, call, id)
     }

@@ -63,7 +63,7 @@ fn no_links(alloc: Global, scenario: &Scenario) -> Result<List<Option<LinkNo>>, 
 
 impl Crew {
     // Makes a request to a simulator within the program, and gives its reply.
-    fn ask_within(
+    pub(crate) fn ask_within(
         &mut self,
         kinds: &Registry,
         sim: SimNo,
