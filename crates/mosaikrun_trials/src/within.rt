@@ -9,7 +9,7 @@ use mk_base::List;
 use mk_local::Registry;
 use mk_plan::Journal;
 use mk_run::{Outcome, Ran, run_local};
-use mk_run_crew::is_wholly_within;
+use mk_run_crew::{is_wholly_within, within_handshakes_are_faultless};
 use mk_scenario::Scenario;
 use mosaikrun_check::{ranked, scenario_of};
 use std::alloc::Global;
@@ -45,6 +45,7 @@ fn run_ranked(alloc: Global, kinds: &Registry, scenario: Scenario, ranks: List<u
     requires runnable { IsRunnable (map name_of (rows_in kinds.now)) scenario ranks }
 {
     if is_wholly_within(&scenario) {
+        within_handshakes_are_faultless();
         Some(run_local(alloc, scenario, ranks, kinds))
     } else {
         None
