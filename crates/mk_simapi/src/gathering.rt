@@ -1,8 +1,8 @@
 //! The inputs of a step and what is wanted, gathered from an argument.
-ghost use Rattle.std.specs.Prelude.{◌≡◌, ◌++◌, ◌∷◌, [], true, IfOk, OnOk};
+ghost use Rattle.std.specs.Prelude.{◌≡◌, ◌++◌, ◌∷◌, [], true, is_some, IfOk, OnOk};
 ghost use Rattle.mk_base.specs.Texts.{text_of};
-ghost use Rattle.mk_base.specs.Trees.{is_in_range};
-ghost use Rattle.mk_async.specs.Forms.{each_passes, is_object_of, is_value};
+ghost use Rattle.mk_base.specs.Trees.{is_in_range, text_in};
+ghost use Rattle.mk_async.specs.Forms.{are_texts, each_passes, is_object_of, is_texts, is_value};
 ghost use Rattle.mk_async.specs.inner.Given.{is_source, members_of};
 ghost use Rattle.mk_simapi.specs.Requests.{inputs_in, wants_in};
 ghost use Rattle.mk_simapi.specs.inner.Inputs.{inputs_among, inputs_at, inputs_by, inputs_to, items_of, text_or_empty, wants_among, wants_at, wants_by};
@@ -58,7 +58,7 @@ fn put_entity(alloc: Global, inputs: &mut List<Input>, eid: &Text, tree: &Json) 
 {
     match tree.as_object() {
         Some(members) => put_attributes(alloc, inputs, eid, members),
-        None => Ok(()),
+        None => unreachable!(),
     }
 }
 
@@ -91,7 +91,7 @@ fn put_attribute(
 {
     match tree.as_object() {
         Some(members) => put_sources(alloc, inputs, eid, attr, members),
-        None => Ok(()),
+        None => unreachable!(),
     }
 }
 
@@ -152,62 +152,62 @@ fn wants_by(alloc: Global, entities: &Members<Json>) -> Result<Option<List<Want>
         return Ok(None);
     }
     let mut wants = List::new(alloc);
-    put_wanted(alloc, &mut wants, entities)?;
+    put_wanted(&mut wants, entities)?;
     Ok(Some(wants))
 }
 
 // Appends what is wanted of all entities.
-fn put_wanted(alloc: Global, wants: &mut List<Want>, entities: &Members<Json>) -> Result<(), Mem>
+fn put_wanted(wants: &mut List<Want>, entities: &Members<Json>) -> Result<(), Mem>
+    requires { each_passes is_texts entities.now ≡ true }
     ensures { OnOk result (wants.new ≡ wants.old ++ wants_among entities.now) }
 {
     for entity in entities.entries() {
-        put_wants_of(alloc, wants, &entity.0, &entity.1)?;
+        put_wants_of(wants, &entity.0, &entity.1)?;
     }
     Ok(())
 }
 
 // Appends what is wanted of one entity: a list, since `are_wants` has passed it.
-fn put_wants_of(alloc: Global, wants: &mut List<Want>, eid: &Text, tree: &Json) -> Result<(), Mem>
+fn put_wants_of(wants: &mut List<Want>, eid: &Text, tree: &Json) -> Result<(), Mem>
+    requires { is_texts tree.now ≡ true }
     ensures { OnOk result (wants.new ≡ wants.old ++ wants_at eid.now (items_of tree.now)) }
 {
     match tree.as_list() {
-        Some(attrs) => put_wants(alloc, wants, eid, attrs),
-        None => Ok(()),
+        Some(attrs) => put_wants(wants, eid, attrs),
+        None => unreachable!(),
     }
 }
 
-fn put_wants(
-    alloc: Global,
-    wants: &mut List<Want>,
-    eid: &Text,
-    attrs: &List<Json>,
-) -> Result<(), Mem>
+fn put_wants(wants: &mut List<Want>, eid: &Text, attrs: &List<Json>) -> Result<(), Mem>
+    requires { are_texts attrs.now ≡ true }
     ensures { OnOk result (wants.new ≡ wants.old ++ wants_at eid.now attrs.now) }
 {
     for attr in attrs.as_slice() {
-        put_want(alloc, wants, eid, attr)?;
+        put_want(wants, eid, attr)?;
     }
     Ok(())
 }
 
 // Appends one attribute of an entity.
-fn put_want(alloc: Global, wants: &mut List<Want>, eid: &Text, attr: &Json) -> Result<(), Mem>
+fn put_want(wants: &mut List<Want>, eid: &Text, attr: &Json) -> Result<(), Mem>
+    requires { is_some (text_in attr.now) ≡ true }
     ensures { OnOk result (wants.new ≡ wants.old
         ++ record { eid = eid.now; attr = text_or_empty attr.now } ∷ []) }
 {
     let want = Want {
         eid: eid.copy()?,
-        attr: text_or_empty(alloc, attr)?,
+        attr: copied_text(attr)?,
     };
     wants.push(want)
 }
 
-// The text that a tree is, or an empty one.
-fn text_or_empty(alloc: Global, tree: &Json) -> Result<Text, Mem>
+// A copy of the text that a tree is.
+fn copied_text(tree: &Json) -> Result<Text, Mem>
+    requires { is_some (text_in tree.now) ≡ true }
     ensures { IfOk result (λ text. text ≡ text_or_empty tree.now) }
 {
     match tree.as_text() {
         Some(text) => text.copy(),
-        None => Text::of(alloc, ""),
+        None => unreachable!(),
     }
 }
