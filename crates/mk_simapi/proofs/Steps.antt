@@ -111,24 +111,25 @@ module _ (L : Simulator) (link : LinkNo) where
       all_rest : rest_heard (heard_on link log) ≡ s.held
       all_rest = taken_rest (heard_on link log) ms s.held at.heard ∙ (none_heard s.held nothing).1
 
-      unstopped : IsUnstopped L link log
-      unstopped = record { going = subst NoStop (sym all_heard) at.going; short = subst (AreShort L) (sym all_heard) at.short }
-
-      well : IsSaidOut link (last_write link log) s.unsent → last_read link log ≡ Some (NotHeard link) → IsWellAtRest L link log
-      well out last = record {
+      unstopped : IsSaidOut link (last_write link log) s.unsent → IsUnstopped L link log
+      unstopped out = record {
         going = subst NoStop (sym all_heard) at.going;
+        short = subst (AreShort L) (sym all_heard) at.short;
         said = subst (λ (all : List Message). SaysAll link log (frames_of (payloads L all))) (sym all_heard) (says_all link log s.unsent (frames_of (payloads L ms)) at.said out);
-        heard_all = last;
       }
 
-    pub closes : IsUnfinished s.held → last_read link log ≡ Some (Ended link) → Serves L link served.Closed log
-    closes un last = let nothing = none_first s.held (unfinished_none s.held un) in ends served.Closed (unstopped nothing, subst IsUnfinished (sym (all_rest nothing)) un, last)
+      well : IsSaidOut link (last_write link log) s.unsent → last_read link log ≡ Some (NotHeard link) → IsWellAtRest L link log
+      well out last = record { going = (unstopped out).going; said = (unstopped out).said; heard_all = last }
 
-    pub garbles : (n : ℕ) → BeginsGarbled s.held n → Serves L link (served.Garbled n) log
-    garbles n g = let nothing = garbled_none s.held g.0 g.1 n g.3 g.2 in ends (served.Garbled n) (unstopped nothing, subst (λ (h : List ℕ). BeginsGarbled h n) (sym (all_rest nothing)) g)
+    module _ (out : IsSaidOut link (last_write link log) s.unsent) where
+      pub closes : IsUnfinished s.held → last_read link log ≡ Some (Ended link) → Serves L link served.Closed log
+      closes un last = let nothing = none_first s.held (unfinished_none s.held un) in ends served.Closed (unstopped nothing out, subst IsUnfinished (sym (all_rest nothing)) un, last)
 
-    pub overlong : (n : ℕ) → IsTooLong n s.held → Serves L link (served.TooLong n) log
-    overlong n l = let nothing = none_first s.held (long_none s.held n l) in ends (served.TooLong n) (unstopped nothing, subst (IsTooLong n) (sym (all_rest nothing)) l)
+      pub garbles : (n : ℕ) → BeginsGarbled s.held n → Serves L link (served.Garbled n) log
+      garbles n g = let nothing = garbled_none s.held g.0 g.1 n g.3 g.2 in ends (served.Garbled n) (unstopped nothing out, subst (λ (h : List ℕ). BeginsGarbled h n) (sym (all_rest nothing)) g)
+
+      pub overlong : (n : ℕ) → IsTooLong n s.held → Serves L link (served.TooLong n) log
+      overlong n l = let nothing = none_first s.held (long_none s.held n l) in ends (served.TooLong n) (unstopped nothing out, subst (IsTooLong n) (sym (all_rest nothing)) l)
 
     -- the fleet waits
     pub rested : IsUnfinished s.held → IsSaidOut link (last_write link log) s.unsent → last_read link log ≡ Some (NotHeard link) → IsServing L link (log ++ Rest ∷ []) ms M s
@@ -181,6 +182,7 @@ module _ (L : Simulator) (link : LinkNo) where
       replied = replied_to (Some reply) some;
       length_is = ap length (sym is) ∙ sym size;
       long = long;
+      said = says_all link log s.unsent (frames_of (payloads L ms)) at.said at.said_out;
     })
 
     module _ (N : Simulator) (after : N ≡ after_message M m) (e : is_stop m ≡ false) where
@@ -226,6 +228,9 @@ module _ (L : Simulator) (link : LinkNo) (log entries : List LogEntry) (ms : Lis
   on_link : (a : Polled) → Polls a s entries t → t.link ≡ link
   on_link a p = p.same_link ∙ at.on
 
+  out_after : (a : Polled) → Polls a s entries t → a ≢ polled.Ready heard.Failed → IsSaidOut link (last_write link (log ++ entries)) t.unsent
+  out_after a p going = said_out_later link log entries t.unsent (subst (λ (l : LinkNo). IsSaidOut l (last_write l entries) t.unsent) at.on (p.said_out going))
+
   pub polled_failed : Polls (polled.Ready heard.Failed) s entries t → Serves L link served.Failed (log ++ entries)
   polled_failed p = fails L link (log ++ entries) ms M t (after_poll (polled.Ready heard.Failed) p p.found)
 
@@ -233,14 +238,23 @@ module _ (L : Simulator) (link : LinkNo) (log entries : List LogEntry) (ms : Lis
   polled_memory p = wants_memory L link (log ++ entries) ms M t (after_poll (polled.Ready heard.Mem) p p.found)
 
   pub polled_closed : Polls (polled.Ready heard.Closed) s entries t → Serves L link served.Closed (log ++ entries)
-  polled_closed p = closes L link (log ++ entries) ms M t (after_poll (polled.Ready heard.Closed) p p.found.0) p.found.1
+  polled_closed p = closes L link (log ++ entries) ms M t (after_poll (polled.Ready heard.Closed) p p.found.0) (out_after (polled.Ready heard.Closed) p (λ e. apart e)) p.found.1
       (last_later (is_read link) log entries (Ended link) (subst (λ (l : LinkNo). last_read l entries ≡ Some (Ended l)) at.on p.found.2))
+    where
+      apart : polled.Ready heard.Closed ≡ polled.Ready heard.Failed → ⊥
+      apart e = cc
 
   pub polled_garbled : (n : ℕ) → Polls (polled.Ready (heard.Garbled n)) s entries t → Serves L link (served.Garbled n) (log ++ entries)
-  polled_garbled n p = garbles L link (log ++ entries) ms M t (after_poll (polled.Ready (heard.Garbled n)) p p.found.0) n p.found.1
+  polled_garbled n p = garbles L link (log ++ entries) ms M t (after_poll (polled.Ready (heard.Garbled n)) p p.found.0) (out_after (polled.Ready (heard.Garbled n)) p (λ e. apart e)) n p.found.1
+    where
+      apart : polled.Ready (heard.Garbled n) ≡ polled.Ready heard.Failed → ⊥
+      apart e = cc
 
   pub polled_long : (n : ℕ) → Polls (polled.Ready (heard.TooLong n)) s entries t → Serves L link (served.TooLong n) (log ++ entries)
-  polled_long n p = overlong L link (log ++ entries) ms M t (after_poll (polled.Ready (heard.TooLong n)) p p.found.0) n p.found.1
+  polled_long n p = overlong L link (log ++ entries) ms M t (after_poll (polled.Ready (heard.TooLong n)) p p.found.0) (out_after (polled.Ready (heard.TooLong n)) p (λ e. apart e)) n p.found.1
+    where
+      apart : polled.Ready (heard.TooLong n) ≡ polled.Ready heard.Failed → ⊥
+      apart e = cc
 
   pub polled_message : (m : Message) → Polls (polled.Ready (heard.Message m)) s entries t → IsAsked L link (log ++ entries) ms m M t
   polled_message m p = is_asked L link log entries ms M s t (polled.Ready (heard.Message m)) at p m p.found.0 p.found.1
@@ -255,7 +269,7 @@ module _ (L : Simulator) (link : LinkNo) (log entries : List LogEntry) (ms : Lis
     pending = after_poll polled.Pending p p.found.0
 
     out : IsSaidOut link (last_write link (log ++ entries)) t.unsent
-    out = said_out_later link log entries t.unsent (subst (λ (l : LinkNo). IsSaidOut l (last_write l entries) t.unsent) at.on (p.said_out (λ e. apart e)))
+    out = out_after polled.Pending p (λ e. apart e)
       where
         apart : polled.Pending ≡ polled.Ready heard.Failed → ⊥
         apart e = cc

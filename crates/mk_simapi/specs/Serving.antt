@@ -40,8 +40,8 @@ pub record HasHeardStop (L : Simulator) (link : LinkNo) (log : List LogEntry) : 
   pub short : AreShort L before
   pub said : SaysAll link log (frames_of (payloads L before))
 
--- a message was heard whose reply has n bytes, which is more than a frame may have; all replies before
--- it are short, and no stop came up to it
+-- a message was heard whose reply has n bytes, which is more than a frame may have; all replies
+-- before it are short, and were said, or the last write took nothing; and no stop came up to it
 pub record IsLong (L : Simulator) (link : LinkNo) (log : List LogEntry) (n : ℕ) : Type 0 where
   pub before : List Message
   pub asks : Message
@@ -53,11 +53,13 @@ pub record IsLong (L : Simulator) (link : LinkNo) (log : List LogEntry) (n : ℕ
   pub replied : reply_to (fold after_message L before) asks ≡ Some reply
   pub length_is : length (message_text reply) ≡ n
   pub long : limit < n
+  pub said : SaysAll link log (frames_of (payloads L before))
 
--- no stop was heard, and each reply is short
+-- no stop was heard, each reply is short, and all were said, or the last write took nothing
 pub record IsUnstopped (L : Simulator) (link : LinkNo) (log : List LogEntry) : Type 0 where
   pub going : NoStop (heard_of link log)
   pub short : AreShort L (heard_of link log)
+  pub said : SaysAll link log (frames_of (payloads L (heard_of link log)))
 
 -- the cause by which the serving ended
 abbrev pub EndsBy : Simulator → LinkNo → Served → List LogEntry → Type 0

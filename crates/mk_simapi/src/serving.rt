@@ -200,10 +200,10 @@ impl Service {
 }
 
 /// Serves a simulator of the kind of this name on a link: answers each request in order, until a stop. A request that
-/// asks for nothing that is known gets the failure reply `unknown request`, and replies are ignored. At `Stopped` all
-/// replies before the stop were said, or the last write took nothing. `Closed` comes only where the last read found the
-/// link's end, `Failed` only where the fleet's count of faults rose, and `LongReply` only where a reply is longer than
-/// a frame may be.
+/// asks for nothing that is known gets the failure reply `unknown request`, and replies are ignored. At each end but
+/// `Failed` and `Mem` all replies before it were said, or the last write took nothing. `Closed` comes only where the
+/// last read found the link's end, `Failed` only where the fleet's count of faults rose, and `LongReply` only where a
+/// reply is longer than a frame may be.
 pub fn serve<F: Fleet, R: Wait>(
     rt: &R,
     alloc: Global,
