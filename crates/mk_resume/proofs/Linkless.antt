@@ -96,6 +96,7 @@ module _ (S : Scenario) (all : is_wholly_within S ≡ true) (started faults : �
     setup_rests = λ before after is not_up. absurd (restless before after is);
     on_links = tt;
     shown = shown reply P r.first J r.heard log end r.shown;
+    fault = r.fault;
     unfinished = r.unfinished;
   }
 

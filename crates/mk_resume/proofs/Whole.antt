@@ -130,6 +130,7 @@ module _ (T : Setting) (P : Plan) (first J : List Entry) (heard : Counts) (log e
     on_links = on_more (IsRunLink T.started T.scenario) log entries ended.log_right.on_links
         (on_run T.started T.scenario C.channels entries (λ i l linked. let h = (ended.channels i l linked).channel in (h.channel, h.there, h.link)) ended.no_other of_channels);
     shown = shown end ended.ends;
+    fault = ended.fault;
     unfinished = ended.unfinished;
   }
 

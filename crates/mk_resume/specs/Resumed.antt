@@ -48,7 +48,7 @@ use Rattle.mk_resume_links.specs.Rests.{Counts, repeated, RestsWell}
 use Rattle.mk_resume_links.specs.Runs.{IsLinkOfResumed}
 use Rattle.mk_resume_loop.specs.declared.ending.ResumeEnd.{ResumeEnd}
 use Rattle.mk_resume_loop.specs.declared.ending.ResumeEnd.TheVariants as ends
-use Rattle.mk_resume_loop.specs.Resumed.{IsCutOff, IsFull, IsLongFree, QueuedAllAt}
+use Rattle.mk_resume_loop.specs.Resumed.{IsCutOff, IsFull, IsLongFree, QueuedAllAt, fault_at}
 
 -- all messages that were heard of simulator i were taken
 pub record HasTakenAll (started : ℕ) (S : Scenario) (log : List LogEntry) (J : List Entry)
@@ -118,8 +118,9 @@ IsWaiting P J heard = (SomeReady P J → ⊥)
 -- run's begins with. Each simulator has sent so many of the journal's messages again in this call
 -- (`heard`), and the journal has of it as many as the record, or as were heard, whichever are more;
 -- those of a simulator within the program are its kind's replies, each of which was awaited, an item
--- before it not being answered; and each simulator was sent what is free then, which is what stands
--- in the journal before its next message. No link but the run's was read or written
+-- before it not being answered; and each simulator was sent what is free then, which is what
+-- stands in the journal before its next message. The journal has no fault but one that the end
+-- names, and no link but the run's was read or written
 pub record IsResumed (X : Exchange) (P : Plan) (saved : Saved) (J : List Entry)
     (faults new_faults : ℕ) (end : ResumeEnd) : Type 0 where
   pub replies : SetupReplies
@@ -145,6 +146,7 @@ pub record IsResumed (X : Exchange) (P : Plan) (saved : Saved) (J : List Entry)
   pub setup_rests : SetupRestsWell X.started X.scenario X.log
   pub on_links : AreOn (IsRunLink X.started X.scenario) X.log
   pub shown : ShownBy X P first J heard faults new_faults end
+  pub fault : (view P J).fault ≡ fault_at end
   pub unfinished : IsCutOff end → IsWaiting P J heard
 
 -- the handshake was made, the plan is the record's but for the limit of entries, and the record's

@@ -9,7 +9,7 @@ use Rattle.mk_plan.specs.declared.Item.{Item}
 use Rattle.mk_plan.specs.declared.Message.{Message}
 use Rattle.mk_plan.specs.declared.Entry.{Entry}
 use Rattle.mk_plan.specs.declared.Entry.TheVariants.{Got}
-use Rattle.mk_plan.specs.Journals.{bare, got}
+use Rattle.mk_plan.specs.Journals.{bare, got, view}
 use Rattle.mk_frame.specs.Frames.{IsTooLong}
 use Rattle.mk_outside.specs.declared.fleet.LogEntry.{LogEntry}
 use Rattle.mk_outside.specs.declared.fleet.LogEntry.TheVariants.{Ended}
@@ -42,7 +42,8 @@ use Rattle.mk_run.specs.inner.Underway.{Setting, reply_in, HasNoOther, exchange_
 use Rattle.mk_run.proofs.Linked.{no_other_moved}
 use Rattle.mk_sched.proofs.Pushed.{patient_got}
 use Rattle.mk_run.proofs.Pushed.{range_got}
-use Rattle.mk_run.proofs.Endings.{last_is_in, queued_itself}
+use Rattle.mk_run.specs.Ends.{fault_named}
+use Rattle.mk_run.proofs.Endings.{last_is_in, limit_unnamed, none_named, queued_itself}
 use Rattle.mk_resume_walk.specs.Talks.{free_items}
 use Rattle.mk_resume_links.specs.Rests.{Counts, repeated}
 use Rattle.mk_resume_links.specs.Running.{RestsEnd}
@@ -54,7 +55,7 @@ use Rattle.mk_resume_links.proofs.Touching.{seen_as}
 use Rattle.mk_resume_links.proofs.Waiting.{over_so_far, so_far_end}
 use Rattle.mk_resume_loop.specs.declared.ending.ResumeEnd.{ResumeEnd}
 use Rattle.mk_resume_loop.specs.declared.ending.ResumeEnd.TheVariants as ends
-use Rattle.mk_resume_loop.specs.Resumed.{IsCutOff, QueuedAllAt}
+use Rattle.mk_resume_loop.specs.Resumed.{IsCutOff, QueuedAllAt, fault_at}
 use Rattle.mk_resume_loop.specs.inner.Ending.{EndsBy, HasEnded, HasGiven, IsAhead, IsLastChannel, IsLeftNow, SomeToCome, IsWaiting}
 use Rattle.mk_resume_loop.specs.inner.Underway.{IsMet, IsResuming, saved_of}
 use Rattle.mk_resume_loop.proofs.Asked.{longer_begins}
@@ -80,9 +81,9 @@ module _ (T : Setting) (first : List Entry) where
   }
 
   -- the run ends where it is
-  pub ends_here : (risen : Type 0) (P : Plan) (J : List Entry) (heard : Counts) (log : List LogEntry) (C : CrewState) (sims : List (Option Simulator)) (o : Outcome) → IsResuming T P first J heard log C sims → (IsCutOff (ends.Outcome o) → IsWaiting P J heard)
+  pub ends_here : (risen : Type 0) (P : Plan) (J : List Entry) (heard : Counts) (log : List LogEntry) (C : CrewState) (sims : List (Option Simulator)) (o : Outcome) → IsResuming T P first J heard log C sims → None ≡ fault_named o → (IsCutOff (ends.Outcome o) → IsWaiting P J heard)
       → EndsBy risen T P first J heard log C (ends.Outcome o) → HasEnded risen T P first J heard log C (ends.Outcome o)
-  ends_here risen P J heard log C sims o u unfinished shown = record {
+  ends_here risen P J heard log C sims o u unnamed unfinished shown = record {
     suits = u.suits;
     stands = u.stands;
     begins = u.begins;
@@ -95,24 +96,25 @@ module _ (T : Setting) (first : List Entry) where
     rests = so_far_end (saved_of first) T.started T.scenario T.replies P J log C.kept u.catching.rests;
     log_right = u.log_right;
     ends = shown;
+    fault = u.no_fault ∙ unnamed;
     unfinished = unfinished;
   }
 
   -- nothing is left to do, and all have caught up
   pub done_ends : (risen : Type 0) (P : Plan) (J : List Entry) (heard : Counts) (log : List LogEntry) (C : CrewState) (sims : List (Option Simulator)) → IsResuming T P first J heard log C sims → EndsBy risen T P first J heard log C (ends.Outcome outcome.Done)
       → HasEnded risen T P first J heard log C (ends.Outcome outcome.Done)
-  done_ends risen P J heard log C sims u shown = ends_here risen P J heard log C sims outcome.Done u (λ broken. absurd broken) shown
+  done_ends risen P J heard log C sims u shown = ends_here risen P J heard log C sims outcome.Done u refl (λ broken. absurd broken) shown
 
   -- there is no room for a Step
   pub full_ends : (risen : Type 0) (old new : CoreState) (f : CoreFault) (heard : Counts) (log : List LogEntry) (C : CrewState) (sims : List (Option Simulator)) → old.ended ≡ None → IsResuming T old.plan first old.entries heard log C sims → WasFaulty old f new ⊎ sched.IsFull old f new
       → HasEnded risen T new.plan first new.entries heard log C (ends.Outcome (outcome.Core f))
   full_ends risen old new f heard log C sims going u (inl was) = absurd (none_some (sym going ∙ was.0))
   full_ends risen old new f heard log C sims going u (inr full) = subst (λ (c : CoreState). HasEnded risen T c.plan first c.entries heard log C (ends.Outcome (outcome.Core f))) (sym full.ended)
-      (ends_here risen old.plan old.entries heard log C sims (outcome.Core f) u (λ broken. absurd broken) (inr (record { named = full.named; full = full.full; no_fault = u.no_fault; more = inr (inl full.ready) })))
+      (ends_here risen old.plan old.entries heard log C sims (outcome.Core f) u (limit_unnamed f old.plan.entries full.named) (λ broken. absurd broken) (inr (record { named = full.named; full = full.full; no_fault = u.no_fault; more = inr (inl full.ready) })))
 
   -- the core wants memory for what is next
   pub mem_ends : (risen : Type 0) (old new : CoreState) (heard : Counts) (log : List LogEntry) (C : CrewState) (sims : List (Option Simulator)) → IsResuming T old.plan first old.entries heard log C sims → IsOutOfMemory old new → HasEnded risen T new.plan first new.entries heard log C (ends.Outcome outcome.Mem)
-  mem_ends risen old new heard log C sims u o = subst (λ (c : CoreState). HasEnded risen T c.plan first c.entries heard log C (ends.Outcome outcome.Mem)) (sym o.ended) (ends_here risen old.plan old.entries heard log C sims outcome.Mem u (λ broken. absurd broken) tt)
+  mem_ends risen old new heard log C sims u o = subst (λ (c : CoreState). HasEnded risen T c.plan first c.entries heard log C (ends.Outcome outcome.Mem)) (sym o.ended) (ends_here risen old.plan old.entries heard log C sims outcome.Mem u refl (λ broken. absurd broken) tt)
 
   -- ---- a message wasn't taken, or made a fault
 
@@ -166,8 +168,8 @@ module _ (T : Setting) (first : List Entry) where
     left_now caught = (s.0, caught, elim left.came [ inl t ↦ inl (m, ahead t.0 t.1) | inr t ↦ inr (record { within = t.0; more = t.2 }) ])
 
     -- the core hasn't taken it
-    pub untaken_ends : (end : ResumeEnd) → ((items : List Item) → QueuedAllAt end items items) → (IsCutOff end → IsWaiting P J heard) → EndsBy risen T P first J heard log D end → HasEnded risen T P first J heard log D end
-    untaken_ends end all unfinished shown = record {
+    pub untaken_ends : (end : ResumeEnd) → None ≡ fault_at end → ((items : List Item) → QueuedAllAt end items items) → (IsCutOff end → IsWaiting P J heard) → EndsBy risen T P first J heard log D end → HasEnded risen T P first J heard log D end
+    untaken_ends end unnamed all unfinished shown = record {
       suits = u.suits;
       stands = u.stands;
       begins = u.begins;
@@ -187,12 +189,13 @@ module _ (T : Setting) (first : List Entry) where
       rests = left.rests;
       log_right = met_log_right T P first J heard log s m D sims h;
       ends = shown;
+      fault = u.no_fault ∙ unnamed;
       unfinished = unfinished;
     }
 
     -- it isn't the saved one
     pub differs_ends : (place : ℕ) (saved : Message) → place ≡ heard s.0 → place < length (got J s.0) → slice_get (got J s.0) place ≡ Some saved → (saved ≡ m → ⊥) → HasEnded risen T P first J heard log D (ends.Differs s place saved m)
-    differs_ends place saved at low had apart = untaken_ends (ends.Differs s place saved m) (λ items. refl) (λ broken. absurd broken) (record {
+    differs_ends place saved at low had apart = untaken_ends (ends.Differs s place saved m) refl (λ items. refl) (λ broken. absurd broken) (record {
       at = at;
       early = subst (λ (k : ℕ). k < length (got first s.0)) (sym at) (early_of (length (got J s.0)) (length (got first s.0)) (heard s.0) (u.catching.counts s.0) (subst (λ (k : ℕ). k < length (got J s.0)) at low));
       had = had;
@@ -211,8 +214,8 @@ module _ (T : Setting) (first : List Entry) where
       taken : IsCatching (saved_of first) (exchange_at T log) T.replies P K next D
       taken = quiet_catching T P first J heard log s m D sims h caught
 
-      pub faulty_ends : (o : Outcome) → Stands P K → (IsCutOff (ends.Outcome o) → IsWaiting P K next) → EndsBy risen T P first K next log D (ends.Outcome o) → HasEnded risen T P first K next log D (ends.Outcome o)
-      faulty_ends o stands unfinished shown = record {
+      pub faulty_ends : (o : Outcome) → Stands P K → (view P K).fault ≡ fault_named o → (IsCutOff (ends.Outcome o) → IsWaiting P K next) → EndsBy risen T P first K next log D (ends.Outcome o) → HasEnded risen T P first K next log D (ends.Outcome o)
+      faulty_ends o stands fault unfinished shown = record {
         suits = u.suits;
         stands = stands;
         begins = longer_begins J first (Got s m) u.begins;
@@ -225,6 +228,7 @@ module _ (T : Setting) (first : List Entry) where
         rests = so_far_end (saved_of first) T.started T.scenario T.replies P K log D.kept taken.rests;
         log_right = met_log_right T P first J heard log s m D sims h;
         ends = shown;
+        fault = fault;
         unfinished = unfinished;
       }
 
@@ -233,23 +237,23 @@ module _ (T : Setting) (first : List Entry) where
       fault_ends f going stands (inl was) = absurd (none_some (sym going ∙ was.0))
       fault_ends f going stands (inr (inl un)) = (
         heard,
-        subst (λ (c : CoreState). HasEnded risen T c.plan first c.entries heard log D (ends.Outcome (outcome.Core f))) (sym un.ended) (untaken_ends (ends.Outcome (outcome.Core f)) (queued_itself (outcome.Core f)) (λ broken. absurd broken)
+        subst (λ (c : CoreState). HasEnded risen T c.plan first c.entries heard log D (ends.Outcome (outcome.Core f))) (sym un.ended) (untaken_ends (ends.Outcome (outcome.Core f)) (limit_unnamed f core.plan.entries un.named) (queued_itself (outcome.Core f)) (λ broken. absurd broken)
             (inr (record { named = un.named; full = un.full; no_fault = u.no_fault; more = inr (inr (left_now caught)) }))),
       )
       fault_ends f going stands (inr (inr (inl bad))) = (
         next,
         subst (λ (c : CoreState). HasEnded risen T c.plan first c.entries next log D (ends.Outcome (outcome.Core f))) (sym bad.ended)
-            (faulty_ends (outcome.Core f) (subst (λ (c : CoreState). Stands c.plan c.entries) bad.ended stands) (λ broken. absurd broken)
+            (faulty_ends (outcome.Core f) (subst (λ (c : CoreState). Stands c.plan c.entries) bad.ended stands) bad.made (λ broken. absurd broken)
             (inl (record { before = J; sim = s; message = m; is = refl; right_before = u.no_fault; named = bad.named; fault = bad.made }))),
       )
       fault_ends f going stands (inr (inr (inr un))) = (
         next,
         subst (λ (c : CoreState). HasEnded risen T c.plan first c.entries next log D (ends.Outcome (outcome.Core f))) (sym un.ended)
-            (faulty_ends (outcome.Core f) (subst (λ (c : CoreState). Stands c.plan c.entries) un.ended stands) (λ broken. absurd broken) (inr (record { named = un.named; full = un.full; no_fault = un.no_fault; more = inl un.owed }))),
+            (faulty_ends (outcome.Core f) (subst (λ (c : CoreState). Stands c.plan c.entries) un.ended stands) (un.no_fault ∙ limit_unnamed f core.plan.entries un.named) (λ broken. absurd broken) (inr (record { named = un.named; full = un.full; no_fault = un.no_fault; more = inl un.owed }))),
       )
 
     pub untaken_for_memory : IsOutOfMemory core new → HasEnded risen T new.plan first new.entries heard log D (ends.Outcome outcome.Mem)
-    untaken_for_memory o = subst (λ (c : CoreState). HasEnded risen T c.plan first c.entries heard log D (ends.Outcome outcome.Mem)) (sym o.ended) (untaken_ends (ends.Outcome outcome.Mem) (queued_itself outcome.Mem) (λ broken. absurd broken) tt)
+    untaken_for_memory o = subst (λ (c : CoreState). HasEnded risen T c.plan first c.entries heard log D (ends.Outcome outcome.Mem)) (sym o.ended) (untaken_ends (ends.Outcome outcome.Mem) refl (queued_itself outcome.Mem) (λ broken. absurd broken) tt)
 
   -- ---- nothing was heard
 
@@ -300,5 +304,6 @@ module _ (T : Setting) (first : List Entry) where
       log_right = log_right_on T (λ i. repeated J i (heard i)) (λ i. free_items J i (heard i)) (awaited T.scenario (reply_in T) J heard) P log entries (crew_of C) u.suits u.catching.touch u.log_right
           (on_run T.started T.scenario C.channels entries (λ i l linked. let g = u.catching.touch.channels i l linked in (g.channel, g.there, g.link)) u.no_other on_links);
       ends = by_link why cause shown;
+      fault = u.no_fault ∙ sym (none_named (halt_of why));
       unfinished = λ broken. (nobody, unfinished);
     }

@@ -102,6 +102,7 @@ module _ (core : CoreState) (C : CrewSeen) (s : SimNo) (gone id : ℕ) (low : s.
     rests = so_far_end (saved_of R.course.first) R.course.setting.started R.course.setting.scenario R.course.setting.replies core.plan core.entries R.course.log C.kept d.resuming.catching.rests;
     log_right = d.resuming.log_right;
     ends = tt;
+    fault = d.resuming.no_fault;
     unfinished = λ broken. absurd broken;
   }
 

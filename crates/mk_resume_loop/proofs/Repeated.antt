@@ -1,5 +1,5 @@
 -- A message of a simulator that has to send it again: what its comparison with the saved one comes to.
-use Rattle.std.proofs.Common.{◌≡◌, inl, inr, ℕ, ◌+◌, ◌≤◌, List, slice_get, Some, None, Result, Ok, Err, OnOk, sym, subst, arith}
+use Rattle.std.proofs.Common.{◌≡◌, inl, inr, ℕ, ◌+◌, ◌≤◌, List, slice_get, Some, None, Result, Ok, Err, OnOk, refl, sym, subst, arith}
 use Rattle.mk_base.specs.declared.SimNo.{SimNo}
 use Rattle.mk_plan.specs.declared.Message.{Message}
 use Rattle.mk_plan.specs.declared.Entry.{Entry}
@@ -11,7 +11,7 @@ use Rattle.mk_run.specs.inner.Underway.{Setting}
 use Rattle.mk_resume_links.specs.Rests.{Counts}
 use Rattle.mk_resume_loop.specs.declared.behind.Standing.{Standing}
 use Rattle.mk_resume_loop.specs.declared.ending.ResumeEnd.{ResumeEnd}
-use Rattle.mk_resume_loop.specs.Resumed.{IsCutOff, QueuedAllAt}
+use Rattle.mk_resume_loop.specs.Resumed.{IsCutOff, QueuedAllAt, fault_at}
 use Rattle.mk_resume_loop.specs.inner.Comparisons.{IsApart}
 use Rattle.mk_resume_loop.specs.inner.Ending.{EndsBy}
 use Rattle.mk_resume_loop.specs.inner.Turns.{IsDue, IsPast, IsSized, IsStopping, PassesAs, TakesAs, Walk}
@@ -47,7 +47,7 @@ module _ (T : Setting) (core : CoreState) (first : List Entry) (heard : Counts) 
 pub apart_so : (core : CoreState) (C : CrewSeen) (B : BehindSeen) (s : SimNo) (m : Message) (c : Standing) (there : slice_get B.sims s.0 ≡ Some (Some c)) (x : SimNo) (kept : Message) → slice_get core.entries c.place ≡ Some (Got x kept) → (number : ℕ) → ((n : ℕ) → c.gone ≡ n + n + 2 → number ≡ n)
     → (end : ResumeEnd) → IsApart end s number kept m → TakesAs (Err end) s m core C B core C B
 apart_so core C B s m c there x kept at number counts end (inl mem) = λ T first heard log h.
-    (heard, untaken_ends T first ⊥ core core heard log s m (crew_of C) C.sims h.0 end (λ items. subst (λ (e : ResumeEnd). QueuedAllAt e items items) (sym mem) tt) (λ broken. absurd (subst IsCutOff mem broken)) (subst (EndsBy ⊥ T core.plan first core.entries heard log (crew_of C)) (sym mem) tt))
+    (heard, untaken_ends T first ⊥ core core heard log s m (crew_of C) C.sims h.0 end (subst (λ (e : ResumeEnd). None ≡ fault_at e) (sym mem) refl) (λ items. subst (λ (e : ResumeEnd). QueuedAllAt e items items) (sym mem) tt) (λ broken. absurd (subst IsCutOff mem broken)) (subst (EndsBy ⊥ T core.plan first core.entries heard log (crew_of C)) (sym mem) tt))
 apart_so core C B s m c there x kept at number counts end (inr t) = λ T first heard log h.
     subst (IsStopping ⊥ T first core log C) (sym t.1) (differs_on T core first heard log C C B B s m h c there x kept at t.0 number (counts (heard s.0) (saved_number T core first heard log C B s m c there h)))
 

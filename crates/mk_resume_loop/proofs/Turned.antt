@@ -73,6 +73,7 @@ stopping_by some all T first core log C end more (heard, e) = (
     rests = e.rests;
     log_right = e.log_right;
     ends = ends_by some all T first core heard log C more end e.ends;
+    fault = e.fault;
     unfinished = e.unfinished;
   },
 )

@@ -20,6 +20,7 @@ use Rattle.mk_run_crew.specs.declared.halt.Halt.TheVariants as halt
 use Rattle.mk_run_crew.specs.Seen.{CrewSeen, crew_of}
 use Rattle.mk_run_crew.specs.Calls.{ShowsUnsent}
 use Rattle.mk_run.specs.Outcomes.{outcome_of}
+use Rattle.mk_run.proofs.Endings.{none_named}
 use Rattle.mk_run.specs.inner.Underway.{Setting}
 use Rattle.mk_resume_walk.specs.Talks.{free_items}
 use Rattle.mk_resume_links.specs.Rests.{Counts, repeated}
@@ -80,5 +81,6 @@ module _ (risen : Type 0) (X : ℕ → List Item) (A : ℕ → List Message) (T 
     rests = so_far_end (saved_of first) T.started T.scenario T.replies P J log C.kept u.catching.rests;
     log_right = u.log_right;
     ends = (by_halt h shown).2;
+    fault = u.no_fault ∙ sym (none_named h);
     unfinished = (by_halt h shown).1;
   }

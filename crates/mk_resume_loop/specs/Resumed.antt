@@ -1,11 +1,11 @@
 -- What the ends of a resumed run say of its journal.
-use Rattle.std.specs.Prelude.{◌≡◌, ◌⊎◌, ℕ, ◌<◌, List, [], ◌∷◌, ◌++◌, length, None, Some, IsSome}
+use Rattle.std.specs.Prelude.{◌≡◌, ◌⊎◌, ℕ, ◌<◌, List, [], ◌∷◌, ◌++◌, length, Option, None, Some, IsSome}
 use Rattle.mk_base.specs.declared.LinkNo.{LinkNo}
 use Rattle.mk_plan.specs.declared.Plan.{Plan}
 use Rattle.mk_plan.specs.declared.Item.{Item}
 use Rattle.mk_plan.specs.declared.Entry.{Entry}
 use Rattle.mk_plan.specs.Plans.{first_id}
-use Rattle.mk_plan.specs.Journals.{view}
+use Rattle.mk_plan.specs.Journals.{Fault, view}
 use Rattle.mk_plan.specs.Sequential.{id_after}
 use Rattle.mk_frame.specs.Frames.{limit}
 use Rattle.mk_message.specs.Written.{item_text}
@@ -14,7 +14,7 @@ use Rattle.mk_sched.specs.declared.faults.CoreFault.TheVariants.{TooLong}
 use Rattle.mk_sched.specs.Answers.{SomeReady}
 use Rattle.mk_scenario.specs.declared.parts.Scenario.{Scenario}
 use Rattle.mk_run_laws.specs.Handshake.{sim_link}
-use Rattle.mk_run.specs.Ends.{QueuedAll, IsBrokenOff}
+use Rattle.mk_run.specs.Ends.{QueuedAll, IsBrokenOff, fault_named}
 use Rattle.mk_resume_loop.specs.declared.ending.ResumeEnd.{ResumeEnd}
 use Rattle.mk_resume_loop.specs.declared.ending.ResumeEnd.TheVariants as ends
 use Rattle.mk_resume_walk.specs.Talks.{free_items}
@@ -48,6 +48,13 @@ pub record IsFull (P : Plan) (J : List Entry) (f : CoreFault) (left : Type 0) : 
   pub full : length J ≡ P.entries
   pub no_fault : (view P J).fault ≡ None
   pub more : IsSome (view P J).owed ⊎ (SomeReady P J ⊎ left)
+
+-- the fault of a journal that the end names
+abbrev pub fault_at : ResumeEnd → Option Fault
+fault_at (ends.Outcome o) = fault_named o
+fault_at (ends.OtherPlan n) = None
+fault_at (ends.OtherEntry n) = None
+fault_at (ends.Differs sim place saved_ other) = None
 
 -- the run was broken off while something was to come
 abbrev pub IsCutOff : ResumeEnd → Type 0

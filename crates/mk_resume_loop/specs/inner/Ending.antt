@@ -27,7 +27,7 @@ use Rattle.mk_resume_links.specs.Running.{RestsEnd}
 use Rattle.mk_resume_links.specs.inner.Touching.{RepeatsByKind}
 use Rattle.mk_resume_loop.specs.declared.ending.ResumeEnd.{ResumeEnd}
 use Rattle.mk_resume_loop.specs.declared.ending.ResumeEnd.TheVariants as ends
-use Rattle.mk_resume_loop.specs.Resumed.{IsCutOff, IsFull, IsLongFree, QueuedAllAt}
+use Rattle.mk_resume_loop.specs.Resumed.{IsCutOff, IsFull, IsLongFree, QueuedAllAt, fault_at}
 use Rattle.mk_resume_loop.specs.inner.Underway.{saved_of}
 
 -- a channel at the end: the messages that it gave go on from those that were sent again, and the
@@ -115,4 +115,5 @@ pub record HasEnded (risen : Type 0) (T : Setting) (P : Plan) (first J : List En
   pub rests : RestsEnd (saved_of first) T.started T.scenario T.replies P J log
   pub log_right : IsLogRight T log
   pub ends : EndsBy risen T P first J heard log C end
+  pub fault : (view P J).fault ≡ fault_at end
   pub unfinished : IsCutOff end → IsWaiting P J heard
