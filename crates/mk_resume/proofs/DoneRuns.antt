@@ -120,13 +120,19 @@ module _ (X : Exchange) (P : Plan) (saved : Saved) (J : List Entry) (faults new_
 
 pub done_runs : DoneResumedRunsAreRuns
 done_runs X P saved J faults new_faults r = record {
+  replies = r.replies;
+  valid = r.valid;
   journal = j;
+  eager = r.eager;
   agrees = r.agrees;
+  within = r.within;
+  in_range = r.in_range;
+  heard = λ i l linked. subst (IsLinkOfRun X.scenario r.replies J X.log (HasRisen faults new_faults) i l) (all i l linked) (link_of X P saved J faults new_faults r i l linked (r.links i l linked).0 (r.links i l linked).1);
   links = λ i l linked. let t = r.links i l linked in let k = link_of X P saved J faults new_faults r i l linked t.0 t.1 in record {
     items = t.0;
     right = run_says P r.valid X.started X.scenario j.sims X.reply X.log J j.orderly j.kinds j.links r.replies (HasRisen faults new_faults) i l t.0 k;
     whole = k.whole;
-    all = t.2 ∙ ap (λ (K : List Entry). sent K i) (all_of X P saved J faults new_faults r i l linked);
+    all = all i l linked;
   };
   done = record {
     all = λ R may i. items_all P r.valid X.started X.scenario j.sims X.reply X.log J j.orderly j.kinds j.links R may r.shown.0 i;
@@ -134,7 +140,13 @@ done_runs X P saved J faults new_faults r = record {
     finished = orderly_finished P r.valid J r.eager.0 r.shown.0;
   };
   promised = λ H s x inputs advance more parts low R may. step_promised P r.valid X.started X.scenario j.sims X.reply X.log J j.orderly j.kinds j.links H s x inputs advance more parts low R may;
+  setup_rests = r.setup_rests;
+  on_links = r.on_links;
+  shown = r.shown.0;
 }
   where
     j : IsJournalOf X P J
     j = journal X P saved J faults new_faults r
+
+    all : (i : ℕ) (l : LinkNo) (linked : sim_link X.started X.scenario i ≡ Some l) → (r.links i l linked).0 ≡ sent J i
+    all i l linked = (r.links i l linked).2 ∙ ap (λ (K : List Entry). sent K i) (all_of X P saved J faults new_faults r i l linked)

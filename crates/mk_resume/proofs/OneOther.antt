@@ -1,6 +1,6 @@
 -- One part at most is the first in which two plans differ, and one end comes of a record that isn't
 -- taken.
-use Rattle.std.proofs.Common.{◌≡◌, inl, inr, ℕ, true, false, List, map, Option, None, Some, refl, sym, ap, ◌∙◌}
+use Rattle.std.proofs.Common.{◌≡◌, inl, inr, ℕ, true, false, List, map, Option, None, Some, refl, sym, ap, ◌∙◌, subst}
 use Rattle.mk_plan.specs.declared.Plan.{Plan}
 use Rattle.mk_plan.specs.declared.Entry.{Entry}
 use Rattle.mk_plan.specs.declared.Journal.{Journal}
@@ -12,14 +12,16 @@ use Rattle.mk_record_read.specs.Seen.{came}
 use Rattle.mk_record_compare.specs.Differences.{IsOther}
 use Rattle.mk_record_restored.specs.declared.restoring.Restored.{Restored}
 use Rattle.mk_record_restored.specs.declared.restoring.Restored.TheVariants as restored
-use Rattle.mk_record_restored.specs.Restored.{IsFaulted, IsRestored, RestoresAs}
+use Rattle.mk_record_restored.specs.Restored.{IsFaulted, IsOtherIn, IsRestored, RestoresAs}
 use Rattle.mk_record_restored.proofs.OneRestored.{restored_one}
 use Rattle.mk_sched.specs.Cores.{CoreState}
 use Rattle.mk_sched.specs.declared.faults.CoreFault.{CoreFault}
+use Rattle.mk_run_crew.specs.Attempts.{exchange_of}
+use Rattle.mk_run.specs.declared.outcome.Outcome.{Outcome}
 use Rattle.mk_run.specs.declared.outcome.Outcome.TheVariants as outcome
 use Rattle.mk_resume_loop.specs.declared.ending.ResumeEnd.{ResumeEnd}
 use Rattle.mk_resume_loop.specs.declared.ending.ResumeEnd.TheVariants as ends
-use Rattle.mk_resume.specs.Resumed.{HasFaultySaved, IsRefusedBy}
+use Rattle.mk_resume.specs.Resumed.{HasFaultySaved, IsRefusedBy, ShownBy}
 use Rattle.mk_resume.specs.Laws.{EndsExactly, ResumeEndsExactly}
 
 -- ---- the first part that differs
@@ -118,10 +120,27 @@ module _ (P : Plan) (saved : Saved) where
   one_fault : (f g : CoreFault) (J K : Journal) → restored.Faulted f P J ≡ restored.Faulted g P K → f ≡ g
   one_fault f g J K e = cc
 
+  plan_one : (m n : ℕ) → ends.OtherPlan m ≡ ends.OtherPlan n → m ≡ n
+  plan_one m n e = cc
+
+  entry_one : (m n : ℕ) → ends.OtherEntry m ≡ ends.OtherEntry n → m ≡ n
+  entry_one m n e = cc
+
+  plan_not_entry : (m n : ℕ) → ends.OtherPlan m ≡ ends.OtherEntry n → ⊥
+  plan_not_entry m n e = cc
+
+  outcome_not_plan : (o : Outcome) (n : ℕ) → ends.Outcome o ≡ ends.OtherPlan n → ⊥
+  outcome_not_plan o n e = cc
+
+  outcome_not_entry : (o : Outcome) (n : ℕ) → ends.Outcome o ≡ ends.OtherEntry n → ⊥
+  outcome_not_entry o n e = cc
+
   -- a record that was taken
-  pub exactly_taken : (first : List Entry) (end : ResumeEnd) → IsFirstOther P saved.plan None → IsRestored P (map came saved.arrivals) first → IsOther (map came saved.arrivals) saved.asks first None → EndsExactly P saved end
-  exactly_taken first end plans there same = record {
+  pub exactly_taken : (first : List Entry) (end : ResumeEnd) → ((n : ℕ) → end ≡ ends.OtherPlan n → ⊥) → ((n : ℕ) → end ≡ ends.OtherEntry n → ⊥) → IsFirstOther P saved.plan None → IsRestored P (map came saved.arrivals) first → IsOther (map came saved.arrivals) saved.asks first None → EndsExactly P saved end
+  exactly_taken first end no_plan no_entry plans there same = record {
     other_plan = λ n other. absurd (some_apart n (one_other P saved.plan None (Some n) plans other));
+    plan_said = λ n e. absurd (no_plan n e);
+    entry_said = λ n e. absurd (no_entry n e);
     other_entry = λ n plans' other. absurd (other_not_onward (core_at first) n (one (restored.Onward (core_at first)) (restored.Other n) (onward first there same) other));
     faulty = λ J f plans' h. absurd (fault_not_onward (core_at first) f (journal_of J) (one (restored.Onward (core_at first)) (restored.Faulted f P (journal_of J)) (onward first there same) (faulted J f h)));
   }
@@ -130,6 +149,8 @@ module _ (P : Plan) (saved : Saved) where
   pub exactly_faulty : (K : List Entry) (end : ResumeEnd) → HasFaultySaved P saved K end → EndsExactly P saved end
   exactly_faulty K end s = record {
     other_plan = λ n other. absurd (some_apart n (one_other P saved.plan None (Some n) s.plans other));
+    plan_said = λ n e. absurd (outcome_not_plan (outcome.Core s.fault) n (sym s.is ∙ e));
+    entry_said = λ n e. absurd (outcome_not_entry (outcome.Core s.fault) n (sym s.is ∙ e));
     other_entry = λ n plans other. absurd (other_not_fault n s.fault (journal_of K) (one (restored.Other n) (restored.Faulted s.fault P (journal_of K)) other (faulted K s.fault s.faulted)));
     faulty = λ J f plans h. inl (s.is ∙ ap (λ (g : CoreFault). ends.Outcome (outcome.Core g)) (one_fault s.fault f (journal_of K) (journal_of J)
         (one (restored.Faulted s.fault P (journal_of K)) (restored.Faulted f P (journal_of J)) (faulted K s.fault s.faulted) (faulted J f h))));
@@ -139,23 +160,29 @@ module _ (P : Plan) (saved : Saved) where
   pub exactly_refused : (end : ResumeEnd) → IsRefusedBy P saved end → EndsExactly P saved end
   exactly_refused (ends.OtherPlan m) r = record {
     other_plan = λ n other. ap ends.OtherPlan (some_one m n (one_other P saved.plan (Some m) (Some n) r other));
+    plan_said = λ n e. subst (λ (k : ℕ). IsFirstOther P saved.plan (Some k)) (plan_one m n e) r;
+    entry_said = λ n e. absurd (plan_not_entry m n e);
     other_entry = λ n plans other. absurd (some_apart m (one_other P saved.plan None (Some m) plans r));
     faulty = λ J f plans h. absurd (some_apart m (one_other P saved.plan None (Some m) plans r));
   }
   exactly_refused (ends.OtherEntry m) r = record {
     other_plan = λ n other. absurd (some_apart n (one_other P saved.plan None (Some n) r.0 other));
+    plan_said = λ n e. absurd (plan_not_entry n m (sym e));
+    entry_said = λ n e. (r.0, subst (λ (k : ℕ). IsOtherIn P (map came saved.arrivals) saved.asks k) (entry_one m n e) r.1);
     other_entry = λ n plans other. inl (ap ends.OtherEntry (one_entry m n (one (restored.Other m) (restored.Other n) r.1 other)));
     faulty = λ J f plans h. absurd (other_not_fault m f (journal_of J) (one (restored.Other m) (restored.Faulted f P (journal_of J)) r.1 (faulted J f h)));
   }
   exactly_refused (ends.Outcome o) r = record {
     other_plan = λ n other. absurd (some_apart n (one_other P saved.plan None (Some n) r.0 other));
+    plan_said = λ n e. absurd (outcome_not_plan o n e);
+    entry_said = λ n e. absurd (outcome_not_entry o n e);
     other_entry = λ n plans other. inr (ap ends.Outcome r.1);
     faulty = λ J f plans h. inr (ap ends.Outcome r.1);
   }
   exactly_refused (ends.Differs sim place kept other) r = absurd r
 
 pub ends_exactly : ResumeEndsExactly
-ends_exactly A saved true (Some P) (Some J) faults new_faults end r = inr (record { plan = P; answers = r.answers; made = r.made; kinds = r.kinds; heard = λ i l linked. (r.run.links i l linked).1.replied ∙ r.told i l linked; exactly = exactly_taken P saved r.run.first end r.plans r.run.restored r.run.same })
+ends_exactly A saved true (Some P) (Some J) faults new_faults end r = inr (record { plan = P; answers = r.answers; made = r.made; kinds = r.kinds; heard = λ i l linked. (r.run.links i l linked).1.replied ∙ r.told i l linked; exactly = exactly_taken P saved r.run.first end (λ n e. subst (ShownBy (exchange_of A) P r.run.first J.entries r.run.heard faults new_faults) e r.run.shown) (λ n e. subst (ShownBy (exchange_of A) P r.run.first J.entries r.run.heard faults new_faults) e r.run.shown) r.plans r.run.restored r.run.same })
 ends_exactly A saved true (Some P) None faults new_faults end r = absurd r
 ends_exactly A saved true None J faults new_faults end r = absurd r
 ends_exactly A saved false (Some P) (Some J) faults new_faults end r = inr (record { plan = P; answers = r.1.answers; made = r.1.made; kinds = r.1.kinds; heard = λ i l linked. r.1.replied i l linked ∙ r.1.told i l linked; exactly = exactly_faulty P saved J.entries end r.0 })

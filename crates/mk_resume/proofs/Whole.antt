@@ -1,5 +1,5 @@
 -- From the end of a resumed run, and the stop of its crew, to what the whole run means.
-use Rattle.std.proofs.Common.{◌≡◌, inl, inr, ℕ, List, [], ◌∷◌, ◌++◌, map, take, None, Some, refl, sym, ap, ◌∙◌, subst, arith, true≢false}
+use Rattle.std.proofs.Common.{◌≡◌, inl, inr, ℕ, List, [], ◌∷◌, ◌++◌, map, take, None, Some, refl, sym, ap, ◌∙◌, subst, true≢false}
 use Rattle.std.proofs.Math.Seq.{take-length}
 use Rattle.mk_base.specs.declared.LinkNo.{LinkNo}
 use Rattle.mk_base.specs.declared.SimNo.{SimNo}

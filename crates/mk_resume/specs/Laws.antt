@@ -1,5 +1,5 @@
 -- The laws of a resumed run.
-use Rattle.std.specs.Prelude.{◌≡◌, ◌⊎◌, ℕ, ◌<◌, Bool, true, List, length, take, map, Option, None, Some, IsSome}
+use Rattle.std.specs.Prelude.{◌≡◌, ◌⊎◌, ℕ, ◌<◌, ◌≤◌, Bool, true, List, length, take, map, Option, None, Some, IsSome}
 use Rattle.mk_base.specs.declared.LinkNo.{LinkNo}
 use Rattle.mk_base.specs.declared.SimNo.{SimNo}
 use Rattle.mk_base.specs.Lists.{BeginsWith, IsIn}
@@ -8,7 +8,9 @@ use Rattle.mk_plan.specs.declared.Item.{Item}
 use Rattle.mk_plan.specs.declared.Message.{Message}
 use Rattle.mk_plan.specs.declared.Entry.{Entry}
 use Rattle.mk_plan.specs.declared.Journal.{Journal}
-use Rattle.mk_plan.specs.Plans.{sim_count}
+use Rattle.mk_plan.specs.Plans.{sim_count, IsValidPlan}
+use Rattle.mk_plan.specs.Ready.{IsDone}
+use Rattle.mk_plan.specs.Orderly.{IsEager}
 use Rattle.mk_plan.specs.Sequential.{Messages, run_items}
 use Rattle.mk_plan.specs.Journals.{arrivals, view, sent, got, bare}
 use Rattle.mk_plan.specs.Agreement.{Agrees, Continues}
@@ -29,11 +31,13 @@ use Rattle.mk_run_laws.specs.Exchanges.{Exchange}
 use Rattle.mk_run_laws.specs.Hearing.{messages_heard, rest_heard}
 use Rattle.mk_run_laws.specs.Handshake.{setup_count, setup_requests, sim_link}
 use Rattle.mk_run_laws.specs.Payloads.{AreFramed, link_payloads}
-use Rattle.mk_run_laws.specs.Runs.{SaidWhole, run_frames}
+use Rattle.mk_run_laws.specs.Running.{SetupReplies}
+use Rattle.mk_run_laws.specs.Runs.{IsLinkOfRun, SaidWhole, run_frames}
+use Rattle.mk_run_links.specs.Entries.{AreOn, IsRunLink}
 use Rattle.mk_run_laws.specs.Laws.{IsJournalOf}
 use Rattle.mk_run_crew.specs.Answers.{AreKindAnswers, answers_to}
 use Rattle.mk_run.specs.declared.outcome.Outcome.TheVariants as outcome
-use Rattle.mk_run.specs.Ends.{IsRun}
+use Rattle.mk_run.specs.Ends.{AreInRange, IsRun, SetupRestsWell}
 use Rattle.mk_run.specs.Laws.{ArePromised, HasSentAll, LinkSaysRight}
 use Rattle.mk_resume_walk.specs.Talks.{free_items}
 use Rattle.mk_resume_links.specs.Rests.{Counts}
@@ -65,12 +69,22 @@ ResumedRunsSayRight = (X : Exchange) (P : Plan) (saved : Saved) (J : List Entry)
     → (i : ℕ) (l : LinkNo) → sim_link X.started X.scenario i ≡ Some l
     → LinkSaysFree X P J r.heard (HasRisen faults new_faults) end i l
 
--- what holds of a run at whose end nothing is left to do
+-- what holds of a run at whose end nothing is left to do, but for its rests behind the handshake
 pub record IsDoneRun (X : Exchange) (P : Plan) (J : List Entry) (risen : Type 0) : Type 0 where
+  pub replies : SetupReplies
+  pub valid : IsValidPlan P
   pub journal : IsJournalOf X P J
+  pub eager : IsEager P J
   pub agrees : Agrees P J
+  pub within : length J ≤ P.entries
+  pub in_range : AreInRange J
+  pub heard : (i : ℕ) (l : LinkNo) → sim_link X.started X.scenario i ≡ Some l
+      → IsLinkOfRun X.scenario replies J X.log risen i l (sent J i)
   pub links : (i : ℕ) (l : LinkNo) → sim_link X.started X.scenario i ≡ Some l
       → LinkSaysRight X P J risen outcome.Done i l
+  pub setup_rests : SetupRestsWell X.started X.scenario X.log
+  pub on_links : AreOn (IsRunLink X.started X.scenario) X.log
+  pub shown : IsDone P (view P J)
   pub done : HasSentAll X P J
   pub promised : ArePromised X P J
 
@@ -124,12 +138,15 @@ ResumedRunsComplete = (X : Exchange) (P : Plan) (saved : Saved) (J : List Entry)
 
 -- each end of a record that isn't taken comes wherever its cause is there: the plan is another in
 -- this part; or it is the same, and this entry is another, or the messages meet this fault, unless
--- memory was wanting. That it comes nowhere else, `ResumesAs` says
+-- memory was wanting. Another plan and another entry are said nowhere else
 pub record EndsExactly (P : Plan) (saved : Saved) (end : ResumeEnd) : Type 0 where
   pub other_plan : (n : ℕ) → IsFirstOther P saved.plan (Some n) → end ≡ ends.OtherPlan n
+  pub plan_said : (n : ℕ) → end ≡ ends.OtherPlan n → IsFirstOther P saved.plan (Some n)
   pub other_entry : (n : ℕ) → IsFirstOther P saved.plan None
       → IsOtherIn P (map came saved.arrivals) saved.asks n
       → (end ≡ ends.OtherEntry n) ⊎ (end ≡ ends.Outcome outcome.Mem)
+  pub entry_said : (n : ℕ) → end ≡ ends.OtherEntry n → IsFirstOther P saved.plan None
+      × IsOtherIn P (map came saved.arrivals) saved.asks n
   pub faulty : (J : List Entry) (f : CoreFault) → IsFirstOther P saved.plan None
       → IsFaulted P (map came saved.arrivals) J f
       → (end ≡ ends.Outcome (outcome.Core f)) ⊎ (end ≡ ends.Outcome outcome.Mem)
