@@ -1,11 +1,14 @@
 -- The places of a simulator's entries: which of them is next, and one entry more.
-use Rattle.std.proofs.Common.{◌≡◌, inl, inr, ℕ, zero, suc, ◌+◌, ◌<◌, ◌≤◌, ◌==◌, Bool, true, false, not, ◌&&◌, List, [], ◌∷◌, ◌++◌, length, map, filter, take, drop, get_or, slice_get, slice_set, Option, Some, None, option_copied, MatchOption, IfSome, Bor, if◌then◌else◌, refl, sym, ap, ◌∙◌, subst, arith, length-append, true≢false}
+use Rattle.std.proofs.Common.{◌≡◌, inl, inr, ℕ, zero, suc, ◌+◌, ◌-◌, ◌<◌, ◌≤◌, ◌==◌, Bool, true, false, not, ◌&&◌, List, [], ◌∷◌, ◌++◌, length, map, filter, take, drop, get_or, slice_get, slice_set, Option, Some, None, option_copied, MatchOption, IfSome, Bor, if◌then◌else◌, refl, sym, ap, ◌∙◌, subst, arith, length-append, true≢false}
 use Rattle.std.proofs.lemmas.Bool.{cases_eq, eqb-true, eq-eqb}
+use Rattle.std.proofs.lemmas.List.{take-append-drop}
+use Rattle.std.proofs.Math.Seq.{take-append-add}
+use Rattle.mk_base.specs.Lists.{BeginsWith}
 use Rattle.mk_base.proofs.Lists.{none_some, some_same, append_nil, filter_append, get_is, length_set, map_append, set_else, set_here}
 use Rattle.mk_plan.specs.declared.Entry.{Entry}
 use Rattle.mk_plan.specs.Journals.{sim_of}
 use Rattle.mk_resume_walk.specs.Walks.{has_none, IsFirstOwn, is_of}
-use Rattle.mk_resume_walk.specs.Index.{Indexed, IsIndexOf, own_count, places_from}
+use Rattle.mk_resume_walk.specs.Index.{Indexed, IsIndexOf, IsIndexOfPart, own_count, places_from}
 
 -- ---- the place behind those gone through
 
@@ -126,6 +129,15 @@ passed_by J e own count are past = record {
   own = λ i places at. are.own i places at ∙ sym (other_push i J e (λ same. let low = (get_is own i places at).0 in omega (arith, past, low, same)));
 }
 
+-- as far as the index has come it is one of a beginning
+pub part_of : (J K : List Entry) (index : Indexed) (n : ℕ) → BeginsWith K J → length J ≤ n → IsIndexOf (take n K) index → IsIndexOfPart J K index
+part_of J K index n (more, is) far are = record {
+  part = take n K;
+  begins = (drop n K, sym (take-append-drop n K));
+  goes_on = (take (n - length J) more, ap (take n) is ∙ ap (λ (k : ℕ). take k (J ++ more)) (omega (arith, far)) ∙ take-append-add J more (n - length J));
+  is = are;
+}
+
 -- ---- lists of anything that is seen as places
 
 module _ {V : Type 0} (f : V → List ℕ) where
@@ -133,6 +145,12 @@ module _ {V : Type 0} (f : V → List ℕ) where
   map_set [] i v = refl
   map_set (w ∷ vs) zero v = refl
   map_set (w ∷ vs) (suc i) v = ap (λ (l : List (List ℕ)). f w ∷ l) (map_set vs i v)
+
+  -- a value that is seen as the one before stands in its place
+  pub map_same : (vs : List V) (i : ℕ) (old new : V) → i < length vs → old ≡ get_or vs i old → f new ≡ f old → map f (slice_set vs i new) ≡ map f vs
+  map_same [] i old new low is same = refl
+  map_same (w ∷ vs) zero old new low is same = ap (λ (x : List ℕ). x ∷ map f vs) (same ∙ ap f is)
+  map_same (w ∷ vs) (suc i) old new low is same = ap (λ (l : List (List ℕ)). f w ∷ l) (map_same vs i old new (omega (arith, low)) is same)
 
   pub map_get : (vs : List V) (i : ℕ) (v : V) → i < length vs → v ≡ get_or vs i v → slice_get (map f vs) i ≡ Some (f v)
   map_get [] i v low is = absurd (omega (arith, low))

@@ -1,5 +1,6 @@
 -- The index of a journal: where each simulator's entries stand.
 use Rattle.std.specs.Prelude.{◌≡◌, ℕ, suc, List, [], ◌∷◌, length, filter, Some, slice_get, if◌then◌else◌}
+use Rattle.mk_base.specs.Lists.{BeginsWith}
 use Rattle.mk_plan.specs.declared.Entry.{Entry}
 use Rattle.mk_resume_walk.specs.Walks.{is_of}
 
@@ -24,3 +25,10 @@ pub record IsIndexOf (J : List Entry) (index : Indexed) : Type 0 where
   pub count : index.count ≡ length J
   pub own : (i : ℕ) (places : List ℕ) → slice_get index.own i ≡ Some places
       → places ≡ places_from i 0 J
+
+-- the index is one of a beginning of K that goes on from J
+pub record IsIndexOfPart (J K : List Entry) (index : Indexed) : Type 0 where
+  pub part : List Entry
+  pub begins : BeginsWith K part
+  pub goes_on : BeginsWith part J
+  pub is : IsIndexOf part index

@@ -1,9 +1,9 @@
 //! The index of a journal: where each simulator's entries stand.
-ghost use Rattle.std.specs.Prelude.{◌≡◌, ℕ, ◌+◌, ◌<◌, List, [], ◌∷◌, ◌++◌, length, take, IfOk, OnOk};
+ghost use Rattle.std.specs.Prelude.{◌≡◌, ℕ, ◌+◌, ◌<◌, List, [], ◌∷◌, ◌++◌, length, take, IfOk, OnOk, OnErr};
 ghost use Rattle.mk_base.specs.Lists.{BeginsWith};
 ghost use Rattle.mk_plan.specs.declared.Entry.{Entry};
 ghost use Rattle.mk_plan.specs.Journals.{sim_of};
-ghost use Rattle.mk_resume_walk.specs.Index.{IsIndexOf, own_count};
+ghost use Rattle.mk_resume_walk.specs.Index.{IsIndexOf, IsIndexOfPart, own_count};
 ghost use Rattle.mk_resume_walk.specs.Walks.{IsFirstOwn};
 
 use mk_base::{Mem, SimNo};
@@ -42,12 +42,14 @@ impl Index {
         Ok(Index { own, count: 0 })
     }
 
-    /// Adds the entries that the journal has got behind those of the index. After an `Err` the first
-    /// of them may have been added.
+    /// Adds the entries that the journal has got behind those of the index; at want of memory the
+    /// first of them, or none.
     pub fn grow(&mut self, entries: &[Entry]) -> Result<(), Mem>
         ensures sims { length self.new.own ≡ length self.old.own }
         ensures grown { (J : List Entry) → BeginsWith entries.now J → IsIndexOf J self.old
             → OnOk result (IsIndexOf entries.now self.new) }
+        ensures part { (J : List Entry) → BeginsWith entries.now J → IsIndexOf J self.old
+            → IsIndexOfPart J entries.now self.new }
     {
         while self.count < entries.len() {
             self.note(&entries[self.count])?;
@@ -55,13 +57,14 @@ impl Index {
         Ok(())
     }
 
-    // Adds one entry.
+    // Adds one entry. At want of memory nothing changes.
     fn note(&mut self, entry: &Entry) -> Result<(), Mem>
         requires { self.old.count < usize.MAX }
         ensures sims { length self.new.own ≡ length self.old.own }
         ensures count { OnOk result (self.new.count ≡ self.old.count + 1) }
         ensures noted { (J : List Entry) → IsIndexOf J self.old
             → OnOk result (IsIndexOf (J ++ entry.now ∷ []) self.new) }
+        ensures unnoted { OnErr result (self.new ≡ self.old) }
     {
         let sim = sim_of(entry);
         if sim < self.own.len() {
