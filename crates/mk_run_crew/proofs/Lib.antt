@@ -1,4 +1,5 @@
 -- The lemmas of mk_run_crew, by their files.
+mod Answered
 mod Asked
 mod Completing
 mod Composing
@@ -6,6 +7,7 @@ mod Ending
 mod Faultless
 mod Going
 mod Halting
+mod HeardMore
 mod Looping
 mod Placing
 mod Requests

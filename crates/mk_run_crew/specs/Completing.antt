@@ -17,6 +17,7 @@ use Rattle.mk_setup.specs.declared.fault.SetupFault.{SetupFault}
 use Rattle.mk_setup.specs.Handshakes.{IsMade}
 use Rattle.mk_run_crew.specs.declared.halt.Halt.{Halt}
 use Rattle.mk_run_crew.specs.declared.halt.Halt.TheVariants as halt
+use Rattle.mk_run_crew.specs.Answered.{IsAnswered}
 use Rattle.mk_run_crew.specs.Answers.{AreKindAnswers}
 use Rattle.mk_run_crew.specs.Halted.{HasHalted, IsLongRequest, IsSetupFault}
 use Rattle.mk_run_crew.specs.Wholly.{is_wholly_within}
@@ -40,6 +41,13 @@ abbrev pub HandshakesComplete : Type 0
 HandshakesComplete = (A : Attempt) (faults new_faults : ℕ) (h : Halt)
     → HasHalted A (HasRisen faults new_faults) h
     → IsFaultlessHandshake A (HasRisen faults new_faults) → h ≡ halt.Mem
+
+-- where the requests of a well-formed scenario's handshake are answered, and the count didn't rise,
+-- nothing went wrong
+abbrev pub AnsweredHandshakesAreFaultless : Type 0
+AnsweredHandshakesAreFaultless = (A : Attempt) (faults new_faults : ℕ) → IsWellformed A.scenario
+    → IsAnswered A → (HasRisen faults new_faults → ⊥)
+    → IsFaultlessHandshake A (HasRisen faults new_faults)
 
 -- where a well-formed scenario's simulators all run within the program, the answers of their kinds
 -- make a plan, and the count didn't rise, nothing went wrong

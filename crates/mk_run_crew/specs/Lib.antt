@@ -3,6 +3,7 @@ pub mod Attempts
 pub mod Seen
 pub mod Calls
 pub mod Answers
+pub mod Answered
 pub mod Begun
 pub mod Completing
 pub mod Halted

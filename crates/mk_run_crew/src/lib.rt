@@ -9,5 +9,7 @@ mod wholly;
 
 pub use crew::Crew;
 pub use halt::Halt;
-pub use laws::{handshakes_complete, within_handshakes_are_faultless};
+pub use laws::{
+    answered_handshakes_are_faultless, handshakes_complete, within_handshakes_are_faultless,
+};
 pub use wholly::is_wholly_within;
