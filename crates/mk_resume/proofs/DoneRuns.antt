@@ -46,13 +46,13 @@ same_is : (a : ℕ) → (a == a) ≡ true
 same_is a = eq-eqb a a refl
 
 -- up to a message of the simulator, from where it stands
-up_to_there : (s : SimNo) (m : Message) (H more : List Entry) → up_to s.0 (length (got H s.0)) (H ++ Got s m ∷ more) ≡ H
+pub up_to_there : (s : SimNo) (m : Message) (H more : List Entry) → up_to s.0 (length (got H s.0)) (H ++ Got s m ∷ more) ≡ H
 up_to_there s m H more = up_to_behind s.0 (length (got H s.0)) 0 H (Got s m ∷ more) (omega arith) ∙ ap (λ (K : List Entry). H ++ K) (up_to_head s.0 s m more 0 true (same_is s.0)) ∙ append_nil H
 
-got_there : (s : SimNo) (m : Message) (H more : List Entry) → got (H ++ Got s m ∷ more) s.0 ≡ got H s.0 ++ m ∷ got more s.0
+pub got_there : (s : SimNo) (m : Message) (H more : List Entry) → got (H ++ Got s m ∷ more) s.0 ≡ got H s.0 ++ m ∷ got more s.0
 got_there s m H more = filter_map_append (got_from s.0) H (Got s m ∷ more) ∙ ap (λ (b : Bool). got H s.0 ++ cons_option (if b then Some m else None) (got more s.0)) (same_is s.0)
 
-at_length : {X : Type 0} (xs ys : List X) (x : X) → slice_get (xs ++ x ∷ ys) (length xs) ≡ Some x
+pub at_length : {X : Type 0} (xs ys : List X) (x : X) → slice_get (xs ++ x ∷ ys) (length xs) ≡ Some x
 at_length [] ys x = refl
 at_length (z ∷ xs) ys x = at_length xs ys x
 
@@ -60,7 +60,7 @@ at_length (z ∷ xs) ys x = at_length xs ys x
 abbrev with_turn : View → Option OpenTurn → View
 with_turn V o = record { acts = V.acts; open_at = λ i. o; owed = V.owed; fault = V.fault }
 
-none_out : (V : View) (i : ℕ) → V.open_at i ≡ None → unanswered V i ≡ 0
+pub none_out : (V : View) (i : ℕ) → V.open_at i ≡ None → unanswered V i ≡ 0
 none_out V i closed = ap (λ (o : Option OpenTurn). unanswered (with_turn V o) i) closed
 
 -- where a message came without a fault, its simulator's turn was open

@@ -1,6 +1,6 @@
 -- The lemmas of mosaikrun_run, by their files.
 mod Halting
-mod OneText
+pub mod OneText
 pub mod Recording
 pub mod Reporting
 mod StepFrames

@@ -50,7 +50,7 @@ use Rattle.mosaikrun_run.proofs.Reporting.{said_is_done, texts_sequential}
 -- ---- one ranking
 
 module _ (before : ℕ → ℕ → Bool) (n : ℕ) where
-  one_ranking : (ranks also : List ℕ) → IsRanking before n ranks → IsRanking before n also → ranks ≡ also
+  pub one_ranking : (ranks also : List ℕ) → IsRanking before n ranks → IsRanking before n also → ranks ≡ also
   one_ranking ranks also a b =
       let same : a.0 ≡ b.0 = sym (take_all n a.0 (omega (arith, a.2))) ∙ same_order before n a.0 b.0 a.1 b.1 n (omega (arith, a.2)) (omega (arith, b.2)) ∙ take_all n b.0 (omega (arith, b.2)) in
       same_lists ranks also (a.3 ∙ sym b.3)
@@ -95,7 +95,7 @@ one_answer rows S k r m n a b =
     let sims : a.sim ≡ b.sim = some_same (sym a.before ∙ b.before) in
     some_same (sym a.reply ∙ ap (λ (L : Simulator). call_reply L (id_before S k r.sim) r.call) sims ∙ b.reply)
 
-one_answers : (rows : List Turn) (S : Scenario) → IsWellformed S → is_wholly_within S ≡ true → (answers also : List Message) → length answers ≡ length (setup_requests S) → length also ≡ length (setup_requests S) → AreKindAnswers rows S answers → AreKindAnswers rows S also → answers ≡ also
+pub one_answers : (rows : List Turn) (S : Scenario) → IsWellformed S → is_wholly_within S ≡ true → (answers also : List Message) → length answers ≡ length (setup_requests S) → length also ≡ length (setup_requests S) → AreKindAnswers rows S answers → AreKindAnswers rows S also → answers ≡ also
 one_answers rows S wellformed all answers also count counted ours theirs = same_lists answers also (count ∙ sym counted)
     (λ k low.
     let r = below_get (setup_requests S) k (omega (arith, low, count)) in
@@ -104,7 +104,7 @@ one_answers rows S wellformed all answers also count counted ours theirs = same_
     let within = within_low S all r.0.sim (goes_there S wellformed k r.0 r.1) in
     m.1 ∙ ap (λ (x : Message). Some x) (one_answer rows S k r.0 m.0 n.0 (ours k r.0 m.0 r.1 m.1 within) (theirs k r.0 n.0 r.1 n.1 within)) ∙ sym n.1)
 
-one_plan : (S : Scenario) (ranks : List ℕ) (answers : List Message) (P Q : Plan) → IsMade S ranks answers P → IsMade S ranks answers Q → P ≡ Q
+pub one_plan : (S : Scenario) (ranks : List ℕ) (answers : List Message) (P Q : Plan) → IsMade S ranks answers P → IsMade S ranks answers Q → P ≡ Q
 one_plan S ranks answers P Q a b =
     let states = ok_same a.state b.state (reached S ranks answers) a.reached b.reached in
     ok_same P Q (plan_of b.state) (sym (ap plan_of states) ∙ a.plan) b.plan
