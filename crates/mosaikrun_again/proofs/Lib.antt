@@ -1,5 +1,5 @@
 -- The lemmas of mosaikrun_again, by their files.
-mod Again
+pub mod Again
 mod KindReplies
 mod LinkMessages
 mod Readable

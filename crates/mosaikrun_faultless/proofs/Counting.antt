@@ -28,7 +28,7 @@ use Rattle.mk_order.proofs.Theory.{parts, laws}
 use Rattle.mk_order.proofs.Seen.{IsSound, at_self, not_same, open_after_is, same_self, ready_seen, reached, reached_sound, seen, turn_of}
 use Rattle.mk_order.proofs.Pushing.{orderly_front, view_push}
 use Rattle.mosaikrun_faultless.proofs.Asked.{ready_low}
-use Rattle.mosaikrun_faultless.proofs.Sums.{one_shorter}
+use Rattle.mosaikrun_faultless.proofs.Sums.{one_longer, one_shorter}
 
 -- all that was said, with one simulator after another
 abbrev pub all_said : Plan → List Entry → List Said
@@ -164,3 +164,37 @@ module _ (P : Plan) (valid : IsValidPlan P) where
   pub counted : (J : List Entry) → IsOrderlySoFar IsReady IsAdvance P J → (view P J).fault ≡ None → length J ≤ length (all_said P J)
   unfolding Orderly
   counted J orderly fine = let t = walk [] J orderly fine in omega (arith, t)
+
+  -- ---- no more was said
+
+  one_at_most : (J : List Entry) (e : Entry) → Orderly J → IsAllowed IsReady IsAdvance P (view P J) e → (view P (J ++ e ∷ [])).fault ≡ None → length (all_said P (J ++ e ∷ [])) ≤ length (all_said P J) + 1
+  unfolding Orderly
+  one_at_most J e orderly allowed fine =
+      let V : View = view P J in
+      let W : View = note P V e in
+      let t : SaysMore P V W (sim_of e) = entry_more P V e (reached_sound IsReady IsAdvance P its J orderly) allowed (ap (λ (U : View). U.fault) (sym (view_push P J e)) ∙ fine) in
+      subst (λ (U : View). length (flat_map (said U) (range_with_len 0 (sim_count P))) ≤ length (all_said P J) + 1) (sym (view_push P J e))
+      (one_longer (said W) (said V) 0 (sim_count P) (sim_of e) (λ i n. let a = ap length (t.others i n) in omega (arith, a)) (let a = ap length t.own in let b = length-append (said V (sim_of e)) (t.more ∷ []) in omega (arith, a, b)))
+
+  walk_back : (H K : List Entry) → Orderly (H ++ K) → (view P (H ++ K)).fault ≡ None → length (all_said P (H ++ K)) ≤ length (all_said P H) + length K
+  unfolding Orderly
+  walk_back H [] orderly fine = subst (λ (G : List Entry). length (all_said P G) ≤ length (all_said P H) + 0) (sym (append_nil H)) (omega arith)
+  walk_back H (e ∷ K) orderly fine =
+      let parts_of = orderly_front IsReady IsAdvance P H (e ∷ K) orderly in
+      let again : H ++ e ∷ K ≡ (H ++ e ∷ []) ++ K = sym (append_assoc H (e ∷ []) K) in
+      let on : IsOrderlySoFar IsReady IsAdvance P ((H ++ e ∷ []) ++ K) = subst (IsOrderlySoFar IsReady IsAdvance P) again orderly in
+      let end : (view P ((H ++ e ∷ []) ++ K)).fault ≡ None = subst (λ (G : List Entry). (view P G).fault ≡ None) again fine in
+      let rest = orderly_front IsReady IsAdvance P (H ++ e ∷ []) K on in
+      let now : (view P (H ++ e ∷ [])).fault ≡ None = fine_before (view P (H ++ e ∷ [])) K rest.1 (ap (λ (U : View). U.fault) (sym (fold-append (note P) empty_view (H ++ e ∷ []) K)) ∙ end) in
+      let one = one_at_most H e parts_of.0 parts_of.1.0 now in
+      let later = walk_back (H ++ e ∷ []) K on end in
+      subst (λ (G : List Entry). length (all_said P G) ≤ length (all_said P H) + length (e ∷ K)) (sym again) (omega (arith, one, later))
+
+  none_said : (xs : List ℕ) → length (flat_map (said empty_view) xs) ≡ 0
+  none_said [] = refl
+  none_said (x ∷ xs) = none_said xs
+
+  -- so many things were said, at most
+  pub counted_back : (J : List Entry) → IsOrderlySoFar IsReady IsAdvance P J → (view P J).fault ≡ None → length (all_said P J) ≤ length J
+  unfolding Orderly
+  counted_back J orderly fine = let t = walk_back [] J orderly fine in let none = none_said (range_with_len 0 (sim_count P)) in omega (arith, t, none)

@@ -5,3 +5,5 @@ mod Counting
 mod Limits
 mod Studies
 mod Resumes
+mod Finishing
+mod Records

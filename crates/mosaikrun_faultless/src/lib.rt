@@ -4,5 +4,6 @@
 mod laws;
 
 pub use laws::{
-    within_paced_studies_are_faultless, within_resumes_are_faultless, within_studies_are_faultless,
+    done_runs_are_within, within_paced_studies_are_faultless, within_resumes_are_faultless,
+    within_studies_are_faultless,
 };
