@@ -25,7 +25,7 @@ use Rattle.mk_order.proofs.Entries.{in_grown}
 use Rattle.mk_order.proofs.Seen.{reached, seen, turn_of}
 use Rattle.mk_order.proofs.Theory.{laws, parts, seq_is}
 use Rattle.mk_run_laws.proofs.Following.{all_done}
-use Rattle.mosaikrun_faultless.specs.Limits.{IsWithinLimits}
+use Rattle.mosaikrun_faultless.specs.Limits.{MeetsNoLimit}
 use Rattle.mosaikrun_faultless.proofs.Counting.{counted_back}
 use Rattle.mosaikrun_faultless.proofs.Sums.{none_longer}
 
@@ -65,7 +65,7 @@ module _ (P : Plan) where
   its V s x ready = ready
 
   -- over whatever goes on with a journal within the limit of entries at whose end nothing is left to do
-  pub limits_kept : IsValidPlan P → (J : List Entry) → IsOrderlySoFar IsReady IsAdvance P J → IsDone P (view P J) → length J ≤ P.entries → (R : Messages) → Continues P J R → IsWithinLimits P R
+  pub limits_kept : IsValidPlan P → (J : List Entry) → IsOrderlySoFar IsReady IsAdvance P J → IsDone P (view P J) → length J ≤ P.entries → (R : Messages) → Continues P J R → MeetsNoLimit P R
   limits_kept valid J orderly done few R cont = record {
     loops = λ i a there. walk_fine empty_view J (λ j b none. absurd none) orderly done.no_fault i a (subst (λ (l : List Act). IsIn a l) (sym (ap (λ (F : Family). F i) (seq_is P R)) ∙ acts_are i) there);
     entries =

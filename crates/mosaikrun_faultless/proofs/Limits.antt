@@ -35,7 +35,7 @@ use Rattle.mk_order.proofs.Pushing.{orderly_front, view_push}
 use Rattle.mk_run_laws.proofs.NextHeard.{next_heard}
 use Rattle.mk_run.specs.Ends.{NeedsMore}
 use Rattle.mk_run.proofs.NextRight.{message_right}
-use Rattle.mosaikrun_faultless.specs.Limits.{IsWithinLimits, whole_talk}
+use Rattle.mosaikrun_faultless.specs.Limits.{MeetsNoLimit, whole_talk}
 use Rattle.mosaikrun_faultless.proofs.Asked.{ready_low, step_behind}
 use Rattle.mosaikrun_faultless.proofs.Counting.{all_said, counted, entry_low, open_low}
 use Rattle.mosaikrun_faultless.proofs.Sums.{one_shorter}
@@ -51,7 +51,7 @@ last_of (x ∷ xs) = elim (last_of xs) [
   | inr t ↦ inr (x ∷ t.0, t.1, ap (λ l. x ∷ l) t.2)
 ]
 
-module _ (P : Plan) (valid : IsValidPlan P) (R : Messages) (within : IsWithinLimits P R) (whole : (i : ℕ) → i < sim_count P → all_ended (sequential P R i) ≡ true) (J : List Entry) (orderly : IsOrderlySoFar IsReady IsAdvance P J) (cont : Continues P J R) where
+module _ (P : Plan) (valid : IsValidPlan P) (R : Messages) (within : MeetsNoLimit P R) (whole : (i : ℕ) → i < sim_count P → all_ended (sequential P R i) ≡ true) (J : List Entry) (orderly : IsOrderlySoFar IsReady IsAdvance P J) (cont : Continues P J R) where
   abbrev V : View
   V = view P J
 

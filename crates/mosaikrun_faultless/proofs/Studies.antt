@@ -24,7 +24,7 @@ use Rattle.mosaikrun_check.specs.Runnable.{AreRanks}
 use Rattle.mosaikrun_run.specs.Outcomes.{Outside, attempt_in, exchange_in}
 use Rattle.mosaikrun_run.proofs.OneText.{one_answers, one_plan, one_ranking}
 use Rattle.mosaikrun_program.specs.Complete.{IsFaultlessPacedStudy, IsFaultlessStudy}
-use Rattle.mosaikrun_faultless.specs.Limits.{IsWithinLimits}
+use Rattle.mosaikrun_faultless.specs.Limits.{MeetsNoLimit}
 use Rattle.mosaikrun_faultless.specs.Within.{RunsWithin}
 use Rattle.mosaikrun_faultless.proofs.Limits.{full_closed, no_fault, roomy}
 
@@ -43,8 +43,8 @@ module _ (O : Outside) (bytes : List ℕ) (w : RunsWithin O.kinds bytes) where
     by_kind : AnswersByKind (kind_reply_of O.kinds w.scenario) (is_within w.scenario) P w.messages
     by_kind = subst (λ (Q : Plan). AnswersByKind (kind_reply_of O.kinds S) (is_within S) Q w.messages) (sym same) w.by_kind
 
-    limits : IsWithinLimits P w.messages
-    limits = subst (λ (Q : Plan). IsWithinLimits Q w.messages) (sym same) w.limits
+    limits : MeetsNoLimit P w.messages
+    limits = subst (λ (Q : Plan). MeetsNoLimit Q w.messages) (sym same) w.limits
 
     pub here : (i : ℕ) → i < sim_count P → is_within w.scenario i ≡ true
     here i low = within_low S w.inside i (subst (λ (n : ℕ). i < n) journal.sims low)

@@ -14,6 +14,6 @@ whole_talk P R = flat_map (run_talk P R) (range_with_len 0 (sim_count P))
 
 -- no limit is met in sequential execution: no turn triggers a simulator beyond the limit of loops
 -- within a time, and no more is said than a journal may have entries
-pub record IsWithinLimits (P : Plan) (R : Messages) : Type 0 where
+pub record MeetsNoLimit (P : Plan) (R : Messages) : Type 0 where
   pub loops : (i : ℕ) (a : Act) → IsIn a (sequential P R i) → loop_fault P i a ≡ None
   pub entries : length (whole_talk P R) ≤ P.entries

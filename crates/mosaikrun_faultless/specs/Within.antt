@@ -23,7 +23,7 @@ use Rattle.mk_run_local.specs.Made.{kind_reply_of}
 use Rattle.mk_run_crew.specs.Answers.{AreKindAnswers}
 use Rattle.mk_run_crew.specs.Wholly.{is_wholly_within}
 use Rattle.mosaikrun_check.specs.Runnable.{AreRanks}
-use Rattle.mosaikrun_faultless.specs.Limits.{IsWithinLimits}
+use Rattle.mosaikrun_faultless.specs.Limits.{MeetsNoLimit}
 
 -- the bytes are a scenario, well-formed as each that is read, which has ranks; its simulators are
 -- all within the program and can be begun; the answers of their kinds make a plan, and sequential
@@ -42,7 +42,7 @@ pub record RunsWithin (kinds : List Turn) (bytes : List ℕ) : Type 0 where
   pub made : IsMade scenario ranks answers plan
   pub messages : Messages
   pub by_kind : AnswersByKind (kind_reply_of kinds scenario) (is_within scenario) plan messages
-  pub limits : IsWithinLimits plan messages
+  pub limits : MeetsNoLimit plan messages
 
 -- such bytes, and those of a record of a run of them: its plan is the scenario's, but for the limit
 -- of entries; its messages, in their order, make a journal with all of its entries, in which each
