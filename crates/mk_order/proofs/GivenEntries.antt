@@ -24,7 +24,7 @@ use Rattle.mk_plan.specs.Inputs.{latest, is_since, initial_of, pick, assemble, i
 use Rattle.mk_plan.specs.Journals.{OpenTurn, View, open_after, begun, told_more, note_sent, ended_turn, note_right}
 use Rattle.mk_plan.specs.Ready.{IsReady}
 use Rattle.mk_plan.specs.Report.{is_step}
-use Rattle.mk_order.specs.Supplies.{followed, cut_turn, cut_turns, opened}
+use Rattle.mk_order.specs.Supplies.{cut_turn, cut_turns, given_so_far}
 use Rattle.mk_order.proofs.Seen.{open_after_is}
 use Rattle.mk_order.proofs.Opened.{inputs_opened, outputs_opened}
 use Rattle.mk_order.proofs.Entries.{opened_case, grown_case}

@@ -1,19 +1,19 @@
 -- Turns that are still open, taken as turns that were cut, change nothing of what a ready simulator
 -- is sent.
-use Rattle.std.proofs.Common.{◌≡◌, ℕ, false, List, [], ◌∷◌, ◌++◌, Option, Some, None, refl, ap, ◌∙◌}
+use Rattle.std.proofs.Common.{◌≡◌, ℕ, List, [], ◌++◌, Option, Some, None, refl, ap, ◌∙◌}
 use Rattle.mk_base.specs.declared.tier.Tier.{Tier}
 use Rattle.mk_base.specs.Lists.{Each}
 use Rattle.mk_plan.specs.declared.Plan.{Plan}
 use Rattle.mk_plan.specs.Plans.{owner}
 use Rattle.mk_plan.specs.Walks.{from_start}
-use Rattle.mk_plan.specs.Acts.{Act, Family}
+use Rattle.mk_plan.specs.Acts.{Act}
 use Rattle.mk_plan.specs.Deliveries.{Timed, supply, outputs_of}
 use Rattle.mk_plan.specs.Inputs.{inputs}
 use Rattle.mk_plan.specs.Journals.{OpenTurn, View}
 use Rattle.mk_plan.specs.Ready.{pending, step_at, IsReady}
 use Rattle.mk_base.proofs.Lists.{append_nil, filter_map_append}
 use Rattle.mk_order.proofs.LateActs.{IsLate, AllLate, same_inputs}
-use Rattle.mk_order.specs.Supplies.{followed, cut_turn, cut_turns, opened}
+use Rattle.mk_order.specs.Supplies.{followed, cut_turns, opened}
 
 module _ (P : Plan) (V : View) where
   opened_late : (s : ℕ) (x : Tier) → IsReady P V s x → AllLate P s x (opened V)
