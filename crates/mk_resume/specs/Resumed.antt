@@ -26,7 +26,7 @@ use Rattle.mk_record_compare.specs.Differences.{IsOther}
 use Rattle.mk_plan_same.specs.Parts.{IsFirstOther}
 use Rattle.mk_record_restored.specs.Restored.{IsRestored, IsFaulted, IsOtherIn}
 use Rattle.mk_sched.specs.declared.faults.CoreFault.{CoreFault}
-use Rattle.mk_sched.specs.Answers.{IsLastFaulty, SomeOpen, SomeReady}
+use Rattle.mk_sched.specs.Answers.{IsLastFaulty}
 use Rattle.mk_run_crew.specs.Attempts.{Attempt, exchange_of}
 use Rattle.mk_setup.specs.Handshakes.{IsMade}
 use Rattle.mk_run_laws.specs.Exchanges.{Exchange, exchange}
@@ -48,7 +48,7 @@ use Rattle.mk_resume_links.specs.Rests.{Counts, repeated, RestsWell}
 use Rattle.mk_resume_links.specs.Runs.{IsLinkOfResumed}
 use Rattle.mk_resume_loop.specs.declared.ending.ResumeEnd.{ResumeEnd}
 use Rattle.mk_resume_loop.specs.declared.ending.ResumeEnd.TheVariants as ends
-use Rattle.mk_resume_loop.specs.Resumed.{IsCutOff, IsFull, IsLongFree, QueuedAllAt, fault_at}
+use Rattle.mk_resume_loop.specs.Resumed.{IsCutOff, IsFull, IsLongFree, IsRunWaiting, QueuedAllAt, fault_at}
 
 -- all messages that were heard of simulator i were taken
 pub record HasTakenAll (started : ℕ) (S : Scenario) (log : List LogEntry) (J : List Entry)
@@ -107,12 +107,6 @@ ShownBy X P first J heard faults new_faults (ends.OtherEntry n) = ⊥
 ShownBy X P first J heard faults new_faults
     (ends.Differs sim place kept other) = IsDiffering X first J heard sim place kept other
 
--- nobody is ready, and something is to come: a request is open, or a simulator hasn't sent again all
--- that the journal has of it
-abbrev pub IsWaiting : Plan → List Entry → Counts → Type 0
-IsWaiting P J heard = (SomeReady P J → ⊥)
-    × (SomeOpen P J ⊎ ((i : ℕ) × (i < sim_count P) × (heard i < length (got J i))))
-
 -- a resumed run with a plan and a journal, of a record with these messages and steps, over the
 -- entries that it added to the log. `first` is the journal after the record's messages, which the
 -- run's begins with. Each simulator has sent so many of the journal's messages again in this call
@@ -147,7 +141,7 @@ pub record IsResumed (X : Exchange) (P : Plan) (saved : Saved) (J : List Entry)
   pub on_links : AreOn (IsRunLink X.started X.scenario) X.log
   pub shown : ShownBy X P first J heard faults new_faults end
   pub fault : (view P J).fault ≡ fault_at end
-  pub unfinished : IsCutOff end → IsWaiting P J heard
+  pub unfinished : IsCutOff end → IsRunWaiting P J heard
 
 -- the handshake was made, the plan is the record's but for the limit of entries, and the record's
 -- messages were taken: what came of it then

@@ -23,7 +23,7 @@ use Rattle.mk_run_laws.specs.Running.{SetupReplies, IsBegun}
 use Rattle.mk_run_laws.proofs.Stepping.{apart_is, same_is, same_or_not, got_here, got_away, linked_out}
 use Rattle.mk_resume_walk.specs.Talks.{free_items}
 use Rattle.mk_resume_links.specs.Rests.{Counts, repeated}
-use Rattle.mk_resume_links.specs.inner.Catching.{IsCatching, IsCatchingWith, WasAwaited, awaited}
+use Rattle.mk_resume_links.specs.inner.Catching.{IsCatching, IsCatchingWith, WasAwaited, awaited, one_more}
 use Rattle.mk_resume_links.specs.inner.Touching.{IsInTouch, IsResting, RepeatsByKind, RestsOver, RestsSoFar}
 use Rattle.mk_resume_links.proofs.Growing.{count_sent, free_before, given_away, given_here, last_there, repeated_away, repeated_got_away, repeated_got_here, repeated_here, repeated_sent}
 use Rattle.mk_resume_links.proofs.Repeating.{kinds_longer, kinds_more, kinds_none}
@@ -47,10 +47,7 @@ goes_beyond g s h is caught = omega (arith, is, caught)
 there_below : (xs : List Message) (n : ℕ) (m : Message) → slice_get xs n ≡ Some m → n < length xs
 there_below xs n m is = (get_is xs n m is).0
 
--- one message more of simulator s
-abbrev pub one_more : Counts → ℕ → Counts
-one_more heard s i = if i == s then heard i + 1 else heard i
-
+-- one message more of simulator s, and none of another
 pub more_here : (heard : Counts) (s : ℕ) → one_more heard s s ≡ heard s + 1
 more_here heard s = ap (λ (b : Bool). if b then heard s + 1 else heard s) (same_is s)
 

@@ -23,9 +23,9 @@ use Rattle.mk_run_laws.specs.Running.{SetupReplies}
 use Rattle.mk_run_laws.proofs.Stepping.{same_or_not, got_here, linked_out}
 use Rattle.mk_resume_walk.specs.Talks.{free_items}
 use Rattle.mk_resume_links.specs.Rests.{Counts, repeated}
-use Rattle.mk_resume_links.specs.inner.Catching.{IsCatching, IsCatchingWith, WasAwaited, awaited}
+use Rattle.mk_resume_links.specs.inner.Catching.{IsCatching, IsCatchingWith, WasAwaited, awaited, one_more}
 use Rattle.mk_resume_links.specs.inner.Touching.{RestsOver}
-use Rattle.mk_resume_links.proofs.Catching.{catching_kept, catching_queued, catching_ready, catching_sent, more_away, more_here, one_more}
+use Rattle.mk_resume_links.proofs.Catching.{catching_kept, catching_queued, catching_ready, catching_sent, more_away, more_here}
 use Rattle.mk_resume_links.proofs.Growing.{free_got_away, free_got_here, free_sent_away, free_sent_behind, free_sent_here, given_away, given_here}
 use Rattle.mk_resume_links.proofs.Touching.{seen_as}
 use Rattle.mk_run_laws.specs.Exchanges.{exchange}

@@ -14,9 +14,9 @@ use Rattle.mk_run_laws.proofs.Stepping.{linked_out}
 use Rattle.mk_run.specs.inner.Underway.{Setting, reply_in, exchange_at}
 use Rattle.mk_resume_walk.specs.Talks.{free_items}
 use Rattle.mk_resume_links.specs.Rests.{Counts}
-use Rattle.mk_resume_links.specs.inner.Catching.{IsCatchingWith, awaited}
+use Rattle.mk_resume_links.specs.inner.Catching.{IsCatchingWith, awaited, one_more}
 use Rattle.mk_resume_links.specs.inner.Touching.{RestsOver}
-use Rattle.mk_resume_links.proofs.Catching.{again_on_link, again_within, one_more}
+use Rattle.mk_resume_links.proofs.Catching.{again_on_link, again_within}
 use Rattle.mk_resume_links.proofs.Closing.{seen}
 use Rattle.mk_resume_loop.specs.inner.Underway.{IsMet, IsResuming, IsResumingWith, course_of, saved_of}
 use Rattle.mk_resume_loop.proofs.Resting.{resting}

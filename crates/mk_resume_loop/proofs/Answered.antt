@@ -25,8 +25,8 @@ use Rattle.mk_sched.proofs.Pushed.{fault_after_sent, patient_got, patient_sent}
 use Rattle.mk_run.proofs.Pushed.{range_got, range_sent}
 use Rattle.mk_resume_walk.specs.Talks.{free_items}
 use Rattle.mk_resume_links.specs.Rests.{Counts}
-use Rattle.mk_resume_links.specs.inner.Catching.{IsCatchingWith, awaited}
-use Rattle.mk_resume_links.proofs.Catching.{catching_sent, more_away, more_here, new_on_link, new_within, one_more}
+use Rattle.mk_resume_links.specs.inner.Catching.{IsCatchingWith, awaited, one_more}
+use Rattle.mk_resume_links.proofs.Catching.{catching_sent, more_away, more_here, new_on_link, new_within}
 use Rattle.mk_resume_links.proofs.Closing.{seen}
 use Rattle.mk_resume_links.proofs.Growing.{free_sent_away, free_sent_here}
 use Rattle.mk_resume_loop.specs.declared.ending.ResumeEnd.{ResumeEnd}

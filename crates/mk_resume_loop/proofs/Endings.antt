@@ -47,16 +47,16 @@ use Rattle.mk_run.proofs.Endings.{last_is_in, limit_unnamed, none_named, queued_
 use Rattle.mk_resume_walk.specs.Talks.{free_items}
 use Rattle.mk_resume_links.specs.Rests.{Counts, repeated}
 use Rattle.mk_resume_links.specs.Running.{RestsEnd}
-use Rattle.mk_resume_links.specs.inner.Catching.{IsCatching, IsCatchingWith, awaited}
+use Rattle.mk_resume_links.specs.inner.Catching.{IsCatching, IsCatchingWith, awaited, one_more}
 use Rattle.mk_resume_links.specs.inner.Touching.{IsInTouch}
-use Rattle.mk_resume_links.proofs.Catching.{apart_on_link, apart_within, catching_unheard, one_more}
+use Rattle.mk_resume_links.proofs.Catching.{apart_on_link, apart_within, catching_unheard}
 use Rattle.mk_resume_links.proofs.Growing.{given_here, repeated_away}
 use Rattle.mk_resume_links.proofs.Touching.{seen_as}
 use Rattle.mk_resume_links.proofs.Waiting.{over_so_far, so_far_end}
 use Rattle.mk_resume_loop.specs.declared.ending.ResumeEnd.{ResumeEnd}
 use Rattle.mk_resume_loop.specs.declared.ending.ResumeEnd.TheVariants as ends
-use Rattle.mk_resume_loop.specs.Resumed.{IsCutOff, QueuedAllAt, fault_at}
-use Rattle.mk_resume_loop.specs.inner.Ending.{EndsBy, HasEnded, HasGiven, IsAhead, IsLastChannel, IsLeftNow, SomeToCome, IsWaiting}
+use Rattle.mk_resume_loop.specs.Resumed.{IsCutOff, IsRunWaiting, QueuedAllAt, SomeToCome, fault_at}
+use Rattle.mk_resume_loop.specs.inner.Ending.{EndsBy, HasEnded, HasGiven, IsAhead, IsLastChannel, IsLeftNow}
 use Rattle.mk_resume_loop.specs.inner.Underway.{IsMet, IsResuming, saved_of}
 use Rattle.mk_resume_loop.proofs.Asked.{longer_begins}
 use Rattle.mk_resume_loop.proofs.Resting.{resting}
@@ -81,7 +81,7 @@ module _ (T : Setting) (first : List Entry) where
   }
 
   -- the run ends where it is
-  pub ends_here : (risen : Type 0) (P : Plan) (J : List Entry) (heard : Counts) (log : List LogEntry) (C : CrewState) (sims : List (Option Simulator)) (o : Outcome) → IsResuming T P first J heard log C sims → None ≡ fault_named o → (IsCutOff (ends.Outcome o) → IsWaiting P J heard)
+  pub ends_here : (risen : Type 0) (P : Plan) (J : List Entry) (heard : Counts) (log : List LogEntry) (C : CrewState) (sims : List (Option Simulator)) (o : Outcome) → IsResuming T P first J heard log C sims → None ≡ fault_named o → (IsCutOff (ends.Outcome o) → IsRunWaiting P J heard)
       → EndsBy risen T P first J heard log C (ends.Outcome o) → HasEnded risen T P first J heard log C (ends.Outcome o)
   ends_here risen P J heard log C sims o u unnamed unfinished shown = record {
     suits = u.suits;
@@ -168,7 +168,7 @@ module _ (T : Setting) (first : List Entry) where
     left_now caught = (s.0, caught, elim left.came [ inl t ↦ inl (m, ahead t.0 t.1) | inr t ↦ inr (record { within = t.0; more = t.2 }) ])
 
     -- the core hasn't taken it
-    pub untaken_ends : (end : ResumeEnd) → None ≡ fault_at end → ((items : List Item) → QueuedAllAt end items items) → (IsCutOff end → IsWaiting P J heard) → EndsBy risen T P first J heard log D end → HasEnded risen T P first J heard log D end
+    pub untaken_ends : (end : ResumeEnd) → None ≡ fault_at end → ((items : List Item) → QueuedAllAt end items items) → (IsCutOff end → IsRunWaiting P J heard) → EndsBy risen T P first J heard log D end → HasEnded risen T P first J heard log D end
     untaken_ends end unnamed all unfinished shown = record {
       suits = u.suits;
       stands = u.stands;
@@ -214,7 +214,7 @@ module _ (T : Setting) (first : List Entry) where
       taken : IsCatching (saved_of first) (exchange_at T log) T.replies P K next D
       taken = quiet_catching T P first J heard log s m D sims h caught
 
-      pub faulty_ends : (o : Outcome) → Stands P K → (view P K).fault ≡ fault_named o → (IsCutOff (ends.Outcome o) → IsWaiting P K next) → EndsBy risen T P first K next log D (ends.Outcome o) → HasEnded risen T P first K next log D (ends.Outcome o)
+      pub faulty_ends : (o : Outcome) → Stands P K → (view P K).fault ≡ fault_named o → (IsCutOff (ends.Outcome o) → IsRunWaiting P K next) → EndsBy risen T P first K next log D (ends.Outcome o) → HasEnded risen T P first K next log D (ends.Outcome o)
       faulty_ends o stands fault unfinished shown = record {
         suits = u.suits;
         stands = stands;

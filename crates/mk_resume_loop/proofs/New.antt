@@ -39,8 +39,8 @@ use Rattle.mk_resume_walk.specs.Talks.{free_items}
 use Rattle.mk_resume_walk.proofs.Fronts.{free_alternate}
 use Rattle.mk_resume_walk.proofs.UpTo.{free_all}
 use Rattle.mk_resume_links.specs.Rests.{Counts}
-use Rattle.mk_resume_links.specs.inner.Catching.{IsCatching, WasAwaited, awaited}
-use Rattle.mk_resume_links.proofs.Catching.{catching_sent, more_away, more_here, new_on_link, new_within, one_more}
+use Rattle.mk_resume_links.specs.inner.Catching.{IsCatching, WasAwaited, awaited, one_more}
+use Rattle.mk_resume_links.proofs.Catching.{catching_sent, more_away, more_here, new_on_link, new_within}
 use Rattle.mk_resume_links.proofs.Closing.{kept_answered, kept_quiet, new_answered, new_quiet}
 use Rattle.mk_resume_links.proofs.Growing.{free_got_away, free_got_here, free_sent_away, free_sent_here}
 use Rattle.mk_resume_loop.specs.inner.Underway.{IsMet, IsResuming, saved_of}

@@ -17,7 +17,7 @@ use Rattle.mk_resume_walk.proofs.Alternating.{balanced, unanswered}
 use Rattle.mk_resume_walk.proofs.Fronts.{free_alternate}
 use Rattle.mk_resume_walk.proofs.UpTo.{free_all}
 use Rattle.mk_resume_links.specs.Rests.{Counts}
-use Rattle.mk_resume_loop.specs.inner.Ending.{SomeToCome}
+use Rattle.mk_resume_loop.specs.Resumed.{SomeToCome}
 use Rattle.mk_resume_loop.specs.inner.Underway.{IsResuming}
 use Rattle.mk_resume_loop.proofs.Passing.{awaited_one}
 use Rattle.mk_resume_loop.proofs.Standing.{few_or_more}

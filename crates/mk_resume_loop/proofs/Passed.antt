@@ -25,7 +25,7 @@ use Rattle.mk_resume_walk.specs.Index.{own_count}
 use Rattle.mk_resume_walk.proofs.Indexing.{counted_behind}
 use Rattle.mk_resume_walk.proofs.UpTo.{up_to_behind}
 use Rattle.mk_resume_links.specs.Rests.{Counts, repeated}
-use Rattle.mk_resume_links.proofs.Catching.{one_more}
+use Rattle.mk_resume_links.specs.inner.Catching.{one_more}
 use Rattle.mk_resume_links.proofs.Waiting.{so_far_end}
 use Rattle.mk_resume_loop.specs.declared.behind.Standing.{Standing}
 use Rattle.mk_resume_loop.specs.declared.ending.ResumeEnd.{ResumeEnd}

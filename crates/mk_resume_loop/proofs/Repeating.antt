@@ -24,8 +24,8 @@ use Rattle.mk_resume_walk.specs.Walks.{IsGoneTo, IsNextAt}
 use Rattle.mk_resume_walk.proofs.Fronts.{free_alternate}
 use Rattle.mk_resume_walk.proofs.GoingOn.{free_go_on, up_to_counted, walk_laws}
 use Rattle.mk_resume_links.specs.Rests.{Counts}
-use Rattle.mk_resume_links.specs.inner.Catching.{awaited}
-use Rattle.mk_resume_links.proofs.Catching.{more_away, more_here, one_more}
+use Rattle.mk_resume_links.specs.inner.Catching.{awaited, one_more}
+use Rattle.mk_resume_links.proofs.Catching.{more_away, more_here}
 use Rattle.mk_resume_loop.specs.declared.behind.Standing.{Standing}
 use Rattle.mk_resume_loop.specs.inner.Underway.{BehindSeen, Course, IsMet, IsPassed, IsResuming, StandsAt, course_of}
 use Rattle.mk_resume_loop.specs.inner.Turns.{IsDue, Walk}

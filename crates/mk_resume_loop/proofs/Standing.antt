@@ -23,7 +23,8 @@ use Rattle.mk_resume_walk.proofs.Alternating.{alternate}
 use Rattle.mk_resume_walk.proofs.Passing.{walk_ends, walk_sends, walk_waits}
 use Rattle.mk_resume_walk.proofs.UpTo.{free_front, up_to_all, up_to_front}
 use Rattle.mk_resume_links.specs.Rests.{Counts}
-use Rattle.mk_resume_links.proofs.Catching.{more_away, more_here, one_more}
+use Rattle.mk_resume_links.specs.inner.Catching.{one_more}
+use Rattle.mk_resume_links.proofs.Catching.{more_away, more_here}
 use Rattle.mk_resume_links.proofs.Growing.{count_sent}
 use Rattle.mk_resume_loop.specs.declared.behind.Standing.{Standing}
 use Rattle.mk_resume_loop.specs.inner.Underway.{StandsAt}

@@ -28,11 +28,12 @@ use Rattle.mk_run.specs.inner.Underway.{Setting}
 use Rattle.mk_run.specs.inner.Turns.{AreLinksOpen}
 use Rattle.mk_run.proofs.Shown.{ends_as}
 use Rattle.mk_resume_links.specs.Rests.{Counts}
-use Rattle.mk_resume_links.proofs.Catching.{one_more}
+use Rattle.mk_resume_links.specs.inner.Catching.{one_more}
 use Rattle.mk_resume_loop.specs.declared.behind.Standing.{Standing}
 use Rattle.mk_resume_loop.specs.declared.ending.ResumeEnd.{ResumeEnd}
 use Rattle.mk_resume_loop.specs.declared.ending.ResumeEnd.TheVariants as ends
-use Rattle.mk_resume_loop.specs.inner.Ending.{EndsBy, SomeToCome}
+use Rattle.mk_resume_loop.specs.Resumed.{SomeToCome}
+use Rattle.mk_resume_loop.specs.inner.Ending.{EndsBy}
 use Rattle.mk_resume_loop.specs.declared.ending.Pause.{Pause}
 use Rattle.mk_resume_loop.specs.declared.ending.Pause.TheVariants as pause
 use Rattle.mk_resume_loop.specs.inner.Standings.{HasNobody, HasSomebody}

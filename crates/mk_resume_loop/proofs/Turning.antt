@@ -24,7 +24,7 @@ use Rattle.mk_run_links.proofs.OnEntries.{on_run}
 use Rattle.mk_run.specs.inner.Underway.{Setting}
 use Rattle.mk_run.specs.inner.Sendings.{CanSend, EndsWithItem}
 use Rattle.mk_resume_links.specs.Rests.{Counts}
-use Rattle.mk_resume_links.proofs.Catching.{one_more}
+use Rattle.mk_resume_links.specs.inner.Catching.{one_more}
 use Rattle.mk_resume_loop.specs.declared.behind.Standing.{Standing}
 use Rattle.mk_resume_loop.specs.inner.Turns.{GoesOn, IsPast}
 use Rattle.mk_resume_loop.specs.inner.Underway.{AreBehind, BehindSeen, IsIndexed, IsResuming}

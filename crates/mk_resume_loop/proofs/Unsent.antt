@@ -26,8 +26,8 @@ use Rattle.mk_resume_walk.specs.Talks.{free_items}
 use Rattle.mk_resume_links.specs.Rests.{Counts, repeated}
 use Rattle.mk_resume_links.proofs.Waiting.{so_far_end}
 use Rattle.mk_resume_loop.specs.declared.ending.ResumeEnd.TheVariants as ends
-use Rattle.mk_resume_loop.specs.Resumed.{IsCutOff, IsLongFree, QueuedAllAt}
-use Rattle.mk_resume_loop.specs.inner.Ending.{EndsBy, HasEnded, IsWaiting}
+use Rattle.mk_resume_loop.specs.Resumed.{IsCutOff, IsLongFree, IsRunWaiting, QueuedAllAt}
+use Rattle.mk_resume_loop.specs.inner.Ending.{EndsBy, HasEnded}
 use Rattle.mk_resume_loop.specs.inner.Underway.{IsResumingWith, course_of, saved_of}
 
 -- these items were queued, those that are free go on with this one
@@ -51,7 +51,7 @@ module _ (risen : Type 0) (X : ℕ → List Item) (A : ℕ → List Message) (T 
       }
 
   by_halt : (h : Halt) → ShowsUnsent h s.0 item C
-      → ((i : ℕ) → QueuedAllAt (ends.Outcome (outcome_of h)) (free_items J i (heard i)) (X i)) × (IsCutOff (ends.Outcome (outcome_of h)) → IsWaiting P J heard) × EndsBy risen T P first J heard log (crew_of C) (ends.Outcome (outcome_of h))
+      → ((i : ℕ) → QueuedAllAt (ends.Outcome (outcome_of h)) (free_items J i (heard i)) (X i)) × (IsCutOff (ends.Outcome (outcome_of h)) → IsRunWaiting P J heard) × EndsBy risen T P first J heard log (crew_of C) (ends.Outcome (outcome_of h))
   by_halt (halt.Setup fault) shown = absurd shown
   by_halt halt.Fleet shown = absurd shown
   by_halt (halt.Gone sim) shown = absurd shown

@@ -4,14 +4,14 @@ use Rattle.mk_base.specs.declared.LinkNo.{LinkNo}
 use Rattle.mk_plan.specs.declared.Plan.{Plan}
 use Rattle.mk_plan.specs.declared.Item.{Item}
 use Rattle.mk_plan.specs.declared.Entry.{Entry}
-use Rattle.mk_plan.specs.Plans.{first_id}
-use Rattle.mk_plan.specs.Journals.{Fault, view}
+use Rattle.mk_plan.specs.Plans.{first_id, sim_count}
+use Rattle.mk_plan.specs.Journals.{Fault, got, view}
 use Rattle.mk_plan.specs.Sequential.{id_after}
 use Rattle.mk_frame.specs.Frames.{limit}
 use Rattle.mk_message.specs.Written.{item_text}
 use Rattle.mk_sched.specs.declared.faults.CoreFault.{CoreFault}
 use Rattle.mk_sched.specs.declared.faults.CoreFault.TheVariants.{TooLong}
-use Rattle.mk_sched.specs.Answers.{SomeReady}
+use Rattle.mk_sched.specs.Answers.{SomeOpen, SomeReady}
 use Rattle.mk_scenario.specs.declared.parts.Scenario.{Scenario}
 use Rattle.mk_run_laws.specs.Handshake.{sim_link}
 use Rattle.mk_run.specs.Ends.{QueuedAll, IsBrokenOff, fault_named}
@@ -55,6 +55,16 @@ fault_at (ends.Outcome o) = fault_named o
 fault_at (ends.OtherPlan n) = None
 fault_at (ends.OtherEntry n) = None
 fault_at (ends.Differs sim place saved_ other) = None
+
+-- something is to come: a request is open, or a simulator hasn't sent again all that the journal
+-- has of it
+abbrev pub SomeToCome : Plan → List Entry → Counts → Type 0
+SomeToCome P J heard = SomeOpen P J
+    ⊎ ((i : ℕ) × (i < sim_count P) × (heard i < length (got J i)))
+
+-- a resumed run waits: nobody is ready, and something is to come
+abbrev pub IsRunWaiting : Plan → List Entry → Counts → Type 0
+IsRunWaiting P J heard = (SomeReady P J → ⊥) × SomeToCome P J heard
 
 -- the run was broken off while something was to come
 abbrev pub IsCutOff : ResumeEnd → Type 0

@@ -1,6 +1,6 @@
 -- For proofs alone. What stands of a resumed run's journal, log and crew while its simulators catch
 -- up and afterwards.
-use Rattle.std.specs.Prelude.{◌≡◌, ℕ, ◌<◌, max, nat_lt, true, ◌&&◌, List, [], ◌∷◌, length, map, if◌then◌else◌}
+use Rattle.std.specs.Prelude.{◌≡◌, ℕ, ◌+◌, ◌<◌, ◌==◌, max, nat_lt, true, ◌&&◌, List, [], ◌∷◌, length, map, if◌then◌else◌}
 use Rattle.mk_plan.specs.declared.Plan.{Plan}
 use Rattle.mk_plan.specs.declared.Item.{Item}
 use Rattle.mk_plan.specs.declared.Message.{Message}
@@ -15,6 +15,10 @@ use Rattle.mk_run_laws.specs.Running.{SetupReplies}
 use Rattle.mk_resume_walk.specs.Talks.{free_items}
 use Rattle.mk_resume_links.specs.Rests.{Counts, repeated}
 use Rattle.mk_resume_links.specs.inner.Touching.{IsInTouch, RepeatsByKind, RestsSoFar}
+
+-- one message more of simulator s
+abbrev pub one_more : Counts → ℕ → Counts
+one_more heard s i = if i == s then heard i + 1 else heard i
 
 -- they have come about together, each simulator having sent so many messages in this call; these
 -- items were queued behind the handshake, and these replies are kept

@@ -12,7 +12,6 @@ use Rattle.mk_plan.specs.Journals.{bare, got, view}
 use Rattle.mk_plan.specs.Ready.{IsDone}
 use Rattle.mk_outside.specs.declared.fleet.LogEntry.{LogEntry}
 use Rattle.mk_sched.specs.Cores.{Stands}
-use Rattle.mk_sched.specs.Answers.{SomeOpen, SomeReady}
 use Rattle.mk_run_laws.specs.Hearing.{first_message}
 use Rattle.mk_run_laws.specs.Handshake.{is_within, sim_link}
 use Rattle.mk_run_laws.specs.Crews.{CrewState}
@@ -27,7 +26,7 @@ use Rattle.mk_resume_links.specs.Running.{RestsEnd}
 use Rattle.mk_resume_links.specs.inner.Touching.{RepeatsByKind}
 use Rattle.mk_resume_loop.specs.declared.ending.ResumeEnd.{ResumeEnd}
 use Rattle.mk_resume_loop.specs.declared.ending.ResumeEnd.TheVariants as ends
-use Rattle.mk_resume_loop.specs.Resumed.{IsCutOff, IsFull, IsLongFree, QueuedAllAt, fault_at}
+use Rattle.mk_resume_loop.specs.Resumed.{IsCutOff, IsFull, IsLongFree, IsRunWaiting, QueuedAllAt, fault_at}
 use Rattle.mk_resume_loop.specs.inner.Underway.{saved_of}
 
 -- a channel at the end: the messages that it gave go on from those that were sent again, and the
@@ -90,15 +89,6 @@ EndsBy risen T P first J heard log C (ends.OtherEntry n) = ⊥
 EndsBy risen T P first J heard log C (ends.Differs s place saved other) = DiffersNow T first J heard
     log C s place saved other
 
--- something is to come: a request is open, or a simulator is behind
-abbrev pub SomeToCome : Plan → List Entry → Counts → Type 0
-SomeToCome P J heard = SomeOpen P J
-    ⊎ ((i : ℕ) × (i < sim_count P) × (heard i < length (got J i)))
-
--- the run was broken off: nobody is ready, and something is to come
-abbrev pub IsWaiting : Plan → List Entry → Counts → Type 0
-IsWaiting P J heard = (SomeReady P J → ⊥) × SomeToCome P J heard
-
 -- the run has come to its end, and its crew is still to be stopped
 pub record HasEnded (risen : Type 0) (T : Setting) (P : Plan) (first J : List Entry)
     (heard : Counts) (log : List LogEntry) (C : CrewState) (end : ResumeEnd) : Type 0 where
@@ -116,4 +106,4 @@ pub record HasEnded (risen : Type 0) (T : Setting) (P : Plan) (first J : List En
   pub log_right : IsLogRight T log
   pub ends : EndsBy risen T P first J heard log C end
   pub fault : (view P J).fault ≡ fault_at end
-  pub unfinished : IsCutOff end → IsWaiting P J heard
+  pub unfinished : IsCutOff end → IsRunWaiting P J heard

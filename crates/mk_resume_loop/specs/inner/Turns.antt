@@ -24,7 +24,7 @@ use Rattle.mk_resume_loop.specs.declared.ending.Pause.TheVariants as pause
 use Rattle.mk_resume_loop.specs.inner.Ending.{HasEnded}
 use Rattle.mk_resume_loop.specs.inner.Underway.{AreBehind, BehindSeen, Course, IsIndexed, IsMet, IsPassed, IsPassing, IsResuming, IsResumingWith, StandsAt, course_of, saved_of}
 use Rattle.mk_resume_links.specs.inner.Touching.{RestsOver}
-use Rattle.mk_resume_links.proofs.Catching.{one_more}
+use Rattle.mk_resume_links.specs.inner.Catching.{one_more}
 
 -- core, crew and what is behind have come about together over the log
 abbrev pub GoesOn : Setting → List Entry → Counts → CoreState → List LogEntry → CrewSeen
