@@ -43,7 +43,7 @@ module _ (P : Parts) (L : Laws P) where
     next_right m later e =
         let t = every P L R V reached cont i T is all i in
         go (wrong i T.place m) refl
-            (ap (λ l. whole P i T.place l) (same_behind (heard_of P V i) (m ∷ later) t.0 (sym e ∙ t.1)) ∙ whole_left P L R V reached cont i T is all)
+        (ap (λ l. whole P i T.place l) (same_behind (heard_of P V i) (m ∷ later) t.0 (sym e ∙ t.1)) ∙ whole_left P L R V reached cont i T is all)
       where
         go : (c : Bool) → wrong i T.place m ≡ c → cond c false (case_of (on i T.place m) true (λ p. whole P i p later)) ≡ true → c ≡ false
         go true q w = absurd (true_false (sym w))
