@@ -1,8 +1,9 @@
 -- Answers to the goals of `pacing::pace_plan` that the prover leaves.
-use Rattle.std.proofs.Common.{[], ◌∷◌, arith, refl}
+use Rattle.std.proofs.Common.{List, [], ◌∷◌, arith, refl, subst, sym}
 use Rattle.mk_outside.specs.declared.fleet.LogEntry.TheVariants.{Told}
 use Rattle.mk_outside.specs.declared.paced.Now.TheVariants.{At, Failed}
-use Rattle.mk_run_links.specs.Places.{IsChannelLink}
+use Rattle.mk_base.specs.declared.LinkNo.{LinkNo}
+use Rattle.mk_run_links.specs.Places.{AreOpen, IsChannelLink}
 use Rattle.mk_run_links.proofs.OnEntries.{on_no_clock}
 use Rattle.mk_run.proofs.Turning.{risen_later}
 use Rattle.mk_pace.proofs.Early.{clock_failed}
@@ -25,3 +26,10 @@ returns-in-Failed-clause-ran g c =
       clock_failed c.args.plan c.args.crew c.args.factor c.args.strict s.0 (g.F.Fleet.faults c.args.fleet.now) (g.F.Fleet.faults c.stop_early.new.fleet) _ c.stop_early.result
           (risen_later (g.F.Fleet.faults c.args.fleet.now) (g.F.Fleet.faults c.now.new.self) (g.F.Fleet.faults c.stop_early.new.fleet) c.stop_early.ensures.count (c.in-Failed.ensures.cause refl)) s.2 s.3 s.4 c.stop_early.ensures.ran,
     )
+
+-- looking at the clock closes no link
+pub pace_from-requires-clause-open : goal.pace_from-requires-clause-open
+pace_from-requires-clause-open g c = subst (λ (links : List LinkNo). AreOpen c.args.crew.channels links) (sym c.in-At.ensures.same_links) c.requires.open
+
+pub stop_early-requires : goal.stop_early-requires
+stop_early-requires g c = record { «open» = subst (λ (links : List LinkNo). AreOpen c.args.crew.channels links) (sym c.in-Failed.ensures.same_links) c.requires.open }
