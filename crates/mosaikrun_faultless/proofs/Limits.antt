@@ -79,7 +79,7 @@ module _ (P : Plan) (valid : IsValidPlan P) (R : Messages) (within : MeetsNoLimi
   open_shorter i T is =
       let low = open_low P valid J orderly i T is in
       let all = each_ended (parts P) (theory.seq (parts P) R i) (ap (λ (F : Family). all_ended (F i)) (seq_is P R) ∙ whole i low) in
-      let g = next_heard (parts P) (laws P valid) R (seen P V) is_reached known i (turn_of P V.owed i T) low (ap (λ (o : Option OpenTurn). option_map (turn_of P V.owed i) o) is) all in
+      let g = next_heard (parts P) (laws P valid) R (seen P V) is_reached known i (turn_of P V.owed i T) (ap (λ (o : Option OpenTurn). option_map (turn_of P V.owed i) o) is) all in
       let e : length (run_talk P R i) ≡ length ((said V i ++ owed_at V.owed i) ++ Heard g.m ∷ g.more) = ap length (sym (talk_is i) ∙ g.said ∙ ap (λ (l : List Said). (l ++ owed_at V.owed i) ++ Heard g.m ∷ g.more) (said_seen P V i)) in
       let a = length-append (said V i ++ owed_at V.owed i) (Heard g.m ∷ g.more) in
       let b = length-append (said V i) (owed_at V.owed i) in
