@@ -5,7 +5,7 @@ use Rattle.std.proofs.lemmas.List.Folds.{list_all-map}
 use Rattle.mk_base.specs.declared.json.Json.{Json, Json-F, out-Json, map-Json}
 use Rattle.mk_base.specs.Lists.{all_there}
 use Rattle.mk_base.specs.Texts.{text_of}
-use Rattle.mk_base.specs.Trees.{members_in, is_datum, is_in_range, range_step}
+use Rattle.mk_base.specs.Trees.{members_in, is_datum, is_in_range, range_step, members_of}
 use Rattle.mk_base.proofs.FoldsAgree.{folded_out}
 use Rattle.mk_base.proofs.Lists.{some_same, none_some}
 use Rattle.mk_plan.specs.declared.Plan.{Plan}
@@ -14,7 +14,7 @@ use Rattle.mk_plan.specs.Asks.{Named, Set, members_by, datum_in, entity_of, sets
 use Rattle.mk_async.specs.Asked.{named_by}
 use Rattle.mk_async.specs.Forms.{each_passes, is_destinations, is_object_of, is_such, is_value, is_values}
 use Rattle.mk_async.specs.inner.Forms.{set_of}
-use Rattle.mk_async.specs.inner.Given.{is_source, members_of, set_value, values_from, values_in, values_to}
+use Rattle.mk_async.specs.inner.Given.{is_source, set_value, values_from, values_in, values_to}
 use Rattle.mk_async.specs.inner.Known.{Members}
 use Rattle.mk_async.proofs.Reading.{set_there}
 use Rattle.mk_async.proofs.Testing.{made, parts, read}

@@ -8,14 +8,14 @@ use Rattle.mk_base.specs.declared.json.Json.{Json}
 use Rattle.mk_base.specs.Data.{IsValueText}
 use Rattle.mk_base.specs.Lists.{IsIn}
 use Rattle.mk_base.specs.Texts.{text_of}
-use Rattle.mk_base.specs.Trees.{members_in, nesting}
+use Rattle.mk_base.specs.Trees.{members_in, nesting, members_of}
 use Rattle.mk_base.proofs.Lists.{in_flat_map, in_map}
 use Rattle.mk_plan.specs.declared.Plan.{Plan}
 use Rattle.mk_plan.specs.declared.SetValue.{SetValue}
 use Rattle.mk_plan.specs.Plans.{owner}
 use Rattle.mk_async.specs.Asked.{IsGivenBy}
 use Rattle.mk_async.specs.Forms.{each_passes, is_object_of, is_such, is_value}
-use Rattle.mk_async.specs.inner.Given.{is_source, members_of, set_value, values_from, values_in, values_to}
+use Rattle.mk_async.specs.inner.Given.{is_source, set_value, values_from, values_in, values_to}
 use Rattle.mk_async.specs.inner.Known.{Members, knows_source, knows_sources}
 use Rattle.mk_async.proofs.Depths.{true_le}
 use Rattle.mk_async.proofs.Entities.{entity_named}

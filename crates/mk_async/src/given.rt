@@ -5,7 +5,8 @@ ghost use Rattle.mk_plan.specs.Asks.{entity_of, knows, sets_in};
 ghost use Rattle.mk_plan_names.specs.Names.{AreNamesOf};
 ghost use Rattle.mk_async.specs.Asked.{IsGivenBy, asked_in, is_asked_in_range};
 ghost use Rattle.mk_async.specs.Forms.{each_passes, is_object_of, is_value};
-ghost use Rattle.mk_async.specs.inner.Given.{is_source, members_of, values_from, values_in, values_to};
+ghost use Rattle.mk_async.specs.inner.Given.{is_source, values_from, values_in, values_to};
+ghost use Rattle.mk_base.specs.Trees.{members_of};
 
 use crate::known::entity_of;
 use crate::request::Asked;

@@ -1,5 +1,9 @@
 -- How tests follow one another, the first that fails naming the fault.
-use Rattle.std.specs.Prelude.{ℕ, Bool, List, [], ◌∷◌, Option, Some, None, Result, Ok, Err, if◌then◌else◌}
+use Rattle.std.specs.Prelude.{◌≡◌, ◌⊎◌, ℕ, Bool, List, [], ◌∷◌, Option, Some, None, Result, Ok, Err, if◌then◌else◌}
+
+-- the fault is the verdict's, or want of memory, which each kind of fault has a value for
+abbrev pub IsFaultOrWant : {A E : Type 0} → E → Result A E → E → Type 0
+IsFaultOrWant want verdict fault = (fault ≡ want) ⊎ (verdict ≡ Err fault)
 
 -- what follows a test that holds, and the fault where it doesn't
 abbrev pub held : {B E : Type 0} → E → Bool → Result B E → Result B E

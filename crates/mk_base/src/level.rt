@@ -1,6 +1,6 @@
 //! What a tree is, looked at one level deep.
 ghost use Rattle.std.specs.Prelude.{◌≡◌, option_map};
-ghost use Rattle.mk_base.specs.Trees.{is_null, bool_in, whole_in, text_in, items_in, members_in, is_object};
+ghost use Rattle.mk_base.specs.Trees.{is_null, bool_in, whole_in, text_in, items_in, items_of, members_in, members_of, is_object};
 
 use crate::json::Json;
 use crate::list::List;
@@ -95,6 +95,26 @@ impl Json {
             Json::Text(_) => None,
             Json::List(_) => None,
             Json::Object(members) => Some(members),
+        }
+    }
+
+    /// The items of the list, none where the tree is something else.
+    pub fn items(&self) -> &[Json]
+        ensures { result.now ≡ items_of self.now }
+    {
+        match self.as_list() {
+            Some(items) => items.as_slice(),
+            None => &[],
+        }
+    }
+
+    /// The members of the object, in byte order of their names; none where the tree is something else.
+    pub fn members(&self) -> &[(Text, Json)]
+        ensures { result.now ≡ members_of self.now }
+    {
+        match self.as_object() {
+            Some(members) => members.entries(),
+            None => &[],
         }
     }
 

@@ -6,6 +6,7 @@ ghost use Rattle.mk_plan.specs.Deliveries.{Supply};
 ghost use Rattle.mk_base.specs.Data.{IsValueText};
 ghost use Rattle.mk_base.specs.Tiers.{latest_time};
 ghost use Rattle.mk_buffers.specs.Held.{with_output};
+ghost use Rattle.mk_base.specs.Limits.{greatest_tier};
 
 use crate::buffers::Buffers;
 use crate::forgetting::least_of;
@@ -20,7 +21,7 @@ impl Buffers {
     pub fn deliver(&mut self, entity: u32, attr: &Text, at: Tier, value: Datum) -> Result<(), Mem>
         requires early { pos 0 ≤ℤ at.time }
         requires late { at.time ≤ℤ latest_time }
-        requires low { at.tier ≤ 1000000 }
+        requires low { at.tier ≤ greatest_tier }
         ensures ok { (P : Plan) (S : Supply) → StandFor P self.old S
             → gives_attr P entity attr.now ≡ true → IsValueText value
             → OnOk result (StandFor P self.new
@@ -39,7 +40,7 @@ impl Buffers {
     pub fn deliver_to(&mut self, outlet: usize, at: Tier, value: Datum) -> Result<(), Mem>
         requires early { pos 0 ≤ℤ at.time }
         requires late { at.time ≤ℤ latest_time }
-        requires low { at.tier ≤ 1000000 }
+        requires low { at.tier ≤ greatest_tier }
         ensures ok { (P : Plan) (S : Supply) (entity : ℕ) (attr : List ℕ) → StandFor P self.old S
             → HasKey self.old entity attr outlet → IsValueText value
             → OnOk result (StandFor P self.new
@@ -59,7 +60,7 @@ impl Buffers {
         requires there { outlet < length self.old.outlets.items }
         requires early { pos 0 ≤ℤ at.time }
         requires late { at.time ≤ℤ latest_time }
-        requires low { at.tier ≤ 1000000 }
+        requires low { at.tier ≤ greatest_tier }
         ensures ok { OnOk result
             (Delivers self.old self.new outlet (record { at = at; value = value })) }
         ensures err { OnErr result (IsUnchanged self.old self.new) }

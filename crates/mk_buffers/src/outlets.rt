@@ -10,6 +10,7 @@ ghost use Rattle.mk_buffers.specs.declared.outlets.Source.{Source};
 ghost use Rattle.mk_buffers.specs.declared.outlets.Outlet.{Outlet};
 ghost use Rattle.mk_buffers.specs.Held.{has_key, is_key};
 ghost use Rattle.mk_buffers.specs.inner.Building.{AreRising, IsOutletOf, IsSource, HasSources, AreSources, AreOutlets, AreParts, IsPartOf, IsNext, HasReached, HasAdded, HasVia, HasJoined, reached, source_order};
+ghost use Rattle.mk_base.specs.Limits.{greatest_tier};
 
 use crate::sorted::or_texts;
 use mk_base::{Datum, Mem, Text, Tier, Via};
@@ -36,7 +37,7 @@ impl Outlet {
     pub fn take_in(&mut self, at: Tier, value: Datum, until: &i64, mark: Tier) -> Result<(), Mem>
         requires early { pos 0 ≤ℤ at.time }
         requires late { at.time ≤ℤ latest_time }
-        requires low { at.tier ≤ 1000000 }
+        requires low { at.tier ≤ greatest_tier }
         ensures ok { OnOk result
             (HasTaken until.now mark (record { at = at; value = value }) self.old self.new) }
         ensures few { OnOk result (IsFew self.new.vias.items until.now mark self.new.log) }

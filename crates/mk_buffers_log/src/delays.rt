@@ -6,6 +6,7 @@ ghost use Rattle.mk_base.specs.Tiers.{delayed, up_to, HasWidth, IsUpTo, latest_t
 ghost use Rattle.mk_plan.specs.Inputs.{is_since};
 ghost use Rattle.mk_buffers_log.specs.Logs.{is_in_time, is_settled};
 ghost use Rattle.mk_buffers_log.specs.inner.Logs.{does_come, is_held_up, is_overtaken, is_past};
+ghost use Rattle.mk_base.specs.Limits.{greatest_tier};
 
 use mk_base::{Tier, Via};
 use std::marker::Model;
@@ -52,7 +53,7 @@ impl Delay {
 pub fn is_delivered(made: Tier, via: Delay, until: Option<i64>, at: Tier) -> bool
     requires early { pos 0 ≤ℤ made.time }
     requires late { made.time ≤ℤ latest_time }
-    requires low { made.tier ≤ 1000000 }
+    requires low { made.tier ≤ greatest_tier }
     ensures { result ≡ does_come via until at made }
 {
     let arrival = made.after(via.via());
@@ -83,7 +84,7 @@ pub fn is_since(previous: Option<Tier>, arrival: Tier) -> bool
 pub fn is_past(made: Tier, vias: &[Delay], mark: Tier) -> bool
     requires early { pos 0 ≤ℤ made.time }
     requires late { made.time ≤ℤ latest_time }
-    requires low { made.tier ≤ 1000000 }
+    requires low { made.tier ≤ greatest_tier }
     ensures { result ≡ is_past vias.now mark made }
 {
     if made.is_up_to(mark) {
@@ -97,7 +98,7 @@ pub fn is_past(made: Tier, vias: &[Delay], mark: Tier) -> bool
 fn has_come(made: Tier, vias: &[Delay], mark: Tier) -> bool
     requires early { pos 0 ≤ℤ made.time }
     requires late { made.time ≤ℤ latest_time }
-    requires low { made.tier ≤ 1000000 }
+    requires low { made.tier ≤ greatest_tier }
     ensures { result ≡ list_all (λ v. up_to (delayed made v) mark) vias.now }
 {
     for via in vias {
@@ -112,7 +113,7 @@ fn has_come(made: Tier, vias: &[Delay], mark: Tier) -> bool
 fn comes_by(made: Tier, via: Delay, mark: Tier) -> bool
     requires early { pos 0 ≤ℤ made.time }
     requires late { made.time ≤ℤ latest_time }
-    requires low { made.tier ≤ 1000000 }
+    requires low { made.tier ≤ greatest_tier }
     ensures { result ≡ up_to (delayed made via) mark }
 {
     made.after(via.via()).is_up_to(mark)
@@ -123,7 +124,7 @@ fn comes_by(made: Tier, via: Delay, mark: Tier) -> bool
 pub fn is_settled(made: Tier, vias: &[Delay], until: i64, mark: Tier) -> bool
     requires early { pos 0 ≤ℤ made.time }
     requires late { made.time ≤ℤ latest_time }
-    requires low { made.tier ≤ 1000000 }
+    requires low { made.tier ≤ greatest_tier }
     ensures { result ≡ is_settled vias.now until mark made }
 {
     if made.is_up_to(mark) {
@@ -137,7 +138,7 @@ pub fn is_settled(made: Tier, vias: &[Delay], until: i64, mark: Tier) -> bool
 fn has_come_or_never(made: Tier, vias: &[Delay], until: i64, mark: Tier) -> bool
     requires early { pos 0 ≤ℤ made.time }
     requires late { made.time ≤ℤ latest_time }
-    requires low { made.tier ≤ 1000000 }
+    requires low { made.tier ≤ greatest_tier }
     ensures { result ≡ list_all (λ v. up_to (delayed made v) mark
         || int_le until (delayed made v).time) vias.now }
 {
@@ -153,7 +154,7 @@ fn has_come_or_never(made: Tier, vias: &[Delay], until: i64, mark: Tier) -> bool
 fn comes_by_or_never(made: Tier, via: Delay, until: i64, mark: Tier) -> bool
     requires early { pos 0 ≤ℤ made.time }
     requires late { made.time ≤ℤ latest_time }
-    requires low { made.tier ≤ 1000000 }
+    requires low { made.tier ≤ greatest_tier }
     ensures { result ≡ (up_to (delayed made via) mark || int_le until (delayed made via).time) }
 {
     let arrival = made.after(via.via());
@@ -165,10 +166,10 @@ fn comes_by_or_never(made: Tier, via: Delay, until: i64, mark: Tier) -> bool
 pub fn is_overtaken(first: Tier, second: Tier, vias: &[Delay], until: i64, mark: Tier) -> bool
     requires early { pos 0 ≤ℤ first.time }
     requires late { first.time ≤ℤ latest_time }
-    requires low { first.tier ≤ 1000000 }
+    requires low { first.tier ≤ greatest_tier }
     requires second_early { pos 0 ≤ℤ second.time }
     requires second_late { second.time ≤ℤ latest_time }
-    requires second_low { second.tier ≤ 1000000 }
+    requires second_low { second.tier ≤ greatest_tier }
     ensures { result ≡ is_overtaken vias.now until mark first second }
 {
     if second.is_up_to(mark) {
@@ -182,10 +183,10 @@ pub fn is_overtaken(first: Tier, second: Tier, vias: &[Delay], until: i64, mark:
 fn has_replaced(first: Tier, second: Tier, vias: &[Delay], until: i64, mark: Tier) -> bool
     requires early { pos 0 ≤ℤ first.time }
     requires late { first.time ≤ℤ latest_time }
-    requires low { first.tier ≤ 1000000 }
+    requires low { first.tier ≤ greatest_tier }
     requires second_early { pos 0 ≤ℤ second.time }
     requires second_late { second.time ≤ℤ latest_time }
-    requires second_low { second.tier ≤ 1000000 }
+    requires second_low { second.tier ≤ greatest_tier }
     ensures { result ≡ list_all (λ v. does_come v (Some until) mark second
         || int_le until (delayed first v).time) vias.now }
 {
@@ -201,10 +202,10 @@ fn has_replaced(first: Tier, second: Tier, vias: &[Delay], until: i64, mark: Tie
 fn replaces_by(first: Tier, second: Tier, via: Delay, until: i64, mark: Tier) -> bool
     requires early { pos 0 ≤ℤ first.time }
     requires late { first.time ≤ℤ latest_time }
-    requires low { first.tier ≤ 1000000 }
+    requires low { first.tier ≤ greatest_tier }
     requires second_early { pos 0 ≤ℤ second.time }
     requires second_late { second.time ≤ℤ latest_time }
-    requires second_low { second.tier ≤ 1000000 }
+    requires second_low { second.tier ≤ greatest_tier }
     ensures { result ≡ (does_come via (Some until) mark second
         || int_le until (delayed first via).time) }
 {
@@ -216,10 +217,10 @@ fn replaces_by(first: Tier, second: Tier, via: Delay, until: i64, mark: Tier) ->
 pub fn is_held_up(first: Tier, last: Tier, vias: &[Delay], until: i64, mark: Tier) -> bool
     requires early { pos 0 ≤ℤ first.time }
     requires late { first.time ≤ℤ latest_time }
-    requires low { first.tier ≤ 1000000 }
+    requires low { first.tier ≤ greatest_tier }
     requires last_early { pos 0 ≤ℤ last.time }
     requires last_late { last.time ≤ℤ latest_time }
-    requires last_low { last.tier ≤ 1000000 }
+    requires last_low { last.tier ≤ greatest_tier }
     ensures { result ≡ is_held_up vias.now until mark first last }
 {
     for via in vias {
@@ -234,10 +235,10 @@ pub fn is_held_up(first: Tier, last: Tier, vias: &[Delay], until: i64, mark: Tie
 fn is_held_up_by(first: Tier, last: Tier, via: Delay, until: i64, mark: Tier) -> bool
     requires early { pos 0 ≤ℤ first.time }
     requires late { first.time ≤ℤ latest_time }
-    requires low { first.tier ≤ 1000000 }
+    requires low { first.tier ≤ greatest_tier }
     requires last_early { pos 0 ≤ℤ last.time }
     requires last_late { last.time ≤ℤ latest_time }
-    requires last_low { last.tier ≤ 1000000 }
+    requires last_low { last.tier ≤ greatest_tier }
     ensures { result ≡ (not (up_to (delayed first via) mark)
         && int_lt (delayed last via).time until) }
 {
@@ -248,7 +249,7 @@ fn is_held_up_by(first: Tier, last: Tier, via: Delay, until: i64, mark: Tier) ->
 pub fn is_all_in_time(made: Tier, vias: &[Delay], until: i64) -> bool
     requires early { pos 0 ≤ℤ made.time }
     requires late { made.time ≤ℤ latest_time }
-    requires low { made.tier ≤ 1000000 }
+    requires low { made.tier ≤ greatest_tier }
     ensures { result ≡ list_all (λ v. int_lt (delayed made v).time until) vias.now }
 {
     for via in vias {
@@ -263,7 +264,7 @@ pub fn is_all_in_time(made: Tier, vias: &[Delay], until: i64) -> bool
 fn comes_in_time(made: Tier, via: Delay, until: i64) -> bool
     requires early { pos 0 ≤ℤ made.time }
     requires late { made.time ≤ℤ latest_time }
-    requires low { made.tier ≤ 1000000 }
+    requires low { made.tier ≤ greatest_tier }
     ensures { result ≡ int_lt (delayed made via).time until }
 {
     made.after(via.via()).time < until
@@ -274,7 +275,7 @@ fn comes_in_time(made: Tier, via: Delay, until: i64) -> bool
 pub fn arrived(made: Tier, vias: &[Delay]) -> Tier
     requires early { pos 0 ≤ℤ made.time }
     requires late { made.time ≤ℤ latest_time }
-    requires low { made.tier ≤ 1000000 }
+    requires low { made.tier ≤ greatest_tier }
     ensures { (m : Tier) → is_past vias.now m made ≡ true → IsUpTo result m }
 {
     let mut last = made;

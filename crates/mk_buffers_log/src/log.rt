@@ -10,6 +10,7 @@ ghost use Rattle.mk_plan.specs.Deliveries.{Timed};
 ghost use Rattle.mk_plan.specs.Inputs.{later, latest};
 ghost use Rattle.mk_buffers_log.specs.Logs.{AnswersFrom, IsAmong, IsFew, StaysFew, arrival, arrivals, by, is_settled};
 ghost use Rattle.mk_buffers_log.specs.inner.Logs.{IsAscending, IsEarlierAt, IsFirstToCome, IsNeeded, IsNewestAt, IsNewestByOf, IsOutdoneAt, IsRest, IsSpare, is_outdone, is_overtaken, PlacedFor, Takes, does_come, is_past, weighed};
+ghost use Rattle.mk_base.specs.Limits.{greatest_tier};
 
 use crate::delays::{
     Delay, arrived, is_all_in_time, is_delivered, is_held_up, is_overtaken, is_past, is_settled,
@@ -551,10 +552,10 @@ fn is_outdone(
 ) -> bool
     requires early { pos 0 ≤ℤ own.time }
     requires late { own.time ≤ℤ latest_time }
-    requires low { own.tier ≤ 1000000 }
+    requires low { own.tier ≤ greatest_tier }
     requires other_early { pos 0 ≤ℤ other.time }
     requires other_late { other.time ≤ℤ latest_time }
-    requires other_low { other.tier ≤ 1000000 }
+    requires other_low { other.tier ≤ greatest_tier }
     ensures { result ≡ is_outdone via until mark own other place other_place }
 {
     if is_delivered(other, via, until, mark) {

@@ -1,6 +1,7 @@
 //! An output with the time of its making.
 ghost use Rattle.std.specs.Prelude.{◌≡◌, pos, ◌≤ℤ◌, ◌≤◌};
 ghost use Rattle.mk_base.specs.Tiers.{latest_time};
+ghost use Rattle.mk_base.specs.Limits.{greatest_tier};
 
 use mk_base::{Datum, Tier};
 use std::marker::Model;
@@ -14,6 +15,7 @@ pub struct Made {
 
 impl Model for Made {
     ghost use Rattle.std.specs.Prelude.{pos, ◌≤ℤ◌, ◌≤◌};
+    ghost use Rattle.mk_base.specs.Limits.{greatest_tier};
     ghost use Rattle.mk_base.specs.Tiers.{latest_time};
     ghost use Rattle.mk_plan.specs.Deliveries.{Timed};
 
@@ -22,7 +24,7 @@ impl Model for Made {
     ghost view = { λ m. record { at = m.at; value = m.value } };
 
     ghost invariant = { λ m. (pos 0 ≤ℤ m.at.time) × (m.at.time ≤ℤ latest_time)
-        × (m.at.tier ≤ 1000000) };
+        × (m.at.tier ≤ greatest_tier) };
 }
 
 impl Made {
@@ -30,7 +32,7 @@ impl Made {
     pub fn new(at: Tier, value: Datum) -> Made
         requires early { pos 0 ≤ℤ at.time }
         requires late { at.time ≤ℤ latest_time }
-        requires low { at.tier ≤ 1000000 }
+        requires low { at.tier ≤ greatest_tier }
         ensures { result ≡ record { at = at; value = value } }
     {
         Made { at, value }
@@ -41,7 +43,7 @@ impl Made {
         ensures same { result ≡ self.now.at }
         ensures early { pos 0 ≤ℤ result.time }
         ensures late { result.time ≤ℤ latest_time }
-        ensures low { result.tier ≤ 1000000 }
+        ensures low { result.tier ≤ greatest_tier }
     {
         self.at
     }

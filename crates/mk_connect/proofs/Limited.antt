@@ -12,12 +12,11 @@ use Rattle.mk_plan.specs.declared.Plan.{Plan}
 use Rattle.mk_plan.specs.declared.PlanSim.{PlanSim}
 use Rattle.mk_plan.specs.Plans.{IsWithinLimits}
 use Rattle.mk_meta.specs.declared.meta.Meta.{Meta}
-use Rattle.mk_meta.specs.Metadata.{IsListed, most_models}
+use Rattle.mk_meta.specs.Metadata.{IsListed}
 use Rattle.mk_entities.specs.declared.entities.EntityInfo.{EntityInfo}
-use Rattle.mk_entities.specs.Creation.{most_entities}
 use Rattle.mk_scenario.specs.declared.parts.Scenario.{Scenario}
 use Rattle.mk_scenario.specs.Wellformed.{IsWellformed, IsWellformedBlock, IsWellformedSim}
-use Rattle.mk_connect.specs.Complete.{IsComplete, most_requests}
+use Rattle.mk_connect.specs.Complete.{IsComplete}
 use Rattle.mk_connect.specs.Made.{number_at, plan_entity, plan_sim, plan_with}
 use Rattle.mk_connect_pairs.specs.Models.{models_from, models_of, plan_model, sim_model}
 use Rattle.mk_connect.specs.Related.{pairs_of}
@@ -27,6 +26,7 @@ use Rattle.mk_connect.proofs.OverLists.{all_of, each_all, each_then}
 use Rattle.mk_connect.proofs.Owners.{made_at, model_from}
 use Rattle.mk_connect.proofs.Ranked.{count_mapped, rank_below}
 use Rattle.mk_connect.proofs.Sound.{AreSoundConns, IsSoundConn, value_text}
+use Rattle.mk_base.specs.Limits.{latest_end, most_models, most_entities, most_requests}
 
 -- ---- how many models a simulator has
 
@@ -105,10 +105,10 @@ module _ (S : Scenario) (ranks : List ℕ) (metas : List Meta) (es : List Entity
     first_ids = all_of (λ s. s.first_id ≤ 1000000) P.sims (λ i x is.
         let t = made_at (plan_sim metas ranks first_ids) S.sims i x is in
         subst (λ (n : ℕ). n ≤ 1000000) (sym (ap (λ (s : PlanSim). s.first_id) t.2)) (few_at first_ids i known.few_requests));
-    events = all_of (λ s. All (λ (e : ℤ). (pos 0 ≤ℤ e) × (e ≤ℤ pos 1000000000)) s.initial) P.sims (λ i x is.
+    events = all_of (λ s. All (λ (e : ℤ). (pos 0 ≤ℤ e) × (e ≤ℤ latest_end)) s.initial) P.sims (λ i x is.
         let t = made_at (plan_sim metas ranks first_ids) S.sims i x is in
-        subst (λ (ts : List ℤ). All (λ (e : ℤ). (pos 0 ≤ℤ e) × (e ≤ℤ pos 1000000000)) ts) (sym (ap (λ (s : PlanSim). s.initial) t.2))
-        (each_all (λ (e : ℤ). (pos 0 ≤ℤ e) × (e ≤ℤ pos 1000000000)) t.0.initial (in_each IsWellformedSim t.0 S.sims wellformed.sims (at_in t.0 S.sims i t.1)).initial));
+        subst (λ (ts : List ℤ). All (λ (e : ℤ). (pos 0 ≤ℤ e) × (e ≤ℤ latest_end)) ts) (sym (ap (λ (s : PlanSim). s.initial) t.2))
+        (each_all (λ (e : ℤ). (pos 0 ≤ℤ e) × (e ≤ℤ latest_end)) t.0.initial (in_each IsWellformedSim t.0 S.sims wellformed.sims (at_in t.0 S.sims i t.1)).initial));
     models = λ i. subst (λ (n : ℕ). n ≤ 10000) (length-filter (is_of i) (models_of metas) ∙ count_mapped plan_model (λ m. m.sim.0 == i) (models_of metas)) (own_models i 0 metas known.listed);
     entities = subst (λ (n : ℕ). n ≤ 10000) (sym (by_place_length (plan_entity (models_of metas) (length es) (pairs_of es S.blocks)) 0 es)) few;
     conns = sound.few;

@@ -7,7 +7,7 @@ use Rattle.mk_base.specs.declared.json.Json.{Json}
 use Rattle.mk_base.specs.Data.{IsValueText}
 use Rattle.mk_base.specs.Lists.{Each, IsIn, same_text, value_under}
 use Rattle.mk_base.specs.Texts.{text_of}
-use Rattle.mk_base.specs.Trees.{is_whole, member, members_in, nesting, value_depth}
+use Rattle.mk_base.specs.Trees.{is_whole, member, members_in, nesting, value_depth, members_of}
 use Rattle.mk_base.proofs.Lists.{Rises, in_map, passes_some, rises_append}
 use Rattle.mk_base.specs.Verdicts.{fault_unless, passed, unless}
 use Rattle.mk_plan.specs.declared.Conn.{Conn}
@@ -15,14 +15,15 @@ use Rattle.mk_entities.specs.declared.entities.EntityInfo.{EntityInfo}
 use Rattle.mk_scenario.specs.declared.parts.AttrPair.{AttrPair}
 use Rattle.mk_scenario.specs.declared.parts.Block.{Block}
 use Rattle.mk_scenario.specs.declared.parts.SimPart.{SimPart}
-use Rattle.mk_scenario_keys.specs.Keys.{IsObjectOfData, members_of}
+use Rattle.mk_scenario_keys.specs.Keys.{IsObjectOfData}
 use Rattle.mk_connect_pairs.specs.declared.fault.ConnectFault.{ConnectFault}
 use Rattle.mk_connect_pairs.specs.declared.models.SimModel.{SimModel}
-use Rattle.mk_connect_pairs.specs.Connections.{attrs_fault, block_made, block_pairs, conn_between, conn_fault, connected, conns_made, has_initial, initial_text, is_way, most_conns, pair_made}
+use Rattle.mk_connect_pairs.specs.Connections.{attrs_fault, block_made, block_pairs, conn_between, conn_fault, connected, conns_made, has_initial, initial_text, is_way, pair_made}
 use Rattle.mk_connect_pairs.specs.Ends.{ends_at, pairs_between, place_fault}
 use Rattle.mk_connect_pairs.specs.Faults.{through}
 use Rattle.mk_connect_pairs.specs.Models.{keeps_attr, model_at, says, triggers_by}
 use Rattle.mk_connect_pairs.proofs.Initials.{initial_in_range, initial_is_datum}
+use Rattle.mk_base.specs.Limits.{most_conns}
 
 -- ---- what tests that pass say
 

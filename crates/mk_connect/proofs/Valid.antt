@@ -6,7 +6,6 @@ use Rattle.mk_plan.specs.declared.PlanEntity.{PlanEntity}
 use Rattle.mk_plan.specs.Plans.{IsValidPlan}
 use Rattle.mk_meta.specs.declared.meta.Meta.{Meta}
 use Rattle.mk_entities.specs.declared.entities.EntityInfo.{EntityInfo}
-use Rattle.mk_entities.specs.Creation.{most_entities}
 use Rattle.mk_entities.specs.Sound.{AreSound}
 use Rattle.mk_entities.specs.Tied.{AreFirst}
 use Rattle.mk_scenario.specs.declared.parts.Scenario.{Scenario}
@@ -25,6 +24,7 @@ use Rattle.mk_connect.proofs.Ranked.{ranks_made}
 use Rattle.mk_connect.proofs.Referring.{references_made}
 use Rattle.mk_connect.proofs.Sound.{conns_sound}
 use Rattle.mk_connect.proofs.Validity.{initials, one_each, sources, targets}
+use Rattle.mk_base.specs.Limits.{most_entities}
 
 module _ (S : Scenario) (ranks : List ℕ) (metas : List Meta) (es : List EntityInfo) (first_ids : List ℕ) (conns : List Conn) (wellformed : IsWellformed S) (made : conns_made S.sims (models_of metas) es S.blocks ≡ Ok conns) where
   valid : length es ≤ most_entities → AreFirst es → AreSound es → IsComplete S ranks metas es first_ids → IsValidPlan (plan_with S ranks metas es first_ids conns)

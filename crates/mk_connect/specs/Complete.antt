@@ -13,10 +13,7 @@ use Rattle.mk_entities.specs.declared.entities.EntityInfo.{EntityInfo}
 use Rattle.mk_scenario.specs.declared.parts.Group.{Group}
 use Rattle.mk_scenario.specs.declared.parts.Scenario.{Scenario}
 use Rattle.mk_connect.specs.Edges.{edges_of}
-
--- the greatest number that a simulator's first request of the run may have
-abbrev pub most_requests : ℕ
-most_requests = 1000000
+use Rattle.mk_base.specs.Limits.{most_requests}
 
 -- a model has this name
 abbrev pub has_model : List ℕ → Meta → Bool

@@ -1,7 +1,6 @@
 //! The plan that a scenario makes with what its simulators said.
 ghost use Rattle.std.specs.Prelude.{◌≡◌, ◌≤◌, Ok, length, IfOk, IfErr};
 ghost use Rattle.mk_plan.specs.Plans.{HasInitialValues, HasOneConnectionEach, IsValidPlan};
-ghost use Rattle.mk_entities.specs.Creation.{most_entities};
 ghost use Rattle.mk_entities.specs.Sound.{AreSound};
 ghost use Rattle.mk_entities.specs.Tied.{AreFirst};
 ghost use Rattle.mk_scenario.specs.Wellformed.{IsWellformed};
@@ -14,6 +13,7 @@ ghost use Rattle.mk_connect.specs.Made.{plan_entity, plan_made, plan_of};
 ghost use Rattle.mk_connect_pairs.specs.Usable.{IsUsable};
 ghost use Rattle.mk_connect.specs.Agreeing.{SourcesAgree, TargetsAgree};
 ghost use Rattle.mk_connect.specs.Related.{pairs_of};
+ghost use Rattle.mk_base.specs.Limits.{most_entities};
 
 use crate::asyncs::asyncs_of;
 use crate::parts::{plan_entities, plan_models, plan_sims};

@@ -19,10 +19,7 @@ use Rattle.mk_connect_pairs.specs.declared.models.SimModel.{SimModel}
 use Rattle.mk_connect_pairs.specs.Ends.{ends_at, full_id, pairs_between, place_fault}
 use Rattle.mk_connect_pairs.specs.Faults.{through}
 use Rattle.mk_connect_pairs.specs.Models.{has_attr, keeps_attr, model_at, says, takes_attr, triggers_by}
-
--- how many connections there may be
-abbrev pub most_conns : ℕ
-most_conns = 100000
+use Rattle.mk_base.specs.Limits.{most_conns}
 
 -- the connection leads from this entity to this attribute of that one
 abbrev pub is_way : ℕ → ℕ → List ℕ → Conn → Bool

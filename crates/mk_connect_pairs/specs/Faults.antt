@@ -1,6 +1,6 @@
 -- What it is to go through items until one fails, and which fault a call may answer then.
-use Rattle.std.specs.Prelude.{◌≡◌, ◌⊎◌, List, [], ◌∷◌, Result, Ok, Err}
-use Rattle.mk_base.specs.Verdicts.{passed}
+use Rattle.std.specs.Prelude.{List, [], ◌∷◌, Result, Ok}
+use Rattle.mk_base.specs.Verdicts.{passed, IsFaultOrWant}
 use Rattle.mk_connect_pairs.specs.declared.fault.ConnectFault.{ConnectFault}
 use Rattle.mk_connect_pairs.specs.declared.fault.ConnectFault.TheVariants.{Mem}
 
@@ -12,4 +12,4 @@ through step made (x ∷ xs) = passed (step made x) (λ next. through step next 
 
 -- the fault is the verdict's, or want of memory
 abbrev pub IsFaultOf : {A : Type 0} → Result A ConnectFault → ConnectFault → Type 0
-IsFaultOf verdict fault = (fault ≡ Mem) ⊎ (verdict ≡ Err fault)
+IsFaultOf = IsFaultOrWant Mem

@@ -14,14 +14,11 @@ use crate::ends::{ends_at, full_id, pairs_between, place_fault};
 use crate::fault::ConnectFault;
 use crate::made::Made;
 use crate::study::Study;
-use mk_base::{Datum, Json, Mem, Text, Via};
+use mk_base::{Datum, Json, MOST_CONNS, Mem, Text, Via};
 use mk_json::datum_of;
 use mk_plan::Conn;
 use mk_scenario::{AttrPair, Block};
 use std::alloc::Global;
-
-// How many connections there may be.
-const MOST_CONNS: usize = 100000;
 
 /// The connections of all blocks, in order, or the first test that one of them fails, or want of memory. Each block
 /// stands between groups that there are, and its initial values are data.
@@ -239,8 +236,8 @@ fn conn_fault(
         let attr = conn.from_attr.copy()?;
         return Ok(Some(ConnectFault::NoInitial(target, attr)));
     }
-    if made.len() >= MOST_CONNS {
-        return Ok(Some(ConnectFault::TooMany(MOST_CONNS as u64 + 1)));
+    if made.len() >= MOST_CONNS as usize {
+        return Ok(Some(ConnectFault::TooMany(u64::from(MOST_CONNS) + 1)));
     }
     Ok(None)
 }

@@ -3,8 +3,10 @@ ghost use Rattle.std.specs.Prelude.{◌≡◌, ℕ, List, map, ◌⊎◌, ◌<�
 ghost use Rattle.std.specs.List.{find};
 ghost use Rattle.mk_scenario.specs.Wellformed.{IsWellformed};
 ghost use Rattle.mk_base.specs.declared.json.Json.{Json};
-ghost use Rattle.mk_scenario_keys.specs.Keys.{first_unknown, is_among, members_of};
+ghost use Rattle.mk_scenario_keys.specs.Keys.{first_unknown};
 ghost use Rattle.mk_connect_pairs.specs.Groups.{fault_of_group, group_fault, id_of_sim, model_named, param_fault};
+ghost use Rattle.mk_base.specs.Trees.{members_of};
+ghost use Rattle.mk_base.specs.Lists.{is_among};
 
 use crate::fault::ConnectFault;
 use mk_base::{Json, List, Mem, Text};
@@ -93,7 +95,7 @@ fn first_unknown<'a>(
     ensures { IfOk result (λ unknown. option_map (λ t. t.now) unknown
         ≡ first_unknown known.now params.now) }
 {
-    let members = members_of(params);
+    let members = params.members();
     if members.is_empty() {
         return Ok(None);
     }
@@ -103,31 +105,15 @@ fn first_unknown<'a>(
     Ok(unknown)
 }
 
-// The members, in byte order of their names.
-fn members_of(params: &Json) -> &[(Text, Json)]
-    ensures { result.now ≡ members_of params.now }
-{
-    match params.as_object() {
-        Some(members) => members.entries(),
-        None => &[],
-    }
-}
-
 fn first_other<'a>(known: &Texts, members: &'a [(Text, Json)]) -> Option<&'a Text>
     ensures { option_map (λ t. t.now) result
         ≡ find (λ key. not (is_among known.now key))
         (map (λ (m : List ℕ × Json). m.0) members.now) }
 {
     for (name, _) in members {
-        if !is_among(known, name) {
+        if !known.has(name) {
             return Some(name);
         }
     }
     None
-}
-
-fn is_among(known: &Texts, name: &Text) -> bool
-    ensures { result ≡ is_among known.now name.now }
-{
-    known.has(name)
 }

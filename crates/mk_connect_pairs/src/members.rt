@@ -1,8 +1,8 @@
 //! The entities of each group.
 ghost use Rattle.std.specs.Prelude.{◌≡◌, ◌≤◌, ◌<◌, [], length, IfOk, OnOk};
-ghost use Rattle.mk_entities.specs.Creation.{most_entities};
 ghost use Rattle.mk_connect_pairs.specs.Lookups.{HasMembers};
 ghost use Rattle.mk_connect_pairs.specs.inner.Lookups.{HasMember};
+ghost use Rattle.mk_base.specs.Limits.{most_entities};
 
 use mk_base::{List, Mem};
 use mk_entities::EntityInfo;

@@ -13,12 +13,13 @@ use Rattle.mk_entities.specs.declared.described.Described.{Described}
 use Rattle.mk_entities.specs.declared.entities.EntityInfo.{EntityInfo}
 use Rattle.mk_entities.specs.declared.fault.CreateFault.{CreateFault}
 use Rattle.mk_entities.specs.declared.fault.CreateFault.TheVariants.{NoEid, TwiceEid, OfType, TooMany}
-use Rattle.mk_entities.specs.Creation.{entity_fault, first_there, after_text, has_type, is_named, most_entities, entity_number}
+use Rattle.mk_entities.specs.Creation.{entity_fault, first_there, after_text, has_type, is_named, entity_number}
 use Rattle.mk_entities.specs.inner.Making.{fault_at, first_fault, named_from, number_in}
 use Rattle.mk_entities.specs.Tied.{AreFirst}
 use Rattle.mk_entities.specs.inner.Tied.{numbered}
 use Rattle.mk_entities.proofs.Adding.{numbered_append, numbered_own, own}
 use Rattle.mk_entities.proofs.Lookups.{number_is}
+use Rattle.mk_base.specs.Limits.{most_entities}
 
 -- ---- where no test fails
 

@@ -19,11 +19,12 @@ use Rattle.mk_entities.specs.declared.described.Described.{Described}
 use Rattle.mk_entities.specs.declared.entities.EntityInfo.{EntityInfo}
 use Rattle.mk_entities.specs.declared.fault.CreateFault.{CreateFault}
 use Rattle.mk_entities.specs.declared.fault.CreateFault.TheVariants.{NoEid, TwiceEid, OfType, TooMany}
-use Rattle.mk_entities.specs.Creation.{added, entity_fault, after_text, has_number, has_type, most_entities}
+use Rattle.mk_entities.specs.Creation.{added, entity_fault, after_text, has_number, has_type}
 use Rattle.mk_entities.specs.Descriptions.{below, children_in, described, eid_in, family, if_eid, list_under}
 use Rattle.mk_entities.specs.inner.Making.{fault_at, first_fault, named_from, number_in}
 use Rattle.mk_entities.specs.Sound.{AreSound, IsSound}
 use Rattle.mk_entities.proofs.Distinct.{none_at}
+use Rattle.mk_base.specs.Limits.{most_entities}
 
 -- ---- eids that are described
 

@@ -9,13 +9,14 @@ use Rattle.mk_meta.specs.declared.meta.Meta.{Meta}
 use Rattle.mk_entities.specs.declared.described.Described.{Described}
 use Rattle.mk_entities.specs.declared.entities.EntityInfo.{EntityInfo}
 use Rattle.mk_entities.specs.declared.fault.CreateFault.{CreateFault}
-use Rattle.mk_entities.specs.Creation.{added, drafts, first_entity_fault, first_there, most_entities, entity_number, rel_fault, with_entities}
+use Rattle.mk_entities.specs.Creation.{added, drafts, first_entity_fault, first_there, entity_number, rel_fault, with_entities}
 use Rattle.mk_entities.specs.Tied.{AreFirst}
 use Rattle.mk_entities.specs.inner.Tied.{IsTied, names_at, numbered}
 use Rattle.mk_entities.proofs.Adding.{numbered_append, numbered_other, same_fault}
 use Rattle.mk_entities.specs.Sound.{AreSound}
 use Rattle.mk_entities.proofs.Distinct.{still_found}
 use Rattle.mk_entities.proofs.Sounding.{IsNamed, eids_there, still_sound}
+use Rattle.mk_base.specs.Limits.{most_entities}
 
 passes : {B : Type 0} (f g : Option CreateFault) (x y : B) → unless f (unless g (Ok x)) ≡ Ok y → (f ≡ None) × (x ≡ y)
 passes None None x y is = (cc, cc)

@@ -4,7 +4,7 @@ use Rattle.std.specs.List.{find, list_any, range_with_len}
 use Rattle.mk_base.specs.declared.SimNo.{SimNo}
 use Rattle.mk_base.specs.declared.json.Json.{Json}
 use Rattle.mk_base.specs.Lists.{same_text}
-use Rattle.mk_base.specs.Trees.{items_in}
+use Rattle.mk_base.specs.Trees.{items_in, items_of}
 use Rattle.mk_base.specs.Verdicts.{unless, fault_unless}
 use Rattle.mk_meta.specs.declared.meta.ModelMeta.{ModelMeta}
 use Rattle.mk_meta.specs.declared.meta.Meta.{Meta}
@@ -13,10 +13,7 @@ use Rattle.mk_entities.specs.declared.entities.EntityInfo.{EntityInfo}
 use Rattle.mk_entities.specs.declared.fault.CreateFault.{CreateFault}
 use Rattle.mk_entities.specs.declared.fault.CreateFault.TheVariants.{Count, NoEid, TwiceEid, OfType, Related, TooMany}
 use Rattle.mk_entities.specs.Descriptions.{reply_entities}
-
--- how many entities there may be, of all simulators
-abbrev pub most_entities : ℕ
-most_entities = 10000
+use Rattle.mk_base.specs.Limits.{most_entities}
 
 -- the entity is the simulator's, and has this eid
 abbrev pub is_named : SimNo → List ℕ → EntityInfo → Bool
@@ -107,7 +104,7 @@ first_entity_fault old sim group model meta entities =
 
 -- the test that the reply has as many entities as were asked for, children not counted
 abbrev pub count_fault : ℕ → Json → Option CreateFault
-count_fault num reply = let count : ℕ = length (unwrap_or (items_in reply) []) in fault_unless
+count_fault num reply = let count : ℕ = length (items_of reply) in fault_unless
     (Count num count) (count == num) None
 
 -- these entities of a reply are added, unless one fails a test

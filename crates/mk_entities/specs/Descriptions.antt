@@ -2,7 +2,7 @@
 use Rattle.std.specs.Prelude.{ℕ, suc, zero, Bool, true, false, codes, List, [], ◌∷◌, map, filter_map, flat_map, Option, Some, None, is_some, option_and_then, unwrap_or, if◌then◌else◌}
 use Rattle.mk_base.specs.declared.json.Json.{Json, Json-F, out-Json}
 use Rattle.mk_base.specs.Lists.{all_there}
-use Rattle.mk_base.specs.Trees.{text_in, items_in, member, nesting}
+use Rattle.mk_base.specs.Trees.{text_in, items_in, member, nesting, items_of}
 use Rattle.mk_base.specs.Names.{is_eid}
 use Rattle.mk_meta.specs.Metadata.{unless_missing}
 use Rattle.mk_entities.specs.declared.described.Described.{Described}
@@ -59,4 +59,4 @@ family is_child tree = described is_child tree ∷ below (nesting tree) tree
 
 -- the entities that a reply describes; a reply that is no list describes none
 abbrev pub reply_entities : Json → List Described
-reply_entities reply = flat_map (family false) (unwrap_or (items_in reply) [])
+reply_entities reply = flat_map (family false) (items_of reply)

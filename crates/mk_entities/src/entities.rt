@@ -1,15 +1,15 @@
 //! The entities of all simulators: the list of them, and how replies to `create` add to it.
 ghost use Rattle.std.specs.Prelude.{◌≡◌, ◌<◌, ◌≤◌, [], Some, Ok, Err, length, slice_get, option_map, OnOk, IfErr, ◌⊎◌};
 ghost use Rattle.mk_base.specs.Lists.{BeginsWith};
-ghost use Rattle.mk_entities.specs.Creation.{entities_added, most_entities, entity_number};
+ghost use Rattle.mk_entities.specs.Creation.{entities_added, entity_number};
 ghost use Rattle.mk_entities.specs.Sound.{AreSound};
 ghost use Rattle.mk_entities.specs.Tied.{AreFirst};
+ghost use Rattle.mk_base.specs.Limits.{most_entities};
 
 use crate::described::families;
 use crate::fault::CreateFault;
 use crate::making::{Asked, extend};
 use crate::names::{Names, grow};
-use crate::trees::items_of;
 use mk_base::{Json, List, Mem, SimNo, Text};
 use mk_meta::Meta;
 use std::alloc::Global;
@@ -79,7 +79,7 @@ impl Entities {
         ensures refused { IfErr result (λ e. (e ≡ CreateFault.Mem)
             ⊎ (entities_added self.old sim group num model.now meta.now reply.now ≡ Err e)) }
     {
-        let outer = items_of(reply);
+        let outer = reply.items();
         if outer.len() != num as usize {
             return Err(CreateFault::Count(num, outer.len() as u64));
         }

@@ -2,21 +2,19 @@
 ghost use Rattle.std.specs.Prelude.{◌≡◌, ◌+◌, ◌<◌, ◌≤◌, [], ◌∷◌, ◌++◌, None, Ok, Err, length, map, take, not, is_some, unwrap_or, filter_map, option_map, IfOk, IfErr, IfSome, OnOk, ◌⊎◌};
 ghost use Rattle.std.specs.List.{cons_option, find, list_any};
 ghost use Rattle.mk_base.specs.Lists.{BeginsWith, same_text};
-ghost use Rattle.mk_entities.specs.Creation.{most_entities, entity_fault, first_there, has_type, is_model_of, rel_fault, with_entities};
+ghost use Rattle.mk_entities.specs.Creation.{entity_fault, first_there, has_type, is_model_of, rel_fault, with_entities};
 ghost use Rattle.mk_entities.specs.inner.Making.{first_fault, made_by, named_from, number_in, outcome, related_by, with_numbers};
 ghost use Rattle.mk_entities.specs.inner.Tied.{numbered};
+ghost use Rattle.mk_base.specs.Limits.{most_entities};
 
 use crate::described::Described;
 use crate::entities::EntityInfo;
 use crate::fault::CreateFault;
 use crate::names::Names;
-use mk_base::{List, Mem, SimNo, Text};
+use mk_base::{List, MOST_ENTITIES, Mem, SimNo, Text};
 use mk_meta::{Meta, ModelMeta};
 use std::alloc::Global;
 use std::collections::BTreeSet;
-
-// How many entities there may be.
-const MOST_ENTITIES: usize = 10000;
 
 // What a simulator was asked to create: a group of entities of this model of its metadata.
 #[derive(Drop)]
@@ -146,8 +144,8 @@ fn name(
     if !has_type(asked, entity) {
         return Ok(Some(CreateFault::OfType(eid.copy()?)));
     }
-    if count + n >= MOST_ENTITIES {
-        return Ok(Some(CreateFault::TooMany(MOST_ENTITIES as u64 + 1)));
+    if count + n >= MOST_ENTITIES as usize {
+        return Ok(Some(CreateFault::TooMany(u64::from(MOST_ENTITIES) + 1)));
     }
     names.put(alloc, eid, (count + n) as u32)?;
     Ok(None)

@@ -5,16 +5,6 @@ ghost use Rattle.mk_entities.specs.Descriptions.{children_in, eid_in, if_eid, li
 
 use mk_base::{Json, Mem, Text, is_eid};
 
-// The items of a list, none where the tree is no list.
-pub fn items_of(tree: &Json) -> &[Json]
-    ensures { result.now ≡ unwrap_or (items_in tree.now) [] }
-{
-    match tree.as_list() {
-        Some(items) => items.as_slice(),
-        None => &[],
-    }
-}
-
 // The items of a list, none of null.
 fn list_of(tree: &Json) -> Option<&[Json]>
     ensures { option_map (λ l. l.now) result ≡ list_in tree.now }

@@ -3,7 +3,7 @@ ghost use Rattle.std.specs.Prelude.{◌≡◌, ◌<◌, ◌↔◌, true, false, 
 ghost use Rattle.std.specs.Fmt.{signed_decimal};
 ghost use Rattle.mk_base.specs.Texts.{text_of};
 ghost use Rattle.mk_base.specs.Proper.{is_proper};
-ghost use Rattle.mk_base.specs.Trees.{nesting, in_range, is_whole, is_in_range, is_datum};
+ghost use Rattle.mk_base.specs.Trees.{nesting, value_depth, in_range, is_whole, is_in_range, is_datum};
 
 use crate::put_json;
 use itoa::Buffer;
@@ -44,12 +44,12 @@ pub fn datum(alloc: Global, tree: &Json) -> Result<Datum, DatumFault>
     ensures ok { IfOk result (λ d. (d ≡ text_of tree.now) × (is_datum tree.now ≡ true)) }
     ensures not_whole { (result ≡ Err DatumFault.NotWhole) ↔ (is_whole tree.now ≡ false) }
     ensures too_deep { (result ≡ Err DatumFault.TooDeep)
-        ↔ ((is_whole tree.now ≡ true) × (100 < nesting tree.now)) }
+        ↔ ((is_whole tree.now ≡ true) × (value_depth < nesting tree.now)) }
 {
     if !tree.is_whole() {
         return Err(DatumFault::NotWhole);
     }
-    if !tree.nests_within(100) {
+    if !tree.is_shallow() {
         return Err(DatumFault::TooDeep);
     }
     if let Json::Whole(n) = tree {

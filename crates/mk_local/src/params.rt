@@ -1,6 +1,6 @@
 //! The parameters of `init` and `create`.
 ghost use Rattle.std.specs.Prelude.{◌≡◌, ◌≤ℤ◌, IfSome, option_map};
-ghost use Rattle.mk_local.specs.Calls.{as_setting, as_step, first_bad, is_create_param, is_init_param, params_in, setting_in, step_in, whole_from_to};
+ghost use Rattle.mk_local.specs.Calls.{as_setting, as_step, first_bad, is_create_param, is_init_param, setting_in, step_in, whole_from_to};
 ghost use Rattle.mk_local.specs.Rows.{IsStepOf};
 
 use crate::names::{least_step, setting_of};
@@ -17,7 +17,7 @@ const GREATEST_SETTING: i64 = 1_000_000_000_000;
 pub fn first_bad_of_init(turn: Turn, params: &Json) -> Option<&Text>
     ensures { option_map (λ t. t.now) result ≡ first_bad (is_init_param turn) params.now }
 {
-    let members = params_in(params);
+    let members = params.members();
     for (name, value) in members {
         if !is_init_param(turn, name, value) {
             return Some(name);
@@ -30,7 +30,7 @@ pub fn first_bad_of_init(turn: Turn, params: &Json) -> Option<&Text>
 pub fn first_bad_of_create(turn: Turn, params: &Json) -> Option<&Text>
     ensures { option_map (λ t. t.now) result ≡ first_bad (is_create_param turn) params.now }
 {
-    let members = params_in(params);
+    let members = params.members();
     for (name, value) in members {
         if !is_create_param(turn, name, value) {
             return Some(name);
@@ -63,16 +63,6 @@ pub fn setting_in(turn: Turn, params: &Json) -> i64
             None => 0,
         },
         None => 0,
-    }
-}
-
-// The parameters, in byte order of their names.
-fn params_in(params: &Json) -> &[(Text, Json)]
-    ensures { result.now ≡ params_in params.now }
-{
-    match params.as_object() {
-        Some(members) => members.entries(),
-        None => &[],
     }
 }
 

@@ -7,7 +7,7 @@ use Rattle.mk_base.specs.declared.json.Json.{Json}
 use Rattle.mk_base.specs.Lists.{same_text, text_order, put}
 use Rattle.mk_base.specs.Texts.{quoted, list_text, object_text, text_of}
 use Rattle.mk_base.specs.Trees as trees
-use Rattle.mk_base.specs.Trees.{members_in, is_object}
+use Rattle.mk_base.specs.Trees.{members_in, is_object, members_of}
 use Rattle.mk_plan.specs.Report.{inputs_text}
 use Rattle.mk_plan.specs.declared.Call.{Call}
 use Rattle.mk_plan.specs.declared.Call.TheVariants.{Init, Create, SetupDone, Stop}
@@ -88,10 +88,6 @@ item_text id (GetData wanted) = request_text id (codes "get_data") (wanted_text 
 item_text id (Answer asked content) = success_text asked content
 item_text id (Refuse asked reason) = failure_text asked (refusal_text reason)
 
-abbrev members_of : Option (List (List ℕ × Json)) → List (List ℕ × Json)
-members_of None = []
-members_of (Some ms) = ms
-
 -- members, by the texts of their values
 abbrev pub texts_of : List (List ℕ × Json) → List (List ℕ × List ℕ)
 texts_of ms = map (λ (m : List ℕ × Json). (m.0, text_of m.1)) ms
@@ -106,7 +102,7 @@ with_resolution ms = put (λ (m n : List ℕ × List ℕ). text_order m.0 n.0) t
 -- the parameters of a simulator, with the time resolution 1 among them, or alone where they are no
 -- object
 abbrev pub init_params : Json → List ℕ
-init_params params = object_text (with_resolution (texts_of (members_of (members_in params))))
+init_params params = object_text (with_resolution (texts_of (members_of params)))
 
 -- the whole numbers in a call's parameters are in range
 abbrev pub is_call_in_range : Call → Bool

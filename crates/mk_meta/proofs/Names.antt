@@ -5,7 +5,8 @@ use Rattle.std.specs.List.Sorted.{IsStrictlySortedBy}
 use Rattle.mk_base.specs.declared.json.Json.{Json}
 use Rattle.mk_base.specs.Lists.{text_order}
 use Rattle.mk_meta.specs.declared.meta.ModelMeta.{ModelMeta}
-use Rattle.mk_meta.specs.Metadata.{most_models, IsListed}
+use Rattle.mk_meta.specs.Metadata.{IsListed}
+use Rattle.mk_base.specs.Limits.{most_models}
 
 lengths : {X Y Z : Type 0} (f : X → Z) (g : Y → Z) (xs : List X) (ys : List Y) → map f xs ≡ map g ys → length xs ≡ length ys
 lengths f g [] [] e = refl

@@ -13,6 +13,7 @@ use Rattle.mk_meta.specs.declared.meta.ModelMeta.{ModelMeta}
 use Rattle.mk_meta.specs.declared.meta.Meta.{Meta}
 use Rattle.mk_meta.specs.declared.fault.MetaFault.{MetaFault}
 use Rattle.mk_meta.specs.declared.fault.MetaFault.TheVariants.{NoVersion, Version, BadType, NoModels, Model, TriggerUnknown}
+use Rattle.mk_base.specs.Limits.{most_models}
 
 -- what is read of a member, or what stands for it where it is missing
 abbrev pub unless_missing : {A : Type 0} → A → (Json → Option A) → Option Json → Option A
@@ -35,10 +36,6 @@ kind_in reply = unless_missing TimeBased (λ tree. option_and_then kind_named (t
 -- the type as it is written, or the empty text where it is no text
 abbrev pub type_text : Json → List ℕ
 type_text reply = unwrap_or (option_and_then text_in (member (codes "type") reply)) []
-
--- how many models a simulator may have
-abbrev pub most_models : ℕ
-most_models = 10000
 
 -- members that are few enough to be models
 abbrev pub few_enough : List (List ℕ × Json) → Option (List (List ℕ × Json))

@@ -3,16 +3,14 @@ ghost use Rattle.std.specs.Prelude.{◌≡◌, map, IfOk, IfErr, IfSome, ◌≤�
 ghost use Rattle.mk_base.specs.Lists.{Each};
 ghost use Rattle.mk_base.specs.Trees.{members_in};
 ghost use Rattle.mk_base.specs.Verdicts.{all_well};
-ghost use Rattle.mk_meta.specs.Metadata.{HasKnownAttrs, IsListed, most_models, is_version_three, kind_in, few_enough, meta_in, model_in, models_in, type_text};
+ghost use Rattle.mk_meta.specs.Metadata.{HasKnownAttrs, IsListed, is_version_three, kind_in, few_enough, meta_in, model_in, models_in, type_text};
 ghost use Rattle.mk_meta.specs.declared.fault.MetaFault.TheVariants as fault;
+ghost use Rattle.mk_base.specs.Limits.{most_models};
 
 use crate::fault::MetaFault;
 use crate::model::model_of;
-use mk_base::{Json, List, Mem, Members, SimKind, Text};
+use mk_base::{Json, List, MOST_MODELS, Mem, Members, SimKind, Text};
 use std::alloc::Global;
-
-// How many models a simulator may have.
-const MOST_MODELS: usize = 10000;
 
 /// A model, as the metadata describes it (mosaik 3, low-level API). `events` are the attributes under `non-persistent`.
 /// For time-based and event-based simulators `trigger` and `events` are empty.
@@ -126,7 +124,7 @@ fn few_enough(members: &Members<Json>) -> Option<&Members<Json>>
     ensures same { option_map (λ ms. ms.now) result ≡ few_enough members.now }
     ensures few { IfSome result (λ ms. length ms.now ≤ most_models) }
 {
-    if members.len() <= MOST_MODELS {
+    if members.len() <= MOST_MODELS as usize {
         Some(members)
     } else {
         None

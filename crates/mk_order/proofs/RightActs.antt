@@ -27,6 +27,7 @@ use Rattle.mk_base.proofs.Lists.{in_either, in_map, in_each, all_at, all_in, get
 use Rattle.mk_plan.specs.Walks.{link}
 use Rattle.mk_order.proofs.VisitOrder.{visits_have, visits_are, edge_width}
 use Rattle.mk_order.proofs.Reasons.{due_why, and_both}
+use Rattle.mk_base.specs.Limits.{latest_end}
 
 pub made_no_earlier : (a : Act) → up_to a.at (made a) ≡ true
 made_no_earlier a = at_time (output_time a)
@@ -90,8 +91,8 @@ module _ (P : Plan) (valid : IsValidPlan P) where
   first_not_negative : (s : ℕ) (x : Tier) (sim : PlanSim) → slice_get P.sims s ≡ Some sim → IsIn x (first_times sim) → pos 0 ≤ℤ x.time
   first_not_negative s x sim e m = elim (in_either x (map moment sim.initial) (if is_event_based sim.kind then [] else moment (pos 0) ∷ []) m) [
     | inl a ↦ let t = in_map moment x sim.initial a in
-        let r : (pos 0 ≤ℤ t.0) × (t.0 ≤ℤ pos 1000000000) = all_in (λ (e : ℤ). (pos 0 ≤ℤ e) × (e ≤ℤ pos 1000000000)) sim.initial t.0
-        (all_at (λ (s : PlanSim). All (λ (e : ℤ). (pos 0 ≤ℤ e) × (e ≤ℤ pos 1000000000)) s.initial) P.sims s sim valid.well_formed.limits.events e) t.1 in
+        let r : (pos 0 ≤ℤ t.0) × (t.0 ≤ℤ latest_end) = all_in (λ (e : ℤ). (pos 0 ≤ℤ e) × (e ≤ℤ latest_end)) sim.initial t.0
+        (all_at (λ (s : PlanSim). All (λ (e : ℤ). (pos 0 ≤ℤ e) × (e ≤ℤ latest_end)) s.initial) P.sims s sim valid.well_formed.limits.events e) t.1 in
         subst (λ (y : Tier). pos 0 ≤ℤ y.time) (sym t.2) r.0
     | inr b ↦ start (is_event_based sim.kind) b
   ]

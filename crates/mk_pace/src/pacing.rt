@@ -25,6 +25,8 @@ ghost use Rattle.mk_pace_laws.specs.Clocks.{IsRising};
 ghost use Rattle.mk_pace_laws.specs.Paced.{EndsAtStart, PacesAs};
 ghost use Rattle.mk_pace_loop.specs.inner.Turns.{GoesOn};
 ghost use Rattle.mk_pace.specs.inner.Going.{AddsRising, GoesOnAs, IsStarted, PlanPacesAs};
+ghost use Rattle.mk_base.specs.Limits.{most_milliseconds};
+ghost use Rattle.mk_outside.specs.Fleets.{last_moment};
 
 use mk_base::{List, Mem};
 use mk_local::Registry;
@@ -62,8 +64,8 @@ pub fn paced<F: Paced, R: Wait>(
     requires ranked { AreRanksOf scenario ranks }
     requires prepared { IsPrepared scenario (map name_of (rows_in kinds.now)) }
     requires least { 1 ≤ factor }
-    requires most { factor ≤ 86400000 }
-    requires allowed { IfSome strict (λ ms. ms ≤ 86400000) }
+    requires most { factor ≤ most_milliseconds }
+    requires allowed { IfSome strict (λ ms. ms ≤ most_milliseconds) }
     ensures count { F.Fleet.faults fleet.old ≤ F.Fleet.faults fleet.new }
     ensures ran { (entries : List LogEntry)
         × Adds entries (F.Fleet.log fleet.old) (F.Fleet.log fleet.new)
@@ -125,7 +127,7 @@ fn pace_plan<F: Paced, R: Wait>(
     factor: u64,
     strict: Option<u64>,
 ) -> PaceRan
-    requires most { factor ≤ 86400000 }
+    requires most { factor ≤ most_milliseconds }
     requires started { (A : Attempt) × (A.rows ≡ rows_in kinds.now) × IsStarted A crew plan }
     requires open { AreOpen crew.channels (F.Fleet.open_links fleet.old) }
     ensures count { F.Fleet.faults fleet.old ≤ F.Fleet.faults fleet.new }
@@ -155,8 +157,8 @@ fn pace_from<F: Paced, R: Wait>(
     factor: u64,
     strict: Option<u64>,
 ) -> PaceRan
-    requires first { origin ≤ 10 ^ 18 }
-    requires most { factor ≤ 86400000 }
+    requires first { origin ≤ last_moment }
+    requires most { factor ≤ most_milliseconds }
     requires started { (A : Attempt) × (A.rows ≡ rows_in kinds.now) × IsStarted A crew plan }
     requires open { AreOpen crew.channels (F.Fleet.open_links fleet.old) }
     ensures count { F.Fleet.faults fleet.old ≤ F.Fleet.faults fleet.new }
@@ -183,8 +185,8 @@ fn make(
     strict: Option<u64>,
 ) -> Result<(Core, Waiting), Mem>
     requires valid { IsValidPlan plan }
-    requires first { origin ≤ 10 ^ 18 }
-    requires most { factor ≤ 86400000 }
+    requires first { origin ≤ last_moment }
+    requires most { factor ≤ most_milliseconds }
     ensures { IfOk result (λ p. (p.0 ≡ record { plan = plan; entries = []; ended = None })
         × (p.1 ≡ record {
           holds = replicate (sim_count plan) [];

@@ -21,6 +21,7 @@ use Rattle.mk_order.proofs.Pushing.{orderly_front}
 use Rattle.mk_order.proofs.Seen.{reached_sound}
 use Rattle.mk_sched.specs.Cores.{Stands}
 use Rattle.mk_run.proofs.Times.{ready_time}
+use Rattle.mk_base.specs.Limits.{latest_end}
 
 -- ---- places in a list
 
@@ -109,7 +110,7 @@ step_ready P H t x inputs advance orderly allowed = go (view P H).owed refl allo
 
 -- it is at a time of the run, and goes to one of its simulators
 pub step_time_of : (P : Plan) (J before later : List Entry) (t : SimNo) (x : Tier) (inputs : List Input) (advance : ℤ) → Stands P J → J ≡ before ++ Sent t (Step x inputs advance) ∷ later
-    → (pos 0 ≤ℤ x.time) × (x.time ≤ℤ pos 1000000000) × (t.0 < sim_count P)
+    → (pos 0 ≤ℤ x.time) × (x.time ≤ℤ latest_end) × (t.0 < sim_count P)
 step_time_of P J before later t x inputs advance stands parts =
     let both = orderly_front IsReady IsAdvance P before (Sent t (Step x inputs advance) ∷ later) (subst (IsOrderlySoFar IsReady IsAdvance P) parts stands.orderly.0) in
     ready_time P stands.valid before both.0 t.0 x (step_ready P before t x inputs advance both.0 both.1.0)

@@ -1,11 +1,13 @@
 //! What waits of a paced run, and the moments of what was sent.
-ghost use Rattle.std.specs.Prelude.{◌≡◌, ◌<◌, ◌≤◌, ◌+◌, ◌^◌, ℕ, List, [], ◌∷◌, ◌++◌, None, Some, IfOk, IfSome, MatchOption, OnErr, OnOk, is_some, length, pos, replicate, slice_get, ◌≤ℤ◌};
+ghost use Rattle.std.specs.Prelude.{◌≡◌, ◌<◌, ◌≤◌, ◌+◌, ℕ, List, [], ◌∷◌, ◌++◌, None, Some, IfOk, IfSome, MatchOption, OnErr, OnOk, is_some, length, pos, replicate, slice_get, ◌≤ℤ◌};
 ghost use Rattle.mk_pace_held.specs.declared.held.First.{First};
 ghost use Rattle.mk_pace_held.specs.declared.held.Held.{Held};
 ghost use Rattle.mk_pace_held.specs.Firsts.{IsFirst, first_at};
 ghost use Rattle.mk_pace_laws.specs.declared.end.Moment.{Moment};
 ghost use Rattle.mk_pace_laws.specs.Moments.{moment_at};
 ghost use Rattle.mk_pace_loop.specs.inner.Waiting.{DueAs, HasTime, IsHeldAnew, IsOnTempo, IsTooLate};
+ghost use Rattle.mk_base.specs.Limits.{latest_end, most_milliseconds};
+ghost use Rattle.mk_outside.specs.Fleets.{last_moment};
 
 use mk_base::{List, Mem, SimNo};
 use mk_pace_held::{Due, First, Held, Holds};
@@ -27,7 +29,9 @@ pub struct Waiting {
 }
 
 impl Model for Waiting {
-    ghost use Rattle.std.specs.Prelude.{◌≤◌, ◌^◌};
+    ghost use Rattle.std.specs.Prelude.{◌≤◌};
+    ghost use Rattle.mk_base.specs.Limits.{most_milliseconds};
+    ghost use Rattle.mk_outside.specs.Fleets.{last_moment};
     ghost use Rattle.mk_pace_loop.specs.inner.Waiting.{WaitingSeen};
 
     ghost Value = { WaitingSeen };
@@ -39,7 +43,7 @@ impl Model for Waiting {
       strict = a.strict;
     } };
 
-    ghost invariant = { λ a. (a.origin ≤ 10 ^ 18) × (a.factor ≤ 86400000) };
+    ghost invariant = { λ a. (a.origin ≤ last_moment) × (a.factor ≤ most_milliseconds) };
 }
 
 impl Waiting {
@@ -51,8 +55,8 @@ impl Waiting {
         factor: u64,
         strict: Option<u64>,
     ) -> Result<Waiting, Mem>
-        requires first { origin ≤ 10 ^ 18 }
-        requires most { factor ≤ 86400000 }
+        requires first { origin ≤ last_moment }
+        requires most { factor ≤ most_milliseconds }
         ensures { IfOk result (λ waiting. waiting ≡ record {
           holds = replicate sims [];
           moments = [];
@@ -78,7 +82,7 @@ impl Waiting {
 
     // The moment of a Step at this time.
     fn moment_at(&self, time: i64) -> u64
-        requires { (pos 0 ≤ℤ time) × (time ≤ℤ pos 1000000000) }
+        requires { (pos 0 ≤ℤ time) × (time ≤ℤ latest_end) }
         ensures { result ≡ moment_at self.now.tempo time }
     {
         self.origin + time as u64 * self.factor

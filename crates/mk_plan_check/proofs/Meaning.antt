@@ -23,6 +23,7 @@ use Rattle.mk_plan_check.specs.Tests.{all_apart, implies, numbers_fit, sizes_fit
 use Rattle.mk_plan_check.specs.FirstBad.{IsFirstBad}
 use Rattle.mk_plan_check.specs.inner.FirstBad.{HasDatums}
 use Rattle.mk_plan_check.proofs.Scanning.{nesting_is}
+use Rattle.mk_base.specs.Limits.{latest_end}
 
 module _ {X : Type 0} where
   -- a test of all items, and what it says of each
@@ -64,10 +65,10 @@ pub is_differ : (x y : List ℕ) → x ≢ y → not (same_text x y) ≡ true
 is_differ x y h = not_from_false (same_text x y) (false_from_ne_true (same_text x y) (λ e. h (same_is x y e)))
 
 -- numbers
-pub limits_from : (P : Plan) → numbers_fit P ≡ true → ((pos 1 ≤ℤ P.until) × (P.until ≤ℤ pos 1000000000)) × ((1 ≤ P.loops) × (P.loops ≤ 1000)) × ((1 ≤ P.entries) × (P.entries ≤ 20000000))
+pub limits_from : (P : Plan) → numbers_fit P ≡ true → ((pos 1 ≤ℤ P.until) × (P.until ≤ℤ latest_end)) × ((1 ≤ P.loops) × (P.loops ≤ 1000)) × ((1 ≤ P.entries) × (P.entries ≤ 20000000))
 limits_from P h = ((grind (arith, ints), grind (arith, ints)), (grind (arith, ints), grind (arith, ints)), (grind (arith, ints), grind (arith, ints)))
 
-pub from_limits : (P : Plan) → (pos 1 ≤ℤ P.until) → (P.until ≤ℤ pos 1000000000) → (1 ≤ P.loops) → (P.loops ≤ 1000) → (1 ≤ P.entries) → (P.entries ≤ 20000000) → numbers_fit P ≡ true
+pub from_limits : (P : Plan) → (pos 1 ≤ℤ P.until) → (P.until ≤ℤ latest_end) → (1 ≤ P.loops) → (P.loops ≤ 1000) → (1 ≤ P.entries) → (P.entries ≤ 20000000) → numbers_fit P ≡ true
 from_limits P a b c d e f = grind (arith, ints)
 
 -- several tests together
@@ -140,10 +141,10 @@ from_initial : (o : Option (List ℕ)) → IfSome o IsValueText → initial_fits
 from_initial None d = refl
 from_initial (Some t) d = from_value t d
 
-event_from : (e : ℤ) → event_fits e ≡ true → (pos 0 ≤ℤ e) × (e ≤ℤ pos 1000000000)
+event_from : (e : ℤ) → event_fits e ≡ true → (pos 0 ≤ℤ e) × (e ≤ℤ latest_end)
 event_from e h = (grind (arith, ints), grind (arith, ints))
 
-from_event : (e : ℤ) → (pos 0 ≤ℤ e) × (e ≤ℤ pos 1000000000) → event_fits e ≡ true
+from_event : (e : ℤ) → (pos 0 ≤ℤ e) × (e ≤ℤ latest_end) → event_fits e ≡ true
 from_event e h = grind (arith, ints)
 
 sizes_from : (P : Plan) → sizes_fit P ≡ true → ((1 ≤ length P.sims) × (length P.sims ≤ 200)) × (length P.entities ≤ 10000) × (length P.conns ≤ 100000)
@@ -173,7 +174,7 @@ limits_hold P data_of h k = record {
   sims = z.0;
   ranks = all_from sim_fits (λ s. s.rank ≤ 199) (λ s e. leb-true s.rank 199 (sim_parts s e).0) P.sims t.2;
   first_ids = all_from sim_fits (λ s. s.first_id ≤ 1000000) (λ s e. leb-true s.first_id 1000000 (sim_parts s e).1) P.sims t.2;
-  events = all_from sim_fits (λ s. All (λ (e : ℤ). (pos 0 ≤ℤ e) × (e ≤ℤ pos 1000000000)) s.initial) (λ s e. all_from event_fits (λ (e : ℤ). (pos 0 ≤ℤ e) × (e ≤ℤ pos 1000000000)) event_from s.initial (sim_parts s e).2) P.sims t.2;
+  events = all_from sim_fits (λ s. All (λ (e : ℤ). (pos 0 ≤ℤ e) × (e ≤ℤ latest_end)) s.initial) (λ s e. all_from event_fits (λ (e : ℤ). (pos 0 ≤ℤ e) × (e ≤ℤ latest_end)) event_from s.initial (sim_parts s e).2) P.sims t.2;
   models = models;
   entities = z.1;
   conns = z.2;
@@ -184,7 +185,7 @@ limits_hold P data_of h k = record {
     t : (numbers_fit P ≡ true) × (sizes_fit P ≡ true) × (list_all sim_fits P.sims ≡ true) × (models_fit P ≡ true) × (list_all (λ c. initial_fits c.initial) P.conns ≡ true) × (list_all (λ c. width_fits c.via) P.conns ≡ true)
     t = parts6 (numbers_fit P) (sizes_fit P) (list_all sim_fits P.sims) (models_fit P) (list_all (λ c. initial_fits c.initial) P.conns) (list_all (λ c. width_fits c.via) P.conns) h
 
-    n : ((pos 1 ≤ℤ P.until) × (P.until ≤ℤ pos 1000000000)) × ((1 ≤ P.loops) × (P.loops ≤ 1000)) × ((1 ≤ P.entries) × (P.entries ≤ 20000000))
+    n : ((pos 1 ≤ℤ P.until) × (P.until ≤ℤ latest_end)) × ((1 ≤ P.loops) × (P.loops ≤ 1000)) × ((1 ≤ P.entries) × (P.entries ≤ 20000000))
     n = limits_from P t.0
 
     z : ((1 ≤ length P.sims) × (length P.sims ≤ 200)) × (length P.entities ≤ 10000) × (length P.conns ≤ 100000)
@@ -206,8 +207,8 @@ from_limits_hold : (P : Plan) → IsWithinLimits P → is_within_limits P ≡ tr
 from_limits_hold P w = from6 (numbers_fit P) (sizes_fit P) (list_all sim_fits P.sims) (models_fit P) (list_all (λ c. initial_fits c.initial) P.conns) (list_all (λ c. width_fits c.via) P.conns)
     (from_limits P w.until.0 w.until.1 w.loops.0 w.loops.1 w.entries.0 w.entries.1)
     (from4 (nat_le 1 (length P.sims)) (nat_le (length P.sims) 200) (nat_le (length P.entities) 10000) (nat_le (length P.conns) 100000) (le-leb 1 (length P.sims) w.sims.0) (le-leb (length P.sims) 200 w.sims.1) (le-leb (length P.entities) 10000 w.entities) (le-leb (length P.conns) 100000 w.conns))
-    (from_all sim_fits (λ s. (s.rank ≤ 199) × (s.first_id ≤ 1000000) × All (λ (e : ℤ). (pos 0 ≤ℤ e) × (e ≤ℤ pos 1000000000)) s.initial)
-    (λ s q. from3 (nat_le s.rank 199) (nat_le s.first_id 1000000) (list_all event_fits s.initial) (le-leb s.rank 199 q.0) (le-leb s.first_id 1000000 q.1) (from_all event_fits (λ (e : ℤ). (pos 0 ≤ℤ e) × (e ≤ℤ pos 1000000000)) from_event s.initial q.2))
+    (from_all sim_fits (λ s. (s.rank ≤ 199) × (s.first_id ≤ 1000000) × All (λ (e : ℤ). (pos 0 ≤ℤ e) × (e ≤ℤ latest_end)) s.initial)
+    (λ s q. from3 (nat_le s.rank 199) (nat_le s.first_id 1000000) (list_all event_fits s.initial) (le-leb s.rank 199 q.0) (le-leb s.first_id 1000000 q.1) (from_all event_fits (λ (e : ℤ). (pos 0 ≤ℤ e) × (e ≤ℤ latest_end)) from_event s.initial q.2))
     P.sims (λ i d m. (w.ranks i d m, w.first_ids i d m, w.events i d m)))
     (from_over (λ i. nat_le (models_of P i) 10000) 0 (length P.sims) (λ i low high. le-leb (models_of P i) 10000 (w.models i)))
     (from_all (λ c. initial_fits c.initial) (λ c. IfSome c.initial IsValueText) (λ c. from_initial c.initial) P.conns w.initials)

@@ -16,6 +16,7 @@ use Rattle.mk_plan.specs.declared.Conn.{Conn}
 use Rattle.mk_plan.specs.declared.AsyncPair.{AsyncPair}
 use Rattle.mk_plan.specs.Plans.{owner, eid_of, kind_of, rank_of, dot}
 use Rattle.mk_plan_check.specs.Nesting.{nesting_of}
+use Rattle.mk_base.specs.Limits.{latest_end, most_loops, most_entries, most_sims, most_models, most_entities, most_conns, most_requests, widest}
 
 -- the test holds between each item and each later one
 abbrev pub all_apart : {X : Type 0} → (X → X → Bool) → List X → Bool
@@ -28,26 +29,26 @@ implies a b = not a || b
 
 -- the run's end, the loop limit and the limit of entries
 abbrev pub numbers_fit : Plan → Bool
-numbers_fit P = int_le (pos 1) P.until && int_le P.until (pos 1000000000) && nat_le 1 P.loops
-    && nat_le P.loops 1000 && nat_le 1 P.entries && nat_le P.entries 20000000
+numbers_fit P = int_le (pos 1) P.until && int_le P.until latest_end && nat_le 1 P.loops
+    && nat_le P.loops most_loops && nat_le 1 P.entries && nat_le P.entries most_entries
 
 -- how many simulators, entities and connections there are
 abbrev pub sizes_fit : Plan → Bool
-sizes_fit P = nat_le 1 (length P.sims) && nat_le (length P.sims) 200
-    && nat_le (length P.entities) 10000 && nat_le (length P.conns) 100000
+sizes_fit P = nat_le 1 (length P.sims) && nat_le (length P.sims) most_sims
+    && nat_le (length P.entities) most_entities && nat_le (length P.conns) most_conns
 
 abbrev pub event_fits : ℤ → Bool
-event_fits e = int_le (pos 0) e && int_le e (pos 1000000000)
+event_fits e = int_le (pos 0) e && int_le e latest_end
 
 abbrev pub sim_fits : PlanSim → Bool
-sim_fits s = nat_le s.rank 199 && nat_le s.first_id 1000000 && list_all event_fits s.initial
+sim_fits s = nat_le s.rank 199 && nat_le s.first_id most_requests && list_all event_fits s.initial
 
 -- how many models a simulator has
 abbrev pub models_of : Plan → ℕ → ℕ
 models_of P i = count_by (λ m. m.sim.0 == i) P.models
 
 abbrev pub models_fit : Plan → Bool
-models_fit P = list_all (λ i. nat_le (models_of P i) 10000) (range_with_len 0 (length P.sims))
+models_fit P = list_all (λ i. nat_le (models_of P i) most_models) (range_with_len 0 (length P.sims))
 
 -- an initial value nests no deeper than a value may
 abbrev pub initial_fits : Option (List ℕ) → Bool
@@ -56,7 +57,7 @@ initial_fits o = unwrap_or (option_map (λ t. nat_le (nesting_of t) value_depth)
 -- a time shift is by 1 to 1,000,000 times
 abbrev pub width_fits : Via → Bool
 width_fits Plain = true
-width_fits (Shift width) = nat_le 1 width && nat_le width 1000000
+width_fits (Shift width) = nat_le 1 width && nat_le width widest
 width_fits Weak = true
 
 abbrev pub is_within_limits : Plan → Bool

@@ -7,33 +7,36 @@ ghost use Rattle.mk_plan_check.specs.Tests.{numbers_fit, sizes_fit, event_fits, 
 ghost use Rattle.std.specs.List.{list_all};
 
 use crate::nesting::text_nesting;
-use mk_base::{Datum, Via};
+use mk_base::{
+    Datum, LATEST_END, MOST_CONNS, MOST_ENTITIES, MOST_ENTRIES, MOST_LOOPS, MOST_MODELS,
+    MOST_REQUESTS, MOST_SIMS, Via, WIDEST,
+};
 use mk_plan::{Conn, Plan, PlanSim};
 
 fn numbers_fit(plan: &Plan) -> bool
     ensures { result ≡ numbers_fit plan.now }
 {
     1 <= plan.until
-        && plan.until <= 1_000_000_000
+        && plan.until <= LATEST_END
         && 1 <= plan.loops
-        && plan.loops <= 1000
+        && plan.loops <= MOST_LOOPS
         && 1 <= plan.entries
-        && plan.entries <= 20_000_000
+        && plan.entries <= MOST_ENTRIES
 }
 
 fn sizes_fit(plan: &Plan) -> bool
     ensures { result ≡ sizes_fit plan.now }
 {
     1 <= plan.sims.len()
-        && plan.sims.len() <= 200
-        && plan.entities.len() <= 10_000
-        && plan.conns.len() <= 100_000
+        && plan.sims.len() <= MOST_SIMS as usize
+        && plan.entities.len() <= MOST_ENTITIES as usize
+        && plan.conns.len() <= MOST_CONNS as usize
 }
 
 fn event_fits(event: i64) -> bool
     ensures { result ≡ event_fits event }
 {
-    0 <= event && event <= 1_000_000_000
+    0 <= event && event <= LATEST_END
 }
 
 fn events_fit(events: &[i64]) -> bool
@@ -45,7 +48,9 @@ fn events_fit(events: &[i64]) -> bool
 fn sim_fits(sim: &PlanSim) -> bool
     ensures { result ≡ sim_fits sim.now }
 {
-    sim.rank <= 199 && sim.first_id <= 1_000_000 && events_fit(sim.initial.as_slice())
+    sim.rank <= 199
+        && sim.first_id <= u64::from(MOST_REQUESTS)
+        && events_fit(sim.initial.as_slice())
 }
 
 fn sims_fit(plan: &Plan) -> bool
@@ -67,7 +72,7 @@ fn models_of(plan: &Plan, sim: usize) -> usize
 fn models_fit(plan: &Plan) -> bool
     ensures { result ≡ models_fit plan.now }
 {
-    (0..plan.sims.len()).all(|sim| models_of(plan, sim) <= 10_000)
+    (0..plan.sims.len()).all(|sim| models_of(plan, sim) <= MOST_MODELS as usize)
 }
 
 fn initial_fits(initial: &Option<Datum>) -> bool
@@ -97,7 +102,7 @@ fn width_fits(conn: &Conn) -> bool
 {
     match conn.via {
         Via::Plain | Via::Weak => true,
-        Via::Shift(width) => 1 <= width && width <= 1_000_000,
+        Via::Shift(width) => 1 <= width && width <= WIDEST,
     }
 }
 

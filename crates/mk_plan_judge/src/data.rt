@@ -10,9 +10,6 @@ use mk_base::{Json, List, Mem};
 use mk_plan::Want;
 use std::alloc::Global;
 
-// How deep a value may nest.
-const VALUE_DEPTH: u32 = 100;
-
 /// What the data give each want, in order: the member of the attribute's name in the member of the entity's name, or
 /// nothing where there is none. Fails for want of memory alone.
 pub fn values_for<'a>(
@@ -100,7 +97,7 @@ fn is_deep(value: Option<&Json>) -> bool
         (option_map (λ v. v.now) value.entry) }
 {
     match value {
-        Some(value) => !value.nests_within(VALUE_DEPTH),
+        Some(value) => !value.is_shallow(),
         None => false,
     }
 }

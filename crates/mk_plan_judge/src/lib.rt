@@ -8,11 +8,9 @@ mod data;
 mod lookups;
 mod numbers;
 mod places;
-mod wants;
 
 pub use all_wants::wants_of_all;
 pub use causes::wrong;
 pub use data::values_for;
 pub use numbers::{next_time, output_time};
 pub use places::next_place;
-pub use wants::owner;

@@ -2,11 +2,9 @@
 ghost use Rattle.std.specs.Prelude.{◌≡◌, ◌≤◌, IfOk};
 ghost use Rattle.mk_outside.specs.Fleets.{last_moment};
 
+use mk_outside::LAST_MOMENT;
 use std::io;
 use std::time::{Clock, Instant};
-
-// The greatest number that is told.
-const LAST: u64 = 1_000_000_000_000_000_000;
 
 /// Milliseconds since the clock was first asked, at most 10^18.
 #[derive(Drop)]
@@ -38,7 +36,7 @@ impl Ticks {
         };
         self.origin = Some(origin);
         let passed = now.saturating_duration_since(origin).as_millis();
-        let passed = passed.min(LAST as u128) as u64;
+        let passed = passed.min(u128::from(LAST_MOMENT)) as u64;
         self.last = self.last.max(passed);
         Ok(self.last)
     }

@@ -2,12 +2,9 @@
 ghost use Rattle.std.specs.Prelude.{◌≡◌, ◌≢◌, IfOk};
 
 use crate::anew::write_anew;
-use mk_outside::{FileRead, FileSave, Folder};
+use mk_outside::{FILE_LIMIT, FileRead, FileSave, Folder};
 use std::fs::{self, Files, OpenFile};
 use std::io::{self, ErrorKind, Read};
-
-// The greatest length of a file that is read, in bytes.
-const FILE_LIMIT: u64 = 536_870_912;
 
 /// The system's files. It tells nothing of what they hold, and counts in its faults the calls that answer `Failed`.
 #[derive(Drop)]

@@ -12,6 +12,7 @@ ghost use Rattle.mk_record_read.specs.Seen.{came};
 ghost use Rattle.mk_plan_same.specs.Decisions.{Decides};
 ghost use Rattle.mk_record_compare.specs.Differences.{IsFirstOther, IsOther};
 ghost use Rattle.mk_record_compare.specs.inner.Matches.{AreMessages, IsMatch, IsMessageNext, IsNamed, IsNextNamed, left};
+ghost use Rattle.mk_base.specs.Limits.{most_entries};
 
 use crate::messages::same_message;
 use mk_base::{List, SimNo, Tier};
@@ -22,7 +23,7 @@ use mk_record_read::{Arrival, Asked, Saved};
 /// messages, or for which the journal has none; `None` where the journal begins with all that the record has, and
 /// always of a record of version 1. The journal has at most 20,000,000 entries.
 pub fn first_other(saved: &Saved, journal: &Journal) -> Option<u32>
-    requires { length journal.now.entries ≤ 20000000 }
+    requires { length journal.now.entries ≤ most_entries }
     ensures { IsOther (map came saved.now.arrivals) saved.now.asks journal.now.entries result }
 {
     match &saved.asks {
@@ -39,7 +40,7 @@ pub fn first_other(saved: &Saved, journal: &Journal) -> Option<u32>
 /// The same of a record of which the steps alone are at hand, and how many messages it has; the journal's messages are
 /// the first of these.
 pub fn first_other_step(count: usize, steps: &Option<List<Asked>>, journal: &Journal) -> Option<u32>
-    requires { length journal.now.entries ≤ 20000000 }
+    requires { length journal.now.entries ≤ most_entries }
     ensures { (A : List journals.Arrival) → length A ≡ count
         → BeginsWith A (arrivals journal.now.entries)
         → IsOther A steps.now journal.now.entries result }
@@ -68,7 +69,7 @@ fn other_among(
     asks: &[Asked],
     entries: &[Entry],
 ) -> Option<u32>
-    requires { length entries.now ≤ 20000000 }
+    requires { length entries.now ≤ most_entries }
     ensures { (A : List Arrival)
         → AreMessages (option_map (λ m. m.now) messages.entry) count entries.now A
         → IsFirstOther (entries_after 0 (map came A) asks.now) (entries_of entries.now) result }

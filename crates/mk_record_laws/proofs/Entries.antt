@@ -42,6 +42,7 @@ use Rattle.mk_record_laws.specs.Again.{steps_after, is_sayable, entry_fits}
 use Rattle.mk_record_laws.proofs.Clean.{all_clean, clean-append, clean-decimal}
 use Rattle.mk_record_laws.proofs.Fields.{Field, deeper, whole_field, natural_field, whole_of, read_items, cons_same, signed_is, decimal_is}
 use Rattle.mk_record_laws.proofs.Lines.{state, Reads, nothing, joined, a_line, entry_kind, stands, clean_line, below, small}
+use Rattle.mk_base.specs.Limits.{latest_end}
 
 -- ---- messages
 
@@ -104,8 +105,8 @@ ask_read : (P : Plan) → first_bad P ≡ None → length P.sims ≤ 200 → (la
     → Reads (state last P A steps) (ask_line sim at advance) (state 8 P A (steps ++ record { before = length A; sim = record { 0 = sim }; at = at; max_advance = advance } ∷ []))
 ask_read P valid few last A steps sim at advance low high fits =
     let p = and_parts (nat_lt sim (length P.sims)) (step_fits at.time (pos at.tier) advance) fits in
-    let q = and_parts (is_between (pos 0) (pos 1000000000) at.time && is_between (pos 0) (pos 1000) (pos at.tier)) (is_between (pos 0) (pos 1000000000) advance) p.1 in
-    let r = and_parts (is_between (pos 0) (pos 1000000000) at.time) (is_between (pos 0) (pos 1000) (pos at.tier)) q.0 in
+    let q = and_parts (is_between (pos 0) latest_end at.time && is_between (pos 0) (pos 1000) (pos at.tier)) (is_between (pos 0) latest_end advance) p.1 in
+    let r = and_parts (is_between (pos 0) latest_end at.time) (is_between (pos 0) (pos 1000) (pos at.tier)) q.0 in
     let inside : sim < length P.sims = ltb-true sim (length P.sims) p.0 in
     let ts : List Json = tree.Whole (pos sim) ∷ tree.Whole at.time ∷ tree.Whole (pos at.tier) ∷ tree.Whole advance ∷ [] in
     let fields : List (List ℕ) = decimal sim ∷ signed_decimal at.time ∷ decimal at.tier ∷ signed_decimal advance ∷ [] in

@@ -43,6 +43,7 @@ use Rattle.mk_record_read.proofs.Splitting.{reads_on}
 use Rattle.mk_record_laws.specs.Again.{model_is_text, conn_is_text}
 use Rattle.mk_record_laws.proofs.Clean.{clean, all_clean, clean-append, clean-text}
 use Rattle.mk_record_laws.proofs.Fields.{Field, deeper, text_field, whole_field, bool_field, list_field, natural_field, text_fields, items_of_list, whole_of, text_of_text, text_of_list, bool_of, read_items, cons_same, quoted_is, signed_is, decimal_is, list_is, wholes, naturals, texts, signed_each, decimal_each, quoted_each, wholes_there, naturals_there, texts_there, same_naturals}
+use Rattle.mk_base.specs.Limits.{latest_end}
 
 -- what stands in the lines so far, in version 2
 abbrev pub state : ℕ → Plan → List Arrival → List Asked → State
@@ -143,7 +144,7 @@ begun P = record { until = P.until; loops = P.loops; entries = P.entries; sims =
 abbrev pub no_plan : Plan
 no_plan = record { until = pos 0; loops = 0; entries = 0; sims = []; models = []; entities = []; conns = []; asyncs = [] }
 
-pub run_read : (P : Plan) → is_between (pos 1) (pos 1000000000) P.until ≡ true → 1 ≤ P.loops → P.loops ≤ 1000 → 1 ≤ P.entries → P.entries ≤ 20000000 → Reads (state 1 no_plan [] []) (run_line P) (state 2 (begun P) [] [])
+pub run_read : (P : Plan) → is_between (pos 1) latest_end P.until ≡ true → 1 ≤ P.loops → P.loops ≤ 1000 → 1 ≤ P.entries → P.entries ≤ 20000000 → Reads (state 1 no_plan [] []) (run_line P) (state 2 (begun P) [] [])
 run_read P until l0 l1 e0 e1 =
     let ts : List Json = tree.Whole P.until ∷ tree.Whole (pos P.loops) ∷ tree.Whole (pos P.entries) ∷ [] in
     a_part 1 no_plan (begun P) kinds.Run (codes "run ") (signed_decimal P.until ∷ decimal P.loops ∷ decimal P.entries ∷ []) ts refl (λ S X. refl) (λ S X. refl) refl refl

@@ -21,13 +21,14 @@ use Rattle.mk_order.proofs.Going.{advance_between}
 use Rattle.mk_order.proofs.Past.{pending_within}
 use Rattle.mk_order.proofs.Pushing.{view_push, orderly_push}
 use Rattle.mk_order.proofs.Seen.{reached_sound}
+use Rattle.mk_base.specs.Limits.{latest_end}
 
 -- the numbers of a Step are within the limits of a record
 pub record StepFits (P : Plan) (s : ℕ) (x : Tier) (advance : ℤ) : Type 0 where
   pub sim : s < sim_count P
-  pub time : (pos 0 ≤ℤ x.time) × (x.time ≤ℤ pos 1000000000)
+  pub time : (pos 0 ≤ℤ x.time) × (x.time ≤ℤ latest_end)
   pub tier : x.tier ≤ 1000
-  pub ahead : (pos 0 ≤ℤ advance) × (advance ≤ℤ pos 1000000000)
+  pub ahead : (pos 0 ≤ℤ advance) × (advance ≤ℤ latest_end)
 
 -- the entry is of a simulator of the plan, and a Step fits
 abbrev pub EntryFits : Plan → Entry → Type 0

@@ -28,6 +28,7 @@ use Rattle.mk_record_laws.specs.Again.{IsRecordable, model_is_text, conn_is_text
 use Rattle.mk_record_laws.proofs.Clean.{clean-append, clean-decimal}
 use Rattle.mk_record_laws.proofs.Lines.{state, Reads, joined, cut_line, a_line, begun, no_plan, run_read, SimFits, with_sims, sim_read, ModelFits, with_models, model_read, EntityFits, with_entities, entity_read, ConnFits, with_conns, conn_read, PairFits, with_asyncs, async_read, reads_parts, stands}
 use Rattle.mk_record_laws.proofs.Entries.{said, arrivals_said, counted, reads_entries, end_read}
+use Rattle.mk_base.specs.Limits.{latest_end}
 
 -- ---- what is known of the parts of a valid plan
 
@@ -75,7 +76,7 @@ pairs_fit P (a ∷ ps) h =
 
 -- the tests of a valid plan, one by one
 record Tested (P : Plan) : Type 0 where
-  until : (int_le (pos 1) P.until && int_le P.until (pos 1000000000)) ≡ true
+  until : (int_le (pos 1) P.until && int_le P.until latest_end) ≡ true
   loops : (1 ≤ P.loops) × (P.loops ≤ 1000)
   entries : (1 ≤ P.entries) × (P.entries ≤ 20000000)
   some : 1 ≤ length P.sims
@@ -101,7 +102,7 @@ tested P wf =
     let e = and_parts ((tests.numbers_fit P && tests.sizes_fit P) && sims) (tests.models_fit P) d.0 in
     let f = and_parts (tests.numbers_fit P && tests.sizes_fit P) sims e.0 in
     let g = and_parts (tests.numbers_fit P) (tests.sizes_fit P) f.0 in
-    let u : Bool = int_le (pos 1) P.until && int_le P.until (pos 1000000000) in
+    let u : Bool = int_le (pos 1) P.until && int_le P.until latest_end in
     let h = and_parts ((((u && nat_le 1 P.loops) && nat_le P.loops 1000)) && nat_le 1 P.entries) (nat_le P.entries 20000000) g.0 in
     let i = and_parts ((u && nat_le 1 P.loops) && nat_le P.loops 1000) (nat_le 1 P.entries) h.0 in
     let j = and_parts (u && nat_le 1 P.loops) (nat_le P.loops 1000) i.0 in

@@ -6,6 +6,7 @@ use Rattle.mk_base.specs.declared.tier.Via.TheVariants.{Plain, Shift, Weak}
 use Rattle.mk_base.specs.Lists.{same_text, all_there}
 use Rattle.mk_base.specs.Texts.{text_of}
 use Rattle.mk_base.specs.Trees.{whole_in, text_in, items_in, is_datum}
+use Rattle.mk_base.specs.Limits.{widest}
 
 -- the line isn't of a kind that may stand there, or not of its kind's form
 abbrev pub misformed : ℕ
@@ -70,7 +71,7 @@ way_in second tree = way_or (text_in tree) (way_in_list second (items_in tree))
 -- a time shift in version 1 is by one time; in version 2 its width stands beside its name
 abbrev pub shift_of : Bool → Option ℤ → Option Via
 shift_of true None = None
-shift_of true (Some width) = if is_between (pos 1) (pos 1000000) width
+shift_of true (Some width) = if is_between (pos 1) (pos widest) width
     then Some (Shift (nat_abs width)) else None
 shift_of false width = Some (Shift 1)
 

@@ -11,10 +11,11 @@ use Rattle.mk_plan.specs.Journals.{Arrival}
 use Rattle.mk_message.specs.Messages.{message_in, tested}
 use Rattle.mk_record_read.specs.Fields.{misformed, out_of_limits, limited, is_between, is_below, wholes_in, initial_in, way_in, via_of}
 use Rattle.mk_record_read.specs.declared.saved.Asked.{Asked}
+use Rattle.mk_base.specs.Limits.{latest_end, most_loops, most_entries, most_entities, most_requests}
 
 abbrev pub run_fits : ℤ → ℤ → ℤ → Bool
-run_fits until loops entries = is_between (pos 1) (pos 1000000000) until
-    && is_between (pos 1) (pos 1000) loops && is_between (pos 1) (pos 20000000) entries
+run_fits until loops entries = is_between (pos 1) latest_end until
+    && is_between (pos 1) (pos most_loops) loops && is_between (pos 1) (pos most_entries) entries
 
 -- `run [until,loops,entries]`
 abbrev pub with_run : Plan → List Json → Result Plan ℕ
@@ -26,10 +27,10 @@ with_run P (until ∷ loops ∷ entries ∷ []) =
 with_run P _ = Err misformed
 
 abbrev pub event_fits : ℤ → Bool
-event_fits = is_between (pos 0) (pos 1000000000)
+event_fits = is_between (pos 0) latest_end
 
 abbrev pub sim_fits : ℤ → ℤ → List ℤ → Bool
-sim_fits first_id rank events = is_between (pos 0) (pos 1000000) first_id
+sim_fits first_id rank events = is_between (pos 0) (pos most_requests) first_id
     && is_between (pos 0) (pos 199) rank && list_all event_fits events
 
 -- `sim [id,type,first_id,rank,[initial events]]`
@@ -62,7 +63,7 @@ with_model P (sim ∷ name ∷ attrs ∷ any ∷ []) =
 with_model P _ = Err misformed
 
 abbrev pub entity_fits : ℕ → ℤ → List ℤ → Bool
-entity_fits count model related = is_below count model && list_all (is_below 10000) related
+entity_fits count model related = is_below count model && list_all (is_below most_entities) related
 
 -- `entity [model,eid,[related]]`
 abbrev pub with_entity : Plan → List Json → Result Plan ℕ
@@ -129,8 +130,8 @@ arrival_in P (sim ∷ message ∷ []) =
 arrival_in P _ = Err misformed
 
 abbrev pub step_fits : ℤ → ℤ → ℤ → Bool
-step_fits time tier advance = is_between (pos 0) (pos 1000000000) time
-    && is_between (pos 0) (pos 1000) tier && is_between (pos 0) (pos 1000000000) advance
+step_fits time tier advance = is_between (pos 0) latest_end time
+    && is_between (pos 0) (pos most_loops) tier && is_between (pos 0) latest_end advance
 
 -- the step of a simulator, where so many messages came before, if its numbers are within their
 -- limits

@@ -23,6 +23,18 @@ pub enum LineFault {
     Mem,
 }
 
+// The line isn't of a kind that may stand there, or not of its kind's form.
+pub const MISFORMED: LineFault = LineFault::Bad(1);
+
+// A number is outside its limits, a reference is to nothing before it, or a type or via is unknown.
+pub const OUT_OF_LIMITS: LineFault = LineFault::Bad(2);
+
+// The plan isn't valid.
+pub const INVALID: LineFault = LineFault::Bad(3);
+
+// The number of `end` isn't that of the lines of entries.
+pub const MISCOUNTED: LineFault = LineFault::Bad(4);
+
 impl From<mk_base::Mem> for LineFault {
     ghost use Rattle.std.specs.Prelude.{◌≡◌};
     ghost use Rattle.mk_record_read.specs.declared.faults.LineFault.TheVariants as fault;

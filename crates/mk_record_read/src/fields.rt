@@ -9,15 +9,11 @@ ghost use Rattle.mk_record_read.specs.Fields.{wholes_in, initial_in, way_in, way
 ghost use Rattle.mk_record_read.specs.inner.Seen.{is_second};
 ghost use Rattle.mk_record_read.specs.inner.Faults.{IsMissing, IsUnknown, IsNoDatum};
 
-use crate::faults::LineFault;
+use crate::faults::{LineFault, MISFORMED, OUT_OF_LIMITS};
 use crate::kinds::{Version, is_second};
-use mk_base::{Datum, Json, List, Mem, SimKind, Text, Via};
+use mk_base::{Datum, Json, List, Mem, SimKind, Text, Via, WIDEST};
 use mk_json::{DatumFault, datum};
 use std::alloc::Global;
-
-const MISFORMED: u8 = 1;
-
-const OUT_OF_LIMITS: u8 = 2;
 
 pub fn text_of(tree: &Json) -> Result<&Text, LineFault>
     ensures ok { IfOk result (λ t. text_in tree.now ≡ Some t.now) }
@@ -25,7 +21,7 @@ pub fn text_of(tree: &Json) -> Result<&Text, LineFault>
 {
     match tree.as_text() {
         Some(text) => Ok(text),
-        None => Err(LineFault::Bad(MISFORMED)),
+        None => Err(MISFORMED),
     }
 }
 
@@ -35,7 +31,7 @@ pub fn whole_of(tree: &Json) -> Result<i128, LineFault>
 {
     match tree.as_whole() {
         Some(n) => Ok(n),
-        None => Err(LineFault::Bad(MISFORMED)),
+        None => Err(MISFORMED),
     }
 }
 
@@ -45,7 +41,7 @@ pub fn bool_of(tree: &Json) -> Result<bool, LineFault>
 {
     match tree.as_bool() {
         Some(b) => Ok(b),
-        None => Err(LineFault::Bad(MISFORMED)),
+        None => Err(MISFORMED),
     }
 }
 
@@ -57,7 +53,7 @@ pub fn items_of(tree: &Json) -> Result<&[Json], LineFault>
 {
     match tree {
         Json::List(items) => Ok(items.as_slice()),
-        _ => Err(LineFault::Bad(MISFORMED)),
+        _ => Err(MISFORMED),
     }
 }
 
@@ -110,7 +106,7 @@ pub fn initial_of(alloc: Global, tree: &Json) -> Result<Option<Datum>, LineFault
     match items {
         [] => Ok(None),
         [value] => Ok(Some(datum_of(alloc, value)?)),
-        _ => Err(LineFault::Bad(MISFORMED)),
+        _ => Err(MISFORMED),
     }
 }
 
@@ -120,7 +116,7 @@ pub fn kind_of(name: &Text) -> Result<SimKind, LineFault>
 {
     match SimKind::named(name.bytes()) {
         Some(kind) => Ok(kind),
-        None => Err(LineFault::Bad(OUT_OF_LIMITS)),
+        None => Err(OUT_OF_LIMITS),
     }
 }
 
@@ -134,7 +130,7 @@ pub fn way_of(version: Version, tree: &Json) -> Result<(&Text, Option<i128>), Li
     }
     match tree {
         Json::List(items) => listed_way(version, items.as_slice()),
-        _ => Err(LineFault::Bad(MISFORMED)),
+        _ => Err(MISFORMED),
     }
 }
 
@@ -144,10 +140,10 @@ fn listed_way(version: Version, items: &[Json]) -> Result<(&Text, Option<i128>),
     ensures err { IfErr result (IsMissing (way_in_list (is_second version) (Some items.now))) }
 {
     if !is_second(version) {
-        return Err(LineFault::Bad(MISFORMED));
+        return Err(MISFORMED);
     }
     let [name, width] = items else {
-        return Err(LineFault::Bad(MISFORMED));
+        return Err(MISFORMED);
     };
     Ok((text_of(name)?, Some(whole_of(width)?)))
 }
@@ -166,7 +162,7 @@ pub fn via_of(version: Version, name: &Text, width: Option<i128>) -> Result<Via,
     if is_word(name, b"shift") {
         return shift_of(version, width);
     }
-    Err(LineFault::Bad(OUT_OF_LIMITS))
+    Err(OUT_OF_LIMITS)
 }
 
 // No number stands beside the name of such a way.
@@ -176,7 +172,7 @@ fn lone(width: Option<i128>, via: Via) -> Result<Via, LineFault>
 {
     match width {
         None => Ok(via),
-        Some(_) => Err(LineFault::Bad(OUT_OF_LIMITS)),
+        Some(_) => Err(OUT_OF_LIMITS),
     }
 }
 
@@ -188,8 +184,8 @@ fn shift_of(version: Version, width: Option<i128>) -> Result<Via, LineFault>
         return Ok(Via::Shift(1));
     }
     match width {
-        Some(d) if is_from(1, 1000000, d) => Ok(Via::Shift(d as u32)),
-        _ => Err(LineFault::Bad(OUT_OF_LIMITS)),
+        Some(d) if is_from(1, i128::from(WIDEST), d) => Ok(Via::Shift(d as u32)),
+        _ => Err(OUT_OF_LIMITS),
     }
 }
 
@@ -207,7 +203,7 @@ fn datum_of(alloc: Global, tree: &Json) -> Result<Datum, LineFault>
     match datum(alloc, tree) {
         Ok(value) => Ok(value),
         Err(DatumFault::Mem) => Err(LineFault::Mem),
-        Err(_) => Err(LineFault::Bad(MISFORMED)),
+        Err(_) => Err(MISFORMED),
     }
 }
 

@@ -12,21 +12,21 @@ ghost use Rattle.mk_record_read.specs.Steps.{IsKnown};
 ghost use Rattle.mk_record_read.specs.Lines.{run_fits, event_fits, sim_fits, entity_fits, with_run, with_sim, with_model, with_entity, with_way, with_conn, with_async, arrival_in, asked_in, step_asked, step_fits};
 ghost use Rattle.mk_record_read.specs.Seen.{came};
 ghost use Rattle.mk_record_read.specs.inner.Seen.{is_second};
+ghost use Rattle.mk_base.specs.Limits.{most_entities};
 
-use crate::faults::LineFault;
+use crate::faults::{LineFault, MISFORMED, OUT_OF_LIMITS};
 use crate::fields::{
     bool_of, initial_of, is_from, kind_of, text_of, texts_of, via_of, way_of, whole_of, wholes_of,
 };
 use crate::kinds::Version;
 use crate::saved::{Arrival, Asked};
-use mk_base::{Datum, Json, List, Mem, SimKind, SimNo, Text, Tier, Via};
+use mk_base::{
+    Datum, Json, LATEST_END, List, MOST_ENTITIES, MOST_ENTRIES, MOST_LOOPS, MOST_REQUESTS, Mem,
+    SimKind, SimNo, Text, Tier, Via,
+};
 use mk_message::take_tree;
 use mk_plan::{AsyncPair, Conn, Message, Plan, PlanEntity, PlanModel, PlanSim};
 use std::alloc::Global;
-
-const MISFORMED: LineFault = LineFault::Bad(1);
-
-const OUT_OF_LIMITS: LineFault = LineFault::Bad(2);
 
 pub fn add_run(plan: &mut Plan, items: &[Json]) -> Result<(), LineFault>
     ensures ok { OnOk result (with_run plan.old items.now ≡ Ok plan.new) }
@@ -68,7 +68,9 @@ fn put_run(plan: &mut Plan, until: i128, loops: i128, entries: i128) -> Result<(
 fn run_fits(until: i128, loops: i128, entries: i128) -> bool
     ensures { result ≡ run_fits until loops entries }
 {
-    is_from(1, 1000000000, until) && is_from(1, 1000, loops) && is_from(1, 20000000, entries)
+    is_from(1, i128::from(LATEST_END), until)
+        && is_from(1, i128::from(MOST_LOOPS), loops)
+        && is_from(1, i128::from(MOST_ENTRIES), entries)
 }
 
 pub fn add_sim(alloc: Global, plan: &mut Plan, items: &[Json]) -> Result<(), LineFault>
@@ -163,14 +165,14 @@ fn sim_of(
 fn sim_fits(first_id: i128, rank: i128, events: &[i128]) -> bool
     ensures { result ≡ sim_fits first_id rank events.now }
 {
-    is_from(0, 1000000, first_id) && is_from(0, 199, rank) && events_fit(events)
+    is_from(0, i128::from(MOST_REQUESTS), first_id) && is_from(0, 199, rank) && events_fit(events)
 }
 
 fn events_fit(events: &[i128]) -> bool
     ensures { result ≡ list_all event_fits events.now }
 {
     for event in events {
-        if !is_from(0, 1000000000, *event) {
+        if !is_from(0, i128::from(LATEST_END), *event) {
             return false;
         }
     }
@@ -288,7 +290,7 @@ fn put_entity(
 fn entity_fits(count: usize, model: i128, related: &[i128]) -> bool
     ensures { result ≡ entity_fits count model related.now }
 {
-    names_one_of(count, model) && are_below(10000, related)
+    names_one_of(count, model) && are_below(MOST_ENTITIES as usize, related)
 }
 
 fn are_below(count: usize, places: &[i128]) -> bool
@@ -303,7 +305,7 @@ fn are_below(count: usize, places: &[i128]) -> bool
 }
 
 fn numbers_of(alloc: Global, places: &[i128]) -> Result<List<u32>, Mem>
-    requires { list_all (is_below 10000) places.now ≡ true }
+    requires { list_all (is_below most_entities) places.now ≡ true }
     ensures { IfOk result (λ ns. ns ≡ map nat_abs places.now) }
 {
     let mut numbers = List::new(alloc);
@@ -314,7 +316,7 @@ fn numbers_of(alloc: Global, places: &[i128]) -> Result<List<u32>, Mem>
 }
 
 fn related_number(place: &i128) -> u32
-    requires { is_below 10000 place.now ≡ true }
+    requires { is_below most_entities place.now ≡ true }
     ensures { result ≡ nat_abs place.now }
 {
     *place as u32
@@ -627,7 +629,9 @@ fn step_asked(
 fn step_fits(time: i128, tier: i128, max_advance: i128) -> bool
     ensures { result ≡ step_fits time tier max_advance }
 {
-    is_from(0, 1000000000, time) && is_from(0, 1000, tier) && is_from(0, 1000000000, max_advance)
+    is_from(0, i128::from(LATEST_END), time)
+        && is_from(0, i128::from(MOST_LOOPS), tier)
+        && is_from(0, i128::from(LATEST_END), max_advance)
 }
 
 fn message_of(tree: Json) -> Result<Message, LineFault>

@@ -14,7 +14,7 @@ ghost use Rattle.mk_record_read.specs.Steps.{IsKnown};
 ghost use Rattle.mk_record_read.specs.inner.Steps.{IsBadStep};
 ghost use Rattle.mk_record_read.specs.Reading.{Ended};
 
-use crate::faults::LineFault;
+use crate::faults::{LineFault, MISCOUNTED, MISFORMED};
 use crate::fields::{is_word, items_of};
 use crate::kinds::{LineKind, Version};
 use crate::lines::{
@@ -26,10 +26,6 @@ use mk_base::{Json, are_digits, is_digit};
 use mk_json::{JsonFault, Scratch, read_json_in};
 use mk_plan::Plan;
 use std::alloc::Global;
-
-const MISFORMED: LineFault = LineFault::Bad(1);
-
-const MISCOUNTED: LineFault = LineFault::Bad(4);
 
 fn tree_of(alloc: Global, scratch: &mut Scratch, text: &[u8]) -> Result<Json, LineFault>
     ensures ok { IfOk result (λ t. parsed text.now ≡ Some t) }

@@ -9,7 +9,7 @@ ghost use Rattle.mk_record_read.specs.inner.Seen.{is_second, state_of, saved_in}
 ghost use Rattle.mk_record_read.specs.Steps.{IsKnown};
 ghost use Rattle.mk_record_read.specs.inner.Steps.{IsSound, IsInvalid, IsOverlong, IsFaultAt, IsSoundAfter, IsLineTaken};
 
-use crate::faults::{LineFault, RecordFault};
+use crate::faults::{INVALID, LineFault, MISFORMED, RecordFault};
 use crate::fields::is_word;
 use crate::kinds::{LineKind, Version, ends_plan, kind_of_word, may_stand, place};
 use crate::parts::{add_part, read_arrival, read_asked, read_end};
@@ -19,10 +19,6 @@ use mk_json::Scratch;
 use mk_plan::Plan;
 use mk_plan_check::{PlanFault, check_plan};
 use std::alloc::Global;
-
-const MISFORMED: LineFault = LineFault::Bad(1);
-
-const INVALID: LineFault = LineFault::Bad(3);
 
 const UNENDED: u8 = 5;
 

@@ -11,13 +11,14 @@ use Rattle.mk_plan.specs.Ready.{IsReady}
 use Rattle.mk_plan.specs.Advance.{IsAdvance}
 use Rattle.mk_plan.specs.Orderly.{IsOrderlySoFar}
 use Rattle.mk_order.proofs.Past.{pending_within}
+use Rattle.mk_base.specs.Limits.{latest_end}
 
 below_end : (t until end : ℤ) → int_lt t until ≡ true → until ≤ℤ end → t ≤ℤ end
 below_end t until end h k = grind (arith, ints)
 
 -- a simulator that is ready is so at a time from 0 on, and before the end of the run
 pub ready_time : (P : Plan) → IsValidPlan P → (J : List Entry) → IsOrderlySoFar IsReady IsAdvance P J → (s : ℕ) (x : Tier) → IsReady P (view P J) s x
-    → (pos 0 ≤ℤ x.time) × (x.time ≤ℤ pos 1000000000) × (s < sim_count P)
+    → (pos 0 ≤ℤ x.time) × (x.time ≤ℤ latest_end) × (s < sim_count P)
 ready_time P valid J orderly s x ready =
     let t = pending_within IsReady IsAdvance P (λ V s x r. r) valid J orderly s x ready.at_pending in
-    (t.0, below_end x.time P.until (pos 1000000000) (and_parts (int_lt x.time P.until) (nat_le x.tier P.loops) t.1).0 valid.well_formed.limits.until.1, t.2)
+    (t.0, below_end x.time P.until latest_end (and_parts (int_lt x.time P.until) (nat_le x.tier P.loops) t.1).0 valid.well_formed.limits.until.1, t.2)

@@ -36,6 +36,7 @@ use Rattle.mk_run_local.specs.Seen.{begun_as, first_of}
 use Rattle.mk_run_local.specs.Made.{first_at, made, kind_reply_of, no_reply}
 use Rattle.mk_run_local.specs.Laws.{FitsKinds, HasCome, KindsAreRight, RepliesAreKinds}
 use Rattle.mk_run_local.proofs.Numbers.{IsStepping, new_steps, calls_step}
+use Rattle.mk_base.specs.Limits.{latest_end}
 
 -- ---- ids
 
@@ -155,7 +156,7 @@ module _ (rows : List Turn) (S : Scenario) (P : Plan) (fits : FitsKinds rows S P
       subst (λ (y : Tier). IsStepTime y.time) (sym t.2) (omega (arith, ints), omega (arith, ints, short))
     where
       below : (end : ℤ) (n : ℕ) → n < nat_abs end → IsStepTime end → n < 1000000000
-      below (pos m) n h k = let h' : n < m = h in let k' : pos m ≤ℤ pos 1000000000 = k.1 in omega (arith, ints, h', k')
+      below (pos m) n h k = let h' : n < m = h in let k' : pos m ≤ℤ latest_end = k.1 in omega (arith, ints, h', k')
       below (negsuc m) n h k = absurd (let k' : pos 0 ≤ℤ negsuc m = k.0 in omega (arith, ints, k'))
 
   module _ (i : ℕ) (within : is_within S i ≡ true) where

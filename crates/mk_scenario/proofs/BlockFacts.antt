@@ -5,12 +5,12 @@ use Rattle.std.proofs.lemmas.List.{length-map}
 use Rattle.mk_base.specs.declared.json.Json.{Json}
 use Rattle.mk_base.specs.declared.json.Json as tree
 use Rattle.mk_base.specs.declared.tier.Via.TheVariants.{Plain}
-use Rattle.mk_base.specs.Lists.{IsIn, Each}
+use Rattle.mk_base.specs.Lists.{IsIn, Each, is_among}
 use Rattle.mk_base.specs.Tiers.{HasWidth}
-use Rattle.mk_base.specs.Trees.{member}
+use Rattle.mk_base.specs.Trees.{member, members_of}
 use Rattle.mk_scenario_keys.specs.Spelling.{spelled}
 use Rattle.mk_scenario_keys.specs.Tests.{found, key_in}
-use Rattle.mk_scenario_keys.specs.Keys.{IsObjectOfData, required, optional, first_unknown, is_among, members_of, text, truth, some_width, values}
+use Rattle.mk_scenario_keys.specs.Keys.{IsObjectOfData, required, optional, first_unknown, text, truth, some_width, values}
 use Rattle.mk_scenario_keys.specs.Known.{block_keys}
 use Rattle.mk_scenario_keys.specs.declared.fault.ScenarioFault.TheVariants.{UnknownKey, UnknownGroup, OutOfRange, TwoKinds, Uneven}
 use Rattle.mk_scenario_keys.proofs.Passing.{ok_same, passed_ok, held_ok, no_text_ok, found_ok, and_then_some, none_found}

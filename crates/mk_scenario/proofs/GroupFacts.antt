@@ -5,11 +5,11 @@ use Rattle.std.proofs.lemmas.Bool.{not-true, both_ways, ltb-true}
 use Rattle.mk_base.specs.declared.json.Json.{Json}
 use Rattle.mk_base.specs.declared.json.Json as tree
 use Rattle.mk_base.specs.declared.SimNo.{SimNo}
-use Rattle.mk_base.specs.Lists.{Each, same_text}
+use Rattle.mk_base.specs.Lists.{Each, same_text, is_among}
 use Rattle.mk_base.specs.Trees.{member}
 use Rattle.mk_base.proofs.Lists.{some_same, in_each, at_in, filter_map_in, passes_some}
 use Rattle.mk_scenario_keys.specs.Tests.{key_in, item_in, each_after}
-use Rattle.mk_scenario_keys.specs.Keys.{required, optional, first_unknown, is_among, count_within, text, name, values}
+use Rattle.mk_scenario_keys.specs.Keys.{required, optional, first_unknown, count_within, text, name, values}
 use Rattle.mk_scenario_keys.specs.Known.{group_keys}
 use Rattle.mk_scenario_keys.specs.declared.fault.ScenarioFault.{ScenarioFault}
 use Rattle.mk_scenario_keys.specs.declared.fault.ScenarioFault.TheVariants.{UnknownKey, UnknownSim, Taken}
@@ -89,8 +89,8 @@ module _ (ids : List (List ℕ)) (tables : List Json) (groups : List Group) (all
       let s = at_group j h second in
       let there = at_in t.0 (take j tables) i (get_taken tables i j before ∙ t.1) in
       let among = filter_map_in (text_under (codes "id")) t.0 g.id (take j tables) there t.2.1 in
-      let test : same_text h.id g.id ≡ true = ap (same_text h.id) same ∙ is_same h.id in
-      both_ways (is_among (texts_under (codes "id") (take j tables)) h.id) s.2.2 (passes_some (same_text h.id) g.id (texts_under (codes "id") (take j tables)) among test)
+      let test : same_text g.id h.id ≡ true = ap (λ u. same_text u h.id) same ∙ is_same h.id in
+      both_ways (is_among (texts_under (codes "id") (take j tables)) h.id) s.2.2 (passes_some (λ u. same_text u h.id) g.id (texts_under (codes "id") (take j tables)) among test)
 
   pub distinct : AllPairs (λ (g h : Group). g.id ≢ h.id) groups
   distinct i j d before inside =

@@ -4,9 +4,8 @@ use Rattle.std.specs.List.{filter_map, cons_option}
 use Rattle.std.proofs.lemmas.Bool.{and_parts, and_from, eq-eqb, eqb-true}
 use Rattle.std.proofs.lemmas.List.{nil_from_length}
 use Rattle.mk_base.specs.declared.json.Json.{Json}
-use Rattle.mk_base.specs.Lists.{IsIn, Each, same_text}
+use Rattle.mk_base.specs.Lists.{IsIn, Each, same_text, is_among}
 use Rattle.mk_base.proofs.Lists.{some_passes}
-use Rattle.mk_scenario_keys.specs.Keys.{is_among}
 
 pub is_same : (x : List ℕ) → same_text x x ≡ true
 is_same [] = refl
@@ -27,7 +26,7 @@ empty_is xs e = nil_from_length xs (eqb-true (length xs) 0 e)
 
 -- a name among these is one of them
 pub among_in : (names : List (List ℕ)) (n : List ℕ) → is_among names n ≡ true → IsIn n names
-among_in names n e = let t = some_passes (same_text n) names e in subst (λ u. IsIn u names) (sym (same_is n t.0 t.2)) t.1
+among_in names n e = let t = some_passes (λ u. same_text u n) names e in subst (λ u. IsIn u names) (same_is t.0 n t.2) t.1
 
 pub get_map : {X Y : Type 0} (f : X → Y) (xs : List X) (i : ℕ) → slice_get (map f xs) i ≡ option_map f (slice_get xs i)
 get_map f [] i = refl

@@ -22,6 +22,7 @@ use Rattle.mk_scenario.specs.declared.parts.Begin.{Begin}
 use Rattle.mk_scenario.specs.declared.parts.Begin.TheVariants.{Command, Connect, Local}
 use Rattle.mk_scenario.specs.declared.parts.SimPart.{SimPart}
 use Rattle.mk_scenario.proofs.ListFacts.{all_kept, none_there, get_map, none_also}
+use Rattle.mk_base.specs.Limits.{latest_end}
 
 begin_ok : (path : List ℕ) (command : Option (List ℕ)) (connect : Option ℕ) (kind : Option (List ℕ)) (begin : Begin) → begin_of path command connect kind ≡ Ok begin → IfSome connect (λ port. (1 ≤ port) × (port ≤ 65535)) → HasPort begin
 begin_ok path (Some c) None None begin e p = subst HasPort (ok_same (Command c) begin e) tt
@@ -46,7 +47,7 @@ sim_ok path earlier table s all e =
     let connect = passed_ok (optional None (key_in path (codes "connect")) some_port (member (codes "connect") table)) _ _ command.2 in
     let kind = passed_ok (optional None (key_in path (codes "local")) some_text (member (codes "local") table)) _ _ connect.2 in
     let params = passed_ok (optional (tree.Object []) (key_in path (codes "params")) values (member (codes "params") table)) _ _ kind.2 in
-    let initial = passed_ok (optional [] (key_in path (codes "initial_events")) (wholes_within (pos 0) (pos 1000000000)) (member (codes "initial_events") table)) _ _ params.2 in
+    let initial = passed_ok (optional [] (key_in path (codes "initial_events")) (wholes_within (pos 0) latest_end) (member (codes "initial_events") table)) _ _ params.2 in
     let begin = passed_ok (begin_of path command.0 connect.0 kind.0) _ _ initial.2 in
     let own = passed_ok (own_params path params.0) _ _ begin.2 in
     let resolution = held_ok (UnknownKey (key_in (key_in path (codes "params")) (codes "time_resolution"))) (not (is_some (member (codes "time_resolution") params.0))) _ _ own.1 in
@@ -56,7 +57,7 @@ sim_ok path earlier table s all e =
         port = begin_ok path command.0 connect.0 kind.0 begin.0 begin.1 (left_out_port (key_in path (codes "connect")) (member (codes "connect") table) connect.0 connect.1);
         params = left_out_values (key_in path (codes "params")) (member (codes "params") table) params.0 (under_range table (codes "params") all) params.1;
         resolution = none_there (member (codes "time_resolution") params.0) resolution.0;
-        initial = left_out_wholes (pos 0) (pos 1000000000) (key_in path (codes "initial_events")) (member (codes "initial_events") table) initial.0 initial.1;
+        initial = left_out_wholes (pos 0) latest_end (key_in path (codes "initial_events")) (member (codes "initial_events") table) initial.0 initial.1;
       },
       (named.0, name_is.0, name_is.1, refl),
     )

@@ -23,10 +23,11 @@ use Rattle.mk_scenario.specs.declared.parts.Scenario.{Scenario}
 use Rattle.mk_scenario.proofs.SimFacts.{sims_ok, ids_ok}
 use Rattle.mk_scenario.proofs.GroupFacts.{groups_ok, distinct}
 use Rattle.mk_scenario.proofs.BlockFacts.{block_ok}
+use Rattle.mk_base.specs.Limits.{latest_end}
 
 -- what limits and tables say
 module _ (until : ℤ) (loops entries : ℕ) (sim_tables group_tables block_tables : List Json) where
-  parts_ok : (sims : List SimPart) (groups : List Group) (blocks : List Block) → (pos 1 ≤ℤ until) × (until ≤ℤ pos 1000000000) → (1 ≤ loops) × (loops ≤ 1000) → (1 ≤ entries) × (entries ≤ 20000000)
+  parts_ok : (sims : List SimPart) (groups : List Group) (blocks : List Block) → (pos 1 ≤ℤ until) × (until ≤ℤ latest_end) → (1 ≤ loops) × (loops ≤ 1000) → (1 ≤ entries) × (entries ≤ 20000000)
       → (1 ≤ length sim_tables) × (length sim_tables ≤ 200) → length group_tables ≤ 10000 → length block_tables ≤ 100000 → Each InRange sim_tables → Each InRange group_tables → Each InRange block_tables
       → each_after sim_in sim_tables ≡ Ok sims → each_after (group_in (ids_of sims)) group_tables ≡ Ok groups → each_at (block_in (ids_of sims) groups) block_tables ≡ Ok blocks
       → IsWellformed (record { until = until; loops = loops; entries = entries; sims = sims; groups = groups; blocks = blocks })
@@ -46,7 +47,7 @@ module _ (until : ℤ) (loops entries : ℕ) (sim_tables group_tables block_tabl
         blocks = subst (λ n. Each (IsWellformedBlock n groups) blocks) ids_count (each_gives_where (block_in (ids_of sims) groups) InRange (IsWellformedBlock (length (ids_of sims)) groups) block_tables blocks blocks_are blocks_all (λ i table b within w. block_ok (ids_of sims) groups (item_in (codes "connect") i) table b within w));
       }
 
-  with_parts_ok : (S : Scenario) → (pos 1 ≤ℤ until) × (until ≤ℤ pos 1000000000) → (1 ≤ loops) × (loops ≤ 1000) → (1 ≤ entries) × (entries ≤ 20000000)
+  with_parts_ok : (S : Scenario) → (pos 1 ≤ℤ until) × (until ≤ℤ latest_end) → (1 ≤ loops) × (loops ≤ 1000) → (1 ≤ entries) × (entries ≤ 20000000)
       → (1 ≤ length sim_tables) × (length sim_tables ≤ 200) → length group_tables ≤ 10000 → length block_tables ≤ 100000 → Each InRange sim_tables → Each InRange group_tables → Each InRange block_tables
       → with_parts until loops entries sim_tables group_tables block_tables ≡ Ok S → IsWellformed S
   with_parts_ok S until_fits loops_fit entries_fit sim_count group_count block_count sims_all groups_all blocks_all e =
@@ -58,16 +59,16 @@ module _ (until : ℤ) (loops entries : ℕ) (sim_tables group_tables block_tabl
 pub scenario_is_wellformed : (document : Json) (S : Scenario) → InRange document → scenario_in document ≡ Ok S → IsWellformed S
 scenario_is_wellformed document S all e =
     let known = no_text_ok UnknownKey (first_unknown top_keys document) _ _ e in
-    let until = passed_ok (required (codes "until") (whole_within (pos 1) (pos 1000000000)) (member (codes "until") document)) _ _ known.1 in
+    let until = passed_ok (required (codes "until") (whole_within (pos 1) latest_end) (member (codes "until") document)) _ _ known.1 in
     let loops = passed_ok (optional 100 (codes "max_loop_iterations") (count_within 1 1000) (member (codes "max_loop_iterations") document)) _ _ until.2 in
     let entries = passed_ok (optional 2000000 (codes "max_entries") (count_within 1 20000000) (member (codes "max_entries") document)) _ _ loops.2 in
     let sim_tables = passed_ok (required (codes "sim") (tables_within 1 200) (member (codes "sim") document)) _ _ entries.2 in
     let group_tables = passed_ok (optional [] (codes "entities") (tables_within 0 10000) (member (codes "entities") document)) _ _ sim_tables.2 in
     let block_tables = passed_ok (optional [] (codes "connect") (tables_within 0 100000) (member (codes "connect") document)) _ _ group_tables.2 in
-    let until_is = required_ok (codes "until") (whole_within (pos 1) (pos 1000000000)) (member (codes "until") document) until.0 until.1 in
+    let until_is = required_ok (codes "until") (whole_within (pos 1) latest_end) (member (codes "until") document) until.0 until.1 in
     let sims_is = required_ok (codes "sim") (tables_within 1 200) (member (codes "sim") document) sim_tables.0 sim_tables.1 in
     with_parts_ok until.0 loops.0 entries.0 sim_tables.0 group_tables.0 block_tables.0 S
-    (whole_within_ok (pos 1) (pos 1000000000) (codes "until") until_is.0 until.0 until_is.2)
+    (whole_within_ok (pos 1) latest_end (codes "until") until_is.0 until.0 until_is.2)
     (left_out_count 100 1 1000 (codes "max_loop_iterations") (member (codes "max_loop_iterations") document) loops.0 loops.1 (omega arith, omega arith))
     (left_out_count 2000000 1 20000000 (codes "max_entries") (member (codes "max_entries") document) entries.0 entries.1 (omega arith, omega arith))
     (tables_within_ok 1 200 (codes "sim") sims_is.0 sim_tables.0 sims_is.2)

@@ -4,11 +4,11 @@ use Rattle.mk_base.specs.declared.json.Json.{Json, Json-F, out-Json}
 use Rattle.mk_base.specs.declared.json.Json as tree
 use Rattle.mk_base.specs.declared.tier.Via.{Via}
 use Rattle.mk_base.specs.declared.tier.Via.TheVariants.{Plain, Shift, Weak}
-use Rattle.mk_base.specs.Trees.{text_in, member}
+use Rattle.mk_base.specs.Trees.{text_in, member, members_of}
 use Rattle.mk_base.specs.Verdicts.{held, no_text, passed}
 use Rattle.mk_scenario_keys.specs.Known.{block_keys}
 use Rattle.mk_scenario_keys.specs.Tests.{found, each_at, key_in, item_in}
-use Rattle.mk_scenario_keys.specs.Keys.{required, optional, members_of, first_unknown, truth, some_width, text, items, values}
+use Rattle.mk_scenario_keys.specs.Keys.{required, optional, first_unknown, truth, some_width, text, items, values}
 use Rattle.mk_scenario_keys.specs.declared.fault.ScenarioFault.{ScenarioFault}
 use Rattle.mk_scenario_keys.specs.declared.fault.ScenarioFault.TheVariants.{WrongKind, UnknownKey, TwoKinds, Uneven}
 use Rattle.mk_scenario.specs.References.{place_of, size_of}

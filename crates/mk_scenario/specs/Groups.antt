@@ -7,13 +7,15 @@ use Rattle.mk_base.specs.Trees.{member}
 use Rattle.mk_base.specs.Verdicts.{held, no_text, passed}
 use Rattle.mk_scenario_keys.specs.Known.{group_keys}
 use Rattle.mk_scenario_keys.specs.Tests.{found, key_in, item_in}
-use Rattle.mk_scenario_keys.specs.Keys.{required, optional, first_unknown, is_among, count_within, text, name, values}
+use Rattle.mk_scenario_keys.specs.Keys.{required, optional, first_unknown, count_within, text, name, values}
 use Rattle.mk_scenario_keys.specs.declared.fault.ScenarioFault.{ScenarioFault}
 use Rattle.mk_scenario_keys.specs.declared.fault.ScenarioFault.TheVariants.{UnknownKey, UnknownSim, Taken}
 use Rattle.mk_scenario.specs.Sims.{texts_under}
 use Rattle.mk_scenario.specs.Places.{place_in}
 use Rattle.mk_scenario.specs.declared.parts.Group.{Group}
 use Rattle.mk_scenario.specs.declared.groups.GroupSaid.{GroupSaid}
+use Rattle.mk_base.specs.Limits.{most_entities}
+use Rattle.mk_base.specs.Lists.{is_among}
 
 -- the simulator of this id
 abbrev pub sim_of_id : List (List ℕ) → List ℕ → List ℕ → Result SimNo ScenarioFault
@@ -27,7 +29,7 @@ group_said path table =
     passed (required (key_in path (codes "id")) name (member (codes "id") table)) (λ id.
     passed (required (key_in path (codes "sim")) text (member (codes "sim") table)) (λ sim.
     passed (required (key_in path (codes "model")) text (member (codes "model") table)) (λ model.
-    passed (optional 1 (key_in path (codes "num")) (count_within 1 10000)
+    passed (optional 1 (key_in path (codes "num")) (count_within 1 most_entities)
     (member (codes "num") table)) (λ num.
     passed (optional (tree.Object []) (key_in path (codes "params")) values
     (member (codes "params") table)) (λ params.

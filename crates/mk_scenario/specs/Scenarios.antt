@@ -14,6 +14,7 @@ use Rattle.mk_scenario.specs.Groups.{group_in}
 use Rattle.mk_scenario.specs.Blocks.{block_in}
 use Rattle.mk_scenario.specs.declared.parts.SimPart.{SimPart}
 use Rattle.mk_scenario.specs.declared.parts.Scenario.{Scenario}
+use Rattle.mk_base.specs.Limits.{latest_end, most_loops, most_entries}
 
 -- the ids of the simulators
 abbrev pub ids_of : List SimPart → List (List ℕ)
@@ -39,11 +40,11 @@ with_parts until loops entries sim_tables group_tables block_tables =
 abbrev pub scenario_in : Json → Result Scenario ScenarioFault
 scenario_in document =
     no_text UnknownKey (first_unknown top_keys document) (
-    passed (required (codes "until") (whole_within (pos 1) (pos 1000000000))
+    passed (required (codes "until") (whole_within (pos 1) latest_end)
     (member (codes "until") document)) (λ until.
-    passed (optional 100 (codes "max_loop_iterations") (count_within 1 1000)
+    passed (optional 100 (codes "max_loop_iterations") (count_within 1 most_loops)
     (member (codes "max_loop_iterations") document)) (λ loops.
-    passed (optional 2000000 (codes "max_entries") (count_within 1 20000000)
+    passed (optional 2000000 (codes "max_entries") (count_within 1 most_entries)
     (member (codes "max_entries") document)) (λ entries.
     passed (required (codes "sim") (tables_within 1 200) (member (codes "sim") document))
     (λ sim_tables.

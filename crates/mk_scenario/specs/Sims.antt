@@ -15,6 +15,7 @@ use Rattle.mk_scenario_keys.specs.declared.fault.ScenarioFault.TheVariants.{Miss
 use Rattle.mk_scenario.specs.declared.parts.Begin.{Begin}
 use Rattle.mk_scenario.specs.declared.parts.Begin.TheVariants.{Command, Connect, Local}
 use Rattle.mk_scenario.specs.declared.parts.SimPart.{SimPart}
+use Rattle.mk_base.specs.Limits.{latest_end}
 
 -- the texts that these tables have under a key
 abbrev pub texts_under : List ℕ → List Json → List (List ℕ)
@@ -48,7 +49,7 @@ sim_made path earlier table name command connect kind =
     passed (optional (tree.Object []) (key_in path (codes "params")) values
     (member (codes "params") table)) (λ params.
     passed (optional [] (key_in path (codes "initial_events"))
-    (wholes_within (pos 0) (pos 1000000000)) (member (codes "initial_events") table)) (λ initial.
+    (wholes_within (pos 0) latest_end) (member (codes "initial_events") table)) (λ initial.
     passed (begin_of path command connect kind) (λ begin.
     passed (own_params path params) (λ own.
     Ok (record {

@@ -4,9 +4,9 @@ use Rattle.mk_base.specs.declared.json.Json.{Json}
 use Rattle.mk_base.specs.declared.tier.Via.TheVariants.{Plain}
 use Rattle.mk_base.specs.Lists.{IsIn, Each}
 use Rattle.mk_base.specs.Tiers.{HasWidth}
-use Rattle.mk_base.specs.Trees.{member}
+use Rattle.mk_base.specs.Trees.{member, members_of}
 use Rattle.mk_scenario_keys.specs.Spelling.{is_name}
-use Rattle.mk_scenario_keys.specs.Keys.{members_of, IsObjectOfData}
+use Rattle.mk_scenario_keys.specs.Keys.{IsObjectOfData}
 use Rattle.mk_scenario.specs.Sims.{sim_id}
 use Rattle.mk_scenario.specs.References.{num_at, size_of}
 use Rattle.mk_scenario.specs.Blocks.{sides_pair}
@@ -20,6 +20,7 @@ use Rattle.mk_scenario.specs.declared.parts.Place.TheVariants.{Whole, One, Full}
 use Rattle.mk_scenario.specs.declared.parts.AttrPair.{AttrPair}
 use Rattle.mk_scenario.specs.declared.parts.Block.{Block}
 use Rattle.mk_scenario.specs.declared.parts.Scenario.{Scenario}
+use Rattle.mk_base.specs.Limits.{latest_end, most_loops, most_entries, most_entities}
 
 -- these are names, and the ids are those of simulators of these names, in order
 pub record AreIdsOf (names ids : List (List ℕ)) : Type 0 where
@@ -39,14 +40,14 @@ pub record IsWellformedSim (s : SimPart) : Type 0 where
   pub port : HasPort s.begin
   pub params : IsObjectOfData s.params
   pub resolution : member (codes "time_resolution") s.params ≡ None
-  pub initial : Each (λ (t : ℤ). (pos 0 ≤ℤ t) × (t ≤ℤ pos 1000000000)) s.initial
+  pub initial : Each (λ (t : ℤ). (pos 0 ≤ℤ t) × (t ≤ℤ latest_end)) s.initial
 
 -- a group of one of so many simulators, of 1 to 10,000 entities: its id is spelled as a name, and
 -- its parameters are data
 pub record IsWellformedGroup (sims : ℕ) (g : Group) : Type 0 where
   pub id : IsTrue (is_name g.id)
   pub sim : g.sim.0 < sims
-  pub num : (1 ≤ g.num) × (g.num ≤ 10000)
+  pub num : (1 ≤ g.num) × (g.num ≤ most_entities)
   pub params : IsObjectOfData g.params
 
 -- the group and its entity are there, or the simulator
@@ -72,9 +73,9 @@ pub record IsWellformedBlock (sims : ℕ) (groups : List Group) (b : Block) : Ty
 -- numbers and counts are within their limits, ids of simulators are by the naming rule, those of
 -- groups are distinct, and each part is well-formed
 pub record IsWellformed (S : Scenario) : Type 0 where
-  pub until : (pos 1 ≤ℤ S.until) × (S.until ≤ℤ pos 1000000000)
-  pub loops : (1 ≤ S.loops) × (S.loops ≤ 1000)
-  pub entries : (1 ≤ S.entries) × (S.entries ≤ 20000000)
+  pub until : (pos 1 ≤ℤ S.until) × (S.until ≤ℤ latest_end)
+  pub loops : (1 ≤ S.loops) × (S.loops ≤ most_loops)
+  pub entries : (1 ≤ S.entries) × (S.entries ≤ most_entries)
   pub sim_count : (1 ≤ length S.sims) × (length S.sims ≤ 200)
   pub group_count : length S.groups ≤ 10000
   pub block_count : length S.blocks ≤ 100000

@@ -11,6 +11,7 @@ ghost use Rattle.mk_scenario.specs.Blocks.{source_names};
 ghost use Rattle.mk_scenario.specs.References.{group_ids, place_of};
 ghost use Rattle.mk_scenario.specs.Scenarios.{ids_of};
 ghost use Rattle.mk_scenario.specs.inner.Blocks.{block_of, initial_fits, is_delayed, said_between};
+ghost use Rattle.mk_base.specs.Lists.{is_among};
 
 use crate::groups::ids_of;
 use crate::names::Names;
@@ -436,7 +437,7 @@ fn initial_fits(alloc: Global, path: &Text, said: &BlockSaid) -> Result<(), Scen
     ensures refused { IfErr result (λ e. IsFaultOf (initial_fits path.now said.now) e) }
 {
     let path = key_in(alloc, path, "initial_data")?;
-    if !(is_delayed(said.manner) || members_of(&said.initial).is_empty()) {
+    if !(is_delayed(said.manner) || said.initial.members().is_empty()) {
         return Err(ScenarioFault::UnknownKey(path));
     }
     match first_unfed(alloc, said.attrs.as_slice(), &said.initial)? {
@@ -451,16 +452,6 @@ fn is_delayed(manner: Manner) -> bool
     manner.width.is_some() || manner.weak
 }
 
-// The table's members, in byte order of their names.
-fn members_of(table: &Json) -> &[(Text, Json)]
-    ensures { result.now ≡ keys.members_of table.now }
-{
-    match table.as_object() {
-        Some(members) => members.entries(),
-        None => &[],
-    }
-}
-
 // The first name, in byte order, that no pair has as its source.
 fn first_unfed<'a>(
     alloc: Global,
@@ -470,7 +461,7 @@ fn first_unfed<'a>(
     ensures { IfOk result (λ name. option_map (λ t. t.now) name
         ≡ blocks.first_unfed attrs.now initial.now) }
 {
-    let members = members_of(initial);
+    let members = initial.members();
     if members.is_empty() {
         return Ok(None);
     }
@@ -494,7 +485,7 @@ fn source_names(alloc: Global, attrs: &[AttrPair]) -> Result<Names, Mem>
 // The first member, in byte order, whose name is none of these.
 fn first_other<'a>(names: &Names, members: &'a [(Text, Json)]) -> Option<&'a Text>
     ensures { option_map (λ t. t.now) result
-        ≡ find (λ key. not (keys.is_among names.now key))
+        ≡ find (λ key. not (is_among names.now key))
         (map (λ (m : List ℕ × Json). m.0) members.now) }
 {
     for (name, _) in members {

@@ -6,19 +6,17 @@ ghost use Rattle.mk_scenario_keys.specs.Tests.{IsFaultOf, each_after, key_in};
 ghost use Rattle.mk_scenario.specs.Groups as groups;
 ghost use Rattle.mk_scenario.specs.inner.Groups.{IsGroupAdded};
 ghost use Rattle.mk_scenario.specs.Scenarios.{ids_of};
+ghost use Rattle.mk_base.specs.Limits.{most_entities};
 
 use crate::names::Names;
 use crate::parts::{Group, SimPart};
 use crate::paths::{path_and, table_path};
-use mk_base::{Json, List, Mem, SimNo, Text};
+use mk_base::{Json, List, MOST_ENTITIES, Mem, SimNo, Text};
 use mk_scenario_keys::{
     ScenarioFault, Table, count_or, first_unknown, key_in, required_name, required_text,
     values_or_none,
 };
 use std::alloc::Global;
-
-// The most entities of a group.
-const MOST_ENTITIES: u32 = 10_000;
 
 // What an `entities` table says.
 #[derive(Drop)]
@@ -180,10 +178,10 @@ fn copies(id: &Text, sim: &Text, model: &Text) -> Result<(Text, Text, Text), Mem
 // How many entities the table of this path asks for.
 fn num_of(alloc: Global, path: &Text, table: &Json) -> Result<u32, ScenarioFault>
     ensures ok { IfOk result
-        (λ n. keys.optional 1 (key_in path.now (codes "num")) (keys.count_within 1 10000)
+        (λ n. keys.optional 1 (key_in path.now (codes "num")) (keys.count_within 1 most_entities)
         (member (codes "num") table.now) ≡ Ok n) }
     ensures refused { IfErr result
-        (λ e. IsFaultOf (keys.optional 1 (key_in path.now (codes "num")) (keys.count_within 1 10000)
+        (λ e. IsFaultOf (keys.optional 1 (key_in path.now (codes "num")) (keys.count_within 1 most_entities)
         (member (codes "num") table.now)) e) }
 {
     count_or(

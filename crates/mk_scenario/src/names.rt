@@ -2,8 +2,7 @@
 ghost use Rattle.std.specs.Prelude.{◌≡◌, ◌++◌, ◌∷◌, [], ℕ, List, is_some, Some, IfOk, OnOk};
 ghost use Rattle.std.specs.HashMap.{get_by_text};
 ghost use Rattle.std.specs.Map.{update};
-ghost use Rattle.mk_base.specs.Lists.{same_text};
-ghost use Rattle.mk_scenario_keys.specs.Keys.{is_among};
+ghost use Rattle.mk_base.specs.Lists.{same_text, is_among};
 ghost use Rattle.mk_scenario.specs.Places.{place_in};
 ghost use Rattle.mk_scenario.specs.inner.Places.{HasPlaces};
 

@@ -9,25 +9,19 @@ use crate::blocks::blocks_of;
 use crate::groups::groups_of;
 use crate::parts::Scenario;
 use crate::sims::sims_of;
-use mk_base::{Json, Text};
+use mk_base::{Json, MOST_CONNS, MOST_ENTITIES, MOST_ENTRIES, MOST_LOOPS, MOST_SIMS, Text};
 use mk_scenario_keys::{
     ScenarioFault, Table, count_or, first_unknown, required_tables, required_time, tables_or_none,
 };
 use std::alloc::Global;
 
-// How many simulators, groups and connections a scenario may have.
-const MOST_SIMS: usize = 200;
+// How many groups and blocks of connections a scenario may have: each is of one entity or connection at least.
+const MOST_GROUPS: usize = MOST_ENTITIES as usize;
 
-const MOST_GROUPS: usize = 10_000;
+const MOST_BLOCKS: usize = MOST_CONNS as usize;
 
-const MOST_BLOCKS: usize = 100_000;
-
-// The greatest loop limit and the most entries of a journal, and what stands for each where it isn't said.
-const MOST_LOOPS: u32 = 1000;
-
+// The loop limit and the most entries of a journal where they aren't said.
 const LOOPS: u32 = 100;
-
-const MOST_ENTRIES: u32 = 20_000_000;
 
 const ENTRIES: u32 = 2_000_000;
 
@@ -42,7 +36,7 @@ pub fn scenario_in(alloc: Global, document: &Json) -> Result<Scenario, ScenarioF
     let until = required_time(alloc, "until", document)?;
     let loops = count_at(alloc, LOOPS, MOST_LOOPS, "max_loop_iterations", document)?;
     let entries = count_at(alloc, ENTRIES, MOST_ENTRIES, "max_entries", document)?;
-    let sim_tables = required_tables(alloc, MOST_SIMS, "sim", document)?;
+    let sim_tables = required_tables(alloc, MOST_SIMS as usize, "sim", document)?;
     let group_tables = tables_or_none(alloc, MOST_GROUPS, "entities", document)?;
     let block_tables = tables_or_none(alloc, MOST_BLOCKS, "connect", document)?;
     with_parts(

@@ -7,11 +7,11 @@ use Rattle.std.proofs.lemmas.Int.{ints}
 use Rattle.mk_base.specs.declared.json.Json.{Json}
 use Rattle.mk_base.specs.declared.json.Json as tree
 use Rattle.mk_base.specs.Lists.{Each, same_text}
-use Rattle.mk_base.specs.Trees.{bool_in, is_object, is_datum, member, members_in, items_in, text_in}
+use Rattle.mk_base.specs.Trees.{bool_in, is_object, is_datum, member, members_in, items_in, text_in, members_of}
 use Rattle.mk_base.proofs.OnTrees.{trees_compute}
 use Rattle.mk_scenario_keys.specs.Spelling.{is_name, spelled, port_number, port_of, is_loopback}
 use Rattle.mk_scenario_keys.specs.Tests.{each_at, key_in, item_in, found}
-use Rattle.mk_scenario_keys.specs.Keys.{required, optional, members_of, first_unfit, within, whole, whole_within, wholes_within, count_within, width_by, some_width, text, name, some_port, items, table, tables_within, values, IsObjectOfData}
+use Rattle.mk_scenario_keys.specs.Keys.{required, optional, first_unfit, within, whole, whole_within, wholes_within, count_within, width_by, some_width, text, name, some_port, items, table, tables_within, values, IsObjectOfData}
 use Rattle.mk_scenario_keys.specs.declared.fault.ScenarioFault.TheVariants.{WrongKind, OutOfRange}
 use Rattle.mk_scenario_keys.proofs.Passing.{ok_same, passed_ok, held_ok, no_text_ok, found_ok, required_ok, optional_ok, and_then_some, map_none, chosen_some, none_found, each_gives, each_gives_where}
 use Rattle.mk_scenario_keys.proofs.Ranges.{InRange, items_range}

@@ -3,13 +3,14 @@ use Rattle.std.specs.Prelude.{ℕ, ℤ, pos, nat_abs, int_le, nat_le, Bool, not,
 use Rattle.std.specs.Fmt.{decimal, signed_decimal}
 use Rattle.std.specs.List.{find, list_any}
 use Rattle.mk_base.specs.declared.json.Json.{Json}
-use Rattle.mk_base.specs.Lists.{Each, same_text}
-use Rattle.mk_base.specs.Trees.{bool_in, whole_in, text_in, items_in, members_in, is_object, is_datum, is_in_range}
+use Rattle.mk_base.specs.Lists.{Each, same_text, is_among}
+use Rattle.mk_base.specs.Trees.{bool_in, whole_in, text_in, items_in, members_in, is_object, is_datum, is_in_range, members_of}
 use Rattle.mk_base.specs.Verdicts.{held, no_text, passed}
 use Rattle.mk_scenario_keys.specs.Spelling.{is_name, port_of}
 use Rattle.mk_scenario_keys.specs.Tests.{found, each_at, key_in, item_in}
 use Rattle.mk_scenario_keys.specs.declared.fault.ScenarioFault.{ScenarioFault}
 use Rattle.mk_scenario_keys.specs.declared.fault.ScenarioFault.TheVariants.{Missing, WrongKind, OutOfRange}
+use Rattle.mk_base.specs.Limits.{widest}
 
 -- a key that must stand there
 abbrev pub required : {A : Type 0} → List ℕ → (List ℕ → Json → Result A ScenarioFault) → Option Json
@@ -22,14 +23,6 @@ abbrev pub optional : {A : Type 0} → A → List ℕ → (List ℕ → Json →
     → Option Json → Result A ScenarioFault
 optional instead path read None = Ok instead
 optional instead path read (Some value) = read path value
-
--- a table's members, in byte order of their names
-abbrev pub members_of : Json → List (List ℕ × Json)
-members_of table = unwrap_or (members_in table) []
-
--- the text is one of these
-abbrev pub is_among : List (List ℕ) → List ℕ → Bool
-is_among texts text = list_any (λ t. same_text text t) texts
 
 -- the first key of the table that is none of these
 abbrev pub first_unknown : List (List ℕ) → Json → Option (List ℕ)
@@ -61,7 +54,7 @@ truth path value = found (WrongKind path) (bool_in value)
 -- the width that a value says: by its truth value, where it is one, else by its number
 abbrev pub width_by : Option Bool → List ℕ → Json → Result (Option ℕ) ScenarioFault
 width_by (Some shifted) path value = Ok (if shifted then Some 1 else None)
-width_by None path value = passed (count_within 1 1000000 path value) (λ width. Ok (Some width))
+width_by None path value = passed (count_within 1 widest path value) (λ width. Ok (Some width))
 
 -- a time shift's width, of a key that may be left out: false for no shift, true for 1, or a number
 -- from 1 to 1,000,000

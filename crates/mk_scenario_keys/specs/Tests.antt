@@ -1,14 +1,14 @@
 -- How tests follow one another, the first that fails naming the fault, and the paths of keys.
-use Rattle.std.specs.Prelude.{◌≡◌, ◌⊎◌, ℕ, List, ◌++◌, map, take, codes, Option, Some, None, Result, Ok, Err}
+use Rattle.std.specs.Prelude.{ℕ, List, ◌++◌, map, take, codes, Option, Some, None, Result, Ok, Err}
 use Rattle.std.specs.Fmt.{decimal}
 use Rattle.std.specs.List.{enumerate_from}
-use Rattle.mk_base.specs.Verdicts.{all_well}
+use Rattle.mk_base.specs.Verdicts.{all_well, IsFaultOrWant}
 use Rattle.mk_scenario_keys.specs.declared.fault.ScenarioFault.{ScenarioFault}
 use Rattle.mk_scenario_keys.specs.declared.fault.ScenarioFault.TheVariants.{Mem}
 
 -- the fault is the verdict's, or want of memory
 abbrev pub IsFaultOf : {A : Type 0} → Result A ScenarioFault → ScenarioFault → Type 0
-IsFaultOf verdict fault = (fault ≡ Mem) ⊎ (verdict ≡ Err fault)
+IsFaultOf = IsFaultOrWant Mem
 
 -- what was found, and the fault where nothing was
 abbrev pub found : {A : Type 0} → ScenarioFault → Option A → Result A ScenarioFault

@@ -5,12 +5,12 @@ ghost use Rattle.mk_base.specs.declared.json.Json as tree;
 ghost use Rattle.mk_base.specs.Trees.{member};
 ghost use Rattle.mk_scenario_keys.specs.Keys as keys;
 ghost use Rattle.mk_scenario_keys.specs.Tests.{IsFaultOf, key_in};
+ghost use Rattle.mk_base.specs.Limits.{latest_end};
 
 use crate::fault::ScenarioFault;
 use crate::paths::key_in;
 use crate::values;
-use crate::values::LATEST;
-use mk_base::{Json, List, Members, Text};
+use mk_base::{Json, LATEST_END, List, Members, Text};
 use std::alloc::Global;
 
 /// The text under a key that must stand in the table of this path. Errors: `Missing` without it, `WrongKind` of another
@@ -199,10 +199,10 @@ pub fn times_or_none(
 ) -> Result<List<i64>, ScenarioFault>
     ensures ok { IfOk result
         (λ ns. keys.optional [] (key_in path.now key.now)
-        (keys.wholes_within (pos 0) (pos 1000000000)) (member key.now table.now) ≡ Ok ns) }
+        (keys.wholes_within (pos 0) latest_end) (member key.now table.now) ≡ Ok ns) }
     ensures refused { IfErr result
         (λ e. IsFaultOf (keys.optional [] (key_in path.now key.now)
-        (keys.wholes_within (pos 0) (pos 1000000000)) (member key.now table.now)) e) }
+        (keys.wholes_within (pos 0) latest_end) (member key.now table.now)) e) }
 {
     match table.member(key) {
         Some(value) => values::times(alloc, &key_in(alloc, path, key)?, value),
@@ -214,15 +214,15 @@ pub fn times_or_none(
 /// `WrongKind` of another value, `OutOfRange` of another number; `Mem`.
 pub fn required_time(alloc: Global, key: &str, document: &Json) -> Result<i64, ScenarioFault>
     ensures ok { IfOk result
-        (λ n. keys.required key.now (keys.whole_within (pos 1) (pos 1000000000))
+        (λ n. keys.required key.now (keys.whole_within (pos 1) latest_end)
         (member key.now document.now) ≡ Ok n) }
     ensures refused { IfErr result
-        (λ e. IsFaultOf (keys.required key.now (keys.whole_within (pos 1) (pos 1000000000))
+        (λ e. IsFaultOf (keys.required key.now (keys.whole_within (pos 1) latest_end)
         (member key.now document.now)) e) }
 {
     let path = Text::of(alloc, key)?;
     match document.member(key) {
-        Some(value) => values::whole_within(alloc, 1, LATEST, &path, value),
+        Some(value) => values::whole_within(alloc, 1, LATEST_END, &path, value),
         None => Err(ScenarioFault::Missing(path)),
     }
 }

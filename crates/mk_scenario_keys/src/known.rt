@@ -2,8 +2,9 @@
 ghost use Rattle.std.specs.Prelude.{◌≡◌, ℕ, List, map, not, option_map};
 ghost use Rattle.std.specs.List.{find};
 ghost use Rattle.mk_base.specs.declared.json.Json.{Json};
-ghost use Rattle.mk_scenario_keys.specs.Keys.{is_among, first_unknown};
+ghost use Rattle.mk_scenario_keys.specs.Keys.{first_unknown};
 ghost use Rattle.mk_scenario_keys.specs.Known.{keys_of};
+ghost use Rattle.mk_base.specs.Lists.{is_among};
 
 use mk_base::{Json, Members, Text};
 
@@ -99,7 +100,7 @@ fn is_among(keys: &[&str], name: &str) -> bool
     ensures { result ≡ is_among (map (λ key. key.now) keys.now) name.now }
 {
     for key in keys {
-        if name == *key {
+        if *key == name {
             return true;
         }
     }

@@ -5,18 +5,13 @@ ghost use Rattle.mk_base.specs.declared.json.Json.{Json};
 ghost use Rattle.mk_base.specs.Trees.{is_datum};
 ghost use Rattle.mk_scenario_keys.specs.Keys as keys;
 ghost use Rattle.mk_scenario_keys.specs.Tests.{IsFaultOf, each_at, item_in};
+ghost use Rattle.mk_base.specs.Limits.{latest_end};
 
 use crate::fault::ScenarioFault;
 use crate::paths::{count, digits, item_in, key_in};
 use crate::spelling::{is_name, port_of};
-use mk_base::{Json, List, Members, Text};
+use mk_base::{Json, LATEST_END, List, Members, Text, WIDEST};
 use std::alloc::Global;
-
-// The latest time that a scenario may name.
-pub const LATEST: i64 = 1_000_000_000;
-
-// The greatest width of a time shift.
-const WIDEST: u32 = 1_000_000;
 
 // The number, where it is in this range.
 pub fn within(
@@ -186,10 +181,10 @@ fn first_unfit_of(members: &Members<Json>) -> Option<&Text>
 
 // The times in the list that the value is, each from 0 to the latest.
 pub fn times(alloc: Global, path: &Text, value: &Json) -> Result<List<i64>, ScenarioFault>
-    ensures ok { IfOk result (λ ns. keys.wholes_within (pos 0) (pos 1000000000) path.now value.now
+    ensures ok { IfOk result (λ ns. keys.wholes_within (pos 0) latest_end path.now value.now
         ≡ Ok ns) }
     ensures refused { IfErr result
-        (λ e. IsFaultOf (keys.wholes_within (pos 0) (pos 1000000000) path.now value.now) e) }
+        (λ e. IsFaultOf (keys.wholes_within (pos 0) latest_end path.now value.now) e) }
 {
     let items = items(path, value)?;
     let numbers = wholes(alloc, path, items)?;
@@ -215,10 +210,10 @@ fn wholes(alloc: Global, path: &Text, items: &List<Json>) -> Result<List<i128>, 
 fn all_times(alloc: Global, path: &Text, numbers: &List<i128>) -> Result<List<i64>, ScenarioFault>
     ensures ok { IfOk result
         (λ ns. each_at (λ i n.
-        keys.within (pos 0) (pos 1000000000) (item_in path.now i) n) numbers.now ≡ Ok ns) }
+        keys.within (pos 0) latest_end (item_in path.now i) n) numbers.now ≡ Ok ns) }
     ensures refused { IfErr result
         (λ e. IsFaultOf (each_at
-        (λ i n. keys.within (pos 0) (pos 1000000000) (item_in path.now i) n) numbers.now) e) }
+        (λ i n. keys.within (pos 0) latest_end (item_in path.now i) n) numbers.now) e) }
 {
     let mut found = List::new(alloc);
     for (i, n) in numbers.as_slice().iter().enumerate() {
@@ -229,12 +224,12 @@ fn all_times(alloc: Global, path: &Text, numbers: &List<i128>) -> Result<List<i6
 
 // The time that the number at a place of the list is.
 fn time_at(alloc: Global, path: &Text, i: usize, n: &i128) -> Result<i64, ScenarioFault>
-    ensures ok { IfOk result (λ x. keys.within (pos 0) (pos 1000000000) (item_in path.now i) n.now
+    ensures ok { IfOk result (λ x. keys.within (pos 0) latest_end (item_in path.now i) n.now
         ≡ Ok x) }
     ensures refused { IfErr result
-        (λ e. IsFaultOf (keys.within (pos 0) (pos 1000000000) (item_in path.now i) n.now) e) }
+        (λ e. IsFaultOf (keys.within (pos 0) latest_end (item_in path.now i) n.now) e) }
 {
-    within(alloc, 0, LATEST, &item_in(alloc, path, i)?, *n)
+    within(alloc, 0, LATEST_END, &item_in(alloc, path, i)?, *n)
 }
 
 // The list of tables that the value is, of so many.

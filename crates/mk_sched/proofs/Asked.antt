@@ -37,6 +37,7 @@ use Rattle.mk_sched.specs.Cores.{CoreState}
 use Rattle.mk_sched.specs.inner.Holding.{HasGivenUp}
 use Rattle.mk_sched.specs.inner.Derived.{IsCurrent, IsDerived, HasAdvanced, core_of, end_after_next}
 use Rattle.mk_sched.proofs.Standing.{derived_push, ended_derived, ended_given_up, failed_core}
+use Rattle.mk_base.specs.Limits.{latest_end}
 
 module _ (P : Plan) (J : List Entry) (K : Derived) (derived : IsDerived P J K None) where
   pub its : IsCurrent P (view P J) (length J) K
@@ -52,7 +53,7 @@ module _ (P : Plan) (J : List Entry) (K : Derived) (derived : IsDerived P J K No
   pub in_run : (s : ℕ) (x : Tier) → IsReady P (view P J) s x → IsInRun x
   in_run s x ready =
       let w = pending_within IsReady IsAdvance P (λ V s x r. r) derived.valid J derived.orderly.0 s x ready.at_pending in
-      let u : P.until ≤ℤ pos 1000000000 = derived.valid.well_formed.limits.until.1 in
+      let u : P.until ≤ℤ latest_end = derived.valid.well_formed.limits.until.1 in
       let l : P.loops ≤ 1000 = derived.valid.well_formed.limits.loops.1 in
       let t = and_both (int_lt x.time P.until) (nat_le x.tier P.loops) w.1 in
       let e : int_lt x.time P.until ≡ true = t.0 in

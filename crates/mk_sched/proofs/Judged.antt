@@ -7,7 +7,7 @@ use Rattle.mk_base.specs.declared.SimNo.{SimNo}
 use Rattle.mk_base.specs.declared.tier.Tier.{Tier}
 use Rattle.mk_base.specs.declared.json.Json.{Json}
 use Rattle.mk_base.specs.Lists.{IsIn}
-use Rattle.mk_base.specs.Tiers.{moment}
+use Rattle.mk_base.specs.Tiers.{moment, latest_time}
 use Rattle.mk_base.specs.Trees.{whole_in, is_in_range, is_object, is_whole, nesting, value_depth}
 use Rattle.mk_base.proofs.Lists.{none_some, passes_some}
 use Rattle.mk_plan.specs.declared.Plan.{Plan}
@@ -21,7 +21,7 @@ use Rattle.mk_plan.specs.declared.Cause.TheVariants.{Wrong, Failed}
 use Rattle.mk_plan.specs.declared.Entry.TheVariants.{Got}
 use Rattle.mk_plan.specs.Plans.{has_outputs, owner, kind_of}
 use Rattle.mk_plan.specs.Acts.{content_of}
-use Rattle.mk_plan.specs.Turns.{unasked, first_cause, is_number, time_in, holds_of, part_for, value_for, wrong, wrong_data, next_place, wanted}
+use Rattle.mk_plan.specs.Turns.{unasked, first_cause, is_number, time_in, holds_of, part_for, value_for, wrong, wrong_data, next_place, wanted, is_output_time}
 use Rattle.mk_plan.specs.Journals.{View, OpenTurn, place_at, note, note_got, note_right, fault_of}
 use Rattle.mk_plan_judge.specs.Places.{open_id}
 use Rattle.mk_plan_judge.proofs.Right.{right_data_reply, right_step_reply, right_next_fits, right_output_time_fits}
@@ -30,6 +30,7 @@ use Rattle.mk_sched_agenda.specs.Endings.{CanBeMade}
 use Rattle.mk_sched_open.specs.Turns.{IsRight, IsInRun, IsPlaceInRun, next_in}
 use Rattle.mk_sched.specs.Cores.{is_message_in_range}
 use Rattle.mk_sched.specs.inner.Derived.{IsJudged, EndsFetch, made_at}
+use Rattle.mk_base.specs.Limits.{latest_end}
 
 module _ (P : Plan) (V : View) (s : SimNo) (m : Message) where
   pub judge : (place : Place) → place ≡ place_at (V.open_at s.0) → IsPlaceInRun place → wrong P s.0 place m ≡ None → (q : Option Place) → next_place P s.0 place m ≡ q → IsJudged P V s.0 m place q
@@ -125,7 +126,7 @@ id_low (Fetching at id) run = omega (arith, run.1)
 -- ---- next times
 
 pub fits_run : (x : Tier) → IsInRun x → FitsSigned w64 x.time
-fits_run x run = let a : pos 0 ≤ℤ x.time = run.early in let b : x.time ≤ℤ pos 1000000000 = run.late in grind (arith, ints)
+fits_run x run = let a : pos 0 ≤ℤ x.time = run.early in let b : x.time ≤ℤ latest_end = run.late in grind (arith, ints)
 
 pub next_fits : (P : Plan) (i : ℕ) (x : Tier) (id asks : ℕ) (m : Message) → IsInRun x → wrong P i (Stepping x id asks) m ≡ None → ForSome (next_in m) (λ n. FitsSigned w64 n)
 next_fits P i x id asks (Ask n name args named) run right = λ k e. absurd (none_some e)
@@ -159,9 +160,9 @@ second_false : (a b : Bool) → (a || b) ≡ false → b ≡ false
 second_false true b e = absurd (true≢false e)
 second_false false b e = e
 
-latest_output : (wants : List Want) (x : Tier) (content : Json) (n : ℤ) → wrong_data wants x content ≡ None → option_and_then whole_in (time_in content) ≡ Some n → n ≤ℤ pos 1000000000000000000
-latest_output wants x content n right is = at (time_in content) (second_false (not (is_object content)) (holds_of (λ t. not (is_number (λ (m : ℤ). int_le (negsuc 9223372036854775807) m && int_le m (pos 1000000000000000000)) t)) (time_in content))
-    (first_of_five (not (is_object content) || holds_of (λ t. not (is_number (λ (m : ℤ). int_le (negsuc 9223372036854775807) m && int_le m (pos 1000000000000000000)) t)) (time_in content)) (holds_of (is_number (λ n. int_lt n x.time)) (time_in content))
+latest_output : (wants : List Want) (x : Tier) (content : Json) (n : ℤ) → wrong_data wants x content ≡ None → option_and_then whole_in (time_in content) ≡ Some n → n ≤ℤ latest_time
+latest_output wants x content n right is = at (time_in content) (second_false (not (is_object content)) (holds_of (λ t. not (is_number is_output_time t)) (time_in content))
+    (first_of_five (not (is_object content) || holds_of (λ t. not (is_number is_output_time t)) (time_in content)) (holds_of (is_number (λ n. int_lt n x.time)) (time_in content))
     (list_any (λ w. holds_of (λ t. not (is_object t)) (part_for content w)) wants) (list_any (λ w. holds_of (λ t. not (is_whole t)) (value_for content w)) wants) (list_any (λ w. holds_of (λ t. not (nat_le (nesting t) value_depth)) (value_for content w)) wants) 5 6 5 7 5 right)) is
   where
     second : (a b : Bool) → not (a && b) ≡ false → b ≡ true
@@ -169,17 +170,17 @@ latest_output wants x content n right is = at (time_in content) (second_false (n
     second true false e = absurd (true≢false e)
     second false b e = absurd (true≢false e)
 
-    late : (t : Json) → not (unwrap_or (option_map (λ (m : ℤ). int_le (negsuc 9223372036854775807) m && int_le m (pos 1000000000000000000)) (whole_in t)) false) ≡ false → whole_in t ≡ Some n → n ≤ℤ pos 1000000000000000000
+    late : (t : Json) → not (unwrap_or (option_map is_output_time (whole_in t)) false) ≡ false → whole_in t ≡ Some n → n ≤ℤ latest_time
     late t h e =
-        let w : int_le n (pos 1000000000000000000) ≡ true = second (int_le (negsuc 9223372036854775807) n) (int_le n (pos 1000000000000000000)) (sym (ap (λ (o : Option ℤ). not (unwrap_or (option_map (λ (m : ℤ). int_le (negsuc 9223372036854775807) m && int_le m (pos 1000000000000000000)) o) false)) e) ∙ h) in
+        let w : int_le n latest_time ≡ true = second (int_le (negsuc 9223372036854775807) n) (int_le n latest_time) (sym (ap (λ (o : Option ℤ). not (unwrap_or (option_map is_output_time o) false)) e) ∙ h) in
         grind (arith, ints)
 
-    at : (t : Option Json) → holds_of (λ t. not (is_number (λ (m : ℤ). int_le (negsuc 9223372036854775807) m && int_le m (pos 1000000000000000000)) t)) t ≡ false → option_and_then whole_in t ≡ Some n → n ≤ℤ pos 1000000000000000000
+    at : (t : Option Json) → holds_of (λ t. not (is_number is_output_time t)) t ≡ false → option_and_then whole_in t ≡ Some n → n ≤ℤ latest_time
     at None h e = absurd (none_some e)
     at (Some t) h e = late t h e
 
 pub run_made : (x : Tier) → IsInRun x → CanBeMade x
-run_made x run = record { early = run.early; late = let l : x.time ≤ℤ pos 1000000000 = run.late in grind (arith, ints); low = let l : x.tier ≤ 1000 = run.low in omega arith }
+run_made x run = record { early = run.early; late = let l : x.time ≤ℤ latest_end = run.late in grind (arith, ints); low = let l : x.tier ≤ 1000 = run.low in omega arith }
 
 -- the outputs of a right reply can be made
 pub makeable : (wants : List Want) (x : Tier) (content : Json) → IsInRun x → wrong_data wants x content ≡ None → CanBeMade (made_at x content)

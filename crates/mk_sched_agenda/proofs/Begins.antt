@@ -31,6 +31,7 @@ use Rattle.mk_sched_agenda.proofs.Queued.{added_is, least_is_least}
 use Rattle.mk_sched_agenda.proofs.Tabled.{own_here, own_else, busy_here, busy_else}
 use Rattle.mk_sched_agenda.proofs.Tidying.{same_or, AreOwn, with_own_rises, with_own_own}
 use Rattle.mk_sched_agenda.proofs.Rows.{take_get}
+use Rattle.mk_base.specs.Limits.{latest_end}
 
 -- ---- lists
 
@@ -54,14 +55,14 @@ module _ (L : Limits) where
   fold_rises [] q rises = rises
   fold_rises (x ∷ xs) q rises = fold_rises xs (with_own L q x) (with_own_rises L q x rises)
 
-  fold_own : L.until ≤ℤ pos 1000000000 → L.loops ≤ 1000 → (xs : List Tier) → ((x : Tier) → IsIn x xs → pos 0 ≤ℤ x.time) → (q : List Due) → AreOwn q → AreOwn (fold (with_own L) q xs)
+  fold_own : L.until ≤ℤ latest_end → L.loops ≤ 1000 → (xs : List Tier) → ((x : Tier) → IsIn x xs → pos 0 ≤ℤ x.time) → (q : List Due) → AreOwn q → AreOwn (fold (with_own L) q xs)
   fold_own until loops [] early q all = all
   fold_own until loops (x ∷ xs) early q all = fold_own until loops xs (λ y m. early y (inr m)) (with_own L q x) (with_own_own L q x until loops (early x (inl refl)) all)
 
   pub first_rises : (sim : PlanSim) → IsRising time_of (first_queue L sim)
   first_rises sim = fold_rises (first_times sim) [] tt
 
-  pub first_own : L.until ≤ℤ pos 1000000000 → L.loops ≤ 1000 → (sim : PlanSim) → All (λ (e : ℤ). pos 0 ≤ℤ e) sim.initial → AreOwn (first_queue L sim)
+  pub first_own : L.until ≤ℤ latest_end → L.loops ≤ 1000 → (sim : PlanSim) → All (λ (e : ℤ). pos 0 ≤ℤ e) sim.initial → AreOwn (first_queue L sim)
   first_own until loops sim events = fold_own until loops (first_times sim) early [] (λ d m. absurd m)
     where
       zero_early : (b : Bool) (x : Tier) → IsIn x (if b then [] else moment (pos 0) ∷ []) → pos 0 ≤ℤ x.time
@@ -205,7 +206,7 @@ module _ (P : Plan) (valid : IsValidPlan P) (Q : List (List Due)) (O : List Bool
   }
     where
       early : (i : ℕ) (sim : PlanSim) → slice_get P.sims i ≡ Some sim → All (λ (e : ℤ). pos 0 ≤ℤ e) sim.initial
-      early i sim at = λ j d under. (all_at (λ (s : PlanSim). All (λ (e : ℤ). (pos 0 ≤ℤ e) × (e ≤ℤ pos 1000000000)) s.initial) P.sims i sim valid.well_formed.limits.events at j d under).0
+      early i sim at = λ j d under. (all_at (λ (s : PlanSim). All (λ (e : ℤ). (pos 0 ≤ℤ e) × (e ≤ℤ latest_end)) s.initial) P.sims i sim valid.well_formed.limits.events at j d under).0
 
   pub begun_pends : (i : ℕ) → i < sim_count P → Pends P time_of flag_of empty_view i (queue_in Q i)
   begun_pends i low = let t = below_get P.sims i low in subst (Pends P time_of flag_of empty_view i) (sym (queue_of i t.0 t.1)) (first_pends P i t.0 t.1)

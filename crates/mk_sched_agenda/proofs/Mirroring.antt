@@ -44,6 +44,7 @@ use Rattle.mk_sched_agenda.proofs.Queued.{least_is_least, later_is_after, least_
 use Rattle.mk_sched_agenda.proofs.Tabled.{first_is, nobody_is, outer_is, own_here, own_else, busy_here, busy_else}
 use Rattle.mk_sched_agenda.proofs.Tidying.{same_or, queue_here, queue_else}
 use Rattle.mk_sched_agenda.proofs.Begins.{take_whole, begun_count, begun_pends, begun_starts}
+use Rattle.mk_base.specs.Limits.{latest_end}
 
 -- ---- the beginning
 
@@ -66,7 +67,7 @@ module _ (P : Plan) (valid : IsValidPlan P) (R : List (List Outlet)) (Q : List (
 
   pub new_sound : IsSound L R Q
   new_sound = record {
-    until = subst (λ (M : Limits). M.until ≤ℤ pos 1000000000) (sym of) valid.well_formed.limits.until.1;
+    until = subst (λ (M : Limits). M.until ≤ℤ latest_end) (sym of) valid.well_formed.limits.until.1;
     loops = subst (λ (M : Limits). M.loops ≤ 1000) (sym of) valid.well_formed.limits.loops.1;
     count = rows.count ∙ sym (begun_count P valid Q O B h);
     outlets = λ i o m. elim (cases_lt i (sim_count P)) [

@@ -19,6 +19,7 @@ use Rattle.mk_sched_agenda.specs.Dues.{queue_in}
 use Rattle.mk_sched_agenda.specs.inner.Dues.{IsTidy, is_open, is_inside, with_own, with_next, with_start, is_first, with_trigger}
 use Rattle.mk_sched_agenda.proofs.Queued.{added_is}
 use Rattle.mk_sched_agenda.proofs.Tabled.{own_here, own_else, busy_here, busy_else, flag_here, flag_else}
+use Rattle.mk_base.specs.Limits.{latest_end}
 
 pub same_or : (j i : ℕ) → (j ≡ i) ⊎ (j ≡ i → ⊥)
 same_or j i = elim (j == i) as (λ b. (j == i) ≡ b → (j ≡ i) ⊎ (j ≡ i → ⊥)) [ true ↦ λ e. inl (eqb-true j i e) | false ↦ λ e. inr (λ q. true≢false (sym (eq-eqb j i q) ∙ e)) ] refl
@@ -71,13 +72,13 @@ pub own_least : (q : List Due) → AreOwn q → IsOwn (least q)
 own_least [] all = tt
 own_least (d ∷ q) all = all d (inl refl)
 
-pub inside_own : (L : Limits) (x : Tier) → L.until ≤ℤ pos 1000000000 → L.loops ≤ 1000 → pos 0 ≤ℤ x.time → is_inside L x ≡ true → IsOwn (Some x)
+pub inside_own : (L : Limits) (x : Tier) → L.until ≤ℤ latest_end → L.loops ≤ 1000 → pos 0 ≤ℤ x.time → is_inside L x ≡ true → IsOwn (Some x)
 inside_own L x until loops early h = (early, grind (arith, ints), grind (arith, ints))
 
 pub with_own_rises : (L : Limits) (q : List Due) (x : Tier) → IsRising time_of q → IsRising time_of (with_own L q x)
 with_own_rises L q x rising = elim (is_inside L x) as (λ b. IsRising time_of (if b then added false x q else q)) [ true ↦ added_rises false x q rising | false ↦ rising ]
 
-pub with_own_own : (L : Limits) (q : List Due) (x : Tier) → L.until ≤ℤ pos 1000000000 → L.loops ≤ 1000 → pos 0 ≤ℤ x.time → AreOwn q → AreOwn (with_own L q x)
+pub with_own_own : (L : Limits) (q : List Due) (x : Tier) → L.until ≤ℤ latest_end → L.loops ≤ 1000 → pos 0 ≤ℤ x.time → AreOwn q → AreOwn (with_own L q x)
 with_own_own L q x until loops early all = elim (is_inside L x) as (λ b. is_inside L x ≡ b → AreOwn (if b then added false x q else q)) [
   | true ↦ λ e. own_added false x q all (inside_own L x until loops early e)
   | false ↦ λ e. all
@@ -87,7 +88,7 @@ pub with_next_rises : (L : Limits) (q : List Due) (n : Option ℤ) → IsRising 
 with_next_rises L q None rising = rising
 with_next_rises L q (Some n) rising = with_own_rises L q (moment n) rising
 
-pub with_next_own : (L : Limits) (q : List Due) (n : Option ℤ) → L.until ≤ℤ pos 1000000000 → L.loops ≤ 1000 → ForSome n (λ n. pos 0 ≤ℤ n) → AreOwn q → AreOwn (with_next L q n)
+pub with_next_own : (L : Limits) (q : List Due) (n : Option ℤ) → L.until ≤ℤ latest_end → L.loops ≤ 1000 → ForSome n (λ n. pos 0 ≤ℤ n) → AreOwn q → AreOwn (with_next L q n)
 with_next_own L q None until loops early all = all
 with_next_own L q (Some n) until loops early all = with_own_own L q (moment n) until loops (early n refl) all
 
@@ -181,7 +182,7 @@ module _ (Q : List (List Due)) (O : List Bool) (B : Seen) (tidy : IsTidy Q O B) 
   pub begun_tidy : IsTidy (slice_set Q i (later (queue_in Q i))) (slice_set O i true) (with_start B i (least (queue_in Q i)) true)
   begun_tidy = tidy_set (later (queue_in Q i)) true (least (queue_in Q i)) (later_rises (queue_in Q i) (tidy.rising i)) (own_later (queue_in Q i) (tidy.within i)) (λ h. absurd (true≢false h))
 
-  pub closed_tidy : (L : Limits) (n : Option ℤ) → L.until ≤ℤ pos 1000000000 → L.loops ≤ 1000 → ForSome n (λ n. pos 0 ≤ℤ n)
+  pub closed_tidy : (L : Limits) (n : Option ℤ) → L.until ≤ℤ latest_end → L.loops ≤ 1000 → ForSome n (λ n. pos 0 ≤ℤ n)
       → IsTidy (slice_set Q i (with_next L (queue_in Q i) n)) (slice_set O i false) (with_start B i (least (with_next L (queue_in Q i) n)) false)
   closed_tidy L n until loops early = tidy_set (with_next L (queue_in Q i) n) false (least (with_next L (queue_in Q i) n))
       (with_next_rises L (queue_in Q i) n (tidy.rising i)) (with_next_own L (queue_in Q i) n until loops early (tidy.within i)) (λ _. refl)

@@ -17,6 +17,7 @@ use Rattle.mk_plan.specs.Orderly.{IsAllowed, IsOrderlySoFar}
 use Rattle.mk_sched_agenda.specs.declared.outlets.Beyond.{Beyond}
 use Rattle.mk_plan.specs.Deliveries.{triggering_from}
 use Rattle.mk_sched_agenda.specs.Mirrors.{AgendaState, Mirrors}
+use Rattle.mk_base.specs.Limits.{greatest_tier}
 
 -- of each of the act's triggering connections, whether the act gives it an output
 abbrev pub given_by : Plan → ℕ → Act → List Bool
@@ -41,7 +42,7 @@ pub record IsLast (P : Plan) (J : List Entry) (s : SimNo) (T : OpenTurn) (m : Me
 pub record CanBeMade (x : Tier) : Type 0 where
   pub early : pos 0 ≤ℤ x.time
   pub late : x.time ≤ℤ latest_time
-  pub low : x.tier ≤ 1000000
+  pub low : x.tier ≤ greatest_tier
 
 -- the fault of a trigger beyond the loop limit
 abbrev pub fault_of : Beyond → Fault

@@ -8,6 +8,7 @@ ghost use Rattle.mk_tiers.specs.Seen.{AreOfPlan};
 ghost use Rattle.mk_sched_agenda.specs.Dues.{limits_of};
 ghost use Rattle.mk_sched_agenda.specs.inner.Dues.{first_queue, with_own, with_start};
 ghost use Rattle.mk_sched_agenda.specs.inner.Begun.{AreBegun, AreNone};
+ghost use Rattle.mk_base.specs.Limits.{latest_end, most_loops};
 
 use crate::dues::{Dues, add_own};
 use crate::limits::Limits;
@@ -48,8 +49,8 @@ fn begin(
     sim: &PlanSim,
 ) -> Result<(), Mem>
     requires number { number.0 < length dues.old.bounds.owns }
-    requires until { limits.now.until ≤ℤ pos 1000000000 }
-    requires loops { limits.now.loops ≤ 1000 }
+    requires until { limits.now.until ≤ℤ latest_end }
+    requires loops { limits.now.loops ≤ most_loops }
     requires events { All (λ (e : ℤ). pos 0 ≤ℤ e) sim.now.initial }
     ensures queues { OnOk result (dues.new.queues.items ≡ dues.old.queues.items
         ++ first_queue limits.now sim.now ∷ []) }

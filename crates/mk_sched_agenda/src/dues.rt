@@ -9,6 +9,7 @@ ghost use Rattle.mk_tiers.specs.Seen.{AreOfPlan};
 ghost use Rattle.mk_tiers.specs.Standing.{IsOwn};
 ghost use Rattle.mk_sched_agenda.specs.Dues.{queue_in, last_in};
 ghost use Rattle.mk_sched_agenda.specs.inner.Dues.{IsTidy, is_open, with_own, with_next, with_start, is_first, with_trigger};
+ghost use Rattle.mk_base.specs.Limits.{latest_end, most_loops};
 
 use crate::limits::{Limits, is_inside};
 use crate::turns::OpenTurns;
@@ -85,8 +86,8 @@ impl Dues {
     ) -> Result<(), Mem>
         requires sim { sim.0 < length self.old.queues.items }
         requires tidy { IsTidy self.old.queues.items self.old.opened self.old.bounds }
-        requires until { limits.now.until ≤ℤ pos 1000000000 }
-        requires loops { limits.now.loops ≤ 1000 }
+        requires until { limits.now.until ≤ℤ latest_end }
+        requires loops { limits.now.loops ≤ most_loops }
         requires next { ForSome next (λ n. pos 0 ≤ℤ n) }
         ensures tidy { IsTidy self.new.queues.items self.new.opened self.new.bounds }
         ensures count { length self.new.queues.items ≡ length self.old.queues.items }

@@ -14,6 +14,7 @@ ghost use Rattle.mk_plan.specs.Deliveries.{triggering_from};
 ghost use Rattle.mk_sched_agenda.specs.inner.Coming.{HasCome, IsEnding, beyond_over, first_beyond};
 ghost use Rattle.mk_order.proofs.Limits.{IsInLimit};
 ghost use Rattle.mk_tiers.specs.Noted.{HasNoted};
+ghost use Rattle.mk_base.specs.Limits.{latest_end, most_loops};
 
 use crate::dues::Dues;
 use crate::limits::{Limits, is_inside};
@@ -28,7 +29,7 @@ pub fn first_beyond(
     given: &[bool],
     made_at: Tier,
 ) -> Option<Beyond>
-    requires loops { limits.now.loops ≤ 1000 }
+    requires loops { limits.now.loops ≤ most_loops }
     requires count { length given.now ≡ length outlets.now }
     requires widths { All (λ o. HasWidth o.via) outlets.now }
     requires made { CanBeMade made_at }
@@ -44,7 +45,7 @@ pub fn first_beyond(
 
 // What the output triggers beyond the loop limit, if it is given.
 fn beyond_over(limits: &Limits, outlet: &Outlet, given: bool, made_at: Tier) -> Option<Beyond>
-    requires loops { limits.now.loops ≤ 1000 }
+    requires loops { limits.now.loops ≤ most_loops }
     requires width { HasWidth outlet.now.via }
     requires made { CanBeMade made_at }
     ensures { result ≡ beyond_over limits.now made_at outlet.now given }
@@ -70,8 +71,8 @@ pub fn bring_all(
     noted: &mut Bits,
 ) -> Result<(), Mem>
     requires tidy { IsTidy dues.old.queues.items dues.old.opened dues.old.bounds }
-    requires until { limits.now.until ≤ℤ pos 1000000000 }
-    requires loops { limits.now.loops ≤ 1000 }
+    requires until { limits.now.until ≤ℤ latest_end }
+    requires loops { limits.now.loops ≤ most_loops }
     requires count { length given.now ≡ length outlets.now }
     requires outlets { All (λ o. (o.to.0 < length dues.old.queues.items)
         × HasWidth o.via) outlets.now }
@@ -102,8 +103,8 @@ fn bring(
     noted: &mut Bits,
 ) -> Result<(), Mem>
     requires tidy { IsTidy dues.old.queues.items dues.old.opened dues.old.bounds }
-    requires until { limits.now.until ≤ℤ pos 1000000000 }
-    requires loops { limits.now.loops ≤ 1000 }
+    requires until { limits.now.until ≤ℤ latest_end }
+    requires loops { limits.now.loops ≤ most_loops }
     requires to { outlet.now.to.0 < length dues.old.queues.items }
     requires width { HasWidth outlet.now.via }
     requires made { CanBeMade made_at }

@@ -22,6 +22,7 @@ use Rattle.mk_plan.specs.Advance.{IsAdvance}
 use Rattle.mk_order.proofs.Past.{pending_within}
 use Rattle.mk_order.proofs.Reasons.{and_both}
 use Rattle.mk_sched_open.specs.Turns.{IsRight, IsInRun}
+use Rattle.mk_base.specs.Limits.{latest_end}
 
 -- a message that is right at the place of what is open is right in an open turn
 pub right_turn : (P : Plan) (V : View) (s : ℕ) (m : Message) (place : Place) (q : Option Place) → place ≡ place_at (V.open_at s) → wrong P s place m ≡ None → next_place P s place m ≡ q → (T : OpenTurn) × IsRight P V s m T q
@@ -56,7 +57,7 @@ failed_place V s count is = ap (FailedSim s) (sym is)
 pub in_run : (P : Plan) → IsValidPlan P → (J : List Entry) → IsOrderlySoFar IsReady IsAdvance P J → (s : ℕ) (x : Tier) → IsReady P (view P J) s x → IsInRun x
 in_run P valid J orderly s x ready =
     let w = pending_within IsReady IsAdvance P (λ V s x r. r) valid J orderly s x ready.at_pending in
-    let u : P.until ≤ℤ pos 1000000000 = valid.well_formed.limits.until.1 in
+    let u : P.until ≤ℤ latest_end = valid.well_formed.limits.until.1 in
     let l : P.loops ≤ 1000 = valid.well_formed.limits.loops.1 in
     let t = and_both (int_lt x.time P.until) (nat_le x.tier P.loops) w.1 in
     let e : int_lt x.time P.until ≡ true = t.0 in

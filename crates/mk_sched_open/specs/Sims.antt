@@ -8,12 +8,13 @@ use Rattle.mk_plan.specs.Sequential.{ids_used, messages_in}
 use Rattle.mk_plan.specs.Journals.{View, OpenTurn, messages_of}
 use Rattle.mk_sched_open.specs.declared.sims.Sim.{Sim}
 use Rattle.mk_sched_open.specs.Turns.{IsOpenBy}
+use Rattle.mk_base.specs.Limits.{most_requests}
 
 -- nothing is open, and the next id is the first that is free, in a journal of n entries
 pub record IsClosed (free n : ℕ) (s : Sim) : Type 0 where
   pub place : s.place ≡ Idle
   pub id : s.next_id ≡ free
-  pub few : s.next_id ≤ 1000000 + n
+  pub few : s.next_id ≤ most_requests + n
 
 -- this turn is open
 pub record IsOpened (free n : ℕ) (s : Sim) (T : OpenTurn) : Type 0 where

@@ -11,6 +11,7 @@ use Rattle.mk_plan.specs.Turns.{wrong, next_place}
 use Rattle.mk_plan.specs.Acts.{content_of}
 use Rattle.mk_plan.specs.Sequential.{ids_used}
 use Rattle.mk_plan.specs.Journals.{View, OpenTurn}
+use Rattle.mk_base.specs.Limits.{latest_end, most_loops, most_requests}
 
 -- the message is right in the open turn T of s, and this place follows, or none where the turn has
 -- ended
@@ -27,8 +28,8 @@ next_in m = option_and_then whole_in (content_of m)
 -- a tiered time within the limits of all plans
 pub record IsInRun (x : Tier) : Type 0 where
   pub early : pos 0 ≤ℤ x.time
-  pub late : x.time ≤ℤ pos 1000000000
-  pub low : x.tier ≤ 1000
+  pub late : x.time ≤ℤ latest_end
+  pub low : x.tier ≤ most_loops
 
 -- the time and the id of what is open are within their limits
 abbrev pub IsPlaceInRun : Place → Type 0
@@ -47,7 +48,7 @@ pub record IsStepping (free n : ℕ) (at : Tier) (id : ℕ) (T : OpenTurn) : Typ
   pub contents : filter_map content_of T.messages ≡ []
   pub ids : ids_in T ≡ 1
   pub number : id ≡ free
-  pub few : id + 1 ≤ 1000000 + n
+  pub few : id + 1 ≤ most_requests + n
 
 -- a GetData is open, after a Step that returned this next time
 pub record IsFetching (free n : ℕ) (at : Tier) (id : ℕ) (next : Option ℤ)
@@ -59,7 +60,7 @@ pub record IsFetching (free n : ℕ) (at : Tier) (id : ℕ) (next : Option ℤ)
   pub asked : whole_in content ≡ next
   pub ids : ids_in T ≡ 2
   pub number : id ≡ free + 1
-  pub few : id + 1 ≤ 1000000 + n
+  pub few : id + 1 ≤ most_requests + n
 
 -- what is open, by its place
 abbrev pub IsOpenBy : ℕ → ℕ → Option ℤ → Place → OpenTurn → Type 0

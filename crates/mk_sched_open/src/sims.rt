@@ -14,6 +14,7 @@ ghost use Rattle.mk_plan.specs.Journals.{View, OpenTurn, empty_view, place_at, h
 ghost use Rattle.mk_sched_open.specs.Turns.{IsRight, IsInRun, IsPlaceInRun, next_in};
 ghost use Rattle.mk_sched_open.specs.Sims.{AreSimsOf};
 ghost use Rattle.mk_sched_open.specs.inner.Changes.{new_sim, begun_sim, gone_on, open_id, ended_sim};
+ghost use Rattle.mk_base.specs.Limits.{most_entries};
 
 use mk_base::{List, Mem, SimNo, Tier};
 use mk_plan::{Place, Plan};
@@ -67,7 +68,7 @@ impl Sims {
         requires { sim.0 < length self.now }
         ensures place { (P : Plan) → (V : View) → (n : ℕ) → AreSimsOf P V n self.now
             → result ≡ place_at (V.open_at sim.0) }
-        ensures run { (P : Plan) → (V : View) → (n : ℕ) → n ≤ 20000000 → AreSimsOf P V n self.now
+        ensures run { (P : Plan) → (V : View) → (n : ℕ) → n ≤ most_entries → AreSimsOf P V n self.now
             → IsPlaceInRun result }
     {
         self.kept.at(sim.0 as usize).place
@@ -111,7 +112,7 @@ impl Sims {
         requires { sim.0 < length self.old }
         ensures count { length self.new ≡ length self.old }
         ensures sims { (P : Plan) → (V : View) → (n : ℕ) → (m : Message) → (T : OpenTurn)
-            → n ≤ 20000000 → AreSimsOf P V n self.old → IsRight P V sim.0 m T (Some place)
+            → n ≤ most_entries → AreSimsOf P V n self.old → IsRight P V sim.0 m T (Some place)
             → next ≡ next_in m
             → AreSimsOf P (note_sent P (note_right P V sim.0 m T (Some place)) sim.0
             (response P (supply P V.acts) sim.0 T.at T.place m)) (n + 2) self.new }
@@ -125,7 +126,7 @@ impl Sims {
         requires { sim.0 < length self.old }
         ensures count { length self.new ≡ length self.old }
         ensures sims { (P : Plan) → (V : View) → (n : ℕ) → (m : Message) → (T : OpenTurn)
-            → n ≤ 20000000 → AreSimsOf P V n self.old → IsRight P V sim.0 m T None
+            → n ≤ most_entries → AreSimsOf P V n self.old → IsRight P V sim.0 m T None
             → AreSimsOf P (note_right P V sim.0 m T None) (n + 1) self.new }
     {
         let ended = ended_sim(self.kept.at(sim.0 as usize));

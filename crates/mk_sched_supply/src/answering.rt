@@ -18,6 +18,7 @@ ghost use Rattle.mk_plan_names.specs.Names.{AreNamesOf};
 ghost use Rattle.mk_buffers.specs.Standing.{HasSameMarks, StandFor, least_mark};
 ghost use Rattle.mk_async.specs.Asked.{IsGivenBy, asked_in, is_asked_in_range};
 ghost use Rattle.mk_sched_open.specs.Turns.{IsRight};
+ghost use Rattle.mk_base.specs.Limits.{greatest_tier};
 
 use crate::stock::Stock;
 use mk_async::{Asked, data_content, given_values, judge, plain_content};
@@ -47,7 +48,7 @@ impl Stock {
         requires asked { IsStepOpen plan.now sim.0 at self.old }
         requires early { pos 0 ≤ℤ at.time }
         requires late { at.time ≤ℤ latest_time }
-        requires low { at.tier ≤ 1000000 }
+        requires low { at.tier ≤ greatest_tier }
         requires range { list_all is_in_range args.now ≡ true }
         ensures marks { HasSameMarks self.old.buffers self.new.buffers }
         ensures item { (V : View) (T : OpenTurn) → IsStockOf plan.now V self.old
@@ -82,7 +83,7 @@ impl Stock {
         requires reached { wants_data asked.now ≡ true → IsUpTo (least_mark self.old.buffers) at }
         requires early { pos 0 ≤ℤ at.time }
         requires late { at.time ≤ℤ latest_time }
-        requires low { at.tier ≤ 1000000 }
+        requires low { at.tier ≤ greatest_tier }
         ensures item { (S : Supply) → StandFor plan.now self.old.buffers S
             → IfOk result (λ item. IsAnswerBy plan.now (value_at S at) asked.now id item) }
         ensures given { (s : ℕ) (S : Supply)
@@ -123,7 +124,7 @@ impl Stock {
     fn give_all(&mut self, at: Tier, sets: List<SetValue>) -> Result<(), Mem>
         requires early { pos 0 ≤ℤ at.time }
         requires late { at.time ≤ℤ latest_time }
-        requires low { at.tier ≤ 1000000 }
+        requires low { at.tier ≤ greatest_tier }
         ensures given { (P : Plan) (s : ℕ) (S : Supply) → StandFor P self.old.buffers S
             → All (IsGivenBy P s) sets
             → OnOk result (HasGivenAll P (gifts_in at sets) S self.new.buffers) }

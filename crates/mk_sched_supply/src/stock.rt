@@ -22,6 +22,7 @@ ghost use Rattle.mk_sched_open.specs.Turns.{IsRight};
 ghost use Rattle.mk_buffers.specs.Bounds.{most_kept};
 ghost use Rattle.mk_buffers.specs.Standing.{HasRaised, HasSameMarks, StandFor, least_mark, outputs_held};
 ghost use Rattle.mk_sched_supply.specs.Outputs.{AreData, AreOutputsIn, found_values};
+ghost use Rattle.mk_base.specs.Limits.{greatest_tier};
 
 use crate::feeds::{Feed, feeds_of};
 use crate::outputs::{Outputs, outputs_of};
@@ -112,7 +113,7 @@ impl Stock {
     pub fn take_outputs(&mut self, sim: SimNo, made: Tier, outputs: &Outputs) -> Result<(), Mem>
         requires early { pos 0 ≤ℤ made.time }
         requires late { made.time ≤ℤ latest_time }
-        requires low { made.tier ≤ 1000000 }
+        requires low { made.tier ≤ greatest_tier }
         requires data { AreData (found_values outputs.now) }
         ensures marks { HasSameMarks self.old.buffers self.new.buffers }
         ensures stock { (P : Plan) (J : List Entry) (m : Message) (T : OpenTurn) (content : Json)
@@ -138,7 +139,7 @@ impl Stock {
     ) -> Result<(), Mem>
         requires early { pos 0 ≤ℤ made.time }
         requires late { made.time ≤ℤ latest_time }
-        requires low { made.tier ≤ 1000000 }
+        requires low { made.tier ≤ greatest_tier }
         requires data { IfSome value (λ v. (is_datum v.now ≡ true) × (is_in_range v.now ≡ true)) }
         ensures given { (P : Plan) (S : Supply) (w : Want) → StandFor P self.old.buffers S
             → sim.0 < sim_count P → slice_get (wanted P sim.0) place ≡ Some w

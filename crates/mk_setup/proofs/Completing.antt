@@ -6,7 +6,7 @@ use Rattle.mk_base.proofs.Lists.{each_in, in_map}
 use Rattle.mk_plan.specs.declared.Plan.{Plan}
 use Rattle.mk_plan.specs.Plans.{IsValidPlan}
 use Rattle.mk_connect_pairs.specs.declared.fault.ConnectFault.{ConnectFault}
-use Rattle.mk_connect.specs.Complete.{IsComplete, most_requests}
+use Rattle.mk_connect.specs.Complete.{IsComplete}
 use Rattle.mk_connect_pairs.specs.Faults.{IsFaultOf}
 use Rattle.mk_connect.specs.Made.{number_at, plan_made}
 use Rattle.mk_connect.proofs.ByPlaces.{range_get}
@@ -18,6 +18,7 @@ use Rattle.mk_setup.specs.Seen.{SetupState}
 use Rattle.mk_setup.specs.inner.Standing.{IsPlanOf, IsSoundSetup}
 use Rattle.mk_setup.proofs.Counting.{count_few, few_requests}
 use Rattle.mk_setup.proofs.Planned.{first_made, sims_made}
+use Rattle.mk_base.specs.Limits.{most_requests}
 
 -- what a plan is made of is complete once all groups are created
 pub complete : (U : SetupState) (ids : List ℕ) (plan : Option Plan) → IsSoundSetup U ids plan → length U.scenario.sims + length U.scenario.groups ≤ U.answered → IsComplete U.scenario U.ranks U.metas U.entities (first_ids U.scenario)

@@ -3,19 +3,19 @@ use Rattle.std.proofs.Common.{◌≡◌, ℕ, Bool, true, false, List, [], map, 
 use Rattle.mk_base.specs.declared.json.Json.{Json}
 use Rattle.mk_base.specs.Lists.{all_there}
 use Rattle.mk_base.specs.Texts.{text_of}
-use Rattle.mk_base.specs.Trees.{items_in, text_in, is_in_range, texts_in}
+use Rattle.mk_base.specs.Trees.{items_in, text_in, is_in_range, texts_in, members_of, items_of}
 use Rattle.mk_base.proofs.Lists.{none_some}
 use Rattle.mk_plan.specs.declared.Input.{Input}
 use Rattle.mk_plan.specs.declared.Want.{Want}
 use Rattle.mk_plan.specs.Asks.{Named, Set, Get, members_by, datum_in}
 use Rattle.mk_async.specs.Asked.{named_by}
 use Rattle.mk_async.specs.Forms.{each_passes, is_destinations, is_texts}
-use Rattle.mk_async.specs.inner.Given.{is_source, members_of}
+use Rattle.mk_async.specs.inner.Given.{is_source}
 use Rattle.mk_async.specs.inner.Known.{Members}
 use Rattle.mk_async.proofs.Giving.{sources_pass, map_same, named_map, named_flat, object_list, datum_is}
 use Rattle.mk_async.proofs.Reading.{get_there, set_there, some_there, none_there}
 use Rattle.mk_simapi.specs.Requests.{inputs_of, wants_of}
-use Rattle.mk_simapi.specs.inner.Inputs.{input_at, inputs_at, inputs_to, inputs_among, inputs_by, items_of, text_or_empty, want_at, wants_at, wants_among, wants_by}
+use Rattle.mk_simapi.specs.inner.Inputs.{input_at, inputs_at, inputs_to, inputs_among, inputs_by, text_or_empty, want_at, wants_at, wants_among, wants_by}
 
 -- ---- the form is there exactly where the test passes
 

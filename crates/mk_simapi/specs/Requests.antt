@@ -15,6 +15,7 @@ use Rattle.mk_plan.specs.declared.Item.{Item}
 use Rattle.mk_plan.specs.declared.Item.TheVariants.{Step, GetData}
 use Rattle.mk_message.specs.Messages.{three_of}
 use Rattle.mk_local.specs.Calls.{whole_from_to}
+use Rattle.mk_base.specs.Limits.{latest_end}
 
 -- the one positional argument
 abbrev pub one_of : List Json → Option Json
@@ -83,7 +84,7 @@ step_of time inputs advance = option_and_then
     (λ t. option_and_then
     (λ ins. option_map (λ a. Step (record { time = t; tier = 0 }) ins a)
     (whole_from_to (negsuc 9223372036854775807) (pos 9223372036854775807) advance))
-    (inputs_in inputs)) (whole_from_to (pos 0) (pos 1000000000) time)
+    (inputs_in inputs)) (whole_from_to (pos 0) latest_end time)
 
 abbrev pub step_in : List Json → Json → Option Item
 step_in args named = if is_unnamed named

@@ -1,11 +1,11 @@
 //! The inputs of a step and what is wanted, gathered from an argument.
 ghost use Rattle.std.specs.Prelude.{◌≡◌, ◌++◌, ◌∷◌, [], true, is_some, IfOk, OnOk};
 ghost use Rattle.mk_base.specs.Texts.{text_of};
-ghost use Rattle.mk_base.specs.Trees.{is_in_range, text_in};
+ghost use Rattle.mk_base.specs.Trees.{is_in_range, text_in, members_of, items_of};
 ghost use Rattle.mk_async.specs.Forms.{are_texts, each_passes, is_object_of, is_texts, is_value};
-ghost use Rattle.mk_async.specs.inner.Given.{is_source, members_of};
+ghost use Rattle.mk_async.specs.inner.Given.{is_source};
 ghost use Rattle.mk_simapi.specs.Requests.{inputs_in, wants_in};
-ghost use Rattle.mk_simapi.specs.inner.Inputs.{inputs_among, inputs_at, inputs_by, inputs_to, items_of, text_or_empty, wants_among, wants_at, wants_by};
+ghost use Rattle.mk_simapi.specs.inner.Inputs.{inputs_among, inputs_at, inputs_by, inputs_to, text_or_empty, wants_among, wants_at, wants_by};
 
 use mk_async::{are_sources, are_wants, datum_of};
 use mk_base::{Json, List, Mem, Members, Text};

@@ -8,13 +8,10 @@ ghost use Rattle.mk_simapi.specs.Requests.{bare_in, call_in, create_in, create_o
 
 use crate::forms::{is_bare, is_unnamed};
 use crate::gathering::{inputs_in, wants_in};
-use mk_base::{Json, List, Mem, Text, Tier};
+use mk_base::{Json, LATEST_END, List, Mem, Text, Tier};
 use mk_local::whole_from_to;
 use mk_plan::{Call, Item};
 use std::alloc::Global;
-
-// The latest time that a step may have.
-const LAST_TIME: i64 = 1_000_000_000;
 
 // The call before the run, or the stop, that the request is; `None` where it is none of them.
 pub fn call_in(
@@ -119,7 +116,7 @@ fn step_of(alloc: Global, time: &Json, inputs: &Json, advance: &Json) -> Result<
     ensures item { IfOk result (λ item. item ≡ step_of time.now inputs.now advance.now) }
     ensures replied { IfOk result (λ item. IfSome item (λ i. IsItemReplied i)) }
 {
-    let Some(time) = whole_from_to(0, LAST_TIME, time) else {
+    let Some(time) = whole_from_to(0, LATEST_END, time) else {
         return Ok(None);
     };
     let Some(inputs) = inputs_in(alloc, inputs)? else {

@@ -1,9 +1,9 @@
 -- What a text of watches says, or the first test that it fails.
-use Rattle.std.specs.Prelude.{◌≡◌, ◌⊎◌, ℕ, ◌<◌, All, List, [], ◌∷◌, length, map, codes, Option, Some, None, Result, Ok, Err}
+use Rattle.std.specs.Prelude.{ℕ, ◌<◌, All, List, [], ◌∷◌, length, map, codes, Option, Some, None, Result, Ok, Err}
 use Rattle.std.specs.List.{enumerate_from}
 use Rattle.mk_base.specs.declared.json.Json.{Json}
 use Rattle.mk_base.specs.Trees.{member}
-use Rattle.mk_base.specs.Verdicts.{all_well, after_found}
+use Rattle.mk_base.specs.Verdicts.{all_well, after_found, IsFaultOrWant}
 use Rattle.mk_plan.specs.declared.Plan.{Plan}
 use Rattle.mk_plan.specs.Asks.{entity_of}
 use Rattle.mk_scenario_toml.specs.Document.{toml_of}
@@ -35,7 +35,7 @@ of_key keys.Mem = Mem
 
 -- the fault is the verdict's, or want of memory
 abbrev pub IsFaultOf : {A : Type 0} → Result A WatchFault → WatchFault → Type 0
-IsFaultOf verdict fault = (fault ≡ Mem) ⊎ (verdict ≡ Err fault)
+IsFaultOf = IsFaultOrWant Mem
 
 -- what follows a test of a key that gives something
 abbrev pub keyed : {A B : Type 0} → Result A ScenarioFault → (A → Result B WatchFault)

@@ -16,6 +16,7 @@ ghost use Rattle.mosaikrun_run.specs.Sayings.{record_of};
 ghost use Rattle.mosaikrun_sayings.specs.Sayings.{ids_of};
 ghost use Rattle.mosaikrun_paced.specs.Outcomes.{IsPacedOutcome, IsPacedScenario};
 ghost use Rattle.mosaikrun_paced.specs.Sayings.{pace_saying};
+ghost use Rattle.mk_base.specs.Limits.{most_milliseconds};
 
 use crate::sayings::{saying_at, unpaced};
 use mk_base::{List, Text};
@@ -45,8 +46,8 @@ pub fn paced_ran<F: Paced, R: Wait>(
     is_recorded: bool,
 ) -> Told
     requires least { 1 ≤ factor }
-    requires most { factor ≤ 86400000 }
-    requires allowed { IfSome strict (λ ms. ms ≤ 86400000) }
+    requires most { factor ≤ most_milliseconds }
+    requires allowed { IfSome strict (λ ms. ms ≤ most_milliseconds) }
     ensures count { F.faults fleet.old ≤ F.faults fleet.new }
     ensures closed { AreNumbered (F.started fleet.old) (F.open_links fleet.old)
         → F.open_links fleet.new ≡ F.open_links fleet.old }
@@ -89,8 +90,8 @@ fn play<F: Paced, R: Wait>(
 ) -> Told
     requires wellformed { IsWellformed scenario }
     requires least { 1 ≤ factor }
-    requires most { factor ≤ 86400000 }
-    requires allowed { IfSome strict (λ ms. ms ≤ 86400000) }
+    requires most { factor ≤ most_milliseconds }
+    requires allowed { IfSome strict (λ ms. ms ≤ most_milliseconds) }
     ensures count { F.faults fleet.old ≤ F.faults fleet.new }
     ensures closed { AreNumbered (F.started fleet.old) (F.open_links fleet.old)
         → F.open_links fleet.new ≡ F.open_links fleet.old }
@@ -135,8 +136,8 @@ fn pace<F: Paced, R: Wait>(
     requires runnable { IsRunnable (map name_of (rows_in kinds.now)) scenario accepted.ranks }
     requires ids { accepted.ids ≡ ids_of scenario }
     requires least { 1 ≤ factor }
-    requires most { factor ≤ 86400000 }
-    requires allowed { IfSome strict (λ ms. ms ≤ 86400000) }
+    requires most { factor ≤ most_milliseconds }
+    requires allowed { IfSome strict (λ ms. ms ≤ most_milliseconds) }
     ensures count { F.faults fleet.old ≤ F.faults fleet.new }
     ensures closed { AreNumbered (F.started fleet.old) (F.open_links fleet.old)
         → F.open_links fleet.new ≡ F.open_links fleet.old }

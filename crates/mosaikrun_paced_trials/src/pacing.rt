@@ -1,5 +1,6 @@
 //! A paced run over a fleet in memory, and what it comes to.
 ghost use Rattle.std.specs.Prelude.{◌≤◌, IfSome};
+ghost use Rattle.mk_base.specs.Limits.{most_milliseconds};
 
 use mk_base::{List, Mem};
 use mk_fakes::{Chunk, MemFleet};
@@ -30,7 +31,7 @@ pub fn ticking(alloc: Global, chunks: List<Chunk>, clock: Clock) -> Result<MemFl
 
 // How late a step may be, in milliseconds: not at all if the run is strict, and else as late as it comes.
 fn allowance(is_strict: bool) -> Option<u64>
-    ensures { IfSome result (λ ms. ms ≤ 86400000) }
+    ensures { IfSome result (λ ms. ms ≤ most_milliseconds) }
 {
     if is_strict { Some(0) } else { None }
 }
@@ -43,7 +44,7 @@ fn told<R: Wait>(
     fleet: &mut MemFleet,
     strict: Option<u64>,
 ) -> Told
-    requires { IfSome strict (λ ms. ms ≤ 86400000) }
+    requires { IfSome strict (λ ms. ms ≤ most_milliseconds) }
 {
     paced_ran(
         rt,

@@ -5,7 +5,7 @@ use Rattle.mk_outside.specs.Counts.{HasRisen}
 use Rattle.mk_outside.specs.Folders.{Files}
 use Rattle.mosaikrun_words.specs.declared.request.Request.{Request}
 use Rattle.mosaikrun_words.specs.declared.request.Request.TheVariants.{Files as Reads, Paced}
-use Rattle.mosaikrun_words.specs.Requests.{IsNumberGiven, IsRequest, is_paced, missing, most_milliseconds, there}
+use Rattle.mosaikrun_words.specs.Requests.{IsNumberGiven, IsRequest, is_paced, missing, there}
 use Rattle.mk_record.specs.Texts.{record_text}
 use Rattle.mk_scenario.specs.declared.parts.Scenario.{Scenario}
 use Rattle.mk_scenario.specs.Scenarios.{scenario_of}
@@ -25,6 +25,7 @@ use Rattle.mosaikrun_program.specs.Running.{IsDoneOver, IsFolderAfter, IsSaved, 
 use Rattle.mosaikrun_program.proofs.Answering.{one_request}
 use Rattle.mosaikrun_program.proofs.Playing.{was_paced}
 use Rattle.mosaikrun_program.proofs.Recording.{one_scenario}
+use Rattle.mk_base.specs.Limits.{most_milliseconds}
 
 -- the pace that words ask for is within its bounds
 pub record IsWithinBounds (factor : ℕ) (strict : Option ℕ) : Type 0 where

@@ -15,7 +15,6 @@ ghost use Rattle.mosaikrun_endings.specs.declared.ending.Ending.{Ending};
 ghost use Rattle.mosaikrun_endings.specs.declared.ending.Ending.TheVariants as ends;
 ghost use Rattle.mosaikrun_endings.specs.Endings.{line_of, outcome_status, status_of};
 ghost use Rattle.mosaikrun_run.specs.Outcomes.{HoldsOver};
-ghost use Rattle.mosaikrun_words.specs.Requests.{most_milliseconds};
 ghost use Rattle.mk_pace_laws.specs.Clocks.{IsRising};
 ghost use Rattle.mosaikrun_program.specs.Around.{FolderSeen, KeepsCountsAndLinks, RulesSeen, around, folder_seen, links_seen, output_seen, rules_seen};
 ghost use Rattle.mosaikrun_program.specs.inner.Around.{unused};
@@ -26,6 +25,7 @@ ghost use Rattle.mosaikrun_program.specs.Fleetless.{IsHeldWithin, NeedsNoFleet};
 ghost use Rattle.mosaikrun_program.specs.Headline.{IsRightCall};
 ghost use Rattle.mosaikrun_program.specs.Running.{IsDoneOver};
 ghost use Rattle.mosaikrun_program.specs.Program.{EndedAs, EndsWith, IsStatusOr, KeepsOthers, TookLine};
+ghost use Rattle.mk_base.specs.Limits.{most_milliseconds};
 
 use crate::commands::{file_bytes, made, target_of};
 use crate::handing::{hand_out, print};

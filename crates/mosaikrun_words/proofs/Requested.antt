@@ -17,10 +17,11 @@ use Rattle.mosaikrun_words.specs.inner.Arranged.{alone, number_in, one_word, onl
 use Rattle.mosaikrun_words.specs.inner.Asked.{check_of, command_of, demo_of, have_words, number_given, pace_in, pace_of, paced_in, paced_of, pair_of, replay_in, replay_of, request_among, request_by, request_of, resume_in, resume_of, resume_with, run_of, word_of}
 use Rattle.mosaikrun_words.specs.inner.Sorted.{Shape, sorted_of}
 use Rattle.mosaikrun_words.specs.Numbers.{IsNumber}
-use Rattle.mosaikrun_words.specs.Requests.{IsNumberGiven, IsRequest, IsSpelled, if_given, is_check, is_demo, is_paced, is_pair, is_replay, is_resume, is_run, missing, most_milliseconds, pair_word, there}
+use Rattle.mosaikrun_words.specs.Requests.{IsNumberGiven, IsRequest, IsSpelled, if_given, is_check, is_demo, is_paced, is_pair, is_replay, is_resume, is_run, missing, pair_word, there}
 use Rattle.mosaikrun_words.specs.Words.{Given, Text, is_value}
 use Rattle.mosaikrun_words.proofs.Groups.{AreGroups, sorted_is, sorted_so, spelled_so}
 use Rattle.mosaikrun_words.proofs.Spelled.{AreValues, IsFound, found_is, found_of, number_from, number_is, only_is, only_of, two_is, two_of, word_with_from, word_with_is}
+use Rattle.mk_base.specs.Limits.{most_milliseconds}
 
 -- a request and the word of its command before the rest
 abbrev IsRest : Command → List Text → Request → Type 0

@@ -8,6 +8,7 @@ use Rattle.mosaikrun_words.specs.declared.request.Request.{Request}
 use Rattle.mosaikrun_words.specs.declared.request.Request.TheVariants.{Files, Run, Resume, Paced, Demo}
 use Rattle.mosaikrun_words.specs.Numbers.{IsNumber}
 use Rattle.mosaikrun_words.specs.Words.{Text, Given, is_value, spellings}
+use Rattle.mk_base.specs.Limits.{most_milliseconds}
 
 -- the words are the command's name and a spelling of these positional words and options, each of
 -- which may be a value
@@ -35,10 +36,6 @@ abbrev pub pair_word : PairCommand → Text
 pair_word Migrate = codes "migrate"
 pair_word Watch = codes "watch"
 pair_word Blame = codes "blame"
-
--- the most milliseconds to a unit of time, and the most by which a Step may be late: a day
-abbrev pub most_milliseconds : ℕ
-most_milliseconds = 86400000
 
 -- the words are this request
 pub data IsRequest (words : List Text) : Request → Type 0 where

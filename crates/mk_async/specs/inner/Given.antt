@@ -2,7 +2,7 @@
 use Rattle.std.specs.Prelude.{ℕ, Bool, List, [], map, flat_map, unwrap_or}
 use Rattle.mk_base.specs.declared.json.Json.{Json}
 use Rattle.mk_base.specs.Texts.{text_of}
-use Rattle.mk_base.specs.Trees.{members_in}
+use Rattle.mk_base.specs.Trees.{members_of}
 use Rattle.mk_plan.specs.declared.Plan.{Plan}
 use Rattle.mk_plan.specs.declared.SetValue.{SetValue}
 use Rattle.mk_plan.specs.Asks.{entity_of}
@@ -12,10 +12,6 @@ use Rattle.mk_async.specs.inner.Known.{Members}
 -- an object of objects of values
 abbrev pub is_source : Json → Bool
 is_source = is_object_of (is_object_of is_value)
-
--- the members of an object, or nothing
-abbrev pub members_of : Json → Members
-members_of tree = unwrap_or (members_in tree) []
 
 abbrev pub set_value : Plan → List ℕ → List ℕ → List ℕ → Json → SetValue
 set_value P source id attr value = record {

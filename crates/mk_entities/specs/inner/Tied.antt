@@ -1,9 +1,9 @@
 -- For proofs alone. Beside `Tied`, which has what a reader needs.
 use Rattle.std.specs.Prelude.{◌≡◌, ℕ, suc, ◌==◌, ◌≤◌, List, [], ◌∷◌, length, unwrap_or, slice_get, if◌then◌else◌}
 use Rattle.mk_entities.specs.declared.entities.EntityInfo.{EntityInfo}
-use Rattle.mk_entities.specs.Creation.{most_entities}
 use Rattle.mk_entities.specs.Sound.{AreSound}
 use Rattle.mk_entities.specs.Tied.{AreFirst}
+use Rattle.mk_base.specs.Limits.{most_entities}
 
 -- the eids of simulator s among entities that are numbered from n
 abbrev pub numbered : ℕ → ℕ → List EntityInfo → List (List ℕ × ℕ)

@@ -12,6 +12,7 @@ use Rattle.mk_pace_laws.specs.declared.end.Moment.{Moment}
 use Rattle.mk_pace_laws.specs.declared.end.PaceEnd.{PaceEnd}
 use Rattle.mk_pace_laws.specs.declared.end.PaceEnd.TheVariants as pace
 use Rattle.mk_pace_laws.specs.Moments.{Tempo, Timing, moment_at, timing}
+use Rattle.mk_base.specs.Limits.{latest_end}
 
 -- for each simulator what waits of its items, the moments of what was sent, the tempo, and how many
 -- milliseconds late a Step may be, if there is a bound
@@ -78,7 +79,7 @@ pub record IsTooLate (first : First) (told : ℕ) (W : WaitingSeen) (end : PaceE
 
 -- a Step is at a time of a run, 0 to 1,000,000,000; another item has none
 abbrev pub HasTime : Item → Type 0
-HasTime (Step x inputs advance) = (pos 0 ≤ℤ x.time) × (x.time ≤ℤ pos 1000000000)
+HasTime (Step x inputs advance) = (pos 0 ≤ℤ x.time) × (x.time ≤ℤ latest_end)
 HasTime (GetData wanted) = ⊤
 HasTime (Answer id content) = ⊤
 HasTime (Refuse id reason) = ⊤

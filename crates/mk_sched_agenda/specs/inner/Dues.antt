@@ -14,6 +14,7 @@ use Rattle.mk_sched_agenda.specs.declared.limits.Limits.{Limits}
 use Rattle.mk_sched_agenda.specs.declared.outlets.Outlet.{Outlet}
 use Rattle.mk_sched_agenda.specs.Outlets.{outlets_in}
 use Rattle.mk_sched_agenda.specs.Dues.{queue_in}
+use Rattle.mk_base.specs.Limits.{latest_end, most_loops}
 
 -- its turn is open
 abbrev pub is_open : List Bool → ℕ → Bool
@@ -72,8 +73,8 @@ pub record IsTidy (queues : List (List Due)) (opened : List Bool) (B : Seen) : T
 -- shift may have
 pub record IsSound (L : Limits) (rows : List (List Outlet))
     (queues : List (List Due)) : Type 0 where
-  pub until : L.until ≤ℤ pos 1000000000
-  pub loops : L.loops ≤ 1000
+  pub until : L.until ≤ℤ latest_end
+  pub loops : L.loops ≤ most_loops
   pub count : length rows ≡ length queues
   pub outlets : (i : ℕ) (o : Outlet) → IsIn o (outlets_in rows i) → (o.to.0 < length queues)
       × HasWidth o.via

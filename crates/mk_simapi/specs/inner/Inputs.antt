@@ -3,12 +3,11 @@ use Rattle.std.specs.Prelude.{ℕ, List, [], map, Option, option_map, unwrap_or}
 use Rattle.std.specs.List.{flat_map}
 use Rattle.mk_base.specs.declared.json.Json.{Json}
 use Rattle.mk_base.specs.Texts.{text_of}
-use Rattle.mk_base.specs.Trees.{text_in, items_in, texts_in}
+use Rattle.mk_base.specs.Trees.{text_in, items_in, texts_in, members_of, items_of}
 use Rattle.mk_plan.specs.declared.Input.{Input}
 use Rattle.mk_plan.specs.declared.Want.{Want}
 use Rattle.mk_plan.specs.Asks.{members_by, datum_in}
 use Rattle.mk_async.specs.Asked.{named_by}
-use Rattle.mk_async.specs.inner.Given.{members_of}
 use Rattle.mk_async.specs.inner.Known.{Members}
 use Rattle.mk_simapi.specs.Requests.{inputs_of, wants_of}
 
@@ -28,10 +27,6 @@ inputs_among ms = flat_map (λ (m : List ℕ × Json). inputs_to m.0 (members_of
 -- the inputs that an object's members are
 abbrev pub inputs_by : Members → Option (List Input)
 inputs_by ms = option_map inputs_of (named_by (members_by (members_by datum_in)) ms)
-
--- the items of a list, or nothing
-abbrev pub items_of : Json → List Json
-items_of tree = unwrap_or (items_in tree) []
 
 -- the text that a tree is, or an empty one
 abbrev pub text_or_empty : Json → List ℕ

@@ -2,6 +2,7 @@
 use Rattle.std.specs.Prelude.{◌≡◌, ℕ, ◌+◌, ◌-◌, ◌*◌, ◌≤◌, ◌/◌, ◌%◌, nat_abs, ◌==◌, nat_lt, if◌then◌else◌, ◌⊎◌}
 use Rattle.mk_base.specs.declared.tier.Tier.{Tier}
 use Rattle.mk_tiers.specs.Times.{never}
+use Rattle.mk_base.specs.Limits.{most_loops}
 
 -- times from here on, in units, are not told apart from none
 abbrev pub end_of_time : ℕ
@@ -21,4 +22,4 @@ over x way =
 
 -- the number is that of a start within the limits, or there is none
 abbrev pub IsStart : ℕ → Type 0
-IsStart x = (x ≡ never) ⊎ ((x / 65536 ≤ 1000000000) × (x % 65536 ≤ 1000))
+IsStart x = (x ≡ never) ⊎ ((x / 65536 ≤ 1000000000) × (x % 65536 ≤ most_loops))

@@ -11,10 +11,11 @@ use Rattle.mosaikrun_words.specs.declared.request.PairCommand.{PairCommand}
 use Rattle.mosaikrun_words.specs.declared.request.FileCommand.TheVariants.{Replay, Check, Pair}
 use Rattle.mosaikrun_words.specs.declared.request.Request.TheVariants.{Files, Run, Resume, Paced, Demo}
 use Rattle.mosaikrun_words.specs.declared.words.TheConstants.{COMMANDS}
-use Rattle.mosaikrun_words.specs.Requests.{most_milliseconds, pair_word}
+use Rattle.mosaikrun_words.specs.Requests.{pair_word}
 use Rattle.mosaikrun_words.specs.inner.Arranged.{alone, number_in, one_word, only_word, two_words, word_with}
 use Rattle.mosaikrun_words.specs.inner.Sorted.{Shape, sorted_of}
 use Rattle.mosaikrun_words.specs.Words.{Text}
+use Rattle.mk_base.specs.Limits.{most_milliseconds}
 
 abbrev pub run_of : List Text → Option Request
 run_of rest = option_map (λ (f : Found). Run f.word f.value) (one_word (codes "record") rest)

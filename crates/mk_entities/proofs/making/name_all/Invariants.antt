@@ -1,8 +1,8 @@
 -- The invariants and measures of the loops of `making::name_all`.
 use Rattle.std.proofs.Common.{◌≡◌, ℕ, ◌+◌, ◌<◌, ◌≤◌, ◌++◌, take, None}
-use Rattle.mk_entities.specs.Creation.{most_entities}
 use Rattle.mk_entities.specs.inner.Making.{fault_at, named_from}
 use Rattle.mk_entities.proofs.making.name_all.Given as goal
+use Rattle.mk_base.specs.Limits.{most_entities}
 
 abbrev pub invariant-loop-n : goal.invariant-loop-n
 invariant-loop-n l = record {

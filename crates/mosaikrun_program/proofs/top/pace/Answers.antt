@@ -16,6 +16,7 @@ use Rattle.mosaikrun_program.specs.Program.{EndedAs}
 use Rattle.mosaikrun_program.proofs.Playing.{answered_since, either, is_paced, performed}
 use Rattle.mosaikrun_paced.proofs.Telling.{rising_none}
 use Rattle.mosaikrun_program.proofs.top.pace.Goals as goal
+use Rattle.mk_base.specs.Limits.{most_milliseconds}
 
 -- the scenario's file isn't read
 pub returns-in_err-bytes-clause-paced : goal.returns-in_err-bytes-clause-paced
@@ -86,4 +87,4 @@ pub returns-clause-rising : goal.returns-clause-rising
 returns-clause-rising g c = c.paced_ran-told.ensures.rising
 
 pub paced_ran-told-requires-clause-allowed : goal.paced_ran-told-requires-clause-allowed
-paced_ran-told-requires-clause-allowed g c = subst (λ (o : Option ℕ). IfSome o (λ ms. ms ≤ 86400000)) (sym c.wide.ensures) c.requires.allowed
+paced_ran-told-requires-clause-allowed g c = subst (λ (o : Option ℕ). IfSome o (λ ms. ms ≤ most_milliseconds)) (sym c.wide.ensures) c.requires.allowed
